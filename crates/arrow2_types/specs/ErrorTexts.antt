@@ -1,0 +1,15 @@
+-- What an error prints.
+use Rattle.std.specs.Prelude.{ℕ, List, ◌++◌, codes, string_bytes, Option, Some, None}
+use Rattle.arrow2_types.specs.declared.error.Error.{Error}
+use Rattle.arrow2_types.specs.declared.error.Error.TheVariants.{NotYetImplemented, External, Io, InvalidArgumentError, ExternalFormat, Overflow, OutOfSpec, OutOfMemory}
+
+-- the text of an error. That of input and output ends in a text of std's, of which nothing is claimed
+abbrev pub error_text : Error → Option (List ℕ)
+error_text (NotYetImplemented text) = Some (codes "Not yet implemented: " ++ string_bytes text)
+error_text (External message text) = Some (codes "External error" ++ (string_bytes message ++ (codes ": " ++ string_bytes text)))
+error_text (Io error) = None
+error_text (InvalidArgumentError text) = Some (codes "Invalid argument error: " ++ string_bytes text)
+error_text (ExternalFormat text) = Some (codes "External format error: " ++ string_bytes text)
+error_text Overflow = Some (codes "Operation overflew the backing container.")
+error_text (OutOfSpec text) = Some (string_bytes text)
+error_text OutOfMemory = Some (codes "Out of memory")

@@ -1,0 +1,4 @@
+//! Errors of the memory layer, and the types whose values stand in its buffers.
+#![tactic(auto)]
+
+pub mod error;
