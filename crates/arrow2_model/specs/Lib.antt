@@ -1,4 +1,5 @@
 pub mod Bits
+pub mod Canonical
 pub mod Parts
 pub mod Storage
 pub mod Words

@@ -8,7 +8,3 @@ use Rattle.arrow2_model.specs.Parts.{part}
 -- the number of each w items in turn; items past the end count as false
 abbrev pub words : ℕ → List Bool → List ℕ
 words w items = map (λ j. num (part items (w * j) w)) (range_with_len 0 (div_ceil (length items) w))
-
--- the bytes of a list of booleans and no others, the spare bits of the last one false
-unfoldable pub canonical_bytes : List Bool → List ℕ
-canonical_bytes items = words 8 items

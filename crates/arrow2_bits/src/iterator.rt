@@ -1,0 +1,94 @@
+//! A walk over the bits of bytes, from both ends.
+ghost use Rattle.std.specs.Prelude.{◌≡◌, ◌+◌, ◌*◌, ◌≤◌, length, Some, IfSome};
+ghost use Rattle.std.specs.Iterator.{YieldsFirst, YieldsLast, item_count, UpTo};
+ghost use Rattle.std.specs.Iterator.SizeHint.{IsWithinCount};
+ghost use Rattle.arrow2_model.specs.Bits.{bits};
+ghost use Rattle.arrow2_model.specs.Parts.{part};
+
+use crate::get_bit_from;
+use std::marker::Model;
+
+/// A walk over bits: contracts see it as the list of the items still to come.
+#[derive(Clone, Debug, Drop)]
+pub struct BitmapIter<'a> {
+    bytes: &'a [u8],
+    offset: usize,
+    index: usize,
+    end: usize,
+}
+
+impl<'a> Model for BitmapIter<'a> {
+    ghost use Rattle.std.specs.Prelude.{◌+◌, ◌-◌, ◌*◌, ◌≤◌, length, List, Bool};
+    ghost use Rattle.arrow2_model.specs.Bits.{bits};
+    ghost use Rattle.arrow2_model.specs.Parts.{part};
+
+    ghost Value = { List Bool };
+
+    ghost view = { λ i. part (bits i.bytes.now) (i.offset + i.index) (i.end - i.index) };
+
+    ghost invariant = { λ i. (i.index ≤ i.end) × (i.offset + i.end ≤ 8 * length i.bytes.now) };
+}
+
+#[tactic(auto, using(arrow2_model::proofs::Walks::walking))]
+impl<'a> BitmapIter<'a> {
+    /// The walk over the `len` bits from bit `offset` on. Asks that they are inside the bytes.
+    pub fn new(bytes: &'a [u8], offset: usize, len: usize) -> BitmapIter<'a>
+        requires { offset + len ≤ 8 * length bytes.now }
+        ensures { result ≡ part (bits bytes.entry.now) offset len }
+    {
+        BitmapIter {
+            bytes,
+            offset,
+            index: 0,
+            end: len,
+        }
+    }
+}
+
+#[tactic(auto, using(arrow2_model::proofs::Walks::walking))]
+impl<'a> Iterator for BitmapIter<'a> {
+    type Item = bool;
+
+    ghost next_gives = { YieldsFirst (λ s. s) };
+
+    ghost remaining = { item_count (λ s. s) };
+
+    fn next(&mut self) -> Option<bool> {
+        if self.index == self.end {
+            return None;
+        }
+        let value = get_bit_from(self.bytes, self.offset, self.index);
+        self.index += 1;
+        Some(value)
+    }
+
+    /// Both bounds are the number of items still to come.
+    fn size_hint(&self) -> (usize, Option<usize>)
+        ensures lower { IsWithinCount result.0 (item_count (λ s. s) self.now) }
+        ensures upper { IfSome result.1 (UpTo (item_count (λ s. s) self.now)) }
+        ensures exact { (result.0 ≡ length self.now) × (result.1 ≡ Some (length self.now)) }
+    {
+        let left = self.end - self.index;
+        (left, Some(left))
+    }
+}
+
+#[tactic(auto, using(arrow2_model::proofs::Walks::walking))]
+impl<'a> DoubleEndedIterator for BitmapIter<'a> {
+    ghost next_back_gives = { YieldsLast (λ s. s) };
+
+    fn next_back(&mut self) -> Option<bool> {
+        if self.index == self.end {
+            return None;
+        }
+        self.end -= 1;
+        Some(get_bit_from(self.bytes, self.offset, self.end))
+    }
+}
+
+#[tactic(auto, using(arrow2_model::proofs::Walks::walking))]
+impl<'a> ExactSizeIterator for BitmapIter<'a> {
+    fn len(&self) -> usize {
+        self.end - self.index
+    }
+}

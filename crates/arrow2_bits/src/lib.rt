@@ -1,0 +1,79 @@
+//! Bits of bytes: reading, writing, counting and walking them, the lowest bit of a byte first.
+#![tactic(auto)]
+
+ghost use Rattle.std.specs.Prelude.{◌≡◌, ◌+◌, ◌*◌, ◌/◌, ◌<◌, ◌≤◌, length, false, slice_set, slice_index_or};
+ghost use Rattle.arrow2_model.specs.Bits.{bit, unnum, bits};
+ghost use Rattle.arrow2_model.specs.Parts.{part, falses};
+
+pub mod iterator;
+
+/// Whether bit `i` of the byte is set. Asks that `i` is below 8.
+pub fn is_set(byte: u8, i: usize) -> bool
+    requires { i < 8 }
+    ensures { result ≡ bit byte i }
+{
+    (byte >> i) & 1 == 1
+}
+
+/// The byte with bit `i` set to `value` and every other bit as it was. Asks that `i` is below 8.
+pub fn set(byte: u8, i: usize, value: bool) -> u8
+    requires { i < 8 }
+    ensures { unnum 8 result ≡ slice_set (unnum 8 byte) i value }
+{
+    if value {
+        byte | (1 << i)
+    } else {
+        byte & !(1 << i)
+    }
+}
+
+/// Bit `i` of the bytes. Asks that `i` is below eight times their number.
+pub fn get_bit(bytes: &[u8], i: usize) -> bool
+    requires { i < 8 * length bytes.now }
+    ensures { result ≡ slice_index_or (bits bytes.now) i false }
+{
+    is_set(bytes[i / 8], i % 8)
+}
+
+/// Bit `offset + i` of the bytes, a sum that need not fit a `usize`.
+/// Asks that it is below eight times their number.
+pub fn get_bit_from(bytes: &[u8], offset: usize, i: usize) -> bool
+    requires { offset + i < 8 * length bytes.now }
+    ensures { result ≡ slice_index_or (bits bytes.now) (offset + i) false }
+{
+    let within = offset % 8 + i % 8;
+    is_set(bytes[offset / 8 + i / 8 + within / 8], within % 8)
+}
+
+/// Writes bit `i` of the bytes, and leaves every other bit as it was.
+/// Asks that `i` is below eight times their number; arrow2's page asks `i` below an eighth of it.
+pub fn set_bit(bytes: &mut [u8], i: usize, value: bool)
+    requires { i < 8 * length bytes.old }
+    ensures { bits bytes.new ≡ slice_set (bits bytes.old) i value }
+{
+    bytes[i / 8] = set(bytes[i / 8], i % 8, value);
+}
+
+/// How many bytes hold so many bits: an eighth, rounded up.
+/// Exact for every number of bits; arrow2's answer for `usize::MAX` is one short.
+pub fn bytes_for(bits: usize) -> usize
+    ensures { result ≡ (bits + 7) / 8 }
+{
+    bits.div_ceil(8)
+}
+
+/// How many of the `len` bits from bit `offset` on are not set.
+/// Asks that they are inside the bytes, or that `len` is 0.
+#[tactic(auto, using(arrow2_model::proofs::Counts::counting))]
+pub fn count_zeros(bytes: &[u8], offset: usize, len: usize) -> usize
+    requires { 0 < len → offset + len ≤ 8 * length bytes.now }
+    ensures { result ≡ falses (part (bits bytes.now) offset len) }
+{
+    let mut zeros = 0;
+    for i in 0..len {
+        if !get_bit_from(bytes, offset, i) {
+            zeros += 1;
+        }
+    }
+    zeros
+}

@@ -1,0 +1,7 @@
+pub mod Bits
+pub mod Counts
+pub mod Numbers
+pub mod Parts
+pub mod Walks
+pub mod Words
+pub mod Canonical

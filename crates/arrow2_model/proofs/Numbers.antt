@@ -1,0 +1,28 @@
+-- Lists of booleans and their numbers.
+use Rattle.std.proofs.Common.{◌≡◌, ◌≢◌, ◌⊎◌, inl, inr, ℕ, zero, suc, ◌+◌, ◌-◌, ◌*◌, ◌/◌, ◌%◌, ◌^◌, ◌<◌, ◌≤◌, ◌==◌, List, [], ◌∷◌, ◌++◌, Bool, true, false, cond, not, map, take, drop, length, get_or, set, refl, ap, sym, ◌∙◌, arith, subst, rules, min}
+use Rattle.std.proofs.lemmas.Grind.{common_steps}
+use Rattle.std.proofs.lemmas.Simd.{bit_mask_l}
+use Rattle.std.proofs.Math.Nat.{pow-suc}
+use Rattle.arrow2_model.specs.Bits.{bit, unnum, bits, num}
+use Rattle.arrow2_model.proofs.Bits.{bit_is}
+
+pub lowest : (x : ℕ) → cond (x % 2 == 1) 1 0 ≡ x % 2
+lowest x = grind arith
+
+pub num-unnum : (w x : ℕ) → x < 2 ^ w → num (unnum w x) ≡ x
+unfolding unnum
+num-unnum zero x h = grind arith
+num-unnum (suc w) x h = let e = pow-suc 2 w in let r = num-unnum w (x / 2) (omega (arith, e)) in rw (r, lowest x) (omega arith)
+
+pub unnum-num : (items : List Bool) → unnum (length items) (num items) ≡ items
+unfolding unnum
+unnum-num [] = refl
+unnum-num (true ∷ items) = let a : (1 + 2 * num items) % 2 ≡ 1 = omega arith in let b : (1 + 2 * num items) / 2 ≡ num items = omega arith in rw (a, b, unnum-num items)
+unnum-num (false ∷ items) = let a : (0 + 2 * num items) % 2 ≡ 0 = omega arith in let b : (0 + 2 * num items) / 2 ≡ num items = omega arith in rw (a, b, unnum-num items)
+
+-- two lists of one length with one number are one list
+pub same_from_num : (xs ys : List Bool) → length xs ≡ length ys → num xs ≡ num ys → xs ≡ ys
+same_from_num xs ys l e = sym (unnum-num xs) ∙ (rw (l, e) (unnum-num ys))
+
+pub bit-num : (items : List Bool) (i : ℕ) → bit (num items) i ≡ get_or items i false
+bit-num items i = bit_is (num items) i ∙ (rw (bit_mask_l items i) (elim (get_or items i false) as (λ b. (cond b 1 0 == 1) ≡ b) [ true ↦ refl | false ↦ refl ]))

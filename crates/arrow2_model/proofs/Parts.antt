@@ -1,0 +1,29 @@
+-- Parts of lists.
+use Rattle.std.proofs.Common.{◌≡◌, ◌≢◌, ◌⊎◌, inl, inr, ℕ, zero, suc, ◌+◌, ◌-◌, ◌*◌, ◌/◌, ◌%◌, ◌^◌, ◌<◌, ◌≤◌, ◌==◌, List, [], ◌∷◌, ◌++◌, Bool, true, false, cond, not, map, take, drop, length, get_or, set, refl, ap, sym, ◌∙◌, arith, subst, rules, min}
+use Rattle.std.proofs.lemmas.Grind.{common_steps}
+use Rattle.std.proofs.lemmas.List.{places, take_more, get_or-drop, get_or-take, length-drop, drop-take, take-take, drop-drop, take_all, length-take}
+use Rattle.std.proofs.Math.Seq.{take-add}
+use Rattle.std.proofs.lemmas.Bool.{cases_lt}
+use Rattle.arrow2_model.specs.Parts.{part}
+
+pub get_or-part : (items : List Bool) (a n k : ℕ) (d : Bool) → k < n → get_or (part items a n) k d ≡ get_or items (a + k) d
+get_or-part items a n k d h = get_or-take n (drop a items) k d h ∙ get_or-drop a items k d
+
+pub length-part : (items : List Bool) (a n : ℕ) → a + n ≤ length items → length (part items a n) ≡ n
+length-part items a n h = search (rules, places)
+
+-- a part grows by the item behind it
+pub part_more : (items : List Bool) (a n : ℕ) (d : Bool) → a + n < length items → part items a (n + 1) ≡ part items a n ++ get_or items (a + n) d ∷ []
+part_more items a n d h = let l = length-drop a items in take_more (drop a items) n d (omega arith) ∙ ap (λ x. part items a n ++ x ∷ []) (get_or-drop a items n d)
+
+pub part-part : (items : List Bool) (a n b m : ℕ) → b + m ≤ n → part (part items a n) b m ≡ part items (a + b) m
+part-part items a n b m h = let e : n ≡ b + (n - b) = omega arith in rw e (rw drop-take (take-take m (n - b) (drop b (drop a items)) (omega arith) ∙ ap (take m) (drop-drop b a items)))
+
+-- a part of a part that may reach past its end
+pub part_within : (items : List Bool) (a len s w n : ℕ) → s ≤ len → n ≡ min w (len - s) → part (part items a len) s w ≡ part items (a + s) n
+part_within items a len s w n h e =
+    let q : len ≡ s + (len - s) = omega arith in
+    rw q (rw drop-take (elim (cases_lt w (len - s)) [
+      | inl small ↦ let m : n ≡ w = omega arith in rw m (take-take w (len - s) (drop s (drop a items)) (omega arith) ∙ ap (take w) (drop-drop s a items))
+      | inr big ↦ let m : n ≡ len - s = omega arith in let g = length-take (len - s) (drop s (drop a items)) in rw m (take_all w (take (len - s) (drop s (drop a items))) (omega (arith, g)) ∙ ap (take (len - s)) (drop-drop s a items))
+    ]))
