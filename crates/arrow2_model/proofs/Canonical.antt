@@ -46,24 +46,35 @@ front_items items n k clear = elim (cases_lt k n) [
 ]
 
 -- bytes that hold a list canonically are its words of eight items
-pub canonical_is : (bytes : List ℕ) (n : ℕ) → IsCanonical bytes n → ((k : ℕ) → get_or bytes k 0 < 256) → bytes ≡ canonical_bytes (take n (bits bytes))
+pub canonical_is : (bytes : List ℕ) (n : ℕ) → IsCanonical bytes n → bytes ≡ canonical_bytes (take n (bits bytes))
 unfolding canonical_bytes
-canonical_is bytes n canonical fits =
+canonical_is bytes n canonical =
     let items : List Bool = take n (bits bytes) in
     let l = length-bits bytes in
-    let front : length items ≡ n = length-take-le n (bits bytes) (omega (arith, l, canonical.0)) in
+    let front : length items ≡ n = length-take-le n (bits bytes) (omega (arith, l, canonical.exact)) in
     let count : length (words 8 items) ≡ div_ceil (length items) 8 = length-words 8 items in
-    let many : length bytes ≡ length (words 8 items) = grind (arith, count, front, canonical.0) in
+    let many : length bytes ≡ length (words 8 items) = grind (arith, count, front, canonical.exact) in
     ext_get_or 0 bytes (words 8 items) many
     (λ j h.
     let at : j < div_ceil (length items) 8 = omega (arith, count, many) in
     let word = get_or-words 8 items j at in
-    same_from_bits 8 (get_or bytes j 0) (get_or (words 8 items) j 0) (fits j) (subst (λ x. x < 2 ^ 8) (sym word) (num-part_8-lt items (8 * j)))
+    same_from_bits 8 (get_or bytes j 0) (get_or (words 8 items) j 0) (canonical.fits j) (subst (λ x. x < 2 ^ 8) (sym word) (num-part_8-lt items (8 * j)))
     (λ i i<.
     sym (get_or-bits bytes j i (8 * j + i) false h i< refl) ∙
-    (sym (front_items (bits bytes) n (8 * j + i) canonical.1) ∙
+    (sym (front_items (bits bytes) n (8 * j + i) canonical.clear) ∙
     (sym (get_or-part items (8 * j) 8 i false i<) ∙
     (sym (bit-num (part items (8 * j) 8) i) ∙ ap (λ x. bit x i) (sym word))))))
+
+-- what a vector of bytes knows of its items
+pub bytes_fit : (bytes : List ℕ) → ((i d : ℕ) → i < length bytes → get_or bytes i d < 256) → (k : ℕ) → get_or bytes k 0 < 256
+bytes_fit bytes fits k = elim (cases_lt k (length bytes)) [
+  | inl lt ↦ fits k 0 lt
+  | inr ge ↦ rw (get_or_past bytes k 0 ge) (omega arith)
+]
+
+-- no bytes hold no items
+pub canonical-nil : (bytes : List ℕ) → bytes ≡ [] → IsCanonical bytes 0
+canonical-nil bytes e = record { fits = λ k. rw e (omega arith); exact = rw e refl; clear = λ k h. rw (e, bits-nil) refl }
 
 -- ---- one item more
 
@@ -81,20 +92,21 @@ unnum-from_bool true = refl
 unnum-from_bool false = refl
 
 -- an item in a byte of its own
-pub pushed_byte : (bytes : List ℕ) (n b : ℕ) (v : Bool) → IsCanonical bytes n → n % 8 ≡ 0 → b ≡ from_bool v → IsCanonical (bytes ++ b ∷ []) (n + 1) × (take (n + 1) (bits (bytes ++ b ∷ [])) ≡ take n (bits bytes) ++ v ∷ [])
-pushed_byte bytes n b v canonical whole is =
+pub pushed_byte : (bytes : List ℕ) (n b : ℕ) (v : Bool) → IsCanonical bytes n → n % 8 ≡ 0 → b ≡ from_bool v → ((k : ℕ) → get_or (bytes ++ b ∷ []) k 0 < 256) → IsCanonical (bytes ++ b ∷ []) (n + 1) × (take (n + 1) (bits (bytes ++ b ∷ [])) ≡ take n (bits bytes) ++ v ∷ [])
+pushed_byte bytes n b v canonical whole is fits =
     let l = length-bits bytes in
-    let m : length (bits bytes) ≡ n = omega (arith, l, canonical.0) in
+    let m : length (bits bytes) ≡ n = omega (arith, l, canonical.exact) in
     let tail : List Bool = v ∷ replicate 7 false in
     let e : bits (bytes ++ b ∷ []) ≡ bits bytes ++ tail = bits-push bytes b ∙ ap (λ t. bits bytes ++ t) (ap (unnum 8) is ∙ unnum-from_bool v) in
     let a = length-append bytes (b ∷ []) in
     let c = length-append (bits bytes) tail in
     (
-      (
-        omega (arith, a, canonical.0),
-        λ k h. ap (λ t. get_or t k false) e ∙ (get_or-append_right (bits bytes) tail n k false m (omega arith) ∙
-        (let s : k - n ≡ suc (k - n - 1) = omega arith in rw s (get_or-falses 7 (k - n - 1)))),
-      ),
+      record {
+        fits = fits;
+        exact = omega (arith, a, canonical.exact);
+        clear = λ k h. ap (λ t. get_or t k false) e ∙ (get_or-append_right (bits bytes) tail n k false m (omega arith) ∙
+          (let s : k - n ≡ suc (k - n - 1) = omega arith in rw s (get_or-falses 7 (k - n - 1))));
+      },
       ap (take (n + 1)) e ∙ (take_more (bits bytes ++ tail) n false (omega (arith, c, m)) ∙
       (let front : take n (bits bytes ++ tail) ≡ take n (bits bytes) = take-append-le n (bits bytes) tail (omega (arith, m)) in
       let last : get_or (bits bytes ++ tail) n false ≡ v = get_or-append_right (bits bytes) tail n n false m (omega arith) ∙ (let z : n - n ≡ 0 = omega arith in rw z refl) in
@@ -115,19 +127,20 @@ unnum-or_bool x k false h clear =
     ]))
 
 -- an item in the last byte
-pub pushed_bit : (bytes : List ℕ) (n b : ℕ) (v : Bool) → IsCanonical bytes n → 0 < n % 8 → b ≡ bit_or (get_or bytes (n / 8) 0) (from_bool v * 2 ^ (n % 8) % 2 ^ 8) → IsCanonical (set bytes (n / 8) b) (n + 1) × (take (n + 1) (bits (set bytes (n / 8) b)) ≡ take n (bits bytes) ++ v ∷ [])
-pushed_bit bytes n b v canonical some is =
+pub pushed_bit : (bytes : List ℕ) (n b : ℕ) (v : Bool) → IsCanonical bytes n → 0 < n % 8 → b ≡ bit_or (get_or bytes (n / 8) 0) (from_bool v * 2 ^ (n % 8) % 2 ^ 8) → ((k : ℕ) → get_or (set bytes (n / 8) b) k 0 < 256) → IsCanonical (set bytes (n / 8) b) (n + 1) × (take (n + 1) (bits (set bytes (n / 8) b)) ≡ take n (bits bytes) ++ v ∷ [])
+pushed_bit bytes n b v canonical some is fits =
     let l = length-bits bytes in
     let s = length-set bytes (n / 8) b in
-    let j< : n / 8 < length bytes = omega (arith, canonical.0) in
-    let clear : bit (get_or bytes (n / 8) 0) (n % 8) ≡ false = sym (get_or-bits_at bytes n false (omega arith)) ∙ canonical.1 n (omega arith) in
+    let j< : n / 8 < length bytes = omega (arith, canonical.exact) in
+    let clear : bit (get_or bytes (n / 8) 0) (n % 8) ≡ false = sym (get_or-bits_at bytes n false (omega arith)) ∙ canonical.clear n (omega arith) in
     let byte : unnum 8 b ≡ set (unnum 8 (get_or bytes (n / 8) 0)) (n % 8) v = ap (unnum 8) is ∙ unnum-or_bool (get_or bytes (n / 8) 0) (n % 8) v (omega arith) clear in
     let e : bits (set bytes (n / 8) b) ≡ set (bits bytes) n v = bits-set bytes (n / 8) (n % 8) n b v j< (omega arith) (omega arith) byte in
     (
-      (
-        omega (arith, s, canonical.0),
-        λ k h. let ne : k ≢ n = omega arith in ap (λ t. get_or t k false) e ∙ (get_or-set_other (bits bytes) n k v false ne ∙ canonical.1 k (omega arith)),
-      ),
+      record {
+        fits = fits;
+        exact = omega (arith, s, canonical.exact);
+        clear = λ k h. let ne : k ≢ n = omega arith in ap (λ t. get_or t k false) e ∙ (get_or-set_other (bits bytes) n k v false ne ∙ canonical.clear k (omega arith));
+      },
       ap (take (n + 1)) e ∙ take_more_set (bits bytes) n v (omega (arith, l)),
     )
 
@@ -140,20 +153,20 @@ bit-high : (x i p : ℕ) → i ≤ p → bit (x % 2 ^ i) p ≡ false
 bit-high x i p h = bit_is (x % 2 ^ i) p ∙ ap (λ t. t == 1) (bit_at_above (x % 2 ^ i) i p (mod-lt x (pow_pos i)) h)
 
 -- a front of whole bytes, where n ends a byte
-pub cut_whole : (bytes : List ℕ) (n : ℕ) → n ≤ 8 * length bytes → n % 8 ≡ 0 → IsCanonical (take ((n + 7) / 8) bytes) n × (take n (bits (take ((n + 7) / 8) bytes)) ≡ take n (bits bytes))
-cut_whole bytes n h whole =
+pub cut_whole : (bytes : List ℕ) (n : ℕ) → n ≤ 8 * length bytes → n % 8 ≡ 0 → ((k : ℕ) → get_or (take ((n + 7) / 8) bytes) k 0 < 256) → IsCanonical (take ((n + 7) / 8) bytes) n × (take n (bits (take ((n + 7) / 8) bytes)) ≡ take n (bits bytes))
+cut_whole bytes n h whole fits =
     let m : ℕ = (n + 7) / 8 in
     let t = length-take-le m bytes (omega arith) in
     let l = length-bits (take m bytes) in
     (
-      (t, λ k g. get_or_past (bits (take m bytes)) k false (omega (arith, l, t))),
+      record { fits = fits; exact = t; clear = λ k g. get_or_past (bits (take m bytes)) k false (omega (arith, l, t)) },
       let e = ap bits (take-append-drop m bytes) in
       sym (ap (take n) (sym e ∙ bits-append (take m bytes) (drop m bytes)) ∙ take-append-le n (bits (take m bytes)) (bits (drop m bytes)) (omega (arith, l, t))),
     )
 
 -- the same where n ends within a byte, whose higher bits are cleared
-pub cut_within : (bytes : List ℕ) (n b : ℕ) → n ≤ 8 * length bytes → 0 < n % 8 → b ≡ get_or (take ((n + 7) / 8) bytes) (n / 8) 0 % 2 ^ (n % 8) → IsCanonical (set (take ((n + 7) / 8) bytes) (n / 8) b) n × (take n (bits (set (take ((n + 7) / 8) bytes) (n / 8) b)) ≡ take n (bits bytes))
-cut_within bytes n b h some is =
+pub cut_within : (bytes : List ℕ) (n b : ℕ) → n ≤ 8 * length bytes → 0 < n % 8 → b ≡ get_or (take ((n + 7) / 8) bytes) (n / 8) 0 % 2 ^ (n % 8) → ((k : ℕ) → get_or (set (take ((n + 7) / 8) bytes) (n / 8) b) k 0 < 256) → IsCanonical (set (take ((n + 7) / 8) bytes) (n / 8) b) n × (take n (bits (set (take ((n + 7) / 8) bytes) (n / 8) b)) ≡ take n (bits bytes))
+cut_within bytes n b h some is fits =
     let m : ℕ = (n + 7) / 8 in
     let j : ℕ = n / 8 in
     let front : List ℕ = take m bytes in
@@ -177,7 +190,7 @@ cut_within bytes n b h some is =
     let na = length-take-le n (bits after) (omega (arith, la, s, t)) in
     let nb = length-take-le n (bits bytes) (omega (arith, lb)) in
     (
-      (omega (arith, s, t), cut),
+      record { fits = fits; exact = omega (arith, s, t); clear = cut },
       ext_get_or false (take n (bits after)) (take n (bits bytes)) (na ∙ sym nb)
       (λ k k<. let lt : k < n = omega (arith, na) in get_or-take n (bits after) k false lt ∙ (same k lt ∙ sym (get_or-take n (bits bytes) k false lt))),
     )

@@ -1,1 +1,2 @@
 pub mod ErrorTexts
+pub mod Refusals

@@ -1,0 +1,34 @@
+//! The test of a length against the bytes that are to hold it.
+ghost use Rattle.std.specs.Prelude.{◌≡◌, ◌*◌, ◌≤◌, ◌↔◌, IsOk, IfOk, IfErr, vec_len, string_bytes};
+ghost use Rattle.arrow2_types.specs.Refusals.{IsInvalidArgument};
+ghost use Rattle.arrow2_bitmap.specs.Refused.{too_long};
+
+use arrow2_types::error::{Error, Result};
+use std::alloc::{AllocError, Global};
+
+/// Refuses a length in bits above eight times the number of bytes, with a text about `subject`.
+pub(crate) fn check_length(subject: &str, length: usize, bytes: &Vec<u8>) -> Result<()>
+    ensures fits { IsOk result ↔ (length ≤ 8 * vec_len bytes.now) }
+    ensures refused { IfErr result (λ e. IsInvalidArgument e (too_long subject.now length (vec_len bytes.now))) }
+{
+    if length > bytes.len().saturating_mul(8) {
+        let text = refusal(*bytes.allocator(), subject, length, bytes.len())?;
+        return Err(Error::InvalidArgumentError(text));
+    }
+    Ok(())
+}
+
+#[tactic(auto, unfolding(crate::specs::Refused::too_long))]
+fn refusal(
+    alloc: Global,
+    subject: &str,
+    length: usize,
+    bytes: usize,
+) -> std::result::Result<String, AllocError>
+    ensures { IfOk result (λ text. string_bytes text ≡ too_long subject.now length bytes) }
+{
+    let room = bytes.saturating_mul(8);
+    format!(in alloc;
+        "{subject} of the bitmap ({length}) must be `<=` to the number of bytes times 8 ({room})"
+    )
+}

@@ -1,0 +1,6 @@
+//! Bitmaps: lists of booleans kept as bits, shared ones and ones that grow.
+#![tactic(auto)]
+
+mod check;
+pub mod immutable;
+pub mod mutable;

@@ -1,0 +1,213 @@
+//! A bitmap that grows.
+ghost use Rattle.std.specs.Prelude.{◌≡◌, ◌+◌, ◌-◌, ◌*◌, ◌/◌, ◌<◌, ◌≤◌, ◌^◌, ◌↔◌, ◌⊎◌, [], ◌∷◌, ◌++◌, length, take, OnOk, OnErr, IsOk, IsErr, IfOk, IfErr, IsErrOf, IsTrue, codes, vec_len, vec_capacity};
+ghost use Rattle.arrow2_model.specs.Bits.{bits};
+ghost use Rattle.arrow2_model.specs.Parts.{falses};
+ghost use Rattle.arrow2_model.specs.Canonical.{canonical_bytes, IsCanonical};
+ghost use Rattle.arrow2_model.specs.Storage.{GrowingBitmap};
+ghost use Rattle.arrow2_types.specs.Refusals.{IsInvalidArgument};
+ghost use Rattle.arrow2_bitmap.specs.Refused.{too_long};
+
+use crate::check::check_length;
+use arrow2_bits::iterator::BitmapIter;
+use arrow2_bits::{bytes_for, count_zeros};
+use arrow2_types::error::{Error, Result};
+use std::alloc::{AllocError, Global};
+use std::marker::Model;
+
+/// A bitmap that grows: contracts see its items and its capacity, both in bits.
+///
+/// Its bytes are always exactly those that its items need, and spare bits are false.
+/// In arrow2 spare bytes and spare bits of a vector that was handed in stay.
+#[derive(Drop)]
+pub struct MutableBitmap {
+    buffer: Vec<u8>,
+    length: usize,
+}
+
+impl Model for MutableBitmap {
+    ghost use Rattle.std.specs.Prelude.{◌-◌, ◌*◌, ◌^◌, vec_capacity, min, take};
+    ghost use Rattle.arrow2_model.specs.Bits.{bits};
+    ghost use Rattle.arrow2_model.specs.Canonical.{IsCanonical};
+    ghost use Rattle.arrow2_model.specs.Storage.{GrowingBitmap};
+
+    ghost Value = { GrowingBitmap };
+
+    ghost view = { λ m. record { items = take m.length (bits m.buffer.items); capacity = min (8 * vec_capacity m.buffer) (2 ^ 64 - 1) } };
+
+    ghost invariant = { λ m. IsCanonical m.buffer.items m.length };
+}
+
+#[tactic(auto, using(crate::proofs::Buffer::buffers))]
+impl MutableBitmap {
+    /// An empty bitmap. Takes no memory.
+    pub fn new(alloc: Global) -> MutableBitmap
+        ensures { result.items ≡ [] }
+    {
+        MutableBitmap {
+            buffer: Vec::new(alloc),
+            length: 0,
+        }
+    }
+
+    /// The first `length` bits of the bytes. Spare bytes are cut and spare bits cleared, in place.
+    ///
+    /// # Errors
+    ///
+    /// `InvalidArgumentError` exactly if `length` is above eight times the number of bytes, or
+    /// `OutOfMemory` there, where its text finds no memory.
+    pub fn try_new(bytes: Vec<u8>, length: usize) -> Result<MutableBitmap>
+        ensures fits { IsOk result ↔ (length ≤ 8 * vec_len bytes) }
+        ensures ok { IfOk result (λ m. m.items ≡ take length (bits bytes.items)) }
+        ensures refused { IfErr result (λ e. IsInvalidArgument e (too_long (codes "The length") length (vec_len bytes))) }
+    {
+        check_length("The length", length, &bytes)?;
+        Ok(MutableBitmap::from_vec(bytes, length))
+    }
+
+    /// The first `length` bits of the bytes. Asks that there are as many.
+    /// Spare bytes are cut and spare bits cleared, in place. Takes no memory.
+    pub fn from_vec(bytes: Vec<u8>, length: usize) -> MutableBitmap
+        requires { length ≤ 8 * vec_len bytes }
+        ensures { result.items ≡ take length (bits bytes.items) }
+    {
+        let mut buffer = bytes;
+        cut(&mut buffer, length);
+        MutableBitmap { buffer, length }
+    }
+
+    /// An empty bitmap with room for `capacity` bits.
+    ///
+    /// # Errors
+    ///
+    /// `OutOfMemory` alone.
+    pub fn with_capacity(alloc: Global, capacity: usize) -> Result<MutableBitmap>
+        ensures ok { IfOk result (λ m. m.items ≡ []) }
+        ensures room { IfOk result (λ m. capacity ≤ m.capacity) }
+        ensures only { IfErr result (λ e. e ≡ Error.OutOfMemory) }
+    {
+        let buffer = Vec::with_capacity(alloc, bytes_for(capacity))?;
+        Ok(MutableBitmap { buffer, length: 0 })
+    }
+
+    /// The bitmap of the items.
+    ///
+    /// # Errors
+    ///
+    /// `OutOfMemory` alone.
+    pub fn from_bools(alloc: Global, items: &[bool]) -> Result<MutableBitmap>
+        ensures ok { IfOk result (λ m. m.items ≡ items.now) }
+        ensures only { IfErr result (λ e. e ≡ Error.OutOfMemory) }
+    {
+        let mut bitmap = MutableBitmap::with_capacity(alloc, items.len())?;
+        for item in items {
+            bitmap.push(*item)?;
+        }
+        Ok(bitmap)
+    }
+
+    /// Adds one item at the end. Below the capacity it takes no memory.
+    ///
+    /// # Errors
+    ///
+    /// `Overflow` exactly where the length is `usize::MAX`, else `OutOfMemory` alone.
+    /// After both the bitmap holds the items that it held.
+    pub fn push(&mut self, value: bool) -> Result<()>
+        ensures ok { OnOk result (self.new.items ≡ self.old.items ++ value ∷ []) }
+        ensures err { OnErr result (self.new.items ≡ self.old.items) }
+        ensures overflow { IsErrOf result Error.Overflow ↔ (length self.old.items ≡ 2 ^ 64 - 1) }
+        ensures only { IfErr result (λ e. (e ≡ Error.Overflow) ⊎ (e ≡ Error.OutOfMemory)) }
+        ensures room { length self.old.items < self.old.capacity → IsOk result }
+        ensures capacity { self.old.capacity ≤ self.new.capacity }
+    {
+        if self.length == usize::MAX {
+            return Err(Error::Overflow);
+        }
+        push_bit(&mut self.buffer, self.length, value)?;
+        self.length += 1;
+        Ok(())
+    }
+
+    /// The items, from both ends.
+    pub fn iter(&self) -> BitmapIter<'_>
+        ensures { result ≡ self.now.items }
+    {
+        BitmapIter::new(self.buffer.as_slice(), 0, self.length)
+    }
+
+    /// How many items it can hold before it asks for memory, at most `usize::MAX`.
+    pub fn capacity(&self) -> usize
+        ensures { result ≡ self.now.capacity }
+    {
+        self.buffer.capacity().saturating_mul(8)
+    }
+
+    /// How many items it has.
+    pub fn len(&self) -> usize
+        ensures { result ≡ length self.now.items }
+    {
+        self.length
+    }
+
+    /// Whether it has no item.
+    pub fn is_empty(&self) -> bool
+        ensures { IsTrue result ↔ (length self.now.items ≡ 0) }
+    {
+        self.length == 0
+    }
+
+    /// How many items are false. Counts them anew.
+    pub fn unset_bits(&self) -> usize
+        ensures { result ≡ falses self.now.items }
+    {
+        count_zeros(self.buffer.as_slice(), 0, self.length)
+    }
+
+    /// The same as [`MutableBitmap::unset_bits`].
+    pub fn null_count(&self) -> usize
+        ensures { result ≡ falses self.now.items }
+    {
+        self.unset_bits()
+    }
+
+    /// Its bytes, and how many items they hold.
+    pub(crate) fn into_parts(self) -> (Vec<u8>, usize)
+        ensures bytes { result.0.items ≡ canonical_bytes self.items }
+        ensures items { take result.1 (bits result.0.items) ≡ self.items }
+        ensures len { result.1 ≡ length self.items }
+        ensures fits { result.1 ≤ 8 * vec_len result.0 }
+    {
+        let MutableBitmap { buffer, length } = self;
+        (buffer, length)
+    }
+}
+
+/// Cuts what lies behind the first `length` bits: spare bytes, and spare bits of the last byte.
+fn cut(buffer: &mut Vec<u8>, length: usize)
+    requires { length ≤ 8 * vec_len buffer.old }
+    ensures canonical { IsCanonical buffer.new.items length }
+    ensures items { take length (bits buffer.new.items) ≡ take length (bits buffer.old.items) }
+    ensures capacity { vec_capacity buffer.new ≡ vec_capacity buffer.old }
+{
+    buffer.truncate(bytes_for(length));
+    if length % 8 != 0 {
+        buffer[length / 8] %= 1 << (length % 8);
+    }
+}
+
+/// Adds one bit behind the first `length` bits, which are all that the bytes hold.
+fn push_bit(buffer: &mut Vec<u8>, length: usize, value: bool) -> std::result::Result<(), AllocError>
+    requires { IsCanonical buffer.old.items length }
+    ensures canonical { OnOk result (IsCanonical buffer.new.items (length + 1)) }
+    ensures items { OnOk result (take (length + 1) (bits buffer.new.items) ≡ take length (bits buffer.old.items) ++ value ∷ []) }
+    ensures err { OnErr result (buffer.new.items ≡ buffer.old.items) }
+    ensures room { length < 8 * vec_capacity buffer.old → IsOk result }
+    ensures capacity { vec_capacity buffer.old ≤ vec_capacity buffer.new }
+{
+    let place = length % 8;
+    if place == 0 {
+        buffer.push(u8::from(value))?;
+    } else {
+        buffer[length / 8] |= u8::from(value) << place;
+    }
+    Ok(())
+}

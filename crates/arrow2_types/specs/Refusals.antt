@@ -1,0 +1,10 @@
+-- Which error a call refuses by.
+use Rattle.std.specs.Prelude.{◌≡◌, ℕ, List, string_bytes}
+use Rattle.arrow2_types.specs.declared.error.Error.{Error}
+use Rattle.arrow2_types.specs.declared.error.Error.TheVariants.{NotYetImplemented, External, Io, InvalidArgumentError, ExternalFormat, Overflow, OutOfSpec, OutOfMemory}
+
+-- an invalid argument, in these words; or want of memory, where the words found none
+abbrev pub IsInvalidArgument : Error → List ℕ → Type 0
+IsInvalidArgument (InvalidArgumentError text) words = string_bytes text ≡ words
+IsInvalidArgument OutOfMemory words = Unit {0}
+IsInvalidArgument _ words = ⊥
