@@ -116,7 +116,7 @@ impl Bitmap {
     pub fn is_empty(&self) -> bool
         ensures { IsTrue result ↔ (length (items_of self.now) ≡ 0) }
     {
-        self.length == 0
+        self.len() == 0
     }
 
     /// The items, from both ends.
@@ -137,7 +137,7 @@ impl Bitmap {
     pub fn null_count(&self) -> usize
         ensures { result ≡ falses (items_of self.now) }
     {
-        self.unset_bits
+        self.unset_bits()
     }
 
     /// Keeps `length` items from item `offset` on, over the same bytes. Asks that they are inside.

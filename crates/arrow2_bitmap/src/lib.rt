@@ -4,3 +4,6 @@
 mod check;
 pub mod immutable;
 pub mod mutable;
+
+#[cfg(test)]
+mod tests;

@@ -152,7 +152,7 @@ impl MutableBitmap {
     pub fn is_empty(&self) -> bool
         ensures { IsTrue result ↔ (length self.now.items ≡ 0) }
     {
-        self.length == 0
+        self.len() == 0
     }
 
     /// How many items are false. Counts them anew.

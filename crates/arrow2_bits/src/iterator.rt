@@ -68,7 +68,7 @@ impl<'a> Iterator for BitmapIter<'a> {
         ensures upper { IfSome result.1 (UpTo (item_count (λ s. s) self.now)) }
         ensures exact { (result.0 ≡ length self.now) × (result.1 ≡ Some (length self.now)) }
     {
-        let left = self.end - self.index;
+        let left = self.len();
         (left, Some(left))
     }
 }
@@ -78,7 +78,7 @@ impl<'a> DoubleEndedIterator for BitmapIter<'a> {
     ghost next_back_gives = { YieldsLast (λ s. s) };
 
     fn next_back(&mut self) -> Option<bool> {
-        if self.index == self.end {
+        if self.end == self.index {
             return None;
         }
         self.end -= 1;

@@ -194,3 +194,21 @@ cut_within bytes n b h some is fits =
       ext_get_or false (take n (bits after)) (take n (bits bytes)) (na ∙ sym nb)
       (λ k k<. let lt : k < n = omega (arith, na) in get_or-take n (bits after) k false lt ∙ (same k lt ∙ sym (get_or-take n (bits bytes) k false lt))),
     )
+
+-- ---- the bytes tell the list
+
+-- an item, read from the bytes
+get_or-canonical_bytes : (items : List Bool) (k : ℕ) → k < length items → get_or items k false ≡ bit (get_or (canonical_bytes items) (k / 8) 0) (k % 8)
+unfolding canonical_bytes
+get_or-canonical_bytes items k h =
+    let at : k / 8 < div_ceil (length items) 8 = grind arith in
+    let place : 8 * (k / 8) + k % 8 ≡ k = omega arith in
+    sym (ap (λ x. bit x (k % 8)) (get_or-words 8 items (k / 8) at) ∙
+    (bit-num (part items (8 * (k / 8)) 8) (k % 8) ∙
+    (get_or-part items (8 * (k / 8)) 8 (k % 8) false (omega arith) ∙ ap (λ p. get_or items p false) place)))
+
+pub same_from_canonical_bytes : (xs ys : List Bool) → length xs ≡ length ys → canonical_bytes xs ≡ canonical_bytes ys → xs ≡ ys
+same_from_canonical_bytes xs ys l e =
+    ext_get_or false xs ys l (λ k h. get_or-canonical_bytes xs k h ∙ (ap (λ b. bit (get_or b (k / 8) 0) (k % 8)) e ∙ sym (get_or-canonical_bytes ys k (omega (arith, l)))))
+
+pub ruleset canonical = (same_from_canonical_bytes)

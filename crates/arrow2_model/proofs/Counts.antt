@@ -21,3 +21,5 @@ pub falses_more_no : (bytes : List ℕ) (a n : ℕ) → a + n < 8 * length bytes
 falses_more_no bytes a n h e = let l = length-bits bytes in falses_more (bits bytes) a n false (omega arith) ∙ (rw e refl)
 
 pub ruleset counting = (falses_more_yes, falses_more_no)
+
+pub ruleset counts = (falses-le-length)

@@ -3,8 +3,8 @@ use Rattle.std.proofs.Common.{◌≡◌, ◌≢◌, ◌⊎◌, inl, inr, ℕ, ze
 use Rattle.std.proofs.lemmas.Grind.{common_steps}
 use Rattle.std.proofs.lemmas.Simd.{bit_mask_l}
 use Rattle.std.proofs.Math.Nat.{pow-suc}
-use Rattle.arrow2_model.specs.Bits.{bit, unnum, bits, num}
-use Rattle.arrow2_model.proofs.Bits.{bit_is}
+use Rattle.arrow2_model.specs.Bits.{bit, unnum, num, sum_of_powers}
+use Rattle.arrow2_model.proofs.Bits.{bit_is, length-unnum}
 
 pub lowest : (x : ℕ) → cond (x % 2 == 1) 1 0 ≡ x % 2
 lowest x = grind arith
@@ -26,3 +26,14 @@ same_from_num xs ys l e = sym (unnum-num xs) ∙ (rw (l, e) (unnum-num ys))
 
 pub bit-num : (items : List Bool) (i : ℕ) → bit (num items) i ≡ get_or items i false
 bit-num items i = bit_is (num items) i ∙ (rw (bit_mask_l items i) (elim (get_or items i false) as (λ b. (cond b 1 0 == 1) ≡ b) [ true ↦ refl | false ↦ refl ]))
+
+-- the same sum with places from k on
+sum_of_powers-num : (k : ℕ) (items : List Bool) → sum_of_powers k items ≡ 2 ^ k * num items
+sum_of_powers-num k [] = omega arith
+sum_of_powers-num k (true ∷ items) = let p = pow-suc 2 k in let e : k + 1 ≡ suc k = omega arith in rw (sum_of_powers-num (k + 1) items, e, p) (omega arith)
+sum_of_powers-num k (false ∷ items) = let p = pow-suc 2 k in let e : k + 1 ≡ suc k = omega arith in rw (sum_of_powers-num (k + 1) items, e, p) (omega arith)
+
+pub num_is_sum : (items : List Bool) → num items ≡ sum_of_powers 0 items
+num_is_sum items = sym (sum_of_powers-num 0 items ∙ omega arith)
+
+pub ruleset numbers = (length-unnum, num-unnum, unnum-num, num_is_sum)

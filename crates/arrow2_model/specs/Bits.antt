@@ -1,6 +1,6 @@
 -- Bits of numbers and of bytes as lists of booleans, the lowest first
 -- (Arrow columnar format, "Validity bitmaps": slot j is bit j % 8 of byte j / 8, from the least significant bit on).
-use Rattle.std.specs.Prelude.{ℕ, zero, suc, ◌/◌, ◌%◌, ◌==◌, List, [], ◌∷◌, Bool}
+use Rattle.std.specs.Prelude.{ℕ, zero, suc, ◌+◌, ◌/◌, ◌%◌, ◌^◌, ◌==◌, List, [], ◌∷◌, Bool, if◌then◌else◌}
 use Rattle.std.specs.List.{flat_map}
 
 -- the number of a list of booleans: the sum of 2 ^ i over the places i where it is true
@@ -19,3 +19,8 @@ unnum (suc w) x = (x % 2 == 1) ∷ unnum w (x / 2)
 -- the bits of each byte in turn: eight booleans a byte
 unfoldable pub bits : List ℕ → List Bool
 bits bytes = flat_map (unnum 8) bytes
+
+-- the sum of 2 ^ i over the places i of the true items, where the first item has place k
+abbrev pub sum_of_powers : ℕ → List Bool → ℕ
+sum_of_powers k [] = 0
+sum_of_powers k (item ∷ items) = (if item then 2 ^ k else 0) + sum_of_powers (k + 1) items

@@ -1,2 +1,6 @@
-//! What the layer's contracts mean: lists of booleans, their numbers, words and parts.
+//! What the layer's contracts mean: lists of booleans, their parts, numbers, words and bytes.
+//!
+//! The definitions stand in `specs/`, the lemmas that the crates above cite in `proofs/`.
 #![tactic(auto)]
+
+pub mod laws;

@@ -1,0 +1,91 @@
+//! Worked examples, and each call once with ample memory.
+use crate::immutable::Bitmap;
+use crate::mutable::MutableBitmap;
+use std::convert::TryFrom;
+use std::fmt::Display;
+use std::test::Fail;
+
+#[test]
+fn bits_are_read_from_the_lowest(rt: HostRuntime) -> Result<(), Fail> {
+    let bitmap = Bitmap::try_new(vec![in rt.alloc(); 0b00001101u8]?, 5)?;
+    let items: Vec<bool> = bitmap.iter().collect(rt.alloc())?;
+    assert_eq!(rt; items.as_slice(), [true, false, true, true, false].as_slice());
+    assert_eq!(rt; bitmap.unset_bits(), 2);
+    assert_eq!(rt; bitmap.null_count(), 2);
+    assert_eq!(rt; bitmap.len(), 5);
+    assert!(rt; !bitmap.is_empty());
+    Ok(())
+}
+
+#[test]
+fn a_length_past_the_bytes_is_refused(rt: HostRuntime) -> Result<(), Fail> {
+    let error = Bitmap::try_new(Vec::new(rt.alloc()), 1).err().ok_or("accepted")?;
+    assert_eq!(
+        rt;
+        error.to_string(rt.alloc())?.as_str(),
+        "Invalid argument error: The offset + length of the bitmap (1) must be `<=` to the number of bytes times 8 (0)"
+    );
+    let two = vec![in rt.alloc(); 1u8, 2]?;
+    let error = MutableBitmap::try_new(two, 17).err().ok_or("accepted")?;
+    assert_eq!(
+        rt;
+        error.to_string(rt.alloc())?.as_str(),
+        "Invalid argument error: The length of the bitmap (17) must be `<=` to the number of bytes times 8 (16)"
+    );
+    Ok(())
+}
+
+#[test]
+fn pushes_go_behind_the_items(rt: HostRuntime) -> Result<(), Fail> {
+    let spare = vec![in rt.alloc(); 0xffu8, 0xff, 0xff]?;
+    let mut bitmap = MutableBitmap::try_new(spare, 3)?;
+    bitmap.push(false)?;
+    bitmap.push(true)?;
+    let items: Vec<bool> = bitmap.iter().collect(rt.alloc())?;
+    assert_eq!(rt; items.as_slice(), [true, true, true, false, true].as_slice());
+    assert_eq!(rt; bitmap.len(), 5);
+    assert_eq!(rt; bitmap.unset_bits(), 1);
+    assert_eq!(rt; bitmap.null_count(), 1);
+    assert!(rt; bitmap.capacity() >= 5);
+    Ok(())
+}
+
+#[test]
+fn many_pushes_are_kept(rt: HostRuntime) -> Result<(), Fail> {
+    let mut bitmap = MutableBitmap::new(rt.alloc());
+    for i in 0..100usize {
+        bitmap.push(i % 3 == 0)?;
+    }
+    for (i, item) in bitmap.iter().enumerate() {
+        assert_eq!(rt; item, i % 3 == 0, "at {i}");
+    }
+    assert_eq!(rt; bitmap.unset_bits(), 66);
+    Ok(())
+}
+
+#[test]
+fn clones_and_slices_count_anew(rt: HostRuntime) -> Result<(), Fail> {
+    let whole = Bitmap::from_bools(rt.alloc(), &[true, false, true, true, false])?;
+    let mut part = whole.clone()?;
+    assert_eq!(rt; part.len(), 5);
+    part.slice(1, 4);
+    assert_eq!(rt; part.unset_bits(), 2);
+    assert_eq!(rt; part.len(), 4);
+    let last = part.sliced(1, 2);
+    assert_eq!(rt; last.unset_bits(), 0);
+    assert_eq!(rt; whole.unset_bits(), 2);
+    Ok(())
+}
+
+#[test]
+fn each_way_to_make_one(rt: HostRuntime) -> Result<(), Fail> {
+    assert!(rt; Bitmap::new(rt.alloc())?.is_empty());
+    assert!(rt; MutableBitmap::new(rt.alloc()).is_empty());
+    assert!(rt; MutableBitmap::with_capacity(rt.alloc(), 100)?.capacity() >= 100);
+    let grown = MutableBitmap::from_bools(rt.alloc(), &[true, false, true])?;
+    assert_eq!(rt; Bitmap::try_from(grown)?.unset_bits(), 1);
+    let cut = MutableBitmap::from_vec(vec![in rt.alloc(); 0b11111101u8]?, 3);
+    assert_eq!(rt; cut.unset_bits(), 1);
+    assert_eq!(rt; Bitmap::from_u8_vec(vec![in rt.alloc(); 0b00010101u8]?, 8)?.unset_bits(), 5);
+    Ok(())
+}
