@@ -1,8 +1,8 @@
 -- The bytes of a bitmap that grows.
-use Rattle.std.proofs.Common.{◌≡◌, ◌∙◌, ℕ, ◌+◌, ◌*◌, ◌/◌, ◌%◌, ◌^◌, ◌<◌, ◌≤◌, List, [], ◌∷◌, ◌++◌, Bool, take, length, get_or, set, subst, ap, arith}
+use Rattle.std.proofs.Common.{◌≡◌, ◌∙◌, ℕ, ◌+◌, ◌*◌, ◌/◌, ◌%◌, ◌^◌, ◌<◌, ◌≤◌, List, [], ◌∷◌, ◌++◌, Bool, false, take, drop, length, get_or, set, subst, ap, arith}
 use Rattle.std.specs.Prelude.{bit_or}
 use Rattle.std.specs.Int.{from_bool}
-use Rattle.std.proofs.lemmas.List.{length-take-le}
+use Rattle.std.proofs.lemmas.List.{length-take-le, take_more, take_all, drop_all, append-nil}
 use Rattle.std.proofs.lemmas.Grind.{get_or_default_zero}
 use Rattle.std.proofs.lemmas.Nat.{one_shl}
 use Rattle.arrow2_model.specs.Bits.{bits}
@@ -45,4 +45,13 @@ pub push_byte : (bytes after : List ℕ) (n b : ℕ) (v : Bool) → IsCanonical 
 push_byte bytes after n b v canonical whole e is fits =
     rw e (pushed_byte bytes n b v canonical whole is (subst (λ (f : List ℕ). (k : ℕ) → get_or f k 0 < 256) e (bytes_fit after fits)))
 
+-- what the slice of a whole vector leaves in the vector
+pub whole_written : (before after : List ℕ) (len : ℕ) → len ≡ length before → length after ≡ length before → take len (after ++ drop (length after) before) ≡ after
+whole_written before after len e f = rw (drop_all (length after) before (omega arith), append-nil after) (take_all len after (omega arith))
+
+-- all but the last item, and the last
+pub popped : (bytes : List ℕ) (n m : ℕ) → IsCanonical bytes n → n ≡ m + 1 → take n (bits bytes) ≡ take m (bits bytes) ++ get_or (bits bytes) m false ∷ []
+popped bytes n m canonical e = let l = length-bits bytes in rw e (take_more (bits bytes) m false (omega (arith, l, canonical.exact)))
+
+pub ruleset writes = (whole_written)
 pub ruleset buffers = (length_items, canonical-nil)

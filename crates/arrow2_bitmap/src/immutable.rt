@@ -1,5 +1,7 @@
 //! A bitmap over shared bytes.
-ghost use Rattle.std.specs.Prelude.{◌≡◌, ◌+◌, ◌*◌, ◌<◌, ◌≤◌, ◌↔◌, [], length, take, OnOk, IsOk, IfOk, IfErr, IsTrue, MatchResult, vec_len, codes};
+ghost use Rattle.std.specs.Prelude.{◌≡◌, ◌+◌, ◌*◌, ◌/◌, ◌%◌, ◌<◌, ◌≤◌, ◌↔◌, [], false, length, length as length', replicate, slice_index_or, take, OnOk, IsOk, IfOk, IfErr, IsTrue, MatchResult, vec_len, codes};
+ghost use Rattle.std.specs.List.{slice_get};
+ghost use Rattle.either.specs.Either.{MatchEither};
 ghost use Rattle.arrow2_model.specs.Bits.{bits};
 ghost use Rattle.arrow2_model.specs.Parts.{part, falses};
 ghost use Rattle.arrow2_model.specs.Canonical.{canonical_bytes};
@@ -10,9 +12,10 @@ ghost use Rattle.arrow2_bitmap.specs.Refused.{too_long};
 
 use crate::check::check_length;
 use crate::mutable::MutableBitmap;
-use arrow2_bits::count_zeros;
 use arrow2_bits::iterator::BitmapIter;
+use arrow2_bits::{bytes_for, count_zeros, get_bit};
 use arrow2_types::error::{Error, Result};
+use either::Either;
 use std::alloc::{AllocError, Global};
 use std::convert::TryFrom;
 use std::marker::Model;
@@ -92,6 +95,32 @@ impl Bitmap {
         })
     }
 
+    /// The first `length` bits of a copy of the bytes, every one. Asks that there are as many.
+    ///
+    /// # Errors
+    ///
+    /// `OutOfMemory` alone.
+    pub fn from_u8_slice(alloc: Global, bytes: &[u8], length: usize) -> Result<Bitmap>
+        requires { length ≤ 8 * length' bytes.now }
+        ensures ok { IfOk result (λ b. b ≡ record { bytes = bytes.now; offset = 0; len = length }) }
+        ensures only { IfErr result (λ e. e ≡ Error.OutOfMemory) }
+    {
+        Bitmap::from_u8_vec(Vec::from_slice(alloc, bytes)?, length)
+    }
+
+    /// `length` items, all false.
+    ///
+    /// # Errors
+    ///
+    /// `OutOfMemory` alone.
+    pub fn new_zeroed(alloc: Global, length: usize) -> Result<Bitmap>
+        ensures items { IfOk result (λ b. items_of b ≡ replicate length false) }
+        ensures storage { IfOk result (λ b. b ≡ record { bytes = replicate ((length + 7) / 8) 0; offset = 0; len = length }) }
+        ensures only { IfErr result (λ e. e ≡ Error.OutOfMemory) }
+    {
+        Bitmap::from_u8_vec(vec![in alloc; 0u8; bytes_for(length)]?, length)
+    }
+
     /// The bitmap of the items.
     ///
     /// # Errors
@@ -124,6 +153,40 @@ impl Bitmap {
         ensures { result ≡ items_of self.now }
     {
         BitmapIter::new(self.bytes.as_slice(), self.offset, self.length)
+    }
+
+    /// Item `index`, or `None` past the length.
+    pub fn get(&self, index: usize) -> Option<bool>
+        ensures { result ≡ slice_get (items_of self.now) index }
+    {
+        if index < self.length {
+            Some(self.get_bit(index))
+        } else {
+            None
+        }
+    }
+
+    /// Item `index`. Asks that it is below the length; arrow2 takes each index inside the bytes.
+    pub fn get_bit(&self, index: usize) -> bool
+        requires { index < self.now.len }
+        ensures { result ≡ slice_index_or (items_of self.now) index false }
+    {
+        get_bit(self.bytes.as_slice(), self.offset + index)
+    }
+
+    /// The bytes that hold its items, the bit of the first of them at which the items begin, below
+    /// 8, and how many items there are.
+    pub fn as_slice(&self) -> (&[u8], usize, usize)
+        ensures bytes { result.0.now ≡ part self.now.bytes (self.now.offset / 8) ((self.now.offset % 8 + self.now.len + 7) / 8) }
+        ensures offset { result.1 ≡ self.now.offset % 8 }
+        ensures len { result.2 ≡ self.now.len }
+        ensures inside { result.1 + result.2 ≤ 8 * length' result.0.now }
+        ensures items { part (bits result.0.now) result.1 result.2 ≡ items_of self.now }
+    {
+        let start = self.offset / 8;
+        let within = self.offset % 8;
+        let count = bytes_for(within + self.length);
+        (&self.bytes.as_slice()[start..start + count], within, self.length)
     }
 
     /// How many items are false. The count is kept, so it takes no walk.
@@ -162,6 +225,71 @@ impl Bitmap {
         bitmap.slice(offset, length);
         bitmap
     }
+
+    /// The storage whole: the bytes, the bit at which the items begin, how many items there are,
+    /// and how many of them are false.
+    pub fn into_inner(self) -> (Rc<Vec<u8>>, usize, usize, usize)
+        ensures bytes { result.0.value.items ≡ self.bytes }
+        ensures offset { result.1 ≡ self.offset }
+        ensures len { result.2 ≡ self.len }
+        ensures unset_bits { result.3 ≡ falses (items_of self) }
+    {
+        (self.bytes, self.offset, self.length, self.unset_bits)
+    }
+
+    /// The bitmap to be changed in place, on the right, where no one shares the bytes and the
+    /// items begin at bit 0; else the bitmap as it was, on the left. Takes no memory.
+    /// In arrow2 the right side forgets the offset.
+    pub fn into_mut(self) -> Either<Bitmap, MutableBitmap>
+        ensures { MatchEither result (λ b. b ≡ self) (λ m. (self.offset ≡ 0) × (m.items ≡ items_of self)) }
+    {
+        if self.offset != 0 {
+            return Either::Left(self);
+        }
+        let Bitmap {
+            bytes,
+            offset,
+            length,
+            unset_bits,
+        } = self;
+        match Rc::try_unwrap(bytes) {
+            Ok(bytes) => Either::Right(MutableBitmap::from_vec(bytes, length)),
+            Err(bytes) => Either::Left(Bitmap {
+                bytes,
+                offset,
+                length,
+                unset_bits,
+            }),
+        }
+    }
+
+    /// The bitmap to be changed: in place where [`Bitmap::into_mut`] can, else a copy.
+    ///
+    /// # Errors
+    ///
+    /// `OutOfMemory` alone.
+    pub fn make_mut(self) -> Result<MutableBitmap>
+        ensures ok { IfOk result (λ m. m.items ≡ items_of self) }
+        ensures only { IfErr result (λ e. e ≡ Error.OutOfMemory) }
+    {
+        match self.into_mut() {
+            Either::Left(shared) => copy_items(&shared),
+            Either::Right(own) => Ok(own),
+        }
+    }
+}
+
+/// A copy of the items, to be changed.
+fn copy_items(bitmap: &Bitmap) -> Result<MutableBitmap>
+    ensures ok { IfOk result (λ m. m.items ≡ items_of bitmap.now) }
+    ensures only { IfErr result (λ e. e ≡ Error.OutOfMemory) }
+{
+    let alloc = *bitmap.bytes.allocator();
+    let mut copy = MutableBitmap::with_capacity(alloc, bitmap.len())?;
+    for item in bitmap.iter() {
+        copy.push(item)?;
+    }
+    Ok(copy)
 }
 
 /// Shares the bytes. Whether there is memory for one more owner is not promised.

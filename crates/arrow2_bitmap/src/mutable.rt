@@ -1,5 +1,5 @@
 //! A bitmap that grows.
-ghost use Rattle.std.specs.Prelude.{◌≡◌, ◌+◌, ◌-◌, ◌*◌, ◌/◌, ◌<◌, ◌≤◌, ◌^◌, ◌↔◌, ◌⊎◌, [], ◌∷◌, ◌++◌, length, take, OnOk, OnErr, IsOk, IsErr, IfOk, IfErr, IsErrOf, IsTrue, codes, vec_len, vec_capacity};
+ghost use Rattle.std.specs.Prelude.{◌≡◌, ◌+◌, ◌-◌, ◌*◌, ◌/◌, ◌<◌, ◌≤◌, ◌^◌, ◌↔◌, ◌⊎◌, [], ◌∷◌, ◌++◌, false, length, take, slice_index_or, slice_set, OnOk, OnErr, IsOk, IsErr, IfOk, IfErr, IsErrOf, IsTrue, IfNone, MatchOption, codes, vec_len, vec_capacity};
 ghost use Rattle.arrow2_model.specs.Bits.{bits};
 ghost use Rattle.arrow2_model.specs.Parts.{falses};
 ghost use Rattle.arrow2_model.specs.Canonical.{canonical_bytes, IsCanonical};
@@ -9,7 +9,7 @@ ghost use Rattle.arrow2_bitmap.specs.Refused.{too_long};
 
 use crate::check::check_length;
 use arrow2_bits::iterator::BitmapIter;
-use arrow2_bits::{bytes_for, count_zeros};
+use arrow2_bits::{bytes_for, count_zeros, get_bit, set_bit};
 use arrow2_types::error::{Error, Result};
 use std::alloc::{AllocError, Global};
 use std::marker::Model;
@@ -127,6 +127,45 @@ impl MutableBitmap {
         Ok(())
     }
 
+    /// Takes the last item off and gives it back, or `None` where there is none.
+    pub fn pop(&mut self) -> Option<bool>
+        ensures last { MatchOption result (self.old.items ≡ []) (λ item. self.old.items ≡ self.new.items ++ item ∷ []) }
+        ensures none { IfNone result (self.new.items ≡ []) }
+        ensures capacity { self.new.capacity ≡ self.old.capacity }
+    {
+        let last = self.length.checked_sub(1)?;
+        let item = get_bit(self.buffer.as_slice(), last);
+        cut(&mut self.buffer, last);
+        self.length = last;
+        Some(item)
+    }
+
+    /// Item `index`. Asks that it is below the length.
+    pub fn get(&self, index: usize) -> bool
+        requires { index < length self.now.items }
+        ensures { result ≡ slice_index_or self.now.items index false }
+    {
+        get_bit(self.buffer.as_slice(), index)
+    }
+
+    /// Writes item `index`, and leaves every other. Asks that it is below the length.
+    pub fn set(&mut self, index: usize, value: bool)
+        requires { index < length self.old.items }
+        ensures items { self.new.items ≡ slice_set self.old.items index value }
+        ensures capacity { self.new.capacity ≡ self.old.capacity }
+    {
+        write_bit(&mut self.buffer, self.length, index, value);
+    }
+
+    /// Takes all items off.
+    pub fn clear(&mut self)
+        ensures items { self.new.items ≡ [] }
+        ensures capacity { self.new.capacity ≡ self.old.capacity }
+    {
+        self.buffer.clear();
+        self.length = 0;
+    }
+
     /// The items, from both ends.
     pub fn iter(&self) -> BitmapIter<'_>
         ensures { result ≡ self.now.items }
@@ -192,6 +231,18 @@ fn cut(buffer: &mut Vec<u8>, length: usize)
     if length % 8 != 0 {
         buffer[length / 8] %= 1 << (length % 8);
     }
+}
+
+/// Writes bit `index` of the first `length` bits, which are all that the bytes hold.
+#[tactic(auto, using(crate::proofs::Buffer::writes))]
+fn write_bit(buffer: &mut Vec<u8>, length: usize, index: usize, value: bool)
+    requires canonical { IsCanonical buffer.old.items length }
+    requires within { index < length }
+    ensures canonical { IsCanonical buffer.new.items length }
+    ensures items { take length (bits buffer.new.items) ≡ slice_set (take length (bits buffer.old.items)) index value }
+    ensures capacity { vec_capacity buffer.new ≡ vec_capacity buffer.old }
+{
+    set_bit(buffer.as_mut_slice(), index, value);
 }
 
 /// Adds one bit behind the first `length` bits, which are all that the bytes hold.

@@ -1,4 +1,5 @@
 pub mod Bits
+pub mod Bytes
 pub mod Counts
 pub mod Numbers
 pub mod Parts
