@@ -1,6 +1,7 @@
 pub mod Bits
 pub mod Bytes
 pub mod Counts
+pub mod Digits
 pub mod Numbers
 pub mod Parts
 pub mod Walks

@@ -1,5 +1,6 @@
 pub mod Bits
 pub mod Canonical
+pub mod Digits
 pub mod Parts
 pub mod Storage
 pub mod Words

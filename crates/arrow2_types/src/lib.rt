@@ -2,3 +2,5 @@
 #![tactic(auto)]
 
 pub mod error;
+pub mod native;
+pub mod primitive;

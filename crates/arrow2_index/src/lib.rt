@@ -1,0 +1,2 @@
+//! Index, offset and chunk types: numbers that point into buffers, and words as lists of bits.
+#![tactic(auto)]
