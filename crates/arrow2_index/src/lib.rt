@@ -1,2 +1,4 @@
 //! Index, offset and chunk types: numbers that point into buffers, and words as lists of bits.
 #![tactic(auto)]
+
+pub mod bit_chunk;

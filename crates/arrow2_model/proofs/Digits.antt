@@ -86,11 +86,11 @@ digits-signed w n (negsuc x) e h f =
 
 -- ---- reading
 
-number-cons : (d : ℕ) (ds : List ℕ) → digits_number (d ∷ ds) ≡ d + 256 * digits_number ds
+pub number-cons : (d : ℕ) (ds : List ℕ) → digits_number (d ∷ ds) ≡ d + 256 * digits_number ds
 unfolding digits_number
 number-cons d ds = refl
 
-number-nil : digits_number [] ≡ 0
+pub number-nil : digits_number [] ≡ 0
 unfolding digits_number
 number-nil = refl
 
@@ -179,12 +179,12 @@ wrote_low n x bytes e h = e ∙ (low_bytes n x ∙ sym (digits-natural n x h))
 pub wrote_high : (n x : ℕ) (bytes : List ℕ) → bytes ≡ bytes_high_first n x → x < 256 ^ n → bytes ≡ reverse (digits n (pos x))
 wrote_high n x bytes e h = e ∙ (high_bytes n x ∙ ap reverse (sym (digits-natural n x h)))
 
-natural_from-all : (n : ℕ) (bytes : List ℕ) → length bytes ≡ n → natural_from n bytes ≡ digits_number bytes
+pub natural_from-all : (n : ℕ) (bytes : List ℕ) → length bytes ≡ n → natural_from n bytes ≡ digits_number bytes
 unfolding natural_from
 natural_from-all n bytes e = ap digits_number (take_all n bytes (omega arith))
 
 -- digits make the number again
-natural_from-low_digits : (n x : ℕ) → x < 256 ^ n → natural_from n (low_digits n x) ≡ x
+pub natural_from-low_digits : (n x : ℕ) → x < 256 ^ n → natural_from n (low_digits n x) ≡ x
 natural_from-low_digits n x h = natural_from-all n (low_digits n x) (length-low_digits n x) ∙ number-low_digits n x h
 
 -- what was written is read back
@@ -260,7 +260,7 @@ to_z_is w n x s = let a = s.0 in let b = s.1 in elim (cases_lt x (2 ^ hbits w)) 
       ap (λ b. cond b (pos x) (negsuc (2 ^ width_bits w - suc x))) test ∙ (ap negsuc same ∙ sym (centred_high (256 ^ n) x (omega arith)))
 ]
 
-natural_from-lt : (n : ℕ) (bytes : List ℕ) → length bytes ≡ n → ((k : ℕ) → slice_index bytes k < 256) → natural_from n bytes < 256 ^ n
+pub natural_from-lt : (n : ℕ) (bytes : List ℕ) → length bytes ≡ n → ((k : ℕ) → slice_index bytes k < 256) → natural_from n bytes < 256 ^ n
 natural_from-lt n bytes l h = rw (natural_from-all n bytes l, ← l) (digits_number-lt bytes h)
 
 pub digits_of_integer : (n : ℕ) (bytes : List ℕ) → length bytes ≡ n → ((k : ℕ) → slice_index bytes k < 256) → digits n (integer_from n bytes) ≡ bytes

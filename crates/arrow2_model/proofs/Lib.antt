@@ -1,9 +1,10 @@
 pub mod Bits
 pub mod Bytes
+pub mod Canonical
+pub mod Chunks
 pub mod Counts
 pub mod Digits
 pub mod Numbers
 pub mod Parts
 pub mod Walks
 pub mod Words
-pub mod Canonical

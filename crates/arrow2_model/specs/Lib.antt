@@ -1,6 +1,7 @@
 pub mod Bits
 pub mod Canonical
 pub mod Digits
+pub mod Ones
 pub mod Parts
 pub mod Storage
 pub mod Words
