@@ -1,4 +1,5 @@
 pub mod Bits
+pub mod Buffers
 pub mod Canonical
 pub mod Digits
 pub mod Ones

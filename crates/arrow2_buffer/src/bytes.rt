@@ -1,0 +1,63 @@
+//! The storage that buffers share.
+ghost use Rattle.std.specs.Prelude.{◌≡◌, ◌-◌, ◌≤◌, length};
+ghost use Rattle.arrow2_model.specs.Parts.{part};
+ghost use Rattle.arrow2_buffer.specs.Lent.{refill};
+
+use std::marker::Model;
+
+/// A list of items on the heap, which buffers and bitmaps share behind an `Rc`.
+///
+/// Differs from arrow2: it always holds a vector, and never memory of another library.
+#[derive(Debug, Drop)]
+pub struct Bytes<T> {
+    items: Vec<T>,
+}
+
+impl<T> Model for Bytes<T> {
+    ghost use Rattle.std.specs.Prelude.{List};
+
+    ghost Value = { List T };
+
+    ghost view = { λ b. b.items.items };
+}
+
+/// Takes no memory.
+impl<T> From<Vec<T>> for Bytes<T> {
+    ghost from_gives = { λ items b. b ≡ items.items };
+
+    fn from(items: Vec<T>) -> Bytes<T> {
+        Bytes { items }
+    }
+}
+
+impl<T> Bytes<T> {
+    ghost use Rattle.std.specs.Borrow.{Lends, Array, sem};
+    ghost use Rattle.arrow2_buffer.specs.contracts.bytes.Bytes.{the_row};
+
+    /// All items.
+    pub fn as_slice(&self) -> &[T]
+        ensures { result.now ≡ self.now }
+    {
+        self.items.as_slice()
+    }
+
+    /// The vector that it holds. Takes no memory.
+    ///
+    /// Stands for arrow2's `get_vec`, which only that crate can call.
+    pub fn into_vec(self) -> Vec<T>
+        ensures { result.items ≡ self }
+    {
+        self.items
+    }
+
+    /// The items from `start` up to `end`, to be written.
+    pub(crate) fn part_mut(&mut self, start: usize, end: usize) -> &mut [T]
+        requires order { start ≤ end }
+        requires within { end ≤ length self.old }
+        ensures* writes_back { sem 𝓛 (Lends (the_row T.row) (Array T.row 0) self.entry result (refill self.old start)) }
+        ensures value { result.now ≡ part self.old start (end - start) }
+        ensures len { length result.now ≡ end - start }
+    {
+        self.items.slice_mut(start..end)
+    }
+}

@@ -1,0 +1,290 @@
+//! A list that is shared, cloned and sliced in constant time.
+ghost use Rattle.std.specs.Prelude.{◌≡◌, ◌≢◌, ◌+◌, ◌-◌, ◌≤◌, ◌↔◌, List, [], length, IsTrue, IfOk, IfErr, IfSome, MatchResult, ⊤};
+ghost use Rattle.std.specs.Bool.{OnTrue, OnFalse};
+ghost use Rattle.std.specs.Fmt.{debug_list};
+ghost use Rattle.std.specs.Fn.{FnOnceReturnsAtMut};
+ghost use Rattle.std.specs.Iterator.{Drains, IsFinite};
+ghost use Rattle.std.specs.Ordering.{on};
+ghost use Rattle.std.specs.Cmp.{on_per, on_equiv};
+ghost use Rattle.std.specs.Cmp.Lexicographic.{pointwise, lists_per, lists_equiv};
+ghost use Rattle.arrow2_types.specs.declared.error.Error.TheVariants.{OutOfMemory};
+ghost use Rattle.arrow2_model.specs.Parts.{part};
+ghost use Rattle.arrow2_model.specs.Buffers.{buffer_items, whole_buffer, overwritten};
+ghost use Rattle.either.specs.Either.{MatchEither};
+
+use crate::bytes::Bytes;
+use arrow2_types::error::{Error, Result};
+use either::Either;
+use std::alloc::{AllocError, Global};
+use std::fmt;
+use std::marker::Model;
+use std::rc::Rc;
+
+/// A list of items that several owners share.
+///
+/// It is a part of the storage behind an `Rc`: clones and slices share that storage, and take no
+/// memory. Lengths and offsets count items.
+///
+/// Differs from arrow2: it shares by `Rc` and not across threads, and the slice of its items is
+/// [`Buffer::as_slice`], since there is no `Deref` to a slice.
+#[derive(Drop)]
+pub struct Buffer<T> {
+    storage: Rc<Bytes<T>>,
+    offset: usize,
+    len: usize,
+}
+
+impl<T> Model for Buffer<T> {
+    ghost use Rattle.std.specs.Prelude.{◌+◌, ◌≤◌, ◌<◌, ◌^◌, length};
+    ghost use Rattle.arrow2_model.specs.Buffers.{BufferStorage};
+
+    ghost Value = { BufferStorage T };
+
+    ghost view = { λ b. record { storage = b.storage.value; offset = b.offset; len = b.len } };
+
+    ghost invariant = { λ b. (b.offset + b.len ≤ length b.storage.value) × (b.offset + b.len < 2 ^ 64) };
+}
+
+#[tactic(auto, using(crate::proofs::Part::slicing))]
+impl<T> Buffer<T> {
+    /// How many items it has.
+    ///
+    /// arrow2's documentation says bytes.
+    pub fn len(&self) -> usize
+        ensures items { result ≡ length (buffer_items self.now) }
+        ensures value { result ≡ self.now.len }
+        ensures inside { self.now.offset + result ≤ length self.now.storage }
+    {
+        self.len
+    }
+
+    /// Whether it has no items.
+    pub fn is_empty(&self) -> bool
+        ensures { IsTrue result ↔ (buffer_items self.now ≡ []) }
+    {
+        self.len == 0
+    }
+
+    /// Whether the storage holds more than its items.
+    pub fn is_sliced(&self) -> bool
+        ensures sliced { IsTrue result ↔ (buffer_items self.now ≢ self.now.storage) }
+        ensures whole { OnFalse result (buffer_items self.now ≡ self.now.storage) }
+    {
+        self.storage.as_slice().len() != self.len
+    }
+
+    /// The items.
+    pub fn as_slice(&self) -> &[T]
+        ensures { result.now ≡ buffer_items self.now }
+    {
+        &self.storage.as_slice()[self.offset..self.offset + self.len]
+    }
+
+    /// How many items of the storage stand before the first item.
+    pub fn offset(&self) -> usize
+        ensures { result ≡ self.now.offset }
+    {
+        self.offset
+    }
+
+    /// Keeps `length` items from item `offset` on, over the same storage. Takes no memory.
+    ///
+    /// Asks that `offset + length` is at most [`Buffer::len`].
+    pub fn slice(&mut self, offset: usize, length: usize)
+        requires { offset + length ≤ self.old.len }
+        ensures items { buffer_items self.new ≡ part (buffer_items self.old) offset length }
+        ensures storage { self.new ≡ record self.old { offset = self.old.offset + offset; len = length } }
+    {
+        self.offset += offset;
+        self.len = length;
+    }
+
+    /// The `length` items from item `offset` on, over the same storage. Takes no memory.
+    ///
+    /// Asks that `offset + length` is at most [`Buffer::len`].
+    pub fn sliced(mut self, offset: usize, length: usize) -> Self
+        requires { offset + length ≤ self.len }
+        ensures items { buffer_items result ≡ part (buffer_items self) offset length }
+        ensures storage { result ≡ record self { offset = self.offset + offset; len = length } }
+    {
+        self.slice(offset, length);
+        self
+    }
+    /// The items, to be written, where no one else shares the storage; None elsewhere.
+    ///
+    /// Takes no memory. [`Buffer::change_slice`] does the same with a closure.
+    pub fn get_mut_slice(&mut self) -> Option<&mut [T]>
+        ensures { IfSome result (λ r. r.now ≡ buffer_items self.old) }
+    {
+        let start = self.offset;
+        let end = start + self.len;
+        match Rc::get_mut(&mut self.storage) {
+            Some(bytes) => Some(bytes.part_mut(start, end)),
+            None => None,
+        }
+    }
+
+    /// Changes the items in place by `change` where no one else shares the storage, and answers
+    /// whether it did. Takes no memory.
+    ///
+    /// arrow2 has [`Buffer::get_mut_slice`] alone.
+    pub fn change_slice<F: FnOnce(&mut [T])>(&mut self, change: F) -> bool
+        requires { F.IsAlwaysCallable change }
+        ensures changed { OnTrue result (FnOnceReturnsAtMut F.FnOnce change (buffer_items self.old) tt (buffer_items self.new)) }
+        ensures others { OnTrue result (self.new ≡ record self.old { storage = overwritten self.old.storage self.old.offset (buffer_items self.new) }) }
+        ensures same { OnFalse result (self.new ≡ self.old) }
+    {
+        let start = self.offset;
+        let end = start + self.len;
+        change_unshared(&mut self.storage, start, end, change)
+    }
+
+    /// The storage whole, the place of the first item there, and how many items there are.
+    pub fn into_inner(self) -> (Rc<Bytes<T>>, usize, usize)
+        ensures storage { (result.0.value ≡ self.storage) × (result.1 ≡ self.offset) × (result.2 ≡ self.len) }
+        ensures inside { result.1 + result.2 ≤ length result.0.value }
+    {
+        (self.storage, self.offset, self.len)
+    }
+
+    /// The vector where no one shares the storage and nothing is sliced off, and the buffer itself
+    /// elsewhere. Either side holds the same list. Takes no memory.
+    ///
+    /// Differs from arrow2, which gives the whole vector of a sliced buffer.
+    pub fn into_mut(self) -> Either<Self, Vec<T>>
+        ensures same { MatchEither result (λ b. b ≡ self) (λ v. v.items ≡ buffer_items self) }
+        ensures whole { MatchEither result (λ _. ⊤) (λ v. v.items ≡ self.storage) }
+    {
+        if self.is_sliced() {
+            return Either::Left(self);
+        }
+        let Buffer {
+            storage,
+            offset,
+            len,
+        } = self;
+        match Rc::try_unwrap(storage) {
+            Ok(bytes) => Either::Right(bytes.into_vec()),
+            Err(storage) => Either::Left(Buffer {
+                storage,
+                offset,
+                len,
+            }),
+        }
+    }
+}
+
+/// Changes the items from `start` up to `end` in place where no one else shares them, and answers
+/// whether it did.
+fn change_unshared<T, F: FnOnce(&mut [T])>(
+    shared: &mut Rc<Bytes<T>>,
+    start: usize,
+    end: usize,
+    change: F,
+) -> bool
+    requires order { start ≤ end }
+    requires within { end ≤ length shared.old.value }
+    requires callable { F.IsAlwaysCallable change }
+    ensures written { OnTrue result ((changed : List T) × FnOnceReturnsAtMut F.FnOnce change (part shared.old.value start (end - start)) tt changed × (length changed ≡ end - start) × (shared.new.value ≡ overwritten shared.old.value start changed)) }
+    ensures same { OnFalse result (shared.new ≡ shared.old) }
+{
+    match Rc::get_mut(shared) {
+        Some(bytes) => {
+            change(bytes.part_mut(start, end));
+            true
+        }
+        None => false,
+    }
+}
+
+impl<T: Drop> Buffer<T> {
+    /// An empty buffer.
+    ///
+    /// # Errors
+    ///
+    /// `OutOfMemory`.
+    pub fn new(alloc: Global) -> Result<Self>
+        ensures made { IfOk result (λ b. b ≡ whole_buffer []) }
+        ensures only { IfErr result (λ e. e ≡ OutOfMemory) }
+    {
+        Buffer::try_from(Vec::new(alloc))
+    }
+
+    /// The items of an iterator that ends, in its order. Its size hint is not read.
+    ///
+    /// Stands for arrow2's `FromIterator`.
+    ///
+    /// # Errors
+    ///
+    /// `OutOfMemory`.
+    pub fn try_from_iter<I: IntoIterator<Item = T>>(alloc: Global, iter: I) -> Result<Self>
+        requires { (it : I.IntoIter) → I.into_iter_gives iter it → I.IntoIter.can_next it × IsFinite (I.IntoIter.remaining it) }
+        ensures items { IfOk result (λ b. (it : I.IntoIter) × (xs : List T) × I.into_iter_gives iter it × Drains I.IntoIter.next_gives it xs × (b ≡ whole_buffer xs)) }
+        ensures only { IfErr result (λ e. e ≡ OutOfMemory) }
+    {
+        let mut items = Vec::new(alloc);
+        for item in iter {
+            items.push(item)?;
+        }
+        Buffer::try_from(items)
+    }
+}
+
+/// The whole vector, which is moved and not copied.
+///
+/// # Errors
+///
+/// `OutOfMemory`; the vector is dropped.
+impl<T: Drop> TryFrom<Vec<T>> for Buffer<T> {
+    type Error = Error;
+
+    ghost try_from_gives = { λ items r. MatchResult r (λ b. b ≡ whole_buffer items.items) (λ e. e ≡ OutOfMemory) };
+
+    fn try_from(items: Vec<T>) -> Result<Self> {
+        let alloc = *items.allocator();
+        let len = items.len();
+        let storage = Rc::new(alloc, Bytes::from(items))?;
+        Ok(Buffer {
+            storage,
+            offset: 0,
+            len,
+        })
+    }
+}
+
+/// Equal lists are equal, whatever storage is behind them.
+impl<T: PartialEq> PartialEq for Buffer<T> {
+    ghost eq = { on buffer_items (pointwise T.eq) };
+
+    ghost laws = { on_per buffer_items (lists_per T.laws) };
+
+    fn eq(&self, other: &Self) -> bool {
+        self.as_slice() == other.as_slice()
+    }
+}
+
+impl<T: Eq> Eq for Buffer<T> {
+    ghost laws = { on_equiv buffer_items (lists_equiv T.Eq.laws) };
+}
+
+/// The text of [`Buffer::as_slice`].
+impl<T: fmt::Debug> fmt::Debug for Buffer<T> {
+    ghost debug_output = { λ b. debug_list T.debug_output (buffer_items b) };
+
+    fn fmt<W: fmt::Write>(&self, f: &mut fmt::Formatter<W>) -> fmt::Result {
+        fmt::Debug::fmt(&self.as_slice(), f)
+    }
+}
+
+/// The same storage, offset and length. Takes no memory.
+impl<T: Drop> Clone for Buffer<T> {
+    ghost is_clone = { λ b copy. copy ≡ b };
+
+    fn clone(&self) -> std::result::Result<Self, AllocError> {
+        Ok(Buffer {
+            storage: self.storage.clone()?,
+            offset: self.offset,
+            len: self.len,
+        })
+    }
+}

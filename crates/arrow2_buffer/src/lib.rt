@@ -1,0 +1,9 @@
+//! Memory that several arrays share: lists that are cloned and sliced without a copy.
+#![tactic(auto)]
+
+pub mod bytes;
+pub mod immutable;
+pub mod iterator;
+
+pub use immutable::Buffer;
+pub use iterator::IntoIter;
