@@ -8,7 +8,7 @@ use std::marker::Model;
 /// A list of items on the heap, which buffers and bitmaps share behind an `Rc`.
 ///
 /// Differs from arrow2: it always holds a vector, and never memory of another library.
-#[derive(Debug, Drop)]
+#[derive(Drop)]
 pub struct Bytes<T> {
     items: Vec<T>,
 }
