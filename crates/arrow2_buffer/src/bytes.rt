@@ -47,7 +47,8 @@ impl<T> Bytes<T> {
     pub fn into_vec(self) -> Vec<T>
         ensures { result.items ≡ self }
     {
-        self.items
+        let Bytes { items } = self;
+        items
     }
 
     /// The items from `start` up to `end`, to be written.

@@ -77,7 +77,7 @@ impl<T: Copy> DoubleEndedIterator for IntoIter<T> {
     ghost next_back_gives = { YieldsLast (λ s. s) };
 
     fn next_back(&mut self) -> Option<T> {
-        if self.index == self.end {
+        if self.end == self.index {
             return None;
         }
         self.end -= 1;
