@@ -14,6 +14,7 @@ use crate::check::check_length;
 use crate::mutable::MutableBitmap;
 use arrow2_bits::iterator::BitmapIter;
 use arrow2_bits::{bytes_for, count_zeros, get_bit};
+use arrow2_buffer::bytes::Bytes;
 use arrow2_types::error::{Error, Result};
 use either::Either;
 use std::alloc::{AllocError, Global};
@@ -25,7 +26,7 @@ use std::rc::Rc;
 /// many items it has. Slices and clones share the bytes.
 #[derive(Drop)]
 pub struct Bitmap {
-    bytes: Rc<Vec<u8>>,
+    bytes: Rc<Bytes<u8>>,
     offset: usize,
     length: usize,
     unset_bits: usize,
@@ -39,9 +40,9 @@ impl Model for Bitmap {
 
     ghost Value = { BitmapStorage };
 
-    ghost view = { λ b. record { bytes = b.bytes.value.items; offset = b.offset; len = b.length } };
+    ghost view = { λ b. record { bytes = b.bytes.value; offset = b.offset; len = b.length } };
 
-    ghost invariant = { λ b. (b.offset + b.length ≤ 8 * count b.bytes.value.items) × (b.offset + b.length < 2 ^ 64) × (b.unset_bits ≡ falses (part (bits b.bytes.value.items) b.offset b.length)) };
+    ghost invariant = { λ b. (b.offset + b.length ≤ 8 * count b.bytes.value) × (b.offset + b.length < 2 ^ 64) × (b.unset_bits ≡ falses (part (bits b.bytes.value) b.offset b.length)) };
 }
 
 #[tactic(auto, using(arrow2_model::proofs::Walks::parts))]
@@ -86,7 +87,7 @@ impl Bitmap {
     {
         let alloc = *bytes.allocator();
         let unset_bits = count_zeros(bytes.as_slice(), 0, length);
-        let bytes = Rc::new(alloc, bytes)?;
+        let bytes = Rc::new(alloc, Bytes::from(bytes))?;
         Ok(Bitmap {
             bytes,
             offset: 0,
@@ -228,8 +229,8 @@ impl Bitmap {
 
     /// The storage whole: the bytes, the bit at which the items begin, how many items there are,
     /// and how many of them are false.
-    pub fn into_inner(self) -> (Rc<Vec<u8>>, usize, usize, usize)
-        ensures bytes { result.0.value.items ≡ self.bytes }
+    pub fn into_inner(self) -> (Rc<Bytes<u8>>, usize, usize, usize)
+        ensures bytes { result.0.value ≡ self.bytes }
         ensures offset { result.1 ≡ self.offset }
         ensures len { result.2 ≡ self.len }
         ensures unset_bits { result.3 ≡ falses (items_of self) }
@@ -253,7 +254,7 @@ impl Bitmap {
             unset_bits,
         } = self;
         match Rc::try_unwrap(bytes) {
-            Ok(bytes) => Either::Right(MutableBitmap::from_vec(bytes, length)),
+            Ok(bytes) => Either::Right(MutableBitmap::from_vec(bytes.into_vec(), length)),
             Err(bytes) => Either::Left(Bitmap {
                 bytes,
                 offset,
@@ -284,8 +285,7 @@ fn copy_items(bitmap: &Bitmap) -> Result<MutableBitmap>
     ensures ok { IfOk result (λ m. m.items ≡ items_of bitmap.now) }
     ensures only { IfErr result (λ e. e ≡ Error.OutOfMemory) }
 {
-    let alloc = *bitmap.bytes.allocator();
-    let mut copy = MutableBitmap::with_capacity(alloc, bitmap.len())?;
+    let mut copy = MutableBitmap::from_vec(bitmap.bytes.empty_vec(), 0);
     for item in bitmap.iter() {
         copy.push(item)?;
     }

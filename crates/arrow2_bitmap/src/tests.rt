@@ -89,3 +89,63 @@ fn each_way_to_make_one(rt: HostRuntime) -> Result<(), Fail> {
     assert_eq!(rt; Bitmap::from_u8_vec(vec![in rt.alloc(); 0b00010101u8]?, 8)?.unset_bits(), 5);
     Ok(())
 }
+
+#[test]
+fn slices_share_their_bytes(rt: HostRuntime) -> Result<(), Fail> {
+    let whole = Bitmap::try_new(vec![in rt.alloc(); 0b00001101u8]?, 5)?;
+    let mut part = whole.clone()?;
+    part.slice(1, 4);
+    let (bytes, offset, length) = part.as_slice();
+    assert_eq!(rt; bytes, [0b00001101].as_slice());
+    assert_eq!(rt; (offset, length), (1, 4));
+    let part = Bitmap::from_u8_slice(rt.alloc(), &[0, 0, 0, 0b00010101], 27)?.sliced(22, 5);
+    let (bytes, offset, length) = part.as_slice();
+    assert_eq!(rt; bytes, [0, 0b00010101].as_slice());
+    assert_eq!(rt; (offset, length), (6, 5));
+    assert_eq!(rt; part.unset_bits(), 3);
+    let (bytes, offset, length, unset_bits) = part.into_inner();
+    assert_eq!(rt; bytes.as_slice(), [0, 0, 0, 0b00010101].as_slice());
+    assert_eq!(rt; (offset, length, unset_bits), (22, 5, 3));
+    Ok(())
+}
+
+#[test]
+fn a_bitmap_is_changed_in_place_or_copied(rt: HostRuntime) -> Result<(), Fail> {
+    let zeros = Bitmap::try_new(vec![in rt.alloc(); 0u8, 0]?, 16)?;
+    let mut grown = zeros.sliced(0, 3).make_mut()?;
+    grown.push(true)?;
+    let items: Vec<bool> = grown.iter().collect(rt.alloc())?;
+    assert_eq!(rt; items.as_slice(), [false, false, false, true].as_slice());
+    let fresh = Bitmap::from_bools(rt.alloc(), &[true, false])?;
+    assert!(rt; fresh.into_mut().is_right());
+    let shared = Bitmap::from_bools(rt.alloc(), &[true, false])?;
+    let other = shared.clone()?;
+    assert!(rt; shared.into_mut().is_left());
+    let moved = other.sliced(1, 1);
+    assert!(rt; moved.clone()?.into_mut().is_left());
+    let copy = moved.make_mut()?;
+    let items: Vec<bool> = copy.iter().collect(rt.alloc())?;
+    assert_eq!(rt; items.as_slice(), [false].as_slice());
+    Ok(())
+}
+
+#[test]
+fn items_are_read_and_written(rt: HostRuntime) -> Result<(), Fail> {
+    let zeros = Bitmap::new_zeroed(rt.alloc(), 11)?;
+    assert_eq!(rt; zeros.unset_bits(), 11);
+    assert_eq!(rt; zeros.get(10), Some(false));
+    assert_eq!(rt; zeros.get(11), None);
+    assert!(rt; zeros.len() == 11);
+    assert!(rt; !zeros.get_bit(10));
+    let mut grown = MutableBitmap::from_bools(rt.alloc(), &[true, true, true])?;
+    assert!(rt; grown.len() == 3);
+    grown.set(1, false);
+    assert!(rt; grown.len() == 3);
+    assert!(rt; !grown.get(1));
+    assert_eq!(rt; grown.pop(), Some(true));
+    assert_eq!(rt; grown.pop(), Some(false));
+    assert_eq!(rt; grown.unset_bits(), 0);
+    grown.clear();
+    assert_eq!(rt; grown.pop(), None);
+    Ok(())
+}

@@ -1,5 +1,5 @@
 //! The storage that buffers share.
-ghost use Rattle.std.specs.Prelude.{◌≡◌, ◌-◌, ◌≤◌, length};
+ghost use Rattle.std.specs.Prelude.{◌≡◌, ◌-◌, ◌≤◌, [], length};
 ghost use Rattle.arrow2_model.specs.Parts.{part};
 ghost use Rattle.arrow2_buffer.specs.Lent.{refill};
 
@@ -49,6 +49,15 @@ impl<T> Bytes<T> {
     {
         let Bytes { items } = self;
         items
+    }
+
+    /// An empty vector on the allocator of its own. Takes no memory.
+    ///
+    /// arrow2 has no such call: its allocator has no value.
+    pub fn empty_vec(&self) -> Vec<T>
+        ensures { result.items ≡ [] }
+    {
+        Vec::new(*self.items.allocator())
     }
 
     /// The items from `start` up to `end`, to be written.

@@ -10,6 +10,6 @@ returns-clause-items c =
     let b = c.self.inside in
     let bytes = c.as_slice.result.now in
     let start = b.offset / 8 in
-    let all = c.as_slice.ensures.value ∙ ap (λ v. v.items) c.deref.ensures in
+    let all = c.as_slice.ensures ∙ c.deref.ensures in
     part-bits-part bytes start (start + c.bytes_for-count.result - start) (b.offset % 8) b.length b.offset (omega (arith, c.bytes_for-count.ensures, c.self.invariant.0, ap length all)) (omega (arith, c.bytes_for-count.ensures)) (omega arith)
     ∙ (ap (λ s. part (bits s) b.offset b.length) all ∙ ap items_of c.self.view_is)
