@@ -5,6 +5,8 @@ ghost use Rattle.std.specs.Prelude.{◌≡◌, ◌+◌, ◌*◌, ◌/◌, ◌<�
 ghost use Rattle.arrow2_model.specs.Bits.{bit, unnum, bits};
 ghost use Rattle.arrow2_model.specs.Parts.{part, falses};
 
+pub mod chunk_iterator;
+mod chunks;
 pub mod iterator;
 
 /// Whether bit `i` of the byte is set. Asks that `i` is below 8.

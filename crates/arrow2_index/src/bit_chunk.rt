@@ -1,6 +1,7 @@
 //! Words as lists of bits.
 ghost use Rattle.std.specs.Prelude.{◌≡◌, ◌+◌, ◌-◌, ◌*◌, ◌<◌, ◌≤◌, ◌^◌, ◌++◌, ◌&&◌, ◌||◌, ℕ, List, length, take, drop, replicate, map, not, false, pos, refl};
 ghost use Rattle.std.specs.Bool.{xor};
+ghost use Rattle.std.proofs.Common.{lit≤};
 ghost use lib.Lanes.{zip2};
 ghost use Rattle.num_traits.specs.Laws.{bit_len};
 ghost use Rattle.arrow2_model.specs.Bits.{bit, bits, unnum};
@@ -93,6 +94,9 @@ pub trait BitChunk: PrimInt + NativeType {
     // A word has eight bits a byte.
     ghost size_law: { 8 * Self.SIZE ≡ WIDTH };
 
+    // A word has at least one byte, and at most eight.
+    ghost width_bounds: { (8 ≤ WIDTH) × (WIDTH ≤ 64) };
+
     // The calls of `PrimInt` see the same bits and the same number.
     ghost width_law: { bit_len Self.width ≡ WIDTH };
 
@@ -113,6 +117,8 @@ impl BitChunk for u8 {
     ghost number = { λ x. x };
 
     ghost size_law = { refl };
+
+    ghost width_bounds = { (lit≤ tt, lit≤ tt) };
 
     ghost width_law = { refl };
 
@@ -181,6 +187,8 @@ impl BitChunk for u16 {
 
     ghost size_law = { refl };
 
+    ghost width_bounds = { (lit≤ tt, lit≤ tt) };
+
     ghost width_law = { refl };
 
     ghost bits_law = { λ x. refl };
@@ -248,6 +256,8 @@ impl BitChunk for u32 {
 
     ghost size_law = { refl };
 
+    ghost width_bounds = { (lit≤ tt, lit≤ tt) };
+
     ghost width_law = { refl };
 
     ghost bits_law = { λ x. refl };
@@ -314,6 +324,8 @@ impl BitChunk for u64 {
     ghost number = { λ x. x };
 
     ghost size_law = { refl };
+
+    ghost width_bounds = { (lit≤ tt, lit≤ tt) };
 
     ghost width_law = { refl };
 

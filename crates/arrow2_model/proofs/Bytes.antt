@@ -1,6 +1,6 @@
 -- The bits of whole bytes: fronts, ends and parts of them, and zeros.
 use Rattle.std.proofs.Common.{◌≡◌, ℕ, zero, suc, ◌+◌, ◌-◌, ◌*◌, ◌/◌, ◌%◌, ◌<◌, ◌≤◌, List, [], ◌∷◌, ◌++◌, Bool, true, false, take, drop, replicate, length, refl, ap, sym, ◌∙◌, arith}
-use Rattle.std.proofs.lemmas.List.{take-append-drop, drop_at, take_at, length-drop, length-take-le, take-take}
+use Rattle.std.proofs.lemmas.List.{take-append-drop, drop_at, take_at, length-drop, length-take-le, take-take, drop-drop}
 use Rattle.arrow2_model.specs.Bits.{unnum, bits}
 use Rattle.arrow2_model.specs.Parts.{part}
 use Rattle.arrow2_model.proofs.Bits.{bits-nil, bits-cons, bits-append, length-bits}
@@ -22,6 +22,10 @@ part-bits bytes j m h = let l = length-drop j bytes in ap (take (8 * m)) (drop-b
 -- bits of some of the bytes
 pub part-bits-part : (bytes : List ℕ) (j m k n a : ℕ) → j + m ≤ length bytes → k + n ≤ 8 * m → a ≡ 8 * j + k → part (bits (part bytes j m)) k n ≡ part (bits bytes) a n
 part-bits-part bytes j m k n a h g e = rw (e, ← part-bits bytes j m h) (part-part (bits bytes) (8 * j) (8 * m) k n g)
+
+-- the bits behind the first bytes
+pub part-bits-drop : (bytes : List ℕ) (j k n : ℕ) → j ≤ length bytes → part (bits (drop j bytes)) k n ≡ part (bits bytes) (8 * j + k) n
+part-bits-drop bytes j k n h = ap (λ t. take n (drop k t)) (sym (drop-bits bytes j h)) ∙ ap (take n) (drop-drop k (8 * j) (bits bytes))
 
 unnum-zero : unnum 8 0 ≡ replicate 8 false
 unfolding unnum

@@ -15,28 +15,9 @@ use Rattle.arrow2_model.specs.Parts.{part}
 use Rattle.arrow2_model.specs.Words.{words}
 use Rattle.arrow2_model.specs.Canonical.{canonical_bytes, IsCanonical}
 use Rattle.arrow2_model.proofs.Bits.{length-unnum, get_or-unnum, bits-nil, bits-cons, bits-append, length-bits, get_or-bits, get_or-bits_at, bits-set, unnum-or, bit_is}
-use Rattle.arrow2_model.proofs.Numbers.{num-unnum, bit-num}
+use Rattle.arrow2_model.proofs.Numbers.{bit-num, num-part-lt, same_from_bits}
 use Rattle.arrow2_model.proofs.Parts.{get_or-part}
 use Rattle.arrow2_model.proofs.Words.{length-words, get_or-words}
-
--- numbers with the same bits are the same
-pub same_from_bits : (w x y : ℕ) → x < 2 ^ w → y < 2 ^ w → ((i : ℕ) → i < w → bit x i ≡ bit y i) → x ≡ y
-same_from_bits w x y x< y< same =
-    let m = length-unnum w x in
-    let n = length-unnum w y in
-    let lists : unnum w x ≡ unnum w y = ext_get_or false (unnum w x) (unnum w y) (m ∙ sym n)
-        (λ i h. get_or-unnum w x i false (omega (arith, m)) ∙ (same i (omega (arith, m)) ∙ sym (get_or-unnum w y i false (omega (arith, m))))) in
-    sym (num-unnum w x x<) ∙ (ap num lists ∙ num-unnum w y y<)
-
--- the number of at most eight items fits a byte
-num-part_8-lt : (items : List Bool) (a : ℕ) → num (part items a 8) < 2 ^ 8
-num-part_8-lt items a =
-    let l = length-take 8 (drop a items) in
-    let m = mask_l-lt (part items a 8) in
-    let q : 0 < 2 = omega arith in
-    let le : length (part items a 8) ≤ 8 = omega arith in
-    let p = pow-le-pow_right {n = 2} q {i = length (part items a 8)} {j = 8} le in
-    omega (arith, m, p)
 
 -- a front of the bits and all of them have the same items, as far as nothing is set behind the front
 front_items : (items : List Bool) (n k : ℕ) → ((i : ℕ) → n ≤ i → get_or items i false ≡ false) → get_or (take n items) k false ≡ get_or items k false
@@ -58,7 +39,7 @@ canonical_is bytes n canonical =
     (λ j h.
     let at : j < div_ceil (length items) 8 = omega (arith, count, many) in
     let word = get_or-words 8 items j at in
-    same_from_bits 8 (get_or bytes j 0) (get_or (words 8 items) j 0) (canonical.fits j) (subst (λ x. x < 2 ^ 8) (sym word) (num-part_8-lt items (8 * j)))
+    same_from_bits 8 (get_or bytes j 0) (get_or (words 8 items) j 0) (canonical.fits j) (subst (λ x. x < 2 ^ 8) (sym word) (num-part-lt 8 items (8 * j)))
     (λ i i<.
     sym (get_or-bits bytes j i (8 * j + i) false h i< refl) ∙
     (sym (front_items (bits bytes) n (8 * j + i) canonical.clear) ∙

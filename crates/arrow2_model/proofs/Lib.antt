@@ -4,6 +4,7 @@ pub mod Canonical
 pub mod Chunks
 pub mod Counts
 pub mod Digits
+pub mod Merged
 pub mod Numbers
 pub mod Parts
 pub mod Walks

@@ -6,17 +6,17 @@ use Rattle.std.proofs.Math.Seq.{take-add}
 use Rattle.std.proofs.lemmas.Bool.{cases_lt}
 use Rattle.arrow2_model.specs.Parts.{part}
 
-pub get_or-part : (items : List Bool) (a n k : ℕ) (d : Bool) → k < n → get_or (part items a n) k d ≡ get_or items (a + k) d
+pub get_or-part : {X : Type 0} → (items : List X) (a n k : ℕ) (d : X) → k < n → get_or (part items a n) k d ≡ get_or items (a + k) d
 get_or-part items a n k d h = get_or-take n (drop a items) k d h ∙ get_or-drop a items k d
 
-pub length-part : (items : List Bool) (a n : ℕ) → a + n ≤ length items → length (part items a n) ≡ n
+pub length-part : {X : Type 0} → (items : List X) (a n : ℕ) → a + n ≤ length items → length (part items a n) ≡ n
 length-part items a n h = search (rules, places)
 
 -- a part grows by the item behind it
 pub part_more : (items : List Bool) (a n : ℕ) (d : Bool) → a + n < length items → part items a (n + 1) ≡ part items a n ++ get_or items (a + n) d ∷ []
 part_more items a n d h = let l = length-drop a items in take_more (drop a items) n d (omega arith) ∙ ap (λ x. part items a n ++ x ∷ []) (get_or-drop a items n d)
 
-pub part-part : (items : List Bool) (a n b m : ℕ) → b + m ≤ n → part (part items a n) b m ≡ part items (a + b) m
+pub part-part : {X : Type 0} → (items : List X) (a n b m : ℕ) → b + m ≤ n → part (part items a n) b m ≡ part items (a + b) m
 part-part items a n b m h = let e : n ≡ b + (n - b) = omega arith in rw e (rw drop-take (take-take m (n - b) (drop b (drop a items)) (omega arith) ∙ ap (take m) (drop-drop b a items)))
 
 -- a part of a part that may reach past its end
@@ -27,3 +27,14 @@ part_within items a len s w n h e =
       | inl small ↦ let m : n ≡ w = omega arith in rw m (take-take w (len - s) (drop s (drop a items)) (omega arith) ∙ ap (take w) (drop-drop s a items))
       | inr big ↦ let m : n ≡ len - s = omega arith in let g = length-take (len - s) (drop s (drop a items)) in rw m (take_all w (take (len - s) (drop s (drop a items))) (omega (arith, g)) ∙ ap (take (len - s)) (drop-drop s a items))
     ]))
+
+-- a part in two
+pub part-add : {X : Type 0} (items : List X) (a n m : ℕ) → part items a (n + m) ≡ part items a n ++ part items (a + n) m
+part-add items a n m = take-add n m (drop a items) ∙ ap (λ t. part items a n ++ take m t) (drop-drop n a items)
+
+-- the first of a part, and the others
+pub take-part : {X : Type 0} (items : List X) (a n m : ℕ) → n ≤ m → take n (part items a m) ≡ part items a n
+take-part items a n m h = take-take n m (drop a items) h
+
+pub drop-part : {X : Type 0} (items : List X) (a n m : ℕ) → drop n (part items a (n + m)) ≡ part items (a + n) m
+drop-part items a n m = drop-take n m (drop a items) ∙ ap (take m) (drop-drop n a items)

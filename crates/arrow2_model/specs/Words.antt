@@ -1,10 +1,44 @@
 -- A list of booleans as words of some width, the last one filled with false.
-use Rattle.std.specs.Prelude.{ℕ, ◌*◌, List, Bool, map, length}
+use Rattle.std.specs.Prelude.{◌≡◌, ℕ, ◌+◌, ◌-◌, ◌*◌, ◌/◌, ◌%◌, ◌==◌, List, Bool, map, take, drop, length, if◌then◌else◌, Option}
 use Rattle.std.specs.List.{range_with_len}
 use Rattle.std.specs.Int.{div_ceil}
-use Rattle.arrow2_model.specs.Bits.{num}
+use Rattle.std.specs.Iterator.{YieldsFirstBy}
+use Rattle.arrow2_model.specs.Bits.{num, bits}
 use Rattle.arrow2_model.specs.Parts.{part}
 
 -- the number of each w items in turn; items past the end count as false
 abbrev pub words : ℕ → List Bool → List ℕ
 words w items = map (λ j. num (part items (w * j) w)) (range_with_len 0 (div_ceil (length items) w))
+
+-- the full words: those of w items each
+unfoldable pub full_words : ℕ → List Bool → List ℕ
+full_words w items = take (length items / w) (words w items)
+
+-- the items behind the full words, fewer than w
+unfoldable pub rest : ℕ → List Bool → List Bool
+rest w items = drop (w * (length items / w)) items
+
+-- a walk by words: the items still to come, those behind the full words included, and the word in
+-- which these stand in storage, whatever bits stand behind them there
+pub record WordWalk : Type 0 where
+  pub items : List Bool
+  pub spill : ℕ
+
+-- one step of a walk by words: the first full word comes, and what stands behind the full words stays
+pub record GivesWord {S A : Type 0} (w : ℕ) (number : A → ℕ) (walk : S → WordWalk) (s : S) (r : Option A) (t : S) : Type 0 where
+  pub word : YieldsFirstBy number (λ (c : S). full_words w (walk c).items) s r t
+  pub rest : rest w (walk t).items ≡ rest w (walk s).items
+  pub spill : (walk t).spill ≡ (walk s).spill
+
+-- the bytes in which the rest of len bits from bit offset on stands, for words of k bytes each: all
+-- bytes from the first one on where there is no full word, else those behind the full words up to
+-- the one that holds the last bit
+abbrev pub spilled_bytes : ℕ → List ℕ → ℕ → ℕ → List ℕ
+spilled_bytes k bytes offset len =
+    let behind = drop (offset / 8) bytes in
+    let full = len / 8 / k in
+    if full == 0 then behind else part behind (full * k) ((len + offset % 8 + 7) / 8 - full * k)
+
+-- the word of these bytes from bit offset % 8 on, as far as there are bits
+unfoldable pub spill : ℕ → List ℕ → ℕ → ℕ → ℕ
+spill k bytes offset len = num (part (bits (spilled_bytes k bytes offset len)) (offset % 8) (8 * k))

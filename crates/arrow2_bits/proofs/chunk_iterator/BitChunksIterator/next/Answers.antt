@@ -1,0 +1,38 @@
+use Rattle.std.proofs.Common.{◌∙◌, ap, sym, refl, length, arith, ◌*◌, ◌-◌}
+use Rattle.arrow2_model.specs.Words.{full_words, rest}
+use Rattle.arrow2_bits.proofs.Spilled.{slice_end, walk_ended, walk_moves}
+use Rattle.arrow2_bits.proofs.chunk_iterator.BitChunksIterator.next.Goals as goal
+
+pub returns-then-self-eq0-clause-steps : goal.returns-then-self-eq0-clause-steps
+returns-then-self-eq0-clause-steps g c =
+    let b = c.self.inside in
+    let w = g.T.BitChunk.WIDTH in
+    let none = ap (λ s. full_words w s.items) (sym c.self.view_is) ∙ walk_ended b.bytes.now w b.shift b.count b.remainder_len _ c.self.invariant c.if-self-eq0.true in
+    record { word = (none, none); rest = refl; spill = refl }
+
+pub invariant_of-self : goal.invariant_of-self
+invariant_of-self g c =
+    let b = c.self.inside in
+    let size = ap (λ n. 8 * n) c.SIZE.ensures ∙ g.met.T.BitChunk.size_law in
+    (walk_moves b.bytes.now _ c.SIZE.result g.T.BitChunk.WIDTH b.shift (b.count - 1) b.count b.remainder_len _ _ size g.met.T.BitChunk.width_bounds.0 c.self.invariant (omega arith) (slice_end b.bytes.now c.SIZE.result) c.chunk_at-word.ensures.fits c.chunk_at-word.ensures.bits).0
+
+pub returns-clause-steps : goal.returns-clause-steps
+returns-clause-steps g c =
+    let b = c.self.inside in
+    let w = g.T.BitChunk.WIDTH in
+    let size = ap (λ n. 8 * n) c.SIZE.ensures ∙ g.met.T.BitChunk.size_law in
+    let moves = walk_moves b.bytes.now _ c.SIZE.result w b.shift (b.count - 1) b.count b.remainder_len _ _ size g.met.T.BitChunk.width_bounds.0 c.self.invariant (omega arith) (slice_end b.bytes.now c.SIZE.result) c.chunk_at-word.ensures.fits c.chunk_at-word.ensures.bits in
+    record {
+      word = ap (λ s. full_words w s.items) (sym c.self.view_is) ∙ moves.1;
+      rest = moves.2 ∙ ap (λ s. rest w s.items) c.self.view_is;
+      spill = ap (λ s. s.spill) c.self.view_is;
+    }
+
+pub returns-clause-goes : goal.returns-clause-goes
+returns-clause-goes g c =
+    let b = c.self.inside in
+    let w = g.T.BitChunk.WIDTH in
+    let size = ap (λ n. 8 * n) c.SIZE.ensures ∙ g.met.T.BitChunk.size_law in
+    let moves = walk_moves b.bytes.now _ c.SIZE.result w b.shift (b.count - 1) b.count b.remainder_len _ _ size g.met.T.BitChunk.width_bounds.0 c.self.invariant (omega arith) (slice_end b.bytes.now c.SIZE.result) c.chunk_at-word.ensures.fits c.chunk_at-word.ensures.bits in
+    let many = ap length (ap (λ s. full_words w s.items) (sym c.self.view_is) ∙ moves.1) in
+    record { on = λ _. (tt, tt, omega (arith, many)); keeps = tt; rests = λ _. tt }

@@ -1,0 +1,152 @@
+//! Walks over the bits of bytes by words, at any bit offset.
+ghost use Rattle.std.specs.Prelude.{◌≡◌, ◌+◌, ◌-◌, ◌*◌, ◌/◌, ◌%◌, ◌<◌, ◌≤◌, length, take, Option, Some, IfSome};
+ghost use Rattle.std.specs.Iterator.{item_count, UpTo};
+ghost use Rattle.std.specs.Iterator.SizeHint.{IsWithinCount};
+ghost use Rattle.arrow2_model.specs.Bits.{bits, unnum};
+ghost use Rattle.arrow2_model.specs.Parts.{part};
+ghost use Rattle.arrow2_model.specs.Words.{WordWalk, GivesWord, full_words, rest, spill};
+
+use crate::chunks::{chunk_at, padded_chunk_at};
+use arrow2_index::bit_chunk::BitChunk;
+use std::marker::Model;
+
+/// A walk over a list of booleans by words: the full words come in order, and what stands behind
+/// them is the remainder.
+///
+/// Differs from arrow2: it stands on no `TrustedLen`.
+pub trait BitChunkIterExact<B: BitChunk>: Iterator<Item = B> {
+    // The items still to come, those of the remainder included, and the word of the remainder.
+    ghost walk: { Self → WordWalk };
+
+    /// The word in which the remainder stands in storage. Bits behind the remainder are what stands
+    /// behind it there, so mask it to [`BitChunkIterExact::remainder_len`] bits.
+    fn remainder(&self) -> B
+        ensures spill { B.BitChunk.number result ≡ (walk self.now).spill }
+        ensures rest { take (length (rest B.BitChunk.WIDTH (walk self.now).items)) (unnum B.BitChunk.WIDTH (B.BitChunk.number result)) ≡ rest B.BitChunk.WIDTH (walk self.now).items };
+
+    /// How many items the remainder has: fewer than a word.
+    fn remainder_len(&self) -> usize
+        ensures rest { result ≡ length (rest B.BitChunk.WIDTH (walk self.now).items) }
+        ensures short { result < B.BitChunk.WIDTH };
+
+    // Each step gives the first full word, and the remainder stays.
+    ghost gives_law: { (s : Self) (r : Option B) (t : Self) → Self.next_gives s r t → GivesWord B.BitChunk.WIDTH B.BitChunk.number walk s r t };
+}
+
+/// The walk over bits from any bit offset on: contracts see the items still to come and the word of
+/// the remainder.
+#[derive(Debug, Drop)]
+pub struct BitChunks<'a, T: BitChunk> {
+    bytes: &'a [u8],
+    shift: usize,
+    count: usize,
+    remainder: T,
+    remainder_len: usize,
+}
+
+impl<'a, T: BitChunk> Model for BitChunks<'a, T> {
+    ghost use Rattle.std.specs.Prelude.{◌+◌, ◌*◌};
+    ghost use Rattle.arrow2_model.specs.Bits.{bits};
+    ghost use Rattle.arrow2_model.specs.Parts.{part};
+    ghost use Rattle.arrow2_model.specs.Words.{WordWalk};
+    ghost use Rattle.arrow2_bits.specs.Chunks.{IsChunkWalk};
+
+    ghost Value = { WordWalk };
+
+    ghost view = { λ c. record { items = part (bits c.bytes.now) c.shift (T.BitChunk.WIDTH * c.count + c.remainder_len); spill = T.BitChunk.number c.remainder } };
+
+    ghost invariant = { λ c. IsChunkWalk T.BitChunk.WIDTH c.bytes.now c.shift c.count c.remainder_len (T.BitChunk.number c.remainder) };
+}
+
+impl<'a, T: BitChunk> BitChunks<'a, T> {
+    /// The walk over the `len` bits from bit `offset` on. Asks that they are inside the bytes.
+    pub fn new(bytes: &'a [u8], offset: usize, len: usize) -> BitChunks<'a, T>
+        requires { offset + len ≤ 8 * length bytes.now }
+        ensures items { result.items ≡ part (bits bytes.entry.now) offset len }
+        ensures spill { result.spill ≡ spill T.BitChunk.SIZE bytes.entry.now offset len }
+    {
+        let bytes = &bytes[offset / 8..];
+        let shift = offset % 8;
+        let size = T::SIZE;
+        let count = len / 8 / size;
+        let behind = spilled(bytes, shift, len, count * size);
+        BitChunks {
+            bytes,
+            shift,
+            count,
+            remainder: padded_chunk_at(behind, shift),
+            remainder_len: len - T::WIDTH * count,
+        }
+    }
+
+    /// How many full words are still to come. In arrow2 one fewer.
+    pub fn len(&self) -> usize
+        ensures { result ≡ length (full_words T.BitChunk.WIDTH self.now.items) }
+    {
+        self.count
+    }
+}
+
+impl<'a, T: BitChunk> BitChunkIterExact<T> for BitChunks<'a, T> {
+    ghost walk = { λ s. s };
+
+    ghost gives_law = { λ s r t h. h };
+
+    fn remainder(&self) -> T {
+        self.remainder
+    }
+
+    fn remainder_len(&self) -> usize {
+        self.remainder_len
+    }
+}
+
+impl<'a, T: BitChunk> Iterator for BitChunks<'a, T> {
+    type Item = T;
+
+    ghost next_gives = { GivesWord T.BitChunk.WIDTH T.BitChunk.number (λ s. s) };
+
+    ghost remaining = { item_count (λ s. full_words T.BitChunk.WIDTH s.items) };
+
+    fn next(&mut self) -> Option<T> {
+        if self.count == 0 {
+            return None;
+        }
+        let word = chunk_at(self.bytes, self.shift);
+        self.bytes = &self.bytes[T::SIZE..];
+        self.count -= 1;
+        Some(word)
+    }
+
+    /// Both bounds are the number of full words still to come.
+    fn size_hint(&self) -> (usize, Option<usize>)
+        ensures lower { IsWithinCount result.0 (item_count (λ s. full_words T.BitChunk.WIDTH s.items) self.now) }
+        ensures upper { IfSome result.1 (UpTo (item_count (λ s. full_words T.BitChunk.WIDTH s.items) self.now)) }
+        ensures exact { (result.0 ≡ length (full_words T.BitChunk.WIDTH self.now.items)) × (result.1 ≡ Some (length (full_words T.BitChunk.WIDTH self.now.items))) }
+    {
+        let left = self.len();
+        (left, Some(left))
+    }
+}
+
+impl<'a, T: BitChunk> ExactSizeIterator for BitChunks<'a, T> {
+    fn len(&self) -> usize {
+        BitChunks::len(self)
+    }
+}
+
+/// The bytes of the remainder: all of them where it begins at the first, else those from byte
+/// `start` up to the one that holds the last of `len` bits from bit `shift` on.
+fn spilled(bytes: &[u8], shift: usize, len: usize, start: usize) -> &[u8]
+    requires place { shift < 8 }
+    requires within { shift + len ≤ 8 * length bytes.now }
+    requires order { start ≤ len / 8 }
+    ensures all { start ≡ 0 → result.now ≡ bytes.now }
+    ensures behind { 0 < start → result.now ≡ part bytes.now start ((len + shift + 7) / 8 - start) }
+{
+    if start == 0 {
+        return bytes;
+    }
+    let end = len / 8 + (len % 8 + shift).div_ceil(8);
+    &bytes[start..end]
+}

@@ -1,0 +1,38 @@
+//! Words read from bytes at a bit offset.
+ghost use Rattle.std.specs.Prelude.{◌≡◌, ◌+◌, ◌*◌, ◌<◌, ◌≤◌, ◌^◌, length};
+ghost use Rattle.arrow2_model.specs.Bits.{bits, unnum, num};
+ghost use Rattle.arrow2_model.specs.Parts.{part};
+
+use arrow2_index::bit_chunk::BitChunk;
+
+/// The word of the bits from bit `shift` on. Asks for as many bits, and that `shift` is below 8.
+///
+/// It takes one load where `shift` is 0, else two that overlap, two shifts and an or.
+pub(crate) fn chunk_at<T: BitChunk>(bytes: &[u8], shift: usize) -> T
+    requires place { shift < 8 }
+    requires within { shift + T.BitChunk.WIDTH ≤ 8 * length bytes.now }
+    ensures bits { unnum T.BitChunk.WIDTH (T.BitChunk.number result) ≡ part (bits bytes.now) shift T.BitChunk.WIDTH }
+    ensures fits { T.BitChunk.number result < 2 ^ T.BitChunk.WIDTH }
+{
+    let low = T::from_ne_slice(&bytes[..T::SIZE]);
+    if shift == 0 {
+        return low;
+    }
+    let high = T::from_ne_slice(&bytes[1..1 + T::SIZE]);
+    low.down(shift).bit_or(high.up(8 - shift))
+}
+
+/// The word of the bits from bit `shift` on, where bits past the bytes count as false.
+/// Asks that `shift` is below 8.
+pub(crate) fn padded_chunk_at<T: BitChunk>(bytes: &[u8], shift: usize) -> T
+    requires { shift < 8 }
+    ensures number { T.BitChunk.number result ≡ num (part (bits bytes.now) shift T.BitChunk.WIDTH) }
+    ensures fits { T.BitChunk.number result < 2 ^ T.BitChunk.WIDTH }
+{
+    if bytes.len() > T::SIZE {
+        return chunk_at(bytes, shift);
+    }
+    let mut padded = [0u8; 16];
+    padded[..bytes.len()].copy_from_slice(bytes);
+    chunk_at(&padded, shift)
+}
