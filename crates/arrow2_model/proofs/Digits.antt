@@ -208,7 +208,7 @@ digits_of_read n bytes l h =
     let small : digits_number bytes < 256 ^ n = rw (← l) (digits_number-lt bytes h) in
     rw (natural_from-all n bytes l) (digits-natural n (digits_number bytes) small ∙ (rw (← l) (low_digits-number bytes h)))
 
-slice_index-reverse-lt : (bytes : List ℕ) → ((k : ℕ) → slice_index bytes k < 256) → (k : ℕ) → slice_index (reverse bytes) k < 256
+pub slice_index-reverse-lt : (bytes : List ℕ) → ((k : ℕ) → slice_index bytes k < 256) → (k : ℕ) → slice_index (reverse bytes) k < 256
 slice_index-reverse-lt bytes h k = elim (cases_lt k (length bytes)) [
   | inl inside ↦ rw (get_or-reverse bytes k 0 inside) (h (length bytes - 1 - k))
   | inr outside ↦ rw (get_or_past (reverse bytes) k 0 (omega (arith, length-reverse bytes))) (omega arith)
@@ -232,7 +232,7 @@ centred_low m x h = grind (arith, nat_tests)
 centred_high : (m x : ℕ) → m ≤ 2 * x → centred m x ≡ negsuc (m - suc x)
 centred_high m x h = grind (arith, nat_tests)
 
-residue-centred : (m x : ℕ) → x < m → residue m (centred m x) ≡ x
+pub residue-centred : (m x : ℕ) → x < m → residue m (centred m x) ≡ x
 residue-centred m x h = elim (cases_lt (2 * x) m) [
   | inl low ↦ ap (residue m) (centred_low m x low) ∙ mod-eq_of_lt h
   | inr high ↦
@@ -241,7 +241,7 @@ residue-centred m x h = elim (cases_lt (2 * x) m) [
 ]
 
 -- std's bits of a signed number
-of_z_is : (w : Width) (n : ℕ) (z : ℤ) → IsSize w n → FitsSigned w z → cast_unsigned w z ≡ residue (256 ^ n) z
+pub of_z_is : (w : Width) (n : ℕ) (z : ℤ) → IsSize w n → FitsSigned w z → cast_unsigned w z ≡ residue (256 ^ n) z
 of_z_is w n (pos x) s f =
     let a = s.0 in let b = s.1 in let t = f.sfits in
     sym (mod-eq_of_lt (omega arith))
@@ -251,7 +251,7 @@ of_z_is w n (negsuc x) s f =
     rw small (omega arith)
 
 -- std's signed number of bits
-to_z_is : (w : Width) (n x : ℕ) → IsSize w n → cast_signed w x ≡ centred (256 ^ n) x
+pub to_z_is : (w : Width) (n x : ℕ) → IsSize w n → cast_signed w x ≡ centred (256 ^ n) x
 to_z_is w n x s = let a = s.0 in let b = s.1 in elim (cases_lt x (2 ^ hbits w)) [
   | inl low ↦ to_z_pos w x low ∙ sym (centred_low (256 ^ n) x (omega arith))
   | inr high ↦
@@ -281,12 +281,16 @@ pub integer_high : (w : Width) (n : ℕ) (z : ℤ) (bytes : List ℕ) → IsSize
 unfolding digits
 integer_high w n z bytes s f e = e ∙ (high_bytes n (cast_unsigned w z) ∙ ap reverse (ap (low_digits n) (of_z_is w n z s f)))
 
-residue-lt : (m : ℕ) (v : ℤ) → 0 < m → residue m v < m
+pub residue-lt : (m : ℕ) (v : ℤ) → 0 < m → residue m v < m
 residue-lt m (pos x) h = mod-lt x h
 residue-lt m (negsuc x) h = omega arith
 
+-- a signed number of n bytes is the one that lies in the middle
+pub centred-residue : (w : Width) (n : ℕ) (z : ℤ) → IsSize w n → FitsSigned w z → centred (256 ^ n) (residue (256 ^ n) z) ≡ z
+centred-residue w n z s f = sym (to_z_is w n (residue (256 ^ n) z) s) ∙ (ap (cast_signed w) (sym (of_z_is w n z s f)) ∙ to_z-of_z w z f)
+
 -- a number of n bytes is what its digits make
-integer_from-digits : (w : Width) (n : ℕ) (z : ℤ) → IsSize w n → FitsSigned w z → integer_from n (digits n z) ≡ z
+pub integer_from-digits : (w : Width) (n : ℕ) (z : ℤ) → IsSize w n → FitsSigned w z → integer_from n (digits n z) ≡ z
 unfolding digits integer_from
 integer_from-digits w n z s f =
     let a = s.0 in

@@ -9,3 +9,4 @@ pub mod Numbers
 pub mod Parts
 pub mod Walks
 pub mod Words
+pub mod Words256

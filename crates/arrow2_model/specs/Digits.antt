@@ -1,7 +1,7 @@
 -- The base-256 digits of whole numbers: the bytes of the native types, the lowest first (Arrow columnar format,
 -- "Byte order (Endianness)": little-endian). Big-endian bytes are the reverse.
-use Rattle.std.specs.Prelude.{ℕ, zero, suc, ◌+◌, ◌-◌, ◌*◌, ◌/◌, ◌%◌, ◌^◌, List, [], ◌∷◌, ℤ, pos, negsuc, unsigned_abs, nat_lt, if◌then◌else◌, take}
-use Rattle.std.specs.Int.{int_rem_euclid}
+use Rattle.std.specs.Prelude.{ℕ, zero, suc, ◌+◌, ◌-◌, ◌*◌, ◌/◌, ◌%◌, ◌^◌, List, [], ◌∷◌, ℤ, pos, negsuc, ◌+ℤ◌, ◌*ℤ◌, unsigned_abs, nat_lt, if◌then◌else◌, take}
+use Rattle.std.specs.Int.{int_rem_euclid, int_div_euclid}
 
 -- what is left of a whole number modulo m: from 0 to m - 1, also of a negative one
 abbrev pub residue : ℕ → ℤ → ℕ
@@ -32,3 +32,14 @@ centred m x = (if nat_lt (2 * x) m then pos x else negsuc (m - suc x))
 -- the signed number of the first n bytes, in two's complement
 unfoldable pub integer_from : ℕ → List ℕ → ℤ
 integer_from n bytes = centred (256 ^ n) (natural_from n bytes)
+
+-- the value of a number of 256 bits whose words are hi and lo: hi * 2 ^ 128 + (lo mod 2 ^ 128)
+unfoldable pub words_value : ℤ → ℤ → ℤ
+words_value hi lo = hi *ℤ pos (2 ^ 128) +ℤ pos (residue (2 ^ 128) lo)
+
+-- the two words of a number of 256 bits
+unfoldable pub high_word : ℤ → ℤ
+high_word v = int_div_euclid v (pos (2 ^ 128))
+
+unfoldable pub low_word : ℤ → ℤ
+low_word v = centred (2 ^ 128) (residue (2 ^ 128) v)

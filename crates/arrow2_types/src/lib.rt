@@ -2,5 +2,7 @@
 #![tactic(auto)]
 
 pub mod error;
+mod join;
 pub mod native;
 pub mod primitive;
+pub mod wide;

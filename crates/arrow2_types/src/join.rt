@@ -1,0 +1,14 @@
+//! Arrays of bytes that are joined of two parts.
+ghost use Rattle.std.specs.Prelude.{◌≡◌, ◌+◌, ◌++◌, length};
+
+/// The bytes of `front` and then those of `back`. Asks that they are `N` together.
+pub(crate) fn join<const N: usize>(front: &[u8], back: &[u8]) -> [u8; N]
+    requires { length front.now + length back.now ≡ N }
+    ensures { result ≡ front.now ++ back.now }
+{
+    let mut bytes = [0; N];
+    let (first, second) = bytes.as_mut_slice().split_at_mut(front.len());
+    first.copy_from_slice(front);
+    second.copy_from_slice(back);
+    bytes
+}
