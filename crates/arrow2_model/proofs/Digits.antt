@@ -1,12 +1,13 @@
 -- The bytes that std's conversions give and take are digits.
-use Rattle.std.proofs.Common.{◌≡◌, ℕ, zero, suc, ◌+◌, ◌-◌, ◌*◌, ◌/◌, ◌%◌, ◌^◌, ◌<◌, ◌≤◌, List, [], ◌∷◌, ◌++◌, length, take, slice_index, reverse, refl, ap, sym, ◌∙◌, arith, inl, inr, false, ltb, cond}
+use Rattle.std.proofs.Common.{◌≡◌, ℕ, zero, suc, ◌+◌, ◌-◌, ◌*◌, ◌/◌, ◌%◌, ◌^◌, ◌<◌, ◌≤◌, List, [], ◌∷◌, ◌++◌, length, take, drop, slice_index, reverse, refl, ap, sym, ◌∙◌, arith, inl, inr, false, ltb, cond}
 use Rattle.std.specs.Prelude.{ℤ, pos, negsuc, FitsSigned}
 use Rattle.std.specs.Int.{Width, byte_at, byte_worth, bytes_low_first, bytes_high_first, sum_through, cast_unsigned, cast_signed, from_le_bytes, from_be_bytes, w8, w16, w32, w64, w128}
+use Rattle.std.proofs.Math.Seq.{take-append_seam, drop-append_seam}
 use Rattle.std.proofs.lemmas.Bool.{cases_lt, le-ltb}
 use Rattle.std.proofs.lemmas.Bool.Decides.{nat_tests}
 use Rattle.std.proofs.lemmas.Int.{to_z_pos, to_z-of_z}
 use Rattle.std.proofs.Math.Nat.{div-div-eq-div-mul, div-one, mod-eq_of_lt, mod-lt, mul-add, mul_assoc, mul_comm, mul_left_comm, one-le-pow, pow-suc, pow-succ'}
-use Rattle.std.proofs.lemmas.List.{reverse-append, length-reverse, reverse-reverse, get_or-reverse, get_or_past, length-take, take_more, take_all}
+use Rattle.std.proofs.lemmas.List.{reverse-append, length-reverse, reverse-reverse, get_or-reverse, get_or_past, get_or-take, get_or-drop, take-take, length-append, length-drop, append_assoc, drop-drop, take-append-drop,  length-take, take_more, take_all}
 use mir.Val.{bits as width_bits, hbits}
 use Rattle.arrow2_model.specs.Digits.{residue, low_digits, digits, digits_number, natural_from, centred, integer_from}
 
@@ -456,3 +457,101 @@ pub i8_read_high : (z : ℤ) (bytes : List ℕ) → length bytes ≡ 1 → z ≡
 i8_read_high z bytes l e = integer_read w8 1 (slice_index bytes 0) z (reverse bytes) i8_size (u8_read_high (slice_index bytes 0) bytes l refl) e
 
 pub ruleset i8_bytes = (i8_low, i8_high, i8_low_back, i8_high_back, i8_read_low, i8_read_high)
+
+-- ---- values that are joined of parts
+
+pub slice_index-take-lt : (n : ℕ) (bytes : List ℕ) → ((k : ℕ) → slice_index bytes k < 256) → (k : ℕ) → slice_index (take n bytes) k < 256
+slice_index-take-lt n bytes h k = elim (cases_lt k n) [
+  | inl inside ↦ rw (get_or-take n bytes k 0 inside) (h k)
+  | inr past ↦ rw (get_or_past (take n bytes) k 0 (omega (arith, length-take n bytes))) (omega arith)
+]
+
+pub slice_index-drop-lt : (n : ℕ) (bytes : List ℕ) → ((k : ℕ) → slice_index bytes k < 256) → (k : ℕ) → slice_index (drop n bytes) k < 256
+slice_index-drop-lt n bytes h k = rw (get_or-drop n bytes k 0) (h (n + k))
+
+-- the first n bytes alone are read
+pub integer_from-take : (n : ℕ) (bytes : List ℕ) → integer_from n bytes ≡ integer_from n (take n bytes)
+unfolding integer_from natural_from
+integer_from-take n bytes = ap (λ (ds : List ℕ). centred (256 ^ n) (digits_number ds)) (sym (take-take n n bytes (omega arith)))
+
+-- n bytes from byte a on are the digits of the number that is read there
+pub digits_of_part : (n a : ℕ) (bytes : List ℕ) → a + n ≤ length bytes → ((k : ℕ) → slice_index bytes k < 256) → digits n (integer_from n (take n (drop a bytes))) ≡ take n (drop a bytes)
+digits_of_part n a bytes l h =
+    let size : length (take n (drop a bytes)) ≡ n = length-take n (drop a bytes) ∙ omega (arith, length-drop a bytes) in
+    digits_of_integer n (take n (drop a bytes)) size (slice_index-take-lt n (drop a bytes) (slice_index-drop-lt a bytes h))
+
+pub digits_of_part_high : (n a : ℕ) (bytes : List ℕ) → a + n ≤ length bytes → ((k : ℕ) → slice_index bytes k < 256) → reverse (digits n (integer_from n (reverse (take n (drop a bytes))))) ≡ take n (drop a bytes)
+digits_of_part_high n a bytes l h =
+    let size : length (take n (drop a bytes)) ≡ n = length-take n (drop a bytes) ∙ omega (arith, length-drop a bytes) in
+    digits_of_integer_high n (take n (drop a bytes)) size (slice_index-take-lt n (drop a bytes) (slice_index-drop-lt a bytes h))
+
+take_first : (n : ℕ) (xs ys : List ℕ) → length xs ≡ n → take n (xs ++ ys) ≡ xs
+take_first n xs ys e = rw (← e) (take-append_seam xs ys)
+
+drop_first : (n : ℕ) (xs ys : List ℕ) → length xs ≡ n → drop n (xs ++ ys) ≡ ys
+drop_first n xs ys e = rw (← e) (drop-append_seam xs ys)
+
+-- what the parts of joined bytes are read as
+pub first_back : (n : ℕ) (z : ℤ) (bytes xs ys : List ℕ) → bytes ≡ xs ++ ys → length xs ≡ n → integer_from n xs ≡ z → integer_from n (take n bytes) ≡ z
+first_back n z bytes xs ys e l r = ap (λ (t : List ℕ). integer_from n (take n t)) e ∙ (ap (integer_from n) (take_first n xs ys l) ∙ r)
+
+pub second_back : (n m : ℕ) (z : ℤ) (bytes xs ys : List ℕ) → bytes ≡ xs ++ ys → length xs ≡ n → length ys ≡ m → integer_from m ys ≡ z → integer_from m (take m (drop n bytes)) ≡ z
+second_back n m z bytes xs ys e l k r =
+    ap (λ (t : List ℕ). integer_from m (take m (drop n t))) e ∙ (ap (λ (t : List ℕ). integer_from m (take m t)) (drop_first n xs ys l) ∙ (ap (integer_from m) (take_all m ys (omega arith)) ∙ r))
+
+pub first_back_high : (n : ℕ) (z : ℤ) (bytes xs ys : List ℕ) → bytes ≡ xs ++ ys → length xs ≡ n → integer_from n (reverse xs) ≡ z → integer_from n (reverse (take n bytes)) ≡ z
+first_back_high n z bytes xs ys e l r = ap (λ (t : List ℕ). integer_from n (reverse (take n t))) e ∙ (ap (λ (t : List ℕ). integer_from n (reverse t)) (take_first n xs ys l) ∙ r)
+
+pub second_back_high : (n m : ℕ) (z : ℤ) (bytes xs ys : List ℕ) → bytes ≡ xs ++ ys → length xs ≡ n → length ys ≡ m → integer_from m (reverse ys) ≡ z → integer_from m (reverse (take m (drop n bytes))) ≡ z
+second_back_high n m z bytes xs ys e l k r =
+    ap (λ (t : List ℕ). integer_from m (reverse (take m (drop n t)))) e ∙ (ap (λ (t : List ℕ). integer_from m (reverse (take m t))) (drop_first n xs ys l) ∙ (ap (λ (t : List ℕ). integer_from m (reverse t)) (take_all m ys (omega arith)) ∙ r))
+
+-- a list of two parts
+pub two_parts : (n m : ℕ) (bytes : List ℕ) → length bytes ≡ n + m → take n bytes ++ take m (drop n bytes) ≡ bytes
+two_parts n m bytes l = ap (λ (t : List ℕ). take n bytes ++ t) (take_all m (drop n bytes) (omega (arith, length-drop n bytes))) ∙ take-append-drop n bytes
+
+-- bytes are the digits of two numbers, of 4 bytes each
+pub digits_of_pair : (bytes : List ℕ) → length bytes ≡ 8 → ((k : ℕ) → slice_index bytes k < 256) → digits 4 (integer_from 4 (take 4 bytes)) ++ digits 4 (integer_from 4 (take 4 (drop 4 bytes))) ≡ bytes
+digits_of_pair bytes l h = rw (digits_of_part 4 0 bytes (omega arith) h, digits_of_part 4 4 bytes (omega arith) h) (two_parts 4 4 bytes l)
+
+pub digits_of_pair_high : (bytes : List ℕ) → length bytes ≡ 8 → ((k : ℕ) → slice_index bytes k < 256) → reverse (digits 4 (integer_from 4 (reverse (take 4 bytes)))) ++ reverse (digits 4 (integer_from 4 (reverse (take 4 (drop 4 bytes))))) ≡ bytes
+digits_of_pair_high bytes l h = rw (digits_of_part_high 4 0 bytes (omega arith) h, digits_of_part_high 4 4 bytes (omega arith) h) (two_parts 4 4 bytes l)
+
+pub ruleset joined = (first_back, second_back, first_back_high, second_back_high)
+
+-- ---- three parts
+
+pub third_back : (n m p : ℕ) (z : ℤ) (bytes xs rest ys zs : List ℕ) → bytes ≡ xs ++ rest → rest ≡ ys ++ zs → length xs ≡ n → length ys ≡ m → length zs ≡ p → integer_from p zs ≡ z → integer_from p (take p (drop (n + m) bytes)) ≡ z
+third_back n m p z bytes xs rest ys zs e k l h q r =
+    let whole : bytes ≡ (xs ++ ys) ++ zs = e ∙ (ap (λ (t : List ℕ). xs ++ t) k ∙ sym (append_assoc xs ys zs)) in
+    second_back (n + m) p z bytes (xs ++ ys) zs whole (omega (arith, length-append xs ys)) q r
+
+pub third_back_high : (n m p : ℕ) (z : ℤ) (bytes xs rest ys zs : List ℕ) → bytes ≡ xs ++ rest → rest ≡ ys ++ zs → length xs ≡ n → length ys ≡ m → length zs ≡ p → integer_from p (reverse zs) ≡ z → integer_from p (reverse (take p (drop (n + m) bytes))) ≡ z
+third_back_high n m p z bytes xs rest ys zs e k l h q r =
+    let whole : bytes ≡ (xs ++ ys) ++ zs = e ∙ (ap (λ (t : List ℕ). xs ++ t) k ∙ sym (append_assoc xs ys zs)) in
+    second_back_high (n + m) p z bytes (xs ++ ys) zs whole (omega (arith, length-append xs ys)) q r
+
+-- the second of three
+pub middle_back : (n m : ℕ) (z : ℤ) (bytes xs rest ys zs : List ℕ) → bytes ≡ xs ++ rest → rest ≡ ys ++ zs → length xs ≡ n → length ys ≡ m → integer_from m ys ≡ z → integer_from m (take m (drop n bytes)) ≡ z
+middle_back n m z bytes xs rest ys zs e k l h r =
+    ap (λ (t : List ℕ). integer_from m (take m (drop n t))) (e ∙ ap (λ (t : List ℕ). xs ++ t) k)
+    ∙ (ap (λ (t : List ℕ). integer_from m (take m t)) (drop_first n xs (ys ++ zs) l) ∙ (ap (integer_from m) (take_first m ys zs h) ∙ r))
+
+pub middle_back_high : (n m : ℕ) (z : ℤ) (bytes xs rest ys zs : List ℕ) → bytes ≡ xs ++ rest → rest ≡ ys ++ zs → length xs ≡ n → length ys ≡ m → integer_from m (reverse ys) ≡ z → integer_from m (reverse (take m (drop n bytes))) ≡ z
+middle_back_high n m z bytes xs rest ys zs e k l h r =
+    ap (λ (t : List ℕ). integer_from m (reverse (take m (drop n t)))) (e ∙ ap (λ (t : List ℕ). xs ++ t) k)
+    ∙ (ap (λ (t : List ℕ). integer_from m (reverse (take m t))) (drop_first n xs (ys ++ zs) l) ∙ (ap (λ (t : List ℕ). integer_from m (reverse t)) (take_first m ys zs h) ∙ r))
+
+three_parts : (bytes : List ℕ) → length bytes ≡ 16 → take 4 bytes ++ (take 4 (drop 4 bytes) ++ take 8 (drop 8 bytes)) ≡ bytes
+three_parts bytes l =
+    let tail : length (drop 4 bytes) ≡ 12 = length-drop 4 bytes ∙ omega arith in
+    let deep : take 8 (drop 4 (drop 4 bytes)) ≡ take 8 (drop 8 bytes) = ap (take 8) (drop-drop 4 4 bytes) in
+    let back : take 4 (drop 4 bytes) ++ take 8 (drop 8 bytes) ≡ drop 4 bytes = ap (λ (t : List ℕ). take 4 (drop 4 bytes) ++ t) (sym deep) ∙ two_parts 4 8 (drop 4 bytes) tail in
+    ap (λ (t : List ℕ). take 4 bytes ++ t) back ∙ take-append-drop 4 bytes
+
+-- bytes are the digits of three numbers, of 4, 4 and 8 bytes
+pub digits_of_triple : (bytes : List ℕ) → length bytes ≡ 16 → ((k : ℕ) → slice_index bytes k < 256) → digits 4 (integer_from 4 (take 4 bytes)) ++ (digits 4 (integer_from 4 (take 4 (drop 4 bytes))) ++ digits 8 (integer_from 8 (take 8 (drop 8 bytes)))) ≡ bytes
+digits_of_triple bytes l h = rw (digits_of_part 4 0 bytes (omega arith) h, digits_of_part 4 4 bytes (omega arith) h, digits_of_part 8 8 bytes (omega arith) h) (three_parts bytes l)
+
+pub digits_of_triple_high : (bytes : List ℕ) → length bytes ≡ 16 → ((k : ℕ) → slice_index bytes k < 256) → reverse (digits 4 (integer_from 4 (reverse (take 4 bytes)))) ++ (reverse (digits 4 (integer_from 4 (reverse (take 4 (drop 4 bytes))))) ++ reverse (digits 8 (integer_from 8 (reverse (take 8 (drop 8 bytes)))))) ≡ bytes
+digits_of_triple_high bytes l h = rw (digits_of_part_high 4 0 bytes (omega arith) h, digits_of_part_high 4 4 bytes (omega arith) h, digits_of_part_high 8 8 bytes (omega arith) h) (three_parts bytes l)

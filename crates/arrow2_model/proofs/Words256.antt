@@ -4,7 +4,7 @@ use Rattle.std.specs.Prelude.{ℤ, pos, negsuc, ◌+ℤ◌, ◌-ℤ◌, ◌*ℤ�
 use Rattle.std.specs.Int.{cast_unsigned, cast_signed, w128, int_wrapping_neg}
 use Rattle.std.proofs.lemmas.Int.{ints, to_z-of_z}
 use Rattle.arrow2_model.specs.Digits.{residue, centred, words_value, high_word, low_word, digits, low_digits, integer_from, natural_from, digits_number}
-use Rattle.arrow2_model.proofs.Digits.{residue-lt, residue-centred, centred-residue, of_z_is, to_z_is, length-digits, slice_index-reverse-lt, digits_of_integer, integer_from-digits}
+use Rattle.arrow2_model.proofs.Digits.{residue-lt, residue-centred, centred-residue, slice_index-take-lt, slice_index-drop-lt, of_z_is, to_z_is, length-digits, slice_index-reverse-lt, digits_of_integer, integer_from-digits}
 use Rattle.std.proofs.Math.Nat.{div-div-eq-div-mul, div-one, mod-eq_of_lt, mul_left_comm, pow-succ'}
 use Rattle.std.proofs.lemmas.Bool.Decides.{nat_tests, same_from_decides, Decides-like, Decides-and, Decides-eqb, Decides-int_eq}
 use Rattle.std.proofs.lemmas.List.{take-take, take-append-drop, length-reverse, reverse-reverse, length-take, length-drop, get_or-drop, get_or-take, get_or_past, take_all}
@@ -122,14 +122,6 @@ pub first_half : (bytes : List ℕ) → integer_from 16 bytes ≡ integer_from 1
 unfolding integer_from natural_from
 first_half bytes = ap (λ (ds : List ℕ). centred (256 ^ 16) (digits_number ds)) (sym (take-take 16 16 bytes (omega arith)))
 
-slice_index-take-lt : (n : ℕ) (bytes : List ℕ) → ((k : ℕ) → slice_index bytes k < 256) → (k : ℕ) → slice_index (take n bytes) k < 256
-slice_index-take-lt n bytes h k = elim (cases_lt k n) [
-  | inl inside ↦ rw (get_or-take n bytes k 0 inside) (h k)
-  | inr past ↦ rw (get_or_past (take n bytes) k 0 (omega (arith, length-take n bytes))) (omega arith)
-]
-
-slice_index-drop-lt : (n : ℕ) (bytes : List ℕ) → ((k : ℕ) → slice_index bytes k < 256) → (k : ℕ) → slice_index (drop n bytes) k < 256
-slice_index-drop-lt n bytes h k = rw (get_or-drop n bytes k 0) (h (n + k))
 
 -- bytes are the digits of the number that is read from them
 pub digits_of_words : (bytes : List ℕ) → length bytes ≡ 32 → ((k : ℕ) → slice_index bytes k < 256) → digits 32 (words_value (integer_from 16 (drop 16 bytes)) (integer_from 16 bytes)) ≡ bytes

@@ -2,6 +2,8 @@
 #![tactic(auto)]
 
 pub mod error;
+
+pub mod interval;
 mod join;
 pub mod native;
 pub mod primitive;

@@ -12,8 +12,8 @@ use std::fmt::Debug;
 /// A type whose values stand in the layer's buffers. Each value has the same number of bytes, which are
 /// the digits of its value.
 ///
-/// Differs from arrow2: `Bytes` is read and written as a slice alone, `SIZE` and `from_le_slice` are
-/// there for generic code.
+/// Differs from arrow2: `Bytes` is read and written as a slice alone, `SIZE`, `from_le_slice`
+/// and `from_be_slice` are there for generic code.
 pub trait NativeType: Copy + Debug + PartialEq + Default {
     // The name of the type.
     ghost PRIMITIVE: { PrimitiveType };
@@ -64,6 +64,11 @@ pub trait NativeType: Copy + Debug + PartialEq + Default {
     fn from_le_slice(bytes: &[u8]) -> Self
         requires { length bytes.now ≡ SIZE }
         ensures { result ≡ of_le bytes.now };
+
+    /// The value whose bytes these are in big-endian order. Asks for `SIZE` bytes.
+    fn from_be_slice(bytes: &[u8]) -> Self
+        requires { length bytes.now ≡ SIZE }
+        ensures { result ≡ of_be bytes.now };
 
     // A value that was read has the bytes that it was read from.
     ghost le_law: { (bytes : List ℕ) → length bytes ≡ SIZE → ((k : ℕ) → slice_index bytes k < 256)
@@ -118,6 +123,12 @@ impl NativeType for u8 {
         array.copy_from_slice(bytes);
         u8::from_le_bytes(array)
     }
+
+    fn from_be_slice(bytes: &[u8]) -> u8 {
+        let mut array = [0; 1];
+        array.copy_from_slice(bytes);
+        u8::from_be_bytes(array)
+    }
 }
 
 #[tactic(auto, using(arrow2_model::proofs::Digits::unsigned_bytes))]
@@ -164,6 +175,12 @@ impl NativeType for u16 {
         let mut array = [0; 2];
         array.copy_from_slice(bytes);
         u16::from_le_bytes(array)
+    }
+
+    fn from_be_slice(bytes: &[u8]) -> u16 {
+        let mut array = [0; 2];
+        array.copy_from_slice(bytes);
+        u16::from_be_bytes(array)
     }
 }
 
@@ -212,6 +229,12 @@ impl NativeType for u32 {
         array.copy_from_slice(bytes);
         u32::from_le_bytes(array)
     }
+
+    fn from_be_slice(bytes: &[u8]) -> u32 {
+        let mut array = [0; 4];
+        array.copy_from_slice(bytes);
+        u32::from_be_bytes(array)
+    }
 }
 
 #[tactic(auto, using(arrow2_model::proofs::Digits::unsigned_bytes))]
@@ -258,6 +281,12 @@ impl NativeType for u64 {
         let mut array = [0; 8];
         array.copy_from_slice(bytes);
         u64::from_le_bytes(array)
+    }
+
+    fn from_be_slice(bytes: &[u8]) -> u64 {
+        let mut array = [0; 8];
+        array.copy_from_slice(bytes);
+        u64::from_be_bytes(array)
     }
 }
 
@@ -306,6 +335,12 @@ impl NativeType for i8 {
         array.copy_from_slice(bytes);
         i8::from_le_bytes(array)
     }
+
+    fn from_be_slice(bytes: &[u8]) -> i8 {
+        let mut array = [0; 1];
+        array.copy_from_slice(bytes);
+        i8::from_be_bytes(array)
+    }
 }
 
 #[tactic(auto, using(arrow2_model::proofs::Digits::i16_bytes))]
@@ -352,6 +387,12 @@ impl NativeType for i16 {
         let mut array = [0; 2];
         array.copy_from_slice(bytes);
         i16::from_le_bytes(array)
+    }
+
+    fn from_be_slice(bytes: &[u8]) -> i16 {
+        let mut array = [0; 2];
+        array.copy_from_slice(bytes);
+        i16::from_be_bytes(array)
     }
 }
 
@@ -400,6 +441,12 @@ impl NativeType for i32 {
         array.copy_from_slice(bytes);
         i32::from_le_bytes(array)
     }
+
+    fn from_be_slice(bytes: &[u8]) -> i32 {
+        let mut array = [0; 4];
+        array.copy_from_slice(bytes);
+        i32::from_be_bytes(array)
+    }
 }
 
 #[tactic(auto, using(arrow2_model::proofs::Digits::i64_bytes))]
@@ -447,6 +494,12 @@ impl NativeType for i64 {
         array.copy_from_slice(bytes);
         i64::from_le_bytes(array)
     }
+
+    fn from_be_slice(bytes: &[u8]) -> i64 {
+        let mut array = [0; 8];
+        array.copy_from_slice(bytes);
+        i64::from_be_bytes(array)
+    }
 }
 
 #[tactic(auto, using(arrow2_model::proofs::Digits::i128_bytes))]
@@ -493,5 +546,11 @@ impl NativeType for i128 {
         let mut array = [0; 16];
         array.copy_from_slice(bytes);
         i128::from_le_bytes(array)
+    }
+
+    fn from_be_slice(bytes: &[u8]) -> i128 {
+        let mut array = [0; 16];
+        array.copy_from_slice(bytes);
+        i128::from_be_bytes(array)
     }
 }

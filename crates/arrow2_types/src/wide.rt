@@ -191,14 +191,19 @@ impl NativeType for i256 {
     }
 
     fn from_be_bytes(bytes: [u8; 32]) -> i256 {
-        let mut bytes = bytes;
-        bytes.reverse();
-        <i256 as NativeType>::from_le_slice(&bytes)
+        <i256 as NativeType>::from_be_slice(&bytes)
     }
 
     fn from_le_slice(bytes: &[u8]) -> i256 {
         let low = <i128 as NativeType>::from_le_slice(&bytes[..16]);
         let high = <i128 as NativeType>::from_le_slice(&bytes[16..]);
         i256::from_words(high, low)
+    }
+
+    fn from_be_slice(bytes: &[u8]) -> i256 {
+        let mut array = [0; 32];
+        array.copy_from_slice(bytes);
+        array.reverse();
+        <i256 as NativeType>::from_le_slice(&array)
     }
 }
