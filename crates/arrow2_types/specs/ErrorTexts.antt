@@ -1,5 +1,5 @@
 -- What an error prints.
-use Rattle.std.specs.Prelude.{ℕ, List, ◌++◌, codes, string_bytes, Option, Some, None}
+use Rattle.std.specs.Prelude.{◌≡◌, ℕ, List, [], ◌++◌, codes, string_bytes, Option, Some, None}
 use Rattle.arrow2_types.specs.declared.error.Error.{Error}
 use Rattle.arrow2_types.specs.declared.error.Error.TheVariants.{NotYetImplemented, External, Io, InvalidArgumentError, ExternalFormat, Overflow, OutOfSpec, OutOfMemory}
 
@@ -13,3 +13,14 @@ error_text (ExternalFormat text) = Some (codes "External format error: " ++ stri
 error_text Overflow = Some (codes "Operation overflew the backing container.")
 error_text (OutOfSpec text) = Some (string_bytes text)
 error_text OutOfMemory = Some (codes "Out of memory")
+
+-- an error of another library with no message before its text, where P holds of the text; or memory was refused
+abbrev pub WrapsText : Error → (List ℕ → Type 0) → Type 0
+WrapsText (External message text) P = (string_bytes message ≡ []) × P (string_bytes text)
+WrapsText OutOfMemory P = Unit {0}
+WrapsText (NotYetImplemented text) P = ⊥
+WrapsText (Io error) P = ⊥
+WrapsText (InvalidArgumentError text) P = ⊥
+WrapsText (ExternalFormat text) P = ⊥
+WrapsText Overflow P = ⊥
+WrapsText (OutOfSpec text) P = ⊥

@@ -2,9 +2,11 @@
 ghost use Rattle.std.specs.Prelude.{◌≡◌, Some};
 ghost use Rattle.arrow2_types.specs.declared.error.Error.TheVariants.{OutOfMemory, Io};
 
-use std::alloc::{AllocError, AllocFailed};
-use std::fmt;
-use std::io;
+use std::alloc::{AllocError, AllocFailed, Global};
+
+use std::str::Utf8Error;
+use std::string::{FromUtf8Error, ToString};
+use std::{fmt, io};
 
 /// Why a call was refused.
 ///
@@ -33,6 +35,48 @@ pub enum Error {
 
 /// A result whose error is an [`Error`].
 pub type Result<T> = std::result::Result<T, Error>;
+
+impl Error {
+    ghost use Rattle.std.specs.Prelude.{◌≡◌, IfSome, codes};
+    ghost use Rattle.arrow2_types.specs.ErrorTexts.{WrapsText};
+
+    /// `External` with an empty message and the text that `error` prints, or `OutOfMemory` where that
+    /// text finds no room.
+    ///
+    /// Differs from arrow2: `error` need only print, and its text is kept in place of it.
+    pub fn from_external_error<E: fmt::Display>(alloc: Global, error: &E) -> Error
+        ensures { WrapsText result
+            (λ text. IfSome (E.output error.now) (λ printed. text ≡ printed)) }
+    {
+        match error.to_string(alloc) {
+            Ok(text) => Error::External(String::new(alloc), text),
+            Err(AllocError) => Error::OutOfMemory,
+        }
+    }
+
+    /// The same of the error that std has for bytes that are no text.
+    pub fn from_utf8_error(alloc: Global, error: Utf8Error) -> Error
+        ensures { WrapsText result
+            (λ text. IfSome (⟦<Utf8Error as fmt::Display>⟧.output error) (λ printed. text ≡ printed)) }
+    {
+        Error::from_external_error(alloc, &error)
+    }
+
+    /// The same of the error that holds the bytes. They are dropped.
+    pub fn from_string_utf8_error(alloc: Global, error: FromUtf8Error) -> Error
+        ensures { WrapsText result
+            (λ text. IfSome (⟦<FromUtf8Error as fmt::Display>⟧.output error) (λ printed. text ≡ printed)) }
+    {
+        Error::from_external_error(alloc, &error)
+    }
+
+    /// The same of the error of the fast test for text.
+    pub fn from_basic_utf8_error(alloc: Global, error: simdutf8::basic::Utf8Error) -> Error
+        ensures { WrapsText result (λ text. text ≡ codes "invalid utf-8 sequence") }
+    {
+        Error::from_external_error(alloc, &error)
+    }
+}
 
 impl fmt::Display for Error {
     ghost use Rattle.arrow2_types.specs.ErrorTexts.{error_text};
