@@ -1,7 +1,8 @@
 //! The storage that buffers share.
 ghost use Rattle.std.specs.Prelude.{◌≡◌, ◌-◌, ◌≤◌, [], length};
 ghost use Rattle.arrow2_model.specs.Parts.{part};
-ghost use Rattle.arrow2_buffer.specs.Lent.{refill};
+ghost use Rattle.std.specs.Borrow.{sem};
+ghost use Rattle.arrow2_buffer.specs.Lent.{LendsPart};
 
 use std::marker::Model;
 
@@ -31,9 +32,6 @@ impl<T> From<Vec<T>> for Bytes<T> {
 }
 
 impl<T> Bytes<T> {
-    ghost use Rattle.std.specs.Borrow.{Lends, Array, sem};
-    ghost use Rattle.arrow2_buffer.specs.contracts.bytes.Bytes.{the_row};
-
     /// All items.
     pub fn as_slice(&self) -> &[T]
         ensures { result.now ≡ self.now }
@@ -64,7 +62,7 @@ impl<T> Bytes<T> {
     pub(crate) fn part_mut(&mut self, start: usize, end: usize) -> &mut [T]
         requires order { start ≤ end }
         requires within { end ≤ length self.old }
-        ensures* writes_back { sem 𝓛 (Lends (the_row T.row) (Array T.row 0) self.entry result (refill self.old start)) }
+        ensures* writes_back { sem 𝓛 (LendsPart T.row self.entry start result) }
         ensures value { result.now ≡ part self.old start (end - start) }
         ensures len { length result.now ≡ end - start }
     {

@@ -110,9 +110,11 @@ impl<T> Buffer<T> {
         self.slice(offset, length);
         self
     }
-    /// The items, to be written, where no one else shares the storage; None elsewhere.
+    /// The items, to be written, where no one else shares the storage; None elsewhere. Takes no
+    /// memory.
     ///
-    /// Takes no memory. [`Buffer::change_slice`] does the same with a closure.
+    /// A proof knows the items that it lends, and not what they are afterwards:
+    /// [`Buffer::change_slice`] does the same and says both.
     pub fn get_mut_slice(&mut self) -> Option<&mut [T]>
         ensures { IfSome result (λ r. r.now ≡ buffer_items self.old) }
     {
@@ -202,7 +204,7 @@ impl<T: Drop> Buffer<T> {
     ///
     /// # Errors
     ///
-    /// `OutOfMemory`.
+    /// `OutOfMemory` where the count of its owners finds no memory.
     pub fn new(alloc: Global) -> Result<Self>
         ensures made { IfOk result (λ b. b ≡ whole_buffer []) }
         ensures only { IfErr result (λ e. e ≡ OutOfMemory) }
@@ -216,7 +218,7 @@ impl<T: Drop> Buffer<T> {
     ///
     /// # Errors
     ///
-    /// `OutOfMemory`.
+    /// `OutOfMemory` where the items, or the count of their owners, find no memory.
     pub fn try_from_iter<I: IntoIterator<Item = T>>(alloc: Global, iter: I) -> Result<Self>
         requires { (it : I.IntoIter) → I.into_iter_gives iter it → I.IntoIter.can_next it × IsFinite (I.IntoIter.remaining it) }
         ensures items { IfOk result (λ b. (it : I.IntoIter) × (xs : List T) × I.into_iter_gives iter it × Drains I.IntoIter.next_gives it xs × (b ≡ whole_buffer xs)) }
@@ -234,7 +236,7 @@ impl<T: Drop> Buffer<T> {
 ///
 /// # Errors
 ///
-/// `OutOfMemory`; the vector is dropped.
+/// `OutOfMemory` where the count of its owners finds no memory. The vector is then dropped.
 impl<T: Drop> TryFrom<Vec<T>> for Buffer<T> {
     type Error = Error;
 
@@ -252,7 +254,8 @@ impl<T: Drop> TryFrom<Vec<T>> for Buffer<T> {
     }
 }
 
-/// Equal lists are equal, whatever storage is behind them.
+/// Buffers are equal where their lists are, by the items' own equality, whatever storage is behind
+/// them.
 impl<T: PartialEq> PartialEq for Buffer<T> {
     ghost eq = { on buffer_items (pointwise T.eq) };
 

@@ -1,4 +1,4 @@
-use Rattle.std.proofs.Common.{rules, refl, arith, ◌+◌, ◌≡◌, ◌≤◌, ◌-◌, length}
+use Rattle.std.proofs.Common.{rules, arith, ◌≡◌, ◌-◌, length}
 use Rattle.arrow2_buffer.proofs.Overwritten.{refill_within}
 use Rattle.arrow2_buffer.proofs.immutable.change_unshared.Goals as goal
 
