@@ -1,0 +1,53 @@
+//! What can end a replay.
+ghost use Rattle.std.specs.Prelude.{◌≡◌, Some};
+
+use std::alloc::{AllocError, AllocFailed};
+use std::fmt;
+
+/// What ended a replay before its end.
+#[derive(Clone, Copy, Debug, PartialEq, Eq)]
+pub enum ReplayFault {
+    /// A call of the reader failed. Nothing was written.
+    Read,
+    /// A request for memory was refused. Nothing was written.
+    Memory,
+    /// A call of the writer failed. What was written is a beginning of the replies.
+    Write,
+}
+
+impl fmt::Display for ReplayFault {
+    ghost use Rattle.arrow2_replay.specs.FaultTexts.{fault_text};
+
+    ghost output = { λ fault. Some (fault_text fault) };
+
+    fn fmt<W: fmt::Write>(&self, f: &mut fmt::Formatter<W>) -> fmt::Result {
+        match self {
+            ReplayFault::Read => write!(f, "read failed"),
+            ReplayFault::Memory => write!(f, "out of memory"),
+            ReplayFault::Write => write!(f, "write failed"),
+        }
+    }
+}
+
+impl std::error::Error for ReplayFault {}
+
+impl From<AllocError> for ReplayFault {
+    ghost use Rattle.arrow2_replay.specs.declared.fault.ReplayFault.TheVariants.{Memory};
+
+    ghost from_gives = { λ _ fault. fault ≡ Memory };
+
+    fn from(_error: AllocError) -> ReplayFault {
+        ReplayFault::Memory
+    }
+}
+
+/// The value that found no room is dropped.
+impl<T: Drop> From<AllocFailed<T>> for ReplayFault {
+    ghost use Rattle.arrow2_replay.specs.declared.fault.ReplayFault.TheVariants.{Memory};
+
+    ghost from_gives = { λ _ fault. fault ≡ Memory };
+
+    fn from(_error: AllocFailed<T>) -> ReplayFault {
+        ReplayFault::Memory
+    }
+}
