@@ -1,0 +1,50 @@
+-- The lines of a script, and the words of a line.
+use Rattle.std.specs.Prelude.{Bool, true, false, ◌≡◌, ◌≢◌, ℕ, ◌-◌, ◌<◌, ◌==◌, List, [], ◌∷◌, ◌++◌, length, slice_index, if◌then◌else◌}
+use Rattle.std.specs.List.{All, flat_map, list_any, slice_split, onto_first, join_with_byte}
+
+-- the bytes up to each byte 10, and those after the last one where there are any
+unfoldable pub lines_of : List ℕ → List (List ℕ)
+lines_of [] = []
+lines_of (b ∷ bytes) = if b == 10 then [] ∷ lines_of bytes else onto_first b (lines_of bytes)
+
+-- the parts of a line between its bytes 32, empty ones too
+unfoldable pub parts_of : List ℕ → List (List ℕ)
+parts_of line = slice_split (λ b. b == 32) line
+
+-- the parts of a line that are still to come: none once the last one came
+abbrev pub parts_left : Bool → List ℕ → List (List ℕ)
+parts_left true rest = []
+parts_left false rest = parts_of rest
+
+-- whether a list of bytes is empty
+abbrev pub is_blank : List ℕ → Bool
+is_blank bytes = length bytes == 0
+
+-- the words of a line: its parts, where none is empty
+unfoldable pub words_of : List ℕ → List (List ℕ)
+words_of line = if list_any is_blank (parts_of line) then [] else parts_of line
+
+-- a script with a last byte 10, where it is not empty and does not end in one
+abbrev pub closed : List ℕ → List ℕ
+closed [] = []
+closed (b ∷ bytes) = if slice_index (b ∷ bytes) (length bytes) == 10 then b ∷ bytes else b ∷ bytes ++ 10 ∷ []
+
+-- a line and the byte that ends it
+abbrev pub ended : List ℕ → List ℕ
+ended line = line ++ 10 ∷ []
+
+-- a line that holds no byte 10
+abbrev pub IsLine : List ℕ → Type 0
+IsLine line = All (λ b. b ≢ 10) line
+
+-- these are the lines of the script: free of byte 10, and each followed by byte 10 they are the script, closed
+abbrev pub AreLines : List ℕ → List (List ℕ) → Type 0
+AreLines script lines = All IsLine lines × (flat_map ended lines ≡ closed script)
+
+-- one byte or more, none of them 32
+abbrev pub IsWord : List ℕ → Type 0
+IsWord word = (0 < length word) × All (λ b. b ≢ 32) word
+
+-- these are the words of the line: one or more, joined by one byte 32 they are the line
+abbrev pub AreWords : List ℕ → List (List ℕ) → Type 0
+AreWords line words = (0 < length words) × All IsWord words × (join_with_byte 32 words ≡ line)

@@ -1,0 +1,132 @@
+-- The machine of lists that a script is told to.
+use Rattle.std.specs.Prelude.{ℕ, ◌+◌, ◌-◌, ◌^◌, ◌==◌, nat_lt, Bool, List, [], ◌∷◌, ◌++◌, length, slice_set, slice_index_or, replicate, codes, Option, Some, None, Result, Ok, Err, if◌then◌else◌}
+use Rattle.std.specs.Fmt.{decimal}
+use Rattle.arrow2_model.specs.Parts.{part, falses}
+use Rattle.arrow2_replay.specs.Lines.{lines_of, ended}
+use Rattle.arrow2_replay.specs.Words.{bits_text}
+use Rattle.arrow2_replay.specs.Commands.{command_in}
+use Rattle.arrow2_replay.specs.declared.command.Command.{Command}
+use Rattle.arrow2_replay.specs.declared.command.Command.TheVariants.{New, Push, Freeze, Copy, Slice, Count, Bits}
+
+-- what a slot holds: nothing, a frozen list of booleans, or one that grows
+pub data Held : Type 0 where
+  Nothing : Held
+  Frozen : List Bool → Held
+  Growing : List Bool → Held
+
+-- why a line is refused
+pub data Refused : Type 0 where
+  Syntax : Refused
+  Kind : Refused
+  Range : Refused
+  Overflow : Refused
+
+-- the reply to a line that is refused
+abbrev pub refused_text : Refused → List ℕ
+refused_text Syntax = codes "error syntax"
+refused_text Kind = codes "error kind"
+refused_text Range = codes "error range"
+refused_text Overflow = codes "error overflow"
+
+infixl 10 ◌>>=◌
+-- what a value leads to, unless it is refused
+abbrev pub ◌>>=◌ : {A B : Type 0} → Result A Refused → (A → Result B Refused) → Result B Refused
+(Ok x) >>= f = f x
+(Err e) >>= f = Err e
+
+-- what slot s holds
+abbrev pub at : List Held → ℕ → Held
+at slots s = slice_index_or slots s Nothing
+
+-- a list that grows
+abbrev pub growing : Held → Result (List Bool) Refused
+growing Nothing = Err Kind
+growing (Frozen items) = Err Kind
+growing (Growing items) = Ok items
+
+-- a frozen list
+abbrev pub frozen : Held → Result (List Bool) Refused
+frozen Nothing = Err Kind
+frozen (Frozen items) = Ok items
+frozen (Growing items) = Err Kind
+
+-- a list of booleans, frozen or not
+abbrev pub listed : Held → Result (List Bool) Refused
+listed Nothing = Err Kind
+listed (Frozen items) = Ok items
+listed (Growing items) = Ok items
+
+-- what a slot holds after a bit is pushed to it: a length of 2 ^ 64 is too great
+abbrev pub pushed : Held → Bool → Result Held Refused
+pushed held bit = do
+  items ← growing held
+  if length items == 2 ^ 64 - 1 then Err Overflow else Ok (Growing (items ++ bit ∷ []))
+
+-- what a slot holds after it is frozen
+abbrev pub froze : Held → Result Held Refused
+froze held = do
+  items ← growing held
+  Ok (Frozen items)
+
+-- what a copy of a slot holds
+abbrev pub copied : Held → Result Held Refused
+copied held = do
+  items ← frozen held
+  Ok (Frozen items)
+
+-- what a slot holds after it is cut to its n items from item i on
+abbrev pub sliced : Held → ℕ → ℕ → Result Held Refused
+sliced held i n = do
+  items ← frozen held
+  if nat_lt (length items) (i + n) then Err Range else Ok (Frozen (part items i n))
+
+-- how many items of a slot are false
+abbrev pub counted : Held → Result ℕ Refused
+counted held = do
+  items ← listed held
+  Ok (falses items)
+
+-- the slots after a command, and its reply
+unfoldable pub outcome : List Held → Command → Result (List Held × List ℕ) Refused
+outcome slots (New s bits) = Ok (slice_set slots s (Growing bits), codes "ok")
+outcome slots (Push s bit) = do
+  held ← pushed (at slots s) bit
+  Ok (slice_set slots s held, codes "ok")
+outcome slots (Freeze s) = do
+  held ← froze (at slots s)
+  Ok (slice_set slots s held, codes "ok")
+outcome slots (Copy s d) = do
+  held ← copied (at slots s)
+  Ok (slice_set slots d held, codes "ok")
+outcome slots (Slice s i n) = do
+  held ← sliced (at slots s) i n
+  Ok (slice_set slots s held, codes "ok")
+outcome slots (Count s) = do
+  number ← counted (at slots s)
+  Ok (slots, decimal number)
+outcome slots (Bits s) = do
+  items ← listed (at slots s)
+  Ok (slots, bits_text items)
+
+-- a line that is refused changes nothing
+abbrev pub settled : List Held → Result (List Held × List ℕ) Refused → List Held × List ℕ
+settled slots (Ok after) = after
+settled slots (Err e) = (slots, refused_text e)
+
+-- what a line leads to: one that is no command is refused
+abbrev pub outcome_of : List Held → Option Command → Result (List Held × List ℕ) Refused
+outcome_of slots None = Err Syntax
+outcome_of slots (Some command) = outcome slots command
+
+-- one step of the machine: the slots after a line, and its reply
+unfoldable pub step : List Held → List ℕ → List Held × List ℕ
+step slots line = settled slots (outcome_of slots (command_in line))
+
+-- the replies to lines, each followed by byte 10
+unfoldable pub replies : List Held → List (List ℕ) → List ℕ
+replies slots [] = []
+replies slots (line ∷ lines) = ended (step slots line).1 ++ replies (step slots line).0 lines
+
+-- what a script is answered: its lines' replies, from sixteen empty slots on
+unfoldable pub text : List ℕ → List ℕ
+text script = replies (replicate 16 Nothing) (lines_of script)
