@@ -1,2 +1,3 @@
+pub mod CommandLemmas
 pub mod LineLemmas
 pub mod WordLemmas

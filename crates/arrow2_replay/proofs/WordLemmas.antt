@@ -1,5 +1,5 @@
 -- What a word says, and the one word that says it.
-use Rattle.std.proofs.Common.{◌≡◌, ◌≢◌, ◌∙◌, sym, ap, refl, ◌<◌, ◌≤◌, ◌^◌, ℕ, zero, suc, List, [], ◌∷◌, length, get_or, drop, Bool, true, false, cond, ◌&&◌, ◌⊎◌, inl, inr, arith, lit<, le-ltb, ltb-true, rules}
+use Rattle.std.proofs.Common.{map, codes, eqb, ◌≡◌, ◌≢◌, ◌∙◌, sym, ap, refl, ◌<◌, ◌≤◌, ◌^◌, ℕ, zero, suc, List, [], ◌∷◌, length, get_or, drop, Bool, true, false, cond, ◌&&◌, ◌⊎◌, inl, inr, arith, lit<, le-ltb, ltb-true, rules}
 use Rattle.std.specs.Prelude.{Option, Some, None, Result, Ok, Err, nat_lt}
 use Rattle.std.specs.Result.{result_ok, OkIff}
 use Rattle.std.specs.Str.{bytes_eq, IsUtf8}
@@ -9,7 +9,9 @@ use Rattle.std.proofs.lemmas.Fmt.{decimal_is_IsNumeral, decimal-digits_value, fi
 use Rattle.std.proofs.lemmas.Str.{IsUtf8-from_ascii}
 use Rattle.std.proofs.lemmas.Str.Parse.{numerals_by_value, tells_digits, parse_plain, IsNumeralModel}
 use Rattle.std.proofs.lemmas.Slice.Eq.{bytes_eq-Decides}
-use Rattle.arrow2_replay.specs.Words.{number_of}
+use Rattle.std.specs.List.{list_all}
+use Rattle.std.proofs.lemmas.Option.{option_and_then_some, cond_some, same_Some, none-some}
+use Rattle.arrow2_replay.specs.Words.{number_of, slot_of, bit_of, bits_of, bit_byte, bits_text, is_bit_byte, items_said}
 
 -- a number's own word says it
 pub number_of-decimal : (n : ℕ) → n < 2 ^ 64 → number_of (decimal n) ≡ Some n
@@ -37,7 +39,7 @@ decimal-number_of word n e =
     (rw (← p.2) fits, rw (← p.2) same)
 
 -- a value is there, or not
-some_or_none : {X : Type 0} (o : Option X) → ((x : X) × (o ≡ Some x)) ⊎ (o ≡ None)
+pub some_or_none : {X : Type 0} (o : Option X) → ((x : X) × (o ≡ Some x)) ⊎ (o ≡ None)
 some_or_none None = inr refl
 some_or_none (Some x) = inl (x, refl)
 
@@ -81,3 +83,86 @@ number_of-parsed {E} word (Err d) plain parsed =
     sym (number_of-none word (λ n h e.
         let is = decimal_is_IsNumeral n h in
         refused (rw e at is.0.1, rw e at is.0.0, let v : digits_value 10 word ≡ n = ap (digits_value 10) (sym e) ∙ is.1 in omega (arith, v, h))))
+
+-- a slot's word
+pub slot_of-decimal : (n : ℕ) → n < 16 → slot_of (decimal n) ≡ Some n
+slot_of-decimal n h =
+    let wide : n < 2 ^ 64 = omega arith in
+    let fits : nat_lt n 16 ≡ true = grind (arith, h) in
+    rw (number_of-decimal n wide, fits) refl
+
+pub decimal-slot_of : (word : List ℕ) (n : ℕ) → slot_of word ≡ Some n → (n < 16) × (decimal n ≡ word)
+decimal-slot_of word n e = option_and_then_some {P = (n < 16) × (decimal n ≡ word)} (λ x. cond (nat_lt x 16) (Some x) None) (number_of word) n e
+    (λ x said kept.
+        let p = cond_some (nat_lt x 16) x n kept in
+        let fits : x < 16 = grind (arith, p.0) in
+        (rw (← p.1) fits, rw (← p.1) (decimal-number_of word x said).1))
+
+-- a bit's word
+pub bit_of-byte : (bit : Bool) → bit_of (bit_byte bit ∷ []) ≡ Some bit
+unfolding bit_of
+bit_of-byte true = refl
+bit_of-byte false = refl
+
+-- a choice between two values
+pub choice : {X : Type 0} (b : Bool) (x y z : X) → cond b x y ≡ z → ((b ≡ true) × (x ≡ z)) ⊎ ((b ≡ false) × (y ≡ z))
+choice true x y z e = inl (refl, e)
+choice false x y z e = inr (refl, e)
+
+pub byte-bit_of : (word : List ℕ) (bit : Bool) → bit_of word ≡ Some bit → bit_byte bit ∷ [] ≡ word
+unfolding bit_of
+byte-bit_of word bit e = elim (choice (bytes_eq word (codes "0")) _ _ _ e) [
+    inl p ↦ let is = (bytes_eq-Decides word (codes "0")).0 p.0 in let b = same_Some _ _ p.1 in rw (← b) (sym is)
+  | inr q ↦ elim (choice (bytes_eq word (codes "1")) _ _ _ q.1) [
+      inl p ↦ let is = (bytes_eq-Decides word (codes "1")).0 p.0 in let b = same_Some _ _ p.1 in rw (← b) (sym is)
+    | inr p ↦ absurd (none-some bit p.1) ] ]
+
+-- the items that a byte for each item says, and back
+items_said-text : (items : List Bool) → items_said (map bit_byte items) ≡ items
+items_said-text [] = refl
+items_said-text (true ∷ items) = ap (λ t. true ∷ t) (items_said-text items)
+items_said-text (false ∷ items) = ap (λ t. false ∷ t) (items_said-text items)
+
+all_bit_bytes : (items : List Bool) → list_all is_bit_byte (map bit_byte items) ≡ true
+all_bit_bytes [] = refl
+all_bit_bytes (true ∷ items) = all_bit_bytes items
+all_bit_bytes (false ∷ items) = all_bit_bytes items
+
+both : (a b : Bool) → (a && b) ≡ true → (a ≡ true) × (b ≡ true)
+both true true e = (refl, refl)
+both true false e = cc
+both false b e = cc
+
+said_byte : (byte : ℕ) → is_bit_byte byte ≡ true → bit_byte (eqb byte 49) ≡ byte
+said_byte byte e = grind (arith, e)
+
+text-items_said : (word : List ℕ) → list_all is_bit_byte word ≡ true → map bit_byte (items_said word) ≡ word
+text-items_said [] e = refl
+text-items_said (byte ∷ bytes) e =
+    let p = both (is_bit_byte byte) (list_all is_bit_byte bytes) e in
+    rw (said_byte byte p.0, text-items_said bytes p.1) refl
+
+-- a list that begins with a byte is not empty
+pub some_bytes : (byte : ℕ) (bytes : List ℕ) → eqb (length (byte ∷ bytes)) 0 ≡ false
+some_bytes byte bytes = grind arith
+
+-- a text of bits
+pub bits_of-text : (items : List Bool) → bits_of (bits_text items) ≡ Some items
+unfolding bits_of
+bits_of-text [] = refl
+bits_of-text (true ∷ items) = rw (some_bytes 49 (map bit_byte items), all_bit_bytes items) (ap (λ t. Some (true ∷ t)) (items_said-text items))
+bits_of-text (false ∷ items) = rw (some_bytes 48 (map bit_byte items), all_bit_bytes items) (ap (λ t. Some (false ∷ t)) (items_said-text items))
+
+some_said : (word : List ℕ) → (eqb (length word) 0) ≡ false → bits_text (items_said word) ≡ map bit_byte (items_said word)
+some_said [] e = cc
+some_said (byte ∷ bytes) e = refl
+
+pub text-bits_of : (word : List ℕ) (items : List Bool) → bits_of word ≡ Some items → bits_text items ≡ word
+unfolding bits_of
+text-bits_of word items e = elim (choice (bytes_eq word (codes "-")) _ _ _ e) [
+    inl p ↦ let is = (bytes_eq-Decides word (codes "-")).0 p.0 in let b = same_Some _ _ p.1 in rw (← b) (sym is)
+  | inr q ↦ elim (choice (eqb (length word) 0) _ _ _ q.1) [
+      inl p ↦ absurd (none-some items p.1)
+    | inr r ↦
+        let p = cond_some (list_all is_bit_byte word) (items_said word) items r.1 in
+        rw (← p.1) (some_said word r.0 ∙ text-items_said word p.0) ] ]

@@ -144,3 +144,13 @@ fn read_named<'a>(name: &[u8], parts: Parts<'a>) -> Option<Command<'a>>
         None
     }
 }
+
+/// The command that a line says, if it says one.
+#[tactic(auto, using(crate::proofs::CommandLemmas::parsing))]
+pub fn parse<'a>(line: &'a [u8]) -> Option<Command<'a>>
+    ensures { result ≡ command_in line.entry.now }
+{
+    let mut parts = Parts::new(line);
+    let name = parts.next()?;
+    read_named(name, parts)
+}
