@@ -117,10 +117,11 @@ slice_says words command e =
 -- where the test of a name passes, what stands behind it says the command; else what comes next does
 at_name : (known : List ℕ) (reader : List (List ℕ) → Option Command) → ((words : List (List ℕ)) (command : Command) → reader words ≡ Some command → Says known words command) → (name : List ℕ) (words : List (List ℕ)) (command : Command) (next : Option Command) → (next ≡ Some command → Says name words command) → cond (bytes_eq name known) (reader words) next ≡ Some command → Says name words command
 at_name known reader says name words command next others e = elim (choice (bytes_eq name known) (reader words) next (Some command) e) [
-    inl p ↦
+  | inl p ↦
       let is = (bytes_eq-Decides name known).0 p.0 in
       rw is (says words command p.1)
-  | inr p ↦ others p.1 ]
+  | inr p ↦ others p.1
+]
 
 named_says : (name : List ℕ) (words : List (List ℕ)) (command : Command) → named name words ≡ Some command → Says name words command
 unfolding named
@@ -175,12 +176,13 @@ words_there (Bits slot) fits = rw (slot_there slot fits) refl
 -- parts of which one is blank say no command
 blank_says_none : (parts : List (List ℕ)) → list_any is_blank parts ≡ true → command_of parts ≡ None
 blank_says_none parts blank = elim (some_or_none (command_of parts)) [
-    inl p ↦
+  | inl p ↦
       let says = command_says parts p.0 p.1 in
       let there = words_there p.0 says.0 in
       let never = rw says.1 at blank in
       cc
-  | inr e ↦ e ]
+  | inr e ↦ e
+]
 
 whichever : (blank : Bool) (parts : List (List ℕ)) → (blank ≡ true → command_of parts ≡ command_of []) → command_of parts ≡ command_of (cond blank [] parts)
 whichever true parts none = none refl

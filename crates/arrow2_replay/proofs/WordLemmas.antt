@@ -46,8 +46,9 @@ some_or_none (Some x) = inl (x, refl)
 -- a word says no number where it is no number's digits
 pub number_of-none : (word : List ℕ) → ((n : ℕ) → n < 2 ^ 64 → decimal n ≡ word → ⊥) → number_of word ≡ None
 number_of-none word never = elim (some_or_none (number_of word)) [
-    inl p ↦ let d = decimal-number_of word p.0 p.1 in absurd (never p.0 d.0 d.1)
-  | inr e ↦ e ]
+  | inl p ↦ let d = decimal-number_of word p.0 p.1 in absurd (never p.0 d.0 d.1)
+  | inr e ↦ e
+]
 
 -- the first digit of a number is neither a sign nor, where more follow it, 0
 first_digit : (n : ℕ) → n < 2 ^ 64 → ((0 < length (decimal n)) × (get_or (decimal n) 0 0 ≡ 43)) ⊎ ((1 < length (decimal n)) × (get_or (decimal n) 0 0 ≡ 48)) → ⊥
@@ -81,8 +82,8 @@ number_of-parsed {E} word (Ok x) plain parsed =
 number_of-parsed {E} word (Err d) plain parsed =
     let refused = parse_plain own {E = E} 64 word (Err d) parsed (λ e. plain (inl (there word e, e))) in
     sym (number_of-none word (λ n h e.
-        let is = decimal_is_IsNumeral n h in
-        refused (rw e at is.0.1, rw e at is.0.0, let v : digits_value 10 word ≡ n = ap (digits_value 10) (sym e) ∙ is.1 in omega (arith, v, h))))
+    let is = decimal_is_IsNumeral n h in
+    refused (rw e at is.0.1, rw e at is.0.0, let v : digits_value 10 word ≡ n = ap (digits_value 10) (sym e) ∙ is.1 in omega (arith, v, h))))
 
 -- a slot's word
 pub slot_of-decimal : (n : ℕ) → n < 16 → slot_of (decimal n) ≡ Some n
@@ -94,9 +95,9 @@ slot_of-decimal n h =
 pub decimal-slot_of : (word : List ℕ) (n : ℕ) → slot_of word ≡ Some n → (n < 16) × (decimal n ≡ word)
 decimal-slot_of word n e = option_and_then_some {P = (n < 16) × (decimal n ≡ word)} (λ x. cond (nat_lt x 16) (Some x) None) (number_of word) n e
     (λ x said kept.
-        let p = cond_some (nat_lt x 16) x n kept in
-        let fits : x < 16 = grind (arith, p.0) in
-        (rw (← p.1) fits, rw (← p.1) (decimal-number_of word x said).1))
+    let p = cond_some (nat_lt x 16) x n kept in
+    let fits : x < 16 = grind (arith, p.0) in
+    (rw (← p.1) fits, rw (← p.1) (decimal-number_of word x said).1))
 
 -- a bit's word
 pub bit_of-byte : (bit : Bool) → bit_of (bit_byte bit ∷ []) ≡ Some bit
@@ -112,10 +113,12 @@ choice false x y z e = inr (refl, e)
 pub byte-bit_of : (word : List ℕ) (bit : Bool) → bit_of word ≡ Some bit → bit_byte bit ∷ [] ≡ word
 unfolding bit_of
 byte-bit_of word bit e = elim (choice (bytes_eq word (codes "0")) _ _ _ e) [
-    inl p ↦ let is = (bytes_eq-Decides word (codes "0")).0 p.0 in let b = same_Some _ _ p.1 in rw (← b) (sym is)
+  | inl p ↦ let is = (bytes_eq-Decides word (codes "0")).0 p.0 in let b = same_Some _ _ p.1 in rw (← b) (sym is)
   | inr q ↦ elim (choice (bytes_eq word (codes "1")) _ _ _ q.1) [
-      inl p ↦ let is = (bytes_eq-Decides word (codes "1")).0 p.0 in let b = same_Some _ _ p.1 in rw (← b) (sym is)
-    | inr p ↦ absurd (none-some bit p.1) ] ]
+    | inl p ↦ let is = (bytes_eq-Decides word (codes "1")).0 p.0 in let b = same_Some _ _ p.1 in rw (← b) (sym is)
+    | inr p ↦ absurd (none-some bit p.1)
+  ]
+]
 
 -- the items that a byte for each item says, and back
 items_said-text : (items : List Bool) → items_said (map bit_byte items) ≡ items
@@ -160,9 +163,11 @@ some_said (byte ∷ bytes) e = refl
 pub text-bits_of : (word : List ℕ) (items : List Bool) → bits_of word ≡ Some items → bits_text items ≡ word
 unfolding bits_of
 text-bits_of word items e = elim (choice (bytes_eq word (codes "-")) _ _ _ e) [
-    inl p ↦ let is = (bytes_eq-Decides word (codes "-")).0 p.0 in let b = same_Some _ _ p.1 in rw (← b) (sym is)
+  | inl p ↦ let is = (bytes_eq-Decides word (codes "-")).0 p.0 in let b = same_Some _ _ p.1 in rw (← b) (sym is)
   | inr q ↦ elim (choice (eqb (length word) 0) _ _ _ q.1) [
-      inl p ↦ absurd (none-some items p.1)
+    | inl p ↦ absurd (none-some items p.1)
     | inr r ↦
         let p = cond_some (list_all is_bit_byte word) (items_said word) items r.1 in
-        rw (← p.1) (some_said word r.0 ∙ text-items_said word p.0) ] ]
+        rw (← p.1) (some_said word r.0 ∙ text-items_said word p.0)
+  ]
+]

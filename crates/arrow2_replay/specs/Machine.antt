@@ -5,6 +5,8 @@ use Rattle.arrow2_model.specs.Parts.{part, falses}
 use Rattle.arrow2_replay.specs.Lines.{lines_of, ended}
 use Rattle.arrow2_replay.specs.Words.{bits_text}
 use Rattle.arrow2_replay.specs.Commands.{command_in}
+use Rattle.arrow2_replay.specs.declared.refusal.Refusal.{Refusal}
+use Rattle.arrow2_replay.specs.declared.refusal.Refusal.TheVariants.{Syntax, Kind, Range, Overflow}
 use Rattle.arrow2_replay.specs.declared.command.Command.{Command}
 use Rattle.arrow2_replay.specs.declared.command.Command.TheVariants.{New, Push, Freeze, Copy, Slice, Count, Bits}
 
@@ -14,15 +16,8 @@ pub data Held : Type 0 where
   Frozen : List Bool → Held
   Growing : List Bool → Held
 
--- why a line is refused
-pub data Refused : Type 0 where
-  Syntax : Refused
-  Kind : Refused
-  Range : Refused
-  Overflow : Refused
-
 -- the reply to a line that is refused
-abbrev pub refused_text : Refused → List ℕ
+abbrev pub refused_text : Refusal → List ℕ
 refused_text Syntax = codes "error syntax"
 refused_text Kind = codes "error kind"
 refused_text Range = codes "error range"
@@ -30,7 +25,7 @@ refused_text Overflow = codes "error overflow"
 
 infixl 10 ◌>>=◌
 -- what a value leads to, unless it is refused
-abbrev pub ◌>>=◌ : {A B : Type 0} → Result A Refused → (A → Result B Refused) → Result B Refused
+abbrev pub ◌>>=◌ : {A B : Type 0} → Result A Refusal → (A → Result B Refusal) → Result B Refusal
 (Ok x) >>= f = f x
 (Err e) >>= f = Err e
 
@@ -39,55 +34,61 @@ abbrev pub at : List Held → ℕ → Held
 at slots s = slice_index_or slots s Nothing
 
 -- a list that grows
-abbrev pub growing : Held → Result (List Bool) Refused
+abbrev pub growing : Held → Result (List Bool) Refusal
 growing Nothing = Err Kind
 growing (Frozen items) = Err Kind
 growing (Growing items) = Ok items
 
 -- a frozen list
-abbrev pub frozen : Held → Result (List Bool) Refused
+abbrev pub frozen : Held → Result (List Bool) Refusal
 frozen Nothing = Err Kind
 frozen (Frozen items) = Ok items
 frozen (Growing items) = Err Kind
 
 -- a list of booleans, frozen or not
-abbrev pub listed : Held → Result (List Bool) Refused
+abbrev pub listed : Held → Result (List Bool) Refusal
 listed Nothing = Err Kind
 listed (Frozen items) = Ok items
 listed (Growing items) = Ok items
 
 -- what a slot holds after a bit is pushed to it: a length of 2 ^ 64 is too great
-abbrev pub pushed : Held → Bool → Result Held Refused
+abbrev pub pushed : Held → Bool → Result Held Refusal
 pushed held bit = do
   items ← growing held
   if length items == 2 ^ 64 - 1 then Err Overflow else Ok (Growing (items ++ bit ∷ []))
 
 -- what a slot holds after it is frozen
-abbrev pub froze : Held → Result Held Refused
+abbrev pub froze : Held → Result Held Refusal
 froze held = do
   items ← growing held
   Ok (Frozen items)
 
 -- what a copy of a slot holds
-abbrev pub copied : Held → Result Held Refused
+abbrev pub copied : Held → Result Held Refusal
 copied held = do
   items ← frozen held
   Ok (Frozen items)
 
 -- what a slot holds after it is cut to its n items from item i on
-abbrev pub sliced : Held → ℕ → ℕ → Result Held Refused
+abbrev pub sliced : Held → ℕ → ℕ → Result Held Refusal
 sliced held i n = do
   items ← frozen held
   if nat_lt (length items) (i + n) then Err Range else Ok (Frozen (part items i n))
 
 -- how many items of a slot are false
-abbrev pub counted : Held → Result ℕ Refused
+abbrev pub counted : Held → Result ℕ Refusal
 counted held = do
   items ← listed held
   Ok (falses items)
 
+-- the text of a slot's items
+abbrev pub item_text : Held → Result (List ℕ) Refusal
+item_text held = do
+  items ← listed held
+  Ok (bits_text items)
+
 -- the slots after a command, and its reply
-unfoldable pub outcome : List Held → Command → Result (List Held × List ℕ) Refused
+unfoldable pub outcome : List Held → Command → Result (List Held × List ℕ) Refusal
 outcome slots (New s bits) = Ok (slice_set slots s (Growing bits), codes "ok")
 outcome slots (Push s bit) = do
   held ← pushed (at slots s) bit
@@ -105,16 +106,16 @@ outcome slots (Count s) = do
   number ← counted (at slots s)
   Ok (slots, decimal number)
 outcome slots (Bits s) = do
-  items ← listed (at slots s)
-  Ok (slots, bits_text items)
+  said ← item_text (at slots s)
+  Ok (slots, said)
 
 -- a line that is refused changes nothing
-abbrev pub settled : List Held → Result (List Held × List ℕ) Refused → List Held × List ℕ
+abbrev pub settled : List Held → Result (List Held × List ℕ) Refusal → List Held × List ℕ
 settled slots (Ok after) = after
 settled slots (Err e) = (slots, refused_text e)
 
 -- what a line leads to: one that is no command is refused
-abbrev pub outcome_of : List Held → Option Command → Result (List Held × List ℕ) Refused
+abbrev pub outcome_of : List Held → Option Command → Result (List Held × List ℕ) Refusal
 outcome_of slots None = Err Syntax
 outcome_of slots (Some command) = outcome slots command
 

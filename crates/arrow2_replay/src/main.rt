@@ -4,6 +4,8 @@
 pub mod command;
 pub mod fault;
 pub mod lines;
+pub mod refusal;
+pub mod slot;
 pub mod streams;
 pub mod watched;
 pub mod words;

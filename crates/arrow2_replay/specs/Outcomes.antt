@@ -1,0 +1,24 @@
+-- What the program's steps answer, against the machine of lists.
+use Rattle.std.specs.Prelude.{◌≡◌, Result, Ok, Err, List, Bool}
+use Rattle.arrow2_model.specs.Storage.{items_of}
+use Rattle.arrow2_types.specs.declared.error.Error as bitmaps
+use Rattle.arrow2_types.specs.declared.error.Error.TheVariants as errors
+use Rattle.arrow2_replay.specs.declared.refusal.Refusal.{Refusal}
+use Rattle.arrow2_replay.specs.declared.refusal.Refusal.TheVariants.{Overflow}
+use Rattle.arrow2_replay.specs.declared.refusal.CommandError.{CommandError}
+use Rattle.arrow2_replay.specs.declared.refusal.CommandError.TheVariants.{Refused, OutOfMemory}
+
+-- the error of a command whose bitmap refused to grow
+abbrev pub command_error : bitmaps.Error → CommandError
+command_error errors.Overflow = Refused Overflow
+command_error _ = OutOfMemory
+
+-- the machine refuses for this reason, unless it was memory that was refused
+abbrev pub Fails : {Y : Type 0} → CommandError → Result Y Refusal → Type 0
+Fails OutOfMemory answer = Unit {0}
+Fails (Refused refusal) answer = answer ≡ Err refusal
+
+-- what was returned, seen by view, is what the machine answers, unless memory was refused
+abbrev pub Gives : {X Y : Type 0} → (X → Y) → Result X CommandError → Result Y Refusal → Type 0
+Gives view (Ok x) answer = answer ≡ Ok (view x)
+Gives view (Err e) answer = Fails e answer
