@@ -4,6 +4,7 @@
 pub mod command;
 pub mod fault;
 pub mod lines;
+pub mod machine;
 pub mod refusal;
 pub mod slot;
 pub mod streams;
