@@ -6,6 +6,7 @@ pub mod fault;
 pub mod lines;
 pub mod machine;
 pub mod refusal;
+pub mod replay;
 pub mod slot;
 pub mod streams;
 pub mod watched;

@@ -1,0 +1,53 @@
+//! A whole replay, from the bytes of a script to the bytes of its replies.
+ghost use Rattle.std.specs.Prelude.{◌≡◌, ◌≢◌, ◌<◌, ◌↔◌, ℕ, take, IfSome, IfErr, IfOk, OnOk, IsErrOf};
+ghost use Rattle.std.specs.Io.KnownBytes.{Appends, IsAtEnd};
+ghost use Rattle.arrow2_replay.specs.Machine.{text};
+
+use crate::fault::ReplayFault;
+use crate::lines::next_line;
+use crate::machine::Machine;
+use crate::streams::{read_all, write_all};
+use crate::watched::Watched;
+use std::alloc::{AllocError, Global};
+use std::io::{Read, Write};
+use std::sync::ledger::{Blank, Ledger};
+
+/// The replies to a script.
+#[tactic(auto, using(crate::proofs::MachineLemmas::running))]
+fn answer(alloc: Global, script: &[u8]) -> Result<Vec<u8>, AllocError>
+    ensures { IfOk result (λ reply. reply.items ≡ text script.now) }
+{
+    let mut machine = Machine::new();
+    let mut reply = Vec::new(alloc);
+    let mut rest = script;
+    'lines: while !rest.is_empty() {
+        let (line, others) = next_line(rest);
+        machine.answer(alloc, line, &mut reply)?;
+        rest = others;
+    }
+    Ok(reply)
+}
+
+/// Reads a whole script, computes every reply in memory, then writes the replies and flushes.
+///
+/// # Errors
+///
+/// `Read` exactly where a call of the reader failed, `Write` exactly where a call of the writer
+/// did, and `Memory` where a request for memory was refused. After `Read` and `Memory` nothing was
+/// written; after `Write` what was written is a beginning of the replies.
+pub fn replay<R: Read, W: Write, L: Ledger, M: Ledger>(
+    alloc: Global,
+    reader: &mut Watched<R, L>,
+    writer: &mut Watched<W, M>,
+) -> Result<(), ReplayFault>
+    ensures ok { OnOk result (IfSome (R.remaining reader.old.inner) (λ script. Appends (W.contents writer.old.inner) (W.contents writer.new.inner) (text script))) }
+    ensures end { OnOk result (IsAtEnd (R.remaining reader.new.inner)) }
+    ensures begins { IfSome (R.remaining reader.old.inner) (λ script. (n : ℕ) × Appends (W.contents writer.old.inner) (W.contents writer.new.inner) (take n (text script))) }
+    ensures untouched { IfErr result (λ e. e ≢ ReplayFault.Write → writer.new ≡ writer.old) }
+    ensures read { IsErrOf result ReplayFault.Read ↔ reader.old.failed < reader.new.failed }
+    ensures write { IsErrOf result ReplayFault.Write ↔ writer.old.failed < writer.new.failed }
+{
+    let script = read_all(alloc, reader)?;
+    let reply = answer(alloc, script.as_slice())?;
+    write_all(writer, reply.as_slice())
+}
