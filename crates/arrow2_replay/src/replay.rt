@@ -51,3 +51,30 @@ pub fn replay<R: Read, W: Write, L: Ledger, M: Ledger>(
     let reply = answer(alloc, script.as_slice())?;
     write_all(writer, reply.as_slice())
 }
+
+/// Replays over a reader and a writer that no one watches, and gives both back.
+///
+/// One call of [`replay`], with counts of its own, which its caller does not see.
+pub(crate) fn watch_and_replay<R: Read, W: Write, L: Ledger, M: Ledger>(
+    alloc: Global,
+    reader: R,
+    writer: W,
+    reads: Blank,
+    writes: Blank,
+) -> (R, W, Result<(), ReplayFault>)
+    requires read_name { reads.name ≡ L.name }
+    requires read_parts { reads.parts ≡ L.parts }
+    requires read_some { 0 < L.parts }
+    requires write_name { writes.name ≡ M.name }
+    requires write_parts { writes.parts ≡ M.parts }
+    requires write_some { 0 < M.parts }
+    ensures ok { OnOk result.2 (IfSome (R.remaining reader) (λ script. Appends (W.contents writer) (W.contents result.1) (text script))) }
+    ensures end { OnOk result.2 (IsAtEnd (R.remaining result.0)) }
+    ensures begins { IfSome (R.remaining reader) (λ script. (n : ℕ) × Appends (W.contents writer) (W.contents result.1) (take n (text script))) }
+    ensures untouched { IfErr result.2 (λ e. e ≢ ReplayFault.Write → result.1 ≡ writer) }
+{
+    let mut reader = Watched::<R, L>::new(reader, reads);
+    let mut writer = Watched::<W, M>::new(writer, writes);
+    let result = replay(alloc, &mut reader, &mut writer);
+    (reader.into_inner(), writer.into_inner(), result)
+}
