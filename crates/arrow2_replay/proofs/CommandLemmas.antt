@@ -9,9 +9,9 @@ use Rattle.std.proofs.lemmas.Slice.Eq.{bytes_eq-Decides}
 use Rattle.std.proofs.lemmas.Fmt.{decimal_nonempty}
 use Rattle.arrow2_replay.specs.Lines.{parts_of, words_of, is_blank}
 use Rattle.arrow2_replay.specs.Words.{number_of, slot_of, bit_of, bits_of, bit_byte, bits_text}
-use Rattle.arrow2_replay.specs.Commands.{◌>>=◌, one_of, two_of, three_of, new_of, push_of, freeze_of, copy_of, slice_of, count_of, bits_of_slot, named, command_of, command_in, command_words, Fits}
+use Rattle.arrow2_replay.specs.Commands.{◌>>=◌, one_of, two_of, three_of, new_of, push_of, pop_of, get_of, freeze_of, thaw_of, copy_of, slice_of, count_of, bits_of_slot, named, command_of, command_in, command_words, Fits}
 use Rattle.arrow2_replay.specs.declared.command.Command.{Command}
-use Rattle.arrow2_replay.specs.declared.command.Command.TheVariants.{New, Push, Freeze, Copy, Slice, Count, Bits}
+use Rattle.arrow2_replay.specs.declared.command.Command.TheVariants.{New, Push, Pop, Get, Freeze, Thaw, Copy, Slice, Count, Bits}
 use Rattle.arrow2_replay.proofs.WordLemmas.{choice, some_or_none, number_of-decimal, decimal-number_of, slot_of-decimal, decimal-slot_of, bit_of-byte, byte-bit_of, bits_of-text, text-bits_of, some_bytes}
 
 -- the parts of a chain that gave a value
@@ -95,6 +95,25 @@ bits_says words command e =
     let p = slot_alone Bits words command e in
     same_says (codes "bits") words (Bits p.0) command p.3 (p.1, ap (λ t. codes "bits" ∷ t) p.2)
 
+pop_says : (words : List (List ℕ)) (command : Command) → pop_of words ≡ Some command → Says (codes "pop") words command
+unfolding pop_of
+pop_says words command e =
+    let p = slot_alone Pop words command e in
+    same_says (codes "pop") words (Pop p.0) command p.3 (p.1, ap (λ t. codes "pop" ∷ t) p.2)
+
+thaw_says : (words : List (List ℕ)) (command : Command) → thaw_of words ≡ Some command → Says (codes "thaw") words command
+unfolding thaw_of
+thaw_says words command e =
+    let p = slot_alone Thaw words command e in
+    same_says (codes "thaw") words (Thaw p.0) command p.3 (p.1, ap (λ t. codes "thaw" ∷ t) p.2)
+
+get_says : (words : List (List ℕ)) (command : Command) → get_of words ≡ Some command → Says (codes "get") words command
+unfolding get_of
+get_says words command e =
+    let p = slot_then number_of Get words command e in
+    let index = decimal-number_of p.2 p.1 p.4 in
+    same_says (codes "get") words (Get p.0 p.1) command p.6 ((p.3, index.0), ap (λ t. codes "get" ∷ t) (p.5 ∙ ap (λ v. decimal p.0 ∷ v ∷ []) (sym index.1)))
+
 copy_says : (words : List (List ℕ)) (command : Command) → copy_of words ≡ Some command → Says (codes "copy") words command
 unfolding copy_of
 copy_says words command e =
@@ -128,12 +147,15 @@ unfolding named
 named_says name words command =
     at_name (codes "new") new_of new_says name words command _ (
     at_name (codes "push") push_of push_says name words command _ (
+    at_name (codes "pop") pop_of pop_says name words command _ (
+    at_name (codes "get") get_of get_says name words command _ (
     at_name (codes "freeze") freeze_of freeze_says name words command _ (
+    at_name (codes "thaw") thaw_of thaw_says name words command _ (
     at_name (codes "copy") copy_of copy_says name words command _ (
     at_name (codes "slice") slice_of slice_says name words command _ (
     at_name (codes "count") count_of count_says name words command _ (
     at_name (codes "bits") bits_of_slot bits_says name words command None (
-    λ e. absurd (none-some command e))))))))
+    λ e. absurd (none-some command e)))))))))))
 
 -- words that say a command are its words
 pub command_says : (words : List (List ℕ)) (command : Command) → command_of words ≡ Some command → Fits command × (words ≡ command_words command)
@@ -143,9 +165,12 @@ command_says (name ∷ words) command e = named_says name words command e
 
 -- the words of a command say it
 pub command_of-words : (command : Command) → Fits command → command_of (command_words command) ≡ Some command
-unfolding command_of named new_of push_of freeze_of copy_of slice_of count_of bits_of_slot
+unfolding command_of named new_of push_of pop_of get_of freeze_of thaw_of copy_of slice_of count_of bits_of_slot
 command_of-words (New slot bits) fits = rw (slot_of-decimal slot fits, bits_of-text bits) refl
 command_of-words (Push slot bit) fits = rw (slot_of-decimal slot fits, bit_of-byte bit) refl
+command_of-words (Pop slot) fits = rw (slot_of-decimal slot fits) refl
+command_of-words (Thaw slot) fits = rw (slot_of-decimal slot fits) refl
+command_of-words (Get slot index) fits = rw (slot_of-decimal slot fits.0, number_of-decimal index fits.1) refl
 command_of-words (Freeze slot) fits = rw (slot_of-decimal slot fits) refl
 command_of-words (Copy from to) fits = rw (slot_of-decimal from fits.0, slot_of-decimal to fits.1) refl
 command_of-words (Slice slot offset length) fits = rw (slot_of-decimal slot fits.0, number_of-decimal offset fits.1, number_of-decimal length fits.2) refl
@@ -167,6 +192,9 @@ text_there (item ∷ items) = some_bytes (bit_byte item) (map bit_byte items)
 words_there : (command : Command) → Fits command → list_any is_blank (command_words command) ≡ false
 words_there (New slot bits) fits = rw (slot_there slot fits, text_there bits) refl
 words_there (Push slot bit) fits = rw (slot_there slot fits) refl
+words_there (Pop slot) fits = rw (slot_there slot fits) refl
+words_there (Thaw slot) fits = rw (slot_there slot fits) refl
+words_there (Get slot index) fits = rw (slot_there slot fits.0, digits_there index fits.1) refl
 words_there (Freeze slot) fits = rw (slot_there slot fits) refl
 words_there (Copy from to) fits = rw (slot_there from fits.0, slot_there to fits.1) refl
 words_there (Slice slot offset length) fits = rw (slot_there slot fits.0, digits_there offset fits.1, digits_there length fits.2) refl

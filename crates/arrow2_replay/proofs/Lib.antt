@@ -1,4 +1,5 @@
 pub mod CommandLemmas
 pub mod LineLemmas
 pub mod MachineLemmas
+pub mod SlotLemmas
 pub mod WordLemmas

@@ -6,7 +6,7 @@ use Rattle.std.specs.Fmt.{decimal}
 use Rattle.arrow2_replay.specs.Lines.{words_of}
 use Rattle.arrow2_replay.specs.Words.{number_of, slot_of, bit_of, bits_of, bit_byte, bits_text}
 use Rattle.arrow2_replay.specs.declared.command.Command.{Command}
-use Rattle.arrow2_replay.specs.declared.command.Command.TheVariants.{New, Push, Freeze, Copy, Slice, Count, Bits}
+use Rattle.arrow2_replay.specs.declared.command.Command.TheVariants.{New, Push, Pop, Get, Freeze, Thaw, Copy, Slice, Count, Bits}
 
 infixl 10 ◌>>=◌
 -- what a value says, where there is one
@@ -50,12 +50,34 @@ push_of words = do
   bit ← bit_of said.1
   Some (Push slot bit)
 
+-- `pop s`
+unfoldable pub pop_of : List (List ℕ) → Option Command
+pop_of words = do
+  said ← one_of words
+  slot ← slot_of said
+  Some (Pop slot)
+
+-- `get s i`
+unfoldable pub get_of : List (List ℕ) → Option Command
+get_of words = do
+  said ← two_of words
+  slot ← slot_of said.0
+  index ← number_of said.1
+  Some (Get slot index)
+
 -- `freeze s`
 unfoldable pub freeze_of : List (List ℕ) → Option Command
 freeze_of words = do
   said ← one_of words
   slot ← slot_of said
   Some (Freeze slot)
+
+-- `thaw s`
+unfoldable pub thaw_of : List (List ℕ) → Option Command
+thaw_of words = do
+  said ← one_of words
+  slot ← slot_of said
+  Some (Thaw slot)
 
 -- `copy s d`
 unfoldable pub copy_of : List (List ℕ) → Option Command
@@ -93,7 +115,10 @@ unfoldable pub named : List ℕ → List (List ℕ) → Option Command
 named name words =
     if bytes_eq name (codes "new") then new_of words
     else if bytes_eq name (codes "push") then push_of words
+    else if bytes_eq name (codes "pop") then pop_of words
+    else if bytes_eq name (codes "get") then get_of words
     else if bytes_eq name (codes "freeze") then freeze_of words
+    else if bytes_eq name (codes "thaw") then thaw_of words
     else if bytes_eq name (codes "copy") then copy_of words
     else if bytes_eq name (codes "slice") then slice_of words
     else if bytes_eq name (codes "count") then count_of words
@@ -113,7 +138,10 @@ command_in line = command_of (words_of line)
 abbrev pub command_words : Command → List (List ℕ)
 command_words (New slot bits) = codes "new" ∷ decimal slot ∷ bits_text bits ∷ []
 command_words (Push slot bit) = codes "push" ∷ decimal slot ∷ (bit_byte bit ∷ []) ∷ []
+command_words (Pop slot) = codes "pop" ∷ decimal slot ∷ []
+command_words (Get slot index) = codes "get" ∷ decimal slot ∷ decimal index ∷ []
 command_words (Freeze slot) = codes "freeze" ∷ decimal slot ∷ []
+command_words (Thaw slot) = codes "thaw" ∷ decimal slot ∷ []
 command_words (Copy from to) = codes "copy" ∷ decimal from ∷ decimal to ∷ []
 command_words (Slice slot offset length) = codes "slice" ∷ decimal slot ∷ decimal offset ∷ decimal length ∷ []
 command_words (Count slot) = codes "count" ∷ decimal slot ∷ []
@@ -123,7 +151,10 @@ command_words (Bits slot) = codes "bits" ∷ decimal slot ∷ []
 abbrev pub Fits : Command → Type 0
 Fits (New slot bits) = slot < 16
 Fits (Push slot bit) = slot < 16
+Fits (Pop slot) = slot < 16
+Fits (Get slot index) = (slot < 16) × (index < 2 ^ 64)
 Fits (Freeze slot) = slot < 16
+Fits (Thaw slot) = slot < 16
 Fits (Copy from to) = (from < 16) × (to < 16)
 Fits (Slice slot offset length) = (slot < 16) × (offset < 2 ^ 64) × (length < 2 ^ 64)
 Fits (Count slot) = slot < 16

@@ -1,14 +1,14 @@
 -- The machine of lists that a script is told to.
-use Rattle.std.specs.Prelude.{ℕ, ◌+◌, ◌-◌, ◌^◌, ◌==◌, nat_lt, Bool, List, [], ◌∷◌, ◌++◌, length, slice_set, slice_index_or, replicate, codes, Option, Some, None, Result, Ok, Err, if◌then◌else◌}
+use Rattle.std.specs.Prelude.{ℕ, ◌+◌, ◌-◌, ◌^◌, ◌==◌, nat_lt, Bool, List, [], ◌∷◌, ◌++◌, length, slice_set, slice_index_or, slice_get, take, replicate, codes, Option, Some, None, Result, Ok, Err, if◌then◌else◌}
 use Rattle.std.specs.Fmt.{decimal}
 use Rattle.arrow2_model.specs.Parts.{part, falses}
 use Rattle.arrow2_replay.specs.Lines.{lines_of, ended}
-use Rattle.arrow2_replay.specs.Words.{bits_text}
+use Rattle.arrow2_replay.specs.Words.{bit_byte, bits_text}
 use Rattle.arrow2_replay.specs.Commands.{command_in}
 use Rattle.arrow2_replay.specs.declared.refusal.Refusal.{Refusal}
 use Rattle.arrow2_replay.specs.declared.refusal.Refusal.TheVariants.{Syntax, Kind, Range, Overflow}
 use Rattle.arrow2_replay.specs.declared.command.Command.{Command}
-use Rattle.arrow2_replay.specs.declared.command.Command.TheVariants.{New, Push, Freeze, Copy, Slice, Count, Bits}
+use Rattle.arrow2_replay.specs.declared.command.Command.TheVariants.{New, Push, Pop, Get, Freeze, Thaw, Copy, Slice, Count, Bits}
 
 -- what a slot holds: nothing, a frozen list of booleans, or one that grows
 pub data Held : Type 0 where
@@ -57,11 +57,34 @@ pushed held bit = do
   items ← growing held
   if length items == 2 ^ 64 - 1 then Err Overflow else Ok (Growing (items ++ bit ∷ []))
 
+-- the reply that tells an item, or that there is none
+abbrev pub item_said : Option Bool → List ℕ
+item_said None = codes "none"
+item_said (Some item) = bit_byte item ∷ []
+
+-- what a slot holds after its last item is taken off, and the reply that tells it
+abbrev pub popped : Held → Result (Held × List ℕ) Refusal
+popped held = do
+  items ← growing held
+  Ok (Growing (take (length items - 1) items), item_said (slice_get items (length items - 1)))
+
+-- the reply that tells item i of a slot
+abbrev pub got : Held → ℕ → Result (List ℕ) Refusal
+got held i = do
+  items ← listed held
+  Ok (item_said (slice_get items i))
+
 -- what a slot holds after it is frozen
 abbrev pub froze : Held → Result Held Refusal
 froze held = do
   items ← growing held
   Ok (Frozen items)
+
+-- what a slot holds after it is thawed
+abbrev pub thawed : Held → Result Held Refusal
+thawed held = do
+  items ← frozen held
+  Ok (Growing items)
 
 -- what a copy of a slot holds
 abbrev pub copied : Held → Result Held Refusal
@@ -93,8 +116,17 @@ outcome slots (New s bits) = Ok (slice_set slots s (Growing bits), codes "ok")
 outcome slots (Push s bit) = do
   held ← pushed (at slots s) bit
   Ok (slice_set slots s held, codes "ok")
+outcome slots (Pop s) = do
+  after ← popped (at slots s)
+  Ok (slice_set slots s after.0, after.1)
+outcome slots (Get s i) = do
+  said ← got (at slots s) i
+  Ok (slots, said)
 outcome slots (Freeze s) = do
   held ← froze (at slots s)
+  Ok (slice_set slots s held, codes "ok")
+outcome slots (Thaw s) = do
+  held ← thawed (at slots s)
   Ok (slice_set slots s held, codes "ok")
 outcome slots (Copy s d) = do
   held ← copied (at slots s)

@@ -1,6 +1,6 @@
 //! The commands of a script, and which one a line says.
 ghost use Rattle.std.specs.Prelude.{◌≡◌, option_map};
-ghost use Rattle.arrow2_replay.specs.Commands.{one_of, two_of, three_of, new_of, push_of, freeze_of, copy_of, slice_of, count_of, bits_of_slot, named, command_in};
+ghost use Rattle.arrow2_replay.specs.Commands.{one_of, two_of, three_of, new_of, push_of, pop_of, get_of, freeze_of, thaw_of, copy_of, slice_of, count_of, bits_of_slot, named, command_in};
 
 use crate::lines::Parts;
 use crate::words::{BitText, SlotIndex, bit, number};
@@ -12,8 +12,14 @@ pub enum Command<'a> {
     New(SlotIndex, BitText<'a>),
     /// `push s bit`: the growing bitmap of slot s gets one more item.
     Push(SlotIndex, bool),
+    /// `pop s`: the growing bitmap of slot s loses its last item.
+    Pop(SlotIndex),
+    /// `get s i`: item i of slot s.
+    Get(SlotIndex, u64),
     /// `freeze s`: the growing bitmap of slot s is frozen.
     Freeze(SlotIndex),
+    /// `thaw s`: the frozen bitmap of slot s grows again.
+    Thaw(SlotIndex),
     /// `copy s d`: slot d holds the same frozen bitmap as slot s.
     Copy(SlotIndex, SlotIndex),
     /// `slice s i n`: the frozen bitmap of slot s is cut to its n items from item i on.
@@ -76,12 +82,38 @@ fn read_push<'a>(parts: Parts<'a>) -> Option<Command<'a>>
     Some(Command::Push(slot, value))
 }
 
+#[tactic(auto, unfolding(crate::specs::Commands::pop_of))]
+fn read_pop<'a>(parts: Parts<'a>) -> Option<Command<'a>>
+    ensures { result ≡ pop_of parts.entry }
+{
+    let slot = SlotIndex::read(one(parts)?)?;
+    Some(Command::Pop(slot))
+}
+
+#[tactic(auto, unfolding(crate::specs::Commands::get_of))]
+fn read_get<'a>(parts: Parts<'a>) -> Option<Command<'a>>
+    ensures { result ≡ get_of parts.entry }
+{
+    let (slot, index) = two(parts)?;
+    let slot = SlotIndex::read(slot)?;
+    let index = number(index)?;
+    Some(Command::Get(slot, index))
+}
+
 #[tactic(auto, unfolding(crate::specs::Commands::freeze_of))]
 fn read_freeze<'a>(parts: Parts<'a>) -> Option<Command<'a>>
     ensures { result ≡ freeze_of parts.entry }
 {
     let slot = SlotIndex::read(one(parts)?)?;
     Some(Command::Freeze(slot))
+}
+
+#[tactic(auto, unfolding(crate::specs::Commands::thaw_of))]
+fn read_thaw<'a>(parts: Parts<'a>) -> Option<Command<'a>>
+    ensures { result ≡ thaw_of parts.entry }
+{
+    let slot = SlotIndex::read(one(parts)?)?;
+    Some(Command::Thaw(slot))
 }
 
 #[tactic(auto, unfolding(crate::specs::Commands::copy_of))]
@@ -130,8 +162,14 @@ fn read_named<'a>(name: &[u8], parts: Parts<'a>) -> Option<Command<'a>>
         read_new(parts)
     } else if name == b"push".as_slice() {
         read_push(parts)
+    } else if name == b"pop".as_slice() {
+        read_pop(parts)
+    } else if name == b"get".as_slice() {
+        read_get(parts)
     } else if name == b"freeze".as_slice() {
         read_freeze(parts)
+    } else if name == b"thaw".as_slice() {
+        read_thaw(parts)
     } else if name == b"copy".as_slice() {
         read_copy(parts)
     } else if name == b"slice".as_slice() {

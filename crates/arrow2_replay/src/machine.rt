@@ -1,12 +1,13 @@
 //! The machine: sixteen slots, and what a line does to them.
-ghost use Rattle.std.specs.Prelude.{◌≡◌, ◌≢◌, ◌++◌, List, OnOk, IfErr, IsOkAnd, replicate};
+ghost use Rattle.std.specs.Prelude.{◌≡◌, ◌≢◌, ◌++◌, OnOk, IfErr, IsOkAnd, replicate};
+ghost use Rattle.std.specs.Fmt.{decimal};
 ghost use Rattle.arrow2_replay.specs.Lines.{ended};
-ghost use Rattle.arrow2_replay.specs.Machine.{Held, Nothing, outcome, step};
+ghost use Rattle.arrow2_replay.specs.Machine.{Nothing, item_said, outcome, step};
 ghost use Rattle.arrow2_replay.specs.Outcomes.{Fails};
 
 use crate::command::{Command, parse};
 use crate::refusal::{CommandError, Refusal};
-use crate::slot::Slot;
+use crate::slot::{Slot, bit_byte};
 use std::alloc::{AllocError, Global};
 use std::array;
 use std::marker::Model;
@@ -51,15 +52,16 @@ impl Machine {
         match command {
             Command::New(slot, bits) => self.slots[slot.get()] = Slot::with_bits(alloc, &bits)?,
             Command::Push(slot, bit) => self.slots[slot.get()].push(bit)?,
+            Command::Pop(slot) => return write_item(self.slots[slot.get()].pop()?, reply),
+            Command::Get(slot, index) => return write_item(
+                self.slots[slot.get()].get(index)?,
+                reply,
+            ),
             Command::Freeze(slot) => self.slots[slot.get()].freeze()?,
+            Command::Thaw(slot) => self.slots[slot.get()].thaw()?,
             Command::Copy(from, to) => self.slots[to.get()] = self.slots[from.get()].copy()?,
             Command::Slice(slot, offset, length) => self.slots[slot.get()].slice(offset, length)?,
-            Command::Count(slot) => {
-                let number = self.slots[slot.get()].count()?;
-                let text = number.to_string(alloc)?;
-                reply.extend_from_slice(text.as_bytes())?;
-                return Ok(());
-            }
+            Command::Count(slot) => return write_number(self.slots[slot.get()].count()?, reply),
             Command::Bits(slot) => return self.slots[slot.get()].write_bits(reply),
         }
         reply.extend_from_slice(b"ok")?;
@@ -93,4 +95,26 @@ impl Machine {
         reply.push(b'\n')?;
         Ok(())
     }
+}
+
+/// Appends a number's digits.
+fn write_number(number: usize, reply: &mut Vec<u8>) -> Result<(), CommandError>
+    ensures ok { OnOk result (reply.new.items ≡ reply.old.items ++ decimal number) }
+    ensures only { IfErr result (λ e. e ≡ CommandError.OutOfMemory) }
+{
+    let text = number.to_string(*reply.allocator())?;
+    reply.extend_from_slice(text.as_bytes())?;
+    Ok(())
+}
+
+/// Appends the reply that tells an item, or that there is none.
+fn write_item(item: Option<bool>, reply: &mut Vec<u8>) -> Result<(), CommandError>
+    ensures ok { OnOk result (reply.new.items ≡ reply.old.items ++ item_said item) }
+    ensures only { IfErr result (λ e. e ≡ CommandError.OutOfMemory) }
+{
+    match item {
+        Some(item) => reply.push(bit_byte(item))?,
+        None => reply.extend_from_slice(b"none")?,
+    }
+    Ok(())
 }

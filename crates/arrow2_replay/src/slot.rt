@@ -1,8 +1,8 @@
 //! A slot of the machine, and what each command does to it.
-ghost use Rattle.std.specs.Prelude.{◌≡◌, ◌≢◌, ◌++◌, ◌+◌, ◌≤◌, ◌↔◌, length as count_of, IsOk, OnOk, OnErr, IfErr, IfOk, IsOkAnd};
+ghost use Rattle.std.specs.Prelude.{◌≡◌, ◌≢◌, ◌++◌, ◌+◌, ◌≤◌, ◌↔◌, slice_get, length as count_of, IsOk, OnOk, OnErr, IfErr, IfOk, IsOkAnd};
 ghost use Rattle.arrow2_model.specs.Parts.{part};
 ghost use Rattle.arrow2_model.specs.Storage.{items_of};
-ghost use Rattle.arrow2_replay.specs.Machine.{Nothing, Growing, pushed, froze, copied, sliced, counted, item_text};
+ghost use Rattle.arrow2_replay.specs.Machine.{Nothing, Growing, pushed, popped, got, froze, thawed, copied, sliced, counted, item_said, item_text};
 ghost use Rattle.arrow2_replay.specs.Outcomes.{Gives, Fails};
 ghost use Rattle.arrow2_replay.specs.Words.{bit_byte as byte_of, bits_text, items_said};
 
@@ -111,6 +111,39 @@ impl Slot {
         }
     }
 
+    /// Takes the last item off a growing bitmap, and gives it back where there is one.
+    ///
+    /// # Errors
+    ///
+    /// `Kind` alone, which changes nothing.
+    #[tactic(auto, using(crate::proofs::SlotLemmas::popping))]
+    pub fn pop(&mut self) -> Result<Option<bool>, CommandError>
+        ensures gives { Gives (λ item. (self.new, item_said item)) result (popped self.old) }
+        ensures err { OnErr result (self.new ≡ self.old) }
+        ensures only { IfErr result (λ e. e ≢ CommandError.OutOfMemory) }
+    {
+        match &mut self.contents {
+            Contents::Growing(bitmap) => Ok(bitmap.pop()),
+            _ => Err(CommandError::Refused(Refusal::Kind)),
+        }
+    }
+
+    /// Item `index` of a bitmap, where there is one.
+    ///
+    /// # Errors
+    ///
+    /// `Kind` alone.
+    pub fn get(&self, index: u64) -> Result<Option<bool>, CommandError>
+        ensures gives { Gives (λ item. item_said item) result (got self.now index) }
+        ensures only { IfErr result (λ e. e ≢ CommandError.OutOfMemory) }
+    {
+        match &self.contents {
+            Contents::Nothing => Err(CommandError::Refused(Refusal::Kind)),
+            Contents::Frozen(bitmap) => Ok(bitmap.get(index as usize)),
+            Contents::Growing(bitmap) => Ok(item_at(bitmap, index)),
+        }
+    }
+
     /// Freezes a growing bitmap.
     ///
     /// # Errors
@@ -123,6 +156,27 @@ impl Slot {
         match mem::replace(&mut self.contents, Contents::Nothing) {
             Contents::Growing(bitmap) => {
                 self.contents = Contents::Frozen(Bitmap::try_from(bitmap)?);
+                Ok(())
+            }
+            other => {
+                self.contents = other;
+                Err(CommandError::Refused(Refusal::Kind))
+            }
+        }
+    }
+
+    /// Lets a frozen bitmap grow again.
+    ///
+    /// # Errors
+    ///
+    /// `Kind`, which changes nothing, or `OutOfMemory`, which leaves nothing in the slot.
+    pub fn thaw(&mut self) -> Result<(), CommandError>
+        ensures gives { Gives (λ _. self.new) result (thawed self.old) }
+        ensures err { IfErr result (λ e. e ≢ CommandError.OutOfMemory → self.new ≡ self.old) }
+    {
+        match mem::replace(&mut self.contents, Contents::Nothing) {
+            Contents::Frozen(bitmap) => {
+                self.contents = Contents::Growing(bitmap.make_mut()?);
                 Ok(())
             }
             other => {
@@ -199,8 +253,20 @@ impl Slot {
     }
 }
 
+/// Item `index` of a growing bitmap, where there is one.
+#[tactic(auto, using(std::proofs::lemmas::Option::gets))]
+fn item_at(bitmap: &MutableBitmap, index: u64) -> Option<bool>
+    ensures { result ≡ slice_get bitmap.now.items index }
+{
+    if index < bitmap.len() as u64 {
+        Some(bitmap.get(index as usize))
+    } else {
+        None
+    }
+}
+
 /// The byte of a bit in a text of bits.
-fn bit_byte(bit: bool) -> u8
+pub fn bit_byte(bit: bool) -> u8
     ensures { result ≡ byte_of bit }
 {
     if bit { b'1' } else { b'0' }

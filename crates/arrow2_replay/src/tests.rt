@@ -90,7 +90,7 @@ const FIRST_REPLIES: &[u8] = b"ok\nok\nok\nok\nok\n0110\n2\n101101\n";
 
 #[test]
 fn scripts(rt: HostRuntime) -> Result<(), Fail> {
-    let rows: [(&[u8], &[u8]); 8] = [
+    let rows: [(&[u8], &[u8]); 9] = [
         (FIRST, FIRST_REPLIES),
         (
             b"new 0 -\npush 0 1\nfreeze 0\npush 0 0\nslice 0 1 1\nslice 0 1 0\nbits 0\ncount 3\n",
@@ -105,7 +105,11 @@ fn scripts(rt: HostRuntime) -> Result<(), Fail> {
         ),
         (b"slice 0 9 9\n", b"error kind\n"),
         (
-            b" new 0 1\nnew  0 1\nnew 0 1 \nnew 0\nnew 0 1 1\npop 0\ncount +1\n\nbits 0\n",
+            b"new 0 -\npop 0\npush 0 1\nget 0 0\nget 0 1\nfreeze 0\nslice 0 1 0\nbits 0\nthaw 0\npush 0 0\nbits 0\nget 0 00\n",
+            b"ok\nnone\nok\n1\nnone\nok\nok\n-\nok\nok\n0\nerror syntax\n",
+        ),
+        (
+            b" new 0 1\nnew  0 1\nnew 0 1 \nnew 0\nnew 0 1 1\nset 0 0 1\ncount +1\n\nbits 0\n",
             b"error syntax\nerror syntax\nerror syntax\nerror syntax\nerror syntax\nerror syntax\nerror syntax\nerror syntax\nerror kind\n",
         ),
     ];
