@@ -7,6 +7,7 @@ ghost use Rattle.arrow2_model.specs.Parts.{part, falses};
 
 pub mod chunk_iterator;
 mod chunks;
+pub mod fmt;
 pub mod iterator;
 
 /// Whether bit `i` of the byte is set. Asks that `i` is below 8.

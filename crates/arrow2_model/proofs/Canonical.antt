@@ -1,16 +1,15 @@
 -- Bytes that hold so many bits and nothing behind them.
-use Rattle.std.proofs.Common.{◌≡◌, ◌≢◌, inl, inr, ℕ, zero, suc, ◌+◌, ◌-◌, ◌*◌, ◌/◌, ◌%◌, ◌^◌, ◌<◌, ◌≤◌, ◌==◌, List, [], ◌∷◌, ◌++◌, Bool, true, false, cond, take, drop, replicate, length, get_or, set, refl, ap, sym, ◌∙◌, arith, subst, w8}
-use Rattle.std.specs.Prelude.{bit_or, bit_and}
+use Rattle.std.proofs.Common.{◌≡◌, ◌≢◌, inl, inr, ℕ, zero, suc, ◌+◌, ◌-◌, ◌*◌, ◌/◌, ◌%◌, ◌^◌, ◌<◌, ◌≤◌, ◌==◌, List, [], ◌∷◌, ◌++◌, Bool, true, false, take, drop, replicate, length, get_or, set, refl, ap, sym, ◌∙◌, arith, subst, w8}
+use Rattle.std.specs.Prelude.{bit_or}
 use Rattle.std.specs.Int.{div_ceil, from_bool}
 use Rattle.std.proofs.lemmas.Bool.{cases_lt, cases_eq}
 use Rattle.std.proofs.lemmas.Nat.{shr_split, pow_pos}
 use Rattle.std.proofs.lemmas.Nat.Bits.{bit_at_above, bit_at_cat_low}
 use Rattle.std.specs.Int.{bit_at}
 use Rattle.std.specs.Int.Bits.{or_zero_r}
-use Rattle.std.proofs.lemmas.List.{length-append, length-set, length-take, length-take-le, get_or_append_left, get_or-append_right, get_or-set_same, get_or-set_other, get_or-take, get_or_past, ext_get_or, take_all, take-append-le, take_more, take_more_set, append-nil, take-append-drop}
-use Rattle.std.proofs.Math.Nat.{pow-le-pow_right, mod-lt}
-use Rattle.std.proofs.lemmas.Simd.{mask_l-lt}
-use Rattle.arrow2_model.specs.Bits.{bit, unnum, bits, num}
+use Rattle.std.proofs.lemmas.List.{length-append, length-set, length-take, length-take-le, get_or-append_right, get_or-set_same, get_or-set_other, get_or-take, get_or_past, ext_get_or, take-append-le, take_more, take_more_set, append-nil, take-append-drop}
+use Rattle.std.proofs.Math.Nat.{mod-lt}
+use Rattle.arrow2_model.specs.Bits.{bit, unnum, bits}
 use Rattle.arrow2_model.specs.Parts.{part}
 use Rattle.arrow2_model.specs.Words.{words}
 use Rattle.arrow2_model.specs.Canonical.{canonical_bytes, IsCanonical}
@@ -80,18 +79,17 @@ pushed_byte bytes n b v canonical whole is fits =
     let tail : List Bool = v ∷ replicate 7 false in
     let e : bits (bytes ++ b ∷ []) ≡ bits bytes ++ tail = bits-push bytes b ∙ ap (λ t. bits bytes ++ t) (ap (unnum 8) is ∙ unnum-from_bool v) in
     let a = length-append bytes (b ∷ []) in
-    let c = length-append (bits bytes) tail in
-    (
+    let c = length-append (bits bytes) tail in (
       record {
         fits = fits;
         exact = omega (arith, a, canonical.exact);
         clear = λ k h. ap (λ t. get_or t k false) e ∙ (get_or-append_right (bits bytes) tail n k false m (omega arith) ∙
-          (let s : k - n ≡ suc (k - n - 1) = omega arith in rw s (get_or-falses 7 (k - n - 1))));
+            (let s : k - n ≡ suc (k - n - 1) = omega arith in rw s (get_or-falses 7 (k - n - 1))));
       },
       ap (take (n + 1)) e ∙ (take_more (bits bytes ++ tail) n false (omega (arith, c, m)) ∙
-      (let front : take n (bits bytes ++ tail) ≡ take n (bits bytes) = take-append-le n (bits bytes) tail (omega (arith, m)) in
-      let last : get_or (bits bytes ++ tail) n false ≡ v = get_or-append_right (bits bytes) tail n n false m (omega arith) ∙ (let z : n - n ≡ 0 = omega arith in rw z refl) in
-      rw (front, last) refl)),
+          (let front : take n (bits bytes ++ tail) ≡ take n (bits bytes) = take-append-le n (bits bytes) tail (omega (arith, m)) in
+          let last : get_or (bits bytes ++ tail) n false ≡ v = get_or-append_right (bits bytes) tail n n false m (omega arith) ∙ (let z : n - n ≡ 0 = omega arith in rw z refl) in
+          rw (front, last) refl)),
     )
 
 -- `x | v << k`, where the place was false
@@ -115,8 +113,7 @@ pushed_bit bytes n b v canonical some is fits =
     let j< : n / 8 < length bytes = omega (arith, canonical.exact) in
     let clear : bit (get_or bytes (n / 8) 0) (n % 8) ≡ false = sym (get_or-bits_at bytes n false (omega arith)) ∙ canonical.clear n (omega arith) in
     let byte : unnum 8 b ≡ set (unnum 8 (get_or bytes (n / 8) 0)) (n % 8) v = ap (unnum 8) is ∙ unnum-or_bool (get_or bytes (n / 8) 0) (n % 8) v (omega arith) clear in
-    let e : bits (set bytes (n / 8) b) ≡ set (bits bytes) n v = bits-set bytes (n / 8) (n % 8) n b v j< (omega arith) (omega arith) byte in
-    (
+    let e : bits (set bytes (n / 8) b) ≡ set (bits bytes) n v = bits-set bytes (n / 8) (n % 8) n b v j< (omega arith) (omega arith) byte in (
       record {
         fits = fits;
         exact = omega (arith, s, canonical.exact);
@@ -138,11 +135,10 @@ pub cut_whole : (bytes : List ℕ) (n : ℕ) → n ≤ 8 * length bytes → n % 
 cut_whole bytes n h whole fits =
     let m : ℕ = (n + 7) / 8 in
     let t = length-take-le m bytes (omega arith) in
-    let l = length-bits (take m bytes) in
-    (
+    let l = length-bits (take m bytes) in (
       record { fits = fits; exact = t; clear = λ k g. get_or_past (bits (take m bytes)) k false (omega (arith, l, t)) },
       let e = ap bits (take-append-drop m bytes) in
-      sym (ap (take n) (sym e ∙ bits-append (take m bytes) (drop m bytes)) ∙ take-append-le n (bits (take m bytes)) (bits (drop m bytes)) (omega (arith, l, t))),
+          sym (ap (take n) (sym e ∙ bits-append (take m bytes) (drop m bytes)) ∙ take-append-le n (bits (take m bytes)) (bits (drop m bytes)) (omega (arith, l, t))),
     )
 
 -- the same where n ends within a byte, whose higher bits are cleared
@@ -158,22 +154,21 @@ cut_within bytes n b h some is fits =
     let lb = length-bits bytes in
     let j< : j < length front = omega (arith, t) in
     let same : (k : ℕ) → k < n → get_or (bits after) k false ≡ get_or (bits bytes) k false =
-        λ k k<. get_or-bits_at after k false (omega (arith, s, t)) ∙ (elim (cases_eq (k / 8) j) [
-          | inl e ↦ rw e (ap (λ x. bit x (k % 8)) (get_or-set_same front j b 0 j< ∙ is) ∙ (bit-low (get_or front j 0) (n % 8) (k % 8) (omega arith) ∙
-            ap (λ x. bit x (k % 8)) (get_or-take m bytes j 0 (omega arith))))
-          | inr e ↦ ap (λ x. bit x (k % 8)) (get_or-set_other front j (k / 8) b 0 e ∙ get_or-take m bytes (k / 8) 0 (omega arith))
-        ] ∙ sym (get_or-bits_at bytes k false (omega arith))) in
+    λ k k<. get_or-bits_at after k false (omega (arith, s, t)) ∙ (elim (cases_eq (k / 8) j) [
+      | inl e ↦ rw e (ap (λ x. bit x (k % 8)) (get_or-set_same front j b 0 j< ∙ is) ∙ (bit-low (get_or front j 0) (n % 8) (k % 8) (omega arith) ∙
+          ap (λ x. bit x (k % 8)) (get_or-take m bytes j 0 (omega arith))))
+      | inr e ↦ ap (λ x. bit x (k % 8)) (get_or-set_other front j (k / 8) b 0 e ∙ get_or-take m bytes (k / 8) 0 (omega arith))
+    ] ∙ sym (get_or-bits_at bytes k false (omega arith))) in
     let cut : (k : ℕ) → n ≤ k → get_or (bits after) k false ≡ false =
-        λ k k≥. elim (cases_lt k (8 * length after)) [
-          | inl lt ↦ let e : k / 8 ≡ j = omega (arith, s, t) in get_or-bits_at after k false lt ∙ (rw e (ap (λ x. bit x (k % 8)) (get_or-set_same front j b 0 j< ∙ is) ∙ bit-high (get_or front j 0) (n % 8) (k % 8) (omega arith)))
-          | inr ge ↦ get_or_past (bits after) k false (omega (arith, la))
-        ] in
+    λ k k≥. elim (cases_lt k (8 * length after)) [
+      | inl lt ↦ let e : k / 8 ≡ j = omega (arith, s, t) in get_or-bits_at after k false lt ∙ (rw e (ap (λ x. bit x (k % 8)) (get_or-set_same front j b 0 j< ∙ is) ∙ bit-high (get_or front j 0) (n % 8) (k % 8) (omega arith)))
+      | inr ge ↦ get_or_past (bits after) k false (omega (arith, la))
+    ] in
     let na = length-take-le n (bits after) (omega (arith, la, s, t)) in
-    let nb = length-take-le n (bits bytes) (omega (arith, lb)) in
-    (
+    let nb = length-take-le n (bits bytes) (omega (arith, lb)) in (
       record { fits = fits; exact = omega (arith, s, t); clear = cut },
       ext_get_or false (take n (bits after)) (take n (bits bytes)) (na ∙ sym nb)
-      (λ k k<. let lt : k < n = omega (arith, na) in get_or-take n (bits after) k false lt ∙ (same k lt ∙ sym (get_or-take n (bits bytes) k false lt))),
+          (λ k k<. let lt : k < n = omega (arith, na) in get_or-take n (bits after) k false lt ∙ (same k lt ∙ sym (get_or-take n (bits bytes) k false lt))),
     )
 
 -- ---- the bytes tell the list

@@ -7,7 +7,7 @@ use Rattle.std.proofs.lemmas.Bool.{cases_lt, le-ltb}
 use Rattle.std.proofs.lemmas.Bool.Decides.{nat_tests}
 use Rattle.std.proofs.lemmas.Int.{to_z_pos, to_z-of_z}
 use Rattle.std.proofs.Math.Nat.{div-div-eq-div-mul, div-one, mod-eq_of_lt, mod-lt, mul-add, mul_assoc, mul_comm, mul_left_comm, one-le-pow, pow-suc, pow-succ'}
-use Rattle.std.proofs.lemmas.List.{reverse-append, length-reverse, reverse-reverse, get_or-reverse, get_or_past, get_or-take, get_or-drop, take-take, length-append, length-drop, append_assoc, drop-drop, take-append-drop,  length-take, take_more, take_all}
+use Rattle.std.proofs.lemmas.List.{reverse-append, length-reverse, reverse-reverse, get_or-reverse, get_or_past, get_or-take, get_or-drop, take-take, length-append, length-drop, append_assoc, drop-drop, take-append-drop, length-take, take_more, take_all}
 use mir.Val.{bits as width_bits, hbits}
 use Rattle.arrow2_model.specs.Digits.{residue, low_digits, digits, digits_number, natural_from, centred, integer_from}
 

@@ -7,6 +7,7 @@ pub mod Digits
 pub mod Merged
 pub mod Numbers
 pub mod Parts
+pub mod Shown
 pub mod Walks
 pub mod Words
 pub mod Words256

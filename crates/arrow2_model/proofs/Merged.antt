@@ -1,12 +1,12 @@
 -- Words at a bit offset: merged from two words, and padded with zeros.
-use Rattle.std.proofs.Common.{◌≡◌, ℕ, zero, suc, ◌+◌, ◌-◌, ◌*◌, ◌/◌, ◌%◌, ◌^◌, ◌<◌, ◌≤◌, ◌||◌, List, [], ◌∷◌, ◌++◌, Bool, true, false, cond, take, drop, replicate, length, get_or, refl, ap, sym, ◌∙◌, inl, inr, arith}
+use Rattle.std.proofs.Common.{◌≡◌, ℕ, zero, suc, ◌+◌, ◌-◌, ◌*◌, ◌<◌, ◌≤◌, ◌||◌, List, ◌++◌, Bool, true, false, take, drop, replicate, length, get_or, refl, ap, sym, ◌∙◌, inl, inr, arith}
 use lib.Lanes.{zip2}
 use Rattle.std.proofs.lemmas.Bool.{cases_lt}
 use Rattle.std.proofs.lemmas.List.{length-append, length-drop, length-take-le, length-replicate, get_or-drop, get_or-take, get_or-replicate, get_or_append_left, get_or-append_right, get_or_past, ext_get_or}
 use Rattle.std.proofs.lemmas.Simd.{length-zip2, get_or-zip2}
-use Rattle.arrow2_model.specs.Bits.{bit, unnum, bits, num}
+use Rattle.arrow2_model.specs.Bits.{bits, num}
 use Rattle.arrow2_model.specs.Parts.{part}
-use Rattle.arrow2_model.proofs.Bits.{bits-append, length-bits}
+use Rattle.arrow2_model.proofs.Bits.{bits-append}
 use Rattle.arrow2_model.proofs.Bytes.{bits-zeros}
 use Rattle.arrow2_model.proofs.Numbers.{bit-num, num-part-lt, same_from_bits}
 use Rattle.arrow2_model.proofs.Parts.{get_or-part, length-part}
@@ -28,14 +28,14 @@ merged items low high w s s<8 w8 h h' is-low is-high =
     (λ i i<.
     let i<w : i < w = omega (arith, lz, ld) in
     let one : i + s < w → get_or down i false ≡ get_or items (s + i) false =
-        λ lt'. get_or_append_left (drop s low) (replicate s false) false i (omega (arith, length-drop s low, ll)) ∙ (get_or-drop s low i false ∙ (ap (λ l. get_or l (s + i) false) is-low ∙ (get_or-part items 0 w (s + i) false (omega arith) ∙ ap (λ k. get_or items k false) (omega arith)))) in
+    λ lt'. get_or_append_left (drop s low) (replicate s false) false i (omega (arith, length-drop s low, ll)) ∙ (get_or-drop s low i false ∙ (ap (λ l. get_or l (s + i) false) is-low ∙ (get_or-part items 0 w (s + i) false (omega arith) ∙ ap (λ k. get_or items k false) (omega arith)))) in
     let none : w ≤ i + s → get_or down i false ≡ false =
-        λ ge. get_or-append_right (drop s low) (replicate s false) (w - s) i false (omega (arith, length-drop s low, ll)) (omega arith) ∙ get_or-replicate s (i - (w - s)) false false (omega arith) in
+    λ ge. get_or-append_right (drop s low) (replicate s false) (w - s) i false (omega (arith, length-drop s low, ll)) (omega arith) ∙ get_or-replicate s (i - (w - s)) false false (omega arith) in
     let two : 8 - s ≤ i → get_or up i false ≡ get_or items (s + i) false =
-        λ ge. get_or-append_right (replicate (8 - s) false) (take (w - (8 - s)) high) (8 - s) i false (length-replicate (8 - s) false) ge ∙
-        (get_or-take (w - (8 - s)) high (i - (8 - s)) false (omega arith) ∙ (ap (λ l. get_or l (i - (8 - s)) false) is-high ∙ (get_or-part items 8 w (i - (8 - s)) false (omega arith) ∙ ap (λ k. get_or items k false) (omega arith)))) in
+    λ ge. get_or-append_right (replicate (8 - s) false) (take (w - (8 - s)) high) (8 - s) i false (length-replicate (8 - s) false) ge ∙
+    (get_or-take (w - (8 - s)) high (i - (8 - s)) false (omega arith) ∙ (ap (λ l. get_or l (i - (8 - s)) false) is-high ∙ (get_or-part items 8 w (i - (8 - s)) false (omega arith) ∙ ap (λ k. get_or items k false) (omega arith)))) in
     let zero' : i < 8 - s → get_or up i false ≡ false =
-        λ lt'. get_or_append_left (replicate (8 - s) false) (take (w - (8 - s)) high) false i (omega (arith, length-replicate (8 - s) false)) ∙ get_or-replicate (8 - s) i false false lt' in
+    λ lt'. get_or_append_left (replicate (8 - s) false) (take (w - (8 - s)) high) false i (omega (arith, length-replicate (8 - s) false)) ∙ get_or-replicate (8 - s) i false false lt' in
     get_or-zip2 f down up i false false false (omega (arith, ld)) (omega (arith, lu)) ∙
     (elim (cases_lt (i + s) w) [
       | inl a ↦ elim (cases_lt i (8 - s)) [
@@ -48,6 +48,7 @@ merged items low high w s s<8 w8 h h' is-low is-high =
     or_false : (b : Bool) → (b || false) ≡ b
     or_false true = refl
     or_false false = refl
+
     or_same : (b : Bool) → (b || b) ≡ b
     or_same true = refl
     or_same false = refl

@@ -1,6 +1,5 @@
 -- Lists of booleans and their numbers.
-use Rattle.std.proofs.Common.{◌≡◌, ◌≢◌, ◌⊎◌, inl, inr, ℕ, zero, suc, ◌+◌, ◌-◌, ◌*◌, ◌/◌, ◌%◌, ◌^◌, ◌<◌, ◌≤◌, ◌==◌, List, [], ◌∷◌, ◌++◌, Bool, true, false, cond, not, map, take, drop, length, get_or, set, refl, ap, sym, ◌∙◌, arith, subst, rules, min}
-use Rattle.std.proofs.lemmas.Grind.{common_steps}
+use Rattle.std.proofs.Common.{◌≡◌, ℕ, zero, suc, ◌+◌, ◌*◌, ◌/◌, ◌%◌, ◌^◌, ◌<◌, ◌≤◌, ◌==◌, List, [], ◌∷◌, Bool, true, false, cond, drop, length, get_or, refl, ap, sym, ◌∙◌, arith}
 use Rattle.std.proofs.lemmas.Simd.{bit_mask_l, mask_l-lt}
 use Rattle.std.proofs.lemmas.List.{length-take, ext_get_or}
 use Rattle.std.proofs.Math.Nat.{pow-suc, pow-le-pow_right}
@@ -35,7 +34,7 @@ same_from_bits w x y x< y< same =
     let m = length-unnum w x in
     let n = length-unnum w y in
     let lists : unnum w x ≡ unnum w y = ext_get_or false (unnum w x) (unnum w y) (m ∙ sym n)
-        (λ i h. get_or-unnum w x i false (omega (arith, m)) ∙ (same i (omega (arith, m)) ∙ sym (get_or-unnum w y i false (omega (arith, m))))) in
+    (λ i h. get_or-unnum w x i false (omega (arith, m)) ∙ (same i (omega (arith, m)) ∙ sym (get_or-unnum w y i false (omega (arith, m))))) in
     sym (num-unnum w x x<) ∙ (ap num lists ∙ num-unnum w y y<)
 
 -- the number of at most w items is below 2 ^ w

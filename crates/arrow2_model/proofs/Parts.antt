@@ -1,6 +1,5 @@
 -- Parts of lists.
-use Rattle.std.proofs.Common.{◌≡◌, ◌≢◌, ◌⊎◌, inl, inr, ℕ, zero, suc, ◌+◌, ◌-◌, ◌*◌, ◌/◌, ◌%◌, ◌^◌, ◌<◌, ◌≤◌, ◌==◌, List, [], ◌∷◌, ◌++◌, Bool, true, false, cond, not, map, take, drop, length, get_or, set, refl, ap, sym, ◌∙◌, arith, subst, rules, min}
-use Rattle.std.proofs.lemmas.Grind.{common_steps}
+use Rattle.std.proofs.Common.{◌≡◌, inl, inr, ℕ, ◌+◌, ◌-◌, ◌<◌, ◌≤◌, List, [], ◌∷◌, ◌++◌, Bool, take, drop, length, get_or, ap, ◌∙◌, arith, rules, min}
 use Rattle.std.proofs.lemmas.List.{places, take_more, get_or-drop, get_or-take, length-drop, drop-take, take-take, drop-drop, take_all, length-take}
 use Rattle.std.proofs.Math.Seq.{take-add}
 use Rattle.std.proofs.lemmas.Bool.{cases_lt}

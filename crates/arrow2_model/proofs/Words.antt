@@ -1,9 +1,8 @@
 -- Words of a list.
-use Rattle.std.proofs.Common.{◌≡◌, ◌≢◌, ◌⊎◌, inl, inr, ℕ, zero, suc, ◌+◌, ◌-◌, ◌*◌, ◌/◌, ◌%◌, ◌^◌, ◌<◌, ◌≤◌, ◌==◌, List, [], ◌∷◌, ◌++◌, Bool, true, false, cond, not, map, take, drop, length, get_or, set, refl, ap, sym, ◌∙◌, arith, subst, rules, min}
-use Rattle.std.proofs.lemmas.Grind.{common_steps}
+use Rattle.std.proofs.Common.{◌≡◌, ℕ, zero, suc, ◌+◌, ◌-◌, ◌*◌, ◌/◌, ◌<◌, ◌≤◌, List, [], ◌∷◌, Bool, take, drop, length, get_or, refl, ap, sym, ◌∙◌, arith}
 use Rattle.std.specs.Int.{div_ceil}
 use Rattle.std.proofs.lemmas.List.FromFn.{length-map-range_with_len, get_or-map-range_with_len}
-use Rattle.arrow2_model.specs.Bits.{bit, unnum, bits, num}
+use Rattle.arrow2_model.specs.Bits.{num}
 use Rattle.arrow2_model.specs.Parts.{part}
 use Rattle.arrow2_model.specs.Words.{words, full_words, rest}
 use Rattle.std.proofs.Math.Nat.{div-eq_of_lt, div-eq-sub-div, mul-suc, mul-add, mul-zero}

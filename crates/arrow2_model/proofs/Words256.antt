@@ -1,5 +1,5 @@
 -- Numbers of 256 bits in two words.
-use Rattle.std.proofs.Common.{◌≡◌, ℕ, zero, suc, ◌+◌, ◌-◌, ◌*◌, ◌/◌, ◌%◌, ◌^◌, ◌<◌, ◌≤◌, List, [], ◌∷◌, ◌++◌, length, take, drop, slice_index, reverse, refl, ap, sym, ◌∙◌, arith, rules, inl, inr}
+use Rattle.std.proofs.Common.{◌≡◌, ℕ, zero, suc, ◌+◌, ◌-◌, ◌*◌, ◌/◌, ◌%◌, ◌^◌, ◌<◌, List, ◌∷◌, ◌++◌, length, take, drop, slice_index, reverse, refl, ap, sym, ◌∙◌, arith}
 use Rattle.std.specs.Prelude.{ℤ, pos, negsuc, ◌+ℤ◌, ◌-ℤ◌, ◌*ℤ◌, neg_ℤ, ◌&&◌, ◌≢◌, ◌==◌, FitsSigned}
 use Rattle.std.specs.Int.{cast_unsigned, cast_signed, w128, int_wrapping_neg}
 use Rattle.std.proofs.lemmas.Int.{ints, to_z-of_z}
@@ -7,8 +7,7 @@ use Rattle.arrow2_model.specs.Digits.{residue, centred, words_value, high_word, 
 use Rattle.arrow2_model.proofs.Digits.{residue-lt, residue-centred, centred-residue, slice_index-take-lt, slice_index-drop-lt, of_z_is, to_z_is, length-digits, slice_index-reverse-lt, digits_of_integer, integer_from-digits}
 use Rattle.std.proofs.Math.Nat.{div-div-eq-div-mul, div-one, mod-eq_of_lt, mul_left_comm, pow-succ'}
 use Rattle.std.proofs.lemmas.Bool.Decides.{nat_tests, same_from_decides, Decides-like, Decides-and, Decides-eqb, Decides-int_eq}
-use Rattle.std.proofs.lemmas.List.{take-take, take-append-drop, length-reverse, reverse-reverse, length-take, length-drop, get_or-drop, get_or-take, get_or_past, take_all}
-use Rattle.std.proofs.lemmas.Bool.{cases_lt}
+use Rattle.std.proofs.lemmas.List.{take-take, take-append-drop, length-reverse, reverse-reverse, length-take, length-drop, take_all}
 use Rattle.std.proofs.Math.Seq.{take-append_seam, drop-append_seam}
 use Rattle.std.specs.declared.cmp.Ordering.{Ordering}
 use Rattle.std.specs.Ordering.{int_cmp, nat_cmp, ordering_then, int_eq}
@@ -56,7 +55,6 @@ words-value (negsuc x) =
     let r : ℕ = 2 ^ 128 - 1 - x % 2 ^ 128 in
     let e : residue (2 ^ 128) (centred (2 ^ 128) r) ≡ r = residue-centred (2 ^ 128) r (omega arith) in
     rw e (omega (arith, ints))
-
 
 -- ---- negation
 
@@ -122,7 +120,6 @@ pub first_half : (bytes : List ℕ) → integer_from 16 bytes ≡ integer_from 1
 unfolding integer_from natural_from
 first_half bytes = ap (λ (ds : List ℕ). centred (256 ^ 16) (digits_number ds)) (sym (take-take 16 16 bytes (omega arith)))
 
-
 -- bytes are the digits of the number that is read from them
 pub digits_of_words : (bytes : List ℕ) → length bytes ≡ 32 → ((k : ℕ) → slice_index bytes k < 256) → digits 32 (words_value (integer_from 16 (drop 16 bytes)) (integer_from 16 bytes)) ≡ bytes
 digits_of_words bytes l h =
@@ -159,9 +156,9 @@ pub equal-words : (a b c d : ℤ) → FitsSigned w128 b → FitsSigned w128 d �
 equal-words a b c d f g =
     same_from_decides (int_eq a c && int_eq b d) (int_eq (words_value a b) (words_value c d))
     (Decides-like (int_eq a c && int_eq b d)
-      (λ p. ap (λ h. words_value h b) p.0 ∙ ap (words_value c) p.1)
-      (λ e. (sym (high_word-words a b) ∙ (ap high_word e ∙ high_word-words c d), sym (low_word-words a b f) ∙ (ap low_word e ∙ low_word-words c d g)))
-      (Decides-and (int_eq a c) (int_eq b d) (Decides-int_eq a c) (Decides-int_eq b d)))
+    (λ p. ap (λ h. words_value h b) p.0 ∙ ap (words_value c) p.1)
+    (λ e. (sym (high_word-words a b) ∙ (ap high_word e ∙ high_word-words c d), sym (low_word-words a b f) ∙ (ap low_word e ∙ low_word-words c d g)))
+    (Decides-and (int_eq a c) (int_eq b d) (Decides-int_eq a c) (Decides-int_eq b d)))
     (Decides-int_eq (words_value a b) (words_value c d))
 
 -- ---- negation in the form of the code
@@ -189,8 +186,8 @@ negated_both hi lo h l v f z e m w =
     let bits : cast_unsigned w128 lo ≡ n = of_z_is w128 16 lo (refl, refl) f in
     let rest : (2 ^ 128 - cast_unsigned w128 lo) % 2 ^ 128 ≡ 2 ^ 128 - n = rw bits (mod-eq_of_lt (omega arith)) in
     let back : residue (2 ^ 128) l ≡ 2 ^ 128 - n =
-      ap (residue (2 ^ 128)) (m ∙ (ap (cast_signed w128) rest ∙ to_z_is w128 16 (2 ^ 128 - n) (refl, refl)))
-      ∙ residue-centred (2 ^ 128) (2 ^ 128 - n) (omega arith) in
+    ap (residue (2 ^ 128)) (m ∙ (ap (cast_signed w128) rest ∙ to_z_is w128 16 (2 ^ 128 - n) (refl, refl)))
+    ∙ residue-centred (2 ^ 128) (2 ^ 128 - n) (omega arith) in
     let high : h ≡ neg_ℤ (hi +ℤ pos 1) = omega (arith, ints) in
     rw (w, high) (neg-words hi lo l (omega arith))
 
@@ -217,11 +214,11 @@ equal_low a b c d v w fa fb fc fd e k m =
     let same : a ≡ c = sym (to_z-of_z w128 a fa) ∙ (ap (cast_signed w128) e ∙ to_z-of_z w128 c fc) in
     let low : (cast_unsigned w128 b ≡ cast_unsigned w128 d) → b ≡ d = λ t. sym (to_z-of_z w128 b fb) ∙ (ap (cast_signed w128) t ∙ to_z-of_z w128 d fd) in
     rw (← k, ← m) (same_from_decides (cast_unsigned w128 b == cast_unsigned w128 d) (int_eq (words_value a b) (words_value c d))
-      (Decides-like (cast_unsigned w128 b == cast_unsigned w128 d)
-        (λ t. ap (λ h. words_value h b) same ∙ ap (words_value c) (low t))
-        (λ t. ap (cast_unsigned w128) (sym (low_word-words a b fb) ∙ (ap low_word t ∙ low_word-words c d fd)))
-        (Decides-eqb (cast_unsigned w128 b) (cast_unsigned w128 d)))
-      (Decides-int_eq (words_value a b) (words_value c d)))
+    (Decides-like (cast_unsigned w128 b == cast_unsigned w128 d)
+    (λ t. ap (λ h. words_value h b) same ∙ ap (words_value c) (low t))
+    (λ t. ap (cast_unsigned w128) (sym (low_word-words a b fb) ∙ (ap low_word t ∙ low_word-words c d fd)))
+    (Decides-eqb (cast_unsigned w128 b) (cast_unsigned w128 d)))
+    (Decides-int_eq (words_value a b) (words_value c d)))
 
 -- the bytes of the two words
 pub joined_digits : (hi lo v : ℤ) (low high bytes : List ℕ) → words_value hi lo ≡ v → low ≡ digits 16 lo → high ≡ digits 16 hi → bytes ≡ low ++ high → bytes ≡ digits 32 v
@@ -260,10 +257,10 @@ pub unequal_high : (a b c d v w : ℤ) → (cast_unsigned w128 a ≡ cast_unsign
     → (cast_unsigned w128 a == cast_unsigned w128 c) ≡ int_eq v w
 unequal_high a b c d v w other k m =
     rw (← k, ← m) (same_from_decides (cast_unsigned w128 a == cast_unsigned w128 c) (int_eq (words_value a b) (words_value c d))
-      (Decides-like (cast_unsigned w128 a == cast_unsigned w128 c)
-        (λ t. absurd (other t))
-        (λ t. ap (cast_unsigned w128) (sym (high_word-words a b) ∙ (ap high_word t ∙ high_word-words c d)))
-        (Decides-eqb (cast_unsigned w128 a) (cast_unsigned w128 c)))
-      (Decides-int_eq (words_value a b) (words_value c d)))
+    (Decides-like (cast_unsigned w128 a == cast_unsigned w128 c)
+    (λ t. absurd (other t))
+    (λ t. ap (cast_unsigned w128) (sym (high_word-words a b) ∙ (ap high_word t ∙ high_word-words c d)))
+    (Decides-eqb (cast_unsigned w128 a) (cast_unsigned w128 c)))
+    (Decides-int_eq (words_value a b) (words_value c d)))
 
 pub ruleset words256 = (high_word-words, low_word-words, words-value)

@@ -2,7 +2,6 @@
 -- (Arrow columnar format, "Validity bitmaps": slot j is bit j % 8 of byte j / 8, from the least significant bit on).
 use Rattle.std.specs.Prelude.{ℕ, zero, suc, ◌+◌, ◌/◌, ◌%◌, ◌^◌, ◌==◌, List, [], ◌∷◌, Bool, if◌then◌else◌}
 use Rattle.std.specs.List.{flat_map}
-
 -- the number of a list of booleans: the sum of 2 ^ i over the places i where it is true
 pub use lib.Lanes.{mask_l as num}
 

@@ -4,5 +4,6 @@ pub mod Canonical
 pub mod Digits
 pub mod Ones
 pub mod Parts
+pub mod Shown
 pub mod Storage
 pub mod Words

@@ -1,0 +1,70 @@
+use Rattle.std.proofs.Common.{◌≡◌, ◌+◌, ◌-◌, ◌*◌, ◌<◌, ◌≤◌, ◌++◌, ◌∷◌, [], ℕ, List, length, get_or, min, refl, sym, ap, subst, ◌∙◌, arith}
+use Rattle.std.specs.Prelude.{codes}
+use Rattle.std.specs.declared.fmt.Formatter.{Formatter}
+use Rattle.std.specs.Fmt.{HasWritten, HasWrittenStyled, IsPlainFormatter, IsDefaultSpec}
+use Rattle.std.proofs.lemmas.List.{append_assoc}
+use Rattle.std.proofs.Output.{has_written_styled_append, has_written_styled_of_eq}
+use Rattle.arrow2_model.specs.Shown.{shown_byte, shown}
+use Rattle.arrow2_model.proofs.Shown.{shown_byte_alone, shown_front, shown_front_none, shown_front_first, shown_front_more, shown_is}
+use Rattle.arrow2_bits.proofs.fmt.fmt.Goals as goal
+use Rattle.arrow2_bits.proofs.fmt.fmt.Goals.{then-left-length+in_ok-write_str-2, else-left-length, else-loop-byte-test, then-loop-byte-test+then-left-eq0}
+
+pub loop-byte-init : goal.loop-byte-init
+loop-byte-init g c = (
+  omega arith,
+  omega arith,
+  omega arith,
+  omega arith,
+  λ flush.
+      has_written_styled_of_eq _ _ _ _ _ (shown_front_none c.args.bytes.now c.args.offset c.args.length)
+      (c.in_ok-write_str.ensures.styled flush refl),
+)
+
+pub loop-byte-preserved : goal.loop-byte-preserved
+loop-byte-preserved g c =
+    let a = c.args in
+    let j = c.loop-byte.byte-index in
+    let before = c.loop-byte.invariant in
+    let took = g.W.Write.write_str_gives in
+    let front = shown_front a.bytes.now a.offset a.length j in
+    let here : c.min-here.result ≡ min (a.length - (8 * j - a.offset)) (8 - c.loop-byte.start) = c.min-here.ensures ∙ ap (λ n. min n (8 - c.loop-byte.start)) before.1 in
+    let byte = shown_byte_alone a.bytes.now (get_or a.bytes.now j 0) a.offset a.length j c.loop-byte.start c.min-here.result c.loop-byte-test.true refl c.requires.offset before.0 here in (
+      omega arith,
+      omega arith,
+      omega arith,
+      omega arith,
+      λ flush.
+          let so_far = before.4 flush in
+          elim c.if-left-length.branch [
+            | then-left-length+in_ok-write_str-2 w ↦
+                let comma = subst (λ x. HasWrittenStyled took a.f.now (front ++ codes ", ") x) (sym w.f-is) (has_written_styled_append _ _ _ _ _ _ so_far (w.in_ok-write_str-2.ensures.styled so_far.flush refl)) in
+                has_written_styled_of_eq _ _ _ _ _
+                (append_assoc front (codes ", ") (shown_byte (get_or a.bytes.now j 0 ∷ []) c.loop-byte.start c.min-here.result 0) ∙ (ap (λ t. front ++ (codes ", " ++ t)) byte ∙ sym (shown_front_more a.bytes.now a.offset a.length j (j + 1) (omega (arith, w.if-left-length.true)) refl)))
+                (has_written_styled_append _ _ _ _ _ _ comma (c.in_ok-write_byte.ensures comma.flush refl))
+            | else-left-length w ↦
+                let same = subst (λ x. HasWrittenStyled took a.f.now front x) (sym w.f-is) so_far in
+                has_written_styled_of_eq _ _ _ _ _
+                (ap (λ t. front ++ t) byte ∙ sym (shown_front_first a.bytes.now a.offset a.length j (j + 1) (omega (arith, w.if-left-length.false)) refl))
+                (has_written_styled_append _ _ _ _ _ _ same (c.in_ok-write_byte.ensures same.flush refl))
+          ],
+    )
+
+pub returns-clause-styled : goal.returns-clause-styled
+returns-clause-styled g c = λ flush ok.
+    let a = c.args in
+    let j = c.loop-byte.byte-index in
+    let before = c.loop-byte.invariant in
+    let so_far = before.4 flush in
+    let all : a.length ≤ 8 * j - a.offset = elim c.loop-byte-test.branch [ else-loop-byte-test w ↦ omega (arith, w.loop-byte-test.false) | then-loop-byte-test+then-left-eq0 w ↦ omega (arith, w.if-left-eq0.true) ] in
+    has_written_styled_of_eq _ _ _ _ _ (sym (shown_is a.bytes.now a.offset a.length j c.requires.offset c.loop-byte.auto.byte-index-end before.2 before.3 all))
+    (has_written_styled_append _ _ _ _ _ _ so_far (c.write_str-2.ensures.styled so_far.flush ok))
+
+-- what is written whatever the options is written with none
+plain_written : {W : Type 0} (took : W → List ℕ → W → Type 0) (f g : Formatter W) (text : List ℕ) → IsPlainFormatter f → HasWrittenStyled took f text g → HasWritten took f text g
+plain_written took f g text plain styled = record {
+  wrote = styled.wrote;
+  plain = record { bare = subst IsDefaultSpec (sym styled.spec) plain.bare; flush = styled.flush };
+}
+
+pub returns-clause-writes : goal.returns-clause-writes
+returns-clause-writes g c = λ plain ok. plain_written _ _ _ _ plain (returns-clause-styled g c plain.flush ok)

@@ -1,0 +1,75 @@
+//! The text of bits: whole bytes, each from its highest bit to its lowest.
+ghost use Rattle.std.specs.Prelude.{◌≡◌, ◌+◌, ◌*◌, ◌<◌, ◌≤◌, ◌∷◌, [], length as count};
+ghost use Rattle.std.specs.Fmt.{WritesOnOk, WritesStyledOnOk};
+ghost use Rattle.arrow2_model.specs.Bits.{bit};
+ghost use Rattle.arrow2_model.specs.Shown.{is_shown, bit_character, shown_byte, shown};
+
+use crate::is_set;
+use std::fmt;
+
+/// Writes the `length` bits from bit `offset` on: for each byte that holds one of them `0b` and its
+/// eight bits from the highest to the lowest, with `_` for a bit that is none of them, in brackets
+/// and joined by commas. No bits are `[]`. The formatter's options change nothing.
+///
+/// Asks that `offset` is below 8, and that the bits are inside the bytes.
+/// arrow2 may print a byte behind the bits in place of the last one.
+pub fn fmt<W: fmt::Write>(
+    bytes: &[u8],
+    offset: usize,
+    length: usize,
+    f: &mut fmt::Formatter<W>,
+) -> fmt::Result
+    requires offset { offset < 8 }
+    requires inside { offset + length ≤ 8 * count bytes.now }
+    ensures writes { WritesOnOk W.write_str_gives f.old result (shown bytes.now offset length) f.new }
+    ensures styled { WritesStyledOnOk W.write_str_gives f.old result (shown bytes.now offset length) f.new }
+{
+    f.write_str("[")?;
+    let mut start = offset;
+    let mut left = length;
+    for byte in bytes {
+        if left == 0 {
+            break;
+        }
+        if left < length {
+            f.write_str(", ")?;
+        }
+        let here = left.min(8 - start);
+        write_byte(*byte, start, here, f)?;
+        left -= here;
+        start = 0;
+    }
+    f.write_str("]")
+}
+
+/// Writes one byte, of which the `length` bits from bit `start` on are shown.
+fn write_byte<W: fmt::Write>(
+    byte: u8,
+    start: usize,
+    length: usize,
+    f: &mut fmt::Formatter<W>,
+) -> fmt::Result
+    requires { start + length ≤ 8 }
+    ensures { WritesStyledOnOk W.write_str_gives f.old result (shown_byte (byte ∷ []) start length 0) f.new }
+{
+    f.write_str("0b")?;
+    for i in (0..8).rev() {
+        f.write_char(character(byte, i, start, length))?;
+    }
+    Ok(())
+}
+
+/// The character of bit `i` of a byte, of which the `length` bits from bit `start` on are shown.
+fn character(byte: u8, i: usize, start: usize, length: usize) -> char
+    requires bit { i < 8 }
+    requires inside { start + length ≤ 8 }
+    ensures { result ≡ bit_character (is_shown start length i) (bit byte i) }
+{
+    if i < start || start + length <= i {
+        '_'
+    } else if is_set(byte, i) {
+        '1'
+    } else {
+        '0'
+    }
+}
