@@ -6,11 +6,11 @@ use Rattle.std.proofs.lemmas.List.{take_all, length-take-le, length-take, get_or
 use Rattle.std.proofs.lemmas.Bool.{cases_lt}
 use Rattle.arrow2_model.specs.Bits.{bit, unnum, bits, num}
 use Rattle.arrow2_model.specs.Parts.{part}
-use Rattle.arrow2_model.specs.Words.{full_words, rest, spill, spilled_bytes}
+use Rattle.arrow2_model.specs.Words.{full_words, rest, spill, exact_spill, spilled_bytes}
 use Rattle.arrow2_model.proofs.Bits.{length-bits, length-unnum, get_or-unnum}
 use Rattle.arrow2_model.proofs.Bytes.{part-bits-part, part-bits-drop}
 use Rattle.arrow2_model.proofs.Numbers.{bit-num, num-unnum}
-use Rattle.arrow2_model.proofs.Parts.{part-add, take-part, drop-part, length-part}
+use Rattle.arrow2_model.proofs.Parts.{take-part, drop-part, length-part, part-part}
 use Rattle.arrow2_model.proofs.Words.{full_words-cons, full_words-none, rest-drop, rest-none, length-full_words}
 use Rattle.arrow2_bits.specs.Chunks.{IsChunkWalk}
 
@@ -69,6 +69,10 @@ spilled_rest bytes behind w shift len count tail start s<8 within all short at n
           ∙ (rw e (part-bits-part bytes start m shift tail (shift + w * count) inside (omega (arith, at)) (omega (arith, at)))))
     ]
 
+-- where the words end, in bytes and in bits
+word_starts : (full k w : ℕ) → 8 * k ≡ w → 8 * (full * k) ≡ w * full
+word_starts full k w e = ap (λ n. 8 * n) (mul_comm full k) ∙ (sym (mul_assoc 8 k full) ∙ ap (λ n. n * full) e)
+
 -- the invariant of a walk that begins
 pub new_walk : (bytes behind front : List ℕ) (k w offset len x : ℕ) → 8 * k ≡ w → 8 ≤ w → offset + len ≤ 8 * length bytes → front ≡ drop (offset / 8) bytes
     → (len / 8 / k * k ≡ 0 → behind ≡ front) → (0 < len / 8 / k * k → behind ≡ part front (len / 8 / k * k) ((len + offset % 8 + 7) / 8 - len / 8 / k * k))
@@ -79,7 +83,7 @@ new_walk bytes behind front k w offset len x e wide h is none some number =
     let short = rest_is_short len k w e (omega arith) in
     let l = length-drop (offset / 8) bytes in
     let room : offset % 8 + len ≤ 8 * length front = omega (arith, l, ap length is) in
-    let at : 8 * (len / 8 / k * k) ≡ w * (len / 8 / k) = ap (λ n. 8 * n) (mul_comm (len / 8 / k) k) ∙ (sym (mul_assoc 8 k (len / 8 / k)) ∙ ap (λ n. n * (len / 8 / k)) e) in
+    let at : 8 * (len / 8 / k * k) ≡ w * (len / 8 / k) = word_starts (len / 8 / k) k w e in
     record {
       place = omega arith;
       within = omega (arith, all, room);
@@ -112,6 +116,30 @@ unfolding spill
 new_spill bytes behind front k w offset len x e wide is none some number =
     let b = spilled_is (len / 8 / k) k ((len + offset % 8 + 7) / 8) front behind (omega (arith, e)) none some in
     number ∙ (rw (← e, ← is) (ap (λ (t : List ℕ). num (part (bits t) (offset % 8) (8 * k))) b))
+
+-- ---- a walk from bit 0 on, over the bytes that hold its items
+
+pub front_items : (bytes : List ℕ) (m len : ℕ) → len ≤ 8 * length bytes → m ≡ (len + 7) / 8 → part (bits (take m bytes)) 0 len ≡ part (bits bytes) 0 len
+front_items bytes m len h e = part-bits-part bytes 0 m 0 len 0 (omega arith) (omega arith) refl
+
+pub front_spill : (bytes : List ℕ) (k w m len : ℕ) → 8 * k ≡ w → 8 ≤ w → len ≤ 8 * length bytes → m ≡ (len + 7) / 8 → spill k (take m bytes) 0 len ≡ exact_spill k bytes len
+unfolding spill exact_spill
+front_spill bytes k w m len e wide h is =
+    let full : ℕ = len / 8 / k in
+    let a : ℕ = full * k in
+    let b : List ℕ = part bytes a ((len + 7) / 8 - a) in
+    let at = word_starts full k w e in
+    let all = words_and_rest len k w e (omega arith) in
+    let short = rest_is_short len k w e (omega arith) in
+    let within : a ≤ (len + 7) / 8 = omega (arith, at, all) in
+    let same : (len + 0 + 7) / 8 ≡ (len + 7) / 8 = omega arith in
+    let spilled : b ≡ (if full == 0 then take m bytes else part (take m bytes) a ((len + 0 + 7) / 8 - a)) =
+        spilled_is full k ((len + 0 + 7) / 8) (take m bytes) b (omega (arith, e))
+        (λ z. rw (z, is) (ap (λ n. take n bytes) (omega arith)))
+        (λ p. rw (same, is) (sym (part-part bytes 0 ((len + 7) / 8) a ((len + 7) / 8 - a) (omega arith) ∙ ap (λ n. part bytes n ((len + 7) / 8 - a)) (omega arith)))) in
+    let lb = length-bits b in
+    let lp = length-take ((len + 7) / 8 - a) (drop a bytes) in
+    ap (λ (t : List ℕ). num (part (bits t) 0 (8 * k))) (sym spilled) ∙ ap num (take_all (8 * k) (bits b) (omega (arith, lb, lp, at, all, short, e)))
 
 -- ---- steps of a walk
 

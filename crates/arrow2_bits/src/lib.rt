@@ -7,6 +7,7 @@ ghost use Rattle.arrow2_model.specs.Parts.{part, falses};
 
 pub mod chunk_iterator;
 mod chunks;
+pub mod chunks_exact;
 pub mod fmt;
 pub mod iterator;
 

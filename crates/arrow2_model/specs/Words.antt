@@ -42,3 +42,10 @@ spilled_bytes k bytes offset len =
 -- the word of these bytes from bit offset % 8 on, as far as there are bits
 unfoldable pub spill : ℕ → List ℕ → ℕ → ℕ → ℕ
 spill k bytes offset len = num (part (bits (spilled_bytes k bytes offset len)) (offset % 8) (8 * k))
+
+-- the same where the items begin at bit 0 and bytes behind the last one that holds an item are left
+-- out: the number of the bytes of the rest
+unfoldable pub exact_spill : ℕ → List ℕ → ℕ → ℕ
+exact_spill k bytes len =
+    let full = len / 8 / k in
+    num (bits (part bytes (full * k) ((len + 7) / 8 - full * k)))

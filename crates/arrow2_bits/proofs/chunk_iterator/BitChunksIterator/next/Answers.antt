@@ -8,7 +8,7 @@ returns-then-self-eq0-clause-steps g c =
     let b = c.self.inside in
     let w = g.T.BitChunk.WIDTH in
     let none = ap (λ s. full_words w s.items) (sym c.self.view_is) ∙ walk_ended b.bytes.now w b.shift b.count b.remainder_len _ c.self.invariant c.if-self-eq0.true in
-    record { word = (none, none); rest = refl; spill = refl }
+    record { word = (none, none); rest = refl {a = rest w c.args.self.now.items}; spill = refl {a = c.args.self.now.spill} }
 
 pub invariant_of-self : goal.invariant_of-self
 invariant_of-self g c =

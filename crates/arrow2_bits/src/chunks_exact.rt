@@ -1,0 +1,89 @@
+//! The walk over bits by words from bit 0 on.
+ghost use Rattle.std.specs.Prelude.{◌≡◌, ◌*◌, ◌≤◌, ◌↔◌, length as length', Some, IfSome, IsTrue};
+ghost use Rattle.std.specs.Iterator.{item_count, UpTo};
+ghost use Rattle.std.specs.Iterator.SizeHint.{IsWithinCount};
+ghost use Rattle.arrow2_model.specs.Bits.{bits};
+ghost use Rattle.arrow2_model.specs.Parts.{part};
+ghost use Rattle.arrow2_model.specs.Words.{WordWalk, GivesWord, full_words, exact_spill};
+
+use crate::bytes_for;
+use crate::chunk_iterator::{BitChunkIterExact, BitChunks};
+use arrow2_index::bit_chunk::BitChunk;
+use std::marker::Model;
+
+/// The walk over the first bits of bytes by words: contracts see the items still to come and the
+/// word of the remainder.
+#[derive(Debug, Drop)]
+pub struct BitChunksExact<'a, T: BitChunk> {
+    chunks: BitChunks<'a, T>,
+}
+
+impl<'a, T: BitChunk> Model for BitChunksExact<'a, T> {
+    ghost use Rattle.arrow2_model.specs.Words.{WordWalk};
+
+    ghost Value = { WordWalk };
+
+    ghost view = { λ c. c.chunks };
+}
+
+impl<'a, T: BitChunk> BitChunksExact<'a, T> {
+    /// The walk over the first `length` bits. Asks that they are inside the bytes.
+    pub fn new(bytes: &'a [u8], length: usize) -> BitChunksExact<'a, T>
+        requires { length ≤ 8 * length' bytes.now }
+        ensures items { result.items ≡ part (bits bytes.entry.now) 0 length }
+        ensures spill { result.spill ≡ exact_spill T.BitChunk.SIZE bytes.entry.now length }
+    {
+        BitChunksExact {
+            chunks: BitChunks::new(&bytes[..bytes_for(length)], 0, length),
+        }
+    }
+
+    /// How many full words are still to come.
+    pub fn len(&self) -> usize
+        ensures { result ≡ length' (full_words T.BitChunk.WIDTH self.now.items) }
+    {
+        BitChunks::len(&self.chunks)
+    }
+
+    /// Whether no full word is still to come.
+    pub fn is_empty(&self) -> bool
+        ensures { IsTrue result ↔ (length' (full_words T.BitChunk.WIDTH self.now.items) ≡ 0) }
+    {
+        BitChunksExact::len(self) == 0
+    }
+}
+
+impl<'a, T: BitChunk> BitChunkIterExact<T> for BitChunksExact<'a, T> {
+    ghost walk = { λ s. s };
+
+    ghost gives_law = { λ s r t h. h };
+
+    fn remainder(&self) -> T {
+        self.chunks.remainder()
+    }
+
+    fn remainder_len(&self) -> usize {
+        self.chunks.remainder_len()
+    }
+}
+
+impl<'a, T: BitChunk> Iterator for BitChunksExact<'a, T> {
+    type Item = T;
+
+    ghost next_gives = { GivesWord T.BitChunk.WIDTH T.BitChunk.number (λ s. s) };
+
+    ghost remaining = { item_count (λ s. full_words T.BitChunk.WIDTH s.items) };
+
+    fn next(&mut self) -> Option<T> {
+        self.chunks.next()
+    }
+
+    /// Both bounds are the number of full words still to come.
+    fn size_hint(&self) -> (usize, Option<usize>)
+        ensures lower { IsWithinCount result.0 (item_count (λ s. full_words T.BitChunk.WIDTH s.items) self.now) }
+        ensures upper { IfSome result.1 (UpTo (item_count (λ s. full_words T.BitChunk.WIDTH s.items) self.now)) }
+        ensures exact { (result.0 ≡ length' (full_words T.BitChunk.WIDTH self.now.items)) × (result.1 ≡ Some (length' (full_words T.BitChunk.WIDTH self.now.items))) }
+    {
+        self.chunks.size_hint()
+    }
+}
