@@ -3,13 +3,15 @@
 
 ghost use Rattle.std.specs.Prelude.{◌≡◌, ◌+◌, ◌*◌, ◌/◌, ◌<◌, ◌≤◌, length, false, slice_set, slice_index_or};
 ghost use Rattle.arrow2_model.specs.Bits.{bit, unnum, bits};
-ghost use Rattle.arrow2_model.specs.Parts.{part, falses};
 
 pub mod chunk_iterator;
 mod chunks;
 pub mod chunks_exact;
+mod counts;
 pub mod fmt;
 pub mod iterator;
+
+pub use counts::count_zeros;
 
 /// Whether bit `i` of the byte is set. Asks that `i` is below 8.
 pub fn is_set(byte: u8, i: usize) -> bool
@@ -64,20 +66,4 @@ pub fn bytes_for(bits: usize) -> usize
     ensures { result ≡ (bits + 7) / 8 }
 {
     bits.div_ceil(8)
-}
-
-/// How many of the `len` bits from bit `offset` on are not set.
-/// Asks that they are inside the bytes, or that `len` is 0.
-#[tactic(auto, using(arrow2_model::proofs::Counts::counting))]
-pub fn count_zeros(bytes: &[u8], offset: usize, len: usize) -> usize
-    requires { 0 < len → offset + len ≤ 8 * length bytes.now }
-    ensures { result ≡ falses (part (bits bytes.now) offset len) }
-{
-    let mut zeros = 0;
-    for i in 0..len {
-        if !get_bit_from(bytes, offset, i) {
-            zeros += 1;
-        }
-    }
-    zeros
 }

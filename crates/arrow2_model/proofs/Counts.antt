@@ -1,24 +1,90 @@
 -- Counts of false items.
-use Rattle.std.proofs.Common.{◌≡◌, ℕ, ◌+◌, ◌*◌, ◌<◌, ◌≤◌, List, Bool, true, false, cond, not, length, get_or, refl, ap, ◌∙◌, arith}
-use Rattle.std.proofs.lemmas.List.Sums.{count_by-le-length, sum_by_push}
-use Rattle.arrow2_model.specs.Bits.{bits}
+use Rattle.std.proofs.Common.{◌≡◌, ℕ, ◌+◌, ◌-◌, ◌*◌, ◌/◌, ◌%◌, ◌^◌, ◌<◌, ◌≤◌, List, [], ◌∷◌, ◌++◌, Bool, true, false, cond, not, take, drop, length, get_or, subst, refl, ap, sym, ◌∙◌, arith}
+use Rattle.std.specs.Prelude.{count_ones, count_by}
+use Rattle.std.proofs.Math.Nat.{mod-lt}
+use Rattle.std.proofs.Math.Seq.{take-add}
+use Rattle.std.proofs.lemmas.List.{map-id, drop_at, take_at}
+use Rattle.std.proofs.lemmas.List.Sums.{count_by-le-length, sum_by-append, sum_by-cons}
+use Rattle.std.proofs.lemmas.Nat.{pow_pos}
+use Rattle.std.proofs.lemmas.Simd.{ones-mask_l}
+use Rattle.arrow2_model.specs.Bits.{unnum, bits, num}
 use Rattle.arrow2_model.specs.Parts.{part, falses}
-use Rattle.arrow2_model.proofs.Bits.{length-bits}
-use Rattle.arrow2_model.proofs.Parts.{part_more}
-
-pub falses_more : (items : List Bool) (a n : ℕ) (d : Bool) → a + n < length items → falses (part items a (n + 1)) ≡ falses (part items a n) + cond (get_or items (a + n) d) 0 1
-falses_more items a n d h = ap falses (part_more items a n d h) ∙ (sum_by_push (λ x. cond (not x) 1 0) (part items a n) (get_or items (a + n) d) ∙ ap (λ x. falses (part items a n) + x) (elim (get_or items (a + n) d) as (λ b. ◌≡◌ {A = ℕ} (cond (not b) 1 0) (cond b 0 1)) [ true ↦ refl | false ↦ refl ]))
+use Rattle.arrow2_model.proofs.Bits.{length-unnum, bits-nil, bits-cons, bits-append}
+use Rattle.arrow2_model.proofs.Chunks.{unnum-add, unnum-mod}
+use Rattle.arrow2_model.proofs.Numbers.{num-unnum}
+use Rattle.arrow2_model.proofs.Parts.{part-add, part-front}
 
 pub falses-le-length : (items : List Bool) → falses items ≤ length items
 falses-le-length items = count_by-le-length not items
 
--- the two cases of a loop that counts
-pub falses_more_yes : (bytes : List ℕ) (a n : ℕ) → a + n < 8 * length bytes → get_or (bits bytes) (a + n) false ≡ true → falses (part (bits bytes) a (n + 1)) ≡ falses (part (bits bytes) a n)
-falses_more_yes bytes a n h e = let l = length-bits bytes in falses_more (bits bytes) a n false (omega arith) ∙ (rw e (omega arith))
+-- a list in two
+pub falses-append : (xs ys : List Bool) → falses (xs ++ ys) ≡ falses xs + falses ys
+falses-append xs ys = sum_by-append (λ x. cond (not x) 1 0) xs ys
 
-pub falses_more_no : (bytes : List ℕ) (a n : ℕ) → a + n < 8 * length bytes → get_or (bits bytes) (a + n) false ≡ false → falses (part (bits bytes) a (n + 1)) ≡ falses (part (bits bytes) a n) + 1
-falses_more_no bytes a n h e = let l = length-bits bytes in falses_more (bits bytes) a n false (omega arith) ∙ (rw e refl)
+-- the true items and the false ones are all items
+trues-falses : (items : List Bool) → count_by (λ x. x) items + falses items ≡ length items
+trues-falses [] = refl
+trues-falses (true ∷ items) =
+    let a = sum_by-cons (λ (x : Bool). cond x 1 0) true items in
+    let b = sum_by-cons (λ (x : Bool). cond (not x) 1 0) true items in
+    let r = trues-falses items in
+    omega (arith, a, b, r)
+trues-falses (false ∷ items) =
+    let a = sum_by-cons (λ (x : Bool). cond x 1 0) false items in
+    let b = sum_by-cons (λ (x : Bool). cond (not x) 1 0) false items in
+    let r = trues-falses items in
+    omega (arith, a, b, r)
 
-pub ruleset counting = (falses_more_yes, falses_more_no)
+-- the population count of a word counts its true items
+pub falses-unnum : (w x : ℕ) → x < 2 ^ w → falses (unnum w x) + count_ones x ≡ w
+falses-unnum w x h =
+    let n = num-unnum w x h in
+    let o : count_ones x ≡ count_by (λ b. b) (unnum w x) = sym (ap count_ones n) ∙ (ap (λ l. count_ones (num l)) (sym (map-id (unnum w x))) ∙ ones-mask_l (λ b. b) (unnum w x)) in
+    let c = trues-falses (unnum w x) in
+    let l = length-unnum w x in
+    omega (arith, o, c, l)
+
+-- a part in three
+pub falses-part_three : (items : List Bool) (a m n k all : ℕ) → all ≡ m + (n + k) → falses (part items a all) ≡ falses (part items a m) + (falses (part items (a + m) n) + falses (part items (a + m + n) k))
+falses-part_three items a m n k all e =
+    rw (e, part-add items a m (n + k), part-add items (a + m) n k) (falses-append (part items a m) (part items (a + m) n ++ part items (a + m + n) k) ∙ ap (λ r. falses (part items a m) + r) (falses-append (part items (a + m) n) (part items (a + m + n) k)))
+
+-- ---- whole words of bytes
+
+-- k bytes more, which are a word
+pub falses-bits_more : (bytes : List ℕ) (at k w x before after : ℕ) → at + k ≤ length bytes → 8 * k ≡ w → x < 2 ^ w → unnum w x ≡ bits (part bytes at k) → before ≡ falses (bits (take at bytes)) → after ≡ before + (w - count_ones x) → after ≡ falses (bits (take (at + k) bytes))
+falses-bits_more bytes at k w x before after h e fits is was now =
+    let f = falses-unnum w x fits in
+    let s : bits (take (at + k) bytes) ≡ bits (take at bytes) ++ bits (part bytes at k) = ap bits (take-add at k bytes) ∙ bits-append (take at bytes) (part bytes at k) in
+    let a = ap falses s ∙ falses-append (bits (take at bytes)) (bits (part bytes at k)) in
+    let b = ap falses is in
+    omega (arith, f, a, b, was, now)
+
+pub falses-bits_none : (bytes : List ℕ) → falses (bits (take 0 bytes)) ≡ 0
+falses-bits_none bytes = ap falses bits-nil
+
+-- ---- some bits of one byte
+
+drop-unnum : (m n x : ℕ) → drop m (unnum (m + n) x) ≡ unnum n (x / 2 ^ m)
+drop-unnum m n x = ap (drop m) (unnum-add m n x) ∙ drop_at (unnum m x) (unnum n (x / 2 ^ m)) m (length-unnum m x)
+
+take-unnum : (m n x : ℕ) → take m (unnum (m + n) x) ≡ unnum m x
+take-unnum m n x = ap (take m) (unnum-add m n x) ∙ take_at (unnum m x) (unnum n (x / 2 ^ m)) m (length-unnum m x)
+
+-- the n bits of a byte from bit s on, as a word
+pub falses-byte_part : (bytes : List ℕ) (s n x : ℕ) → 0 < length bytes → s + n ≤ 8 → x ≡ get_or bytes 0 0 / 2 ^ s % 2 ^ n → falses (part (bits bytes) s n) + count_ones x ≡ n
+falses-byte_part [] s n x h k e = grind arith
+falses-byte_part (b ∷ bytes) s n x h k e =
+    let l = length-unnum 8 b in
+    let r : ℕ = 8 - s - n in
+    let whole : s + (n + r) ≡ 8 = omega arith in
+    let first : part (bits (b ∷ bytes)) s n ≡ part (unnum 8 b) s n =
+        rw (bits-cons b bytes) (part-front (unnum 8 b) (bits bytes) s n (omega (arith, l))) in
+    let word : part (unnum 8 b) s n ≡ unnum n (b / 2 ^ s) =
+        ap (λ w. part (unnum w b) s n) (sym whole) ∙ (ap (take n) (drop-unnum s (n + r) b) ∙ take-unnum n r (b / 2 ^ s)) in
+    let low : unnum n x ≡ unnum n (b / 2 ^ s) = ap (unnum n) e ∙ unnum-mod n (b / 2 ^ s) in
+    let fits : x < 2 ^ n = subst (λ y. y < 2 ^ n) (sym e) (mod-lt (b / 2 ^ s) (pow_pos n)) in
+    let f = falses-unnum n x fits in
+    omega (arith, f, ap falses first, ap falses word, ap falses low)
 
 pub ruleset counts = (falses-le-length)

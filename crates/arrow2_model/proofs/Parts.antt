@@ -1,6 +1,6 @@
 -- Parts of lists.
 use Rattle.std.proofs.Common.{◌≡◌, inl, inr, ℕ, ◌+◌, ◌-◌, ◌<◌, ◌≤◌, List, [], ◌∷◌, ◌++◌, Bool, take, drop, length, get_or, ap, ◌∙◌, arith, rules, min}
-use Rattle.std.proofs.lemmas.List.{places, take_more, get_or-drop, get_or-take, length-drop, drop-take, take-take, drop-drop, take_all, length-take}
+use Rattle.std.proofs.lemmas.List.{places, take_more, get_or-drop, get_or-take, length-drop, drop-take, take-take, drop-drop, take_all, length-take, drop-append-le, take-append-le}
 use Rattle.std.proofs.Math.Seq.{take-add}
 use Rattle.std.proofs.lemmas.Bool.{cases_lt}
 use Rattle.arrow2_model.specs.Parts.{part}
@@ -37,3 +37,9 @@ take-part items a n m h = take-take n m (drop a items) h
 
 pub drop-part : {X : Type 0} (items : List X) (a n m : ℕ) → drop n (part items a (n + m)) ≡ part items (a + n) m
 drop-part items a n m = drop-take n m (drop a items) ∙ ap (take m) (drop-drop n a items)
+
+-- a part of a front
+pub part-front : {X : Type 0} (front back : List X) (a n : ℕ) → a + n ≤ length front → part (front ++ back) a n ≡ part front a n
+part-front front back a n h =
+    let d = length-drop a front in
+    ap (take n) (drop-append-le a front back (omega arith)) ∙ take-append-le n (drop a front) back (omega (arith, d))
