@@ -1,10 +1,11 @@
 //! Words as lists of bits.
-ghost use Rattle.std.specs.Prelude.{◌≡◌, ◌+◌, ◌-◌, ◌*◌, ◌<◌, ◌≤◌, ◌^◌, ◌++◌, ◌&&◌, ◌||◌, ℕ, List, length, take, drop, replicate, map, not, false, pos, refl};
+ghost use Rattle.std.specs.Prelude.{◌≡◌, ◌+◌, ◌-◌, ◌*◌, ◌<◌, ◌≤◌, ◌^◌, ◌++◌, ◌&&◌, ◌||◌, ℕ, List, length, take, drop, replicate, map, not, false, pos, refl, [], ◌∷◌, MatchOption};
 ghost use Rattle.std.specs.Bool.{xor};
 ghost use Rattle.std.proofs.Common.{lit≤};
 ghost use lib.Lanes.{zip2};
 ghost use Rattle.num_traits.specs.Laws.{bit_len};
 ghost use Rattle.arrow2_model.specs.Bits.{bit, bits, unnum};
+ghost use Rattle.arrow2_model.specs.Ones.{ones};
 ghost use Rattle.arrow2_model.specs.Digits.{digits, natural_from};
 
 use arrow2_types::native::NativeType;
@@ -91,6 +92,20 @@ pub trait BitChunk: PrimInt + NativeType {
             ≡ drop k (unnum WIDTH (number self)) ++ replicate k false }
         ensures fits { number result < 2 ^ WIDTH };
 
+    /// The place of the lowest set bit, or `None` where no bit is set.
+    fn first_one(self) -> Option<usize>
+        ensures { MatchOption result (ones (unnum WIDTH (number self)) ≡ [])
+            (λ i. ones (unnum WIDTH (number self)) ≡ i ∷ drop 1 (ones (unnum WIDTH (number self)))) };
+
+    /// The word without its lowest set bit, where it has one.
+    fn without_first_one(self) -> Self
+        ensures ones { ones (unnum WIDTH (number result)) ≡ drop 1 (ones (unnum WIDTH (number self))) }
+        ensures fits { number result < 2 ^ WIDTH };
+
+    /// How many bits are set.
+    fn ones_count(self) -> usize
+        ensures { result ≡ length (ones (unnum WIDTH (number self))) };
+
     // A word has eight bits a byte.
     ghost size_law: { 8 * Self.SIZE ≡ WIDTH };
 
@@ -110,7 +125,7 @@ pub trait BitChunk: PrimInt + NativeType {
     ghost number_law: { (bytes : List ℕ) → number (Self.of_le bytes) ≡ natural_from Self.SIZE bytes };
 }
 
-#[tactic(auto, using(arrow2_model::proofs::Chunks::chunks, arrow2_model::proofs::Chunks::chunk_bytes, arrow2_model::proofs::Digits::u8_bytes))]
+#[tactic(auto, using(arrow2_model::proofs::Chunks::chunks, arrow2_model::proofs::Chunks::chunk_bytes, arrow2_model::proofs::Ones::set_bits, arrow2_model::proofs::Digits::u8_bytes))]
 impl BitChunk for u8 {
     ghost WIDTH = { 8 };
 
@@ -177,9 +192,25 @@ impl BitChunk for u8 {
     fn down(self, k: usize) -> u8 {
         self >> k
     }
+
+    fn first_one(self) -> Option<usize> {
+        if self == 0 {
+            None
+        } else {
+            Some(self.trailing_zeros() as usize)
+        }
+    }
+
+    fn without_first_one(self) -> u8 {
+        self & self.wrapping_sub(1)
+    }
+
+    fn ones_count(self) -> usize {
+        self.count_ones() as usize
+    }
 }
 
-#[tactic(auto, using(arrow2_model::proofs::Chunks::chunks, arrow2_model::proofs::Chunks::chunk_bytes, arrow2_model::proofs::Digits::unsigned_bytes))]
+#[tactic(auto, using(arrow2_model::proofs::Chunks::chunks, arrow2_model::proofs::Chunks::chunk_bytes, arrow2_model::proofs::Ones::set_bits, arrow2_model::proofs::Digits::unsigned_bytes))]
 impl BitChunk for u16 {
     ghost WIDTH = { 16 };
 
@@ -246,9 +277,25 @@ impl BitChunk for u16 {
     fn down(self, k: usize) -> u16 {
         self >> k
     }
+
+    fn first_one(self) -> Option<usize> {
+        if self == 0 {
+            None
+        } else {
+            Some(self.trailing_zeros() as usize)
+        }
+    }
+
+    fn without_first_one(self) -> u16 {
+        self & self.wrapping_sub(1)
+    }
+
+    fn ones_count(self) -> usize {
+        self.count_ones() as usize
+    }
 }
 
-#[tactic(auto, using(arrow2_model::proofs::Chunks::chunks, arrow2_model::proofs::Chunks::chunk_bytes, arrow2_model::proofs::Digits::unsigned_bytes))]
+#[tactic(auto, using(arrow2_model::proofs::Chunks::chunks, arrow2_model::proofs::Chunks::chunk_bytes, arrow2_model::proofs::Ones::set_bits, arrow2_model::proofs::Digits::unsigned_bytes))]
 impl BitChunk for u32 {
     ghost WIDTH = { 32 };
 
@@ -315,9 +362,25 @@ impl BitChunk for u32 {
     fn down(self, k: usize) -> u32 {
         self >> k
     }
+
+    fn first_one(self) -> Option<usize> {
+        if self == 0 {
+            None
+        } else {
+            Some(self.trailing_zeros() as usize)
+        }
+    }
+
+    fn without_first_one(self) -> u32 {
+        self & self.wrapping_sub(1)
+    }
+
+    fn ones_count(self) -> usize {
+        self.count_ones() as usize
+    }
 }
 
-#[tactic(auto, using(arrow2_model::proofs::Chunks::chunks, arrow2_model::proofs::Chunks::chunk_bytes, arrow2_model::proofs::Digits::unsigned_bytes))]
+#[tactic(auto, using(arrow2_model::proofs::Chunks::chunks, arrow2_model::proofs::Chunks::chunk_bytes, arrow2_model::proofs::Ones::set_bits, arrow2_model::proofs::Digits::unsigned_bytes))]
 impl BitChunk for u64 {
     ghost WIDTH = { 64 };
 
@@ -383,5 +446,21 @@ impl BitChunk for u64 {
 
     fn down(self, k: usize) -> u64 {
         self >> k
+    }
+
+    fn first_one(self) -> Option<usize> {
+        if self == 0 {
+            None
+        } else {
+            Some(self.trailing_zeros() as usize)
+        }
+    }
+
+    fn without_first_one(self) -> u64 {
+        self & self.wrapping_sub(1)
+    }
+
+    fn ones_count(self) -> usize {
+        self.count_ones() as usize
     }
 }

@@ -2,3 +2,4 @@
 #![tactic(auto)]
 
 pub mod bit_chunk;
+pub mod bit_chunk_iter;

@@ -7,26 +7,28 @@ use mathlib.Core.Bool.{xor}
 use lib.Lanes.{zip2}
 use Rattle.std.proofs.Math.Nat.{div-div-eq-div-mul, div-lt_iff_lt-mul, div-one, mod-lt, pow-suc, pow-succ'}
 use Rattle.std.proofs.lemmas.Bool.{cases_lt}
-use Rattle.std.proofs.lemmas.List.{ext_get_or, get_or_append_left, get_or-append_right, get_or-take, get_or-drop, length-append, length-take, length-drop, length-replicate, get_or-replicate, take_all, append-nil}
+use Rattle.std.proofs.lemmas.List.{drop_more, ext_get_or, get_or_append_left, get_or-append_right, get_or-take, get_or-drop, length-append, length-take, length-drop, length-replicate, get_or-replicate, take_all, append-nil}
 use Rattle.std.proofs.lemmas.Simd.{length-zip2, get_or-zip2}
 use Rattle.std.proofs.lemmas.Nat.{shr_split, pow_pos, one_shl}
 use Rattle.std.proofs.lemmas.Nat.Bits.{bit_at_and, bit_at_or, bit_at_xor, bit_at-lt, bit_at-zero, bit_at_above, bit_at_cat_low, bit_at_cat_high}
-use Rattle.arrow2_model.specs.Bits.{unnum, bits, num}
+use Rattle.arrow2_model.specs.Bits.{unnum, bit, bits, num}
 use Rattle.arrow2_model.specs.Digits.{low_digits, natural_from}
 use Rattle.arrow2_model.proofs.Bits.{bit_is, bit_shifted, get_or-unnum, length-unnum, bits-nil, bits-cons, length-bits}
+use Rattle.arrow2_model.specs.Parts.{part}
+use Rattle.arrow2_model.proofs.Parts.{length-part}
 use Rattle.arrow2_model.proofs.Numbers.{num-unnum, unnum-num}
 use Rattle.arrow2_model.proofs.Digits.{low_digits-zero, low_digits-suc, natural_from-all, natural_from-lt, low_digits-number, low_bytes}
 
 -- a list with the bits of x is the word x
-word_is : (w x : ℕ) (xs : List Bool) → length xs ≡ w → ((i : ℕ) → i < w → get_or xs i false ≡ (bit_at x i == 1)) → unnum w x ≡ xs
+pub word_is : (w x : ℕ) (xs : List Bool) → length xs ≡ w → ((i : ℕ) → i < w → get_or xs i false ≡ (bit_at x i == 1)) → unnum w x ≡ xs
 word_is w x xs l h =
     let n = length-unnum w x in
     ext_get_or false (unnum w x) xs (n ∙ sym l) (λ i k. get_or-unnum w x i false (omega (arith, n)) ∙ (bit_is x i ∙ sym (h i (omega (arith, n)))))
 
-item_is : (w x i : ℕ) → i < w → get_or (unnum w x) i false ≡ (bit_at x i == 1)
+pub item_is : (w x i : ℕ) → i < w → get_or (unnum w x) i false ≡ (bit_at x i == 1)
 item_is w x i h = get_or-unnum w x i false h ∙ bit_is x i
 
-same_test : (a b : ℕ) → a ≡ b → (a == 1) ≡ (b == 1)
+pub same_test : (a b : ℕ) → a ≡ b → (a == 1) ≡ (b == 1)
 same_test a b e = ap (λ t. t == 1) e
 
 bit_at_down : (x n i : ℕ) → bit_at (x / 2 ^ n) i ≡ bit_at x (n + i)
@@ -223,3 +225,19 @@ read_bits w x bytes l e h =
 pub ruleset chunks = (unnum-down, unnum-up, unnum-masked, unnum-kept, unnum-and, unnum-or_each, unnum-xor, unnum-not, bit_shifted, or_fits, xor_fits)
 
 pub ruleset chunk_bytes = (low_bytes_bits, one_byte_bits, read_bits)
+
+-- ---- a walk over the bits of a word
+
+pub word_none : (w x i e : ℕ) → i ≡ e → part (unnum w x) i (e - i) ≡ []
+word_none w x i e h = let n : e - i ≡ 0 = omega arith in rw n refl
+
+pub word_first : (w x i e : ℕ) → i < e → e ≤ w → part (unnum w x) i (e - i) ≡ bit x i ∷ part (unnum w x) (i + 1) (e - (i + 1))
+word_first w x i e h k =
+    let l = length-unnum w x in
+    let n : e - i ≡ suc (e - (i + 1)) = omega arith in
+    rw n (ap (take (suc (e - (i + 1)))) (drop_more (unnum w x) i false (omega (arith, l))) ∙ ap (λ (b : Bool). b ∷ part (unnum w x) (i + 1) (e - (i + 1))) (get_or-unnum w x i false (omega arith)))
+
+pub length-word_part : (w x i e : ℕ) → i ≤ e → e ≤ w → length (part (unnum w x) i (e - i)) ≡ e - i
+length-word_part w x i e h k = let l = length-unnum w x in length-part (unnum w x) i (e - i) (omega (arith, l))
+
+pub ruleset word_walk = (word_none, word_first, length-word_part)

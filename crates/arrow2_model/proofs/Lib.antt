@@ -6,6 +6,7 @@ pub mod Counts
 pub mod Digits
 pub mod Merged
 pub mod Numbers
+pub mod Ones
 pub mod Parts
 pub mod Shown
 pub mod Walks

@@ -1,0 +1,122 @@
+//! Walks over the bits of a word and over the places of its set bits.
+ghost use Rattle.std.specs.Prelude.{◌≡◌, ◌≤◌, length, take, Some, IfSome};
+ghost use Rattle.std.specs.Iterator.{YieldsFirst, item_count, UpTo};
+ghost use Rattle.std.specs.Iterator.SizeHint.{IsWithinCount};
+ghost use Rattle.arrow2_model.specs.Bits.{unnum};
+ghost use Rattle.arrow2_model.specs.Ones.{ones};
+
+use crate::bit_chunk::BitChunk;
+use std::marker::Model;
+
+/// A walk over the lowest bits of a word: contracts see the list of the items still to come.
+#[derive(Drop)]
+pub struct BitChunkIter<T: BitChunk> {
+    value: T,
+    index: usize,
+    end: usize,
+}
+
+impl<T: BitChunk> Model for BitChunkIter<T> {
+    ghost use Rattle.std.specs.Prelude.{◌-◌, ◌≤◌, List, Bool};
+    ghost use Rattle.arrow2_model.specs.Bits.{unnum};
+    ghost use Rattle.arrow2_model.specs.Parts.{part};
+
+    ghost Value = { List Bool };
+
+    ghost view = { λ i. part (unnum T.WIDTH (T.number i.value)) i.index (i.end - i.index) };
+
+    ghost invariant = { λ i. (i.index ≤ i.end) × (i.end ≤ T.WIDTH) };
+}
+
+#[tactic(auto, using(arrow2_model::proofs::Chunks::word_walk))]
+impl<T: BitChunk> BitChunkIter<T> {
+    /// The walk over the lowest `len` bits of the word. Asks that `len` is at most `WIDTH`.
+    pub fn new(value: T, len: usize) -> BitChunkIter<T>
+        requires { len ≤ T.WIDTH }
+        ensures { result ≡ take len (unnum T.WIDTH (T.number value)) }
+    {
+        BitChunkIter {
+            value,
+            index: 0,
+            end: len,
+        }
+    }
+}
+
+#[tactic(auto, using(arrow2_model::proofs::Chunks::word_walk))]
+impl<T: BitChunk> Iterator for BitChunkIter<T> {
+    type Item = bool;
+
+    ghost next_gives = { YieldsFirst (λ s. s) };
+
+    ghost remaining = { item_count (λ s. s) };
+
+    fn next(&mut self) -> Option<bool> {
+        if self.index == self.end {
+            return None;
+        }
+        let item = self.value.bit(self.index);
+        self.index += 1;
+        Some(item)
+    }
+
+    /// Both bounds are the number of items still to come.
+    fn size_hint(&self) -> (usize, Option<usize>)
+        ensures lower { IsWithinCount result.0 (item_count (λ s. s) self.now) }
+        ensures upper { IfSome result.1 (UpTo (item_count (λ s. s) self.now)) }
+        ensures exact { (result.0 ≡ length self.now) × (result.1 ≡ Some (length self.now)) }
+    {
+        let left = self.end - self.index;
+        (left, Some(left))
+    }
+}
+
+/// A walk over the places of the set bits of a word, rising: contracts see the list of the places still
+/// to come. Each step goes to the next set bit at once.
+#[derive(Drop)]
+pub struct BitChunkOnes<T: BitChunk> {
+    value: T,
+}
+
+impl<T: BitChunk> Model for BitChunkOnes<T> {
+    ghost use Rattle.std.specs.Prelude.{List, ℕ};
+    ghost use Rattle.arrow2_model.specs.Bits.{unnum};
+    ghost use Rattle.arrow2_model.specs.Ones.{ones};
+
+    ghost Value = { List ℕ };
+
+    ghost view = { λ i. ones (unnum T.WIDTH (T.number i.value)) };
+}
+
+impl<T: BitChunk> BitChunkOnes<T> {
+    /// The walk over the places of the set bits of the word.
+    pub fn new(value: T) -> BitChunkOnes<T>
+        ensures { result ≡ ones (unnum T.WIDTH (T.number value)) }
+    {
+        BitChunkOnes { value }
+    }
+}
+
+impl<T: BitChunk> Iterator for BitChunkOnes<T> {
+    type Item = usize;
+
+    ghost next_gives = { YieldsFirst (λ s. s) };
+
+    ghost remaining = { item_count (λ s. s) };
+
+    fn next(&mut self) -> Option<usize> {
+        let place = self.value.first_one()?;
+        self.value = self.value.without_first_one();
+        Some(place)
+    }
+
+    /// Both bounds are the number of places still to come.
+    fn size_hint(&self) -> (usize, Option<usize>)
+        ensures lower { IsWithinCount result.0 (item_count (λ s. s) self.now) }
+        ensures upper { IfSome result.1 (UpTo (item_count (λ s. s) self.now)) }
+        ensures exact { (result.0 ≡ length self.now) × (result.1 ≡ Some (length self.now)) }
+    {
+        let left = self.value.ones_count();
+        (left, Some(left))
+    }
+}
