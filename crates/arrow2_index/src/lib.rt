@@ -3,3 +3,5 @@
 
 pub mod bit_chunk;
 pub mod bit_chunk_iter;
+pub mod index;
+pub mod offset;

@@ -8,6 +8,7 @@ pub mod Merged
 pub mod Numbers
 pub mod Ones
 pub mod Parts
+pub mod Ranges
 pub mod Shown
 pub mod Walks
 pub mod Words

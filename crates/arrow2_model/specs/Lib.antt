@@ -4,6 +4,7 @@ pub mod Canonical
 pub mod Digits
 pub mod Ones
 pub mod Parts
+pub mod Ranges
 pub mod Shown
 pub mod Storage
 pub mod Words

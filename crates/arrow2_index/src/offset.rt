@@ -1,0 +1,49 @@
+//! The numbers that offsets are made of.
+ghost use Rattle.std.specs.Prelude.{◌≤◌, ◌↔◌, ℕ, pos, Bool, true, false};
+ghost use Rattle.std.specs.Int.{w32, w64};
+ghost use Rattle.arrow2_model.proofs.Ranges.{fits_below, below_fits};
+
+use crate::index::Index;
+
+/// A number that an offset into values may be: `i32` or `i64` (Arrow columnar format, "Variable-size
+/// Binary Layout").
+pub trait Offset: Index {
+    // Whether the offsets have 64 bits.
+    ghost IS_LARGE: { Bool };
+
+    // The greatest offset.
+    ghost MAX: { ℕ };
+
+    /// Whether the offsets have 64 bits.
+    const IS_LARGE: bool;
+
+    /// The greatest offset.
+    const MAX: usize;
+
+    // A natural number is an offset exactly if it is at most the greatest one.
+    ghost max_law: { (n : ℕ) → Self.fits (pos n) ↔ (n ≤ MAX) };
+}
+
+impl Offset for i32 {
+    ghost IS_LARGE = { false };
+
+    ghost MAX = { 2147483647 };
+
+    ghost max_law = { λ n. (fits_below w32 n, below_fits w32 n) };
+
+    const IS_LARGE: bool = false;
+
+    const MAX: usize = 2147483647;
+}
+
+impl Offset for i64 {
+    ghost IS_LARGE = { true };
+
+    ghost MAX = { 9223372036854775807 };
+
+    ghost max_law = { λ n. (fits_below w64 n, below_fits w64 n) };
+
+    const IS_LARGE: bool = true;
+
+    const MAX: usize = 9223372036854775807;
+}
