@@ -3,7 +3,8 @@ ghost use Rattle.std.specs.Prelude.{◌≡◌, ◌≢◌, ◌+◌, ◌-◌, ◌�
 ghost use Rattle.std.specs.Bool.{OnTrue, OnFalse};
 ghost use Rattle.std.specs.Fmt.{debug_list};
 ghost use Rattle.std.specs.Fn.{FnOnceReturnsAtMut};
-ghost use Rattle.std.specs.Iterator.{Drains, IsFinite};
+ghost use Rattle.std.specs.Iterator.{IsFinite};
+ghost use Rattle.std.specs.Iterator.Runs.{WholeRun};
 ghost use Rattle.std.specs.Ordering.{on};
 ghost use Rattle.std.specs.Cmp.{on_per, on_equiv};
 ghost use Rattle.std.specs.Cmp.Lexicographic.{pointwise, lists_per, lists_equiv};
@@ -221,7 +222,7 @@ impl<T: Drop> Buffer<T> {
     /// `OutOfMemory` where the items, or the count of their owners, find no memory.
     pub fn try_from_iter<I: IntoIterator<Item = T>>(alloc: Global, iter: I) -> Result<Self>
         requires { (it : I.IntoIter) → I.into_iter_gives iter it → I.IntoIter.can_next it × IsFinite (I.IntoIter.remaining it) }
-        ensures items { IfOk result (λ b. (it : I.IntoIter) × (xs : List T) × I.into_iter_gives iter it × Drains I.IntoIter.next_gives it xs × (b ≡ whole_buffer xs)) }
+        ensures items { IfOk result (λ b. (it : I.IntoIter) × I.into_iter_gives iter it × WholeRun I.IntoIter.next_gives it (λ p. b ≡ whole_buffer p.items)) }
         ensures only { IfErr result (λ e. e ≡ OutOfMemory) }
     {
         let mut items = Vec::new(alloc);

@@ -1,11 +1,12 @@
 //! Buffers as their callers see them: printed texts, sharing, and iterators that lie about their size.
-ghost use Rattle.std.specs.Prelude.{◌≡◌, ◌+◌, length, replicate};
+ghost use Rattle.std.specs.Prelude.{◌≡◌, ◌+◌, length, replicate, IfOk};
 ghost use Rattle.std.specs.Bool.{OnTrue, OnFalse};
 ghost use Rattle.std.specs.Iterator.{at_most};
-ghost use Rattle.arrow2_model.specs.Buffers.{buffer_items};
+ghost use Rattle.arrow2_model.specs.Buffers.{buffer_items, whole_buffer};
 
 use super::*;
 use crate::bytes::Bytes;
+use arrow2_types::error::Error;
 use either::Either;
 use std::alloc::{AllocError, Global};
 use std::rc::Rc;
@@ -200,5 +201,32 @@ fn a_size_hint_is_not_believed(rt: HostRuntime) -> Result<(), Fail> {
         let buffer = Buffer::try_from_iter(rt.alloc(), items)?;
         assert_eq!(rt; buffer.as_slice(), [true, true, true].as_slice());
     }
+    Ok(())
+}
+
+/// What a caller of `try_from_iter` knows: the items of the walk.
+fn collected(alloc: Global, walk: IntoIter<u32>) -> arrow2_types::error::Result<Buffer<u32>>
+    ensures { IfOk result (λ buffer. buffer ≡ whole_buffer walk) }
+{
+    Buffer::try_from_iter(alloc, walk)
+}
+
+/// The bounds alone, as generic callers have them.
+fn made_and_cloned<B: TryFrom<Vec<u32>, Error = Error> + Clone + PartialEq>(
+    items: Vec<u32>,
+) -> Result<(B, bool), Fail> {
+    let made = B::try_from(items)?;
+    let same = made.clone()? == made;
+    Ok((made, same))
+}
+
+#[test]
+fn generic_callers_see_the_items(rt: HostRuntime) -> Result<(), Fail> {
+    let (buffer, same): (Buffer<u32>, bool) = made_and_cloned(vec![in rt.alloc(); 1, 2, 3]?)?;
+    assert!(rt; same);
+    let backward = Vec::from_iter(rt.alloc(), buffer.clone()?.into_iter().rev())?;
+    assert_eq!(rt; backward.as_slice(), [3, 2, 1].as_slice());
+    let again = collected(rt.alloc(), buffer.into_iter())?;
+    assert_eq!(rt; again.as_slice(), [1, 2, 3].as_slice());
     Ok(())
 }
