@@ -1,5 +1,5 @@
 //! A list that is shared, cloned and sliced in constant time.
-ghost use Rattle.std.specs.Prelude.{◌≡◌, ◌≢◌, ◌+◌, ◌-◌, ◌≤◌, ◌↔◌, List, [], length, IsTrue, IfOk, IfErr, IfSome, MatchResult, ⊤};
+ghost use Rattle.std.specs.Prelude.{◌≡◌, ◌≢◌, ◌+◌, ◌-◌, ◌^◌, ◌<◌, ◌≤◌, ◌↔◌, List, [], length, IsTrue, IfOk, IfErr, IfSome, MatchResult, ⊤};
 ghost use Rattle.std.specs.Bool.{OnTrue, OnFalse};
 ghost use Rattle.std.specs.Fmt.{debug_list};
 ghost use Rattle.std.specs.Fn.{FnOnceReturnsAtMut};
@@ -55,6 +55,7 @@ impl<T> Buffer<T> {
         ensures items { result ≡ length (buffer_items self.now) }
         ensures value { result ≡ self.now.len }
         ensures inside { self.now.offset + result ≤ length self.now.storage }
+        ensures fits { self.now.offset + result < 2 ^ 64 }
     {
         self.len
     }
@@ -111,6 +112,7 @@ impl<T> Buffer<T> {
         self.slice(offset, length);
         self
     }
+
     /// The items, to be written, where no one else shares the storage; None elsewhere. Takes no
     /// memory.
     ///
@@ -280,7 +282,8 @@ impl<T: fmt::Debug> fmt::Debug for Buffer<T> {
     }
 }
 
-/// The same storage, offset and length. Takes no memory.
+/// The same storage, offset and length. Takes no memory: it is refused only where the count of owners
+/// is full.
 impl<T: Drop> Clone for Buffer<T> {
     ghost is_clone = { λ b copy. copy ≡ b };
 

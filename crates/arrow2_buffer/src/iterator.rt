@@ -85,7 +85,8 @@ impl<T: Copy> DoubleEndedIterator for IntoIter<T> {
     }
 }
 
-/// The same items still to come. Takes no memory.
+/// The same items still to come. Takes no memory: it is refused only where the count of the buffer's
+/// owners is full.
 impl<T: Copy> Clone for IntoIter<T> {
     ghost is_clone = { λ i copy. copy ≡ i };
 
