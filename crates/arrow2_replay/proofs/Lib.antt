@@ -1,4 +1,5 @@
 pub mod CommandLemmas
+pub mod LawLemmas
 pub mod LineLemmas
 pub mod MachineLemmas
 pub mod SlotLemmas

@@ -3,6 +3,7 @@
 
 pub mod command;
 pub mod fault;
+pub mod laws;
 pub mod lines;
 pub mod machine;
 pub mod refusal;
