@@ -1,10 +1,11 @@
 //! A bitmap over shared bytes.
-ghost use Rattle.std.specs.Prelude.{◌≡◌, ◌+◌, ◌*◌, ◌/◌, ◌%◌, ◌<◌, ◌≤◌, ◌↔◌, [], false, length, length as length', replicate, slice_index_or, take, OnOk, IsOk, IfOk, IfErr, IsTrue, MatchResult, vec_len, codes};
+ghost use Rattle.std.specs.Prelude.{◌≡◌, ◌+◌, ◌*◌, ◌/◌, ◌%◌, ◌<◌, ◌≤◌, ◌↔◌, [], false, length, length as length', replicate, slice_index_or, take, OnOk, IsOk, IfOk, IfErr, IsTrue, Some, MatchResult, vec_len, codes};
 ghost use Rattle.std.specs.List.{slice_get};
 ghost use Rattle.either.specs.Either.{MatchEither};
 ghost use Rattle.arrow2_model.specs.Bits.{bits};
 ghost use Rattle.arrow2_model.specs.Parts.{part, falses};
 ghost use Rattle.arrow2_model.specs.Canonical.{canonical_bytes};
+ghost use Rattle.arrow2_model.specs.Shown.{shown};
 ghost use Rattle.arrow2_model.specs.Storage.{BitmapStorage, items_of};
 ghost use Rattle.arrow2_types.specs.Refusals.{IsInvalidArgument};
 ghost use Rattle.arrow2_types.specs.declared.error.Error.TheVariants.{OutOfMemory};
@@ -19,6 +20,7 @@ use arrow2_types::error::{Error, Result};
 use either::Either;
 use std::alloc::{AllocError, Global};
 use std::convert::TryFrom;
+use std::fmt;
 use std::marker::Model;
 use std::rc::Rc;
 
@@ -315,5 +317,15 @@ impl TryFrom<MutableBitmap> for Bitmap {
     fn try_from(bitmap: MutableBitmap) -> Result<Bitmap> {
         let (bytes, length) = bitmap.into_parts();
         Bitmap::from_u8_vec(bytes, length)
+    }
+}
+
+/// The text of the bits of [`Bitmap::as_slice`] by [`arrow2_bits::fmt::fmt`].
+impl fmt::Debug for Bitmap {
+    ghost debug_output = { λ b. Some (shown (part b.bytes (b.offset / 8) ((b.offset % 8 + b.len + 7) / 8)) (b.offset % 8) b.len) };
+
+    fn fmt<W: fmt::Write>(&self, f: &mut fmt::Formatter<W>) -> fmt::Result {
+        let (bytes, offset, length) = self.as_slice();
+        arrow2_bits::fmt::fmt(bytes, offset, length, f)
     }
 }

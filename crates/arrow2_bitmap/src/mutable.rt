@@ -1,8 +1,9 @@
 //! A bitmap that grows.
-ghost use Rattle.std.specs.Prelude.{◌≡◌, ◌+◌, ◌-◌, ◌*◌, ◌/◌, ◌<◌, ◌≤◌, ◌^◌, ◌↔◌, ◌⊎◌, [], ◌∷◌, ◌++◌, false, length, take, slice_index_or, slice_set, OnOk, OnErr, IsOk, IsErr, IfOk, IfErr, IsErrOf, IsTrue, IfNone, MatchOption, codes, vec_len, vec_capacity};
+ghost use Rattle.std.specs.Prelude.{◌≡◌, ◌+◌, ◌-◌, ◌*◌, ◌/◌, ◌<◌, ◌≤◌, ◌^◌, ◌↔◌, ◌⊎◌, [], ◌∷◌, ◌++◌, false, length, take, slice_index_or, slice_set, OnOk, OnErr, IsOk, IsErr, IfOk, IfErr, IsErrOf, IsTrue, IfNone, MatchOption, Some, codes, vec_len, vec_capacity};
 ghost use Rattle.arrow2_model.specs.Bits.{bits};
 ghost use Rattle.arrow2_model.specs.Parts.{falses};
 ghost use Rattle.arrow2_model.specs.Canonical.{canonical_bytes, IsCanonical};
+ghost use Rattle.arrow2_model.specs.Shown.{shown};
 ghost use Rattle.arrow2_model.specs.Storage.{GrowingBitmap};
 ghost use Rattle.arrow2_types.specs.Refusals.{IsInvalidArgument};
 ghost use Rattle.arrow2_bitmap.specs.Refused.{too_long};
@@ -12,6 +13,7 @@ use arrow2_bits::iterator::BitmapIter;
 use arrow2_bits::{bytes_for, count_zeros, get_bit, set_bit};
 use arrow2_types::error::{Error, Result};
 use std::alloc::{AllocError, Global};
+use std::fmt;
 use std::marker::Model;
 
 /// A bitmap that grows: contracts see its items and its capacity, both in bits.
@@ -261,4 +263,13 @@ fn push_bit(buffer: &mut Vec<u8>, length: usize, value: bool) -> std::result::Re
         buffer[length / 8] |= u8::from(value) << place;
     }
     Ok(())
+}
+
+/// The text of its bytes from bit 0 on by [`arrow2_bits::fmt::fmt`].
+impl fmt::Debug for MutableBitmap {
+    ghost debug_output = { λ m. Some (shown (canonical_bytes m.items) 0 (length m.items)) };
+
+    fn fmt<W: fmt::Write>(&self, f: &mut fmt::Formatter<W>) -> fmt::Result {
+        arrow2_bits::fmt::fmt(self.buffer.as_slice(), 0, self.length, f)
+    }
 }

@@ -11,7 +11,7 @@ use std::fmt;
 /// eight bits from the highest to the lowest, with `_` for a bit that is none of them, in brackets
 /// and joined by commas. No bits are `[]`. The formatter's options change nothing.
 ///
-/// Asks that `offset` is below 8, and that the bits are inside the bytes.
+/// Asks that `offset` is below 8, and that the bits are inside the bytes or that `length` is 0.
 /// arrow2 may print a byte behind the bits in place of the last one.
 pub fn fmt<W: fmt::Write>(
     bytes: &[u8],
@@ -20,7 +20,7 @@ pub fn fmt<W: fmt::Write>(
     f: &mut fmt::Formatter<W>,
 ) -> fmt::Result
     requires offset { offset < 8 }
-    requires inside { offset + length ≤ 8 * count bytes.now }
+    requires inside { 0 < length → offset + length ≤ 8 * count bytes.now }
     ensures writes { WritesOnOk W.write_str_gives f.old result (shown bytes.now offset length) f.new }
     ensures styled { WritesStyledOnOk W.write_str_gives f.old result (shown bytes.now offset length) f.new }
 {

@@ -1,4 +1,4 @@
-use Rattle.std.proofs.Common.{◌≡◌, ◌+◌, ◌-◌, ◌*◌, ◌<◌, ◌≤◌, ◌++◌, ◌∷◌, [], ℕ, List, length, get_or, min, refl, sym, ap, subst, ◌∙◌, arith}
+use Rattle.std.proofs.Common.{◌≡◌, ◌+◌, ◌-◌, ◌*◌, ◌<◌, ◌≤◌, ◌++◌, ◌∷◌, [], ℕ, zero, suc, List, length, get_or, min, true, refl, sym, ap, subst, ◌∙◌, arith}
 use Rattle.std.specs.Prelude.{codes}
 use Rattle.std.specs.declared.fmt.Formatter.{Formatter}
 use Rattle.std.specs.Fmt.{HasWritten, HasWrittenStyled, IsPlainFormatter, IsDefaultSpec}
@@ -17,7 +17,7 @@ loop-byte-init g c = (
   omega arith,
   λ flush.
       has_written_styled_of_eq _ _ _ _ _ (shown_front_none c.args.bytes.now c.args.offset c.args.length)
-      (c.in_ok-write_str.ensures.styled flush refl),
+      (c.in_ok-write_str.ensures.styled flush (refl {a = true})),
 )
 
 pub loop-byte-preserved : goal.loop-byte-preserved
@@ -37,17 +37,22 @@ loop-byte-preserved g c =
           let so_far = before.4 flush in
           elim c.if-left-length.branch [
             | then-left-length+in_ok-write_str-2 w ↦
-                let comma = subst (λ x. HasWrittenStyled took a.f.now (front ++ codes ", ") x) (sym w.f-is) (has_written_styled_append _ _ _ _ _ _ so_far (w.in_ok-write_str-2.ensures.styled so_far.flush refl)) in
+                let comma = subst (λ x. HasWrittenStyled took a.f.now (front ++ codes ", ") x) (sym w.f-is) (has_written_styled_append _ _ _ _ _ _ so_far (w.in_ok-write_str-2.ensures.styled so_far.flush (refl {a = true}))) in
                 has_written_styled_of_eq _ _ _ _ _
                 (append_assoc front (codes ", ") (shown_byte (get_or a.bytes.now j 0 ∷ []) c.loop-byte.start c.min-here.result 0) ∙ (ap (λ t. front ++ (codes ", " ++ t)) byte ∙ sym (shown_front_more a.bytes.now a.offset a.length j (j + 1) (omega (arith, w.if-left-length.true)) refl)))
-                (has_written_styled_append _ _ _ _ _ _ comma (c.in_ok-write_byte.ensures comma.flush refl))
+                (has_written_styled_append _ _ _ _ _ _ comma (c.in_ok-write_byte.ensures comma.flush (refl {a = true})))
             | else-left-length w ↦
                 let same = subst (λ x. HasWrittenStyled took a.f.now front x) (sym w.f-is) so_far in
                 has_written_styled_of_eq _ _ _ _ _
                 (ap (λ t. front ++ t) byte ∙ sym (shown_front_first a.bytes.now a.offset a.length j (j + 1) (omega (arith, w.if-left-length.false)) refl))
-                (has_written_styled_append _ _ _ _ _ _ same (c.in_ok-write_byte.ensures same.flush refl))
+                (has_written_styled_append _ _ _ _ _ _ same (c.in_ok-write_byte.ensures same.flush (refl {a = true})))
           ],
     )
+
+-- no bit is left behind the last byte
+none_left : (n offset len j : ℕ) → (0 < len → offset + len ≤ 8 * n) → n ≤ j → len ≤ 8 * j - offset
+none_left n offset zero j inside end = omega arith
+none_left n offset (suc len) j inside end = omega (arith, inside (omega arith))
 
 pub returns-clause-styled : goal.returns-clause-styled
 returns-clause-styled g c = λ flush ok.
@@ -55,7 +60,7 @@ returns-clause-styled g c = λ flush ok.
     let j = c.loop-byte.byte-index in
     let before = c.loop-byte.invariant in
     let so_far = before.4 flush in
-    let all : a.length ≤ 8 * j - a.offset = elim c.loop-byte-test.branch [ else-loop-byte-test w ↦ omega (arith, w.loop-byte-test.false) | then-loop-byte-test+then-left-eq0 w ↦ omega (arith, w.if-left-eq0.true) ] in
+    let all : a.length ≤ 8 * j - a.offset = elim c.loop-byte-test.branch [ else-loop-byte-test w ↦ none_left (length a.bytes.now) a.offset a.length j c.requires.inside w.loop-byte-test.false | then-loop-byte-test+then-left-eq0 w ↦ omega (arith, w.if-left-eq0.true) ] in
     has_written_styled_of_eq _ _ _ _ _ (sym (shown_is a.bytes.now a.offset a.length j c.requires.offset c.loop-byte.auto.byte-index-end before.2 before.3 all))
     (has_written_styled_append _ _ _ _ _ _ so_far (c.write_str-2.ensures.styled so_far.flush ok))
 
