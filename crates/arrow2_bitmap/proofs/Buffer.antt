@@ -54,4 +54,5 @@ pub popped : (bytes : List ℕ) (n m : ℕ) → IsCanonical bytes n → n ≡ m 
 popped bytes n m canonical e = let l = length-bits bytes in rw e (take_more (bits bytes) m false (omega (arith, l, canonical.exact)))
 
 pub ruleset writes = (whole_written)
+
 pub ruleset buffers = (length_items, canonical-nil)

@@ -1,6 +1,7 @@
 //! A bitmap over shared bytes.
-ghost use Rattle.std.specs.Prelude.{◌≡◌, ◌+◌, ◌*◌, ◌/◌, ◌%◌, ◌<◌, ◌≤◌, ◌↔◌, [], false, length, length as length', replicate, slice_index_or, take, OnOk, IsOk, IfOk, IfErr, IsTrue, Some, MatchResult, vec_len, codes};
+ghost use Rattle.std.specs.Prelude.{◌≡◌, ◌+◌, ◌*◌, ◌/◌, ◌%◌, ◌<◌, ◌≤◌, ◌↔◌, [], false, length, length as length', replicate, slice_index_or, take, OnOk, IsOk, IfOk, IfErr, IsTrue, Some, MatchResult, vec_len, codes, IsErrOf, ◌^◌, ◌⊎◌, List, Bool};
 ghost use Rattle.std.specs.List.{slice_get};
+ghost use Rattle.std.specs.Iterator.{Drains, IsFinite};
 ghost use Rattle.either.specs.Either.{MatchEither};
 ghost use Rattle.arrow2_model.specs.Bits.{bits};
 ghost use Rattle.arrow2_model.specs.Parts.{part, falses};
@@ -9,6 +10,7 @@ ghost use Rattle.arrow2_model.specs.Shown.{shown};
 ghost use Rattle.arrow2_model.specs.Storage.{BitmapStorage, items_of};
 ghost use Rattle.arrow2_types.specs.Refusals.{IsInvalidArgument};
 ghost use Rattle.arrow2_types.specs.declared.error.Error.TheVariants.{OutOfMemory};
+ghost use Rattle.arrow2_bitmap.specs.Collected.{GivesTooMany};
 ghost use Rattle.arrow2_bitmap.specs.Refused.{too_long};
 
 use crate::check::check_length;
@@ -136,6 +138,21 @@ impl Bitmap {
         Bitmap::try_from(MutableBitmap::from_bools(alloc, items)?)
     }
 
+    /// The bitmap of the items of an iterator that ends, in its order. Its size hint is not read.
+    ///
+    /// # Errors
+    ///
+    /// `Overflow` only after `usize::MAX` items and one more, else `OutOfMemory` alone.
+    pub fn try_from_iter<I: IntoIterator<Item = bool>>(alloc: Global, iter: I) -> Result<Bitmap>
+        requires { (it : I.IntoIter) → I.into_iter_gives iter it → I.IntoIter.can_next it × IsFinite (I.IntoIter.remaining it) }
+        ensures items { IfOk result (λ b. (it : I.IntoIter) × (xs : List Bool) × I.into_iter_gives iter it × Drains I.IntoIter.next_gives it xs × (items_of b ≡ xs)) }
+        ensures fits { IfOk result (λ b. length (items_of b) < 2 ^ 64) }
+        ensures overflow { IsErrOf result Error.Overflow → (it : I.IntoIter) × I.into_iter_gives iter it × GivesTooMany I.IntoIter.next_gives it }
+        ensures only { IfErr result (λ e. (e ≡ Error.Overflow) ⊎ (e ≡ Error.OutOfMemory)) }
+    {
+        Bitmap::try_from(MutableBitmap::try_from_iter(alloc, iter)?)
+    }
+
     /// How many items it has.
     pub fn len(&self) -> usize
         ensures items { result ≡ length (items_of self.now) }
@@ -189,7 +206,11 @@ impl Bitmap {
         let start = self.offset / 8;
         let within = self.offset % 8;
         let count = bytes_for(within + self.length);
-        (&self.bytes.as_slice()[start..start + count], within, self.length)
+        (
+            &self.bytes.as_slice()[start..start + count],
+            within,
+            self.length,
+        )
     }
 
     /// How many items are false. The count is kept, so it takes no walk.
@@ -204,6 +225,15 @@ impl Bitmap {
         ensures { result ≡ falses (items_of self.now) }
     {
         self.unset_bits()
+    }
+
+    /// How many of the `length` items from item `offset` on are false. Asks that they are inside.
+    /// Counts them anew.
+    pub fn null_count_range(&self, offset: usize, length: usize) -> usize
+        requires { offset + length ≤ self.now.len }
+        ensures { result ≡ falses (part (items_of self.now) offset length) }
+    {
+        count_zeros(self.bytes.as_slice(), self.offset + offset, length)
     }
 
     /// Keeps `length` items from item `offset` on, over the same bytes. Asks that they are inside.
@@ -292,6 +322,18 @@ fn copy_items(bitmap: &Bitmap) -> Result<MutableBitmap>
         copy.push(item)?;
     }
     Ok(copy)
+}
+
+impl<'a> IntoIterator for &'a Bitmap {
+    type Item = bool;
+
+    type IntoIter = BitmapIter<'a>;
+
+    ghost into_iter_gives = { λ b walk. walk ≡ items_of b.now };
+
+    fn into_iter(self) -> BitmapIter<'a> {
+        self.iter()
+    }
 }
 
 /// Shares the bytes. Whether there is memory for one more owner is not promised.

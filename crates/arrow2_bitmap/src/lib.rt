@@ -3,7 +3,7 @@
 
 mod check;
 pub mod immutable;
+pub mod iterator;
 pub mod mutable;
-
 #[cfg(test)]
 mod tests;

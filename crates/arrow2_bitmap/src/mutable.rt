@@ -1,11 +1,13 @@
 //! A bitmap that grows.
-ghost use Rattle.std.specs.Prelude.{◌≡◌, ◌+◌, ◌-◌, ◌*◌, ◌/◌, ◌<◌, ◌≤◌, ◌^◌, ◌↔◌, ◌⊎◌, [], ◌∷◌, ◌++◌, false, length, take, slice_index_or, slice_set, OnOk, OnErr, IsOk, IsErr, IfOk, IfErr, IsErrOf, IsTrue, IfNone, MatchOption, Some, codes, vec_len, vec_capacity};
+ghost use Rattle.std.specs.Prelude.{◌≡◌, ◌+◌, ◌-◌, ◌*◌, ◌/◌, ◌<◌, ◌≤◌, ◌^◌, ◌↔◌, ◌⊎◌, [], ◌∷◌, ◌++◌, false, length, take, slice_index_or, slice_set, OnOk, OnErr, IsOk, IsErr, IfOk, IfErr, IsErrOf, IsTrue, IfNone, MatchOption, Some, codes, vec_len, vec_capacity, List, Bool, true, replicate};
+ghost use Rattle.std.specs.Iterator.{Drains, IsFinite};
 ghost use Rattle.arrow2_model.specs.Bits.{bits};
 ghost use Rattle.arrow2_model.specs.Parts.{falses};
 ghost use Rattle.arrow2_model.specs.Canonical.{canonical_bytes, IsCanonical};
 ghost use Rattle.arrow2_model.specs.Shown.{shown};
 ghost use Rattle.arrow2_model.specs.Storage.{GrowingBitmap};
 ghost use Rattle.arrow2_types.specs.Refusals.{IsInvalidArgument};
+ghost use Rattle.arrow2_bitmap.specs.Collected.{GivesTooMany};
 ghost use Rattle.arrow2_bitmap.specs.Refused.{too_long};
 
 use crate::check::check_length;
@@ -89,6 +91,54 @@ impl MutableBitmap {
     {
         let buffer = Vec::with_capacity(alloc, bytes_for(capacity))?;
         Ok(MutableBitmap { buffer, length: 0 })
+    }
+
+    /// `length` items, all false.
+    ///
+    /// # Errors
+    ///
+    /// `OutOfMemory` alone.
+    pub fn from_len_zeroed(alloc: Global, length: usize) -> Result<MutableBitmap>
+        ensures ok { IfOk result (λ m. m.items ≡ replicate length false) }
+        ensures only { IfErr result (λ e. e ≡ Error.OutOfMemory) }
+    {
+        let zeros = vec![in alloc; 0u8; bytes_for(length)]?;
+        Ok(MutableBitmap::from_vec(zeros, length))
+    }
+
+    /// `length` items, all true.
+    ///
+    /// # Errors
+    ///
+    /// `OutOfMemory` alone.
+    pub fn from_len_set(alloc: Global, length: usize) -> Result<MutableBitmap>
+        ensures ok { IfOk result (λ m. m.items ≡ replicate length true) }
+        ensures only { IfErr result (λ e. e ≡ Error.OutOfMemory) }
+    {
+        let ones = vec![in alloc; u8::MAX; bytes_for(length)]?;
+        Ok(MutableBitmap::from_vec(ones, length))
+    }
+
+    /// The bitmap of the items of an iterator that ends, in its order. Its size hint is not read.
+    ///
+    /// # Errors
+    ///
+    /// `Overflow` only after `usize::MAX` items and one more, else `OutOfMemory` alone.
+    pub fn try_from_iter<I: IntoIterator<Item = bool>>(
+        alloc: Global,
+        iter: I,
+    ) -> Result<MutableBitmap>
+        requires { (it : I.IntoIter) → I.into_iter_gives iter it → I.IntoIter.can_next it × IsFinite (I.IntoIter.remaining it) }
+        ensures items { IfOk result (λ m. (it : I.IntoIter) × (xs : List Bool) × I.into_iter_gives iter it × Drains I.IntoIter.next_gives it xs × (m.items ≡ xs)) }
+        ensures fits { IfOk result (λ m. length m.items < 2 ^ 64) }
+        ensures overflow { IsErrOf result Error.Overflow → (it : I.IntoIter) × I.into_iter_gives iter it × GivesTooMany I.IntoIter.next_gives it }
+        ensures only { IfErr result (λ e. (e ≡ Error.Overflow) ⊎ (e ≡ Error.OutOfMemory)) }
+    {
+        let mut collected = MutableBitmap::new(alloc);
+        for item in iter {
+            collected.push(item)?;
+        }
+        Ok(collected)
     }
 
     /// The bitmap of the items.
@@ -210,6 +260,16 @@ impl MutableBitmap {
         self.unset_bits()
     }
 
+    /// The bytes of its items: as many as they need, with spare bits false.
+    /// In arrow2 spare bytes and spare bits show.
+    pub fn as_slice(&self) -> &[u8]
+        ensures bytes { result.now ≡ canonical_bytes self.now.items }
+        ensures items { take (length self.now.items) (bits result.now) ≡ self.now.items }
+        ensures len { length result.now ≡ (length self.now.items + 7) / 8 }
+    {
+        self.buffer.as_slice()
+    }
+
     /// Its bytes, and how many items they hold.
     pub(crate) fn into_parts(self) -> (Vec<u8>, usize)
         ensures bytes { result.0.items ≡ canonical_bytes self.items }
@@ -219,6 +279,31 @@ impl MutableBitmap {
     {
         let MutableBitmap { buffer, length } = self;
         (buffer, length)
+    }
+}
+
+/// A copy of the items.
+impl Clone for MutableBitmap {
+    ghost is_clone = { λ a b. b.items ≡ a.items };
+
+    fn clone(&self) -> std::result::Result<MutableBitmap, AllocError> {
+        let copy = Vec::from_slice(*self.buffer.allocator(), self.buffer.as_slice())?;
+        Ok(MutableBitmap {
+            buffer: copy,
+            length: self.length,
+        })
+    }
+}
+
+impl<'a> IntoIterator for &'a MutableBitmap {
+    type Item = bool;
+
+    type IntoIter = BitmapIter<'a>;
+
+    ghost into_iter_gives = { λ m walk. walk ≡ m.now.items };
+
+    fn into_iter(self) -> BitmapIter<'a> {
+        self.iter()
     }
 }
 

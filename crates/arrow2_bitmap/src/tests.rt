@@ -1,6 +1,11 @@
 //! Worked examples, and each call once with ample memory.
+ghost use Rattle.std.specs.Prelude.{◌+◌};
+ghost use Rattle.std.specs.Iterator.{at_most};
+
 use crate::immutable::Bitmap;
+use crate::iterator::IntoIter;
 use crate::mutable::MutableBitmap;
+use std::alloc::Global;
 use std::convert::TryFrom;
 use std::fmt::Display;
 use std::test::Fail;
@@ -9,7 +14,10 @@ use std::test::Fail;
 fn bits_are_read_from_the_lowest(rt: HostRuntime) -> Result<(), Fail> {
     let bitmap = Bitmap::try_new(vec![in rt.alloc(); 0b00001101u8]?, 5)?;
     let items: Vec<bool> = bitmap.iter().collect(rt.alloc())?;
-    assert_eq!(rt; items.as_slice(), [true, false, true, true, false].as_slice());
+    assert_eq!(rt;
+        items.as_slice(),
+        [true, false, true, true, false].as_slice()
+    );
     assert_eq!(rt; bitmap.unset_bits(), 2);
     assert_eq!(rt; bitmap.null_count(), 2);
     assert_eq!(rt; bitmap.len(), 5);
@@ -19,16 +27,16 @@ fn bits_are_read_from_the_lowest(rt: HostRuntime) -> Result<(), Fail> {
 
 #[test]
 fn a_length_past_the_bytes_is_refused(rt: HostRuntime) -> Result<(), Fail> {
-    let error = Bitmap::try_new(Vec::new(rt.alloc()), 1).err().ok_or("accepted")?;
-    assert_eq!(
-        rt;
+    let error = Bitmap::try_new(Vec::new(rt.alloc()), 1)
+        .err()
+        .ok_or("accepted")?;
+    assert_eq!(rt;
         error.to_string(rt.alloc())?.as_str(),
         "Invalid argument error: The offset + length of the bitmap (1) must be `<=` to the number of bytes times 8 (0)"
     );
     let two = vec![in rt.alloc(); 1u8, 2]?;
     let error = MutableBitmap::try_new(two, 17).err().ok_or("accepted")?;
-    assert_eq!(
-        rt;
+    assert_eq!(rt;
         error.to_string(rt.alloc())?.as_str(),
         "Invalid argument error: The length of the bitmap (17) must be `<=` to the number of bytes times 8 (16)"
     );
@@ -42,7 +50,10 @@ fn pushes_go_behind_the_items(rt: HostRuntime) -> Result<(), Fail> {
     bitmap.push(false)?;
     bitmap.push(true)?;
     let items: Vec<bool> = bitmap.iter().collect(rt.alloc())?;
-    assert_eq!(rt; items.as_slice(), [true, true, true, false, true].as_slice());
+    assert_eq!(rt;
+        items.as_slice(),
+        [true, true, true, false, true].as_slice()
+    );
     assert_eq!(rt; bitmap.len(), 5);
     assert_eq!(rt; bitmap.unset_bits(), 1);
     assert_eq!(rt; bitmap.null_count(), 1);
@@ -86,7 +97,10 @@ fn each_way_to_make_one(rt: HostRuntime) -> Result<(), Fail> {
     assert_eq!(rt; Bitmap::try_from(grown)?.unset_bits(), 1);
     let cut = MutableBitmap::from_vec(vec![in rt.alloc(); 0b11111101u8]?, 3);
     assert_eq!(rt; cut.unset_bits(), 1);
-    assert_eq!(rt; Bitmap::from_u8_vec(vec![in rt.alloc(); 0b00010101u8]?, 8)?.unset_bits(), 5);
+    assert_eq!(rt;
+        Bitmap::from_u8_vec(vec![in rt.alloc(); 0b00010101u8]?, 8)?.unset_bits(),
+        5
+    );
     Ok(())
 }
 
@@ -163,5 +177,126 @@ fn bitmaps_are_printed_by_their_bytes(rt: HostRuntime) -> Result<(), Fail> {
     assert_eq!(rt; format!(in rt.alloc(); "{grown:?}")?.as_str(), "[0b_____111]");
     let empty = MutableBitmap::new(rt.alloc());
     assert_eq!(rt; format!(in rt.alloc(); "{empty:?}")?.as_str(), "[]");
+    Ok(())
+}
+
+#[test]
+fn a_walk_gives_each_item_once(rt: HostRuntime) -> Result<(), Fail> {
+    let six = Bitmap::try_new(vec![in rt.alloc(); 0b00101101u8]?, 6)?;
+    let mut walk = IntoIter::new(six.clone()?);
+    assert_eq!(rt; walk.size_hint(), (6, Some(6)));
+    assert_eq!(rt; (walk.next(), walk.next_back()), (Some(true), Some(true)));
+    let left: Vec<bool> = walk.clone()?.collect(rt.alloc())?;
+    assert_eq!(rt; left.as_slice(), [false, true, true, false].as_slice());
+    assert_eq!(rt;
+        format!(in rt.alloc(); "{walk:?}")?.as_str(),
+        "IntoIter { values: ([45], 0, 6), index: 1, end: 5 }"
+    );
+    assert_eq!(rt; walk.nth(2), Some(true));
+    assert_eq!(rt; (walk.next_back(), walk.next()), (Some(false), None));
+    let mut walk = six.into_iter();
+    assert_eq!(rt; walk.next(), Some(true));
+    assert_eq!(rt; walk.nth(usize::MAX), None);
+    assert_eq!(rt; (walk.next(), walk.next_back()), (None, None));
+    Ok(())
+}
+
+#[test]
+fn bitmaps_are_filled_and_copied(rt: HostRuntime) -> Result<(), Fail> {
+    let ones = MutableBitmap::from_len_set(rt.alloc(), 3)?;
+    let items: Vec<bool> = ones.iter().collect(rt.alloc())?;
+    assert_eq!(rt; items.as_slice(), [true, true, true].as_slice());
+    assert_eq!(rt; ones.as_slice(), [7].as_slice());
+    let zeros = MutableBitmap::from_len_zeroed(rt.alloc(), 9)?;
+    assert_eq!(rt; (zeros.len(), zeros.unset_bits()), (9, 9));
+    assert_eq!(rt; zeros.as_slice(), [0, 0].as_slice());
+    let mut copy = ones.clone()?;
+    copy.push(false)?;
+    assert_eq!(rt; (copy.len(), ones.len()), (4, 3));
+    let frozen = Bitmap::try_from(copy)?;
+    assert_eq!(rt; frozen.len(), 4);
+    assert_eq!(rt; frozen.null_count_range(1, 3), 1);
+    assert_eq!(rt; frozen.null_count_range(4, 0), 0);
+    Ok(())
+}
+
+#[test]
+fn bytes_of_a_growing_bitmap_are_canonical(rt: HostRuntime) -> Result<(), Fail> {
+    let alloc = rt.alloc();
+    let cut = MutableBitmap::from_vec(vec![in alloc; 0b11111101u8]?, 3);
+    assert_eq!(rt; cut.as_slice(), [5].as_slice());
+    let cut = MutableBitmap::try_new(vec![in alloc; 255u8, 255]?, 9)?;
+    assert_eq!(rt; cut.as_slice(), [255, 1].as_slice());
+    let mut popped = MutableBitmap::from_len_set(alloc, 3)?;
+    assert_eq!(rt; popped.pop(), Some(true));
+    assert_eq!(rt; popped.as_slice(), [3].as_slice());
+    let mut popped = MutableBitmap::from_len_set(alloc, 9)?;
+    assert_eq!(rt; popped.pop(), Some(true));
+    assert_eq!(rt; popped.as_slice(), [255].as_slice());
+    let part = Bitmap::from_u8_slice(alloc, &[0, 0, 0, 0b00010101], 27)?.sliced(22, 5);
+    assert_eq!(rt; part.make_mut()?.as_slice(), [20].as_slice());
+    Ok(())
+}
+
+#[test]
+fn items_are_collected_in_order(rt: HostRuntime) -> Result<(), Fail> {
+    let grown = MutableBitmap::try_from_iter(rt.alloc(), (0..130usize).map(|i| i % 5 == 0))?;
+    assert_eq!(rt; (grown.len(), grown.unset_bits()), (130, 104));
+    let frozen = Bitmap::try_from_iter(rt.alloc(), (0..130usize).map(|i| i % 5 == 0))?;
+    assert_eq!(rt; (frozen.len(), frozen.unset_bits()), (130, 104));
+    let again = MutableBitmap::try_from_iter(rt.alloc(), &frozen)?;
+    assert_eq!(rt; again.as_slice(), grown.as_slice());
+    let last = Bitmap::try_from_iter(rt.alloc(), &again)?;
+    assert_eq!(rt;
+        MutableBitmap::try_from_iter(rt.alloc(), last)?.as_slice(),
+        grown.as_slice()
+    );
+    Ok(())
+}
+
+/// Three times true, under a size hint that is not to be believed.
+#[derive(Drop)]
+struct Hinting {
+    left: u64,
+    hint: usize,
+    falls: usize,
+}
+
+impl Iterator for Hinting {
+    type Item = bool;
+
+    ghost remaining = { λ s. at_most (s.left + s.hint) };
+
+    fn next(&mut self) -> Option<bool> {
+        if self.left == 0 {
+            return None;
+        }
+        self.left -= 1;
+        self.hint = self.hint.saturating_sub(self.falls);
+        Some(true)
+    }
+
+    fn size_hint(&self) -> (usize, Option<usize>) {
+        (self.hint, None)
+    }
+}
+
+/// An iterator whose size hint begins at `hint` and falls by `falls` an item.
+fn three_trues(hint: usize, falls: usize) -> Hinting {
+    Hinting {
+        left: 3,
+        hint,
+        falls,
+    }
+}
+
+#[test]
+fn a_size_hint_is_not_believed(rt: HostRuntime) -> Result<(), Fail> {
+    for (hint, falls) in [(usize::MAX, 1), (0, 0)] {
+        let grown = MutableBitmap::try_from_iter(rt.alloc(), three_trues(hint, falls))?;
+        assert_eq!(rt; (grown.len(), grown.unset_bits()), (3, 0));
+        let frozen = Bitmap::try_from_iter(rt.alloc(), three_trues(hint, falls))?;
+        assert_eq!(rt; (frozen.len(), frozen.unset_bits()), (3, 0));
+    }
     Ok(())
 }

@@ -11,12 +11,10 @@ mod counts;
 pub mod fmt;
 pub mod iterator;
 
-<<<<<<< HEAD
 pub use counts::count_zeros;
-=======
+
 #[cfg(test)]
 mod tests;
->>>>>>> 20f53bf (Print bitmaps by their bytes; tests of printed bits, and the wrong texts that are refused)
 
 /// Whether bit `i` of the byte is set. Asks that `i` is below 8.
 pub fn is_set(byte: u8, i: usize) -> bool

@@ -1,0 +1,125 @@
+//! The items of a bitmap, one by one.
+ghost use Rattle.std.specs.Prelude.{◌≡◌, Some, length, IfSome};
+ghost use Rattle.std.specs.Iterator.{YieldsFirst, YieldsLast, item_count, UpTo};
+ghost use Rattle.std.specs.Iterator.SizeHint.{IsWithinCount};
+ghost use Rattle.arrow2_model.specs.Storage.{items_of};
+
+use crate::immutable::Bitmap;
+use std::alloc::AllocError;
+use std::fmt;
+use std::marker::Model;
+
+/// The items of a [`Bitmap`] that are still to come, from both ends.
+///
+/// Differs from arrow2: `nth` is the standard library's, over `next`.
+#[derive(Drop)]
+pub struct IntoIter {
+    values: Bitmap,
+    index: usize,
+    end: usize,
+}
+
+impl Model for IntoIter {
+    ghost use Rattle.std.specs.Prelude.{◌≡◌, ◌-◌, ◌≤◌, List, Bool, length};
+    ghost use Rattle.arrow2_model.specs.Parts.{part};
+    ghost use Rattle.arrow2_model.specs.Storage.{items_of};
+
+    ghost Value = { List Bool };
+
+    ghost view = { λ i. part (items_of i.values) i.index (i.end - i.index) };
+
+    ghost invariant = { λ i. (i.index ≤ i.end) × (i.end ≤ i.values.len) × (i.values.len ≡ length (items_of i.values)) };
+}
+
+#[tactic(auto, using(crate::proofs::Walk::walking))]
+impl IntoIter {
+    /// The walk over all items of `values`.
+    pub fn new(values: Bitmap) -> IntoIter
+        ensures { result ≡ items_of values }
+    {
+        let end = values.len();
+        IntoIter {
+            values,
+            index: 0,
+            end,
+        }
+    }
+}
+
+#[tactic(auto, using(crate::proofs::Walk::walking))]
+impl Iterator for IntoIter {
+    type Item = bool;
+
+    ghost next_gives = { YieldsFirst (λ s. s) };
+
+    ghost remaining = { item_count (λ s. s) };
+
+    fn next(&mut self) -> Option<bool> {
+        if self.index == self.end {
+            return None;
+        }
+        let item = self.values.get_bit(self.index);
+        self.index += 1;
+        Some(item)
+    }
+
+    /// Both bounds are the number of items still to come.
+    fn size_hint(&self) -> (usize, Option<usize>)
+        ensures exact { (result.0 ≡ length self.now) × (result.1 ≡ Some (length self.now)) }
+        ensures lower { IsWithinCount result.0 (item_count (λ s. s) self.now) }
+        ensures upper { IfSome result.1 (UpTo (item_count (λ s. s) self.now)) }
+    {
+        let left = self.end - self.index;
+        (left, Some(left))
+    }
+}
+
+#[tactic(auto, using(crate::proofs::Walk::walking))]
+impl DoubleEndedIterator for IntoIter {
+    ghost next_back_gives = { YieldsLast (λ s. s) };
+
+    fn next_back(&mut self) -> Option<bool> {
+        if self.end == self.index {
+            return None;
+        }
+        self.end -= 1;
+        Some(self.values.get_bit(self.end))
+    }
+}
+
+/// The same items still to come, over the same bytes.
+/// Whether there is memory for one more owner is not promised.
+impl Clone for IntoIter {
+    ghost is_clone = { λ i copy. copy ≡ i };
+
+    fn clone(&self) -> Result<IntoIter, AllocError> {
+        Ok(IntoIter {
+            values: self.values.clone()?,
+            index: self.index,
+            end: self.end,
+        })
+    }
+}
+
+/// The storage by [`Bitmap::as_slice`], and the places between which items are still to come.
+impl fmt::Debug for IntoIter {
+    fn fmt<W: fmt::Write>(&self, f: &mut fmt::Formatter<W>) -> fmt::Result {
+        f.debug_struct("IntoIter")
+            .field("values", &self.values.as_slice())
+            .field("index", &self.index)
+            .field("end", &self.end)
+            .finish()
+    }
+}
+
+impl IntoIterator for Bitmap {
+    type Item = bool;
+
+    type IntoIter = IntoIter;
+
+    ghost into_iter_gives = { λ b walk. walk ≡ items_of b };
+
+    fn into_iter(self) -> IntoIter {
+        IntoIter::new(self)
+    }
+}
