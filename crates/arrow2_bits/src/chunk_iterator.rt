@@ -8,6 +8,7 @@ ghost use Rattle.arrow2_model.specs.Words.{WordWalk, GivesWord, full_words, rest
 
 use crate::chunks::{chunk_at, padded_chunk_at};
 use arrow2_index::bit_chunk::BitChunk;
+use arrow2_index::bit_chunk_iter::BitChunkIter;
 use std::marker::Model;
 
 /// A walk over a list of booleans by words: the full words come in order, and what stands behind
@@ -28,6 +29,13 @@ pub trait BitChunkIterExact<B: BitChunk>: Iterator<Item = B> {
     fn remainder_len(&self) -> usize
         ensures rest { result ≡ length (rest B.BitChunk.WIDTH (walk self.now).items) }
         ensures short { result < B.BitChunk.WIDTH };
+
+    /// The items of the remainder.
+    final fn remainder_iter(&self) -> BitChunkIter<B>
+        ensures { result ≡ rest B.BitChunk.WIDTH (walk self.now).items }
+    {
+        BitChunkIter::new(self.remainder(), self.remainder_len())
+    }
 
     // Each step gives the first full word, and the remainder stays.
     ghost gives_law: { (s : Self) (r : Option B) (t : Self) → Self.next_gives s r t → GivesWord B.BitChunk.WIDTH B.BitChunk.number walk s r t };
