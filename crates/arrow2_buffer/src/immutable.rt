@@ -113,7 +113,7 @@ impl<T> Buffer<T> {
         self
     }
 
-    /// The items, to be written, where no one else shares the storage; None elsewhere. Takes no
+    /// The items, to be written, where no one else shares the storage; `None` elsewhere. Takes no
     /// memory.
     ///
     /// A proof knows the items that it lends, and not what they are afterwards:
