@@ -1,5 +1,9 @@
 //! A bitmap over shared bytes.
 ghost use Rattle.std.specs.Prelude.{◌≡◌, ◌+◌, ◌*◌, ◌/◌, ◌%◌, ◌<◌, ◌≤◌, ◌↔◌, [], false, length, length as length', replicate, slice_index_or, take, OnOk, IsOk, IfOk, IfErr, IsTrue, Some, MatchResult, vec_len, codes, IsErrOf, ◌^◌, ◌⊎◌, List, Bool};
+ghost use Rattle.std.specs.Bool.{beq};
+ghost use Rattle.std.specs.Ordering.{on};
+ghost use Rattle.std.specs.Cmp.{partial_equiv_from_equiv, bool_eq_equiv, on_equiv};
+ghost use Rattle.std.specs.Cmp.Lexicographic.{pointwise, lists_equiv};
 ghost use Rattle.std.specs.List.{slice_get};
 ghost use Rattle.std.specs.Iterator.{Drains, IsFinite};
 ghost use Rattle.either.specs.Either.{MatchEither};
@@ -7,6 +11,7 @@ ghost use Rattle.arrow2_model.specs.Bits.{bits};
 ghost use Rattle.arrow2_model.specs.Parts.{part, falses};
 ghost use Rattle.arrow2_model.specs.Canonical.{canonical_bytes};
 ghost use Rattle.arrow2_model.specs.Shown.{shown};
+ghost use Rattle.arrow2_model.specs.Words.{spill};
 ghost use Rattle.arrow2_model.specs.Storage.{BitmapStorage, items_of};
 ghost use Rattle.arrow2_types.specs.Refusals.{IsInvalidArgument};
 ghost use Rattle.arrow2_types.specs.declared.error.Error.TheVariants.{OutOfMemory};
@@ -15,9 +20,11 @@ ghost use Rattle.arrow2_bitmap.specs.Refused.{too_long};
 
 use crate::check::check_length;
 use crate::mutable::MutableBitmap;
+use arrow2_bits::chunk_iterator::{BitChunkIterExact, BitChunks};
 use arrow2_bits::iterator::BitmapIter;
 use arrow2_bits::{bytes_for, count_zeros, get_bit};
 use arrow2_buffer::bytes::Bytes;
+use arrow2_index::bit_chunk::BitChunk;
 use arrow2_types::error::{Error, Result};
 use either::Either;
 use std::alloc::{AllocError, Global};
@@ -213,6 +220,14 @@ impl Bitmap {
         )
     }
 
+    /// The items by words of `T`, from the first item on.
+    pub fn chunks<T: BitChunk>(&self) -> BitChunks<'_, T>
+        ensures items { result.items ≡ items_of self.now }
+        ensures spill { result.spill ≡ spill T.BitChunk.SIZE self.now.bytes self.now.offset self.now.len }
+    {
+        BitChunks::new(self.bytes.as_slice(), self.offset, self.length)
+    }
+
     /// How many items are false. The count is kept, so it takes no walk.
     pub fn unset_bits(&self) -> usize
         ensures { result ≡ falses (items_of self.now) }
@@ -312,16 +327,37 @@ impl Bitmap {
     }
 }
 
-/// A copy of the items, to be changed.
+/// A copy of the items, to be changed, by words of 64 bits.
 fn copy_items(bitmap: &Bitmap) -> Result<MutableBitmap>
     ensures ok { IfOk result (λ m. m.items ≡ items_of bitmap.now) }
     ensures only { IfErr result (λ e. e ≡ Error.OutOfMemory) }
 {
-    let mut copy = MutableBitmap::from_vec(bitmap.bytes.empty_vec(), 0);
-    for item in bitmap.iter() {
-        copy.push(item)?;
+    let mut bytes = bitmap.bytes.empty_vec();
+    let mut chunks = bitmap.chunks::<u64>();
+    while let Some(word) = chunks.next() {
+        bytes.extend_from_slice(&BitChunk::to_ne_bytes(word))?;
     }
-    Ok(copy)
+    bytes.extend_from_slice(&BitChunk::to_ne_bytes(chunks.remainder()))?;
+    Ok(MutableBitmap::from_vec(bytes, bitmap.len()))
+}
+
+/// Whether two bitmaps of one length have the same items, by words of 64 bits.
+fn same_items(a: &Bitmap, b: &Bitmap) -> bool
+    requires { length (items_of a.now) ≡ length (items_of b.now) }
+    ensures { IsTrue result ↔ (items_of a.now ≡ items_of b.now) }
+{
+    let mut left = a.chunks::<u64>();
+    let mut right = b.chunks::<u64>();
+    while let Some(word) = left.next() {
+        let Some(other) = right.next() else {
+            return false;
+        };
+        if word != other {
+            return false;
+        }
+    }
+    let len = left.remainder_len();
+    BitChunk::masked(left.remainder(), len) == BitChunk::masked(right.remainder(), len)
 }
 
 impl<'a> IntoIterator for &'a Bitmap {
@@ -334,6 +370,21 @@ impl<'a> IntoIterator for &'a Bitmap {
     fn into_iter(self) -> BitmapIter<'a> {
         self.iter()
     }
+}
+
+/// Equality of the lists, whatever bytes, offset or spare bits stand behind them.
+impl PartialEq for Bitmap {
+    ghost eq = { on items_of (pointwise beq) };
+
+    ghost laws = { partial_equiv_from_equiv (on_equiv items_of (lists_equiv bool_eq_equiv)) };
+
+    fn eq(&self, other: &Bitmap) -> bool {
+        self.len() == other.len() && same_items(self, other)
+    }
+}
+
+impl Eq for Bitmap {
+    ghost laws = { on_equiv items_of (lists_equiv bool_eq_equiv) };
 }
 
 /// Shares the bytes. Whether there is memory for one more owner is not promised.

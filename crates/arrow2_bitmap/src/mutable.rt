@@ -1,6 +1,10 @@
 //! A bitmap that grows.
 ghost use Rattle.std.specs.Prelude.{◌≡◌, ◌+◌, ◌-◌, ◌*◌, ◌/◌, ◌<◌, ◌≤◌, ◌^◌, ◌↔◌, ◌⊎◌, [], ◌∷◌, ◌++◌, false, length, take, slice_index_or, slice_set, OnOk, OnErr, IsOk, IsErr, IfOk, IfErr, IsErrOf, IsTrue, IfNone, MatchOption, Some, codes, vec_len, vec_capacity, List, Bool, true, replicate};
 ghost use Rattle.std.specs.Iterator.{Drains, IsFinite};
+ghost use Rattle.std.specs.Bool.{beq};
+ghost use Rattle.std.specs.Ordering.{on};
+ghost use Rattle.std.specs.Cmp.{partial_equiv_from_equiv, bool_eq_equiv, on_equiv};
+ghost use Rattle.std.specs.Cmp.Lexicographic.{pointwise, lists_equiv};
 ghost use Rattle.arrow2_model.specs.Bits.{bits};
 ghost use Rattle.arrow2_model.specs.Parts.{falses};
 ghost use Rattle.arrow2_model.specs.Canonical.{canonical_bytes, IsCanonical};
@@ -305,6 +309,21 @@ impl<'a> IntoIterator for &'a MutableBitmap {
     fn into_iter(self) -> BitmapIter<'a> {
         self.iter()
     }
+}
+
+/// Equality of the lists. Since the bytes are canonical, they are compared.
+impl PartialEq for MutableBitmap {
+    ghost eq = { on (λ m. m.items) (pointwise beq) };
+
+    ghost laws = { partial_equiv_from_equiv (on_equiv (λ m. m.items) (lists_equiv bool_eq_equiv)) };
+
+    fn eq(&self, other: &MutableBitmap) -> bool {
+        self.length == other.length && self.as_slice() == other.as_slice()
+    }
+}
+
+impl Eq for MutableBitmap {
+    ghost laws = { on_equiv (λ m. m.items) (lists_equiv bool_eq_equiv) };
 }
 
 /// Cuts what lies behind the first `length` bits: spare bytes, and spare bits of the last byte.

@@ -1,0 +1,100 @@
+-- Copies and comparisons by words of 64 bits.
+use Rattle.std.proofs.Common.{◌≡◌, ◌≢◌, ◌↔◌, ℕ, zero, suc, ◌+◌, ◌-◌, ◌*◌, ◌/◌, ◌^◌, ◌<◌, ◌≤◌, List, [], ◌∷◌, ◌++◌, Bool, true, false, take, drop, replicate, length, refl, ap, sym, ◌∙◌, subst, arith}
+use Rattle.std.specs.List.{flat_map}
+use Rattle.std.proofs.lemmas.List.{length-append, take-append-le, append_assoc, append-nil, length-drop, take_all, nil_from_length}
+use Rattle.arrow2_model.specs.Bits.{bits, unnum, num}
+use Rattle.arrow2_model.specs.Words.{full_words, rest}
+use Rattle.arrow2_model.proofs.Bits.{bits-append, length-bits, length-unnum}
+use Rattle.arrow2_model.proofs.Numbers.{num-unnum}
+use Rattle.arrow2_model.proofs.Words.{items_of_words, length-rest, length-full_words}
+
+wide : 0 < 64
+wide = omega arith
+
+-- the bits of a list's full words
+abbrev pub word_bits : List Bool → List Bool
+word_bits items = flat_map (unnum 64) (full_words 64 items)
+
+-- one more word is copied
+pub word_copied : (bytes after word : List ℕ) (x : ℕ) (items left all : List Bool) → bits bytes ++ word_bits items ≡ all → full_words 64 items ≡ x ∷ full_words 64 left → after ≡ bytes ++ word → bits word ≡ unnum 64 x → bits after ++ word_bits left ≡ all
+word_copied bytes after word x items left all so first is bits-of =
+    rw (is, bits-append bytes word, bits-of) (append_assoc (bits bytes) (unnum 64 x) (word_bits left) ∙ (ap (λ ws. bits bytes ++ flat_map (unnum 64) ws) (sym first) ∙ so))
+
+-- all words are copied, and the word of the rest
+pub all_copied : (bytes after word : List ℕ) (x len : ℕ) (left items : List Bool) → bits bytes ++ word_bits left ≡ word_bits items → full_words 64 left ≡ [] → rest 64 left ≡ rest 64 items → take (length (rest 64 left)) (unnum 64 x) ≡ rest 64 left
+    → after ≡ bytes ++ word → bits word ≡ unnum 64 x → len ≡ length items → (len ≤ 8 * length after) × (take len (bits after) ≡ items)
+all_copied bytes after word x len left items so none behind spilled is bits-of size =
+    let done : bits bytes ≡ word_bits items = sym (append-nil (bits bytes)) ∙ (ap (λ ws. bits bytes ++ flat_map (unnum 64) ws) (sym none) ∙ so) in
+    let e : bits after ≡ word_bits items ++ unnum 64 x = rw (is, bits-append bytes word, done, bits-of) refl in
+    let whole = items_of_words 64 items wide in
+    let n = length-append (word_bits items) (rest 64 items) in
+    let m = length-append (word_bits items) (unnum 64 x) in
+    let u = length-unnum 64 x in
+    let l = length-bits after in
+    let short = length-rest 64 items wide in
+    let cut : take (length (rest 64 items)) (unnum 64 x) ≡ rest 64 items = subst (λ (r : List Bool). take (length r) (unnum 64 x) ≡ r) behind spilled in
+    (
+      omega (arith, ap length e, ap length whole, n, m, u, l, short, size),
+      ap (take len) e ∙ (take-append_more (word_bits items) (unnum 64 x) len (length (rest 64 items)) (omega (arith, ap length whole, n, size)) ∙ (rw cut whole)),
+    )
+  where
+    take-append_more : (xs ys : List Bool) (n m : ℕ) → n ≡ length xs + m → take n (xs ++ ys) ≡ xs ++ take m ys
+    take-append_more [] ys n m e = ap (λ k. take k ys) (omega (arith, e))
+    take-append_more (x ∷ xs) ys n m e = let k : n ≡ suc (length xs + m) = omega (arith, e) in rw k (ap (λ t. x ∷ t) (take-append_more xs ys (length xs + m) m refl))
+
+-- ---- comparisons
+
+-- two lists are equal just where their full words and their rests are
+pub same_by_words : (xs ys : List Bool) → (full_words 64 xs ≡ full_words 64 ys) → (rest 64 xs ≡ rest 64 ys) → xs ≡ ys
+same_by_words xs ys e f = sym (items_of_words 64 xs wide) ∙ (rw (e, f) (items_of_words 64 ys wide))
+
+-- words that differ
+pub words_differ : (x y : ℕ) (xs ys fs gs : List ℕ) → x ≢ y → fs ≡ x ∷ xs → gs ≡ y ∷ ys → fs ≢ gs
+words_differ x y xs ys fs gs ne e f same = let h : x ∷ xs ≡ y ∷ ys = sym e ∙ (same ∙ f) in ne (cc)
+
+-- words that are the same leave the question to the others
+pub words_agree : (x y : ℕ) (xs ys fs gs : List ℕ) → x ≡ y → fs ≡ x ∷ xs → gs ≡ y ∷ ys → (fs ≡ gs) ↔ (xs ≡ ys)
+words_agree x y xs ys fs gs same e f = (
+  λ h. let k : x ∷ xs ≡ y ∷ ys = sym e ∙ (h ∙ f) in cc,
+  λ h. cc,
+)
+
+pub both_ways : {A B C : Type 0} → (A ↔ B) → (B ↔ C) → (A ↔ C)
+both_ways p q = ((λ a. q.0 (p.0 a)), λ c. p.1 (q.1 c))
+
+-- lists of one length have as many full words
+pub as_many_words : (xs ys : List Bool) → length xs ≡ length ys → length (full_words 64 xs) ≡ length (full_words 64 ys)
+as_many_words xs ys e = length-full_words 64 xs ∙ (ap (λ n. n / 64) e ∙ sym (length-full_words 64 ys))
+
+-- and as long a rest
+pub as_long_rest : (xs ys : List Bool) → length xs ≡ length ys → length (rest 64 xs) ≡ length (rest 64 ys)
+unfolding rest
+as_long_rest xs ys e = length-drop (64 * (length xs / 64)) xs ∙ (ap (λ n. n - 64 * (n / 64)) e ∙ sym (length-drop (64 * (length ys / 64)) ys))
+
+-- a masked word has the rest, and false behind it
+pub masked_rest : (x m len : ℕ) (r : List Bool) → take (length r) (unnum 64 x) ≡ r → len ≡ length r → unnum 64 m ≡ take len (unnum 64 x) ++ replicate (64 - len) false → unnum 64 m ≡ r ++ replicate (64 - len) false
+masked_rest x m len r spilled size is = is ∙ ap (λ t. t ++ replicate (64 - len) false) (ap (λ n. take n (unnum 64 x)) size ∙ spilled)
+
+-- masked words are the same just where the rests are
+pub same_rests : (m n len : ℕ) (r s : List Bool) → m < 2 ^ 64 → n < 2 ^ 64 → length r ≡ len → length s ≡ len → unnum 64 m ≡ r ++ replicate (64 - len) false → unnum 64 n ≡ s ++ replicate (64 - len) false → (m ≡ n) ↔ (r ≡ s)
+same_rests m n len r s m< n< lr ls em en = (
+  λ h. sym (front r len (64 - len) lr) ∙ (ap (take len) (sym em ∙ (ap (unnum 64) h ∙ en)) ∙ front s len (64 - len) ls),
+  λ h. sym (num-unnum 64 m m<) ∙ (ap num (em ∙ (ap (λ t. t ++ replicate (64 - len) false) h ∙ sym en)) ∙ num-unnum 64 n n<),
+)
+  where
+    front : (r : List Bool) (n k : ℕ) → length r ≡ n → take n (r ++ replicate k false) ≡ r
+    front r n k l = take-append-le n r (replicate k false) (omega (arith, l)) ∙ take_all n r (omega (arith, l))
+
+-- at the end of both walks, the masked words tell whether the lists are the same
+pub ended_alike : (xs ys left right : List Bool) (m n len x y : ℕ) → length xs ≡ length ys → full_words 64 left ≡ [] → length (full_words 64 left) ≡ length (full_words 64 right)
+    → (full_words 64 xs ≡ full_words 64 ys) ↔ (full_words 64 left ≡ full_words 64 right) → rest 64 left ≡ rest 64 xs → rest 64 right ≡ rest 64 ys
+    → take (length (rest 64 left)) (unnum 64 x) ≡ rest 64 left → take (length (rest 64 right)) (unnum 64 y) ≡ rest 64 right → len ≡ length (rest 64 left)
+    → unnum 64 m ≡ take len (unnum 64 x) ++ replicate (64 - len) false → unnum 64 n ≡ take len (unnum 64 y) ++ replicate (64 - len) false → m < 2 ^ 64 → n < 2 ^ 64
+    → (m ≡ n) ↔ (xs ≡ ys)
+ended_alike xs ys left right m n len x y size none many alike bl br sx sy is-len em en m< n< =
+    let also : full_words 64 right ≡ [] = nil_from_length (full_words 64 right) (sym many ∙ ap length none) in
+    let words : full_words 64 xs ≡ full_words 64 ys = alike.1 (none ∙ sym also) in
+    let ll : length (rest 64 left) ≡ len = sym is-len in
+    let lr : length (rest 64 right) ≡ len = ap length br ∙ (sym (as_long_rest xs ys size) ∙ (ap length (sym bl) ∙ ll)) in
+    let both = same_rests m n len (rest 64 left) (rest 64 right) m< n< ll lr (masked_rest x m len (rest 64 left) sx is-len em) (masked_rest y n len (rest 64 right) sy (sym lr) en) in
+    ((λ h. same_by_words xs ys words (sym bl ∙ (both.0 h ∙ br))), λ h. both.1 (bl ∙ (ap (rest 64) h ∙ sym br)))

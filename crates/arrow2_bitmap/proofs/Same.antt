@@ -1,0 +1,34 @@
+-- What `==` of bitmaps answers.
+use Rattle.std.proofs.Common.{◌≡◌, ◌≢◌, ◌↔◌, ℕ, List, Bool, true, false, length, take, refl, ap, sym, ◌∙◌, arith}
+use Rattle.std.specs.Bool.{beq, Decides, IsTrue}
+use Rattle.std.specs.Prelude.{nat_eq}
+use Rattle.std.specs.Cmp.Lexicographic.{pointwise}
+use Rattle.std.proofs.lemmas.Bool.{eqb-true}
+use Rattle.std.proofs.lemmas.Bool.Decides.{same_from_decides, Decides-eqb}
+use Rattle.std.proofs.lemmas.Slice.Eq.{slice_eq-Decides}
+use Rattle.arrow2_model.specs.Canonical.{canonical_bytes}
+use Rattle.arrow2_model.proofs.Canonical.{same_from_canonical_bytes}
+
+Decides-beq : (a b : Bool) → Decides (beq a b) (a ≡ b)
+Decides-beq true true = ((λ e. refl), λ e. refl)
+Decides-beq true false = ((λ e. sym e), λ e. sym e)
+Decides-beq false true = ((λ e. e), λ e. e)
+Decides-beq false false = ((λ e. refl), λ e. refl)
+
+-- an answer that is true just where the lists are the same
+pub same_told : (xs ys : List Bool) (r : Bool) → IsTrue r ↔ (xs ≡ ys) → r ≡ pointwise beq xs ys
+same_told xs ys r h = same_from_decides r (pointwise beq xs ys) h (slice_eq-Decides Decides-beq xs ys (pointwise beq xs ys) refl)
+
+-- an answer about the canonical bytes of lists of one length
+pub same_bytes_told : (xs ys : List Bool) (a b : List ℕ) (r : Bool) → length xs ≡ length ys → a ≡ canonical_bytes xs → b ≡ canonical_bytes ys → r ≡ pointwise nat_eq a b → r ≡ pointwise beq xs ys
+same_bytes_told xs ys a b r size is-a is-b is =
+    let told = slice_eq-Decides Decides-eqb a b r is in
+    same_told xs ys r (
+      (λ h. same_from_canonical_bytes xs ys size (sym is-a ∙ (told.0 h ∙ is-b))),
+      λ same. told.1 (is-a ∙ (ap canonical_bytes same ∙ sym is-b)),
+    )
+
+-- lengths that differ
+pub different_told : (xs ys : List Bool) (m n : ℕ) → length xs ≡ m → length ys ≡ n → m ≢ n → nat_eq m n ≡ pointwise beq xs ys
+different_told xs ys m n is-m is-n differ =
+    same_told xs ys (nat_eq m n) ((λ e. absurd (differ (eqb-true m n e))), λ same. absurd (differ (sym is-m ∙ (ap length same ∙ is-n))))
