@@ -28,6 +28,7 @@ pub trait BitChunk: PrimInt + NativeType {
     /// The bytes of the word in little-endian order.
     fn to_ne_bytes(self) -> Self::Bytes
         ensures digits { Self.Bytes.items result ≡ digits Self.SIZE (pos (number self)) }
+        ensures size { length (Self.Bytes.items result) ≡ Self.SIZE }
         ensures bits { bits (Self.Bytes.items result) ≡ unnum WIDTH (number self) }
         ensures read_back { natural_from Self.SIZE (Self.Bytes.items result) ≡ number self };
 
@@ -162,7 +163,7 @@ impl BitChunk for u8 {
     }
 
     fn bit(self, i: usize) -> bool {
-        (self >> i) & 1 == 1
+        (self >> i) & 1u8 == 1
     }
 
     fn masked(self, len: usize) -> u8 {
@@ -197,7 +198,7 @@ impl BitChunk for u8 {
         if self == 0 {
             None
         } else {
-            Some(self.trailing_zeros() as usize)
+            Some(u8::trailing_zeros(self) as usize)
         }
     }
 
@@ -206,7 +207,7 @@ impl BitChunk for u8 {
     }
 
     fn ones_count(self) -> usize {
-        self.count_ones() as usize
+        u8::count_ones(self) as usize
     }
 }
 
@@ -247,7 +248,7 @@ impl BitChunk for u16 {
     }
 
     fn bit(self, i: usize) -> bool {
-        (self >> i) & 1 == 1
+        (self >> i) & 1u16 == 1
     }
 
     fn masked(self, len: usize) -> u16 {
@@ -282,7 +283,7 @@ impl BitChunk for u16 {
         if self == 0 {
             None
         } else {
-            Some(self.trailing_zeros() as usize)
+            Some(u16::trailing_zeros(self) as usize)
         }
     }
 
@@ -291,7 +292,7 @@ impl BitChunk for u16 {
     }
 
     fn ones_count(self) -> usize {
-        self.count_ones() as usize
+        u16::count_ones(self) as usize
     }
 }
 
@@ -332,7 +333,7 @@ impl BitChunk for u32 {
     }
 
     fn bit(self, i: usize) -> bool {
-        (self >> i) & 1 == 1
+        (self >> i) & 1u32 == 1
     }
 
     fn masked(self, len: usize) -> u32 {
@@ -367,7 +368,7 @@ impl BitChunk for u32 {
         if self == 0 {
             None
         } else {
-            Some(self.trailing_zeros() as usize)
+            Some(u32::trailing_zeros(self) as usize)
         }
     }
 
@@ -376,7 +377,7 @@ impl BitChunk for u32 {
     }
 
     fn ones_count(self) -> usize {
-        self.count_ones() as usize
+        u32::count_ones(self) as usize
     }
 }
 
@@ -417,7 +418,7 @@ impl BitChunk for u64 {
     }
 
     fn bit(self, i: usize) -> bool {
-        (self >> i) & 1 == 1
+        (self >> i) & 1u64 == 1
     }
 
     fn masked(self, len: usize) -> u64 {
@@ -452,7 +453,7 @@ impl BitChunk for u64 {
         if self == 0 {
             None
         } else {
-            Some(self.trailing_zeros() as usize)
+            Some(u64::trailing_zeros(self) as usize)
         }
     }
 
@@ -461,6 +462,6 @@ impl BitChunk for u64 {
     }
 
     fn ones_count(self) -> usize {
-        self.count_ones() as usize
+        u64::count_ones(self) as usize
     }
 }

@@ -3,7 +3,6 @@ ghost use Rattle.std.specs.Prelude.{◌≡◌, Some};
 ghost use Rattle.arrow2_types.specs.declared.error.Error.TheVariants.{OutOfMemory, Io};
 
 use std::alloc::{AllocError, AllocFailed, Global};
-
 use std::str::Utf8Error;
 use std::string::{FromUtf8Error, ToString};
 use std::{fmt, io};

@@ -2,9 +2,10 @@
 #![tactic(auto)]
 
 pub mod error;
-
 pub mod interval;
 mod join;
 pub mod native;
 pub mod primitive;
+#[cfg(test)]
+mod tests;
 pub mod wide;

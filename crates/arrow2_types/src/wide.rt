@@ -100,7 +100,9 @@ impl Ord for i256 {
 
     fn cmp(&self, other: &i256) -> Ordering {
         let low = self.low.cast_unsigned();
-        self.high.cmp(&other.high).then(low.cmp(&other.low.cast_unsigned()))
+        self.high
+            .cmp(&other.high)
+            .then(low.cmp(&other.low.cast_unsigned()))
     }
 }
 
