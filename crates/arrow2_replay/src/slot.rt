@@ -1,5 +1,5 @@
 //! A slot of the machine, and what each command does to it.
-ghost use Rattle.std.specs.Prelude.{◌≡◌, ◌≢◌, ◌++◌, ◌+◌, ◌≤◌, ◌↔◌, slice_get, length as count_of, IsOk, OnOk, OnErr, IfErr, IfOk, IsOkAnd};
+ghost use Rattle.std.specs.Prelude.{◌≡◌, ◌≢◌, ◌++◌, ◌+◌, ◌≤◌, ◌↔◌, slice_get, length as count_of, IsOk, OnOk, OnErr, IfErr, IfOk, IsOkAnd, IsErrOf};
 ghost use Rattle.arrow2_model.specs.Parts.{part};
 ghost use Rattle.arrow2_model.specs.Storage.{items_of};
 ghost use Rattle.arrow2_replay.specs.Machine.{Nothing, Growing, pushed, popped, got, froze, thawed, copied, sliced, counted, item_said, item_text};
@@ -152,6 +152,7 @@ impl Slot {
     pub fn freeze(&mut self) -> Result<(), CommandError>
         ensures gives { Gives (λ _. self.new) result (froze self.old) }
         ensures err { IfErr result (λ e. e ≢ CommandError.OutOfMemory → self.new ≡ self.old) }
+        ensures memory { IsErrOf result CommandError.OutOfMemory → self.new ≡ Nothing }
     {
         match mem::replace(&mut self.contents, Contents::Nothing) {
             Contents::Growing(bitmap) => {
@@ -173,6 +174,7 @@ impl Slot {
     pub fn thaw(&mut self) -> Result<(), CommandError>
         ensures gives { Gives (λ _. self.new) result (thawed self.old) }
         ensures err { IfErr result (λ e. e ≢ CommandError.OutOfMemory → self.new ≡ self.old) }
+        ensures memory { IsErrOf result CommandError.OutOfMemory → self.new ≡ Nothing }
     {
         match mem::replace(&mut self.contents, Contents::Nothing) {
             Contents::Frozen(bitmap) => {
@@ -238,7 +240,7 @@ impl Slot {
     ///
     /// # Errors
     ///
-    /// `Kind`, which changes nothing, or `OutOfMemory`.
+    /// `Kind`, which changes nothing, or `OutOfMemory`, after which a part of the text may be there.
     pub fn write_bits(&self, out: &mut Vec<u8>) -> Result<(), CommandError>
         ensures ok { OnOk result (IsOkAnd (item_text self.now) (λ text. out.new.items ≡ out.old.items ++ text)) }
         ensures refused { IfErr result (λ e. Fails e (item_text self.now)) }
