@@ -1,8 +1,9 @@
 //! Laws of the definitions. Each function is its law and nothing else.
-ghost use Rattle.std.specs.Prelude.{◌≡◌, ℕ, ◌+◌, ◌<◌, ◌≤◌, ◌^◌, List, Bool, length};
+ghost use Rattle.std.specs.Prelude.{◌≡◌, ℕ, ◌+◌, ◌<◌, ◌≤◌, ◌^◌, List, Bool, length, codes};
 ghost use Rattle.arrow2_model.specs.Bits.{num, unnum, sum_of_powers};
 ghost use Rattle.arrow2_model.specs.Parts.{part, falses};
 ghost use Rattle.arrow2_model.specs.Canonical.{canonical_bytes};
+ghost use Rattle.arrow2_model.specs.Shown.{shown};
 
 /// A part of a part is one part of the list.
 #[tactic(auto, using(crate::proofs::Walks::parts))]
@@ -34,4 +35,16 @@ pub fn one_list_of_a_number()
 #[tactic(auto, using(crate::proofs::Canonical::canonical))]
 pub fn canonical_bytes_tell_lists_apart()
     ensures { (xs ys : List Bool) → length xs ≡ length ys → canonical_bytes xs ≡ canonical_bytes ys → xs ≡ ys }
+<<<<<<< HEAD
 {}
+=======
+{
+}
+
+/// No bits are shown as a pair of brackets, wherever they begin.
+#[tactic(auto, using(crate::proofs::Shown::texts))]
+pub fn no_bits_are_two_brackets()
+    ensures { (bytes : List ℕ) (offset : ℕ) → shown bytes offset 0 ≡ codes "[]" }
+{
+}
+>>>>>>> 4af20e9 (Law: no bits are two brackets; name the parts of what the printing loop keeps)

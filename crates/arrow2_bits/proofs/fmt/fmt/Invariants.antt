@@ -1,12 +1,16 @@
-use Rattle.std.proofs.Common.{◌≡◌, ◌+◌, ◌-◌, ◌*◌, ◌<◌, ◌≤◌}
+use Rattle.std.proofs.Common.{◌≡◌, ◌+◌, ◌-◌, ◌*◌, ◌<◌, ◌≤◌, ℕ, List}
+use Rattle.std.specs.declared.fmt.Formatter.{Formatter}
 use Rattle.std.specs.Fmt.{IsFlush, HasWrittenStyled}
 use Rattle.arrow2_model.proofs.Shown.{shown_front}
 use Rattle.arrow2_bits.proofs.fmt.fmt.Given as goal
 
+-- the first j bytes are written, each of which holds a shown bit, and so many bits are left from the next byte's bit `start` on
+pub record IsFront {W : Type 0} (took : W → List ℕ → W → Type 0) (bytes : List ℕ) (offset len : ℕ) (old new : Formatter W) (j start left : ℕ) : Type 0 where
+  pub place : start ≡ offset - 8 * j
+  pub rest : left ≡ len - (8 * j - offset)
+  pub each : j ≤ len
+  pub last : 8 * j < offset + len + 8
+  pub text : IsFlush old → HasWrittenStyled took old (shown_front bytes offset len j) new
+
 abbrev pub invariant-loop-byte : goal.invariant-loop-byte
-invariant-loop-byte g l =
-    (l.start ≡ l.offset - 8 * l.byte-index)
-    × (l.left ≡ l.length - (8 * l.byte-index - l.offset))
-    × (l.byte-index ≤ l.length)
-    × (8 * l.byte-index < l.offset + l.length + 8)
-    × (IsFlush l.fn.f → HasWrittenStyled g.W.Write.write_str_gives l.fn.f (shown_front l.bytes l.offset l.length l.byte-index) l.f)
+invariant-loop-byte g l = IsFront g.W.Write.write_str_gives l.bytes l.offset l.length l.fn.f l.f l.byte-index l.start l.left

@@ -1,4 +1,4 @@
-use Rattle.std.proofs.Common.{◌∷◌, [], ◌-◌, ◌++◌, true, refl, sym, ap, ◌∙◌, arith, false}
+use Rattle.std.proofs.Common.{◌∷◌, [], ◌-◌, ◌++◌, true, refl, sym, ap, ◌∙◌, arith}
 use Rattle.std.proofs.Output.{has_written_styled_append, has_written_styled_of_eq}
 use Rattle.std.specs.Char.{encode_utf8}
 use Rattle.arrow2_model.specs.Bits.{bit}

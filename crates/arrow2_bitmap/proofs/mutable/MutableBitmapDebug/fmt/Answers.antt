@@ -1,4 +1,4 @@
-use Rattle.std.proofs.Common.{◌≡◌, ◌∙◌, sym, ap, subst, ℕ, List, length}
+use Rattle.std.proofs.Common.{◌∙◌, sym, ap, subst, length}
 use Rattle.std.specs.Fmt.{WritesOnOk}
 use Rattle.arrow2_model.specs.Canonical.{canonical_bytes}
 use Rattle.arrow2_model.specs.Shown.{shown}
