@@ -167,14 +167,23 @@ fn items_are_read_and_written(rt: HostRuntime) -> Result<(), Fail> {
 #[test]
 fn bitmaps_are_printed_by_their_bytes(rt: HostRuntime) -> Result<(), Fail> {
     let whole = Bitmap::try_new(vec![in rt.alloc(); 0b00001101u8]?, 5)?;
-    assert_eq!(rt; format!(in rt.alloc(); "{whole:?}")?.as_str(), "[0b___01101]");
+    assert_eq!(rt;
+        format!(in rt.alloc(); "{whole:?}")?.as_str(),
+        "[0b___01101]"
+    );
     let mut part = whole.clone()?;
     part.slice(1, 4);
-    assert_eq!(rt; format!(in rt.alloc(); "{part:?}")?.as_str(), "[0b___0110_]");
+    assert_eq!(rt;
+        format!(in rt.alloc(); "{part:?}")?.as_str(),
+        "[0b___0110_]"
+    );
     let empty = Bitmap::new(rt.alloc())?;
     assert_eq!(rt; format!(in rt.alloc(); "{empty:?}")?.as_str(), "[]");
     let grown = MutableBitmap::from_bools(rt.alloc(), &[true, true, true])?;
-    assert_eq!(rt; format!(in rt.alloc(); "{grown:?}")?.as_str(), "[0b_____111]");
+    assert_eq!(rt;
+        format!(in rt.alloc(); "{grown:?}")?.as_str(),
+        "[0b_____111]"
+    );
     let empty = MutableBitmap::new(rt.alloc());
     assert_eq!(rt; format!(in rt.alloc(); "{empty:?}")?.as_str(), "[]");
     Ok(())

@@ -13,6 +13,10 @@ use std::fmt;
 ///
 /// Asks that `offset` is below 8, and that the bits are inside the bytes or that `length` is 0.
 /// arrow2 may print a byte behind the bits in place of the last one.
+///
+/// # Errors
+///
+/// That of the formatter's writer alone.
 pub fn fmt<W: fmt::Write>(
     bytes: &[u8],
     offset: usize,

@@ -177,11 +177,11 @@ pub shown_none : (bytes : List ℕ) (offset : ℕ) → shown bytes offset 0 ≡ 
 unfolding shown shown_places
 shown_none bytes offset =
     let places = filter_front (λ k. list_any (is_shown offset 0) (range_with_len (8 * k) 8)) 0 (length bytes) 0 (omega arith)
-        (λ k x y. absurd (omega arith))
-        (λ k x. any_none (is_shown offset 0) (8 * k) 8 (λ p y z. elim (cases_lt p offset) [
-          | inl before ↦ shown_before offset 0 p before
-          | inr from ↦ shown_behind offset 0 p (omega arith)
-        ])) in
+    (λ k x y. absurd (omega arith))
+    (λ k x. any_none (is_shown offset 0) (8 * k) 8 (λ p y z. elim (cases_lt p offset) [
+      | inl before ↦ shown_before offset 0 p before
+      | inr from ↦ shown_behind offset 0 p (omega arith)
+    ])) in
     rw places refl
 
 pub ruleset texts = (shown_none)
