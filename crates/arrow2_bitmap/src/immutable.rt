@@ -145,14 +145,16 @@ impl Bitmap {
         Bitmap::try_from(MutableBitmap::from_bools(alloc, items)?)
     }
 
-    /// The bitmap of the items of an iterator that ends, in its order. Its size hint is not read.
+    /// The bitmap of the items of an iterator that ends, in its order.
+    ///
+    /// Stands for arrow2's `FromIterator`, which takes memory by the size hint. Here it is not read.
     ///
     /// # Errors
     ///
     /// `Overflow` only after `usize::MAX` items and one more, else `OutOfMemory` alone.
     pub fn try_from_iter<I: IntoIterator<Item = bool>>(alloc: Global, iter: I) -> Result<Bitmap>
         requires { (it : I.IntoIter) → I.into_iter_gives iter it → I.IntoIter.can_next it × IsFinite (I.IntoIter.remaining it) }
-        ensures items { IfOk result (λ b. (it : I.IntoIter) × (xs : List Bool) × I.into_iter_gives iter it × Drains I.IntoIter.next_gives it xs × (items_of b ≡ xs)) }
+        ensures items { IfOk result (λ b. (it : I.IntoIter) × I.into_iter_gives iter it × Drains I.IntoIter.next_gives it (items_of b)) }
         ensures fits { IfOk result (λ b. length (items_of b) < 2 ^ 64) }
         ensures overflow { IsErrOf result Error.Overflow → (it : I.IntoIter) × I.into_iter_gives iter it × GivesTooMany I.IntoIter.next_gives it }
         ensures only { IfErr result (λ e. (e ≡ Error.Overflow) ⊎ (e ≡ Error.OutOfMemory)) }

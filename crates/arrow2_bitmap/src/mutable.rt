@@ -102,11 +102,12 @@ impl MutableBitmap {
     /// # Errors
     ///
     /// `OutOfMemory` alone.
+    #[tactic(auto, using(crate::proofs::Filled::filling))]
     pub fn from_len_zeroed(alloc: Global, length: usize) -> Result<MutableBitmap>
         ensures ok { IfOk result (λ m. m.items ≡ replicate length false) }
         ensures only { IfErr result (λ e. e ≡ Error.OutOfMemory) }
     {
-        let zeros = vec![in alloc; 0u8; bytes_for(length)]?;
+        let zeros = filled(alloc, 0, bytes_for(length))?;
         Ok(MutableBitmap::from_vec(zeros, length))
     }
 
@@ -115,15 +116,18 @@ impl MutableBitmap {
     /// # Errors
     ///
     /// `OutOfMemory` alone.
+    #[tactic(auto, using(crate::proofs::Filled::filling))]
     pub fn from_len_set(alloc: Global, length: usize) -> Result<MutableBitmap>
         ensures ok { IfOk result (λ m. m.items ≡ replicate length true) }
         ensures only { IfErr result (λ e. e ≡ Error.OutOfMemory) }
     {
-        let ones = vec![in alloc; u8::MAX; bytes_for(length)]?;
+        let ones = filled(alloc, u8::MAX, bytes_for(length))?;
         Ok(MutableBitmap::from_vec(ones, length))
     }
 
-    /// The bitmap of the items of an iterator that ends, in its order. Its size hint is not read.
+    /// The bitmap of the items of an iterator that ends, in its order.
+    ///
+    /// Stands for arrow2's `FromIterator`, which takes memory by the size hint. Here it is not read.
     ///
     /// # Errors
     ///
@@ -133,7 +137,7 @@ impl MutableBitmap {
         iter: I,
     ) -> Result<MutableBitmap>
         requires { (it : I.IntoIter) → I.into_iter_gives iter it → I.IntoIter.can_next it × IsFinite (I.IntoIter.remaining it) }
-        ensures items { IfOk result (λ m. (it : I.IntoIter) × (xs : List Bool) × I.into_iter_gives iter it × Drains I.IntoIter.next_gives it xs × (m.items ≡ xs)) }
+        ensures items { IfOk result (λ m. (it : I.IntoIter) × I.into_iter_gives iter it × Drains I.IntoIter.next_gives it m.items) }
         ensures fits { IfOk result (λ m. length m.items < 2 ^ 64) }
         ensures overflow { IsErrOf result Error.Overflow → (it : I.IntoIter) × I.into_iter_gives iter it × GivesTooMany I.IntoIter.next_gives it }
         ensures only { IfErr result (λ e. (e ≡ Error.Overflow) ⊎ (e ≡ Error.OutOfMemory)) }
@@ -324,6 +328,13 @@ impl PartialEq for MutableBitmap {
 
 impl Eq for MutableBitmap {
     ghost laws = { on_equiv (λ m. m.items) (lists_equiv bool_eq_equiv) };
+}
+
+/// So many bytes, each of them `byte`.
+fn filled(alloc: Global, byte: u8, count: usize) -> std::result::Result<Vec<u8>, AllocError>
+    ensures { IfOk result (λ bytes. bytes.items ≡ replicate count byte) }
+{
+    vec![in alloc; byte; count]
 }
 
 /// Cuts what lies behind the first `length` bits: spare bytes, and spare bits of the last byte.

@@ -1,6 +1,7 @@
 //! Worked examples, and each call once with ample memory.
-ghost use Rattle.std.specs.Prelude.{◌+◌};
+ghost use Rattle.std.specs.Prelude.{◌≡◌, ◌+◌, IfOk};
 ghost use Rattle.std.specs.Iterator.{at_most};
+ghost use Rattle.arrow2_model.specs.Storage.{items_of};
 
 use crate::immutable::Bitmap;
 use crate::iterator::IntoIter;
@@ -247,19 +248,34 @@ fn bytes_of_a_growing_bitmap_are_canonical(rt: HostRuntime) -> Result<(), Fail> 
     Ok(())
 }
 
+/// What a caller of `try_from_iter` knows: the items of the walk are those of the bitmap.
+#[tactic(auto, using(crate::proofs::Walk::collecting))]
+fn collect_again(alloc: Global, bitmap: &Bitmap) -> arrow2_types::error::Result<MutableBitmap>
+    ensures { IfOk result (λ m. m.items ≡ items_of bitmap.now) }
+{
+    MutableBitmap::try_from_iter(alloc, bitmap)
+}
+
+/// The same of a walk that takes the bitmap, and of a shared result.
+#[tactic(auto, using(crate::proofs::Walk::collecting))]
+fn collect_taken(alloc: Global, bitmap: Bitmap) -> arrow2_types::error::Result<Bitmap>
+    ensures { IfOk result (λ b. items_of b ≡ items_of bitmap) }
+{
+    Bitmap::try_from_iter(alloc, bitmap)
+}
+
 #[test]
 fn items_are_collected_in_order(rt: HostRuntime) -> Result<(), Fail> {
     let grown = MutableBitmap::try_from_iter(rt.alloc(), (0..130usize).map(|i| i % 5 == 0))?;
     assert_eq!(rt; (grown.len(), grown.unset_bits()), (130, 104));
     let frozen = Bitmap::try_from_iter(rt.alloc(), (0..130usize).map(|i| i % 5 == 0))?;
     assert_eq!(rt; (frozen.len(), frozen.unset_bits()), (130, 104));
-    let again = MutableBitmap::try_from_iter(rt.alloc(), &frozen)?;
+    let again = collect_again(rt.alloc(), &frozen)?;
     assert_eq!(rt; again.as_slice(), grown.as_slice());
     let last = Bitmap::try_from_iter(rt.alloc(), &again)?;
-    assert_eq!(rt;
-        MutableBitmap::try_from_iter(rt.alloc(), last)?.as_slice(),
-        grown.as_slice()
-    );
+    assert_eq!(rt; (last.len(), last.unset_bits()), (130, 104));
+    let taken = MutableBitmap::try_from_iter(rt.alloc(), collect_taken(rt.alloc(), last)?)?;
+    assert_eq!(rt; taken.as_slice(), grown.as_slice());
     Ok(())
 }
 

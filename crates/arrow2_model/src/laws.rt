@@ -35,16 +35,10 @@ pub fn one_list_of_a_number()
 #[tactic(auto, using(crate::proofs::Canonical::canonical))]
 pub fn canonical_bytes_tell_lists_apart()
     ensures { (xs ys : List Bool) → length xs ≡ length ys → canonical_bytes xs ≡ canonical_bytes ys → xs ≡ ys }
-<<<<<<< HEAD
 {}
-=======
-{
-}
 
 /// No bits are shown as a pair of brackets, wherever they begin.
 #[tactic(auto, using(crate::proofs::Shown::texts))]
 pub fn no_bits_are_two_brackets()
     ensures { (bytes : List ℕ) (offset : ℕ) → shown bytes offset 0 ≡ codes "[]" }
-{
-}
->>>>>>> 4af20e9 (Law: no bits are two brackets; name the parts of what the printing loop keeps)
+{}
