@@ -6,6 +6,9 @@ ghost use Rattle.arrow2_model.specs.Storage.{items_of};
 use crate::immutable::Bitmap;
 use crate::iterator::IntoIter;
 use crate::mutable::MutableBitmap;
+use arrow2_bits::chunk_iterator::BitChunkIterExact;
+use arrow2_index::bit_chunk::BitChunk;
+use arrow2_index::bit_chunk_iter::BitChunkIter;
 use std::alloc::Global;
 use std::convert::TryFrom;
 use std::fmt::Display;
@@ -322,6 +325,52 @@ fn a_size_hint_is_not_believed(rt: HostRuntime) -> Result<(), Fail> {
         assert_eq!(rt; (grown.len(), grown.unset_bits()), (3, 0));
         let frozen = Bitmap::try_from_iter(rt.alloc(), three_trues(hint, falls))?;
         assert_eq!(rt; (frozen.len(), frozen.unset_bits()), (3, 0));
+    }
+    Ok(())
+}
+
+/// Whether the words of the bitmap hold its items one by one, the rest included.
+fn words_hold_items<T: BitChunk>(bitmap: &Bitmap) -> bool {
+    let mut items = bitmap.iter();
+    let mut chunks = bitmap.chunks::<T>();
+    while let Some(word) = chunks.next() {
+        for bit in BitChunkIter::new(word, T::WIDTH) {
+            if items.next() != Some(bit) {
+                return false;
+            }
+        }
+    }
+    for bit in chunks.remainder_iter() {
+        if items.next() != Some(bit) {
+            return false;
+        }
+    }
+    items.next().is_none()
+}
+
+#[test]
+fn words_and_counts_agree_with_items(rt: HostRuntime) -> Result<(), Fail> {
+    let dirty = [0xa5, 0xff, 0x00, 0x3c, 0x81, 0x7e, 0x0f, 0xf0, 0x55].repeat(rt.alloc(), 4)?;
+    assert_eq!(rt; dirty.len(), 36);
+    for offset in 0..16usize {
+        for length in 0..201usize {
+            let part = Bitmap::from_u8_slice(rt.alloc(), dirty.as_slice(), 288)?;
+            assert_eq!(rt; part.len(), 288);
+            let part = part.sliced(offset, length);
+            let items: Vec<bool> = part.iter().collect(rt.alloc())?;
+            let zeros = items.iter().filter(|item| !**item).count();
+            assert_eq!(rt; part.unset_bits(), zeros, "{length} bits from {offset} on");
+            let alike = Bitmap::from_bools(rt.alloc(), items.as_slice())?;
+            assert_eq!(rt; part, alike, "{length} bits from {offset} on");
+            let mut other = MutableBitmap::from_bools(rt.alloc(), items.as_slice())?;
+            assert!(rt; other == part.clone()?.make_mut()?);
+            if let Some(last) = other.pop() {
+                other.push(!last)?;
+                assert!(rt; Bitmap::try_from(other)? != part);
+            }
+            assert!(rt; words_hold_items::<u8>(&part) && words_hold_items::<u16>(&part));
+            assert!(rt; words_hold_items::<u32>(&part) && words_hold_items::<u64>(&part));
+        }
     }
     Ok(())
 }

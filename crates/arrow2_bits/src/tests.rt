@@ -1,6 +1,11 @@
-//! Texts of bits as their callers print them.
+//! Worked examples, printed texts, and each call once.
 ghost use Rattle.std.specs.Prelude.{◌+◌, ◌*◌, ◌<◌, ◌≤◌, length as count};
 
+use crate::chunk_iterator::{BitChunkIterExact, BitChunks};
+use crate::chunks_exact::BitChunksExact;
+use crate::iterator::BitmapIter;
+use crate::{bytes_for, count_zeros, get_bit, get_bit_from, is_set, set, set_bit};
+use arrow2_index::bit_chunk::BitChunk;
 use std::fmt;
 use std::test::Fail;
 
@@ -52,4 +57,90 @@ fn bits_are_printed_by_whole_bytes(rt: HostRuntime) -> Result<(), Fail> {
         assert_eq!(rt; format!(in rt.alloc(); "{bits:#?}")?.as_str(), text);
     }
     Ok(())
+}
+
+#[test]
+fn single_bits_are_read_written_and_counted(rt: HostRuntime) {
+    assert_eq!(rt; (bytes_for(0), bytes_for(8), bytes_for(9)), (0, 1, 2));
+    assert_eq!(rt; bytes_for(usize::MAX), 2305843009213693952);
+    assert_eq!(rt; set(0, 3, true), 8);
+    assert!(rt; is_set(8, 3));
+    let mut bytes = [0b00001101, 0];
+    assert!(rt; get_bit(&bytes, 2));
+    assert!(rt; !get_bit_from(&bytes, 7, 8));
+    set_bit(&mut bytes, 9, true);
+    assert_eq!(rt; bytes, [0b00001101, 0b10]);
+    assert_eq!(rt; count_zeros(&[255, 0], 4, 8), 4);
+    assert_eq!(rt; count_zeros(&[], 99, 0), 0);
+}
+
+#[test]
+fn bits_are_walked_from_both_ends(rt: HostRuntime) -> Result<(), Fail> {
+    let mut walk = BitmapIter::new(&[0b01011011], 2, 4);
+    assert_eq!(rt; (walk.next(), walk.next_back()), (Some(false), Some(false)));
+    let copy = walk.clone()?;
+    assert_eq!(rt; (walk.next(), walk.next(), walk.next()), (Some(true), Some(true), None));
+    assert_eq!(rt; copy.len(), 2);
+    assert_eq!(rt;
+        format!(in rt.alloc(); "{copy:?}")?.as_str(),
+        "BitmapIter { bytes: [91], offset: 2, index: 1, end: 3 }"
+    );
+    let mut walk = BitmapIter::new(&[0b01011011], 0, 6);
+    assert_eq!(rt; walk.next(), Some(true));
+    assert_eq!(rt; walk.size_hint(), (5, Some(5)));
+    assert_eq!(rt; walk.nth(usize::MAX), None);
+    assert_eq!(rt; (walk.next(), walk.next_back()), (None, None));
+    Ok(())
+}
+
+#[test]
+fn words_are_taken_at_a_bit_offset(rt: HostRuntime) -> Result<(), Fail> {
+    let mut chunks = BitChunks::<u8>::new(&[0b10110110, 0b01011011], 3, 10);
+    assert_eq!(rt; (BitChunks::len(&chunks), chunks.size_hint()), (1, (1, Some(1))));
+    assert_eq!(rt; (chunks.next(), chunks.next()), (Some(118), None));
+    assert_eq!(rt; (chunks.remainder(), chunks.remainder_len()), (11, 2));
+    let rest: Vec<bool> = chunks.remainder_iter().collect(rt.alloc())?;
+    assert_eq!(rt; rest.as_slice(), [true, true].as_slice());
+    let mut chunks = BitChunks::<u16>::new(&[255, 1, 128], 4, 20);
+    assert_eq!(rt; BitChunks::len(&chunks), 1);
+    assert_eq!(rt; (chunks.next(), chunks.next()), (Some(31), None));
+    assert_eq!(rt; (chunks.remainder(), chunks.remainder_len()), (8, 4));
+    let rest: Vec<bool> = chunks.remainder_iter().collect(rt.alloc())?;
+    assert_eq!(rt; rest.as_slice(), [false, false, false, true].as_slice());
+    let mut chunks = BitChunks::<u64>::new(&[240, 255], 4, 8);
+    assert_eq!(rt; chunks.next(), None);
+    assert_eq!(rt; (chunks.remainder(), chunks.remainder_len()), (4095, 8));
+    assert_eq!(rt; chunks.remainder().masked(8), 255);
+    Ok(())
+}
+
+#[test]
+fn words_are_taken_from_the_first_bit(rt: HostRuntime) -> Result<(), Fail> {
+    let mut chunks = BitChunksExact::<u16>::new(&[255], 7);
+    assert!(rt; chunks.is_empty());
+    assert_eq!(rt; chunks.next(), None);
+    assert_eq!(rt; (chunks.remainder(), chunks.remainder_len()), (255, 7));
+    let mut chunks = BitChunksExact::<u16>::new(&[255, 1, 1, 0b11011011], 23);
+    assert_eq!(rt; (BitChunksExact::len(&chunks), chunks.size_hint()), (1, (1, Some(1))));
+    assert_eq!(rt;
+        format!(in rt.alloc(); "{chunks:?}")?.as_str(),
+        "BitChunksExact { chunks: BitChunks { bytes: [255, 1, 1], shift: 0, count: 1, remainder: 1, remainder_len: 7 } }"
+    );
+    assert_eq!(rt; (chunks.next(), chunks.next()), (Some(511), None));
+    assert_eq!(rt; (chunks.remainder(), chunks.remainder_len()), (1, 7));
+    Ok(())
+}
+
+/// The first word and the length of the rest, by the bound alone.
+fn first_word<B: BitChunk, I: BitChunkIterExact<B>>(mut chunks: I) -> (Option<B>, usize)
+    requires { I.can_next chunks }
+{
+    (chunks.next(), chunks.remainder_len())
+}
+
+#[test]
+fn both_walks_are_taken_by_their_bound(rt: HostRuntime) {
+    let bytes = [0xa5, 0x5a, 0xff, 0x00, 0x3c];
+    assert_eq!(rt; first_word(BitChunks::<u32>::new(&bytes, 4, 34)), (Some(0xc00ff5aa), 2));
+    assert_eq!(rt; first_word(BitChunksExact::<u32>::new(&bytes, 36)), (Some(0x00ff5aa5), 4));
 }
