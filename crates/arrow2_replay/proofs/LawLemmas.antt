@@ -1,12 +1,11 @@
 -- The laws of lines, words and commands.
-use Rattle.std.proofs.Common.{◌≡◌, ◌≢◌, ◌∙◌, sym, ap, refl, subst, ◌<◌, ◌≤◌, ◌^◌, ℕ, zero, suc, List, [], ◌∷◌, ◌++◌, length, Bool, true, false, cond, ◌&&◌, ◌||◌, not, ◌⊎◌, inl, inr, arith, codes, eqb, map, append_assoc}
-use Rattle.std.specs.Prelude.{Option, Some, None, ◌↔◌}
-use Rattle.std.specs.List.{All, AllPass, flat_map, list_any, list_all, slice_split, onto_first, join_with_byte}
+use Rattle.std.proofs.Common.{◌≡◌, ◌≢◌, ◌∙◌, sym, ap, refl, subst, ◌<◌, ◌^◌, ℕ, suc, List, [], ◌∷◌, ◌++◌, length, Bool, true, false, cond, ◌&&◌, ◌||◌, not, ◌⊎◌, inl, inr, arith, eqb, map, append_assoc}
+use Rattle.std.specs.Prelude.{Some, ◌↔◌}
+use Rattle.std.specs.List.{All, flat_map, list_any, list_all, slice_split, onto_first, join_with_byte}
 use Rattle.std.specs.Str.Parse.{AllDigits}
 use Rattle.std.specs.Fmt.{decimal}
 use Rattle.std.proofs.lemmas.List.Elements.{All-cons, All-nil}
 use Rattle.std.proofs.lemmas.List.Splits.{join_with_byte-slice_split}
-use Rattle.std.proofs.lemmas.Option.{none-some}
 use Rattle.std.proofs.lemmas.Str.Parse.{digit_from_value}
 use Rattle.std.proofs.lemmas.Fmt.{decimal_is_IsNumeral}
 use Rattle.arrow2_replay.specs.Lines.{lines_of, parts_of, words_of, is_blank, closed, ended, IsLine, AreLines, IsWord, AreWords}

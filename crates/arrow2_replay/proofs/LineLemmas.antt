@@ -1,6 +1,6 @@
 -- Lines and words, cut from the front.
-use Rattle.std.proofs.Common.{◌≡◌, ◌≢◌, ◌∙◌, sym, ap, refl, ◌<◌, ◌≤◌, ℕ, zero, suc, List, [], ◌∷◌, ◌++◌, length, get_or, Bool, true, false, cond, arith, eqb}
-use Rattle.std.specs.List.{All, slice_split, onto_first}
+use Rattle.std.proofs.Common.{◌≡◌, ◌≢◌, ◌∙◌, ap, refl, ◌<◌, ℕ, suc, List, [], ◌∷◌, ◌++◌, length, get_or, false, arith, eqb}
+use Rattle.std.specs.List.{All}
 use Rattle.std.proofs.lemmas.List.Splits.{slice_split_none, slice_split_at}
 use Rattle.arrow2_replay.specs.Lines.{lines_of, parts_of}
 

@@ -1,9 +1,9 @@
 -- What a word says, and the one word that says it.
-use Rattle.std.proofs.Common.{map, codes, eqb, ◌≡◌, ◌≢◌, ◌∙◌, sym, ap, refl, ◌<◌, ◌≤◌, ◌^◌, ℕ, zero, suc, List, [], ◌∷◌, length, get_or, drop, Bool, true, false, cond, ◌&&◌, ◌⊎◌, inl, inr, arith, lit<, le-ltb, ltb-true, rules}
+use Rattle.std.proofs.Common.{map, codes, eqb, ◌≡◌, ◌∙◌, sym, ap, refl, ◌<◌, ◌^◌, ℕ, zero, suc, List, [], ◌∷◌, length, get_or, Bool, true, false, cond, ◌&&◌, ◌⊎◌, inl, inr, arith, lit<}
 use Rattle.std.specs.Prelude.{Option, Some, None, Result, Ok, Err, nat_lt}
-use Rattle.std.specs.Result.{result_ok, OkIff}
+use Rattle.std.specs.Result.{result_ok}
 use Rattle.std.specs.Str.{bytes_eq, IsUtf8}
-use Rattle.std.specs.Str.Parse.{digits_value, IsNumeral, AllDigits, ParsesUnsigned, without_leading_plus}
+use Rattle.std.specs.Str.Parse.{digits_value, AllDigits, ParsesUnsigned}
 use Rattle.std.specs.Fmt.{decimal}
 use Rattle.std.proofs.lemmas.Fmt.{decimal_is_IsNumeral, decimal-digits_value, first_decimal, decimal_digit, IsAscii-decimal}
 use Rattle.std.proofs.lemmas.Str.{IsUtf8-from_ascii}

@@ -1,6 +1,5 @@
 -- What the program's steps answer, against the machine of lists.
-use Rattle.std.specs.Prelude.{◌≡◌, Result, Ok, Err, List, Bool}
-use Rattle.arrow2_model.specs.Storage.{items_of}
+use Rattle.std.specs.Prelude.{◌≡◌, Result, Ok, Err}
 use Rattle.arrow2_types.specs.declared.error.Error as bitmaps
 use Rattle.arrow2_types.specs.declared.error.Error.TheVariants as errors
 use Rattle.arrow2_replay.specs.declared.refusal.Refusal.{Refusal}

@@ -1,4 +1,4 @@
-use Rattle.std.proofs.Common.{◌≡◌, ◌∙◌, sym}
+use Rattle.std.proofs.Common.{◌∙◌, sym}
 use Rattle.arrow2_replay.proofs.WordLemmas.{number_of-padded, number_of-no_text, number_of-parsed}
 use Rattle.arrow2_replay.proofs.words.number.Goals as goal
 

@@ -1,4 +1,4 @@
-use Rattle.std.proofs.Common.{◌≡◌, ◌∙◌, ℕ, sym, rules, ◌<◌, replicate, get_or, arith}
+use Rattle.std.proofs.Common.{◌≡◌, ◌∙◌, sym, rules, ◌<◌, replicate, get_or, arith}
 use Rattle.std.proofs.lemmas.List.{same_lists, get_or-replicate}
 use Rattle.arrow2_replay.specs.Machine.{Nothing}
 use Rattle.arrow2_replay.proofs.machine.Machine.new.Goals as goal
