@@ -30,7 +30,8 @@ pub trait BitChunk: PrimInt + NativeType {
         ensures digits { Self.Bytes.items result ≡ digits Self.SIZE (pos (number self)) }
         ensures size { length (Self.Bytes.items result) ≡ Self.SIZE }
         ensures bits { bits (Self.Bytes.items result) ≡ unnum WIDTH (number self) }
-        ensures read_back { natural_from Self.SIZE (Self.Bytes.items result) ≡ number self };
+        ensures read_back { natural_from Self.SIZE (Self.Bytes.items result)
+            ≡ number self };
 
     /// The word with these bytes in little-endian order.
     fn from_ne_bytes(bytes: Self::Bytes) -> Self
@@ -39,8 +40,8 @@ pub trait BitChunk: PrimInt + NativeType {
     /// The word whose bytes these are in little-endian order. Asks for as many bytes as a word has.
     fn from_ne_slice(bytes: &[u8]) -> Self
         requires { length bytes.now ≡ Self.SIZE }
-        ensures bits { unnum WIDTH (number result) ≡ bits bytes.now }
-        ensures fits { number result < 2 ^ WIDTH };
+        ensures fits { number result < 2 ^ WIDTH }
+        ensures bits { unnum WIDTH (number result) ≡ bits bytes.now };
 
     /// Bit `i`. Asks that `i` is below `WIDTH`.
     fn bit(self, i: usize) -> bool
@@ -50,48 +51,48 @@ pub trait BitChunk: PrimInt + NativeType {
     /// The lowest `len` bits, and false above them. Asks that `len` is at most `WIDTH`.
     fn masked(self, len: usize) -> Self
         requires { len ≤ WIDTH }
+        ensures fits { number result < 2 ^ WIDTH }
         ensures bits { unnum WIDTH (number result)
-            ≡ take len (unnum WIDTH (number self)) ++ replicate (WIDTH - len) false }
-        ensures fits { number result < 2 ^ WIDTH };
+            ≡ take len (unnum WIDTH (number self)) ++ replicate (WIDTH - len) false };
 
     /// The bits that both words have.
     fn bit_and(self, other: Self) -> Self
+        ensures fits { number result < 2 ^ WIDTH }
         ensures bits { unnum WIDTH (number result)
-            ≡ zip2 (λ a b. a && b) (unnum WIDTH (number self)) (unnum WIDTH (number other)) }
-        ensures fits { number result < 2 ^ WIDTH };
+            ≡ zip2 (λ a b. a && b) (unnum WIDTH (number self)) (unnum WIDTH (number other)) };
 
     /// The bits that one of the words has, or both.
     fn bit_or(self, other: Self) -> Self
+        ensures fits { number result < 2 ^ WIDTH }
         ensures bits { unnum WIDTH (number result)
-            ≡ zip2 (λ a b. a || b) (unnum WIDTH (number self)) (unnum WIDTH (number other)) }
-        ensures fits { number result < 2 ^ WIDTH };
+            ≡ zip2 (λ a b. a || b) (unnum WIDTH (number self)) (unnum WIDTH (number other)) };
 
     /// The bits that one of the words has, and not both.
     fn bit_xor(self, other: Self) -> Self
+        ensures fits { number result < 2 ^ WIDTH }
         ensures bits { unnum WIDTH (number result)
-            ≡ zip2 xor (unnum WIDTH (number self)) (unnum WIDTH (number other)) }
-        ensures fits { number result < 2 ^ WIDTH };
+            ≡ zip2 xor (unnum WIDTH (number self)) (unnum WIDTH (number other)) };
 
     /// The bits that the word lacks.
     fn bit_not(self) -> Self
-        ensures bits { unnum WIDTH (number result) ≡ map not (unnum WIDTH (number self)) }
-        ensures fits { number result < 2 ^ WIDTH };
+        ensures fits { number result < 2 ^ WIDTH }
+        ensures bits { unnum WIDTH (number result) ≡ map not (unnum WIDTH (number self)) };
 
     /// Moves bit `i` to `i + k`: what leaves the word is dropped, and false comes in. Asks that `k` is
     /// below `WIDTH`.
     fn up(self, k: usize) -> Self
         requires { k < WIDTH }
+        ensures fits { number result < 2 ^ WIDTH }
         ensures bits { unnum WIDTH (number result)
-            ≡ replicate k false ++ take (WIDTH - k) (unnum WIDTH (number self)) }
-        ensures fits { number result < 2 ^ WIDTH };
+            ≡ replicate k false ++ take (WIDTH - k) (unnum WIDTH (number self)) };
 
     /// Moves bit `i` to `i - k`: what leaves the word is dropped, and false comes in. Asks that `k` is
     /// below `WIDTH`.
     fn down(self, k: usize) -> Self
         requires { k < WIDTH }
+        ensures fits { number result < 2 ^ WIDTH }
         ensures bits { unnum WIDTH (number result)
-            ≡ drop k (unnum WIDTH (number self)) ++ replicate k false }
-        ensures fits { number result < 2 ^ WIDTH };
+            ≡ drop k (unnum WIDTH (number self)) ++ replicate k false };
 
     /// The place of the lowest set bit, or `None` where no bit is set.
     fn first_one(self) -> Option<usize>
@@ -100,12 +101,14 @@ pub trait BitChunk: PrimInt + NativeType {
 
     /// The word without its lowest set bit, where it has one.
     fn without_first_one(self) -> Self
-        ensures ones { ones (unnum WIDTH (number result)) ≡ drop 1 (ones (unnum WIDTH (number self))) }
-        ensures fits { number result < 2 ^ WIDTH };
+        ensures fits { number result < 2 ^ WIDTH }
+        ensures ones { ones (unnum WIDTH (number result))
+            ≡ drop 1 (ones (unnum WIDTH (number self))) };
 
     /// How many bits are set.
     fn ones_count(self) -> usize
-        ensures { result ≡ length (ones (unnum WIDTH (number self))) };
+        ensures { result
+            ≡ length (ones (unnum WIDTH (number self))) };
 
     // A word has eight bits a byte.
     ghost size_law: { 8 * Self.SIZE ≡ WIDTH };

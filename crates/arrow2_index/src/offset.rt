@@ -1,6 +1,6 @@
 //! The numbers that offsets are made of.
 ghost use Rattle.std.specs.Prelude.{◌≤◌, ◌↔◌, ℕ, pos, Bool, true, false};
-ghost use Rattle.std.specs.Int.{w32, w64};
+ghost use Rattle.std.specs.Int as width;
 ghost use Rattle.arrow2_model.proofs.Ranges.{fits_below, below_fits};
 
 use crate::index::Index;
@@ -29,7 +29,7 @@ impl Offset for i32 {
 
     ghost MAX = { 2147483647 };
 
-    ghost max_law = { λ n. (fits_below w32 n, below_fits w32 n) };
+    ghost max_law = { λ n. (fits_below width.w32 n, below_fits width.w32 n) };
 
     const IS_LARGE: bool = false;
 
@@ -41,7 +41,7 @@ impl Offset for i64 {
 
     ghost MAX = { 9223372036854775807 };
 
-    ghost max_law = { λ n. (fits_below w64 n, below_fits w64 n) };
+    ghost max_law = { λ n. (fits_below width.w64 n, below_fits width.w64 n) };
 
     const IS_LARGE: bool = true;
 

@@ -1,7 +1,8 @@
 -- The bytes that std's conversions give and take are digits.
 use Rattle.std.proofs.Common.{◌≡◌, ℕ, zero, suc, ◌+◌, ◌-◌, ◌*◌, ◌/◌, ◌%◌, ◌^◌, ◌<◌, ◌≤◌, List, [], ◌∷◌, ◌++◌, length, take, drop, slice_index, reverse, refl, ap, sym, ◌∙◌, arith, inl, inr, false, ltb, cond}
 use Rattle.std.specs.Prelude.{ℤ, pos, negsuc, FitsSigned}
-use Rattle.std.specs.Int.{Width, byte_at, byte_worth, bytes_low_first, bytes_high_first, sum_through, cast_unsigned, cast_signed, from_le_bytes, from_be_bytes, w8, w16, w32, w64, w128}
+use Rattle.std.specs.Int as width
+use Rattle.std.specs.Int.{Width, byte_at, byte_worth, bytes_low_first, bytes_high_first, sum_through, cast_unsigned, cast_signed, from_le_bytes, from_be_bytes, w128}
 use Rattle.std.proofs.Math.Seq.{take-append_seam, drop-append_seam}
 use Rattle.std.proofs.lemmas.Bool.{cases_lt, le-ltb}
 use Rattle.std.proofs.lemmas.Bool.Decides.{nat_tests}
@@ -312,63 +313,63 @@ integer_read w n x z bytes s e r = r ∙ (to_z_is w n x s ∙ ap (centred (256 ^
 
 -- ---- signed numbers at each width
 
-pub i16_low : (z : ℤ) (bytes : List ℕ) → FitsSigned w16 z → bytes ≡ bytes_low_first 0 2 (cast_unsigned w16 z) → bytes ≡ digits 2 z
-i16_low z bytes f e = integer_low w16 2 z bytes (refl, refl) f e
+pub i16_low : (z : ℤ) (bytes : List ℕ) → FitsSigned width.w16 z → bytes ≡ bytes_low_first 0 2 (cast_unsigned width.w16 z) → bytes ≡ digits 2 z
+i16_low z bytes f e = integer_low width.w16 2 z bytes (refl, refl) f e
 
-pub i16_high : (z : ℤ) (bytes : List ℕ) → FitsSigned w16 z → bytes ≡ bytes_high_first 2 (cast_unsigned w16 z) → bytes ≡ reverse (digits 2 z)
-i16_high z bytes f e = integer_high w16 2 z bytes (refl, refl) f e
+pub i16_high : (z : ℤ) (bytes : List ℕ) → FitsSigned width.w16 z → bytes ≡ bytes_high_first 2 (cast_unsigned width.w16 z) → bytes ≡ reverse (digits 2 z)
+i16_high z bytes f e = integer_high width.w16 2 z bytes (refl, refl) f e
 
-pub i16_low_back : (z : ℤ) (bytes : List ℕ) → FitsSigned w16 z → bytes ≡ bytes_low_first 0 2 (cast_unsigned w16 z) → integer_from 2 bytes ≡ z
-i16_low_back z bytes f e = integer_low_back w16 2 z bytes (refl, refl) f e
+pub i16_low_back : (z : ℤ) (bytes : List ℕ) → FitsSigned width.w16 z → bytes ≡ bytes_low_first 0 2 (cast_unsigned width.w16 z) → integer_from 2 bytes ≡ z
+i16_low_back z bytes f e = integer_low_back width.w16 2 z bytes (refl, refl) f e
 
-pub i16_high_back : (z : ℤ) (bytes : List ℕ) → FitsSigned w16 z → bytes ≡ bytes_high_first 2 (cast_unsigned w16 z) → integer_from 2 (reverse bytes) ≡ z
-i16_high_back z bytes f e = integer_high_back w16 2 z bytes (refl, refl) f e
+pub i16_high_back : (z : ℤ) (bytes : List ℕ) → FitsSigned width.w16 z → bytes ≡ bytes_high_first 2 (cast_unsigned width.w16 z) → integer_from 2 (reverse bytes) ≡ z
+i16_high_back z bytes f e = integer_high_back width.w16 2 z bytes (refl, refl) f e
 
-pub i16_read_low : (z : ℤ) (bytes : List ℕ) → length bytes ≡ 2 → z ≡ cast_signed w16 (from_le_bytes w16 bytes) → z ≡ integer_from 2 bytes
-i16_read_low z bytes l e = integer_read w16 2 (from_le_bytes w16 bytes) z bytes (refl, refl) (read_low 2 (from_le_bytes w16 bytes) bytes l (omega arith) refl) e
+pub i16_read_low : (z : ℤ) (bytes : List ℕ) → length bytes ≡ 2 → z ≡ cast_signed width.w16 (from_le_bytes width.w16 bytes) → z ≡ integer_from 2 bytes
+i16_read_low z bytes l e = integer_read width.w16 2 (from_le_bytes width.w16 bytes) z bytes (refl, refl) (read_low 2 (from_le_bytes width.w16 bytes) bytes l (omega arith) refl) e
 
-pub i16_read_high : (z : ℤ) (bytes : List ℕ) → length bytes ≡ 2 → z ≡ cast_signed w16 (from_be_bytes w16 bytes) → z ≡ integer_from 2 (reverse bytes)
-i16_read_high z bytes l e = integer_read w16 2 (from_be_bytes w16 bytes) z (reverse bytes) (refl, refl) (read_high 2 (from_be_bytes w16 bytes) bytes l (omega arith) refl) e
+pub i16_read_high : (z : ℤ) (bytes : List ℕ) → length bytes ≡ 2 → z ≡ cast_signed width.w16 (from_be_bytes width.w16 bytes) → z ≡ integer_from 2 (reverse bytes)
+i16_read_high z bytes l e = integer_read width.w16 2 (from_be_bytes width.w16 bytes) z (reverse bytes) (refl, refl) (read_high 2 (from_be_bytes width.w16 bytes) bytes l (omega arith) refl) e
 
 pub ruleset i16_bytes = (i16_low, i16_high, i16_low_back, i16_high_back, i16_read_low, i16_read_high)
 
-pub i32_low : (z : ℤ) (bytes : List ℕ) → FitsSigned w32 z → bytes ≡ bytes_low_first 0 4 (cast_unsigned w32 z) → bytes ≡ digits 4 z
-i32_low z bytes f e = integer_low w32 4 z bytes (refl, refl) f e
+pub i32_low : (z : ℤ) (bytes : List ℕ) → FitsSigned width.w32 z → bytes ≡ bytes_low_first 0 4 (cast_unsigned width.w32 z) → bytes ≡ digits 4 z
+i32_low z bytes f e = integer_low width.w32 4 z bytes (refl, refl) f e
 
-pub i32_high : (z : ℤ) (bytes : List ℕ) → FitsSigned w32 z → bytes ≡ bytes_high_first 4 (cast_unsigned w32 z) → bytes ≡ reverse (digits 4 z)
-i32_high z bytes f e = integer_high w32 4 z bytes (refl, refl) f e
+pub i32_high : (z : ℤ) (bytes : List ℕ) → FitsSigned width.w32 z → bytes ≡ bytes_high_first 4 (cast_unsigned width.w32 z) → bytes ≡ reverse (digits 4 z)
+i32_high z bytes f e = integer_high width.w32 4 z bytes (refl, refl) f e
 
-pub i32_low_back : (z : ℤ) (bytes : List ℕ) → FitsSigned w32 z → bytes ≡ bytes_low_first 0 4 (cast_unsigned w32 z) → integer_from 4 bytes ≡ z
-i32_low_back z bytes f e = integer_low_back w32 4 z bytes (refl, refl) f e
+pub i32_low_back : (z : ℤ) (bytes : List ℕ) → FitsSigned width.w32 z → bytes ≡ bytes_low_first 0 4 (cast_unsigned width.w32 z) → integer_from 4 bytes ≡ z
+i32_low_back z bytes f e = integer_low_back width.w32 4 z bytes (refl, refl) f e
 
-pub i32_high_back : (z : ℤ) (bytes : List ℕ) → FitsSigned w32 z → bytes ≡ bytes_high_first 4 (cast_unsigned w32 z) → integer_from 4 (reverse bytes) ≡ z
-i32_high_back z bytes f e = integer_high_back w32 4 z bytes (refl, refl) f e
+pub i32_high_back : (z : ℤ) (bytes : List ℕ) → FitsSigned width.w32 z → bytes ≡ bytes_high_first 4 (cast_unsigned width.w32 z) → integer_from 4 (reverse bytes) ≡ z
+i32_high_back z bytes f e = integer_high_back width.w32 4 z bytes (refl, refl) f e
 
-pub i32_read_low : (z : ℤ) (bytes : List ℕ) → length bytes ≡ 4 → z ≡ cast_signed w32 (from_le_bytes w32 bytes) → z ≡ integer_from 4 bytes
-i32_read_low z bytes l e = integer_read w32 4 (from_le_bytes w32 bytes) z bytes (refl, refl) (read_low 4 (from_le_bytes w32 bytes) bytes l (omega arith) refl) e
+pub i32_read_low : (z : ℤ) (bytes : List ℕ) → length bytes ≡ 4 → z ≡ cast_signed width.w32 (from_le_bytes width.w32 bytes) → z ≡ integer_from 4 bytes
+i32_read_low z bytes l e = integer_read width.w32 4 (from_le_bytes width.w32 bytes) z bytes (refl, refl) (read_low 4 (from_le_bytes width.w32 bytes) bytes l (omega arith) refl) e
 
-pub i32_read_high : (z : ℤ) (bytes : List ℕ) → length bytes ≡ 4 → z ≡ cast_signed w32 (from_be_bytes w32 bytes) → z ≡ integer_from 4 (reverse bytes)
-i32_read_high z bytes l e = integer_read w32 4 (from_be_bytes w32 bytes) z (reverse bytes) (refl, refl) (read_high 4 (from_be_bytes w32 bytes) bytes l (omega arith) refl) e
+pub i32_read_high : (z : ℤ) (bytes : List ℕ) → length bytes ≡ 4 → z ≡ cast_signed width.w32 (from_be_bytes width.w32 bytes) → z ≡ integer_from 4 (reverse bytes)
+i32_read_high z bytes l e = integer_read width.w32 4 (from_be_bytes width.w32 bytes) z (reverse bytes) (refl, refl) (read_high 4 (from_be_bytes width.w32 bytes) bytes l (omega arith) refl) e
 
 pub ruleset i32_bytes = (i32_low, i32_high, i32_low_back, i32_high_back, i32_read_low, i32_read_high)
 
-pub i64_low : (z : ℤ) (bytes : List ℕ) → FitsSigned w64 z → bytes ≡ bytes_low_first 0 8 (cast_unsigned w64 z) → bytes ≡ digits 8 z
-i64_low z bytes f e = integer_low w64 8 z bytes (refl, refl) f e
+pub i64_low : (z : ℤ) (bytes : List ℕ) → FitsSigned width.w64 z → bytes ≡ bytes_low_first 0 8 (cast_unsigned width.w64 z) → bytes ≡ digits 8 z
+i64_low z bytes f e = integer_low width.w64 8 z bytes (refl, refl) f e
 
-pub i64_high : (z : ℤ) (bytes : List ℕ) → FitsSigned w64 z → bytes ≡ bytes_high_first 8 (cast_unsigned w64 z) → bytes ≡ reverse (digits 8 z)
-i64_high z bytes f e = integer_high w64 8 z bytes (refl, refl) f e
+pub i64_high : (z : ℤ) (bytes : List ℕ) → FitsSigned width.w64 z → bytes ≡ bytes_high_first 8 (cast_unsigned width.w64 z) → bytes ≡ reverse (digits 8 z)
+i64_high z bytes f e = integer_high width.w64 8 z bytes (refl, refl) f e
 
-pub i64_low_back : (z : ℤ) (bytes : List ℕ) → FitsSigned w64 z → bytes ≡ bytes_low_first 0 8 (cast_unsigned w64 z) → integer_from 8 bytes ≡ z
-i64_low_back z bytes f e = integer_low_back w64 8 z bytes (refl, refl) f e
+pub i64_low_back : (z : ℤ) (bytes : List ℕ) → FitsSigned width.w64 z → bytes ≡ bytes_low_first 0 8 (cast_unsigned width.w64 z) → integer_from 8 bytes ≡ z
+i64_low_back z bytes f e = integer_low_back width.w64 8 z bytes (refl, refl) f e
 
-pub i64_high_back : (z : ℤ) (bytes : List ℕ) → FitsSigned w64 z → bytes ≡ bytes_high_first 8 (cast_unsigned w64 z) → integer_from 8 (reverse bytes) ≡ z
-i64_high_back z bytes f e = integer_high_back w64 8 z bytes (refl, refl) f e
+pub i64_high_back : (z : ℤ) (bytes : List ℕ) → FitsSigned width.w64 z → bytes ≡ bytes_high_first 8 (cast_unsigned width.w64 z) → integer_from 8 (reverse bytes) ≡ z
+i64_high_back z bytes f e = integer_high_back width.w64 8 z bytes (refl, refl) f e
 
-pub i64_read_low : (z : ℤ) (bytes : List ℕ) → length bytes ≡ 8 → z ≡ cast_signed w64 (from_le_bytes w64 bytes) → z ≡ integer_from 8 bytes
-i64_read_low z bytes l e = integer_read w64 8 (from_le_bytes w64 bytes) z bytes (refl, refl) (read_low 8 (from_le_bytes w64 bytes) bytes l (omega arith) refl) e
+pub i64_read_low : (z : ℤ) (bytes : List ℕ) → length bytes ≡ 8 → z ≡ cast_signed width.w64 (from_le_bytes width.w64 bytes) → z ≡ integer_from 8 bytes
+i64_read_low z bytes l e = integer_read width.w64 8 (from_le_bytes width.w64 bytes) z bytes (refl, refl) (read_low 8 (from_le_bytes width.w64 bytes) bytes l (omega arith) refl) e
 
-pub i64_read_high : (z : ℤ) (bytes : List ℕ) → length bytes ≡ 8 → z ≡ cast_signed w64 (from_be_bytes w64 bytes) → z ≡ integer_from 8 (reverse bytes)
-i64_read_high z bytes l e = integer_read w64 8 (from_be_bytes w64 bytes) z (reverse bytes) (refl, refl) (read_high 8 (from_be_bytes w64 bytes) bytes l (omega arith) refl) e
+pub i64_read_high : (z : ℤ) (bytes : List ℕ) → length bytes ≡ 8 → z ≡ cast_signed width.w64 (from_be_bytes width.w64 bytes) → z ≡ integer_from 8 (reverse bytes)
+i64_read_high z bytes l e = integer_read width.w64 8 (from_be_bytes width.w64 bytes) z (reverse bytes) (refl, refl) (read_high 8 (from_be_bytes width.w64 bytes) bytes l (omega arith) refl) e
 
 pub ruleset i64_bytes = (i64_low, i64_high, i64_low_back, i64_high_back, i64_read_low, i64_read_high)
 
@@ -428,33 +429,33 @@ u8_read_high x bytes l e = e ∙ sym (ap (natural_from 1) (ap reverse (only_byte
 
 pub ruleset u8_bytes = (u8_low, u8_high, u8_low_back, u8_high_back, u8_read_low, u8_read_high)
 
-i8_size : IsSize w8 1
+i8_size : IsSize width.w8 1
 i8_size = (refl, refl)
 
-i8_byte : (z : ℤ) → FitsSigned w8 z → cast_unsigned w8 z ∷ [] ≡ digits 1 z
+i8_byte : (z : ℤ) → FitsSigned width.w8 z → cast_unsigned width.w8 z ∷ [] ≡ digits 1 z
 unfolding digits
 i8_byte z f =
     let small : residue 256 z < 256 = residue-lt 256 z (omega arith) in
-    let e : cast_unsigned w8 z ≡ residue 256 z = of_z_is w8 1 z i8_size f in
+    let e : cast_unsigned width.w8 z ≡ residue 256 z = of_z_is width.w8 1 z i8_size f in
     rw e (byte_digits (residue 256 z) small)
 
-pub i8_low : (z : ℤ) (bytes : List ℕ) → FitsSigned w8 z → bytes ≡ cast_unsigned w8 z ∷ [] → bytes ≡ digits 1 z
+pub i8_low : (z : ℤ) (bytes : List ℕ) → FitsSigned width.w8 z → bytes ≡ cast_unsigned width.w8 z ∷ [] → bytes ≡ digits 1 z
 i8_low z bytes f e = e ∙ i8_byte z f
 
-pub i8_high : (z : ℤ) (bytes : List ℕ) → FitsSigned w8 z → bytes ≡ cast_unsigned w8 z ∷ [] → bytes ≡ reverse (digits 1 z)
+pub i8_high : (z : ℤ) (bytes : List ℕ) → FitsSigned width.w8 z → bytes ≡ cast_unsigned width.w8 z ∷ [] → bytes ≡ reverse (digits 1 z)
 i8_high z bytes f e = e ∙ ap reverse (i8_byte z f)
 
-pub i8_low_back : (z : ℤ) (bytes : List ℕ) → FitsSigned w8 z → bytes ≡ cast_unsigned w8 z ∷ [] → integer_from 1 bytes ≡ z
-i8_low_back z bytes f e = ap (integer_from 1) (i8_low z bytes f e) ∙ integer_from-digits w8 1 z i8_size f
+pub i8_low_back : (z : ℤ) (bytes : List ℕ) → FitsSigned width.w8 z → bytes ≡ cast_unsigned width.w8 z ∷ [] → integer_from 1 bytes ≡ z
+i8_low_back z bytes f e = ap (integer_from 1) (i8_low z bytes f e) ∙ integer_from-digits width.w8 1 z i8_size f
 
-pub i8_high_back : (z : ℤ) (bytes : List ℕ) → FitsSigned w8 z → bytes ≡ cast_unsigned w8 z ∷ [] → integer_from 1 (reverse bytes) ≡ z
-i8_high_back z bytes f e = ap (integer_from 1) (ap reverse (i8_high z bytes f e) ∙ reverse-reverse (digits 1 z)) ∙ integer_from-digits w8 1 z i8_size f
+pub i8_high_back : (z : ℤ) (bytes : List ℕ) → FitsSigned width.w8 z → bytes ≡ cast_unsigned width.w8 z ∷ [] → integer_from 1 (reverse bytes) ≡ z
+i8_high_back z bytes f e = ap (integer_from 1) (ap reverse (i8_high z bytes f e) ∙ reverse-reverse (digits 1 z)) ∙ integer_from-digits width.w8 1 z i8_size f
 
-pub i8_read_low : (z : ℤ) (bytes : List ℕ) → length bytes ≡ 1 → z ≡ cast_signed w8 (slice_index bytes 0) → z ≡ integer_from 1 bytes
-i8_read_low z bytes l e = integer_read w8 1 (slice_index bytes 0) z bytes i8_size (u8_read_low (slice_index bytes 0) bytes l refl) e
+pub i8_read_low : (z : ℤ) (bytes : List ℕ) → length bytes ≡ 1 → z ≡ cast_signed width.w8 (slice_index bytes 0) → z ≡ integer_from 1 bytes
+i8_read_low z bytes l e = integer_read width.w8 1 (slice_index bytes 0) z bytes i8_size (u8_read_low (slice_index bytes 0) bytes l refl) e
 
-pub i8_read_high : (z : ℤ) (bytes : List ℕ) → length bytes ≡ 1 → z ≡ cast_signed w8 (slice_index bytes 0) → z ≡ integer_from 1 (reverse bytes)
-i8_read_high z bytes l e = integer_read w8 1 (slice_index bytes 0) z (reverse bytes) i8_size (u8_read_high (slice_index bytes 0) bytes l refl) e
+pub i8_read_high : (z : ℤ) (bytes : List ℕ) → length bytes ≡ 1 → z ≡ cast_signed width.w8 (slice_index bytes 0) → z ≡ integer_from 1 (reverse bytes)
+i8_read_high z bytes l e = integer_read width.w8 1 (slice_index bytes 0) z (reverse bytes) i8_size (u8_read_high (slice_index bytes 0) bytes l refl) e
 
 pub ruleset i8_bytes = (i8_low, i8_high, i8_low_back, i8_high_back, i8_read_low, i8_read_high)
 

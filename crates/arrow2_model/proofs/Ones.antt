@@ -1,7 +1,8 @@
 -- The places of the set bits of a word.
 use Rattle.std.proofs.Common.{◌≡◌, ℕ, zero, suc, ◌+◌, ◌-◌, ◌*◌, ◌/◌, ◌%◌, ◌^◌, ◌<◌, ◌≤◌, ◌==◌, Bool, ◌&&◌, map, List, [], ◌∷◌, ◌++◌, length, get_or, drop, set, true, false, cond, refl, ap, sym, ◌∙◌, inl, inr, arith, min, subst, rules, ◌≢◌}
 use Rattle.std.specs.Prelude.{bit_and, count_ones, filter}
-use Rattle.std.specs.Int.{bit_at, Width, trailing_zeros, w8, w16, w32, w64}
+use Rattle.std.specs.Int as width
+use Rattle.std.specs.Int.{bit_at, Width, trailing_zeros}
 use Rattle.std.specs.List.{range_with_len, count_by}
 use mir.Val.{bits as width_bits}
 use Rattle.std.proofs.lemmas.Bool.{cases_lt, cases_eq}
@@ -184,28 +185,28 @@ rest_of w x r k e = elim (cases_eq x 0) [
 pub length-ones : (w x : ℕ) → x < 2 ^ w → count_ones x ≡ length (ones (unnum w x))
 length-ones w x h = ap count_ones (sym (num-unnum w x h)) ∙ (length-ones_from 0 (unnum w x) ∙ ap length (sym (ones_is (unnum w x))))
 
-pub first_8 : (x p : ℕ) → (x ≡ 0 → ⊥) → x < 2 ^ 8 → p ≡ trailing_zeros w8 x → ones (unnum 8 x) ≡ p ∷ drop 1 (ones (unnum 8 x))
-first_8 x p h k e = first_place w8 x p h k e
+pub first_8 : (x p : ℕ) → (x ≡ 0 → ⊥) → x < 2 ^ 8 → p ≡ trailing_zeros width.w8 x → ones (unnum 8 x) ≡ p ∷ drop 1 (ones (unnum 8 x))
+first_8 x p h k e = first_place width.w8 x p h k e
 
 pub rest_8 : (x r : ℕ) → x < 2 ^ 8 → r ≡ bit_and x ((x + (2 ^ 8 - 1)) % 2 ^ 8) → ones (unnum 8 r) ≡ drop 1 (ones (unnum 8 x))
-rest_8 x r k e = rest_of w8 x r k e
+rest_8 x r k e = rest_of width.w8 x r k e
 
-pub first_16 : (x p : ℕ) → (x ≡ 0 → ⊥) → x < 2 ^ 16 → p ≡ trailing_zeros w16 x → ones (unnum 16 x) ≡ p ∷ drop 1 (ones (unnum 16 x))
-first_16 x p h k e = first_place w16 x p h k e
+pub first_16 : (x p : ℕ) → (x ≡ 0 → ⊥) → x < 2 ^ 16 → p ≡ trailing_zeros width.w16 x → ones (unnum 16 x) ≡ p ∷ drop 1 (ones (unnum 16 x))
+first_16 x p h k e = first_place width.w16 x p h k e
 
 pub rest_16 : (x r : ℕ) → x < 2 ^ 16 → r ≡ bit_and x ((x + (2 ^ 16 - 1)) % 2 ^ 16) → ones (unnum 16 r) ≡ drop 1 (ones (unnum 16 x))
-rest_16 x r k e = rest_of w16 x r k e
+rest_16 x r k e = rest_of width.w16 x r k e
 
-pub first_32 : (x p : ℕ) → (x ≡ 0 → ⊥) → x < 2 ^ 32 → p ≡ trailing_zeros w32 x → ones (unnum 32 x) ≡ p ∷ drop 1 (ones (unnum 32 x))
-first_32 x p h k e = first_place w32 x p h k e
+pub first_32 : (x p : ℕ) → (x ≡ 0 → ⊥) → x < 2 ^ 32 → p ≡ trailing_zeros width.w32 x → ones (unnum 32 x) ≡ p ∷ drop 1 (ones (unnum 32 x))
+first_32 x p h k e = first_place width.w32 x p h k e
 
 pub rest_32 : (x r : ℕ) → x < 2 ^ 32 → r ≡ bit_and x ((x + (2 ^ 32 - 1)) % 2 ^ 32) → ones (unnum 32 r) ≡ drop 1 (ones (unnum 32 x))
-rest_32 x r k e = rest_of w32 x r k e
+rest_32 x r k e = rest_of width.w32 x r k e
 
-pub first_64 : (x p : ℕ) → (x ≡ 0 → ⊥) → x < 2 ^ 64 → p ≡ trailing_zeros w64 x → ones (unnum 64 x) ≡ p ∷ drop 1 (ones (unnum 64 x))
-first_64 x p h k e = first_place w64 x p h k e
+pub first_64 : (x p : ℕ) → (x ≡ 0 → ⊥) → x < 2 ^ 64 → p ≡ trailing_zeros width.w64 x → ones (unnum 64 x) ≡ p ∷ drop 1 (ones (unnum 64 x))
+first_64 x p h k e = first_place width.w64 x p h k e
 
 pub rest_64 : (x r : ℕ) → x < 2 ^ 64 → r ≡ bit_and x ((x + (2 ^ 64 - 1)) % 2 ^ 64) → ones (unnum 64 r) ≡ drop 1 (ones (unnum 64 x))
-rest_64 x r k e = rest_of w64 x r k e
+rest_64 x r k e = rest_of width.w64 x r k e
 
 pub ruleset set_bits = (ones-zero, length-ones, first_8, rest_8, first_16, rest_16, first_32, rest_32, first_64, rest_64)
