@@ -1,5 +1,6 @@
 -- Bytes that hold so many bits and nothing behind them.
-use Rattle.std.proofs.Common.{◌≡◌, ◌≢◌, inl, inr, ℕ, zero, suc, ◌+◌, ◌-◌, ◌*◌, ◌/◌, ◌%◌, ◌^◌, ◌<◌, ◌≤◌, ◌==◌, List, [], ◌∷◌, ◌++◌, Bool, true, false, take, drop, replicate, length, get_or, set, refl, ap, sym, ◌∙◌, arith, subst, w8}
+use Rattle.std.proofs.Common.{◌≡◌, ◌≢◌, inl, inr, ℕ, zero, suc, ◌+◌, ◌-◌, ◌*◌, ◌/◌, ◌%◌, ◌^◌, ◌<◌, ◌≤◌, ◌==◌, List, [], ◌∷◌, ◌++◌, Bool, true, false, take, drop, replicate, length, get_or, set, refl, ap, sym, ◌∙◌, arith, subst}
+use Rattle.std.specs.Int as width
 use Rattle.std.specs.Prelude.{bit_or}
 use Rattle.std.specs.Int.{div_ceil, from_bool}
 use Rattle.std.proofs.lemmas.Bool.{cases_lt, cases_eq}
@@ -94,7 +95,7 @@ pushed_byte bytes n b v canonical whole is fits =
 
 -- `x | v << k`, where the place was false
 pub unnum-or_bool : (x k : ℕ) (v : Bool) → k < 8 → bit x k ≡ false → unnum 8 (bit_or x (from_bool v * 2 ^ k % 2 ^ 8)) ≡ set (unnum 8 x) k v
-unnum-or_bool x k true h clear = unnum-or w8 x k h
+unnum-or_bool x k true h clear = unnum-or width.w8 x k h
 unnum-or_bool x k false h clear =
     let n = length-unnum 8 x in
     let s = length-set (unnum 8 x) k false in

@@ -13,7 +13,7 @@ use Rattle.arrow2_model.proofs.Parts.{get_or-part, length-part}
 
 -- the word from item s on, of the word from item 0 and the word from item 8 on
 pub merged : (items low high : List Bool) (w s : ℕ) → s < 8 → 8 ≤ w → s + w ≤ length items → 8 + w ≤ length items → low ≡ part items 0 w → high ≡ part items 8 w → zip2 (λ a b. a || b) (drop s low ++ replicate s false) (replicate (8 - s) false ++ take (w - (8 - s)) high) ≡ part items s w
-merged items low high w s s<8 w8 h h' is-low is-high =
+merged items low high w s s<8 wide h h' is-low is-high =
     let f : Bool → Bool → Bool = λ a b. a || b in
     let ll : length low ≡ w = ap length is-low ∙ length-part items 0 w (omega arith) in
     let lh : length high ≡ w = ap length is-high ∙ length-part items 8 w (omega arith) in

@@ -1,9 +1,10 @@
-use Rattle.std.proofs.Common.{w8, ap, ◌∙◌, sym}
+use Rattle.std.proofs.Common.{ap, ◌∙◌, sym}
+use Rattle.std.specs.Int as width
 use Rattle.arrow2_model.proofs.Bits.{unnum-or, unnum-and-not}
 use Rattle.arrow2_bits.proofs.set.Goals as goal
 
 pub returns-then-value : goal.returns-then-value
-returns-then-value c = rw c.if-value.true (unnum-or w8 c.args.byte c.args.i c.requires)
+returns-then-value c = rw c.if-value.true (unnum-or width.w8 c.args.byte c.args.i c.requires)
 
 pub returns-else-value : goal.returns-else-value
-returns-else-value c = rw c.if-value.false (unnum-and-not w8 c.args.byte c.args.i c.requires)
+returns-else-value c = rw c.if-value.false (unnum-and-not width.w8 c.args.byte c.args.i c.requires)
