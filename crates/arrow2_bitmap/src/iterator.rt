@@ -6,13 +6,12 @@ ghost use Rattle.arrow2_model.specs.Storage.{items_of};
 
 use crate::immutable::Bitmap;
 use std::alloc::AllocError;
-use std::fmt;
 use std::marker::Model;
 
 /// The items of a [`Bitmap`] that are still to come, from both ends.
 ///
 /// Differs from arrow2: `nth` is the standard library's, over `next`.
-#[derive(Drop)]
+#[derive(Debug, Drop)]
 pub struct IntoIter {
     values: Bitmap,
     index: usize,
@@ -98,17 +97,6 @@ impl Clone for IntoIter {
             index: self.index,
             end: self.end,
         })
-    }
-}
-
-/// The storage by [`Bitmap::as_slice`], and the places between which items are still to come.
-impl fmt::Debug for IntoIter {
-    fn fmt<W: fmt::Write>(&self, f: &mut fmt::Formatter<W>) -> fmt::Result {
-        f.debug_struct("IntoIter")
-            .field("values", &self.values.as_slice())
-            .field("index", &self.index)
-            .field("end", &self.end)
-            .finish()
     }
 }
 

@@ -203,7 +203,7 @@ fn a_walk_gives_each_item_once(rt: HostRuntime) -> Result<(), Fail> {
     assert_eq!(rt; left.as_slice(), [false, true, true, false].as_slice());
     assert_eq!(rt;
         format!(in rt.alloc(); "{walk:?}")?.as_str(),
-        "IntoIter { values: ([45], 0, 6), index: 1, end: 5 }"
+        "IntoIter { values: [0b__101101], index: 1, end: 5 }"
     );
     assert_eq!(rt; walk.nth(2), Some(true));
     assert_eq!(rt; (walk.next_back(), walk.next()), (Some(false), None));
