@@ -108,13 +108,13 @@ impl NativeType for days_ms {
     fn from_le_slice(bytes: &[u8]) -> days_ms {
         let days = <i32 as NativeType>::from_le_slice(&bytes[..4]);
         let milliseconds = <i32 as NativeType>::from_le_slice(&bytes[4..8]);
-        days_ms(days, milliseconds)
+        days_ms::new(days, milliseconds)
     }
 
     fn from_be_slice(bytes: &[u8]) -> days_ms {
         let days = <i32 as NativeType>::from_be_slice(&bytes[..4]);
         let milliseconds = <i32 as NativeType>::from_be_slice(&bytes[4..8]);
-        days_ms(days, milliseconds)
+        days_ms::new(days, milliseconds)
     }
 }
 
