@@ -1,5 +1,5 @@
 -- Copies and comparisons by words of 64 bits.
-use Rattle.std.proofs.Common.{◌≡◌, ◌≢◌, ◌↔◌, ℕ, zero, suc, ◌+◌, ◌-◌, ◌*◌, ◌/◌, ◌^◌, ◌<◌, ◌≤◌, List, [], ◌∷◌, ◌++◌, Bool, true, false, take, drop, replicate, length, refl, ap, sym, ◌∙◌, subst, arith}
+use Rattle.std.proofs.Common.{◌≡◌, ◌≢◌, ◌↔◌, ℕ, suc, ◌+◌, ◌-◌, ◌*◌, ◌/◌, ◌^◌, ◌<◌, ◌≤◌, List, [], ◌∷◌, ◌++◌, Bool, false, take, replicate, length, refl, ap, sym, ◌∙◌, subst, arith}
 use Rattle.std.specs.List.{flat_map}
 use Rattle.std.proofs.lemmas.List.{length-append, take-append-le, append_assoc, append-nil, length-drop, take_all, nil_from_length}
 use Rattle.arrow2_model.specs.Bits.{bits, unnum, num}
@@ -32,8 +32,7 @@ all_copied bytes after word x len left items so none behind spilled is bits-of s
     let u = length-unnum 64 x in
     let l = length-bits after in
     let short = length-rest 64 items wide in
-    let cut : take (length (rest 64 items)) (unnum 64 x) ≡ rest 64 items = subst (λ (r : List Bool). take (length r) (unnum 64 x) ≡ r) behind spilled in
-    (
+    let cut : take (length (rest 64 items)) (unnum 64 x) ≡ rest 64 items = subst (λ (r : List Bool). take (length r) (unnum 64 x) ≡ r) behind spilled in (
       omega (arith, ap length e, ap length whole, n, m, u, l, short, size),
       ap (take len) e ∙ (take-append_more (word_bits items) (unnum 64 x) len (length (rest 64 items)) (omega (arith, ap length whole, n, size)) ∙ (rw cut whole)),
     )

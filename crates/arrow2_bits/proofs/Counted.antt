@@ -9,7 +9,6 @@ use Rattle.arrow2_model.specs.Parts.{part, falses}
 use Rattle.arrow2_model.proofs.Bits.{length-bits, bits-append, bits-cons, bits-nil}
 use Rattle.arrow2_model.proofs.Bytes.{part-bits, part-bits-drop}
 use Rattle.arrow2_model.proofs.Counts.{falses-append, falses-byte_part, falses-le-length, falses-part_three}
-use Rattle.arrow2_model.proofs.Parts.{part-part, length-part}
 use Rattle.arrow2_bits.proofs.Spilled.{slice_end}
 
 -- some bits of the first byte, shifted down and masked
@@ -49,9 +48,9 @@ zeros_in_three bytes start len head first end within at few is =
     let count : end - first ≡ whole = omega arith in
     let three = falses-part_three (bits bytes) start head (8 * whole) tail len (omega arith) in
     let mid : falses (bits (take (end - first) (drop first bytes))) ≡ falses (part (bits bytes) (start + head) (8 * whole)) =
-        ap falses (ap (λ n. bits (take n (drop first bytes))) count ∙ (sym (part-bits bytes first whole (omega arith)) ∙ ap (λ a. part (bits bytes) a (8 * whole)) at)) in
+    ap falses (ap (λ n. bits (take n (drop first bytes))) count ∙ (sym (part-bits bytes first whole (omega arith)) ∙ ap (λ a. part (bits bytes) a (8 * whole)) at)) in
     let last : falses (part (bits (take (length bytes - end) (drop end bytes))) 0 tail) ≡ falses (part (bits bytes) (start + head + 8 * whole) tail) =
-        ap falses (ap (λ t. part (bits t) 0 tail) (slice_end bytes end) ∙ (part-bits-drop bytes end 0 tail (omega arith) ∙ ap (λ a. part (bits bytes) a tail) (omega arith))) in
+    ap falses (ap (λ t. part (bits t) 0 tail) (slice_end bytes end) ∙ (part-bits-drop bytes end 0 tail (omega arith) ∙ ap (λ a. part (bits bytes) a tail) (omega arith))) in
     omega (arith, three, mid, last)
 
 -- the bits of one of the bytes

@@ -1,5 +1,5 @@
 -- Words loaded from bytes.
-use Rattle.std.proofs.Common.{◌≡◌, ℕ, zero, suc, ◌+◌, ◌-◌, ◌*◌, ◌^◌, ◌<◌, ◌≤◌, ◌||◌, List, [], ◌∷◌, ◌++◌, Bool, false, take, drop, replicate, length, refl, ap, sym, ◌∙◌, arith}
+use Rattle.std.proofs.Common.{◌≡◌, ℕ, ◌+◌, ◌-◌, ◌*◌, ◌^◌, ◌<◌, ◌≤◌, ◌||◌, List, ◌++◌, Bool, false, take, drop, replicate, length, ap, sym, ◌∙◌, arith}
 use lib.Lanes.{zip2}
 use Rattle.std.proofs.lemmas.List.{drop-replicate}
 use Rattle.arrow2_model.specs.Bits.{unnum, bits, num}

@@ -1,17 +1,17 @@
 -- A walk by words over a part of the bits of bytes.
-use Rattle.std.proofs.Common.{◌≡◌, ◌≢◌, ℕ, zero, suc, ◌+◌, ◌-◌, ◌*◌, ◌/◌, ◌%◌, ◌^◌, ◌<◌, ◌≤◌, ◌==◌, List, [], ◌∷◌, ◌++◌, Bool, true, false, cond, if◌then◌else◌, take, drop, length, get_or, refl, ap, sym, ◌∙◌, subst, arith, inl, inr}
-use Rattle.std.proofs.Math.Nat.{div-div-eq-div-mul, div-add-mod, mod-lt, mul_assoc, mul_comm, mul-suc, mul-add, mul-zero, div-eq_of_lt, mul-div-le, zero-mul, le-mul_of_pos_right}
+use Rattle.std.proofs.Common.{◌≡◌, ℕ, zero, suc, ◌+◌, ◌-◌, ◌*◌, ◌/◌, ◌%◌, ◌^◌, ◌<◌, ◌≤◌, ◌==◌, List, [], ◌∷◌, Bool, false, if◌then◌else◌, take, drop, length, refl, ap, sym, ◌∙◌, arith, inl, inr}
+use Rattle.std.proofs.Math.Nat.{div-div-eq-div-mul, div-add-mod, mod-lt, mul_assoc, mul_comm, mul-suc, mul-zero, mul-div-le, zero-mul, le-mul_of_pos_right}
 use Rattle.std.proofs.lemmas.Nat.{div-mul-add}
 use Rattle.std.proofs.lemmas.List.{take_all, length-take-le, length-take, get_or-take, ext_get_or, length-drop}
 use Rattle.std.proofs.lemmas.Bool.{cases_lt}
-use Rattle.arrow2_model.specs.Bits.{bit, unnum, bits, num}
+use Rattle.arrow2_model.specs.Bits.{unnum, bits, num}
 use Rattle.arrow2_model.specs.Parts.{part}
-use Rattle.arrow2_model.specs.Words.{full_words, rest, spill, exact_spill, spilled_bytes}
+use Rattle.arrow2_model.specs.Words.{full_words, rest, spill, exact_spill}
 use Rattle.arrow2_model.proofs.Bits.{length-bits, length-unnum, get_or-unnum}
 use Rattle.arrow2_model.proofs.Bytes.{part-bits-part, part-bits-drop}
 use Rattle.arrow2_model.proofs.Numbers.{bit-num, num-unnum}
 use Rattle.arrow2_model.proofs.Parts.{take-part, drop-part, length-part, part-part}
-use Rattle.arrow2_model.proofs.Words.{full_words-cons, full_words-none, rest-drop, rest-none, length-full_words}
+use Rattle.arrow2_model.proofs.Words.{full_words-cons, full_words-none, rest-drop, length-full_words}
 use Rattle.arrow2_bits.specs.Chunks.{IsChunkWalk}
 
 -- a slice up to the end
@@ -134,9 +134,9 @@ front_spill bytes k w m len e wide h is =
     let within : a ≤ (len + 7) / 8 = omega (arith, at, all) in
     let same : (len + 0 + 7) / 8 ≡ (len + 7) / 8 = omega arith in
     let spilled : b ≡ (if full == 0 then take m bytes else part (take m bytes) a ((len + 0 + 7) / 8 - a)) =
-        spilled_is full k ((len + 0 + 7) / 8) (take m bytes) b (omega (arith, e))
-        (λ z. rw (z, is) (ap (λ n. take n bytes) (omega arith)))
-        (λ p. rw (same, is) (sym (part-part bytes 0 ((len + 7) / 8) a ((len + 7) / 8 - a) (omega arith) ∙ ap (λ n. part bytes n ((len + 7) / 8 - a)) (omega arith)))) in
+    spilled_is full k ((len + 0 + 7) / 8) (take m bytes) b (omega (arith, e))
+    (λ z. rw (z, is) (ap (λ n. take n bytes) (omega arith)))
+    (λ p. rw (same, is) (sym (part-part bytes 0 ((len + 7) / 8) a ((len + 7) / 8 - a) (omega arith) ∙ ap (λ n. part bytes n ((len + 7) / 8 - a)) (omega arith)))) in
     let lb = length-bits b in
     let lp = length-take ((len + 7) / 8 - a) (drop a bytes) in
     ap (λ (t : List ℕ). num (part (bits t) 0 (8 * k))) (sym spilled) ∙ ap num (take_all (8 * k) (bits b) (omega (arith, lb, lp, at, all, short, e)))
@@ -198,11 +198,10 @@ walk_moves bytes after k w shift count before tail word x e wide walk was moved 
     let p : 0 < w = omega arith in
     let cons = full_words-cons w items p (omega (arith, li)) in
     let others : drop w items ≡ part (bits after) shift (w * count + tail) =
-        drop-part (bits bytes) shift w (w * count + tail) ∙ (rw moved (sym (part-bits-drop bytes k shift (w * count + tail) k≤ ∙ ap (λ a. part (bits bytes) a (w * count + tail)) (omega (arith, e))))) in
+    drop-part (bits bytes) shift w (w * count + tail) ∙ (rw moved (sym (part-bits-drop bytes k shift (w * count + tail) k≤ ∙ ap (λ a. part (bits bytes) a (w * count + tail)) (omega (arith, e))))) in
     let first : num (take w items) ≡ x = ap num (take-part (bits bytes) shift w (w + (w * count + tail)) (omega arith) ∙ sym is) ∙ num-unnum w x fits in
     let back : part (bits after) (shift + w * count) tail ≡ part (bits bytes) (shift + w * before) tail =
-        rw moved (part-bits-drop bytes k (shift + w * count) tail k≤ ∙ ap (λ a. part (bits bytes) a tail) (omega (arith, e, step))) in
-    (
+    rw moved (part-bits-drop bytes k (shift + w * count) tail k≤ ∙ ap (λ a. part (bits bytes) a tail) (omega (arith, e, step))) in (
       record {
         place = walk.place;
         within = omega (arith, walk.within, n, la, e);

@@ -79,7 +79,10 @@ fn bits_are_walked_from_both_ends(rt: HostRuntime) -> Result<(), Fail> {
     let mut walk = BitmapIter::new(&[0b01011011], 2, 4);
     assert_eq!(rt; (walk.next(), walk.next_back()), (Some(false), Some(false)));
     let copy = walk.clone()?;
-    assert_eq!(rt; (walk.next(), walk.next(), walk.next()), (Some(true), Some(true), None));
+    assert_eq!(rt;
+        (walk.next(), walk.next(), walk.next()),
+        (Some(true), Some(true), None)
+    );
     assert_eq!(rt; copy.len(), 2);
     assert_eq!(rt;
         format!(in rt.alloc(); "{copy:?}")?.as_str(),
@@ -96,7 +99,10 @@ fn bits_are_walked_from_both_ends(rt: HostRuntime) -> Result<(), Fail> {
 #[test]
 fn words_are_taken_at_a_bit_offset(rt: HostRuntime) -> Result<(), Fail> {
     let mut chunks = BitChunks::<u8>::new(&[0b10110110, 0b01011011], 3, 10);
-    assert_eq!(rt; (BitChunks::len(&chunks), chunks.size_hint()), (1, (1, Some(1))));
+    assert_eq!(rt;
+        (BitChunks::len(&chunks), chunks.size_hint()),
+        (1, (1, Some(1)))
+    );
     assert_eq!(rt; (chunks.next(), chunks.next()), (Some(118), None));
     assert_eq!(rt; (chunks.remainder(), chunks.remainder_len()), (11, 2));
     let rest: Vec<bool> = chunks.remainder_iter().collect(rt.alloc())?;
@@ -121,7 +127,10 @@ fn words_are_taken_from_the_first_bit(rt: HostRuntime) -> Result<(), Fail> {
     assert_eq!(rt; chunks.next(), None);
     assert_eq!(rt; (chunks.remainder(), chunks.remainder_len()), (255, 7));
     let mut chunks = BitChunksExact::<u16>::new(&[255, 1, 1, 0b11011011], 23);
-    assert_eq!(rt; (BitChunksExact::len(&chunks), chunks.size_hint()), (1, (1, Some(1))));
+    assert_eq!(rt;
+        (BitChunksExact::len(&chunks), chunks.size_hint()),
+        (1, (1, Some(1)))
+    );
     assert_eq!(rt;
         format!(in rt.alloc(); "{chunks:?}")?.as_str(),
         "BitChunksExact { chunks: BitChunks { bytes: [255, 1, 1], shift: 0, count: 1, remainder: 1, remainder_len: 7 } }"
@@ -141,6 +150,12 @@ fn first_word<B: BitChunk, I: BitChunkIterExact<B>>(mut chunks: I) -> (Option<B>
 #[test]
 fn both_walks_are_taken_by_their_bound(rt: HostRuntime) {
     let bytes = [0xa5, 0x5a, 0xff, 0x00, 0x3c];
-    assert_eq!(rt; first_word(BitChunks::<u32>::new(&bytes, 4, 34)), (Some(0xc00ff5aa), 2));
-    assert_eq!(rt; first_word(BitChunksExact::<u32>::new(&bytes, 36)), (Some(0x00ff5aa5), 4));
+    assert_eq!(rt;
+        first_word(BitChunks::<u32>::new(&bytes, 4, 34)),
+        (Some(0xc00ff5aa), 2)
+    );
+    assert_eq!(rt;
+        first_word(BitChunksExact::<u32>::new(&bytes, 36)),
+        (Some(0x00ff5aa5), 4)
+    );
 }

@@ -79,9 +79,9 @@ falses-byte_part (b ∷ bytes) s n x h k e =
     let r : ℕ = 8 - s - n in
     let whole : s + (n + r) ≡ 8 = omega arith in
     let first : part (bits (b ∷ bytes)) s n ≡ part (unnum 8 b) s n =
-        rw (bits-cons b bytes) (part-front (unnum 8 b) (bits bytes) s n (omega (arith, l))) in
+    rw (bits-cons b bytes) (part-front (unnum 8 b) (bits bytes) s n (omega (arith, l))) in
     let word : part (unnum 8 b) s n ≡ unnum n (b / 2 ^ s) =
-        ap (λ w. part (unnum w b) s n) (sym whole) ∙ (ap (take n) (drop-unnum s (n + r) b) ∙ take-unnum n r (b / 2 ^ s)) in
+    ap (λ w. part (unnum w b) s n) (sym whole) ∙ (ap (take n) (drop-unnum s (n + r) b) ∙ take-unnum n r (b / 2 ^ s)) in
     let low : unnum n x ≡ unnum n (b / 2 ^ s) = ap (unnum n) e ∙ unnum-mod n (b / 2 ^ s) in
     let fits : x < 2 ^ n = subst (λ y. y < 2 ^ n) (sym e) (mod-lt (b / 2 ^ s) (pow_pos n)) in
     let f = falses-unnum n x fits in

@@ -1,19 +1,19 @@
 -- The places of the set bits of a word.
-use Rattle.std.proofs.Common.{◌≡◌, ℕ, zero, suc, ◌+◌, ◌-◌, ◌*◌, ◌/◌, ◌%◌, ◌^◌, ◌<◌, ◌≤◌, ◌==◌, Bool, ◌&&◌, map, List, [], ◌∷◌, ◌++◌, length, get_or, drop, set, true, false, cond, refl, ap, sym, ◌∙◌, inl, inr, arith, min, subst, rules, ◌≢◌}
+use Rattle.std.proofs.Common.{◌≡◌, ℕ, zero, suc, ◌+◌, ◌-◌, ◌*◌, ◌/◌, ◌%◌, ◌^◌, ◌<◌, Bool, List, [], ◌∷◌, length, get_or, drop, set, true, false, refl, ap, sym, ◌∙◌, inl, inr, arith, min, ◌≢◌}
 use Rattle.std.specs.Prelude.{bit_and, count_ones, filter}
 use Rattle.std.specs.Int as width
 use Rattle.std.specs.Int.{bit_at, Width, trailing_zeros}
-use Rattle.std.specs.List.{range_with_len, count_by}
+use Rattle.std.specs.List.{range_with_len}
 use mir.Val.{bits as width_bits}
 use Rattle.std.proofs.lemmas.Bool.{cases_lt, cases_eq}
 use Rattle.std.proofs.lemmas.Nat.{shr_split, pow_pos}
-use Rattle.std.proofs.lemmas.Nat.Bits.{bit_at_and, bit_at-lt, bit_at_cat_low, bit_at_cat_high, bit_at-trailing_zeros, bit_at_lowest, bit_at-suc, bit_at-zero, same_from_bits_below}
+use Rattle.std.proofs.lemmas.Nat.Bits.{bit_at_and, bit_at_cat_low, bit_at_cat_high, bit_at-trailing_zeros, bit_at_lowest, bit_at-suc, bit_at-zero, same_from_bits_below}
 use Rattle.std.proofs.Math.Nat.{mod-lt, mod-eq_of_lt, add-mod_right, suc-mul, zero-add, lt_trans}
 use Rattle.std.proofs.lemmas.List.{length-set, get_or-set_same, get_or-set_other, get_or_past}
 use Rattle.std.proofs.lemmas.Simd.{ones-mask_l, ones-mask_l_cons}
-use Rattle.arrow2_model.specs.Bits.{unnum, bit, num}
+use Rattle.arrow2_model.specs.Bits.{unnum, num}
 use Rattle.arrow2_model.specs.Ones.{ones}
-use Rattle.arrow2_model.proofs.Bits.{bit_is, get_or-unnum, length-unnum}
+use Rattle.arrow2_model.proofs.Bits.{length-unnum}
 use Rattle.arrow2_model.proofs.Numbers.{num-unnum}
 use Rattle.arrow2_model.proofs.Chunks.{word_is, item_is, same_test}
 
@@ -147,8 +147,8 @@ ones-first w x h k =
     let t : ℕ = trailing_zeros w x in
     let items : List Bool = unnum n x in
     ones_is items ∙ (ones_from-first 0 t items
-      (item_is n x t found.0 ∙ same_test (bit_at x t) 1 found.1)
-      (λ i i<. item_is n x i (lt_trans i< found.0) ∙ same_test (bit_at x i) 0 (found.2 i i<))
+    (item_is n x t found.0 ∙ same_test (bit_at x t) 1 found.1)
+    (λ i i<. item_is n x i (lt_trans i< found.0) ∙ same_test (bit_at x i) 0 (found.2 i i<))
     ∙ (ap (λ (j : ℕ). j ∷ ones_from 0 (set items t false)) (zero-add t) ∙ ap (λ (ys : List ℕ). t ∷ ys) (sym (ones_is (set items t false)) ∙ ap ones (sym (unnum-cleared n x t found.0 found.1 found.2)))))
 
 one_less : (x m : ℕ) → 0 < x → x < m → (x + (m - 1)) % m ≡ x - 1

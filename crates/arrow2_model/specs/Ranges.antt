@@ -1,5 +1,5 @@
 -- Rising runs of whole numbers.
-use Rattle.std.specs.Prelude.{ℕ, ℤ, pos, ◌+ℤ◌, List, map}
+use Rattle.std.specs.Prelude.{ℤ, pos, ◌+ℤ◌, List, map}
 use Rattle.std.specs.List.{range_with_len}
 use Rattle.std.specs.Int.{int_gap}
 

@@ -1,7 +1,7 @@
 -- Which error a call refuses by.
 use Rattle.std.specs.Prelude.{◌≡◌, ℕ, List, string_bytes}
 use Rattle.arrow2_types.specs.declared.error.Error.{Error}
-use Rattle.arrow2_types.specs.declared.error.Error.TheVariants.{NotYetImplemented, External, Io, InvalidArgumentError, ExternalFormat, Overflow, OutOfSpec, OutOfMemory}
+use Rattle.arrow2_types.specs.declared.error.Error.TheVariants.{InvalidArgumentError, OutOfMemory}
 
 -- an invalid argument, in these words; or want of memory, where the words found none
 abbrev pub IsInvalidArgument : Error → List ℕ → Type 0

@@ -1,4 +1,3 @@
-use Rattle.std.proofs.Common.{ap, ◌∙◌, sym}
 use Rattle.std.specs.Int as width
 use Rattle.arrow2_model.proofs.Bits.{unnum-or, unnum-and-not}
 use Rattle.arrow2_bits.proofs.set.Goals as goal

@@ -1,6 +1,5 @@
 use Rattle.std.proofs.Common.{◌∙◌, ap, sym, arith, ◌*◌, take, drop, ◌-◌, ◌+◌}
 use Rattle.arrow2_model.specs.Bits.{bits}
-use Rattle.arrow2_model.specs.Parts.{part}
 use Rattle.arrow2_bits.proofs.Loaded.{low_word, merged_word}
 use Rattle.arrow2_bits.proofs.chunks.chunk_at.Goals as goal
 
@@ -18,5 +17,5 @@ returns-clause-bits g c =
     let size = ap (λ n. 8 * n) c.SIZE.ensures ∙ g.met.T.BitChunk.size_law in
     let again = c.SIZE-2.ensures ∙ sym c.SIZE.ensures in
     merged_word bytes c.SIZE.result w c.args.shift _ _ _ _ _ size g.met.T.BitChunk.width_bounds.0 c.requires.place c.requires.within (omega (arith, size))
-        c.from_ne_slice-low.ensures.bits (c.from_ne_slice-high.ensures.bits ∙ ap (λ n. bits (take (1 + n - 1) (drop 1 bytes))) again)
-        c.down.ensures.bits c.up.ensures.bits c.bit_or.ensures.bits
+    c.from_ne_slice-low.ensures.bits (c.from_ne_slice-high.ensures.bits ∙ ap (λ n. bits (take (1 + n - 1) (drop 1 bytes))) again)
+    c.down.ensures.bits c.up.ensures.bits c.bit_or.ensures.bits

@@ -1,4 +1,4 @@
-use Rattle.std.proofs.Common.{◌∙◌, ◌*◌, sym, get_or, refl, arith}
+use Rattle.std.proofs.Common.{sym, get_or, refl, arith}
 use Rattle.arrow2_model.proofs.Counts.{falses-bits_more, falses-bits_none}
 use Rattle.arrow2_bits.proofs.Counted.{one_byte}
 use Rattle.arrow2_bits.proofs.counts.zeros_byte_by_byte.Goals as goal

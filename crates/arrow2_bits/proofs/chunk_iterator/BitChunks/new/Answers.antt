@@ -1,4 +1,4 @@
-use Rattle.std.proofs.Common.{◌∙◌, ap, arith, ◌*◌, ◌/◌, ◌∷◌}
+use Rattle.std.proofs.Common.{◌∙◌, ap, arith, ◌*◌, ◌/◌}
 use Rattle.arrow2_bits.proofs.Spilled.{slice_end, new_walk, new_items, new_spill}
 use Rattle.arrow2_bits.proofs.chunk_iterator.BitChunks.new.Goals as goal
 
@@ -6,7 +6,7 @@ pub invariant_of-result : goal.invariant_of-result
 invariant_of-result g c =
     let size = ap (λ n. 8 * n) c.SIZE-size.ensures ∙ g.met.T.BitChunk.size_law in
     rw c.WIDTH.ensures (new_walk c.args.bytes.now c.spilled-behind.result.now _ c.SIZE-size.result g.T.BitChunk.WIDTH c.args.offset c.args.len _ size g.met.T.BitChunk.width_bounds.0 c.requires
-        (slice_end c.args.bytes.now (c.args.offset / 8)) c.spilled-behind.ensures.all c.spilled-behind.ensures.behind c.padded_chunk_at.ensures.number)
+    (slice_end c.args.bytes.now (c.args.offset / 8)) c.spilled-behind.ensures.all c.spilled-behind.ensures.behind c.padded_chunk_at.ensures.number)
 
 pub returns-clause-items : goal.returns-clause-items
 returns-clause-items g c =
@@ -17,4 +17,4 @@ pub returns-clause-spill : goal.returns-clause-spill
 returns-clause-spill g c =
     let size = ap (λ n. 8 * n) c.SIZE-size.ensures ∙ g.met.T.BitChunk.size_law in
     rw (← c.SIZE-size.ensures) (new_spill c.args.bytes.now c.spilled-behind.result.now _ c.SIZE-size.result g.T.BitChunk.WIDTH c.args.offset c.args.len _ size g.met.T.BitChunk.width_bounds.0
-        (slice_end c.args.bytes.now (c.args.offset / 8)) c.spilled-behind.ensures.all c.spilled-behind.ensures.behind c.padded_chunk_at.ensures.number)
+    (slice_end c.args.bytes.now (c.args.offset / 8)) c.spilled-behind.ensures.all c.spilled-behind.ensures.behind c.padded_chunk_at.ensures.number)

@@ -1,5 +1,5 @@
-use Rattle.std.proofs.Common.{◌≡◌, ◌∙◌, ap, sym, take, length, subst, arith, ◌+◌, ◌*◌}
-use Rattle.arrow2_model.specs.Bits.{bits, unnum}
+use Rattle.std.proofs.Common.{◌≡◌, take, length, subst}
+use Rattle.arrow2_model.specs.Bits.{unnum}
 use Rattle.arrow2_model.specs.Words.{WordWalk, rest}
 use Rattle.arrow2_bits.proofs.Spilled.{rest_of_word}
 use Rattle.arrow2_bits.proofs.chunk_iterator.BitChunksBitChunkIterExact.remainder.Goals as goal

@@ -1,4 +1,4 @@
-use Rattle.std.proofs.Common.{◌∙◌, ap, arith, ◌*◌}
+use Rattle.std.proofs.Common.{◌∙◌}
 use Rattle.arrow2_bits.proofs.Spilled.{front_items, front_spill}
 use Rattle.arrow2_bits.proofs.chunks_exact.BitChunksExact.new.Goals as goal
 

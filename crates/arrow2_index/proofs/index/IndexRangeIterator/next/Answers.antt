@@ -1,4 +1,4 @@
-use Rattle.std.proofs.Common.{rules, arith, ap, sym, ◌≡◌, length}
+use Rattle.std.proofs.Common.{rules, arith, ap, length}
 use Rattle.arrow2_model.proofs.Ranges.{one_more}
 use Rattle.arrow2_index.proofs.index.IndexRangeIterator.next.Goals as goal
 

@@ -1,4 +1,4 @@
-use Rattle.std.proofs.Common.{rules, arith, ap, sym, Some, ◌≡◌, length}
+use Rattle.std.proofs.Common.{arith, ap, sym, Some, ◌≡◌, length}
 use Rattle.arrow2_model.proofs.Ranges.{how_many}
 use Rattle.arrow2_index.proofs.index.IndexRangeIterator.size_hint.Goals as goal
 
