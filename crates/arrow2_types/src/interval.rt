@@ -5,7 +5,7 @@ ghost use Rattle.arrow2_model.specs.Digits.{digits, integer_from};
 ghost use Rattle.arrow2_model.proofs.Digits.{digits_of_pair, digits_of_pair_high, digits_of_triple, digits_of_triple_high};
 ghost use Rattle.arrow2_types.specs.declared.primitive.PrimitiveType.TheVariants.{DaysMs, MonthDayNano};
 
-use crate::join::join;
+use crate::arrays::join;
 use crate::native::NativeType;
 use crate::primitive::PrimitiveType;
 use std::fmt;

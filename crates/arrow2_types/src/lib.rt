@@ -1,9 +1,9 @@
 //! Errors of the memory layer, and the types whose values stand in its buffers.
 #![tactic(auto)]
 
+mod arrays;
 pub mod error;
 pub mod interval;
-mod join;
 pub mod native;
 pub mod primitive;
 #[cfg(test)]

@@ -5,6 +5,7 @@ ghost use Rattle.arrow2_model.proofs.Digits.{digits_of_read, digits_of_read_high
 ghost use Rattle.arrow2_types.specs.declared.primitive.PrimitiveType.{PrimitiveType};
 ghost use Rattle.arrow2_types.specs.declared.primitive.PrimitiveType.TheVariants.{Int8, Int16, Int32, Int64, Int128, UInt8, UInt16, UInt32, UInt64};
 
+use crate::arrays::array_of;
 use crate::primitive::PrimitiveType;
 use std::convert::AsSlice;
 use std::fmt::Debug;
@@ -119,15 +120,11 @@ impl NativeType for u8 {
     }
 
     fn from_le_slice(bytes: &[u8]) -> u8 {
-        let mut array = [0; 1];
-        array.copy_from_slice(bytes);
-        u8::from_le_bytes(array)
+        u8::from_le_bytes(array_of(bytes))
     }
 
     fn from_be_slice(bytes: &[u8]) -> u8 {
-        let mut array = [0; 1];
-        array.copy_from_slice(bytes);
-        u8::from_be_bytes(array)
+        u8::from_be_bytes(array_of(bytes))
     }
 }
 
@@ -172,15 +169,11 @@ impl NativeType for u16 {
     }
 
     fn from_le_slice(bytes: &[u8]) -> u16 {
-        let mut array = [0; 2];
-        array.copy_from_slice(bytes);
-        u16::from_le_bytes(array)
+        u16::from_le_bytes(array_of(bytes))
     }
 
     fn from_be_slice(bytes: &[u8]) -> u16 {
-        let mut array = [0; 2];
-        array.copy_from_slice(bytes);
-        u16::from_be_bytes(array)
+        u16::from_be_bytes(array_of(bytes))
     }
 }
 
@@ -225,15 +218,11 @@ impl NativeType for u32 {
     }
 
     fn from_le_slice(bytes: &[u8]) -> u32 {
-        let mut array = [0; 4];
-        array.copy_from_slice(bytes);
-        u32::from_le_bytes(array)
+        u32::from_le_bytes(array_of(bytes))
     }
 
     fn from_be_slice(bytes: &[u8]) -> u32 {
-        let mut array = [0; 4];
-        array.copy_from_slice(bytes);
-        u32::from_be_bytes(array)
+        u32::from_be_bytes(array_of(bytes))
     }
 }
 
@@ -278,15 +267,11 @@ impl NativeType for u64 {
     }
 
     fn from_le_slice(bytes: &[u8]) -> u64 {
-        let mut array = [0; 8];
-        array.copy_from_slice(bytes);
-        u64::from_le_bytes(array)
+        u64::from_le_bytes(array_of(bytes))
     }
 
     fn from_be_slice(bytes: &[u8]) -> u64 {
-        let mut array = [0; 8];
-        array.copy_from_slice(bytes);
-        u64::from_be_bytes(array)
+        u64::from_be_bytes(array_of(bytes))
     }
 }
 
@@ -331,15 +316,11 @@ impl NativeType for i8 {
     }
 
     fn from_le_slice(bytes: &[u8]) -> i8 {
-        let mut array = [0; 1];
-        array.copy_from_slice(bytes);
-        i8::from_le_bytes(array)
+        i8::from_le_bytes(array_of(bytes))
     }
 
     fn from_be_slice(bytes: &[u8]) -> i8 {
-        let mut array = [0; 1];
-        array.copy_from_slice(bytes);
-        i8::from_be_bytes(array)
+        i8::from_be_bytes(array_of(bytes))
     }
 }
 
@@ -384,15 +365,11 @@ impl NativeType for i16 {
     }
 
     fn from_le_slice(bytes: &[u8]) -> i16 {
-        let mut array = [0; 2];
-        array.copy_from_slice(bytes);
-        i16::from_le_bytes(array)
+        i16::from_le_bytes(array_of(bytes))
     }
 
     fn from_be_slice(bytes: &[u8]) -> i16 {
-        let mut array = [0; 2];
-        array.copy_from_slice(bytes);
-        i16::from_be_bytes(array)
+        i16::from_be_bytes(array_of(bytes))
     }
 }
 
@@ -437,15 +414,11 @@ impl NativeType for i32 {
     }
 
     fn from_le_slice(bytes: &[u8]) -> i32 {
-        let mut array = [0; 4];
-        array.copy_from_slice(bytes);
-        i32::from_le_bytes(array)
+        i32::from_le_bytes(array_of(bytes))
     }
 
     fn from_be_slice(bytes: &[u8]) -> i32 {
-        let mut array = [0; 4];
-        array.copy_from_slice(bytes);
-        i32::from_be_bytes(array)
+        i32::from_be_bytes(array_of(bytes))
     }
 }
 
@@ -490,15 +463,11 @@ impl NativeType for i64 {
     }
 
     fn from_le_slice(bytes: &[u8]) -> i64 {
-        let mut array = [0; 8];
-        array.copy_from_slice(bytes);
-        i64::from_le_bytes(array)
+        i64::from_le_bytes(array_of(bytes))
     }
 
     fn from_be_slice(bytes: &[u8]) -> i64 {
-        let mut array = [0; 8];
-        array.copy_from_slice(bytes);
-        i64::from_be_bytes(array)
+        i64::from_be_bytes(array_of(bytes))
     }
 }
 
@@ -543,14 +512,10 @@ impl NativeType for i128 {
     }
 
     fn from_le_slice(bytes: &[u8]) -> i128 {
-        let mut array = [0; 16];
-        array.copy_from_slice(bytes);
-        i128::from_le_bytes(array)
+        i128::from_le_bytes(array_of(bytes))
     }
 
     fn from_be_slice(bytes: &[u8]) -> i128 {
-        let mut array = [0; 16];
-        array.copy_from_slice(bytes);
-        i128::from_be_bytes(array)
+        i128::from_be_bytes(array_of(bytes))
     }
 }

@@ -7,6 +7,7 @@ use crate::wide::i256;
 use std::alloc::Global;
 use std::convert::AsSlice;
 use std::fmt::Display;
+use std::io;
 use std::process::Abort;
 use std::test::Fail;
 
@@ -115,6 +116,21 @@ fn long_values_are_their_digits(rt: HostRuntime) {
 }
 
 #[test]
+fn low_words_take_no_sign(rt: HostRuntime) {
+    let mut little = [0; 32];
+    little[..16].fill(255);
+    let mut big = [0; 32];
+    big[16..].fill(255);
+    check_bytes(
+        &rt,
+        i256::from_words(0, -1),
+        PrimitiveType::Int256,
+        &little,
+        &big,
+    );
+}
+
+#[test]
 fn values_are_read_from_slices(rt: HostRuntime) {
     check_slices(&rt, 0x9au8);
     check_slices(&rt, 0x1234u16);
@@ -208,24 +224,32 @@ fn errors_print_their_texts(rt: HostRuntime) -> Result<(), Fail> {
 #[test]
 fn utf8_errors_are_external(rt: HostRuntime) -> Result<(), Fail> {
     let alloc = rt.alloc();
-    if let Err(error) = std::str::from_utf8(&[255]) {
-        assert!(rt; matches!(Error::from_utf8_error(alloc, error), Error::External(..)));
-    }
-    if let Err(error) = String::from_utf8([255].to_vec(alloc)?) {
-        assert!(rt;
-            matches!(
-                Error::from_string_utf8_error(alloc, error),
-                Error::External(..)
-            )
-        );
-    }
-    if let Err(error) = simdutf8::basic::from_utf8(&[255]) {
-        prints(
-            &rt,
-            alloc,
-            &Error::from_basic_utf8_error(alloc, error),
-            "External error: invalid utf-8 sequence",
-        )?;
-    }
-    Ok(())
+    let error = std::str::from_utf8(&[255]).err().ok_or("byte 255 is text")?;
+    assert!(rt; matches!(Error::from_utf8_error(alloc, error), Error::External(..)));
+    let error = String::from_utf8([255].to_vec(alloc)?)
+        .err()
+        .ok_or("byte 255 is text")?;
+    assert!(rt;
+        matches!(
+            Error::from_string_utf8_error(alloc, error),
+            Error::External(..)
+        )
+    );
+    let error = simdutf8::basic::from_utf8(&[255])
+        .err()
+        .ok_or("byte 255 is text")?;
+    prints(
+        &rt,
+        alloc,
+        &Error::from_basic_utf8_error(alloc, error),
+        "External error: invalid utf-8 sequence",
+    )
+}
+
+#[test]
+fn errors_of_input_keep_their_text(rt: HostRuntime) -> Result<(), Fail> {
+    let alloc = rt.alloc();
+    let error = io::Error::from(io::ErrorKind::NotFound);
+    let text = format!(in alloc; "Io error: {error}")?;
+    prints(&rt, alloc, &Error::from(error), text.as_str())
 }

@@ -12,7 +12,7 @@ ghost use Rattle.arrow2_model.specs.Digits.{digits, integer_from, words_value, h
 ghost use Rattle.arrow2_model.proofs.Words256.{digits_of_words, digits_of_words_high};
 ghost use Rattle.arrow2_types.specs.declared.primitive.PrimitiveType.TheVariants.{Int256};
 
-use crate::join::join;
+use crate::arrays::{array_of, join};
 use crate::native::NativeType;
 use crate::primitive::PrimitiveType;
 use std::cmp::Ordering;
@@ -203,8 +203,7 @@ impl NativeType for i256 {
     }
 
     fn from_be_slice(bytes: &[u8]) -> i256 {
-        let mut array = [0; 32];
-        array.copy_from_slice(bytes);
+        let mut array: [u8; 32] = array_of(bytes);
         array.reverse();
         <i256 as NativeType>::from_le_slice(&array)
     }

@@ -1,5 +1,15 @@
-//! Arrays of bytes that are joined of two parts.
+//! Arrays of bytes, made from slices.
 ghost use Rattle.std.specs.Prelude.{◌≡◌, ◌+◌, ◌++◌, length};
+
+/// The bytes as an array. Asks for `N` bytes.
+pub(crate) fn array_of<const N: usize>(bytes: &[u8]) -> [u8; N]
+    requires { length bytes.now ≡ N }
+    ensures { result ≡ bytes.now }
+{
+    let mut array = [0; N];
+    array.copy_from_slice(bytes);
+    array
+}
 
 /// The bytes of `front` and then those of `back`. Asks that they are `N` together.
 pub(crate) fn join<const N: usize>(front: &[u8], back: &[u8]) -> [u8; N]
