@@ -35,7 +35,8 @@ pub trait BitChunk: PrimInt + NativeType {
 
     /// The word with these bytes in little-endian order.
     fn from_ne_bytes(bytes: Self::Bytes) -> Self
-        ensures { number result ≡ natural_from Self.SIZE (Self.Bytes.items bytes) };
+        ensures fits { number result < 2 ^ WIDTH }
+        ensures value { number result ≡ natural_from Self.SIZE (Self.Bytes.items bytes) };
 
     /// The word whose bytes these are in little-endian order. Asks for as many bytes as a word has.
     fn from_ne_slice(bytes: &[u8]) -> Self
