@@ -1,6 +1,6 @@
 //! Walks over the bits of bytes by words, at any bit offset.
 ghost use Rattle.std.specs.Prelude.{◌≡◌, ◌+◌, ◌-◌, ◌*◌, ◌/◌, ◌%◌, ◌<◌, ◌≤◌, length, take, Option, Some, IfSome};
-ghost use Rattle.std.specs.Iterator.{item_count, UpTo};
+ghost use Rattle.std.specs.Iterator.{item_count, UpTo, IsFinite};
 ghost use Rattle.std.specs.Iterator.SizeHint.{IsWithinCount};
 ghost use Rattle.arrow2_model.specs.Bits.{bits, unnum};
 ghost use Rattle.arrow2_model.specs.Parts.{part};
@@ -36,6 +36,11 @@ pub trait BitChunkIterExact<B: BitChunk>: Iterator<Item = B> {
     {
         BitChunkIter::new(self.remainder(), self.remainder_len())
     }
+
+    // The next step can be taken, and only the full words are still to come.
+    ghost next_law: { (s : Self) → Self.can_next s };
+
+    ghost remaining_law: { (s : Self) → IsFinite (Self.remaining s) };
 
     // Each step gives the first full word, and the remainder stays.
     ghost gives_law: { (s : Self) (r : Option B) (t : Self) → Self.next_gives s r t → GivesWord B.BitChunk.WIDTH B.BitChunk.number walk s r t };
@@ -87,7 +92,7 @@ impl<'a, T: BitChunk> BitChunks<'a, T> {
         }
     }
 
-    /// How many full words are still to come. In arrow2 one fewer.
+    /// How many full words are still to come. In arrow2 one fewer, where any is left.
     pub fn len(&self) -> usize
         ensures { result ≡ length (full_words T.BitChunk.WIDTH self.now.items) }
     {
@@ -97,6 +102,10 @@ impl<'a, T: BitChunk> BitChunks<'a, T> {
 
 impl<'a, T: BitChunk> BitChunkIterExact<T> for BitChunks<'a, T> {
     ghost walk = { λ s. s };
+
+    ghost next_law = { λ s. tt };
+
+    ghost remaining_law = { λ s. tt };
 
     ghost gives_law = { λ s r t h. h };
 

@@ -56,6 +56,10 @@ impl<'a, T: BitChunk> BitChunksExact<'a, T> {
 impl<'a, T: BitChunk> BitChunkIterExact<T> for BitChunksExact<'a, T> {
     ghost walk = { λ s. s };
 
+    ghost next_law = { λ s. tt };
+
+    ghost remaining_law = { λ s. tt };
+
     ghost gives_law = { λ s r t h. h };
 
     fn remainder(&self) -> T {

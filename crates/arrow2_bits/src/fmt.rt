@@ -16,7 +16,7 @@ use std::fmt;
 ///
 /// # Errors
 ///
-/// That of the formatter's writer alone.
+/// That of the formatter's writer.
 pub fn fmt<W: fmt::Write>(
     bytes: &[u8],
     offset: usize,

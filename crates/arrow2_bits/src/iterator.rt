@@ -6,10 +6,11 @@ ghost use Rattle.arrow2_model.specs.Bits.{bits};
 ghost use Rattle.arrow2_model.specs.Parts.{part};
 
 use crate::get_bit_from;
+use std::alloc::AllocError;
 use std::marker::Model;
 
 /// A walk over bits: contracts see it as the list of the items still to come.
-#[derive(Clone, Debug, Drop)]
+#[derive(Debug, Drop)]
 pub struct BitmapIter<'a> {
     bytes: &'a [u8],
     offset: usize,
@@ -42,6 +43,15 @@ impl<'a> BitmapIter<'a> {
             index: 0,
             end: len,
         }
+    }
+}
+
+/// The same items still to come. Takes no memory.
+impl<'a> Clone for BitmapIter<'a> {
+    ghost is_clone = { λ i copy. copy ≡ i };
+
+    fn clone(&self) -> Result<BitmapIter<'a>, AllocError> {
+        Ok(BitmapIter { ..*self })
     }
 }
 

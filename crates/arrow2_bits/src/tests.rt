@@ -142,7 +142,6 @@ fn words_are_taken_from_the_first_bit(rt: HostRuntime) -> Result<(), Fail> {
 
 /// The first word and the length of the rest, by the bound alone.
 fn first_word<B: BitChunk, I: BitChunkIterExact<B>>(mut chunks: I) -> (Option<B>, usize)
-    requires { I.can_next chunks }
 {
     (chunks.next(), chunks.remainder_len())
 }
