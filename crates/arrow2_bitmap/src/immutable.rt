@@ -26,6 +26,7 @@ use arrow2_bits::{bytes_for, count_zeros, get_bit};
 use arrow2_buffer::bytes::Bytes;
 use arrow2_index::bit_chunk::BitChunk;
 use arrow2_types::error::{Error, Result};
+use arrow2_types::native::NativeType;
 use either::Either;
 use std::alloc::{AllocError, Global};
 use std::convert::TryFrom;
@@ -64,7 +65,8 @@ impl Bitmap {
     ///
     /// `OutOfMemory` alone.
     pub fn new(alloc: Global) -> Result<Bitmap>
-        ensures ok { IfOk result (λ b. items_of b ≡ []) }
+        ensures items { IfOk result (λ b. items_of b ≡ []) }
+        ensures storage { IfOk result (λ b. b ≡ record { bytes = []; offset = 0; len = 0 }) }
         ensures only { IfErr result (λ e. e ≡ Error.OutOfMemory) }
     {
         Bitmap::from_u8_vec(Vec::new(alloc), 0)
@@ -139,7 +141,8 @@ impl Bitmap {
     ///
     /// `OutOfMemory` alone.
     pub fn from_bools(alloc: Global, items: &[bool]) -> Result<Bitmap>
-        ensures ok { IfOk result (λ b. items_of b ≡ items.now) }
+        ensures items { IfOk result (λ b. items_of b ≡ items.now) }
+        ensures storage { IfOk result (λ b. b ≡ record { bytes = canonical_bytes items.now; offset = 0; len = length items.now }) }
         ensures only { IfErr result (λ e. e ≡ Error.OutOfMemory) }
     {
         Bitmap::try_from(MutableBitmap::from_bools(alloc, items)?)
@@ -155,6 +158,7 @@ impl Bitmap {
     pub fn try_from_iter<I: IntoIterator<Item = bool>>(alloc: Global, iter: I) -> Result<Bitmap>
         requires { (it : I.IntoIter) → I.into_iter_gives iter it → I.IntoIter.can_next it × IsFinite (I.IntoIter.remaining it) }
         ensures items { IfOk result (λ b. (it : I.IntoIter) × I.into_iter_gives iter it × Drains I.IntoIter.next_gives it (items_of b)) }
+        ensures storage { IfOk result (λ b. b ≡ record { bytes = canonical_bytes (items_of b); offset = 0; len = length (items_of b) }) }
         ensures fits { IfOk result (λ b. length (items_of b) < 2 ^ 64) }
         ensures overflow { IsErrOf result Error.Overflow → (it : I.IntoIter) × I.into_iter_gives iter it × GivesTooMany I.IntoIter.next_gives it }
         ensures only { IfErr result (λ e. (e ≡ Error.Overflow) ⊎ (e ≡ Error.OutOfMemory)) }
@@ -282,6 +286,7 @@ impl Bitmap {
         ensures bytes { result.0.value ≡ self.bytes }
         ensures offset { result.1 ≡ self.offset }
         ensures len { result.2 ≡ self.len }
+        ensures inside { result.1 + result.2 ≤ 8 * length' result.0.value }
         ensures unset_bits { result.3 ≡ falses (items_of self) }
     {
         (self.bytes, self.offset, self.length, self.unset_bits)
@@ -289,7 +294,6 @@ impl Bitmap {
 
     /// The bitmap to be changed in place, on the right, where no one shares the bytes and the
     /// items begin at bit 0; else the bitmap as it was, on the left. Takes no memory.
-    /// In arrow2 the right side forgets the offset.
     pub fn into_mut(self) -> Either<Bitmap, MutableBitmap>
         ensures { MatchEither result (λ b. b ≡ self) (λ m. (self.offset ≡ 0) × (m.items ≡ items_of self)) }
     {
@@ -329,12 +333,13 @@ impl Bitmap {
     }
 }
 
-/// A copy of the items, to be changed, by words of 64 bits.
+/// A copy of the items, to be changed, by words of 64 bits. Asks for memory once.
 fn copy_items(bitmap: &Bitmap) -> Result<MutableBitmap>
     ensures ok { IfOk result (λ m. m.items ≡ items_of bitmap.now) }
     ensures only { IfErr result (λ e. e ≡ Error.OutOfMemory) }
 {
     let mut bytes = bitmap.bytes.empty_vec();
+    bytes.reserve_exact(bytes_for(bitmap.len()) + u64::SIZE)?;
     let mut chunks = bitmap.chunks::<u64>();
     while let Some(word) = chunks.next() {
         bytes.extend_from_slice(&BitChunk::to_ne_bytes(word))?;
@@ -389,7 +394,7 @@ impl Eq for Bitmap {
     ghost laws = { on_equiv items_of (lists_equiv bool_eq_equiv) };
 }
 
-/// Shares the bytes. Whether there is memory for one more owner is not promised.
+/// Shares the bytes. Takes no memory: it is refused only where the count of owners is full.
 impl Clone for Bitmap {
     ghost is_clone = { λ a b. b ≡ a };
 

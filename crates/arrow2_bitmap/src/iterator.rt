@@ -86,8 +86,8 @@ impl DoubleEndedIterator for IntoIter {
     }
 }
 
-/// The same items still to come, over the same bytes.
-/// Whether there is memory for one more owner is not promised.
+/// The same items still to come, over the same bytes. Takes no memory: it is refused only where the
+/// count of owners is full.
 impl Clone for IntoIter {
     ghost is_clone = { λ i copy. copy ≡ i };
 

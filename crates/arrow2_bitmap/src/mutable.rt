@@ -22,7 +22,7 @@ use std::alloc::{AllocError, Global};
 use std::fmt;
 use std::marker::Model;
 
-/// A bitmap that grows: contracts see its items and its capacity, both in bits.
+/// A bitmap that grows: contracts see its items, and how many it has room for.
 ///
 /// Its bytes are always exactly those that its items need, and spare bits are false.
 /// In arrow2 spare bytes and spare bits of a vector that was handed in stay.

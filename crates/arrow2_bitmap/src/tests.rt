@@ -374,3 +374,16 @@ fn words_and_counts_agree_with_items(rt: HostRuntime) -> Result<(), Fail> {
     }
     Ok(())
 }
+
+#[test]
+fn the_readme_holds(rt: HostRuntime) -> Result<(), Fail> {
+    let alloc = rt.alloc();
+    let bitmap = Bitmap::try_new(vec![in alloc; 0b00001101u8]?, 5)?;
+    assert!(rt; bitmap.len() == 5);
+    let part = bitmap.sliced(1, 4);
+    let mut grown = part.make_mut()?;
+    grown.push(true)?;
+    let items: Vec<bool> = grown.iter().collect(alloc)?;
+    assert_eq!(rt; items.as_slice(), [false, true, true, false, true].as_slice());
+    Ok(())
+}
