@@ -100,13 +100,13 @@ fn scripts(rt: HostRuntime) -> Result<(), Fail> {
         (b"\n", b"error syntax\n"),
         (b"new 0 1", b"ok\n"),
         (
-            b"new 16 1\nnew 00 1\nnew 0 012\nbits 0\r\n\xff\xff\n",
-            b"error syntax\nerror syntax\nerror syntax\nerror syntax\nerror syntax\n",
+            b"new 16 1\nnew 00 1\nnew 0 012\nget 0 00\nfill 0 18446744073709551616 1\nraw 0 FF 0 8\noext 0 1,\nbits 0\r\n\xff\xff\n",
+            b"error syntax\nerror syntax\nerror syntax\nerror syntax\nerror syntax\nerror syntax\nerror syntax\nerror syntax\nerror syntax\n",
         ),
         (b"slice 0 9 9\n", b"error kind\n"),
         (
-            b"new 0 -\npop 0\npush 0 1\nget 0 0\nget 0 1\nfreeze 0\nslice 0 1 0\nbits 0\nthaw 0\npush 0 0\nbits 0\nget 0 00\n",
-            b"ok\nnone\nok\n1\nnone\nok\nok\n-\nok\nok\n0\nerror syntax\n",
+            b"new 0 -\npop 0\npush 0 1\nget 0 0\nget 0 1\nfreeze 0\nslice 0 1 0\nbits 0\nthaw 0\npush 0 0\nbits 0\n",
+            b"ok\nnone\nok\n1\nnone\nok\nok\n-\nok\nok\n0\n",
         ),
         (
             b" new 0 1\nnew  0 1\nnew 0 1 \nnew 0\nnew 0 1 1\nset 0 0 1\ncount +1\n\nbits 0\n",
