@@ -7,6 +7,7 @@ ghost use Rattle.arrow2_model.specs.Bits.{bit, unnum, bits};
 pub mod chunk_iterator;
 mod chunks;
 pub mod chunks_exact;
+pub mod chunks_exact_mut;
 mod counts;
 pub mod fmt;
 pub mod iterator;
