@@ -1,3 +1,4 @@
+<<<<<<< HEAD
 //! Worked examples, printed texts, and each call once.
 ghost use Rattle.std.specs.Prelude.{◌+◌, ◌*◌, ◌<◌, ◌≤◌, length as count};
 
@@ -6,6 +7,14 @@ use crate::chunks_exact::BitChunksExact;
 use crate::iterator::BitmapIter;
 use crate::{bytes_for, count_zeros, get_bit, get_bit_from, is_set, set, set_bit};
 use arrow2_index::bit_chunk::BitChunk;
+=======
+//! Texts of bits as their callers print them.
+ghost use Rattle.std.specs.Prelude.{◌≡◌, ◌+◌, ◌*◌, ◌<◌, ◌≤◌, length as count, replicate};
+ghost use Rattle.std.specs.Bool.{OnTrue};
+ghost use Rattle.arrow2_bits.specs.ChunksMut.{with_next_written};
+
+use crate::chunks_exact_mut::BitChunksExactMut;
+>>>>>>> d2d14dc (Tell contracts of a walk by chunks as one value, say how its remainder is written back, and show which wrong bodies are refused)
 use std::fmt;
 use std::test::Fail;
 
@@ -59,6 +68,7 @@ fn bits_are_printed_by_whole_bytes(rt: HostRuntime) -> Result<(), Fail> {
     Ok(())
 }
 
+<<<<<<< HEAD
 #[test]
 fn single_bits_are_read_written_and_counted(rt: HostRuntime) {
     assert_eq!(rt; (bytes_for(0), bytes_for(8), bytes_for(9)), (0, 1, 2));
@@ -157,4 +167,59 @@ fn both_walks_are_taken_by_their_bound(rt: HostRuntime) {
         first_word(BitChunksExact::<u32>::new(&bytes, 36)),
         (Some(0x00ff5aa5), 4)
     );
+=======
+/// Every byte set to 0.
+fn clear(bytes: &mut [u8])
+    ensures { bytes.new ≡ replicate (count bytes.old) 0 }
+{
+    bytes.fill(0);
+}
+
+/// The next chunk set to zeros: a caller that knows all of the walk afterwards.
+fn clear_next<T>(walk: &mut BitChunksExactMut<'_, T>) -> bool
+    ensures { OnTrue result (walk.new ≡ with_next_written walk.old (replicate walk.old.size 0)) }
+{
+    walk.change_next(|chunk| clear(chunk))
+}
+
+#[test]
+fn chunks_are_lent_one_at_a_time(rt: HostRuntime) -> Result<(), Fail> {
+    let mut bytes = [1, 2, 3, 4, 5];
+    let mut walk = BitChunksExactMut::<u16>::new(&mut bytes, 35);
+    walk.next_chunk().ok_or("a first chunk")?.fill(0);
+    assert_eq!(rt;
+        &*walk.next_chunk().ok_or("a second chunk")?,
+        [3, 4].as_slice()
+    );
+    assert!(rt; walk.next_chunk().is_none());
+    assert_eq!(rt; &*walk.remainder(), [5].as_slice());
+    assert_eq!(rt; walk.remainder_len(), 3);
+    assert_eq!(rt; bytes, [0, 0, 3, 4, 5]);
+    Ok(())
+}
+
+#[test]
+fn chunks_are_given_to_be_written(rt: HostRuntime) -> Result<(), Fail> {
+    let mut bytes = [1, 2, 3, 4, 5];
+    let mut walk = BitChunksExactMut::<u16>::new(&mut bytes, 35);
+    assert_eq!(rt; walk.size_hint(), (2, Some(2)));
+    walk.next().ok_or("a first chunk")?.fill(0);
+    assert_eq!(rt; &*walk.next().ok_or("a second chunk")?, [3, 4].as_slice());
+    assert!(rt; walk.next().is_none());
+    assert_eq!(rt; &*walk.remainder(), [5].as_slice());
+    assert_eq!(rt; walk.remainder_len(), 3);
+    assert_eq!(rt; bytes, [0, 0, 3, 4, 5]);
+    Ok(())
+}
+
+#[test]
+fn chunks_are_changed_in_place(rt: HostRuntime) {
+    let mut bytes = [1, 2, 3, 4, 5];
+    let mut walk = BitChunksExactMut::<u16>::new(&mut bytes, 35);
+    assert!(rt; clear_next(&mut walk));
+    assert!(rt; walk.change_next(|chunk| chunk.reverse()));
+    assert!(rt; !clear_next(&mut walk));
+    walk.remainder().fill(9);
+    assert_eq!(rt; bytes, [0, 0, 4, 3, 9]);
+>>>>>>> d2d14dc (Tell contracts of a walk by chunks as one value, say how its remainder is written back, and show which wrong bodies are refused)
 }
