@@ -1,3 +1,4 @@
 pub mod Counted
 pub mod Loaded
+pub mod NextChunk
 pub mod Spilled

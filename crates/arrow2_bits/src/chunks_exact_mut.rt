@@ -1,25 +1,26 @@
 //! The walk over bytes by chunks that are lent to be written.
-ghost use Rattle.std.specs.Prelude.{◌≡◌, ℕ, ◌+◌, ◌-◌, ◌*◌, ◌/◌, ◌<◌, ◌≤◌, ◌↔◌, List, length as length', take, Some, IfSome, IsSome, IsTrue};
+ghost use Rattle.std.specs.Prelude.{◌≡◌, ℕ, ◌+◌, ◌-◌, ◌*◌, ◌/◌, ◌<◌, ◌≤◌, ◌↔◌, List, length as length', [], take, drop, Some, IfSome, IsSome, IsTrue};
 ghost use Rattle.std.specs.Bool.{OnTrue, OnFalse};
 ghost use Rattle.std.specs.Borrow.{sem};
 ghost use Rattle.std.specs.Fn.{FnOnceReturnsAtMut};
 ghost use Rattle.std.specs.Iterator.{at_most, UpTo};
 ghost use Rattle.std.specs.Iterator.SizeHint.{IsWithinCount};
 ghost use Rattle.arrow2_model.specs.Parts.{part};
-ghost use Rattle.arrow2_model.specs.Buffers.{overwritten};
-ghost use Rattle.arrow2_bits.specs.ChunksMut.{chunks_left, next_chunk_of, with_next_written, GivesChunk};
+ghost use Rattle.arrow2_bits.specs.ChunksMut.{chunks_left, next_len, next_written, GivesChunk};
 
 use crate::bytes_for;
 use arrow2_index::bit_chunk::BitChunk;
 use std::marker::{Model, PhantomData};
 use std::mem;
 
-/// The walk over the first bits of bytes by chunks of as many bytes as `T` has, to be written:
-/// contracts see the bytes that it holds, where the next chunk begins, and the remainder.
+/// The walk over the first bits of bytes by chunks of as many bytes as `T` has, to be written.
+///
+/// Contracts see the chunk that was lent last, the bytes of the chunks still to come and those of the
+/// remainder. A chunk is held until the next one is lent.
 #[derive(Debug, Drop)]
 pub struct BitChunksExactMut<'a, T> {
-    chunks: &'a mut [u8],
-    start: usize,
+    lent: &'a mut [u8],
+    ahead: &'a mut [u8],
     size: usize,
     remainder: &'a mut [u8],
     remainder_len: usize,
@@ -32,7 +33,7 @@ impl<'a, T> Model for BitChunksExactMut<'a, T> {
 
     ghost Value = { ChunkWalkMut };
 
-    ghost view = { λ c. record { chunks = c.chunks.now; start = c.start; size = c.size; remainder = c.remainder.now; remainder_len = c.remainder_len } };
+    ghost view = { λ c. record { lent = c.lent.now; ahead = c.ahead.now; size = c.size; remainder = c.remainder.now; remainder_len = c.remainder_len } };
 
     ghost invariant = { λ c. c.remainder_len < 8 * c.size };
 }
@@ -41,8 +42,8 @@ impl<'a, T: BitChunk> BitChunksExactMut<'a, T> {
     /// The walk over the first `length` bits. Asks that they are inside the bytes.
     pub fn new(bytes: &'a mut [u8], length: usize) -> BitChunksExactMut<'a, T>
         requires { length ≤ 8 * length' bytes.old }
-        ensures chunks { result.chunks ≡ take (T.NativeType.SIZE * (length / 8 / T.NativeType.SIZE)) bytes.old }
-        ensures start { result.start ≡ 0 }
+        ensures ahead { result.ahead ≡ take (T.NativeType.SIZE * (length / 8 / T.NativeType.SIZE)) bytes.old }
+        ensures lent { result.lent ≡ [] }
         ensures size { result.size ≡ T.NativeType.SIZE }
         ensures left { chunks_left result ≡ length / 8 / T.NativeType.SIZE }
         ensures remainder { let full = T.NativeType.SIZE * (length / 8 / T.NativeType.SIZE) in result.remainder ≡ part bytes.old full ((length + 7) / 8 - full) }
@@ -51,10 +52,10 @@ impl<'a, T: BitChunk> BitChunksExactMut<'a, T> {
         let size = T::SIZE;
         let count = length / 8 / size;
         let bytes = &mut bytes[..bytes_for(length)];
-        let (chunks, remainder) = bytes.split_at_mut(size * count);
+        let (ahead, remainder) = bytes.split_at_mut(size * count);
         BitChunksExactMut {
-            chunks,
-            start: 0,
+            lent: Default::default(),
+            ahead,
             size,
             remainder,
             remainder_len: length - T::WIDTH * count,
@@ -64,18 +65,21 @@ impl<'a, T: BitChunk> BitChunksExactMut<'a, T> {
 }
 
 impl<'a, T> BitChunksExactMut<'a, T> {
-    ghost use Rattle.arrow2_bits.specs.LentChunk.{LendsRemainder};
+    ghost use Rattle.arrow2_bits.specs.LentChunk.{LendsRemainder, LendsLent, LendsNext};
 
     /// The next chunk, to be written, or `None` where none is left.
+    ///
+    /// A proof knows the chunk that it lends, and not what it is afterwards:
+    /// [`BitChunksExactMut::lend_next`] says both. arrow2 has the iterator alone.
     pub fn next_chunk(&mut self) -> Option<&mut [u8]>
         ensures some { IsSome result ↔ (0 < chunks_left self.old) }
-        ensures chunk { IfSome result (λ r. r.now ≡ next_chunk_of self.old) }
+        ensures chunk { IfSome result (λ r. r.now ≡ take self.old.size self.old.ahead) }
     {
-        if self.pass_next() {
-            Some(self.passed())
-        } else {
-            None
+        let chunk = self.lend_next();
+        if chunk.len() == 0 {
+            return None;
         }
+        Some(chunk)
     }
 
     /// Changes the next chunk in place by `change`, and answers whether there was one.
@@ -84,19 +88,63 @@ impl<'a, T> BitChunksExactMut<'a, T> {
     pub fn change_next<F: FnOnce(&mut [u8])>(&mut self, change: F) -> bool
         requires { F.IsAlwaysCallable change }
         ensures any { IsTrue result ↔ (0 < chunks_left self.old) }
-        ensures written { OnTrue result ((chunk : List ℕ)
-            × FnOnceReturnsAtMut F.FnOnce change (next_chunk_of self.old) tt chunk
-            × (length' chunk ≡ self.old.size)
-            × (self.new ≡ with_next_written self.old chunk)) }
+        ensures written { OnTrue result ((written : List ℕ)
+            × FnOnceReturnsAtMut F.FnOnce change (take self.old.size self.old.ahead) tt written
+            × (length' written ≡ self.old.size)
+            × (self.new ≡ record self.old { lent = written; ahead = drop self.old.size self.old.ahead })) }
         ensures left { OnTrue result (chunks_left self.old ≡ chunks_left self.new + 1) }
         ensures ended { OnFalse result (self.new ≡ self.old) }
     {
-        let start = self.start;
-        if !self.pass_next() {
+        if self.next_len() == 0 {
             return false;
         }
-        change_part(self.chunks, start, self.start, change);
+        change(self.lend_next());
         true
+    }
+
+    /// The next chunk, to be written, and no bytes where none is left. Afterwards the walk holds what was
+    /// written there.
+    ///
+    /// arrow2 has the iterator alone.
+    pub fn lend_next(&mut self) -> &mut [u8]
+        ensures some { (0 < length' result.now) ↔ (0 < chunks_left self.old) }
+        ensures chunk { result.now ≡ take (next_len self.old) self.old.ahead }
+        ensures* writes_back { sem 𝓛 (LendsNext T.row self.entry result) }
+    {
+        self.pass_next();
+        self.lent()
+    }
+
+    /// The chunk that was passed last, to be written.
+    fn lent(&mut self) -> &mut [u8]
+        ensures bytes { result.now ≡ self.old.lent }
+        ensures* writes_back { sem 𝓛 (LendsLent T.row self.entry result) }
+    {
+        &mut *self.lent
+    }
+
+    /// Passes the next chunk, if one is left.
+    fn pass_next(&mut self)
+        ensures { self.new ≡ next_written self.old (take (next_len self.old) self.old.ahead) }
+    {
+        let size = self.next_len();
+        let (lent, ahead) = mem::take(&mut self.ahead).split_at_mut(size);
+        self.lent = lent;
+        self.ahead = ahead;
+    }
+
+    /// How many bytes are lent next: a chunk, or none at the end.
+    fn next_len(&self) -> usize
+        ensures len { result ≡ next_len self.now }
+        ensures some { (0 < result) ↔ (0 < chunks_left self.now) }
+        ensures full { 0 < result → (result ≡ self.now.size) × (result ≤ length' self.now.ahead) }
+        ensures inside { result ≤ length' self.now.ahead }
+    {
+        if self.ahead.len() < self.size {
+            0
+        } else {
+            self.size
+        }
     }
 
     /// The bytes behind the chunks up to the one that holds the last bit, to be written.
@@ -114,39 +162,6 @@ impl<'a, T> BitChunksExactMut<'a, T> {
     {
         self.remainder_len
     }
-
-    /// How many bytes of chunks are still to come.
-    fn bytes_left(&self) -> usize
-        ensures { result ≡ length' self.now.chunks - self.now.start }
-    {
-        self.chunks.len().saturating_sub(self.start)
-    }
-
-    /// Passes the next chunk, and answers whether there was one.
-    fn pass_next(&mut self) -> bool
-        ensures any { IsTrue result ↔ (0 < chunks_left self.old) }
-        ensures inside { OnTrue result (self.new.start ≤ length' self.new.chunks) }
-        ensures passed { OnTrue result (self.new ≡ record self.old { start = self.old.start + self.old.size }) }
-        ensures left { OnTrue result (chunks_left self.old ≡ chunks_left self.new + 1) }
-        ensures ended { OnFalse result (self.new ≡ self.old) }
-    {
-        if self.bytes_left() < self.size {
-            return false;
-        }
-        self.start += self.size;
-        true
-    }
-
-    /// The chunk that was passed last, to be written. Asks that one was passed.
-    fn passed(&mut self) -> &mut [u8]
-        requires order { self.old.size ≤ self.old.start }
-        requires inside { self.old.start ≤ length' self.old.chunks }
-        ensures chunk { result.now ≡ part self.old.chunks (self.old.start - self.old.size) self.old.size }
-    {
-        let end = self.start;
-        let start = end - self.size;
-        &mut self.chunks[start..end]
-    }
 }
 
 impl<'a, T: Drop> Iterator for BitChunksExactMut<'a, T> {
@@ -157,15 +172,11 @@ impl<'a, T: Drop> Iterator for BitChunksExactMut<'a, T> {
     ghost remaining = { λ s. at_most (chunks_left s) };
 
     fn next(&mut self) -> Option<&'a mut [u8]> {
-        let start = self.start;
-        if !self.pass_next() {
+        if self.ahead.len() < self.size {
             return None;
         }
-        let end = self.start;
-        let (held, rest) = mem::take(&mut self.chunks).split_at_mut(end);
-        let (_, chunk) = held.split_at_mut(start);
-        self.chunks = rest;
-        self.start = 0;
+        let (chunk, ahead) = mem::take(&mut self.ahead).split_at_mut(self.size);
+        self.ahead = ahead;
         Some(chunk)
     }
 
@@ -175,17 +186,7 @@ impl<'a, T: Drop> Iterator for BitChunksExactMut<'a, T> {
         ensures upper { IfSome result.1 (UpTo (at_most (chunks_left self.now))) }
         ensures exact { (result.0 ≡ chunks_left self.now) × (result.1 ≡ Some (chunks_left self.now)) }
     {
-        let left = self.bytes_left() / self.size;
+        let left = self.ahead.len() / self.size;
         (left, Some(left))
     }
-}
-
-/// Changes the bytes from `start` up to `end` in place.
-fn change_part<F: FnOnce(&mut [u8])>(bytes: &mut [u8], start: usize, end: usize, change: F)
-    requires order { start ≤ end }
-    requires within { end ≤ length' bytes.old }
-    requires callable { F.IsAlwaysCallable change }
-    ensures { (changed : List ℕ) × FnOnceReturnsAtMut F.FnOnce change (part bytes.old start (end - start)) tt changed × (length' changed ≡ end - start) × (bytes.new ≡ overwritten bytes.old start changed) }
-{
-    change(&mut bytes[start..end]);
 }

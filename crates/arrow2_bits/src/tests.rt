@@ -9,9 +9,9 @@ use crate::{bytes_for, count_zeros, get_bit, get_bit_from, is_set, set, set_bit}
 use arrow2_index::bit_chunk::BitChunk;
 =======
 //! Texts of bits as their callers print them.
-ghost use Rattle.std.specs.Prelude.{◌≡◌, ◌+◌, ◌*◌, ◌<◌, ◌≤◌, length as count, replicate};
+ghost use Rattle.std.specs.Prelude.{◌≡◌, ◌+◌, ◌*◌, ◌<◌, ◌≤◌, length as count, replicate, drop};
 ghost use Rattle.std.specs.Bool.{OnTrue};
-ghost use Rattle.arrow2_bits.specs.ChunksMut.{with_next_written};
+ghost use Rattle.arrow2_bits.specs.ChunksMut.{next_len, next_written};
 
 use crate::chunks_exact_mut::BitChunksExactMut;
 >>>>>>> d2d14dc (Tell contracts of a walk by chunks as one value, say how its remainder is written back, and show which wrong bodies are refused)
@@ -177,9 +177,16 @@ fn clear(bytes: &mut [u8])
 
 /// The next chunk set to zeros: a caller that knows all of the walk afterwards.
 fn clear_next<T>(walk: &mut BitChunksExactMut<'_, T>) -> bool
-    ensures { OnTrue result (walk.new ≡ with_next_written walk.old (replicate walk.old.size 0)) }
+    ensures { OnTrue result (walk.new ≡ record walk.old { lent = replicate walk.old.size 0; ahead = drop walk.old.size walk.old.ahead }) }
 {
     walk.change_next(|chunk| clear(chunk))
+}
+
+/// The same by the loan.
+fn clear_lent<T>(walk: &mut BitChunksExactMut<'_, T>)
+    ensures { walk.new ≡ next_written walk.old (replicate (next_len walk.old) 0) }
+{
+    clear(walk.lend_next());
 }
 
 #[test]
