@@ -1,5 +1,5 @@
 //! The walk over bytes by chunks that are lent to be written.
-ghost use Rattle.std.specs.Prelude.{◌≡◌, ℕ, ◌+◌, ◌-◌, ◌*◌, ◌/◌, ◌<◌, ◌≤◌, ◌↔◌, List, length as length', [], take, drop, Some, IfSome, IsSome, IsTrue};
+ghost use Rattle.std.specs.Prelude.{◌≡◌, ℕ, ◌+◌, ◌-◌, ◌*◌, ◌/◌, ◌<◌, ◌≤◌, ◌↔◌, List, length as length', [], take, drop, Some, IfSome, IsTrue, MatchOption};
 ghost use Rattle.std.specs.Bool.{OnTrue, OnFalse};
 ghost use Rattle.std.specs.Borrow.{sem};
 ghost use Rattle.std.specs.Fn.{FnOnceReturnsAtMut};
@@ -65,15 +65,15 @@ impl<'a, T: BitChunk> BitChunksExactMut<'a, T> {
 }
 
 impl<'a, T> BitChunksExactMut<'a, T> {
-    ghost use Rattle.arrow2_bits.specs.LentChunk.{LendsRemainder, LendsLent, LendsNext};
+    ghost use Rattle.arrow2_bits.specs.LentChunk.{LendsRemainder, LendsLent, LendsNext, LendsNextIf};
 
-    /// The next chunk, to be written, or `None` where none is left.
+    /// The next chunk, to be written, or `None` where none is left. Afterwards the walk holds what was
+    /// written there.
     ///
-    /// A proof knows the chunk that it lends, and not what it is afterwards:
-    /// [`BitChunksExactMut::lend_next`] says both. arrow2 has the iterator alone.
+    /// arrow2 has the iterator alone.
     pub fn next_chunk(&mut self) -> Option<&mut [u8]>
-        ensures some { IsSome result ↔ (0 < chunks_left self.old) }
-        ensures chunk { IfSome result (λ r. r.now ≡ take self.old.size self.old.ahead) }
+        ensures* writes_back { sem 𝓛 (LendsNextIf T.row self.entry result) }
+        ensures chunk { MatchOption result (chunks_left self.old ≡ 0) (λ r. (0 < chunks_left self.old) × (r.now ≡ take self.old.size self.old.ahead)) }
     {
         let chunk = self.lend_next();
         if chunk.len() == 0 {
@@ -102,11 +102,24 @@ impl<'a, T> BitChunksExactMut<'a, T> {
         true
     }
 
-    /// The next chunk, to be written, and no bytes where none is left. Afterwards the walk holds what was
-    /// written there.
-    ///
-    /// arrow2 has the iterator alone.
-    pub fn lend_next(&mut self) -> &mut [u8]
+    /// The bytes behind the chunks up to the one that holds the last bit, to be written.
+    pub fn remainder(&mut self) -> &mut [u8]
+        ensures bytes { result.now ≡ self.old.remainder }
+        ensures* writes_back { sem 𝓛 (LendsRemainder T.row self.entry result) }
+    {
+        &mut *self.remainder
+    }
+
+    /// How many bits the remainder has: fewer than a chunk.
+    pub fn remainder_len(&self) -> usize
+        ensures bits { result ≡ self.now.remainder_len }
+        ensures short { result < 8 * self.now.size }
+    {
+        self.remainder_len
+    }
+
+    /// The next chunk, to be written, and no bytes where none is left.
+    fn lend_next(&mut self) -> &mut [u8]
         ensures some { (0 < length' result.now) ↔ (0 < chunks_left self.old) }
         ensures chunk { result.now ≡ take (next_len self.old) self.old.ahead }
         ensures* writes_back { sem 𝓛 (LendsNext T.row self.entry result) }
@@ -145,22 +158,6 @@ impl<'a, T> BitChunksExactMut<'a, T> {
         } else {
             self.size
         }
-    }
-
-    /// The bytes behind the chunks up to the one that holds the last bit, to be written.
-    pub fn remainder(&mut self) -> &mut [u8]
-        ensures bytes { result.now ≡ self.old.remainder }
-        ensures* writes_back { sem 𝓛 (LendsRemainder T.row self.entry result) }
-    {
-        &mut *self.remainder
-    }
-
-    /// How many bits the remainder has: fewer than a chunk.
-    pub fn remainder_len(&self) -> usize
-        ensures bits { result ≡ self.now.remainder_len }
-        ensures short { result < 8 * self.now.size }
-    {
-        self.remainder_len
     }
 }
 

@@ -11,7 +11,6 @@ use arrow2_index::bit_chunk::BitChunk;
 //! Texts of bits as their callers print them.
 ghost use Rattle.std.specs.Prelude.{◌≡◌, ◌+◌, ◌*◌, ◌<◌, ◌≤◌, length as count, replicate, drop};
 ghost use Rattle.std.specs.Bool.{OnTrue};
-ghost use Rattle.arrow2_bits.specs.ChunksMut.{next_len, next_written};
 
 use crate::chunks_exact_mut::BitChunksExactMut;
 >>>>>>> d2d14dc (Tell contracts of a walk by chunks as one value, say how its remainder is written back, and show which wrong bodies are refused)
@@ -180,13 +179,6 @@ fn clear_next<T>(walk: &mut BitChunksExactMut<'_, T>) -> bool
     ensures { OnTrue result (walk.new ≡ record walk.old { lent = replicate walk.old.size 0; ahead = drop walk.old.size walk.old.ahead }) }
 {
     walk.change_next(|chunk| clear(chunk))
-}
-
-/// The same by the loan.
-fn clear_lent<T>(walk: &mut BitChunksExactMut<'_, T>)
-    ensures { walk.new ≡ next_written walk.old (replicate (next_len walk.old) 0) }
-{
-    clear(walk.lend_next());
 }
 
 #[test]
