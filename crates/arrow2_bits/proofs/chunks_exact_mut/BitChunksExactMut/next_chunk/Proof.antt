@@ -1,12 +1,12 @@
 -- The chunk that the walk lends next leaves in an `Option`, and the walk follows it.
-use mathlib.Core.Path.{◌≡◌, refl, sym, ap, ◌∙◌}
-use Prim.Native.Nat.{ℕ, zero, suc, ◌+◌, ◌*◌, ◌^◌, ◌<◌, ◌≤◌}
+use mathlib.Core.Path.{◌≡◌, refl, ap}
+use Prim.Native.Nat.{ℕ, zero, suc, ◌<◌}
 use native.Mathlib.Omega.{arith}
-use mathlib.Core.List.{List, [], ◌∷◌, ◌++◌}
-use lib.ListN.{length, take, drop as drop_list}
-use mir.Syntax.{Args, Fn, named, w8, w64, a_type}
+use mathlib.Core.List.{List, [], ◌∷◌}
+use lib.ListN.{length, take}
+use mir.Syntax.{Args, Fn, named, a_type}
 use mir.MapTy.{inst_fn}
-use mir.Val.{Val, vint, of_list}
+use mir.Val.{Val, of_list}
 use base.Logic.{id⊢}
 use base.Fml.{GName, ftrue, flft, fres}
 use lib.Dec as D
@@ -16,7 +16,6 @@ use mathlib.Core.Logic.{◌↔◌}
 use contract.Monad.{fact}
 use contract.Running.{tables}
 use denote.Param.{layouts}
-use denote.Param.Laws.{Laws}
 use types.Kit.{‵, ◌⊛◌, raw, given, some, later, at_ret, ◌$◌, ◌∵◌, !, qed, done, move, drop, use0, use1, use2, split, split3, join, fjoin, await, pick, learn, rewrite, suffices, frame}
 use types.Part.{whole, sub, agg}
 use types.Match.{live}
