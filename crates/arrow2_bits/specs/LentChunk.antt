@@ -13,10 +13,10 @@ LendsRemainder T walk r = Lends (the_row (record { mir = named 1; lft = [] }) T)
 abbrev pub LendsNext : (T : RattleType) → MutBor ChunkWalkMut → MutBor (List ℕ) → Fml
 LendsNext T walk r = Lends (the_row (record { mir = named 1; lft = [] }) T) (Array u8 0) walk r (next_written walk.now)
 
--- r is the chunk that was passed last, which ends with what was written through r in its place
-abbrev pub LendsLent : (T : RattleType) → MutBor ChunkWalkMut → MutBor (List ℕ) → Fml
-LendsLent T walk r = Lends (the_row (record { mir = named 1; lft = [] }) T) (Array u8 0) walk r (λ written. record walk.now { lent = written })
-
 -- the same where r may be none, and then the walk ends as it was, with no chunk lent
 abbrev pub LendsNextIf : (T : RattleType) → MutBor ChunkWalkMut → Option (MutBor (List ℕ)) → Fml
 LendsNextIf T walk r = LendsIf (the_row (record { mir = named 1; lft = [] }) T) (Array u8 0) walk r (next_written walk.now) (record walk.now { lent = [] })
+
+-- r is the chunk that was passed last, which ends with what was written through r in its place
+abbrev pub LendsLent : (T : RattleType) → MutBor ChunkWalkMut → MutBor (List ℕ) → Fml
+LendsLent T walk r = Lends (the_row (record { mir = named 1; lft = [] }) T) (Array u8 0) walk r (λ written. record walk.now { lent = written })
