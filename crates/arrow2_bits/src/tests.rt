@@ -1,19 +1,13 @@
-<<<<<<< HEAD
 //! Worked examples, printed texts, and each call once.
-ghost use Rattle.std.specs.Prelude.{◌+◌, ◌*◌, ◌<◌, ◌≤◌, length as count};
-
-use crate::chunk_iterator::{BitChunkIterExact, BitChunks};
-use crate::chunks_exact::BitChunksExact;
-use crate::iterator::BitmapIter;
-use crate::{bytes_for, count_zeros, get_bit, get_bit_from, is_set, set, set_bit};
-use arrow2_index::bit_chunk::BitChunk;
-=======
-//! Texts of bits as their callers print them.
 ghost use Rattle.std.specs.Prelude.{◌≡◌, ◌+◌, ◌*◌, ◌<◌, ◌≤◌, length as count, replicate, drop};
 ghost use Rattle.std.specs.Bool.{OnTrue};
 
+use crate::chunk_iterator::{BitChunkIterExact, BitChunks};
+use crate::chunks_exact::BitChunksExact;
 use crate::chunks_exact_mut::BitChunksExactMut;
->>>>>>> d2d14dc (Tell contracts of a walk by chunks as one value, say how its remainder is written back, and show which wrong bodies are refused)
+use crate::iterator::BitmapIter;
+use crate::{bytes_for, count_zeros, get_bit, get_bit_from, is_set, set, set_bit};
+use arrow2_index::bit_chunk::BitChunk;
 use std::fmt;
 use std::test::Fail;
 
@@ -67,7 +61,6 @@ fn bits_are_printed_by_whole_bytes(rt: HostRuntime) -> Result<(), Fail> {
     Ok(())
 }
 
-<<<<<<< HEAD
 #[test]
 fn single_bits_are_read_written_and_counted(rt: HostRuntime) {
     assert_eq!(rt; (bytes_for(0), bytes_for(8), bytes_for(9)), (0, 1, 2));
@@ -166,7 +159,8 @@ fn both_walks_are_taken_by_their_bound(rt: HostRuntime) {
         first_word(BitChunksExact::<u32>::new(&bytes, 36)),
         (Some(0x00ff5aa5), 4)
     );
-=======
+}
+
 /// Every byte set to 0.
 fn clear(bytes: &mut [u8])
     ensures { bytes.new ≡ replicate (count bytes.old) 0 }
@@ -220,5 +214,4 @@ fn chunks_are_changed_in_place(rt: HostRuntime) {
     assert!(rt; !clear_next(&mut walk));
     walk.remainder().fill(9);
     assert_eq!(rt; bytes, [0, 0, 4, 3, 9]);
->>>>>>> d2d14dc (Tell contracts of a walk by chunks as one value, say how its remainder is written back, and show which wrong bodies are refused)
 }
