@@ -384,6 +384,9 @@ fn the_readme_holds(rt: HostRuntime) -> Result<(), Fail> {
     let mut grown = part.make_mut()?;
     grown.push(true)?;
     let items: Vec<bool> = grown.iter().collect(alloc)?;
-    assert_eq!(rt; items.as_slice(), [false, true, true, false, true].as_slice());
+    assert_eq!(rt;
+        items.as_slice(),
+        [false, true, true, false, true].as_slice()
+    );
     Ok(())
 }

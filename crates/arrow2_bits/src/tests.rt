@@ -143,8 +143,7 @@ fn words_are_taken_from_the_first_bit(rt: HostRuntime) -> Result<(), Fail> {
 }
 
 /// The first word and the length of the rest, by the bound alone.
-fn first_word<B: BitChunk, I: BitChunkIterExact<B>>(mut chunks: I) -> (Option<B>, usize)
-{
+fn first_word<B: BitChunk, I: BitChunkIterExact<B>>(mut chunks: I) -> (Option<B>, usize) {
     (chunks.next(), chunks.remainder_len())
 }
 

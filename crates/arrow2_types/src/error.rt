@@ -58,7 +58,7 @@ impl Error {
         ensures { WrapsText result
             (λ text. IfSome (⟦<Utf8Error as fmt::Display>⟧.output error) (λ printed. text ≡ printed)) }
     {
-        Error::from_external_error(alloc, &error)
+        Error::from_external_error::<Utf8Error>(alloc, &error)
     }
 
     /// The same of the error that holds the bytes. They are dropped.
@@ -66,14 +66,14 @@ impl Error {
         ensures { WrapsText result
             (λ text. IfSome (⟦<FromUtf8Error as fmt::Display>⟧.output error) (λ printed. text ≡ printed)) }
     {
-        Error::from_external_error(alloc, &error)
+        Error::from_external_error::<FromUtf8Error>(alloc, &error)
     }
 
     /// The same of the error of the fast test for text.
     pub fn from_basic_utf8_error(alloc: Global, error: simdutf8::basic::Utf8Error) -> Error
         ensures { WrapsText result (λ text. text ≡ codes "invalid utf-8 sequence") }
     {
-        Error::from_external_error(alloc, &error)
+        Error::from_external_error::<simdutf8::basic::Utf8Error>(alloc, &error)
     }
 }
 

@@ -28,14 +28,16 @@ impl days_ms {
     pub fn days(&self) -> i32
         ensures { result ≡ self.now.0 }
     {
-        self.0
+        let days_ms(days, _) = *self;
+        days
     }
 
     /// The number of milliseconds.
     pub fn milliseconds(&self) -> i32
         ensures { result ≡ self.now.1 }
     {
-        self.1
+        let days_ms(_, milliseconds) = *self;
+        milliseconds
     }
 }
 
@@ -135,21 +137,24 @@ impl months_days_ns {
     pub fn months(&self) -> i32
         ensures { result ≡ self.now.0 }
     {
-        self.0
+        let months_days_ns(months, _, _) = *self;
+        months
     }
 
     /// The number of days.
     pub fn days(&self) -> i32
         ensures { result ≡ self.now.1 }
     {
-        self.1
+        let months_days_ns(_, days, _) = *self;
+        days
     }
 
     /// The number of nanoseconds.
     pub fn ns(&self) -> i64
         ensures { result ≡ self.now.2 }
     {
-        self.2
+        let months_days_ns(_, _, ns) = *self;
+        ns
     }
 }
 
