@@ -1,15 +1,34 @@
--- What storage is once a part of it, which was lent to be written, is back.
-use Rattle.std.specs.Prelude.{ℕ, List, take, drop, length, ◌++◌}
-use Rattle.std.specs.Borrow.{Lends, MutBor, Fml, Array}
+-- What storage is once it, or a part of it, was lent to be written and is back.
+use Rattle.std.specs.Prelude.{ℕ, List, length}
+use Rattle.std.specs.Borrow.{Lends, LendsIf, MutBor, Fml, Array}
+use Rattle.std.specs.List.{refill}
+use Rattle.std.specs.Rc.{rc_with_value}
+use Rattle.std.specs.declared.alloc.Global.{Global}
+use Rattle.std.specs.declared.option.Option.{Option}
+use Rattle.std.specs.declared.rc.Rc.{Rc}
+use Rattle.std.specs.contracts.alloc.Global as heap
+use Rattle.std.specs.contracts.impls.GlobalAllocator.TheImpl.{ghosts}
+use Rattle.std.specs.contracts.rc.Rc as owned
 use denote.RattleType.{RattleType}
+use Rattle.arrow2_model.specs.Buffers.{overwritten}
 use Rattle.arrow2_buffer.specs.contracts.bytes.Bytes.{the_row}
 
--- items with others written over them from place i on. Past the end nothing is written
-abbrev pub refill : {X : Type 0} → List X → ℕ → List X → List X
-refill items i others =
-    let all = take i items ++ (others ++ drop (length others) (drop i items)) in
-    take (length items) (all ++ drop (length all) items)
+-- items after others were written over them from place i on, through a loan that can't change how many there are
+abbrev pub rewritten : {X : Type 0} → List X → ℕ → List X → List X
+rewritten items i others = refill (length items) items (overwritten items i others)
+
+-- the type of storage behind an `Rc`
+abbrev pub shared_row : RattleType → RattleType
+shared_row T = owned.the_row (the_row T) heap.the_row ghosts
+
+-- r is the storage of a sole owner, which ends as what was written through r, or as it was where r is none
+abbrev pub LendsOwned : (T : RattleType) → MutBor (Rc (List T.Denot) Global) → Option (MutBor (List T.Denot)) → Fml
+LendsOwned T shared r = LendsIf (shared_row T) (the_row T) shared r (rc_with_value shared.now) shared.now
 
 -- r is the part of the storage from place i on: the storage ends with what was written through r in its place
 abbrev pub LendsPart : (T : RattleType) → MutBor (List T.Denot) → ℕ → MutBor (List T.Denot) → Fml
-LendsPart T storage i r = Lends (the_row T) (Array T 0) storage r (refill storage.now i)
+LendsPart T storage i r = Lends (the_row T) (Array T 0) storage r (rewritten storage.now i)
+
+-- the same of the storage of a sole owner, which ends as it was where r is none
+abbrev pub LendsOwnedPart : (T : RattleType) → MutBor (Rc (List T.Denot) Global) → ℕ → Option (MutBor (List T.Denot)) → Fml
+LendsOwnedPart T shared i r = LendsIf (shared_row T) (Array T 0) shared r (λ others. rc_with_value shared.now (rewritten shared.now.value i others)) shared.now

@@ -1,10 +1,11 @@
 //! The storage that buffers share.
-ghost use Rattle.std.specs.Prelude.{◌≡◌, ◌-◌, ◌≤◌, [], length};
+ghost use Rattle.std.specs.Prelude.{◌≡◌, ◌-◌, ◌≤◌, [], length, IfSome};
 ghost use Rattle.arrow2_model.specs.Parts.{part};
 ghost use Rattle.std.specs.Borrow.{sem};
-ghost use Rattle.arrow2_buffer.specs.Lent.{LendsPart};
+ghost use Rattle.arrow2_buffer.specs.Lent.{LendsOwned, LendsPart};
 
 use std::marker::Model;
+use std::rc::Rc;
 
 /// A list of items on the heap, which buffers and bitmaps share behind an `Rc`.
 ///
@@ -56,6 +57,14 @@ impl<T> Bytes<T> {
         ensures { result.items ≡ [] }
     {
         Vec::new(*self.items.allocator())
+    }
+
+    /// The storage, to be written, where `shared` is its only owner.
+    pub(crate) fn get_mut(shared: &mut Rc<Bytes<T>>) -> Option<&mut Bytes<T>>
+        ensures* writes_back { sem 𝓛 (LendsOwned T.row shared.entry result) }
+        ensures value { IfSome result (λ bytes. bytes.now ≡ shared.old.value) }
+    {
+        Rc::get_mut(shared)
     }
 
     /// The items from `start` up to `end`, to be written.

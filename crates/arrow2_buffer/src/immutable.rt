@@ -1,6 +1,7 @@
 //! A list that is shared, cloned and sliced in constant time.
 ghost use Rattle.std.specs.Prelude.{◌≡◌, ◌≢◌, ◌+◌, ◌-◌, ◌^◌, ◌<◌, ◌≤◌, ◌↔◌, List, [], length, IsTrue, IfOk, IfErr, IfSome, MatchResult, ⊤};
 ghost use Rattle.std.specs.Bool.{OnTrue, OnFalse};
+ghost use Rattle.std.specs.Borrow.{sem};
 ghost use Rattle.std.specs.Fmt.{debug_list};
 ghost use Rattle.std.specs.Fn.{FnOnceReturnsAtMut};
 ghost use Rattle.std.specs.Iterator.{IsFinite};
@@ -11,6 +12,7 @@ ghost use Rattle.std.specs.Cmp.Lexicographic.{pointwise, lists_per, lists_equiv}
 ghost use Rattle.arrow2_types.specs.declared.error.Error.TheVariants.{OutOfMemory};
 ghost use Rattle.arrow2_model.specs.Parts.{part};
 ghost use Rattle.arrow2_model.specs.Buffers.{buffer_items, whole_buffer, overwritten};
+ghost use Rattle.arrow2_buffer.specs.Lent.{LendsOwnedPart};
 ghost use Rattle.either.specs.Either.{MatchEither};
 
 use crate::bytes::Bytes;
@@ -48,6 +50,8 @@ impl<T> Model for Buffer<T> {
 
 #[tactic(auto, using(crate::proofs::Part::slicing))]
 impl<T> Buffer<T> {
+    ghost use Rattle.arrow2_buffer.specs.LentItems.{LendsItems};
+
     /// How many items it has.
     ///
     /// arrow2's documentation says bytes.
@@ -114,19 +118,18 @@ impl<T> Buffer<T> {
     }
 
     /// The items, to be written, where no one else shares the storage; `None` elsewhere. Takes no
-    /// memory.
+    /// memory. Afterwards the buffer holds what was written there, and the rest of the storage is as it
+    /// was.
     ///
-    /// A proof knows the items that it lends, and not what they are afterwards:
-    /// [`Buffer::change_slice`] does the same and says both.
+    /// A caller that is proved uses [`Buffer::change_slice`], since it learns nothing of a loan inside
+    /// an `Option`.
     pub fn get_mut_slice(&mut self) -> Option<&mut [T]>
-        ensures { IfSome result (λ r. r.now ≡ buffer_items self.old) }
+        ensures* writes_back { sem 𝓛 (LendsItems T.row self.entry result) }
+        ensures value { IfSome result (λ r. r.now ≡ buffer_items self.old) }
     {
         let start = self.offset;
         let end = start + self.len;
-        match Rc::get_mut(&mut self.storage) {
-            Some(bytes) => Some(bytes.part_mut(start, end)),
-            None => None,
-        }
+        lend_unshared(&mut self.storage, start, end)
     }
 
     /// Changes the items in place by `change` where no one else shares the storage, and answers
@@ -179,6 +182,19 @@ impl<T> Buffer<T> {
     }
 }
 
+/// The items from `start` up to `end`, to be written, where no one else shares them.
+fn lend_unshared<T>(shared: &mut Rc<Bytes<T>>, start: usize, end: usize) -> Option<&mut [T]>
+    requires order { start ≤ end }
+    requires within { end ≤ length shared.old.value }
+    ensures* writes_back { sem 𝓛 (LendsOwnedPart T.row shared.entry start result) }
+    ensures value { IfSome result (λ r. r.now ≡ part shared.old.value start (end - start)) }
+{
+    match Bytes::get_mut(shared) {
+        Some(bytes) => Some(bytes.part_mut(start, end)),
+        None => None,
+    }
+}
+
 /// Changes the items from `start` up to `end` in place where no one else shares them, and answers
 /// whether it did.
 fn change_unshared<T, F: FnOnce(&mut [T])>(
@@ -193,7 +209,7 @@ fn change_unshared<T, F: FnOnce(&mut [T])>(
     ensures written { OnTrue result ((changed : List T) × FnOnceReturnsAtMut F.FnOnce change (part shared.old.value start (end - start)) tt changed × (length changed ≡ end - start) × (shared.new.value ≡ overwritten shared.old.value start changed)) }
     ensures same { OnFalse result (shared.new ≡ shared.old) }
 {
-    match Rc::get_mut(shared) {
+    match Bytes::get_mut(shared) {
         Some(bytes) => {
             change(bytes.part_mut(start, end));
             true
