@@ -5,5 +5,3 @@ mod check;
 pub mod immutable;
 pub mod iterator;
 pub mod mutable;
-#[cfg(test)]
-mod tests;

@@ -14,9 +14,6 @@ pub mod iterator;
 
 pub use counts::count_zeros;
 
-#[cfg(test)]
-mod tests;
-
 /// Whether bit `i` of the byte is set. Asks that `i` is below 8.
 pub fn is_set(byte: u8, i: usize) -> bool
     requires { i < 8 }

@@ -4,8 +4,6 @@
 pub mod bytes;
 pub mod immutable;
 pub mod iterator;
-#[cfg(test)]
-mod tests;
 
 pub use immutable::Buffer;
 pub use iterator::IntoIter;

@@ -5,5 +5,3 @@ pub mod bit_chunk;
 pub mod bit_chunk_iter;
 pub mod index;
 pub mod offset;
-#[cfg(test)]
-mod tests;

@@ -6,6 +6,4 @@ pub mod error;
 pub mod interval;
 pub mod native;
 pub mod primitive;
-#[cfg(test)]
-mod tests;
 pub mod wide;

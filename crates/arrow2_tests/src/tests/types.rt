@@ -1,9 +1,9 @@
 //! Printed texts, known bytes, and each call once with ample memory.
-use crate::error::Error;
-use crate::interval::{days_ms, months_days_ns};
-use crate::native::NativeType;
-use crate::primitive::PrimitiveType;
-use crate::wide::i256;
+use arrow2_types::error::Error;
+use arrow2_types::interval::{days_ms, months_days_ns};
+use arrow2_types::native::NativeType;
+use arrow2_types::primitive::PrimitiveType;
+use arrow2_types::wide::i256;
 use std::alloc::Global;
 use std::convert::AsSlice;
 use std::fmt::Display;

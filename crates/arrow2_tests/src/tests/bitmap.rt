@@ -1,11 +1,11 @@
 //! Worked examples, and each call once with ample memory.
-ghost use Rattle.std.specs.Prelude.{◌≡◌, ◌+◌, IfOk};
-ghost use Rattle.std.specs.Iterator.{at_most};
+ghost use Rattle.std.specs.Prelude.{◌≡◌, IfOk};
 ghost use Rattle.arrow2_model.specs.Storage.{items_of};
 
-use crate::immutable::Bitmap;
-use crate::iterator::IntoIter;
-use crate::mutable::MutableBitmap;
+use super::hinting::three_trues;
+use arrow2_bitmap::immutable::Bitmap;
+use arrow2_bitmap::iterator::IntoIter;
+use arrow2_bitmap::mutable::MutableBitmap;
 use arrow2_bits::chunk_iterator::BitChunkIterExact;
 use arrow2_index::bit_chunk::BitChunk;
 use arrow2_index::bit_chunk_iter::BitChunkIter;
@@ -252,7 +252,7 @@ fn bytes_of_a_growing_bitmap_are_canonical(rt: HostRuntime) -> Result<(), Fail> 
 }
 
 /// What a caller of `try_from_iter` knows: the items of the walk are those of the bitmap.
-#[tactic(auto, using(crate::proofs::Walk::collecting))]
+#[tactic(auto, using(arrow2_bitmap::proofs::Walk::collecting))]
 fn collect_again(alloc: Global, bitmap: &Bitmap) -> arrow2_types::error::Result<MutableBitmap>
     ensures { IfOk result (λ m. m.items ≡ items_of bitmap.now) }
 {
@@ -260,7 +260,7 @@ fn collect_again(alloc: Global, bitmap: &Bitmap) -> arrow2_types::error::Result<
 }
 
 /// The same of a walk that takes the bitmap, and of a shared result.
-#[tactic(auto, using(crate::proofs::Walk::collecting))]
+#[tactic(auto, using(arrow2_bitmap::proofs::Walk::collecting))]
 fn collect_taken(alloc: Global, bitmap: Bitmap) -> arrow2_types::error::Result<Bitmap>
     ensures { IfOk result (λ b. items_of b ≡ items_of bitmap) }
 {
@@ -280,42 +280,6 @@ fn items_are_collected_in_order(rt: HostRuntime) -> Result<(), Fail> {
     let taken = MutableBitmap::try_from_iter(rt.alloc(), collect_taken(rt.alloc(), last)?)?;
     assert_eq!(rt; taken.as_slice(), grown.as_slice());
     Ok(())
-}
-
-/// Three times true, under a size hint that is not to be believed.
-#[derive(Drop)]
-struct Hinting {
-    left: u64,
-    hint: usize,
-    falls: usize,
-}
-
-impl Iterator for Hinting {
-    type Item = bool;
-
-    ghost remaining = { λ s. at_most (s.left + s.hint) };
-
-    fn next(&mut self) -> Option<bool> {
-        if self.left == 0 {
-            return None;
-        }
-        self.left -= 1;
-        self.hint = self.hint.saturating_sub(self.falls);
-        Some(true)
-    }
-
-    fn size_hint(&self) -> (usize, Option<usize>) {
-        (self.hint, None)
-    }
-}
-
-/// An iterator whose size hint begins at `hint` and falls by `falls` an item.
-fn three_trues(hint: usize, falls: usize) -> Hinting {
-    Hinting {
-        left: 3,
-        hint,
-        falls,
-    }
 }
 
 #[test]

@@ -1,11 +1,11 @@
 //! Buffers as their callers see them: printed texts, sharing, and iterators that lie about their size.
-ghost use Rattle.std.specs.Prelude.{◌≡◌, ◌+◌, length, replicate, IfOk};
+ghost use Rattle.std.specs.Prelude.{◌≡◌, length, replicate, IfOk};
 ghost use Rattle.std.specs.Bool.{OnTrue, OnFalse};
-ghost use Rattle.std.specs.Iterator.{at_most};
 ghost use Rattle.arrow2_model.specs.Buffers.{buffer_items, whole_buffer};
 
-use super::*;
-use crate::bytes::Bytes;
+use super::hinting::three_trues;
+use arrow2_buffer::bytes::Bytes;
+use arrow2_buffer::{Buffer, IntoIter};
 use arrow2_types::error::Error;
 use either::Either;
 use std::alloc::{AllocError, Global};
@@ -163,42 +163,10 @@ fn a_walk_gives_each_item_once(rt: HostRuntime) -> Result<(), Fail> {
     Ok(())
 }
 
-/// Three times true, under a size hint that is not to be believed.
-#[derive(Drop)]
-struct Hinting {
-    left: u64,
-    hint: usize,
-    falls: usize,
-}
-
-impl Iterator for Hinting {
-    type Item = bool;
-
-    ghost remaining = { λ s. at_most (s.left + s.hint) };
-
-    fn next(&mut self) -> Option<bool> {
-        if self.left == 0 {
-            return None;
-        }
-        self.left -= 1;
-        self.hint = self.hint.saturating_sub(self.falls);
-        Some(true)
-    }
-
-    fn size_hint(&self) -> (usize, Option<usize>) {
-        (self.hint, None)
-    }
-}
-
 #[test]
 fn a_size_hint_is_not_believed(rt: HostRuntime) -> Result<(), Fail> {
     for (hint, falls) in [(usize::MAX, 1), (0, 0)] {
-        let items = Hinting {
-            left: 3,
-            hint,
-            falls,
-        };
-        let buffer = Buffer::try_from_iter(rt.alloc(), items)?;
+        let buffer = Buffer::try_from_iter(rt.alloc(), three_trues(hint, falls))?;
         assert_eq!(rt; buffer.as_slice(), [true, true, true].as_slice());
     }
     Ok(())

@@ -2,11 +2,11 @@
 ghost use Rattle.std.specs.Prelude.{◌≡◌, ◌+◌, ◌*◌, ◌<◌, ◌≤◌, length as count, replicate, drop};
 ghost use Rattle.std.specs.Bool.{OnTrue};
 
-use crate::chunk_iterator::{BitChunkIterExact, BitChunks};
-use crate::chunks_exact::BitChunksExact;
-use crate::chunks_exact_mut::BitChunksExactMut;
-use crate::iterator::BitmapIter;
-use crate::{bytes_for, count_zeros, get_bit, get_bit_from, is_set, set, set_bit};
+use arrow2_bits::chunk_iterator::{BitChunkIterExact, BitChunks};
+use arrow2_bits::chunks_exact::BitChunksExact;
+use arrow2_bits::chunks_exact_mut::BitChunksExactMut;
+use arrow2_bits::iterator::BitmapIter;
+use arrow2_bits::{bytes_for, count_zeros, get_bit, get_bit_from, is_set, set, set_bit};
 use arrow2_index::bit_chunk::BitChunk;
 use std::fmt;
 use std::test::Fail;
@@ -36,7 +36,7 @@ impl<'a> Bits<'a> {
 
 impl<'a> fmt::Debug for Bits<'a> {
     fn fmt<W: fmt::Write>(&self, f: &mut fmt::Formatter<W>) -> fmt::Result {
-        crate::fmt::fmt(self.bytes, self.offset, self.length, f)
+        arrow2_bits::fmt::fmt(self.bytes, self.offset, self.length, f)
     }
 }
 

@@ -1,10 +1,10 @@
 //! Known answers, and each generic call at each of its types.
 ghost use Rattle.std.specs.Prelude.{◌≤◌};
 
-use crate::bit_chunk::BitChunk;
-use crate::bit_chunk_iter::{BitChunkIter, BitChunkOnes};
-use crate::index::{Index, IndexRange};
-use crate::offset::Offset;
+use arrow2_index::bit_chunk::BitChunk;
+use arrow2_index::bit_chunk_iter::{BitChunkIter, BitChunkOnes};
+use arrow2_index::index::{Index, IndexRange};
+use arrow2_index::offset::Offset;
 use std::convert::AsSlice;
 use std::process::Abort;
 
