@@ -1,6 +1,5 @@
 -- Steps of a walk over the items of a bitmap, from both ends.
-use Rattle.std.proofs.Common.{◌≡◌, ℕ, suc, ◌+◌, ◌-◌, ◌<◌, ◌≤◌, List, [], ◌∷◌, ◌++◌, Bool, false, take, length, get_or, ap, sym, ◌∙◌, refl, arith}
-use Rattle.std.specs.Iterator.{Drains, YieldsFirst}
+use Rattle.std.proofs.Common.{◌≡◌, ℕ, suc, ◌+◌, ◌-◌, ◌<◌, ◌≤◌, List, [], ◌∷◌, ◌++◌, Bool, false, take, length, get_or, ap, ◌∙◌, refl, arith}
 use Rattle.std.proofs.lemmas.List.{drop_more, take_all}
 use Rattle.arrow2_model.specs.Parts.{part}
 use Rattle.arrow2_model.proofs.Parts.{length-part, part_more}
@@ -29,11 +28,4 @@ part_last items i e n h k l =
 pub length-part_left : (items : List Bool) (i e n : ℕ) → i ≤ e → e ≤ n → n ≡ length items → length (part items i (e - i)) ≡ e - i
 length-part_left items i e n h k l = length-part items i (e - i) (omega arith)
 
--- what was taken from a walk until it ended is all that was to come
-pub drained : (xs s : List Bool) → Drains (YieldsFirst (λ t. t)) s xs → xs ≡ s
-drained [] s d = sym (d.1.1 ∙ d.1.2.0)
-drained (x ∷ xs) s d = ap (λ t. x ∷ t) (drained xs d.1.1.0 (d.0, (d.1.0, d.1.1.2, d.1.2))) ∙ sym d.1.1.1
-
 pub ruleset walking = (part_none, part_all, part_first, part_last, length-part_left)
-
-pub ruleset collecting = (drained)

@@ -1,6 +1,7 @@
 //! A bitmap that grows.
 ghost use Rattle.std.specs.Prelude.{◌≡◌, ◌+◌, ◌-◌, ◌*◌, ◌/◌, ◌<◌, ◌≤◌, ◌^◌, ◌↔◌, ◌⊎◌, [], ◌∷◌, ◌++◌, false, length, take, slice_index_or, slice_set, OnOk, OnErr, IsOk, IsErr, IfOk, IfErr, IsErrOf, IsTrue, IfNone, MatchOption, Some, codes, vec_len, vec_capacity, List, Bool, true, replicate};
-ghost use Rattle.std.specs.Iterator.{Drains, IsFinite};
+ghost use Rattle.std.specs.Iterator.{IsFinite};
+ghost use Rattle.std.specs.Iterator.Runs.{WholeRun};
 ghost use Rattle.std.specs.Bool.{beq};
 ghost use Rattle.std.specs.Ordering.{on};
 ghost use Rattle.std.specs.Cmp.{partial_equiv_from_equiv, bool_eq_equiv, on_equiv};
@@ -137,7 +138,7 @@ impl MutableBitmap {
         iter: I,
     ) -> Result<MutableBitmap>
         requires { (it : I.IntoIter) → I.into_iter_gives iter it → I.IntoIter.can_next it × IsFinite (I.IntoIter.remaining it) }
-        ensures items { IfOk result (λ m. (it : I.IntoIter) × I.into_iter_gives iter it × Drains I.IntoIter.next_gives it m.items) }
+        ensures items { IfOk result (λ m. (it : I.IntoIter) × I.into_iter_gives iter it × WholeRun I.IntoIter.next_gives it (λ p. m.items ≡ p.items)) }
         ensures fits { IfOk result (λ m. length m.items < 2 ^ 64) }
         ensures overflow { IsErrOf result Error.Overflow → (it : I.IntoIter) × I.into_iter_gives iter it × GivesTooMany I.IntoIter.next_gives it }
         ensures only { IfErr result (λ e. (e ≡ Error.Overflow) ⊎ (e ≡ Error.OutOfMemory)) }

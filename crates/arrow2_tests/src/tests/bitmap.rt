@@ -252,7 +252,6 @@ fn bytes_of_a_growing_bitmap_are_canonical(rt: HostRuntime) -> Result<(), Fail> 
 }
 
 /// What a caller of `try_from_iter` knows: the items of the walk are those of the bitmap.
-#[tactic(auto, using(arrow2_bitmap::proofs::Walk::collecting))]
 fn collect_again(alloc: Global, bitmap: &Bitmap) -> arrow2_types::error::Result<MutableBitmap>
     ensures { IfOk result (λ m. m.items ≡ items_of bitmap.now) }
 {
@@ -260,7 +259,6 @@ fn collect_again(alloc: Global, bitmap: &Bitmap) -> arrow2_types::error::Result<
 }
 
 /// The same of a walk that takes the bitmap, and of a shared result.
-#[tactic(auto, using(arrow2_bitmap::proofs::Walk::collecting))]
 fn collect_taken(alloc: Global, bitmap: Bitmap) -> arrow2_types::error::Result<Bitmap>
     ensures { IfOk result (λ b. items_of b ≡ items_of bitmap) }
 {
