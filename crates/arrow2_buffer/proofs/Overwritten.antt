@@ -1,8 +1,9 @@
 -- Lists after a part of them was overwritten.
-use Rattle.std.proofs.Common.{◌≡◌, refl, sym, ℕ, ◌+◌, ◌≤◌, List, ◌++◌, take, drop, length, arith}
-use Rattle.std.proofs.lemmas.List.{take_at, length-take-le, length-append, length-drop}
+use Rattle.std.proofs.Common.{◌≡◌, refl, sym, ap, ◌∙◌, ℕ, ◌+◌, ◌≤◌, List, ◌++◌, take, drop, length, arith}
+use Rattle.std.proofs.lemmas.List.{drop_at, drop-drop, take_at, length-take-le, length-append, length-drop}
 use Rattle.std.specs.List.{length_refill}
 use Rattle.arrow2_model.specs.Buffers.{overwritten}
+use Rattle.arrow2_model.specs.Parts.{part}
 use Rattle.arrow2_buffer.specs.Lent.{rewritten}
 
 -- the list keeps its length
@@ -20,3 +21,27 @@ rewritten_within items i others h =
 -- what a loan leaves has as many items, whatever was written
 pub length-rewritten : {X : Type 0} (items : List X) (i : ℕ) (others : List X) → length (rewritten items i others) ≡ length items
 length-rewritten items i others = sym (length_refill (length items) items (overwritten items i others) refl)
+
+-- a part that was overwritten holds what was written
+pub written_part : {X : Type 0} (items : List X) (i n : ℕ) (others : List X) → i + n ≤ length items → length others ≡ n → part (rewritten items i others) i n ≡ others
+written_part items i n others h e =
+    let tail = drop (length others) (drop i items) in
+    let within : i + length others ≤ length items = omega (arith, e) in
+    ap (λ l. part l i n) (rewritten_within items i others within) ∙ ap (take n) (drop_at (take i items) (others ++ tail) i (length-take-le i items (omega (arith, h)))) ∙ take_at others tail n e
+
+-- what stands before it is as it was
+pub kept_before : {X : Type 0} (items : List X) (i n : ℕ) (others : List X) → i + n ≤ length items → length others ≡ n → take i (rewritten items i others) ≡ take i items
+kept_before items i n others h e =
+    let tail = drop (length others) (drop i items) in
+    let within : i + length others ≤ length items = omega (arith, e) in
+    ap (take i) (rewritten_within items i others within) ∙ take_at (take i items) (others ++ tail) i (length-take-le i items (omega (arith, h)))
+
+-- and what stands behind it
+pub kept_behind : {X : Type 0} (items : List X) (i n : ℕ) (others : List X) → i + n ≤ length items → length others ≡ n → drop (i + n) (rewritten items i others) ≡ drop (i + n) items
+kept_behind items i n others h e =
+    let tail = drop (length others) (drop i items) in
+    let within : i + length others ≤ length items = omega (arith, e) in
+    let at_i = drop_at (take i items) (others ++ tail) i (length-take-le i items (omega (arith, h))) in
+    ap (drop (i + n)) (rewritten_within items i others within) ∙ sym (drop-drop n i (overwritten items i others)) ∙ ap (drop n) at_i ∙ drop_at others tail n e ∙ rw e (drop-drop n i items)
+
+pub ruleset loans = (written_part, kept_before, kept_behind)

@@ -4,6 +4,7 @@
 pub mod bytes;
 pub mod immutable;
 pub mod iterator;
+pub mod laws;
 
 pub use immutable::Buffer;
 pub use iterator::IntoIter;

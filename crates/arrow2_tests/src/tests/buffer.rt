@@ -5,6 +5,7 @@ ghost use Rattle.arrow2_model.specs.Buffers.{buffer_items, whole_buffer};
 
 use super::hinting::three_trues;
 use arrow2_buffer::bytes::Bytes;
+use arrow2_buffer::laws::written_items_are_the_items;
 use arrow2_buffer::{Buffer, IntoIter};
 use arrow2_types::error::Error;
 use either::Either;
@@ -103,6 +104,11 @@ fn only_an_unshared_buffer_is_written(rt: HostRuntime) -> Result<(), Fail> {
     let (storage, _, _) = part.into_inner();
     assert_eq!(rt; storage.as_slice(), [1, 7, 7].as_slice());
     Ok(())
+}
+
+#[test]
+fn the_law_of_loans_is_of_any_items() {
+    written_items_are_the_items::<u32>();
 }
 
 #[test]
