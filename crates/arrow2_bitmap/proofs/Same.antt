@@ -19,6 +19,10 @@ Decides-beq false false = ((λ e. refl), λ e. refl)
 pub same_told : (xs ys : List Bool) (r : Bool) → IsTrue r ↔ (xs ≡ ys) → r ≡ pointwise beq xs ys
 same_told xs ys r h = same_from_decides r (pointwise beq xs ys) h (slice_eq-Decides Decides-beq xs ys (pointwise beq xs ys) refl)
 
+-- an answer that is that of the lists' own equality says whether they are the same
+pub told_same : (xs ys : List Bool) (r : Bool) → r ≡ pointwise beq xs ys → IsTrue r ↔ (xs ≡ ys)
+told_same xs ys r e = slice_eq-Decides Decides-beq xs ys r e
+
 -- an answer about the canonical bytes of lists of one length
 pub same_bytes_told : (xs ys : List Bool) (a b : List ℕ) (r : Bool) → length xs ≡ length ys → a ≡ canonical_bytes xs → b ≡ canonical_bytes ys → r ≡ pointwise nat_eq a b → r ≡ pointwise beq xs ys
 same_bytes_told xs ys a b r size is-a is-b is =

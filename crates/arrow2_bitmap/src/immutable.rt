@@ -18,14 +18,15 @@ ghost use Rattle.arrow2_types.specs.Refusals.{IsInvalidArgument};
 ghost use Rattle.arrow2_types.specs.declared.error.Error.TheVariants.{OutOfMemory};
 ghost use Rattle.arrow2_bitmap.specs.Collected.{GivesTooMany};
 ghost use Rattle.arrow2_bitmap.specs.Refused.{too_long};
+ghost use Rattle.std.specs.declared.alloc.Global.{Global};
 
 use crate::check::check_length;
 use crate::mutable::MutableBitmap;
-use arrow2_bits::chunk_iterator::{BitChunkIterExact, BitChunks};
+use arrow2_bits::chunk_iterator::BitChunks;
 use arrow2_bits::iterator::BitmapIter;
 use arrow2_bits::{bytes_for, count_zeros, get_bit};
 use arrow2_buffer::bytes::Bytes;
-use arrow2_index::bit_chunk::BitChunk;
+use arrow2_chunk::bit_chunk::BitChunk;
 use arrow2_types::error::{Error, Result};
 use arrow2_types::native::NativeType;
 use either::Either;
@@ -82,6 +83,8 @@ impl Bitmap {
     pub fn try_new(bytes: Vec<u8>, length: usize) -> Result<Bitmap>
         ensures fits { OnOk result (length ≤ 8 * vec_len bytes) }
         ensures ok { IfOk result (λ b. b ≡ record { bytes = bytes.items; offset = 0; len = length }) }
+        ensures items { IfOk result (λ b. items_of b ≡ take length (bits bytes.items)) }
+        ensures len { IfOk result (λ b. length' (items_of b) ≡ length) }
         ensures refused { 8 * vec_len bytes < length → IfErr result (λ e. IsInvalidArgument e (too_long (codes "The offset + length") length (vec_len bytes))) }
         ensures only { length ≤ 8 * vec_len bytes → IfErr result (λ e. e ≡ Error.OutOfMemory) }
     {
@@ -95,10 +98,13 @@ impl Bitmap {
     ///
     /// `OutOfMemory` alone.
     pub fn from_u8_vec(bytes: Vec<u8>, length: usize) -> Result<Bitmap>
-        requires { length ≤ 8 * vec_len bytes }
+        requires fits { length ≤ 8 * vec_len bytes }
         ensures ok { IfOk result (λ b. b ≡ record { bytes = bytes.items; offset = 0; len = length }) }
+        ensures items { IfOk result (λ b. items_of b ≡ take length (bits bytes.items)) }
+        ensures len { IfOk result (λ b. length' (items_of b) ≡ length) }
         ensures only { IfErr result (λ e. e ≡ Error.OutOfMemory) }
     {
+        prove!(length / 8 + usize::from(length % 8 != 0) <= bytes.len());
         let alloc = *bytes.allocator();
         let unset_bits = count_zeros(bytes.as_slice(), 0, length);
         let bytes = Rc::new(alloc, Bytes::from(bytes))?;
@@ -116,8 +122,10 @@ impl Bitmap {
     ///
     /// `OutOfMemory` alone.
     pub fn from_u8_slice(alloc: Global, bytes: &[u8], length: usize) -> Result<Bitmap>
-        requires { length ≤ 8 * length' bytes.now }
+        requires fits { length ≤ 8 * length' bytes.now }
         ensures ok { IfOk result (λ b. b ≡ record { bytes = bytes.now; offset = 0; len = length }) }
+        ensures items { IfOk result (λ b. items_of b ≡ take length (bits bytes.now)) }
+        ensures len { IfOk result (λ b. length' (items_of b) ≡ length) }
         ensures only { IfErr result (λ e. e ≡ Error.OutOfMemory) }
     {
         Bitmap::from_u8_vec(Vec::from_slice(alloc, bytes)?, length)
@@ -175,6 +183,15 @@ impl Bitmap {
         self.length
     }
 
+    /// The allocator of its bytes: what a new bitmap beside it is made with.
+    ///
+    /// In arrow2 an allocator has no value.
+    pub fn allocator(&self) -> Global
+        ensures { (only : Global) → result ≡ only }
+    {
+        self.bytes.allocator()
+    }
+
     /// Whether it has no item.
     pub fn is_empty(&self) -> bool
         ensures { IsTrue result ↔ (length (items_of self.now) ≡ 0) }
@@ -184,7 +201,8 @@ impl Bitmap {
 
     /// The items, from both ends.
     pub fn iter(&self) -> BitmapIter<'_>
-        ensures { result ≡ items_of self.now }
+        ensures items { result ≡ items_of self.now }
+        ensures fits { length (items_of self.now) < 2 ^ 64 }
     {
         BitmapIter::new(self.bytes.as_slice(), self.offset, self.length)
     }
@@ -202,9 +220,10 @@ impl Bitmap {
 
     /// Item `index`. Asks that it is below the length; arrow2 takes each index inside the bytes.
     pub fn get_bit(&self, index: usize) -> bool
-        requires { index < self.now.len }
+        requires below { index < length (items_of self.now) }
         ensures { result ≡ slice_index_or (items_of self.now) index false }
     {
+        prove!(index < self.length);
         get_bit(self.bytes.as_slice(), self.offset + index)
     }
 
@@ -230,6 +249,7 @@ impl Bitmap {
     /// The items by words of `T`, from the first item on.
     pub fn chunks<T: BitChunk>(&self) -> BitChunks<'_, T>
         ensures items { result.items ≡ items_of self.now }
+        ensures fits { length (items_of self.now) < 2 ^ 64 }
         ensures spill { result.spill ≡ spill T.BitChunk.SIZE self.now.bytes self.now.offset self.now.len }
     {
         BitChunks::new(self.bytes.as_slice(), self.offset, self.length)
@@ -252,19 +272,22 @@ impl Bitmap {
     /// How many of the `length` items from item `offset` on are false. Asks that they are inside.
     /// Counts them anew.
     pub fn null_count_range(&self, offset: usize, length: usize) -> usize
-        requires { offset + length ≤ self.now.len }
+        requires inside { offset + length ≤ length' (items_of self.now) }
         ensures { result ≡ falses (part (items_of self.now) offset length) }
     {
+        prove!(offset <= self.length && length <= self.length - offset);
         count_zeros(self.bytes.as_slice(), self.offset + offset, length)
     }
 
     /// Keeps `length` items from item `offset` on, over the same bytes. Asks that they are inside.
     /// Takes no memory.
     pub fn slice(&mut self, offset: usize, length: usize)
-        requires { offset + length ≤ self.old.len }
+        requires inside { offset + length ≤ length' (items_of self.old) }
         ensures storage { self.new ≡ record { bytes = self.old.bytes; offset = self.old.offset + offset; len = length } }
         ensures items { items_of self.new ≡ part (items_of self.old) offset length }
+        ensures len { length' (items_of self.new) ≡ length }
     {
+        prove!(offset <= self.length && length <= self.length - offset);
         self.offset += offset;
         self.length = length;
         self.unset_bits = count_zeros(self.bytes.as_slice(), self.offset, length);
@@ -272,9 +295,10 @@ impl Bitmap {
 
     /// The same as [`Bitmap::slice`], by value.
     pub fn sliced(self, offset: usize, length: usize) -> Bitmap
-        requires { offset + length ≤ self.len }
+        requires inside { offset + length ≤ length' (items_of self) }
         ensures storage { result ≡ record { bytes = self.bytes; offset = self.offset + offset; len = length } }
         ensures items { items_of result ≡ part (items_of self) offset length }
+        ensures len { length' (items_of result) ≡ length }
     {
         let mut bitmap = self;
         bitmap.slice(offset, length);
@@ -386,7 +410,10 @@ impl PartialEq for Bitmap {
 
     ghost laws = { partial_equiv_from_equiv (on_equiv items_of (lists_equiv bool_eq_equiv)) };
 
-    fn eq(&self, other: &Bitmap) -> bool {
+    fn eq(&self, other: &Bitmap) -> bool
+        ensures told { result ≡ pointwise beq (items_of self.now) (items_of other.now) }
+        ensures same { IsTrue result ↔ (items_of self.now ≡ items_of other.now) }
+    {
         self.len() == other.len() && same_items(self, other)
     }
 }

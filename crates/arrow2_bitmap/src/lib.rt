@@ -5,3 +5,7 @@ mod check;
 pub mod immutable;
 pub mod iterator;
 pub mod mutable;
+
+pub use immutable::Bitmap;
+pub use iterator::IntoIter;
+pub use mutable::MutableBitmap;

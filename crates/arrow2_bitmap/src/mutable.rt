@@ -1,5 +1,5 @@
 //! A bitmap that grows.
-ghost use Rattle.std.specs.Prelude.{◌≡◌, ◌+◌, ◌-◌, ◌*◌, ◌/◌, ◌<◌, ◌≤◌, ◌^◌, ◌↔◌, ◌⊎◌, [], ◌∷◌, ◌++◌, false, length, take, slice_index_or, slice_set, OnOk, OnErr, IsOk, IsErr, IfOk, IfErr, IsErrOf, IsTrue, IfNone, MatchOption, Some, codes, vec_len, vec_capacity, List, Bool, true, replicate};
+ghost use Rattle.std.specs.Prelude.{◌≡◌, ◌+◌, ◌-◌, ◌*◌, ◌/◌, ◌<◌, ◌≤◌, ◌^◌, ◌↔◌, ◌⊎◌, [], ◌∷◌, ◌++◌, false, length, length as length', take, slice_index_or, slice_set, OnOk, OnErr, IsOk, IsErr, IfOk, IfErr, IsErrOf, IsTrue, IfNone, MatchOption, Some, codes, vec_len, vec_capacity, List, Bool, true, replicate};
 ghost use Rattle.std.specs.Iterator.{IsFinite};
 ghost use Rattle.std.specs.Iterator.Runs.{WholeRun};
 ghost use Rattle.std.specs.Bool.{beq};
@@ -14,6 +14,7 @@ ghost use Rattle.arrow2_model.specs.Storage.{GrowingBitmap};
 ghost use Rattle.arrow2_types.specs.Refusals.{IsInvalidArgument};
 ghost use Rattle.arrow2_bitmap.specs.Collected.{GivesTooMany};
 ghost use Rattle.arrow2_bitmap.specs.Refused.{too_long};
+ghost use Rattle.std.specs.declared.alloc.Global.{Global};
 
 use crate::check::check_length;
 use arrow2_bits::iterator::BitmapIter;
@@ -67,6 +68,7 @@ impl MutableBitmap {
     pub fn try_new(bytes: Vec<u8>, length: usize) -> Result<MutableBitmap>
         ensures fits { IsOk result ↔ (length ≤ 8 * vec_len bytes) }
         ensures ok { IfOk result (λ m. m.items ≡ take length (bits bytes.items)) }
+        ensures len { IfOk result (λ m. length' m.items ≡ length) }
         ensures refused { IfErr result (λ e. IsInvalidArgument e (too_long (codes "The length") length (vec_len bytes))) }
     {
         check_length("The length", length, &bytes)?;
@@ -76,9 +78,11 @@ impl MutableBitmap {
     /// The first `length` bits of the bytes. Asks that there are as many.
     /// Spare bytes are cut and spare bits cleared, in place. Takes no memory.
     pub fn from_vec(bytes: Vec<u8>, length: usize) -> MutableBitmap
-        requires { length ≤ 8 * vec_len bytes }
-        ensures { result.items ≡ take length (bits bytes.items) }
+        requires fits { length ≤ 8 * vec_len bytes }
+        ensures items { result.items ≡ take length (bits bytes.items) }
+        ensures len { length' result.items ≡ length }
     {
+        prove!(length / 8 + usize::from(length % 8 != 0) <= bytes.len());
         let mut buffer = bytes;
         cut(&mut buffer, length);
         MutableBitmap { buffer, length }
@@ -203,18 +207,20 @@ impl MutableBitmap {
 
     /// Item `index`. Asks that it is below the length.
     pub fn get(&self, index: usize) -> bool
-        requires { index < length self.now.items }
+        requires below { index < length self.now.items }
         ensures { result ≡ slice_index_or self.now.items index false }
     {
+        prove!(index < self.length);
         get_bit(self.buffer.as_slice(), index)
     }
 
     /// Writes item `index`, and leaves every other. Asks that it is below the length.
     pub fn set(&mut self, index: usize, value: bool)
-        requires { index < length self.old.items }
+        requires below { index < length self.old.items }
         ensures items { self.new.items ≡ slice_set self.old.items index value }
         ensures capacity { self.new.capacity ≡ self.old.capacity }
     {
+        prove!(index < self.length);
         write_bit(&mut self.buffer, self.length, index, value);
     }
 
@@ -229,7 +235,8 @@ impl MutableBitmap {
 
     /// The items, from both ends.
     pub fn iter(&self) -> BitmapIter<'_>
-        ensures { result ≡ self.now.items }
+        ensures items { result ≡ self.now.items }
+        ensures fits { length self.now.items < 2 ^ 64 }
     {
         BitmapIter::new(self.buffer.as_slice(), 0, self.length)
     }
@@ -246,6 +253,15 @@ impl MutableBitmap {
         ensures { result ≡ length self.now.items }
     {
         self.length
+    }
+
+    /// The allocator of its bytes: what a new bitmap beside it is made with.
+    ///
+    /// In arrow2 an allocator has no value.
+    pub fn allocator(&self) -> Global
+        ensures { (only : Global) → result ≡ only }
+    {
+        *self.buffer.allocator()
     }
 
     /// Whether it has no item.
@@ -270,7 +286,7 @@ impl MutableBitmap {
     }
 
     /// The bytes of its items: as many as they need, with spare bits false.
-    /// In arrow2 spare bytes and spare bits show.
+    /// In arrow2 spare bits show; spare bytes do there neither.
     pub fn as_slice(&self) -> &[u8]
         ensures bytes { result.now ≡ canonical_bytes self.now.items }
         ensures items { take (length self.now.items) (bits result.now) ≡ self.now.items }
@@ -322,7 +338,10 @@ impl PartialEq for MutableBitmap {
 
     ghost laws = { partial_equiv_from_equiv (on_equiv (λ m. m.items) (lists_equiv bool_eq_equiv)) };
 
-    fn eq(&self, other: &MutableBitmap) -> bool {
+    fn eq(&self, other: &MutableBitmap) -> bool
+        ensures told { result ≡ pointwise beq self.now.items other.now.items }
+        ensures same { IsTrue result ↔ (self.now.items ≡ other.now.items) }
+    {
         self.length == other.length && self.as_slice() == other.as_slice()
     }
 }

@@ -1,4 +1,5 @@
 pub mod Counted
+pub mod Lending
 pub mod Loaded
 pub mod NextChunk
 pub mod Spilled

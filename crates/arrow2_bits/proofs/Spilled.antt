@@ -74,11 +74,11 @@ word_starts : (full k w : ℕ) → 8 * k ≡ w → 8 * (full * k) ≡ w * full
 word_starts full k w e = ap (λ n. 8 * n) (mul_comm full k) ∙ (sym (mul_assoc 8 k full) ∙ ap (λ n. n * full) e)
 
 -- the invariant of a walk that begins
-pub new_walk : (bytes behind front : List ℕ) (k w offset len x : ℕ) → 8 * k ≡ w → 8 ≤ w → offset + len ≤ 8 * length bytes → front ≡ drop (offset / 8) bytes
+pub new_walk : (bytes behind front : List ℕ) (k w offset len x : ℕ) → 8 * k ≡ w → 8 ≤ w → len < 2 ^ 64 → offset + len ≤ 8 * length bytes → front ≡ drop (offset / 8) bytes
     → (len / 8 / k * k ≡ 0 → behind ≡ front) → (0 < len / 8 / k * k → behind ≡ part front (len / 8 / k * k) ((len + offset % 8 + 7) / 8 - len / 8 / k * k))
     → x ≡ num (part (bits behind) (offset % 8) w)
     → IsChunkWalk w front (offset % 8) (len / 8 / k) (len - w * (len / 8 / k)) x
-new_walk bytes behind front k w offset len x e wide h is none some number =
+new_walk bytes behind front k w offset len x e wide small h is none some number =
     let all = words_and_rest len k w e (omega arith) in
     let short = rest_is_short len k w e (omega arith) in
     let l = length-drop (offset / 8) bytes in
@@ -88,6 +88,7 @@ new_walk bytes behind front k w offset len x e wide h is none some number =
       place = omega arith;
       within = omega (arith, all, room);
       short = short;
+      fits = omega (arith, all, small);
       spilled = rw number (spilled_rest front behind w (offset % 8) len (len / 8 / k) (len - w * (len / 8 / k)) (len / 8 / k * k) (omega arith) room all short at none some);
     }
 
@@ -153,6 +154,13 @@ words_left bytes w shift count tail word walk =
     let n = length-part (bits bytes) shift (w * count + tail) (omega (arith, l, walk.within)) in
     length-full_words w (part (bits bytes) shift (w * count + tail)) ∙ (rw n (div-mul-add_left w count tail walk.short))
 
+-- how many items there are fits a number of 64 bits
+pub walk_fits : (bytes : List ℕ) (w shift count tail word : ℕ) → IsChunkWalk w bytes shift count tail word → length (part (bits bytes) shift (w * count + tail)) < 2 ^ 64
+walk_fits bytes w shift count tail word walk =
+    let l = length-bits bytes in
+    let n = length-part (bits bytes) shift (w * count + tail) (omega (arith, l, walk.within)) in
+    omega (arith, n, walk.fits)
+
 -- how many items are behind them, and which
 pub rest_left : (bytes : List ℕ) (w shift count tail word : ℕ) → IsChunkWalk w bytes shift count tail word → rest w (part (bits bytes) shift (w * count + tail)) ≡ part (bits bytes) (shift + w * count) tail
 unfolding rest
@@ -206,6 +214,7 @@ walk_moves bytes after k w shift count before tail word x e wide walk was moved 
         place = walk.place;
         within = omega (arith, walk.within, n, la, e);
         short = walk.short;
+        fits = omega (arith, walk.fits, n);
         spilled = walk.spilled ∙ sym back;
       },
       rw n (cons ∙ (rw (first, others) refl)),

@@ -1,5 +1,5 @@
 -- What a walk by words keeps of its bytes.
-use Rattle.std.specs.Prelude.{◌≡◌, ℕ, ◌+◌, ◌*◌, ◌<◌, ◌≤◌, List, take, length}
+use Rattle.std.specs.Prelude.{◌≡◌, ℕ, ◌+◌, ◌*◌, ◌<◌, ◌≤◌, ◌^◌, List, take, length}
 use Rattle.arrow2_model.specs.Bits.{bits, unnum}
 use Rattle.arrow2_model.specs.Parts.{part}
 
@@ -9,4 +9,5 @@ pub record IsChunkWalk (w : ℕ) (bytes : List ℕ) (shift count tail word : ℕ
   pub place : shift < 8
   pub within : shift + (w * count + tail) ≤ 8 * length bytes
   pub short : tail < w
+  pub fits : w * count + tail < 2 ^ 64
   pub spilled : take tail (unnum w word) ≡ part (bits bytes) (shift + w * count) tail

@@ -1,29 +1,35 @@
 -- What contracts see of a walk by chunks that are lent to be written.
-use Rattle.std.specs.Prelude.{◌≡◌, ℕ, ◌+◌, ◌/◌, List, Option, nat_le, if◌then◌else◌, take, drop, length, MatchOption}
+use Rattle.std.specs.Prelude.{◌≡◌, ℕ, ◌+◌, ◌-◌, ◌/◌, List, Option, nat_le, if◌then◌else◌, drop, length, MatchOption}
 use Rattle.std.specs.Borrow.{MutBor}
+use Rattle.arrow2_model.specs.Buffers.{overwritten}
+use Rattle.arrow2_model.specs.Parts.{part}
 
--- the walk: the chunk that was lent last, the bytes of the chunks still to come, how many bytes a chunk
--- has, the bytes behind the chunks, and how many bits of those count
+-- the walk: the bytes of its chunks, the place of the next chunk there, how many bytes a chunk has, the
+-- bytes behind the chunks, and how many bits of those count
 pub record ChunkWalkMut : Type 0 where
-  pub lent : List ℕ
-  pub ahead : List ℕ
+  pub bytes : List ℕ
+  pub at : ℕ
   pub size : ℕ
   pub remainder : List ℕ
   pub remainder_len : ℕ
 
 -- how many chunks are still to come
 abbrev pub chunks_left : ChunkWalkMut → ℕ
-chunks_left walk = length walk.ahead / walk.size
+chunks_left walk = (length walk.bytes - walk.at) / walk.size
+
+-- the bytes of the next chunk
+abbrev pub next_chunk : ChunkWalkMut → List ℕ
+next_chunk walk = part walk.bytes walk.at walk.size
 
 -- how many bytes are lent next: a chunk, or none at the end
 abbrev pub next_len : ChunkWalkMut → ℕ
-next_len walk = if nat_le walk.size (length walk.ahead) then walk.size else 0
+next_len walk = if nat_le walk.size (length walk.bytes - walk.at) then walk.size else 0
 
--- the walk past the chunk that is lent next, with these bytes in the place of that chunk
-abbrev pub next_written : ChunkWalkMut → List ℕ → ChunkWalkMut
-next_written walk written = record walk { lent = written; ahead = drop (next_len walk) walk.ahead }
+-- the walk past its next n bytes, with these written over them
+abbrev pub past : ChunkWalkMut → ℕ → List ℕ → ChunkWalkMut
+past walk n written = record walk { bytes = overwritten walk.bytes walk.at written; at = walk.at + n }
 
--- one step of the iterator: the next chunk is given up
+-- one step of the iterator: the next chunk is given up, with the bytes before it
 abbrev pub GivesChunk : ChunkWalkMut → Option (MutBor (List ℕ)) → ChunkWalkMut → Type 0
 GivesChunk s r t = MatchOption r ((chunks_left s ≡ 0) × (t ≡ s))
-    (λ x. (x.now ≡ take s.size s.ahead) × (chunks_left s ≡ chunks_left t + 1) × (t ≡ record s { ahead = drop s.size s.ahead }))
+    (λ x. (x.now ≡ next_chunk s) × (chunks_left s ≡ chunks_left t + 1) × (t ≡ record s { bytes = drop s.size (drop s.at s.bytes); at = 0 }))

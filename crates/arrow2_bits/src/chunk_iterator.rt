@@ -1,5 +1,5 @@
 //! Walks over the bits of bytes by words, at any bit offset.
-ghost use Rattle.std.specs.Prelude.{◌≡◌, ◌+◌, ◌-◌, ◌*◌, ◌/◌, ◌%◌, ◌<◌, ◌≤◌, length, take, Option, Some, IfSome};
+ghost use Rattle.std.specs.Prelude.{◌≡◌, ◌+◌, ◌-◌, ◌*◌, ◌/◌, ◌%◌, ◌<◌, ◌≤◌, ◌^◌, length, take, Option, Some, IfSome};
 ghost use Rattle.std.specs.Iterator.{item_count, UpTo, IsFinite};
 ghost use Rattle.std.specs.Iterator.SizeHint.{IsWithinCount};
 ghost use Rattle.arrow2_model.specs.Bits.{bits, unnum};
@@ -7,8 +7,8 @@ ghost use Rattle.arrow2_model.specs.Parts.{part};
 ghost use Rattle.arrow2_model.specs.Words.{WordWalk, GivesWord, full_words, rest, spill};
 
 use crate::chunks::{chunk_at, padded_chunk_at};
-use arrow2_index::bit_chunk::BitChunk;
-use arrow2_index::bit_chunk_iter::BitChunkIter;
+use arrow2_chunk::bit_chunk::BitChunk;
+use arrow2_chunk::bit_chunk_iter::BitChunkIter;
 use std::marker::Model;
 
 /// A walk over a list of booleans by words: the full words come in order, and what stands behind
@@ -25,10 +25,11 @@ pub trait BitChunkIterExact<B: BitChunk>: Iterator<Item = B> {
         ensures spill { B.BitChunk.number result ≡ (walk self.now).spill }
         ensures rest { take (length (rest B.BitChunk.WIDTH (walk self.now).items)) (unnum B.BitChunk.WIDTH (B.BitChunk.number result)) ≡ rest B.BitChunk.WIDTH (walk self.now).items };
 
-    /// How many items the remainder has: fewer than a word.
+    /// How many items the remainder has: fewer than a word. All items still to come are as many as a `usize` can say.
     fn remainder_len(&self) -> usize
         ensures rest { result ≡ length (rest B.BitChunk.WIDTH (walk self.now).items) }
-        ensures short { result < B.BitChunk.WIDTH };
+        ensures short { result < B.BitChunk.WIDTH }
+        ensures fits { length (walk self.now).items < 2 ^ 64 };
 
     /// The items of the remainder.
     final fn remainder_iter(&self) -> BitChunkIter<B>
@@ -76,6 +77,7 @@ impl<'a, T: BitChunk> BitChunks<'a, T> {
     pub fn new(bytes: &'a [u8], offset: usize, len: usize) -> BitChunks<'a, T>
         requires { offset + len ≤ 8 * length bytes.now }
         ensures items { result.items ≡ part (bits bytes.entry.now) offset len }
+        ensures count { length result.items ≡ len }
         ensures spill { result.spill ≡ spill T.BitChunk.SIZE bytes.entry.now offset len }
     {
         let bytes = &bytes[offset / 8..];
@@ -98,6 +100,24 @@ impl<'a, T: BitChunk> BitChunks<'a, T> {
     {
         self.count
     }
+
+    /// The word in which the remainder stands in storage. Bits behind the remainder are what stands
+    /// behind it there, so mask it to [`BitChunks::remainder_len`] bits.
+    pub fn remainder(&self) -> T
+        ensures spill { T.BitChunk.number result ≡ self.now.spill }
+        ensures rest { take (length (rest T.BitChunk.WIDTH self.now.items)) (unnum T.BitChunk.WIDTH (T.BitChunk.number result)) ≡ rest T.BitChunk.WIDTH self.now.items }
+    {
+        self.remainder
+    }
+
+    /// How many items the remainder has: fewer than a word. All items still to come are as many as a `usize` can say.
+    pub fn remainder_len(&self) -> usize
+        ensures rest { result ≡ length (rest T.BitChunk.WIDTH self.now.items) }
+        ensures short { result < T.BitChunk.WIDTH }
+        ensures fits { length self.now.items < 2 ^ 64 }
+    {
+        self.remainder_len
+    }
 }
 
 impl<'a, T: BitChunk> BitChunkIterExact<T> for BitChunks<'a, T> {
@@ -110,11 +130,11 @@ impl<'a, T: BitChunk> BitChunkIterExact<T> for BitChunks<'a, T> {
     ghost gives_law = { λ s r t h. h };
 
     fn remainder(&self) -> T {
-        self.remainder
+        BitChunks::remainder(self)
     }
 
     fn remainder_len(&self) -> usize {
-        self.remainder_len
+        BitChunks::remainder_len(self)
     }
 }
 

@@ -3,7 +3,7 @@ ghost use Rattle.std.specs.Prelude.{◌≡◌, ◌+◌, ◌*◌, ◌<◌, ◌≤
 ghost use Rattle.arrow2_model.specs.Bits.{bits, unnum, num};
 ghost use Rattle.arrow2_model.specs.Parts.{part};
 
-use arrow2_index::bit_chunk::BitChunk;
+use arrow2_chunk::bit_chunk::BitChunk;
 
 /// The word of the bits from bit `shift` on. Asks for as many bits, and that `shift` is below 8.
 ///

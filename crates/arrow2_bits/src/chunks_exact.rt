@@ -1,14 +1,14 @@
 //! The walk over bits by words from bit 0 on.
-ghost use Rattle.std.specs.Prelude.{◌≡◌, ◌*◌, ◌≤◌, ◌↔◌, length as length', Some, IfSome, IsTrue};
+ghost use Rattle.std.specs.Prelude.{◌≡◌, ◌*◌, ◌≤◌, ◌↔◌, length as length', take, Some, IfSome, IsTrue};
 ghost use Rattle.std.specs.Iterator.{item_count, UpTo};
 ghost use Rattle.std.specs.Iterator.SizeHint.{IsWithinCount};
-ghost use Rattle.arrow2_model.specs.Bits.{bits};
+ghost use Rattle.arrow2_model.specs.Bits.{bits, unnum};
 ghost use Rattle.arrow2_model.specs.Parts.{part};
-ghost use Rattle.arrow2_model.specs.Words.{WordWalk, GivesWord, full_words, exact_spill};
+ghost use Rattle.arrow2_model.specs.Words.{WordWalk, GivesWord, full_words, rest, exact_spill};
 
 use crate::bytes_for;
 use crate::chunk_iterator::{BitChunkIterExact, BitChunks};
-use arrow2_index::bit_chunk::BitChunk;
+use arrow2_chunk::bit_chunk::BitChunk;
 use std::marker::Model;
 
 /// The walk over the first bits of bytes by words: contracts see the items still to come and the
@@ -31,6 +31,7 @@ impl<'a, T: BitChunk> BitChunksExact<'a, T> {
     pub fn new(bytes: &'a [u8], length: usize) -> BitChunksExact<'a, T>
         requires { length ≤ 8 * length' bytes.now }
         ensures items { result.items ≡ part (bits bytes.entry.now) 0 length }
+        ensures count { length' result.items ≡ length }
         ensures spill { result.spill ≡ exact_spill T.BitChunk.SIZE bytes.entry.now length }
     {
         BitChunksExact {
@@ -51,6 +52,15 @@ impl<'a, T: BitChunk> BitChunksExact<'a, T> {
     {
         BitChunksExact::len(self) == 0
     }
+
+    /// The word in which the remainder stands in storage. Bits behind the remainder are what stands
+    /// behind it there, so mask it to [`BitChunkIterExact::remainder_len`] bits.
+    pub fn remainder(&self) -> T
+        ensures spill { T.BitChunk.number result ≡ self.now.spill }
+        ensures rest { take (length' (rest T.BitChunk.WIDTH self.now.items)) (unnum T.BitChunk.WIDTH (T.BitChunk.number result)) ≡ rest T.BitChunk.WIDTH self.now.items }
+    {
+        self.chunks.remainder()
+    }
 }
 
 impl<'a, T: BitChunk> BitChunkIterExact<T> for BitChunksExact<'a, T> {
@@ -63,7 +73,7 @@ impl<'a, T: BitChunk> BitChunkIterExact<T> for BitChunksExact<'a, T> {
     ghost gives_law = { λ s r t h. h };
 
     fn remainder(&self) -> T {
-        self.chunks.remainder()
+        BitChunksExact::remainder(self)
     }
 
     fn remainder_len(&self) -> usize {

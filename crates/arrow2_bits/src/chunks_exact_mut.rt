@@ -1,26 +1,26 @@
 //! The walk over bytes by chunks that are lent to be written.
-ghost use Rattle.std.specs.Prelude.{◌≡◌, ℕ, ◌+◌, ◌-◌, ◌*◌, ◌/◌, ◌<◌, ◌≤◌, ◌↔◌, List, length as length', [], take, drop, Some, IfSome, IsTrue, MatchOption};
+ghost use Rattle.std.specs.Prelude.{◌≡◌, ℕ, ◌+◌, ◌-◌, ◌*◌, ◌/◌, ◌<◌, ◌≤◌, ◌↔◌, List, length as length', take, Some, IfSome, IsTrue, MatchOption};
 ghost use Rattle.std.specs.Bool.{OnTrue, OnFalse};
 ghost use Rattle.std.specs.Borrow.{sem};
 ghost use Rattle.std.specs.Fn.{FnOnceReturnsAtMut};
 ghost use Rattle.std.specs.Iterator.{at_most, UpTo};
 ghost use Rattle.std.specs.Iterator.SizeHint.{IsWithinCount};
 ghost use Rattle.arrow2_model.specs.Parts.{part};
-ghost use Rattle.arrow2_bits.specs.ChunksMut.{chunks_left, next_len, next_written, GivesChunk};
+ghost use Rattle.arrow2_bits.specs.ChunksMut.{chunks_left, next_chunk, next_len, past, GivesChunk};
 
 use crate::bytes_for;
-use arrow2_index::bit_chunk::BitChunk;
+use arrow2_chunk::bit_chunk::BitChunk;
 use std::marker::{Model, PhantomData};
 use std::mem;
 
 /// The walk over the first bits of bytes by chunks of as many bytes as `T` has, to be written.
 ///
-/// Contracts see the chunk that was lent last, the bytes of the chunks still to come and those of the
-/// remainder. A chunk is held until the next one is lent.
+/// Contracts see the bytes of all its chunks as they were written up to now, the place of the next chunk
+/// there, and the bytes of the remainder.
 #[derive(Debug, Drop)]
 pub struct BitChunksExactMut<'a, T> {
-    lent: &'a mut [u8],
-    ahead: &'a mut [u8],
+    bytes: &'a mut [u8],
+    at: usize,
     size: usize,
     remainder: &'a mut [u8],
     remainder_len: usize,
@@ -33,8 +33,9 @@ impl<'a, T> Model for BitChunksExactMut<'a, T> {
 
     ghost Value = { ChunkWalkMut };
 
-    ghost view = { λ c. record { lent = c.lent.now; ahead = c.ahead.now; size = c.size; remainder = c.remainder.now; remainder_len = c.remainder_len } };
+    ghost view = { λ c. record { bytes = c.bytes.now; at = c.at; size = c.size; remainder = c.remainder.now; remainder_len = c.remainder_len } };
 
+    // It does not say that `at` is inside: bytes that are lent whole could come back as any list.
     ghost invariant = { λ c. c.remainder_len < 8 * c.size };
 }
 
@@ -42,8 +43,8 @@ impl<'a, T: BitChunk> BitChunksExactMut<'a, T> {
     /// The walk over the first `length` bits. Asks that they are inside the bytes.
     pub fn new(bytes: &'a mut [u8], length: usize) -> BitChunksExactMut<'a, T>
         requires { length ≤ 8 * length' bytes.old }
-        ensures ahead { result.ahead ≡ take (T.NativeType.SIZE * (length / 8 / T.NativeType.SIZE)) bytes.old }
-        ensures lent { result.lent ≡ [] }
+        ensures bytes { result.bytes ≡ take (T.NativeType.SIZE * (length / 8 / T.NativeType.SIZE)) bytes.old }
+        ensures at { result.at ≡ 0 }
         ensures size { result.size ≡ T.NativeType.SIZE }
         ensures left { chunks_left result ≡ length / 8 / T.NativeType.SIZE }
         ensures remainder { let full = T.NativeType.SIZE * (length / 8 / T.NativeType.SIZE) in result.remainder ≡ part bytes.old full ((length + 7) / 8 - full) }
@@ -52,10 +53,10 @@ impl<'a, T: BitChunk> BitChunksExactMut<'a, T> {
         let size = T::SIZE;
         let count = length / 8 / size;
         let bytes = &mut bytes[..bytes_for(length)];
-        let (ahead, remainder) = bytes.split_at_mut(size * count);
+        let (bytes, remainder) = bytes.split_at_mut(size * count);
         BitChunksExactMut {
-            lent: Default::default(),
-            ahead,
+            bytes,
+            at: 0,
             size,
             remainder,
             remainder_len: length - T::WIDTH * count,
@@ -65,15 +66,15 @@ impl<'a, T: BitChunk> BitChunksExactMut<'a, T> {
 }
 
 impl<'a, T> BitChunksExactMut<'a, T> {
-    ghost use Rattle.arrow2_bits.specs.LentChunk.{LendsRemainder, LendsLent, LendsNext, LendsNextIf};
+    ghost use Rattle.arrow2_bits.specs.LentChunk.{LendsBytes, LendsPart, LendsNext, LendsNextIf, LendsRemainder};
 
-    /// The next chunk, to be written, or `None` where none is left. Afterwards the walk holds what was
-    /// written there.
+    /// The next chunk, to be written, or `None` where none is left. Afterwards the walk stands behind the
+    /// chunk and holds what was written there, and every other byte is as it was.
     ///
     /// arrow2 has the iterator alone.
     pub fn next_chunk(&mut self) -> Option<&mut [u8]>
         ensures* writes_back { sem 𝓛 (LendsNextIf T.row self.entry result) }
-        ensures chunk { MatchOption result (chunks_left self.old ≡ 0) (λ r. (0 < chunks_left self.old) × (r.now ≡ take self.old.size self.old.ahead)) }
+        ensures chunk { MatchOption result (chunks_left self.old ≡ 0) (λ r. (0 < chunks_left self.old) × (r.now ≡ next_chunk self.old)) }
     {
         let chunk = self.lend_next();
         if chunk.len() == 0 {
@@ -82,16 +83,17 @@ impl<'a, T> BitChunksExactMut<'a, T> {
         Some(chunk)
     }
 
-    /// Changes the next chunk in place by `change`, and answers whether there was one.
+    /// Changes the next chunk in place by `change`, and answers whether there was one. Afterwards the walk
+    /// stands behind the chunk, and every other byte is as it was.
     ///
     /// arrow2 has the iterator alone.
     pub fn change_next<F: FnOnce(&mut [u8])>(&mut self, change: F) -> bool
         requires { F.IsAlwaysCallable change }
         ensures any { IsTrue result ↔ (0 < chunks_left self.old) }
         ensures written { OnTrue result ((written : List ℕ)
-            × FnOnceReturnsAtMut F.FnOnce change (take self.old.size self.old.ahead) tt written
+            × FnOnceReturnsAtMut F.FnOnce change (next_chunk self.old) tt written
             × (length' written ≡ self.old.size)
-            × (self.new ≡ record self.old { lent = written; ahead = drop self.old.size self.old.ahead })) }
+            × (self.new ≡ past self.old self.old.size written)) }
         ensures left { OnTrue result (chunks_left self.old ≡ chunks_left self.new + 1) }
         ensures ended { OnFalse result (self.new ≡ self.old) }
     {
@@ -118,46 +120,56 @@ impl<'a, T> BitChunksExactMut<'a, T> {
         self.remainder_len
     }
 
-    /// The next chunk, to be written, and no bytes where none is left.
+    /// The next chunk, to be written, and no bytes where none is left. The walk passes it.
     fn lend_next(&mut self) -> &mut [u8]
         ensures some { (0 < length' result.now) ↔ (0 < chunks_left self.old) }
-        ensures chunk { result.now ≡ take (next_len self.old) self.old.ahead }
+        ensures len { length' result.now ≡ next_len self.old }
+        ensures chunk { result.now ≡ part self.old.bytes self.old.at (next_len self.old) }
         ensures* writes_back { sem 𝓛 (LendsNext T.row self.entry result) }
     {
-        self.pass_next();
-        self.lent()
-    }
-
-    /// The chunk that was passed last, to be written.
-    fn lent(&mut self) -> &mut [u8]
-        ensures bytes { result.now ≡ self.old.lent }
-        ensures* writes_back { sem 𝓛 (LendsLent T.row self.entry result) }
-    {
-        &mut *self.lent
-    }
-
-    /// Passes the next chunk, if one is left.
-    fn pass_next(&mut self)
-        ensures { self.new ≡ next_written self.old (take (next_len self.old) self.old.ahead) }
-    {
+        let start = self.bytes.len() - self.ahead();
         let size = self.next_len();
-        let (lent, ahead) = mem::take(&mut self.ahead).split_at_mut(size);
-        self.lent = lent;
-        self.ahead = ahead;
+        self.at += size;
+        self.part_mut(start, start + size)
+    }
+
+    /// The bytes from `start` up to `end`, to be written.
+    fn part_mut(&mut self, start: usize, end: usize) -> &mut [u8]
+        requires order { start ≤ end }
+        requires within { end ≤ length' self.old.bytes }
+        ensures* writes_back { sem 𝓛 (LendsPart T.row self.entry start result) }
+        ensures bytes { result.now ≡ part self.old.bytes start (end - start) }
+    {
+        &mut self.bytes_mut()[start..end]
+    }
+
+    /// The bytes of all chunks, to be written.
+    fn bytes_mut(&mut self) -> &mut [u8]
+        ensures bytes { result.now ≡ self.old.bytes }
+        ensures* writes_back { sem 𝓛 (LendsBytes T.row self.entry result) }
+    {
+        &mut *self.bytes
     }
 
     /// How many bytes are lent next: a chunk, or none at the end.
     fn next_len(&self) -> usize
         ensures len { result ≡ next_len self.now }
         ensures some { (0 < result) ↔ (0 < chunks_left self.now) }
-        ensures full { 0 < result → (result ≡ self.now.size) × (result ≤ length' self.now.ahead) }
-        ensures inside { result ≤ length' self.now.ahead }
+        ensures full { 0 < result → result ≡ self.now.size }
+        ensures inside { result ≤ length' self.now.bytes - self.now.at }
     {
-        if self.ahead.len() < self.size {
+        if self.ahead() < self.size {
             0
         } else {
             self.size
         }
+    }
+
+    /// How many bytes the chunks still to come have.
+    fn ahead(&self) -> usize
+        ensures { result ≡ length' self.now.bytes - self.now.at }
+    {
+        self.bytes.len().saturating_sub(self.at)
     }
 }
 
@@ -169,11 +181,13 @@ impl<'a, T: Drop> Iterator for BitChunksExactMut<'a, T> {
     ghost remaining = { λ s. at_most (chunks_left s) };
 
     fn next(&mut self) -> Option<&'a mut [u8]> {
-        if self.ahead.len() < self.size {
+        if self.ahead() < self.size {
             return None;
         }
-        let (chunk, ahead) = mem::take(&mut self.ahead).split_at_mut(self.size);
-        self.ahead = ahead;
+        let (_, ahead) = mem::take(&mut self.bytes).split_at_mut(self.at);
+        let (chunk, behind) = ahead.split_at_mut(self.size);
+        self.bytes = behind;
+        self.at = 0;
         Some(chunk)
     }
 
@@ -183,7 +197,7 @@ impl<'a, T: Drop> Iterator for BitChunksExactMut<'a, T> {
         ensures upper { IfSome result.1 (UpTo (at_most (chunks_left self.now))) }
         ensures exact { (result.0 ≡ chunks_left self.now) × (result.1 ≡ Some (chunks_left self.now)) }
     {
-        let left = self.ahead.len() / self.size;
+        let left = self.ahead() / self.size;
         (left, Some(left))
     }
 }

@@ -3,7 +3,7 @@ ghost use Rattle.std.specs.Prelude.{◌≡◌, ◌+◌, ◌*◌, ◌<◌, ◌≤
 ghost use Rattle.arrow2_model.specs.Bits.{bits};
 ghost use Rattle.arrow2_model.specs.Parts.{part, falses};
 
-use arrow2_index::bit_chunk::BitChunk;
+use arrow2_chunk::bit_chunk::BitChunk;
 
 /// How many of the `len` bits from bit `offset` on are not set.
 /// Asks that they are inside the bytes, or that `len` is 0.

@@ -3,7 +3,9 @@ ghost use Rattle.std.specs.Prelude.{◌≡◌, ◌-◌, ◌≤◌, [], length, I
 ghost use Rattle.arrow2_model.specs.Parts.{part};
 ghost use Rattle.std.specs.Borrow.{sem};
 ghost use Rattle.arrow2_buffer.specs.Lent.{LendsOwned, LendsPart};
+ghost use Rattle.std.specs.declared.alloc.Global.{Global};
 
+use std::alloc::Global;
 use std::marker::Model;
 use std::rc::Rc;
 
@@ -57,6 +59,13 @@ impl<T> Bytes<T> {
         ensures { result.items ≡ [] }
     {
         Vec::new(*self.items.allocator())
+    }
+
+    /// The allocator of its own.
+    pub fn allocator(&self) -> Global
+        ensures { (only : Global) → result ≡ only }
+    {
+        *self.items.allocator()
     }
 
     /// The storage, to be written, where `shared` is its only owner.

@@ -1,5 +1,5 @@
 //! A list that is shared, cloned and sliced in constant time.
-ghost use Rattle.std.specs.Prelude.{◌≡◌, ◌≢◌, ◌+◌, ◌-◌, ◌^◌, ◌<◌, ◌≤◌, ◌↔◌, List, [], length, IsTrue, IfOk, IfErr, IfSome, MatchResult, ⊤};
+ghost use Rattle.std.specs.Prelude.{◌≡◌, ◌≢◌, ◌+◌, ◌-◌, ◌^◌, ◌<◌, ◌≤◌, ◌↔◌, List, [], length, length as length', IsTrue, IfOk, IfErr, IfSome, MatchResult, ⊤};
 ghost use Rattle.std.specs.Bool.{OnTrue, OnFalse};
 ghost use Rattle.std.specs.Borrow.{sem};
 ghost use Rattle.std.specs.Fmt.{debug_list};
@@ -8,12 +8,14 @@ ghost use Rattle.std.specs.Iterator.{IsFinite};
 ghost use Rattle.std.specs.Iterator.Runs.{WholeRun};
 ghost use Rattle.std.specs.Ordering.{on};
 ghost use Rattle.std.specs.Cmp.{on_per, on_equiv};
+ghost use Rattle.std.specs.Bool.{Decides};
 ghost use Rattle.std.specs.Cmp.Lexicographic.{pointwise, lists_per, lists_equiv};
 ghost use Rattle.arrow2_types.specs.declared.error.Error.TheVariants.{OutOfMemory};
 ghost use Rattle.arrow2_model.specs.Parts.{part};
 ghost use Rattle.arrow2_model.specs.Buffers.{buffer_items, whole_buffer, overwritten};
 ghost use Rattle.arrow2_buffer.specs.Lent.{LendsOwnedPart};
 ghost use Rattle.either.specs.Either.{MatchEither};
+ghost use Rattle.std.specs.declared.alloc.Global.{Global};
 
 use crate::bytes::Bytes;
 use arrow2_types::error::{Error, Result};
@@ -64,6 +66,15 @@ impl<T> Buffer<T> {
         self.len
     }
 
+    /// The allocator of its storage: what a new buffer beside it is made with.
+    ///
+    /// In arrow2 an allocator has no value.
+    pub fn allocator(&self) -> Global
+        ensures { (only : Global) → result ≡ only }
+    {
+        self.storage.allocator()
+    }
+
     /// Whether it has no items.
     pub fn is_empty(&self) -> bool
         ensures { IsTrue result ↔ (buffer_items self.now ≡ []) }
@@ -97,10 +108,12 @@ impl<T> Buffer<T> {
     ///
     /// Asks that `offset + length` is at most [`Buffer::len`].
     pub fn slice(&mut self, offset: usize, length: usize)
-        requires { offset + length ≤ self.old.len }
+        requires inside { offset + length ≤ length' (buffer_items self.old) }
         ensures items { buffer_items self.new ≡ part (buffer_items self.old) offset length }
+        ensures len { length' (buffer_items self.new) ≡ length }
         ensures storage { self.new ≡ record self.old { offset = self.old.offset + offset; len = length } }
     {
+        prove!(offset <= self.len && length <= self.len - offset);
         self.offset += offset;
         self.len = length;
     }
@@ -109,8 +122,9 @@ impl<T> Buffer<T> {
     ///
     /// Asks that `offset + length` is at most [`Buffer::len`].
     pub fn sliced(mut self, offset: usize, length: usize) -> Self
-        requires { offset + length ≤ self.len }
+        requires inside { offset + length ≤ length' (buffer_items self) }
         ensures items { buffer_items result ≡ part (buffer_items self) offset length }
+        ensures len { length' (buffer_items result) ≡ length }
         ensures storage { result ≡ record self { offset = self.offset + offset; len = length } }
     {
         self.slice(offset, length);
@@ -145,6 +159,15 @@ impl<T> Buffer<T> {
         let start = self.offset;
         let end = start + self.len;
         change_unshared(&mut self.storage, start, end, change)
+    }
+
+    /// An empty vector on the allocator of its storage. Takes no memory.
+    ///
+    /// arrow2 has no such call: its allocator has no value.
+    pub fn empty_vec(&self) -> Vec<T>
+        ensures { result.items ≡ [] }
+    {
+        self.storage.empty_vec()
     }
 
     /// The storage whole, the place of the first item there, and how many items there are.
@@ -280,7 +303,11 @@ impl<T: PartialEq> PartialEq for Buffer<T> {
 
     ghost laws = { on_per buffer_items (lists_per T.laws) };
 
-    fn eq(&self, other: &Self) -> bool {
+    /// Where the items' own equality is equality, this is equality of the lists.
+    fn eq(&self, other: &Self) -> bool
+        ensures items { result ≡ pointwise T.eq (buffer_items self.now) (buffer_items other.now) }
+        ensures same { ((x y : T) → Decides (T.eq x y) (x ≡ y)) → IsTrue result ↔ (buffer_items self.now ≡ buffer_items other.now) }
+    {
         self.as_slice() == other.as_slice()
     }
 }

@@ -17,7 +17,8 @@ pub trait Index: NativeType + Ord + AddAssign + Sub<Self, Output = Self> + One +
     /// The number as a `usize`. Asks that it is not negative.
     fn to_usize(&self) -> usize
         requires { pos 0 ≤ℤ Self.value self.now }
-        ensures { pos result ≡ Self.value self.now };
+        ensures value { pos result ≡ Self.value self.now }
+        ensures fits { Self.fits (Self.value self.now) };
 
     /// The same number in this type, or `None` where it does not fit.
     fn from_usize(index: usize) -> Option<Self>

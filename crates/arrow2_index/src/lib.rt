@@ -1,7 +1,5 @@
-//! Index, offset and chunk types: numbers that point into buffers, and words as lists of bits.
+//! Index and offset types: numbers that point into buffers.
 #![tactic(auto)]
 
-pub mod bit_chunk;
-pub mod bit_chunk_iter;
 pub mod index;
 pub mod offset;

@@ -1,5 +1,6 @@
 //! The numbers that offsets are made of.
-ghost use Rattle.std.specs.Prelude.{◌≤◌, ◌↔◌, ℕ, pos, Bool, true, false};
+ghost use Rattle.std.specs.Prelude.{◌≤◌, ◌<◌, ◌^◌, ◌↔◌, ℕ, pos, Bool, true, false};
+ghost use Rattle.std.proofs.Common.{arith};
 ghost use Rattle.std.specs.Int as width;
 ghost use Rattle.arrow2_model.proofs.Ranges.{fits_below, below_fits};
 
@@ -22,6 +23,9 @@ pub trait Offset: Index {
 
     // A natural number is an offset exactly if it is at most the greatest one.
     ghost max_law: { (n : ℕ) → Self.fits (pos n) ↔ (n ≤ MAX) };
+
+    // A number that is an offset is a `usize`, and so is the sum of two.
+    ghost max_size_law: { (n : ℕ) → Self.fits (pos n) → n < 2 ^ 63 };
 }
 
 impl Offset for i32 {
@@ -30,6 +34,8 @@ impl Offset for i32 {
     ghost MAX = { 2147483647 };
 
     ghost max_law = { λ n. (fits_below width.w32 n, below_fits width.w32 n) };
+
+    ghost max_size_law = { λ n f. Prim.omega (arith, fits_below width.w32 n f) };
 
     const IS_LARGE: bool = false;
 
@@ -42,6 +48,8 @@ impl Offset for i64 {
     ghost MAX = { 9223372036854775807 };
 
     ghost max_law = { λ n. (fits_below width.w64 n, below_fits width.w64 n) };
+
+    ghost max_size_law = { λ n f. Prim.omega (arith, fits_below width.w64 n f) };
 
     const IS_LARGE: bool = true;
 

@@ -188,4 +188,19 @@ pub same_from_canonical_bytes : (xs ys : List Bool) → length xs ≡ length ys 
 same_from_canonical_bytes xs ys l e =
     ext_get_or false xs ys l (λ k h. get_or-canonical_bytes xs k h ∙ (ap (λ b. bit (get_or b (k / 8) 0) (k % 8)) e ∙ sym (get_or-canonical_bytes ys k (omega (arith, l)))))
 
+-- as many bytes as hold the list
+pub length-canonical_bytes : (items : List Bool) → length (canonical_bytes items) ≡ (length items + 7) / 8
+unfolding canonical_bytes
+length-canonical_bytes items = length-words 8 items ∙ grind arith
+
+-- the list, read from its bytes
+pub items-canonical_bytes : (items : List Bool) → take (length items) (bits (canonical_bytes items)) ≡ items
+items-canonical_bytes items =
+    let l = length-canonical_bytes items in
+    let b = length-bits (canonical_bytes items) in
+    let t = length-take-le (length items) (bits (canonical_bytes items)) (omega (arith, l, b)) in
+    ext_get_or false (take (length items) (bits (canonical_bytes items))) items t (λ k k<.
+    let lt : k < length items = omega (arith, t) in
+    get_or-take (length items) (bits (canonical_bytes items)) k false lt ∙ (get_or-bits_at (canonical_bytes items) k false (omega (arith, l)) ∙ sym (get_or-canonical_bytes items k lt)))
+
 pub ruleset canonical = (same_from_canonical_bytes)

@@ -1,5 +1,5 @@
 -- Counts of false items.
-use Rattle.std.proofs.Common.{◌≡◌, ℕ, ◌+◌, ◌-◌, ◌*◌, ◌/◌, ◌%◌, ◌^◌, ◌<◌, ◌≤◌, List, [], ◌∷◌, ◌++◌, Bool, true, false, cond, not, take, drop, length, get_or, subst, refl, ap, sym, ◌∙◌, arith}
+use Rattle.std.proofs.Common.{◌≡◌, ℕ, ◌+◌, ◌-◌, ◌*◌, ◌/◌, ◌%◌, ◌^◌, ◌<◌, ◌≤◌, List, [], ◌∷◌, ◌++◌, Bool, true, false, cond, not, take, drop, length, get_or, subst, refl, ap, sym, ◌∙◌, arith, zero, suc, replicate, zero-add}
 use Rattle.std.specs.Prelude.{count_ones, count_by}
 use Rattle.std.proofs.Math.Nat.{mod-lt}
 use Rattle.std.proofs.Math.Seq.{take-add}
@@ -12,7 +12,7 @@ use Rattle.arrow2_model.specs.Parts.{part, falses}
 use Rattle.arrow2_model.proofs.Bits.{length-unnum, bits-nil, bits-cons, bits-append}
 use Rattle.arrow2_model.proofs.Chunks.{unnum-add, unnum-mod}
 use Rattle.arrow2_model.proofs.Numbers.{num-unnum}
-use Rattle.arrow2_model.proofs.Parts.{part-add, part-front}
+use Rattle.arrow2_model.proofs.Parts.{part-add, part-front, part_all}
 
 pub falses-le-length : (items : List Bool) → falses items ≤ length items
 falses-le-length items = count_by-le-length not items
@@ -22,7 +22,7 @@ pub falses-append : (xs ys : List Bool) → falses (xs ++ ys) ≡ falses xs + fa
 falses-append xs ys = sum_by-append (λ x. cond (not x) 1 0) xs ys
 
 -- the true items and the false ones are all items
-trues-falses : (items : List Bool) → count_by (λ x. x) items + falses items ≡ length items
+pub trues-falses : (items : List Bool) → count_by (λ x. x) items + falses items ≡ length items
 trues-falses [] = refl
 trues-falses (true ∷ items) =
     let a = sum_by-cons (λ (x : Bool). cond x 1 0) true items in
@@ -35,6 +35,34 @@ trues-falses (false ∷ items) =
     let r = trues-falses items in
     omega (arith, a, b, r)
 
+-- a list in two parts
+pub falses-parts : (items : List Bool) (m n : ℕ) → length items ≡ m + n → falses (part items 0 m) + falses (part items m n) ≡ falses items
+falses-parts items m n e =
+    let all : part items 0 (m + n) ≡ items = part_all items (m + n) e in
+    sym (falses-append (part items 0 m) (part items m n)) ∙ (ap falses (sym (part-add items 0 m n ∙ ap (λ a. part items 0 m ++ part items a n) (zero-add m))) ∙ ap falses all)
+
+-- no item is false exactly where all are true
+pub falses-none : (items : List Bool) → falses items ≡ 0 → items ≡ replicate (length items) true
+falses-none [] e = refl
+falses-none (true ∷ items) e =
+    let s = sum_by-cons (λ (x : Bool). cond (not x) 1 0) true items in
+    ap (λ t. true ∷ t) (falses-none items (omega (arith, s, e)))
+falses-none (false ∷ items) e =
+    let s = sum_by-cons (λ (x : Bool). cond (not x) 1 0) false items in
+    absurd (omega (arith, s, e))
+
+pub falses-all_true : (n : ℕ) → falses (replicate n true) ≡ 0
+falses-all_true zero = refl
+falses-all_true (suc n) =
+    let s = sum_by-cons (λ (x : Bool). cond (not x) 1 0) true (replicate n true) in
+    omega (arith, s, falses-all_true n)
+
+pub falses-all_false : (n : ℕ) → falses (replicate n false) ≡ n
+falses-all_false zero = refl
+falses-all_false (suc n) =
+    let s = sum_by-cons (λ (x : Bool). cond (not x) 1 0) false (replicate n false) in
+    omega (arith, s, falses-all_false n)
+
 -- the population count of a word counts its true items
 pub falses-unnum : (w x : ℕ) → x < 2 ^ w → falses (unnum w x) + count_ones x ≡ w
 falses-unnum w x h =
@@ -43,6 +71,11 @@ falses-unnum w x h =
     let c = trues-falses (unnum w x) in
     let l = length-unnum w x in
     omega (arith, o, c, l)
+
+pub ones-counted : (w x n : ℕ) → x < 2 ^ w → n ≡ count_ones x → n + falses (unnum w x) ≡ w
+ones-counted w x n h e = omega (arith, falses-unnum w x h, e)
+
+pub ruleset counted_words = (ones-counted)
 
 -- a part in three
 pub falses-part_three : (items : List Bool) (a m n k all : ℕ) → all ≡ m + (n + k) → falses (part items a all) ≡ falses (part items a m) + (falses (part items (a + m) n) + falses (part items (a + m + n) k))
@@ -87,4 +120,11 @@ falses-byte_part (b ∷ bytes) s n x h k e =
     let f = falses-unnum n x fits in
     omega (arith, f, ap falses first, ap falses word, ap falses low)
 
+-- a word that is masked has as many true items as its lowest items
+pub falses-masked : (items low : List Bool) (k : ℕ) → items ≡ low ++ replicate k false → falses items ≡ falses low + k
+falses-masked items low k e = omega (arith, ap falses e, falses-append low (replicate k false), falses-all_false k)
+
 pub ruleset counts = (falses-le-length)
+
+-- laws of counting, for callers
+pub ruleset counting = (falses-le-length, trues-falses, falses-append, falses-parts, falses-none, falses-all_true, falses-all_false, falses-masked)

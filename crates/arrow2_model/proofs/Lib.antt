@@ -6,10 +6,13 @@ pub mod Counts
 pub mod Digits
 pub mod Merged
 pub mod Numbers
+pub mod Offsets
 pub mod Ones
 pub mod Parts
 pub mod Ranges
 pub mod Shown
+pub mod Texts
 pub mod Walks
 pub mod Words
 pub mod Words256
+pub mod Same

@@ -1,6 +1,6 @@
 -- Parts of lists.
-use Rattle.std.proofs.Common.{◌≡◌, inl, inr, ℕ, ◌+◌, ◌-◌, ◌<◌, ◌≤◌, List, [], ◌∷◌, ◌++◌, Bool, take, drop, length, get_or, ap, ◌∙◌, arith, rules, min}
-use Rattle.std.proofs.lemmas.List.{places, take_more, get_or-drop, get_or-take, length-drop, drop-take, take-take, drop-drop, take_all, length-take, drop-append-le, take-append-le}
+use Rattle.std.proofs.Common.{◌≡◌, inl, inr, ℕ, ◌+◌, ◌-◌, ◌<◌, ◌≤◌, List, [], ◌∷◌, ◌++◌, Bool, take, drop, length, get_or, ap, ◌∙◌, arith, rules, min, refl}
+use Rattle.std.proofs.lemmas.List.{places, take_more, get_or-drop, get_or-take, length-drop, drop-take, take-take, drop-drop, take_all, length-take, drop-append-le, take-append-le, take_at, drop_at, length-append}
 use Rattle.std.proofs.Math.Seq.{take-add}
 use Rattle.std.proofs.lemmas.Bool.{cases_lt}
 use Rattle.arrow2_model.specs.Parts.{part}
@@ -43,3 +43,13 @@ pub part-front : {X : Type 0} (front back : List X) (a n : ℕ) → a + n ≤ le
 part-front front back a n h =
     let d = length-drop a front in
     ap (take n) (drop-append-le a front back (omega arith)) ∙ take-append-le n (drop a front) back (omega (arith, d))
+
+-- a list is a part of itself
+pub part_all : {X : Type 0} (items : List X) (n : ℕ) → length items ≡ n → part items 0 n ≡ items
+part_all items n e = take_all n items (omega (arith, e))
+
+-- the first items of a list that is joined, where the tail is cut to what is wanted of it
+pub take_joined : {X : Type 0} (n : ℕ) (front last tail all : List X) → front ++ tail ≡ all → n ≡ length all → take (length tail) last ≡ tail → take n (front ++ last) ≡ all
+take_joined n front last tail all whole size cut =
+    let k : n ≡ length front + length tail = omega (arith, size, ap length whole, length-append front tail) in
+    rw k (take-add (length front) (length tail) (front ++ last) ∙ (ap (λ t. t ++ take (length tail) (drop (length front) (front ++ last))) (take_at front last (length front) refl) ∙ (ap (λ t. front ++ take (length tail) t) (drop_at front last (length front) refl) ∙ (ap (λ t. front ++ t) cut ∙ whole))))

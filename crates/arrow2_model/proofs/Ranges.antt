@@ -15,7 +15,7 @@ gap_is (pos a) (negsuc b) n e = omega (arith, ints)
 gap_is (negsuc a) (pos b) n e = omega (arith, ints)
 gap_is (negsuc a) (negsuc b) n e = omega (arith, ints)
 
-gap_pos : (a b : ℤ) → a ≤ℤ b → pos (int_gap a b) ≡ b -ℤ a
+pub gap_pos : (a b : ℤ) → a ≤ℤ b → pos (int_gap a b) ≡ b -ℤ a
 gap_pos (pos a) (pos b) h = omega (arith, ints)
 gap_pos (pos a) (negsuc b) h = omega (arith, ints)
 gap_pos (negsuc a) (pos b) h = omega (arith, ints)

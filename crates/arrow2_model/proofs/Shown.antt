@@ -1,18 +1,18 @@
 -- The text of bits, byte by byte.
 use Rattle.std.proofs.Common.{◌≡◌, inl, inr, ℕ, zero, suc, ◌+◌, ◌-◌, ◌*◌, ◌<◌, ◌≤◌, List, [], ◌∷◌, ◌++◌, Bool, true, false, map, length, get_or, refl, ap, sym, ◌∙◌, arith, min}
-use Rattle.std.specs.Prelude.{reverse, filter, codes}
+use Rattle.std.specs.Prelude.{reverse, filter, codes, nat_lt, take, ◌/◌}
 use Rattle.std.specs.Char.{encode_utf8}
 use Rattle.std.specs.List.{range_with_len, list_any, join_by, flat_map}
 use Rattle.std.proofs.lemmas.Bool.{cases_lt, le-leb, lt-leb, lt-ltb, le-ltb}
-use Rattle.std.proofs.lemmas.List.{append-nil, append_assoc, map_push}
+use Rattle.std.proofs.lemmas.List.{append-nil, append_assoc, map_push, length-take-le, get_or-take}
 use mathlib.Core.List.{reverse-cons}
 use Rattle.std.proofs.lemmas.List.Concat.{flat_map-append}
 use Rattle.std.proofs.lemmas.List.FromFn.{length-range_with_len, get_or-range_with_len}
 use Rattle.std.proofs.lemmas.List.Folds.{list_any_at}
 use Rattle.std.proofs.lemmas.Str.{encode_ascii}
 use Rattle.arrow2_model.specs.Bits.{bit, bits}
-use Rattle.arrow2_model.specs.Shown.{is_shown, bit_character, shown_byte, shown_places, shown}
-use Rattle.arrow2_model.proofs.Bits.{get_or-bits}
+use Rattle.arrow2_model.specs.Shown.{is_shown, bit_character, shown_byte, shown_places, shown, items_byte, items_text}
+use Rattle.arrow2_model.proofs.Bits.{get_or-bits, length-bits}
 
 -- ---- one bit
 
@@ -184,4 +184,40 @@ shown_none bytes offset =
     ])) in
     rw places refl
 
-pub ruleset texts = (shown_none)
+-- ---- the text of a list
+
+map_same : (f g : ℕ → ℕ) → ((p : ℕ) → f p ≡ g p) → (xs : List ℕ) → map f xs ≡ map g xs
+map_same f g same [] = refl
+map_same f g same (x ∷ xs) = let e = same x in let r = map_same f g same xs in cc
+
+flat_same : (f g : ℕ → List ℕ) → ((j : ℕ) → f j ≡ g j) → (xs : List ℕ) → flat_map f xs ≡ flat_map g xs
+flat_same f g same [] = refl
+flat_same f g same (x ∷ xs) = ap (λ t. t ++ flat_map f xs) (same x) ∙ ap (λ t. g x ++ t) (flat_same f g same xs)
+
+joined_same : (f g : ℕ → List ℕ) (separator : List ℕ) → ((j : ℕ) → f j ≡ g j) → (xs : List ℕ) → join_by f separator xs ≡ join_by g separator xs
+joined_same f g separator same [] = refl
+joined_same f g separator same (x ∷ xs) = ap (λ t. t ++ flat_map (λ z. separator ++ f z) xs) (same x) ∙ ap (λ t. g x ++ t) (flat_same (λ z. separator ++ f z) (λ z. separator ++ g z) (λ z. ap (λ t. separator ++ t) (same z)) xs)
+
+-- a shown bit is the item there, and one that is not shown has no item
+character_same : (bytes : List ℕ) (n p : ℕ) → n ≤ 8 * length bytes → bit_character (is_shown 0 n p) (get_or (bits bytes) p false) ≡ bit_character (nat_lt p (length (take n (bits bytes)))) (get_or (take n (bits bytes)) p false)
+character_same bytes n p h =
+    let long : length (take n (bits bytes)) ≡ n = length-take-le n (bits bytes) (omega (arith, h, length-bits bytes)) in
+    rw long (elim (cases_lt p n) [
+      | inl within ↦ rw (shown_yes 0 n p (omega arith) (omega arith), lt-ltb p n within, get_or-take n (bits bytes) p false within) refl
+      | inr behind ↦ rw (shown_behind 0 n p (omega arith), le-ltb p n behind) refl
+    ])
+
+byte_same : (bytes : List ℕ) (n j : ℕ) → n ≤ 8 * length bytes → shown_byte bytes 0 n j ≡ items_byte (take n (bits bytes)) j
+unfolding shown_byte
+byte_same bytes n j h = ap (λ t. codes "0b" ++ t) (map_same (λ p. bit_character (is_shown 0 n p) (get_or (bits bytes) p false)) (λ p. bit_character (nat_lt p (length (take n (bits bytes)))) (get_or (take n (bits bytes)) p false)) (λ p. character_same bytes n p h) (reverse (range_with_len (8 * j) 8)))
+
+-- the text of the first n bits is that of the list of them
+pub shown-items : (bytes : List ℕ) (n : ℕ) → n ≤ 8 * length bytes → shown bytes 0 n ≡ items_text (take n (bits bytes))
+unfolding shown
+shown-items bytes n h =
+    let j : ℕ = (n + 7) / 8 in
+    let long : length (take n (bits bytes)) ≡ n = length-take-le n (bits bytes) (omega (arith, h, length-bits bytes)) in
+    rw (long, shown_places_are bytes 0 n j (omega arith) (omega (arith, h)) (omega arith) (omega arith) (omega arith))
+    (ap (λ t. codes "[" ++ (t ++ codes "]")) (joined_same (shown_byte bytes 0 n) (items_byte (take n (bits bytes))) (codes ", ") (λ k. byte_same bytes n k h) (range_with_len 0 j)))
+
+pub ruleset texts = (shown_none, shown-items)

@@ -96,6 +96,18 @@ words_then_rest (suc m) w items p e =
 pub items_of_words : (w : ℕ) (items : List Bool) → 0 < w → flat_map (unnum w) (full_words w items) ++ rest w items ≡ items
 items_of_words w items p = words_then_rest (length items / w) w items p refl
 
+-- a list that loses its first full word is the bits of that word and the list that is left
+pub first_word-append : (w : ℕ) (items left : List Bool) (x : ℕ) → 0 < w → full_words w items ≡ x ∷ full_words w left → rest w left ≡ rest w items → items ≡ unnum w x ++ left
+first_word-append w items left x p first behind =
+    sym (items_of_words w items p)
+    ∙ (ap (λ ws. flat_map (unnum w) ws ++ rest w items) first
+    ∙ (append_assoc (unnum w x) (flat_map (unnum w) (full_words w left)) (rest w items)
+    ∙ ap (λ t. unnum w x ++ t) (ap (λ r. flat_map (unnum w) (full_words w left) ++ r) (sym behind) ∙ items_of_words w left p)))
+
+-- a list without a full word is its rest
+pub rest-whole : (w : ℕ) (items : List Bool) → 0 < w → full_words w items ≡ [] → rest w items ≡ items
+rest-whole w items p none = ap (λ ws. flat_map (unnum w) ws ++ rest w items) (sym none) ∙ items_of_words w items p
+
 pub length-rest : (w : ℕ) (items : List Bool) → 0 < w → length (rest w items) < w
 unfolding rest
 length-rest w items p =
@@ -104,3 +116,5 @@ length-rest w items p =
     let m = mul-suc w (length items / w) in
     let e : length items / w + 1 ≡ suc (length items / w) = omega arith in
     omega (arith, d, m, ap (λ n. w * n) e, q)
+
+pub ruleset by_words = (items_of_words, first_word-append, rest-whole, length-rest)

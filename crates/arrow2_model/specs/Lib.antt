@@ -2,6 +2,7 @@ pub mod Bits
 pub mod Buffers
 pub mod Canonical
 pub mod Digits
+pub mod Offsets
 pub mod Ones
 pub mod Parts
 pub mod Ranges

@@ -1,5 +1,5 @@
 -- The text that shows some of the bits of bytes, byte by byte and the highest bit of each byte first.
-use Rattle.std.specs.Prelude.{ℕ, ◌+◌, ◌*◌, List, ◌++◌, Bool, false, ◌&&◌, nat_le, nat_lt, length, map, filter, reverse, slice_index_or, codes, if◌then◌else◌}
+use Rattle.std.specs.Prelude.{ℕ, ◌+◌, ◌*◌, ◌/◌, List, ◌++◌, Bool, false, ◌&&◌, nat_le, nat_lt, length, map, filter, reverse, slice_index_or, codes, if◌then◌else◌}
 use Rattle.std.specs.List.{range_with_len, list_any, join_by}
 use Rattle.arrow2_model.specs.Bits.{bits}
 
@@ -22,3 +22,11 @@ shown_places bytes offset len = filter (λ j. list_any (is_shown offset len) (ra
 -- the text of the len bits from bit offset on: each byte that holds one of them, in brackets and joined by commas
 unfoldable pub shown : List ℕ → ℕ → ℕ → List ℕ
 shown bytes offset len = codes "[" ++ (join_by (shown_byte bytes offset len) (codes ", ") (shown_places bytes offset len) ++ codes "]")
+
+-- byte j of a list of items, shown whole from its first item on: `0b`, and the characters of eight items from the last to the first
+abbrev pub items_byte : List Bool → ℕ → List ℕ
+items_byte items j = codes "0b" ++ map (λ p. bit_character (nat_lt p (length items)) (slice_index_or items p false)) (reverse (range_with_len (8 * j) 8))
+
+-- the text of a list of items: what shows the bits of bytes that hold just these, from bit 0 on
+abbrev pub items_text : List Bool → List ℕ
+items_text items = codes "[" ++ (join_by (items_byte items) (codes ", ") (range_with_len 0 ((length items + 7) / 8)) ++ codes "]")

@@ -1,9 +1,9 @@
 -- A list of booleans as words of some width, the last one filled with false.
-use Rattle.std.specs.Prelude.{◌≡◌, ℕ, ◌+◌, ◌-◌, ◌*◌, ◌/◌, ◌%◌, ◌==◌, List, Bool, map, take, drop, length, if◌then◌else◌, Option}
+use Rattle.std.specs.Prelude.{◌≡◌, ℕ, ◌+◌, ◌-◌, ◌*◌, ◌/◌, ◌%◌, ◌==◌, List, ◌++◌, Bool, map, take, drop, length, if◌then◌else◌, Option, MatchOption}
 use Rattle.std.specs.List.{range_with_len}
 use Rattle.std.specs.Int.{div_ceil}
 use Rattle.std.specs.Iterator.{YieldsFirstBy}
-use Rattle.arrow2_model.specs.Bits.{num, bits}
+use Rattle.arrow2_model.specs.Bits.{num, unnum, bits}
 use Rattle.arrow2_model.specs.Parts.{part}
 
 -- the number of each w items in turn; items past the end count as false
@@ -24,9 +24,14 @@ pub record WordWalk : Type 0 where
   pub items : List Bool
   pub spill : ℕ
 
+-- what a step by this word does to the items: its bits were the first ones; at the end only the rest is left
+abbrev pub PassesItems : {A : Type 0} → ℕ → (A → ℕ) → List Bool → Option A → List Bool → Type 0
+PassesItems w number items r left = MatchOption r (rest w items ≡ items) (λ x. items ≡ unnum w (number x) ++ left)
+
 -- one step of a walk by words: the first full word comes, and what stands behind the full words stays
 pub record GivesWord {S A : Type 0} (w : ℕ) (number : A → ℕ) (walk : S → WordWalk) (s : S) (r : Option A) (t : S) : Type 0 where
   pub word : YieldsFirstBy number (λ (c : S). full_words w (walk c).items) s r t
+  pub items : PassesItems w number (walk s).items r (walk t).items
   pub rest : rest w (walk t).items ≡ rest w (walk s).items
   pub spill : (walk t).spill ≡ (walk s).spill
 

@@ -1,9 +1,14 @@
 //! Laws of the definitions. Each function is its law and nothing else.
-ghost use Rattle.std.specs.Prelude.{◌≡◌, ℕ, ◌+◌, ◌<◌, ◌≤◌, ◌^◌, List, Bool, length, codes};
-ghost use Rattle.arrow2_model.specs.Bits.{num, unnum, sum_of_powers};
+ghost use Rattle.std.specs.Prelude.{◌≡◌, ◌↔◌, ℕ, ◌+◌, ◌*◌, ◌/◌, ◌%◌, ◌<◌, ◌≤◌, ◌^◌, List, ◌∷◌, [], ◌++◌, Bool, true, length, codes, count_by, replicate, slice_get, slice_index, Some, take, IsTrue};
+ghost use Rattle.std.specs.Bool.{beq};
+ghost use Rattle.std.specs.Cmp.Lexicographic.{pointwise};
+ghost use Rattle.std.specs.List.{flat_map};
+ghost use Rattle.arrow2_model.specs.Bits.{bit, bits, num, unnum, sum_of_powers};
 ghost use Rattle.arrow2_model.specs.Parts.{part, falses};
+ghost use Rattle.arrow2_model.specs.Storage.{BitmapStorage, items_of};
+ghost use Rattle.arrow2_model.specs.Words.{full_words, rest};
 ghost use Rattle.arrow2_model.specs.Canonical.{canonical_bytes};
-ghost use Rattle.arrow2_model.specs.Shown.{shown};
+ghost use Rattle.arrow2_model.specs.Shown.{shown, items_text};
 
 /// A part of a part is one part of the list.
 #[tactic(auto, using(crate::proofs::Walks::parts))]
@@ -15,6 +20,45 @@ pub fn part_of_a_part()
 #[tactic(auto, using(crate::proofs::Counts::counts))]
 pub fn false_items_are_items()
     ensures { (items : List Bool) → falses items ≤ length items }
+{}
+
+/// The true items and the false ones are all items.
+#[tactic(auto, using(crate::proofs::Counts::counting))]
+pub fn true_and_false_items_are_all()
+    ensures { (items : List Bool) → count_by (λ b. b) items + falses items ≡ length items }
+{}
+
+/// The false items of two lists, one behind the other, and of two parts that make a list, are added.
+#[tactic(auto, using(crate::proofs::Counts::counting))]
+pub fn false_items_are_added()
+    ensures lists { (xs ys : List Bool) → falses (xs ++ ys) ≡ falses xs + falses ys }
+    ensures parts { (items : List Bool) (m n : ℕ) → length items ≡ m + n → falses (part items 0 m) + falses (part items m n) ≡ falses items }
+{}
+
+/// No item is false exactly where all are true.
+#[tactic(auto, using(crate::proofs::Counts::counting))]
+pub fn no_false_item_where_all_are_true()
+    ensures { (items : List Bool) → (falses items ≡ 0) ↔ (items ≡ replicate (length items) true) }
+{}
+
+/// A bit of a number, and of bytes, is the item of its list of bits at that place.
+pub fn a_bit_is_an_item()
+    ensures number { (w x i : ℕ) → i < w → slice_get (unnum w x) i ≡ Some (bit x i) }
+    ensures bytes { (bytes : List ℕ) (k : ℕ) → k < 8 * length bytes → slice_get (bits bytes) k ≡ Some (bit (slice_index bytes (k / 8)) (k % 8)) }
+{}
+
+/// The bits of the full words of a list, and behind them its rest, are the list.
+#[tactic(auto, using(crate::proofs::Words::by_words))]
+pub fn words_and_the_rest_are_the_list()
+    ensures { (w : ℕ) (items : List Bool) → 0 < w → flat_map (unnum w) (full_words w items) ++ rest w items ≡ items }
+{}
+
+/// A list that loses its first full word is the bits of that word and the list that is left; one without a full
+/// word is its rest.
+#[tactic(auto, using(crate::proofs::Words::by_words))]
+pub fn a_step_takes_the_first_word()
+    ensures word { (w : ℕ) (items left : List Bool) (x : ℕ) → 0 < w → full_words w items ≡ x ∷ full_words w left → rest w left ≡ rest w items → items ≡ unnum w x ++ left }
+    ensures end { (w : ℕ) (items : List Bool) → 0 < w → full_words w items ≡ [] → rest w items ≡ items }
 {}
 
 /// The number of a list is the sum of 2 ^ i over the places i where it is true.
@@ -41,4 +85,23 @@ pub fn canonical_bytes_tell_lists_apart()
 #[tactic(auto, using(crate::proofs::Shown::texts))]
 pub fn no_bits_are_two_brackets()
     ensures { (bytes : List ℕ) (offset : ℕ) → shown bytes offset 0 ≡ codes "[]" }
+{}
+
+/// The text of the first bits of bytes is that of the list of them, whatever stands behind them.
+#[tactic(auto, using(crate::proofs::Shown::texts))]
+pub fn first_bits_are_shown_as_their_list()
+    ensures { (bytes : List ℕ) (n : ℕ) → n ≤ 8 * length bytes → shown bytes 0 n ≡ items_text (take n (bits bytes)) }
+{}
+
+/// What is printed of a bitmap that grows, and of one whose items begin at bit 0, is the text of its items.
+#[tactic(auto, using(crate::proofs::Texts::texts_of_lists))]
+pub fn a_bitmap_is_shown_as_its_list()
+    ensures growing { (items : List Bool) → shown (canonical_bytes items) 0 (length items) ≡ items_text items }
+    ensures stored { (b : BitmapStorage) → b.offset ≡ 0 → b.len ≤ 8 * length b.bytes → shown (part b.bytes (b.offset / 8) ((b.offset % 8 + b.len + 7) / 8)) (b.offset % 8) b.len ≡ items_text (items_of b) }
+{}
+
+/// A comparison item by item, which is what `==` of bitmaps answers, is true exactly where the lists are one.
+#[tactic(auto, using(crate::proofs::Same::comparing))]
+pub fn a_comparison_tells_lists_apart()
+    ensures { (xs ys : List Bool) → IsTrue (pointwise beq xs ys) ↔ (xs ≡ ys) }
 {}

@@ -2,6 +2,11 @@
 mod bitmap;
 mod bits;
 mod buffer;
+mod checks;
+mod chunk;
+mod chunks_mut;
+mod composite;
 mod hinting;
 mod index;
+mod offset;
 mod types;

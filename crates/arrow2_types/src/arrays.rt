@@ -2,7 +2,7 @@
 ghost use Rattle.std.specs.Prelude.{◌≡◌, ◌+◌, ◌++◌, length};
 
 /// The bytes as an array. Asks for `N` bytes.
-pub(crate) fn array_of<const N: usize>(bytes: &[u8]) -> [u8; N]
+pub fn array_of<const N: usize>(bytes: &[u8]) -> [u8; N]
     requires { length bytes.now ≡ N }
     ensures { result ≡ bytes.now }
 {
@@ -12,7 +12,7 @@ pub(crate) fn array_of<const N: usize>(bytes: &[u8]) -> [u8; N]
 }
 
 /// The bytes of `front` and then those of `back`. Asks that they are `N` together.
-pub(crate) fn join<const N: usize>(front: &[u8], back: &[u8]) -> [u8; N]
+pub fn join<const N: usize>(front: &[u8], back: &[u8]) -> [u8; N]
     requires { length front.now + length back.now ≡ N }
     ensures { result ≡ front.now ++ back.now }
 {

@@ -13,8 +13,8 @@ use std::fmt::Debug;
 /// A type whose values stand in the layer's buffers. Each value has the same number of bytes, which are
 /// the digits of its value.
 ///
-/// Differs from arrow2: `Bytes` is read and written as a slice alone, `SIZE`, `from_le_slice`
-/// and `from_be_slice` are there for generic code.
+/// Differs from arrow2: `Bytes` is read as a slice and made of one by `bytes_of_slice`; `SIZE`, `from_le_slice`
+/// and `from_be_slice` are there for generic code too.
 pub trait NativeType: Copy + Debug + PartialEq + Default {
     // The name of the type.
     ghost PRIMITIVE: { PrimitiveType };
@@ -60,6 +60,11 @@ pub trait NativeType: Copy + Debug + PartialEq + Default {
     /// The value with these bytes in big-endian order.
     fn from_be_bytes(bytes: Self::Bytes) -> Self
         ensures { result ≡ of_be (Self.Bytes.items bytes) };
+
+    /// The array of these bytes, which generic code can hand to `from_le_bytes` or write to. Asks for `SIZE` bytes.
+    fn bytes_of_slice(bytes: &[u8]) -> Self::Bytes
+        requires { length bytes.now ≡ SIZE }
+        ensures { Self.Bytes.items result ≡ bytes.now };
 
     /// The value whose bytes these are in little-endian order. Asks for `SIZE` bytes.
     fn from_le_slice(bytes: &[u8]) -> Self
@@ -119,6 +124,10 @@ impl NativeType for u8 {
         u8::from_be_bytes(bytes)
     }
 
+    fn bytes_of_slice(bytes: &[u8]) -> [u8; 1] {
+        array_of(bytes)
+    }
+
     fn from_le_slice(bytes: &[u8]) -> u8 {
         u8::from_le_bytes(array_of(bytes))
     }
@@ -166,6 +175,10 @@ impl NativeType for u16 {
 
     fn from_be_bytes(bytes: [u8; 2]) -> u16 {
         u16::from_be_bytes(bytes)
+    }
+
+    fn bytes_of_slice(bytes: &[u8]) -> [u8; 2] {
+        array_of(bytes)
     }
 
     fn from_le_slice(bytes: &[u8]) -> u16 {
@@ -217,6 +230,10 @@ impl NativeType for u32 {
         u32::from_be_bytes(bytes)
     }
 
+    fn bytes_of_slice(bytes: &[u8]) -> [u8; 4] {
+        array_of(bytes)
+    }
+
     fn from_le_slice(bytes: &[u8]) -> u32 {
         u32::from_le_bytes(array_of(bytes))
     }
@@ -264,6 +281,10 @@ impl NativeType for u64 {
 
     fn from_be_bytes(bytes: [u8; 8]) -> u64 {
         u64::from_be_bytes(bytes)
+    }
+
+    fn bytes_of_slice(bytes: &[u8]) -> [u8; 8] {
+        array_of(bytes)
     }
 
     fn from_le_slice(bytes: &[u8]) -> u64 {
@@ -315,6 +336,10 @@ impl NativeType for i8 {
         i8::from_be_bytes(bytes)
     }
 
+    fn bytes_of_slice(bytes: &[u8]) -> [u8; 1] {
+        array_of(bytes)
+    }
+
     fn from_le_slice(bytes: &[u8]) -> i8 {
         i8::from_le_bytes(array_of(bytes))
     }
@@ -362,6 +387,10 @@ impl NativeType for i16 {
 
     fn from_be_bytes(bytes: [u8; 2]) -> i16 {
         i16::from_be_bytes(bytes)
+    }
+
+    fn bytes_of_slice(bytes: &[u8]) -> [u8; 2] {
+        array_of(bytes)
     }
 
     fn from_le_slice(bytes: &[u8]) -> i16 {
@@ -413,6 +442,10 @@ impl NativeType for i32 {
         i32::from_be_bytes(bytes)
     }
 
+    fn bytes_of_slice(bytes: &[u8]) -> [u8; 4] {
+        array_of(bytes)
+    }
+
     fn from_le_slice(bytes: &[u8]) -> i32 {
         i32::from_le_bytes(array_of(bytes))
     }
@@ -462,6 +495,10 @@ impl NativeType for i64 {
         i64::from_be_bytes(bytes)
     }
 
+    fn bytes_of_slice(bytes: &[u8]) -> [u8; 8] {
+        array_of(bytes)
+    }
+
     fn from_le_slice(bytes: &[u8]) -> i64 {
         i64::from_le_bytes(array_of(bytes))
     }
@@ -509,6 +546,10 @@ impl NativeType for i128 {
 
     fn from_be_bytes(bytes: [u8; 16]) -> i128 {
         i128::from_be_bytes(bytes)
+    }
+
+    fn bytes_of_slice(bytes: &[u8]) -> [u8; 16] {
+        array_of(bytes)
     }
 
     fn from_le_slice(bytes: &[u8]) -> i128 {

@@ -33,4 +33,4 @@ returns-clause-ok c =
     let steps = c.in_default.ensures.steps in
     let x = c.remainder.result in
     let spilled = subst (λ (r : List Bool). take (length r) (unnum 64 x) ≡ r) steps.rest c.remainder.ensures.rest in
-    c.from_vec.ensures ∙ (all_copied c.loop-word.bytes.items c.extend_from_slice-2.new.self.items c.to_ne_bytes-2.result x c.len-2.result c.loop-word.chunks.items (items_of c.args.bitmap.now) c.loop-word.invariant.copied steps.word.0 c.loop-word.invariant.behind spilled c.in_ok-extend_from_slice-2.ensures.items c.to_ne_bytes-2.ensures.bits c.len-2.ensures.items).1
+    c.from_vec.ensures.items ∙ (all_copied c.loop-word.bytes.items c.extend_from_slice-2.new.self.items c.to_ne_bytes-2.result x c.len-2.result c.loop-word.chunks.items (items_of c.args.bitmap.now) c.loop-word.invariant.copied steps.word.0 c.loop-word.invariant.behind spilled c.in_ok-extend_from_slice-2.ensures.items c.to_ne_bytes-2.ensures.bits c.len-2.ensures.items).1

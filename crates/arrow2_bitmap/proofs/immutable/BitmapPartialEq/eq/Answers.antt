@@ -2,5 +2,5 @@ use Rattle.arrow2_model.specs.Storage.{items_of}
 use Rattle.arrow2_bitmap.proofs.Same.{same_told}
 use Rattle.arrow2_bitmap.proofs.immutable.BitmapPartialEq.eq.Goals as goal
 
-pub returns-then-len : goal.returns-then-len
-returns-then-len c = same_told (items_of c.args.self.now) (items_of c.args.other.now) c.same_items.result c.same_items.ensures
+pub returns-then-len-clause-told : goal.returns-then-len-clause-told
+returns-then-len-clause-told c = same_told (items_of c.args.self.now) (items_of c.args.other.now) c.same_items.result c.same_items.ensures

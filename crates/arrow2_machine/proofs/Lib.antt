@@ -1,0 +1,2 @@
+pub mod MachineLemmas
+pub mod SlotLemmas

@@ -1,0 +1,96 @@
+-- What each command on bitmaps does to the machine of lists.
+use Rattle.std.specs.Prelude.{ℕ, ◌+◌, ◌-◌, ◌^◌, ◌==◌, nat_lt, Bool, List, [], ◌∷◌, ◌++◌, length, slice_set, slice_get, take, codes, Result, Ok, Err, if◌then◌else◌}
+use Rattle.std.specs.Fmt.{decimal}
+use Rattle.arrow2_model.specs.Parts.{part, falses}
+use Rattle.arrow2_script.specs.Words.{bits_text}
+use Rattle.arrow2_script.specs.declared.bitmap_command.BitmapCommand.{BitmapCommand}
+use Rattle.arrow2_script.specs.declared.bitmap_command.BitmapCommand.TheVariants.{New, Push, Pop, Get, Freeze, Thaw, Copy, Slice, Count, Bits}
+use Rattle.arrow2_machine.specs.declared.refusal.Refusal.{Refusal}
+use Rattle.arrow2_machine.specs.declared.refusal.Refusal.TheVariants.{Range, Overflow}
+use Rattle.arrow2_machine.specs.Held.{Held, Frozen, Growing, ◌>>=◌, at, growing, frozen, listed}
+use Rattle.arrow2_machine.specs.Replies.{item_said}
+
+-- what a slot holds after a bit is pushed to it: a length of 2 ^ 64 is too great
+abbrev pub pushed : Held → Bool → Result Held Refusal
+pushed held bit = do
+  items ← growing held
+  if length items == 2 ^ 64 - 1 then Err Overflow else Ok (Growing (items ++ bit ∷ []))
+
+-- what a slot holds after its last item is taken off, and the reply that tells it
+abbrev pub popped : Held → Result (Held × List ℕ) Refusal
+popped held = do
+  items ← growing held
+  Ok (Growing (take (length items - 1) items), item_said (slice_get items (length items - 1)))
+
+-- the reply that tells item i of a slot
+abbrev pub got : Held → ℕ → Result (List ℕ) Refusal
+got held i = do
+  items ← listed held
+  Ok (item_said (slice_get items i))
+
+-- what a slot holds after it is frozen
+abbrev pub froze : Held → Result Held Refusal
+froze held = do
+  items ← growing held
+  Ok (Frozen items)
+
+-- what a slot holds after it is thawed
+abbrev pub thawed : Held → Result Held Refusal
+thawed held = do
+  items ← frozen held
+  Ok (Growing items)
+
+-- what a copy of a slot holds
+abbrev pub copied : Held → Result Held Refusal
+copied held = do
+  items ← frozen held
+  Ok (Frozen items)
+
+-- what a slot holds after it is cut to its n items from item i on
+abbrev pub sliced : Held → ℕ → ℕ → Result Held Refusal
+sliced held i n = do
+  items ← frozen held
+  if nat_lt (length items) (i + n) then Err Range else Ok (Frozen (part items i n))
+
+-- how many items of a slot are false
+abbrev pub counted : Held → Result ℕ Refusal
+counted held = do
+  items ← listed held
+  Ok (falses items)
+
+-- the text of a slot's items
+abbrev pub item_text : Held → Result (List ℕ) Refusal
+item_text held = do
+  items ← listed held
+  Ok (bits_text items)
+
+-- the slots after a command on bitmaps, and its reply
+unfoldable pub bitmap_outcome : List Held → BitmapCommand → Result (List Held × List ℕ) Refusal
+bitmap_outcome slots (New s bits) = Ok (slice_set slots s (Growing bits), codes "ok")
+bitmap_outcome slots (Push s bit) = do
+  held ← pushed (at slots s) bit
+  Ok (slice_set slots s held, codes "ok")
+bitmap_outcome slots (Pop s) = do
+  after ← popped (at slots s)
+  Ok (slice_set slots s after.0, after.1)
+bitmap_outcome slots (Get s i) = do
+  said ← got (at slots s) i
+  Ok (slots, said)
+bitmap_outcome slots (Freeze s) = do
+  held ← froze (at slots s)
+  Ok (slice_set slots s held, codes "ok")
+bitmap_outcome slots (Thaw s) = do
+  held ← thawed (at slots s)
+  Ok (slice_set slots s held, codes "ok")
+bitmap_outcome slots (Copy s d) = do
+  held ← copied (at slots s)
+  Ok (slice_set slots d held, codes "ok")
+bitmap_outcome slots (Slice s i n) = do
+  held ← sliced (at slots s) i n
+  Ok (slice_set slots s held, codes "ok")
+bitmap_outcome slots (Count s) = do
+  number ← counted (at slots s)
+  Ok (slots, decimal number)
+bitmap_outcome slots (Bits s) = do
+  said ← item_text (at slots s)
+  Ok (slots, said)

@@ -1,0 +1,6 @@
+pub mod BitmapOutcomes
+pub mod Held
+pub mod Machine
+pub mod Outcomes
+pub mod Replies
+pub mod Slots

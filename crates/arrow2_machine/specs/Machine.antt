@@ -1,0 +1,38 @@
+-- The machine of lists that a script is told to.
+use Rattle.std.specs.Prelude.{ℕ, List, [], ◌∷◌, ◌++◌, replicate, Option, Some, None, Result, Ok, Err}
+use Rattle.arrow2_script.specs.Lines.{lines_of, ended}
+use Rattle.arrow2_script.specs.Commands.{command_in}
+use Rattle.arrow2_script.specs.declared.command.Command.{Command}
+use Rattle.arrow2_script.specs.declared.command.Command.TheVariants.{Bitmap}
+use Rattle.arrow2_machine.specs.declared.refusal.Refusal.{Refusal}
+use Rattle.arrow2_machine.specs.declared.refusal.Refusal.TheVariants.{Syntax}
+use Rattle.arrow2_machine.specs.Held.{Held, Nothing}
+use Rattle.arrow2_machine.specs.Replies.{refused_text}
+use Rattle.arrow2_machine.specs.BitmapOutcomes.{bitmap_outcome}
+
+-- the slots after a command, and its reply, by the command's kind
+unfoldable pub outcome : List Held → Command → Result (List Held × List ℕ) Refusal
+outcome slots (Bitmap command) = bitmap_outcome slots command
+
+-- a line that is refused changes nothing
+abbrev pub settled : List Held → Result (List Held × List ℕ) Refusal → List Held × List ℕ
+settled slots (Ok after) = after
+settled slots (Err e) = (slots, refused_text e)
+
+-- what a line leads to: one that is no command is refused
+abbrev pub outcome_of : List Held → Option Command → Result (List Held × List ℕ) Refusal
+outcome_of slots None = Err Syntax
+outcome_of slots (Some command) = outcome slots command
+
+-- one step of the machine: the slots after a line, and its reply
+unfoldable pub step : List Held → List ℕ → List Held × List ℕ
+step slots line = settled slots (outcome_of slots (command_in line))
+
+-- the replies to lines, each followed by byte 10
+unfoldable pub replies : List Held → List (List ℕ) → List ℕ
+replies slots [] = []
+replies slots (line ∷ lines) = ended (step slots line).1 ++ replies (step slots line).0 lines
+
+-- what a script is answered: its lines' replies, from sixteen empty slots on
+unfoldable pub text : List ℕ → List ℕ
+text script = replies (replicate 16 Nothing) (lines_of script)

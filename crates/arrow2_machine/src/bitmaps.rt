@@ -1,0 +1,265 @@
+//! The commands on bitmaps: what each does to its slots, and its reply.
+ghost use Rattle.std.specs.Prelude.{◌≡◌, ◌≢◌, ◌++◌, ◌+◌, ◌≤◌, ◌↔◌, slice_get, length as count_of, IsOk, OnOk, OnErr, IfErr, IfOk, IsOkAnd, IsErrOf};
+ghost use Rattle.arrow2_model.specs.Parts.{part};
+ghost use Rattle.arrow2_model.specs.Storage.{items_of};
+ghost use Rattle.arrow2_machine.specs.Held.{Nothing, Growing};
+ghost use Rattle.arrow2_machine.specs.Replies.{item_said};
+ghost use Rattle.arrow2_machine.specs.BitmapOutcomes.{pushed, popped, got, froze, thawed, copied, sliced, counted, item_text, bitmap_outcome};
+ghost use Rattle.arrow2_machine.specs.Outcomes.{Gives, Fails};
+
+use crate::refusal::{CommandError, Refusal};
+use crate::replies::{write_item, write_items, write_number};
+use crate::slot::{Contents, Slot};
+use arrow2_bitmap::immutable::Bitmap;
+use arrow2_bitmap::mutable::MutableBitmap;
+use arrow2_script::bitmap_command::BitmapCommand;
+use arrow2_script::words::BitText;
+use std::alloc::Global;
+use std::convert::TryFrom;
+use std::mem;
+
+/// Carries a command on bitmaps out, and appends its reply.
+#[tactic(auto, unfolding(crate::specs::BitmapOutcomes::bitmap_outcome))]
+pub(crate) fn run(
+    slots: &mut [Slot; 16],
+    alloc: Global,
+    command: BitmapCommand<'_>,
+    reply: &mut Vec<u8>,
+) -> Result<(), CommandError>
+    ensures ok { OnOk result (IsOkAnd (bitmap_outcome slots.old command.entry) (λ after. (slots.new ≡ after.0) × (reply.new.items ≡ reply.old.items ++ after.1))) }
+    ensures refused { IfErr result (λ e. Fails e (bitmap_outcome slots.old command.entry)) }
+    ensures err { IfErr result (λ e. e ≢ CommandError.OutOfMemory → (slots.new ≡ slots.old) × (reply.new.items ≡ reply.old.items)) }
+{
+    match command {
+        BitmapCommand::New(slot, bits) => slots[slot.get()] = Slot::with_bits(alloc, &bits)?,
+        BitmapCommand::Push(slot, bit) => slots[slot.get()].push(bit)?,
+        BitmapCommand::Pop(slot) => return write_item(slots[slot.get()].pop()?, reply),
+        BitmapCommand::Get(slot, index) => return write_item(slots[slot.get()].get(index)?, reply),
+        BitmapCommand::Freeze(slot) => slots[slot.get()].freeze()?,
+        BitmapCommand::Thaw(slot) => slots[slot.get()].thaw()?,
+        BitmapCommand::Copy(from, to) => slots[to.get()] = slots[from.get()].copy()?,
+        BitmapCommand::Slice(slot, offset, length) => slots[slot.get()].slice(offset, length)?,
+        BitmapCommand::Count(slot) => return write_number(slots[slot.get()].count()?, reply),
+        BitmapCommand::Bits(slot) => return slots[slot.get()].write_bits(reply),
+    }
+    reply.extend_from_slice(b"ok")?;
+    Ok(())
+}
+
+impl Slot {
+    /// A slot with a growing bitmap of these items.
+    ///
+    /// # Errors
+    ///
+    /// `OutOfMemory` alone.
+    pub fn with_bits(alloc: Global, text: &BitText<'_>) -> Result<Slot, CommandError>
+        ensures ok { IfOk result (λ slot. slot ≡ Growing text.now) }
+        ensures only { IfErr result (λ e. e ≡ CommandError.OutOfMemory) }
+    {
+        Ok(Slot {
+            contents: Contents::Growing(bitmap_of(alloc, text)?),
+        })
+    }
+
+    /// Adds one item to a growing bitmap.
+    ///
+    /// # Errors
+    ///
+    /// `Kind`, `Overflow` or `OutOfMemory`. They change nothing.
+    pub fn push(&mut self, bit: bool) -> Result<(), CommandError>
+        ensures gives { Gives (λ _. self.new) result (pushed self.old bit) }
+        ensures err { OnErr result (self.new ≡ self.old) }
+    {
+        match &mut self.contents {
+            Contents::Growing(bitmap) => {
+                bitmap.push(bit)?;
+                Ok(())
+            }
+            _ => Err(CommandError::Refused(Refusal::Kind)),
+        }
+    }
+
+    /// Takes the last item off a growing bitmap, and gives it back where there is one.
+    ///
+    /// # Errors
+    ///
+    /// `Kind` alone, which changes nothing.
+    #[tactic(auto, using(crate::proofs::SlotLemmas::popping))]
+    pub fn pop(&mut self) -> Result<Option<bool>, CommandError>
+        ensures gives { Gives (λ item. (self.new, item_said item)) result (popped self.old) }
+        ensures err { OnErr result (self.new ≡ self.old) }
+        ensures only { IfErr result (λ e. e ≢ CommandError.OutOfMemory) }
+    {
+        match &mut self.contents {
+            Contents::Growing(bitmap) => Ok(bitmap.pop()),
+            _ => Err(CommandError::Refused(Refusal::Kind)),
+        }
+    }
+
+    /// Item `index` of a bitmap, where there is one.
+    ///
+    /// # Errors
+    ///
+    /// `Kind` alone.
+    pub fn get(&self, index: u64) -> Result<Option<bool>, CommandError>
+        ensures gives { Gives (λ item. item_said item) result (got self.now index) }
+        ensures only { IfErr result (λ e. e ≢ CommandError.OutOfMemory) }
+    {
+        match &self.contents {
+            Contents::Nothing => Err(CommandError::Refused(Refusal::Kind)),
+            Contents::Frozen(bitmap) => Ok(bitmap.get(index as usize)),
+            Contents::Growing(bitmap) => Ok(item_at(bitmap, index)),
+        }
+    }
+
+    /// Freezes a growing bitmap.
+    ///
+    /// # Errors
+    ///
+    /// `Kind`, which changes nothing, or `OutOfMemory`, which leaves nothing in the slot.
+    pub fn freeze(&mut self) -> Result<(), CommandError>
+        ensures gives { Gives (λ _. self.new) result (froze self.old) }
+        ensures err { IfErr result (λ e. e ≢ CommandError.OutOfMemory → self.new ≡ self.old) }
+        ensures memory { IsErrOf result CommandError.OutOfMemory → self.new ≡ Nothing }
+    {
+        match mem::replace(&mut self.contents, Contents::Nothing) {
+            Contents::Growing(bitmap) => {
+                self.contents = Contents::Frozen(Bitmap::try_from(bitmap)?);
+                Ok(())
+            }
+            other => {
+                self.contents = other;
+                Err(CommandError::Refused(Refusal::Kind))
+            }
+        }
+    }
+
+    /// Lets a frozen bitmap grow again.
+    ///
+    /// # Errors
+    ///
+    /// `Kind`, which changes nothing, or `OutOfMemory`, which leaves nothing in the slot.
+    pub fn thaw(&mut self) -> Result<(), CommandError>
+        ensures gives { Gives (λ _. self.new) result (thawed self.old) }
+        ensures err { IfErr result (λ e. e ≢ CommandError.OutOfMemory → self.new ≡ self.old) }
+        ensures memory { IsErrOf result CommandError.OutOfMemory → self.new ≡ Nothing }
+    {
+        match mem::replace(&mut self.contents, Contents::Nothing) {
+            Contents::Frozen(bitmap) => {
+                self.contents = Contents::Growing(bitmap.make_mut()?);
+                Ok(())
+            }
+            other => {
+                self.contents = other;
+                Err(CommandError::Refused(Refusal::Kind))
+            }
+        }
+    }
+
+    /// A slot with the same frozen bitmap.
+    ///
+    /// # Errors
+    ///
+    /// `Kind` or `OutOfMemory`.
+    pub fn copy(&self) -> Result<Slot, CommandError>
+        ensures { Gives (λ slot. slot) result (copied self.now) }
+    {
+        match &self.contents {
+            Contents::Frozen(bitmap) => Ok(Slot {
+                contents: Contents::Frozen(bitmap.clone()?),
+            }),
+            _ => Err(CommandError::Refused(Refusal::Kind)),
+        }
+    }
+
+    /// Cuts a frozen bitmap to its `length` items from item `offset` on. Takes no memory.
+    ///
+    /// # Errors
+    ///
+    /// `Kind` or `Range`. They change nothing.
+    pub fn slice(&mut self, offset: u64, length: u64) -> Result<(), CommandError>
+        ensures gives { Gives (λ _. self.new) result (sliced self.old offset length) }
+        ensures err { OnErr result (self.new ≡ self.old) }
+        ensures only { IfErr result (λ e. e ≢ CommandError.OutOfMemory) }
+    {
+        match &mut self.contents {
+            Contents::Frozen(bitmap) => cut(bitmap, offset, length),
+            _ => Err(CommandError::Refused(Refusal::Kind)),
+        }
+    }
+
+    /// How many items of a bitmap are false.
+    ///
+    /// # Errors
+    ///
+    /// `Kind` alone.
+    pub fn count(&self) -> Result<usize, CommandError>
+        ensures gives { Gives (λ number. number) result (counted self.now) }
+        ensures only { IfErr result (λ e. e ≢ CommandError.OutOfMemory) }
+    {
+        match &self.contents {
+            Contents::Nothing => Err(CommandError::Refused(Refusal::Kind)),
+            Contents::Frozen(bitmap) => Ok(bitmap.unset_bits()),
+            Contents::Growing(bitmap) => Ok(bitmap.unset_bits()),
+        }
+    }
+
+    /// Appends the text of a bitmap's items.
+    ///
+    /// # Errors
+    ///
+    /// `Kind`, which changes nothing, or `OutOfMemory`, after which a part of the text may be there.
+    pub fn write_bits(&self, out: &mut Vec<u8>) -> Result<(), CommandError>
+        ensures ok { OnOk result (IsOkAnd (item_text self.now) (λ text. out.new.items ≡ out.old.items ++ text)) }
+        ensures refused { IfErr result (λ e. Fails e (item_text self.now)) }
+        ensures err { IfErr result (λ e. e ≢ CommandError.OutOfMemory → out.new.items ≡ out.old.items) }
+    {
+        match &self.contents {
+            Contents::Nothing => return Err(CommandError::Refused(Refusal::Kind)),
+            Contents::Frozen(bitmap) => write_items(bitmap.iter(), out)?,
+            Contents::Growing(bitmap) => write_items(bitmap.iter(), out)?,
+        }
+        Ok(())
+    }
+}
+
+/// The growing bitmap of a text of bits.
+fn bitmap_of(alloc: Global, text: &BitText<'_>) -> Result<MutableBitmap, CommandError>
+    ensures ok { IfOk result (λ bitmap. bitmap.items ≡ text.now) }
+    ensures only { IfErr result (λ e. e ≡ CommandError.OutOfMemory) }
+{
+    let digits = text.digits();
+    let mut bitmap = MutableBitmap::with_capacity(alloc, digits.len())?;
+    for digit in digits {
+        bitmap.push(*digit == b'1')?;
+    }
+    Ok(bitmap)
+}
+
+/// Cuts a bitmap to its `length` items from item `offset` on, where they are inside.
+fn cut(bitmap: &mut Bitmap, offset: u64, length: u64) -> Result<(), CommandError>
+    ensures inside { IsOk result ↔ (offset + length ≤ count_of (items_of bitmap.old)) }
+    ensures ok { OnOk result (items_of bitmap.new ≡ part (items_of bitmap.old) offset length) }
+    ensures err { OnErr result (bitmap.new ≡ bitmap.old) }
+    ensures only { IfErr result (λ e. e ≡ CommandError.Refused Refusal.Range) }
+{
+    let len = bitmap.len() as u64;
+    if offset <= len && length <= len - offset {
+        bitmap.slice(offset as usize, length as usize);
+        Ok(())
+    } else {
+        Err(CommandError::Refused(Refusal::Range))
+    }
+}
+
+/// Item `index` of a growing bitmap, where there is one.
+#[tactic(auto, using(std::proofs::lemmas::Option::gets))]
+fn item_at(bitmap: &MutableBitmap, index: u64) -> Option<bool>
+    ensures { result ≡ slice_get bitmap.now.items index }
+{
+    if index < bitmap.len() as u64 {
+        Some(bitmap.get(index as usize))
+    } else {
+        None
+    }
+}

@@ -1,0 +1,9 @@
+//! The machine of a script: sixteen slots, what each line does to them, and a whole replay.
+#![tactic(auto)]
+
+mod bitmaps;
+pub mod machine;
+pub mod refusal;
+pub mod replay;
+mod replies;
+pub mod slot;

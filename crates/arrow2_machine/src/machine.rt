@@ -1,0 +1,85 @@
+//! The machine: sixteen slots, and what a line does to them.
+ghost use Rattle.std.specs.Prelude.{◌≡◌, ◌≢◌, ◌++◌, OnOk, IfErr, IsOkAnd, replicate};
+ghost use Rattle.arrow2_script.specs.Lines.{ended};
+ghost use Rattle.arrow2_machine.specs.Held.{Nothing};
+ghost use Rattle.arrow2_machine.specs.Machine.{outcome, step};
+ghost use Rattle.arrow2_machine.specs.Outcomes.{Fails};
+
+use crate::bitmaps;
+use crate::refusal::{CommandError, Refusal};
+use crate::slot::Slot;
+use arrow2_script::command::{Command, parse};
+use std::alloc::{AllocError, Global};
+use std::array;
+use std::marker::Model;
+
+/// Sixteen slots, which contracts see as the machine's.
+#[derive(Drop)]
+pub struct Machine {
+    slots: [Slot; 16],
+}
+
+impl Model for Machine {
+    ghost use Rattle.std.specs.Prelude.{List};
+    ghost use Rattle.arrow2_machine.specs.Held.{Held};
+
+    ghost Value = { List Held };
+
+    ghost view = { λ m. m.slots };
+}
+
+impl Machine {
+    /// Sixteen slots that hold nothing.
+    pub fn new() -> Machine
+        ensures { result ≡ replicate 16 Nothing }
+    {
+        Machine {
+            slots: array::from_fn(|_| Slot::new()),
+        }
+    }
+
+    /// Carries a command out, and appends its reply.
+    #[tactic(auto, unfolding(crate::specs::Machine::outcome))]
+    fn run(
+        &mut self,
+        alloc: Global,
+        command: Command<'_>,
+        reply: &mut Vec<u8>,
+    ) -> Result<(), CommandError>
+        ensures ok { OnOk result (IsOkAnd (outcome self.old command.entry) (λ after. (self.new ≡ after.0) × (reply.new.items ≡ reply.old.items ++ after.1))) }
+        ensures refused { IfErr result (λ e. Fails e (outcome self.old command.entry)) }
+        ensures err { IfErr result (λ e. e ≢ CommandError.OutOfMemory → (self.new ≡ self.old) × (reply.new.items ≡ reply.old.items)) }
+    {
+        match command {
+            Command::Bitmap(command) => bitmaps::run(&mut self.slots, alloc, command, reply),
+        }
+    }
+
+    /// Answers one line, and appends its reply and a line end. A line that is refused changes nothing.
+    ///
+    /// # Errors
+    ///
+    /// Where a request for memory is refused. The slots may have changed then.
+    #[tactic(auto, unfolding(crate::specs::Machine::step))]
+    pub fn answer(
+        &mut self,
+        alloc: Global,
+        line: &[u8],
+        reply: &mut Vec<u8>,
+    ) -> Result<(), AllocError>
+        ensures slots { OnOk result (self.new ≡ (step self.old line.now).0) }
+        ensures reply { OnOk result (reply.new.items ≡ reply.old.items ++ ended (step self.old line.now).1) }
+    {
+        let outcome = match parse(line) {
+            Some(command) => self.run(alloc, command, reply),
+            None => Err(CommandError::Refused(Refusal::Syntax)),
+        };
+        match outcome {
+            Ok(()) => {}
+            Err(CommandError::Refused(refusal)) => reply.extend_from_slice(refusal.text())?,
+            Err(CommandError::OutOfMemory) => return Err(AllocError),
+        }
+        reply.push(b'\n')?;
+        Ok(())
+    }
+}

@@ -1,0 +1,91 @@
+//! Why a line is refused.
+ghost use Rattle.std.specs.Prelude.{◌≡◌};
+ghost use Rattle.arrow2_machine.specs.Replies.{refused_text};
+
+use arrow2_types::error::Error;
+use std::alloc::{AllocError, AllocFailed};
+
+/// Why a line is refused. It changes nothing then.
+#[derive(Clone, Copy, Debug, PartialEq, Eq)]
+pub enum Refusal {
+    /// The line is no command.
+    Syntax,
+    /// A slot does not hold what the command asks for.
+    Kind,
+    /// A range is not inside its list.
+    Range,
+    /// A length would pass the greatest number.
+    Overflow,
+}
+
+impl Refusal {
+    /// The reply to a refused line, without a line end.
+    pub fn text(self) -> &'static [u8]
+        ensures { result.now ≡ refused_text self }
+    {
+        match self {
+            Refusal::Syntax => b"error syntax",
+            Refusal::Kind => b"error kind",
+            Refusal::Range => b"error range",
+            Refusal::Overflow => b"error overflow",
+        }
+    }
+}
+
+/// Why a command was not carried out.
+#[derive(Clone, Copy, Debug, PartialEq, Eq)]
+pub enum CommandError {
+    /// The machine refuses the line.
+    Refused(Refusal),
+    /// A request for memory was refused.
+    OutOfMemory,
+}
+
+impl From<Refusal> for CommandError {
+    ghost use Rattle.arrow2_machine.specs.declared.refusal.CommandError.TheVariants.{Refused};
+
+    ghost from_gives = { λ refusal error. error ≡ Refused refusal };
+
+    fn from(refusal: Refusal) -> CommandError {
+        CommandError::Refused(refusal)
+    }
+}
+
+impl From<AllocError> for CommandError {
+    ghost use Rattle.arrow2_machine.specs.declared.refusal.CommandError.TheVariants.{OutOfMemory};
+
+    ghost from_gives = { λ _ error. error ≡ OutOfMemory };
+
+    fn from(_error: AllocError) -> CommandError {
+        CommandError::OutOfMemory
+    }
+}
+
+/// The value that found no room is dropped.
+impl<T: Drop> From<AllocFailed<T>> for CommandError {
+    ghost use Rattle.arrow2_machine.specs.declared.refusal.CommandError.TheVariants.{OutOfMemory};
+
+    ghost from_gives = { λ _ error. error ≡ OutOfMemory };
+
+    fn from(_error: AllocFailed<T>) -> CommandError {
+        CommandError::OutOfMemory
+    }
+}
+
+/// An overflow is refused, and what is handed in and does not fit is out of range; the other errors are want of
+/// memory, since no call of the layer that a command makes answers them.
+impl From<Error> for CommandError {
+    ghost use Rattle.arrow2_machine.specs.Outcomes.{command_error};
+
+    ghost from_gives = { λ error given. given ≡ command_error error };
+
+    fn from(error: Error) -> CommandError {
+        match error {
+            Error::Overflow => CommandError::Refused(Refusal::Overflow),
+            Error::InvalidArgumentError(_) | Error::OutOfSpec(_) => CommandError::Refused(
+                Refusal::Range,
+            ),
+            _ => CommandError::OutOfMemory,
+        }
+    }
+}

@@ -1,0 +1,42 @@
+//! A slot of the machine.
+ghost use Rattle.std.specs.Prelude.{◌≡◌};
+ghost use Rattle.arrow2_machine.specs.Held.{Nothing};
+
+use arrow2_bitmap::immutable::Bitmap;
+use arrow2_bitmap::mutable::MutableBitmap;
+use std::marker::Model;
+
+/// What a slot holds.
+#[derive(Drop)]
+pub(crate) enum Contents {
+    Nothing,
+    Frozen(Bitmap),
+    Growing(MutableBitmap),
+}
+
+/// A slot, which contracts see as what it holds in the machine of lists.
+#[derive(Drop)]
+pub struct Slot {
+    pub(crate) contents: Contents,
+}
+
+impl Model for Slot {
+    ghost use Rattle.arrow2_machine.specs.Held.{Held};
+
+    ghost Value = { Held };
+
+    ghost use Rattle.arrow2_machine.specs.Slots.{held_in};
+
+    ghost view = { λ s. held_in s.contents };
+}
+
+impl Slot {
+    /// A slot that holds nothing.
+    pub fn new() -> Slot
+        ensures { result ≡ Nothing }
+    {
+        Slot {
+            contents: Contents::Nothing,
+        }
+    }
+}

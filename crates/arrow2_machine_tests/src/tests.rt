@@ -1,0 +1,190 @@
+//! Scripts and their replies, and readers and writers that fail.
+ghost use Rattle.std.specs.Prelude.{◌≤◌, length};
+
+use arrow2_machine::replay::watch_and_replay;
+use arrow2_streams::fault::{ReplayFault, exit_code};
+use std::alloc::{AllocError, Global};
+use std::io;
+use std::io::{ErrorKind, Read, Write};
+use std::marker::Brand;
+use std::process::ExitCode;
+use std::sync::ledger::Blank;
+use std::test::Fail;
+
+/// A reader that gives a few bytes a call, and fails at one call.
+#[derive(Drop)]
+struct Trickle<'a> {
+    rest: &'a [u8],
+    at_most: usize,
+    fails_at: u64,
+    calls: u64,
+}
+
+impl Read for Trickle<'_> {
+    fn read(&mut self, buf: &mut [u8]) -> io::Result<usize> {
+        self.calls = self.calls.saturating_add(1);
+        if self.calls == self.fails_at {
+            return Err(ErrorKind::Other.into());
+        }
+        let count = self.at_most.min(buf.len()).min(self.rest.len());
+        let (given, rest) = self.rest.split_at(count);
+        buf[..count].copy_from_slice(given);
+        self.rest = rest;
+        Ok(count)
+    }
+}
+
+/// A writer that takes a few bytes a call, and fails at one call or when it is flushed.
+#[derive(Drop)]
+struct Narrow {
+    taken: Vec<u8>,
+    at_most: usize,
+    fails_at: u64,
+    calls: u64,
+    flush_fails: bool,
+}
+
+impl Write for Narrow {
+    fn write(&mut self, buf: &[u8]) -> io::Result<usize> {
+        self.calls = self.calls.saturating_add(1);
+        if self.calls == self.fails_at {
+            return Err(ErrorKind::Other.into());
+        }
+        let count = self.at_most.min(buf.len());
+        self.taken.extend_from_slice(&buf[..count])?;
+        Ok(count)
+    }
+
+    fn flush(&mut self) -> io::Result<()> {
+        if self.flush_fails {
+            return Err(ErrorKind::Other.into());
+        }
+        Ok(())
+    }
+}
+
+/// What a replay wrote, and its answer.
+fn told<R: Read + Drop, W: Write>(
+    alloc: Global,
+    reader: R,
+    writer: W,
+) -> (W, Result<(), ReplayFault>) {
+    let (_, writer, result) = watch_and_replay::<R, W, Brand, Brand>(
+        alloc,
+        reader,
+        writer,
+        Blank::new(3),
+        Blank::new(3),
+    );
+    (writer, result)
+}
+
+/// The same byte some times.
+fn repeated(alloc: Global, byte: u8, count: usize) -> Result<Vec<u8>, AllocError> {
+    vec![in alloc; byte; count]
+}
+
+const FIRST: &[u8] =
+    b"new 0 10110\npush 0 1\nfreeze 0\ncopy 0 1\nslice 1 1 4\nbits 1\ncount 1\nbits 0\n";
+
+const FIRST_REPLIES: &[u8] = b"ok\nok\nok\nok\nok\n0110\n2\n101101\n";
+
+#[test]
+fn scripts(rt: HostRuntime) -> Result<(), Fail> {
+    let rows: [(&[u8], &[u8]); 9] = [
+        (FIRST, FIRST_REPLIES),
+        (
+            b"new 0 -\npush 0 1\nfreeze 0\npush 0 0\nslice 0 1 1\nslice 0 1 0\nbits 0\ncount 3\n",
+            b"ok\nok\nok\nerror kind\nerror range\nok\n-\nerror kind\n",
+        ),
+        (b"", b""),
+        (b"\n", b"error syntax\n"),
+        (b"new 0 1", b"ok\n"),
+        (
+            b"new 16 1\nnew 00 1\nnew 0 012\nget 0 00\nfill 0 18446744073709551616 1\nraw 0 FF 0 8\noext 0 1,\nbits 0\r\n\xff\xff\n",
+            b"error syntax\nerror syntax\nerror syntax\nerror syntax\nerror syntax\nerror syntax\nerror syntax\nerror syntax\nerror syntax\n",
+        ),
+        (b"slice 0 9 9\n", b"error kind\n"),
+        (
+            b"new 0 -\npop 0\npush 0 1\nget 0 0\nget 0 1\nfreeze 0\nslice 0 1 0\nbits 0\nthaw 0\npush 0 0\nbits 0\n",
+            b"ok\nnone\nok\n1\nnone\nok\nok\n-\nok\nok\n0\n",
+        ),
+        (
+            b" new 0 1\nnew  0 1\nnew 0 1 \nnew 0\nnew 0 1 1\nset 0 0 1\ncount +1\n\nbits 0\n",
+            b"error syntax\nerror syntax\nerror syntax\nerror syntax\nerror syntax\nerror syntax\nerror syntax\nerror syntax\nerror kind\n",
+        ),
+    ];
+    for (script, replies) in rows {
+        let (out, result) = told(rt.alloc(), script, Vec::new(rt.alloc()));
+        assert_eq!(&rt; result, Ok(()));
+        assert_eq!(&rt; out.as_slice(), replies);
+    }
+    Ok(())
+}
+
+#[test]
+fn long_line(rt: HostRuntime) -> Result<(), Fail> {
+    let script = repeated(rt.alloc(), b'x', 1_000_000)?;
+    let (out, result) = told(rt.alloc(), script.as_slice(), Vec::new(rt.alloc()));
+    assert_eq!(&rt; result, Ok(()));
+    assert_eq!(&rt; out.as_slice(), b"error syntax\n".as_slice());
+    Ok(())
+}
+
+#[test]
+fn readers(rt: HostRuntime) -> Result<(), Fail> {
+    let rows: [(usize, u64, Result<(), ReplayFault>, &[u8]); 2] = [
+        (1, 0, Ok(()), FIRST_REPLIES),
+        (20, 2, Err(ReplayFault::Read), b""),
+    ];
+    for (at_most, fails_at, answer, written) in rows {
+        let reader = Trickle {
+            rest: FIRST,
+            at_most,
+            fails_at,
+            calls: 0,
+        };
+        let (out, result) = told(rt.alloc(), reader, Vec::new(rt.alloc()));
+        assert_eq!(&rt; result, answer);
+        assert_eq!(&rt; out.as_slice(), written);
+    }
+    Ok(())
+}
+
+#[test]
+fn writers(rt: HostRuntime) -> Result<(), Fail> {
+    let failed = Err(ReplayFault::Write);
+    let rows: [(usize, u64, bool, Result<(), ReplayFault>, &[u8]); 4] = [
+        (1, 0, false, Ok(()), FIRST_REPLIES),
+        (1, 4, false, failed, b"ok\n"),
+        (0, 0, false, failed, b""),
+        (1000, 0, true, failed, FIRST_REPLIES),
+    ];
+    for (at_most, fails_at, flush_fails, answer, written) in rows {
+        let writer = Narrow {
+            taken: Vec::new(rt.alloc()),
+            at_most,
+            fails_at,
+            calls: 0,
+            flush_fails,
+        };
+        let (writer, result) = told(rt.alloc(), FIRST, writer);
+        assert_eq!(&rt; result, answer);
+        assert_eq!(&rt; writer.taken.as_slice(), written);
+    }
+    Ok(())
+}
+
+#[test]
+fn a_fault_is_said_and_ends_with_status_one(rt: HostRuntime) -> Result<(), Fail> {
+    for (fault, text) in [
+        (ReplayFault::Read, "read failed"),
+        (ReplayFault::Memory, "out of memory"),
+        (ReplayFault::Write, "write failed"),
+    ] {
+        assert_eq!(&rt; fault.to_string(rt.alloc())?.as_str(), text);
+        assert!(&rt; exit_code(&rt, Err(fault)) == ExitCode::FAILURE);
+    }
+    assert!(&rt; exit_code(&rt, Ok(())) == ExitCode::SUCCESS);
+    Ok(())
+}

@@ -1,0 +1,50 @@
+-- Steps of a walk over the lengths between offsets.
+use Rattle.std.proofs.Common.{◌≡◌, ℕ, ◌+◌, ◌-◌, ◌<◌, List, [], ◌∷◌, map, length, take, drop, get_or, ap, sym, ◌∙◌, refl, arith, add-one}
+use Rattle.std.specs.Prelude.{ℤ, pos, ◌≤ℤ◌, ◌-ℤ◌, unsigned_abs}
+use Rattle.std.specs.Int.{int_gap}
+use Rattle.std.proofs.lemmas.List.{length-drop, take_all}
+use Rattle.arrow2_model.specs.Offsets.{AreOffsets, lengths_of, lengths_behind}
+use Rattle.arrow2_model.proofs.Ranges.{gap_pos}
+
+get_or-next : {X : Type 0} (x : X) (xs : List X) (k : ℕ) (d : X) → get_or (x ∷ xs) (k + 1) d ≡ get_or xs k d
+get_or-next x xs k d = rw add-one refl
+
+-- the offsets behind the first one
+offsets_behind : (x y : ℤ) (xs : List ℤ) → AreOffsets (x ∷ y ∷ xs) → AreOffsets (y ∷ xs)
+offsets_behind x y xs h = record {
+  some = omega arith;
+  natural = λ k l. rw (← get_or-next x (y ∷ xs) k (pos 0)) (h.natural (k + 1) (omega arith));
+  rising = λ k l. rw (← get_or-next x (y ∷ xs) k (pos 0), ← get_or-next x (y ∷ xs) (k + 1) (pos 0)) (h.rising (k + 1) (omega arith));
+}
+
+module _ {X : Type 0} (value : X → ℤ) where
+  -- nothing is left where one offset is left
+  pub no_length : (items : List X) → length items ≡ 1 → lengths_of (map value items) ≡ []
+  unfolding lengths_of lengths_behind
+  no_length [] e = refl
+  no_length (x ∷ []) e = refl
+  no_length (x ∷ y ∷ xs) e = let no : ⊥ = omega arith in absurd no
+
+  -- the first two are in order
+  pub in_order : (items : List X) (a b : X) → AreOffsets (map value items) → 1 < length items → a ≡ get_or items 0 a → b ≡ get_or items 1 b → value a ≤ℤ value b
+  in_order [] a b h l is-a is-b = let no : ⊥ = omega arith in absurd no
+  in_order (x ∷ []) a b h l is-a is-b = let no : ⊥ = omega arith in absurd no
+  in_order (x ∷ y ∷ xs) a b h l is-a is-b = rw (is-a, is-b) (h.rising 0 (omega arith))
+
+  -- the first length, and those behind it
+  first_of : (items : List X) (a b : X) (n : ℕ) → AreOffsets (map value items) → 1 < length items → a ≡ get_or items 0 a → b ≡ get_or items 1 b → pos n ≡ value b -ℤ value a → AreOffsets (map value (drop 1 items)) × (lengths_of (map value items) ≡ n ∷ lengths_of (map value (drop 1 items)))
+  unfolding lengths_of lengths_behind
+  first_of [] a b n h l is-a is-b e = let no : ⊥ = omega arith in absurd no
+  first_of (x ∷ []) a b n h l is-a is-b e = let no : ⊥ = omega arith in absurd no
+  first_of (x ∷ y ∷ xs) a b n h l is-a is-b e =
+      let order : value x ≤ℤ value y = h.rising 0 (omega arith) in
+      let gap = gap_pos (value x) (value y) order in
+      let same : pos n ≡ value y -ℤ value x = e ∙ (ap (λ z. value z -ℤ value a) is-b ∙ ap (λ z. value y -ℤ value z) is-a) in
+      let is : int_gap (value x) (value y) ≡ n = ap unsigned_abs (gap ∙ sym same) in
+      (offsets_behind (value x) (value y) (map value xs) h, ap (λ k. k ∷ lengths_behind (value y) (map value xs)) is)
+
+  pub first_length : (items behind : List X) (a b : X) (n : ℕ) → AreOffsets (map value items) → 1 < length items → a ≡ get_or items 0 a → b ≡ get_or items 1 b → pos n ≡ value b -ℤ value a → behind ≡ take (length items - 1) (drop 1 items) → AreOffsets (map value behind) × (lengths_of (map value items) ≡ n ∷ lengths_of (map value behind))
+  first_length items behind a b n h l is-a is-b e is =
+      let len = length-drop 1 items in
+      let all : behind ≡ drop 1 items = is ∙ take_all (length items - 1) (drop 1 items) (omega (arith, len)) in
+      rw all (first_of items a b n h l is-a is-b e)

@@ -1,0 +1,48 @@
+//! The test of what is handed in as offsets.
+ghost use Rattle.std.specs.Prelude.{◌≡◌, ℕ, ◌+◌, ◌<◌, ◌≤ℤ◌, ◌↔◌, pos, length, map, slice_index_or, OnOk, IsOk, IfErr, IsTrue};
+ghost use Rattle.arrow2_model.specs.Offsets.{AreOffsets, AreOffsetsUpTo};
+ghost use Rattle.arrow2_offset.specs.Refused.{IsOutOfSpec, why_not_offsets};
+
+use arrow2_index::offset::Offset;
+use arrow2_types::error::{Error, Result};
+use std::alloc::{AllocError, Global};
+
+/// Refuses what is not a list of offsets, with the text of the first rule that it breaks.
+pub(crate) fn try_check_offsets<O: Offset>(alloc: Global, offsets: &[O]) -> Result<()>
+    ensures ok { OnOk result (AreOffsetsUpTo O.MAX (map O.value offsets.now)) }
+    ensures accepted { AreOffsets (map O.value offsets.now) → IsOk result }
+    ensures refused { IfErr result (λ e. IsOutOfSpec e (why_not_offsets (map O.value offsets.now))) }
+{
+    if offsets.is_empty() {
+        return Err(out_of_spec(alloc, "offsets must have at least one element"));
+    }
+    if offsets[0] < O::zero() {
+        return Err(out_of_spec(alloc, "offsets must be larger than 0"));
+    }
+    if !is_rising(offsets) {
+        return Err(out_of_spec(alloc, "offsets must be monotonically increasing"));
+    }
+    let _last = offsets[offsets.len() - 1].to_usize();
+    Ok(())
+}
+
+/// The error with this text, or `OutOfMemory` where the text finds no memory.
+fn out_of_spec(alloc: Global, text: &str) -> Error
+    ensures { IsOutOfSpec result text.now }
+{
+    match String::from_str(alloc, text) {
+        Ok(text) => Error::OutOfSpec(text),
+        Err(AllocError) => Error::OutOfMemory,
+    }
+}
+
+/// Whether no item is below the one before it. Reads all of them, with no branch.
+fn is_rising<O: Offset>(offsets: &[O]) -> bool
+    ensures { IsTrue result ↔ ((k : ℕ) → k + 1 < length offsets.now → slice_index_or (map O.value offsets.now) k (pos 0) ≤ℤ slice_index_or (map O.value offsets.now) (k + 1) (pos 0)) }
+{
+    let mut rising = true;
+    for i in 1..offsets.len() {
+        rising &= offsets[i - 1] <= offsets[i];
+    }
+    rising
+}

@@ -1,0 +1,112 @@
+//! Offsets of 32 bits as offsets of 64 bits, and back.
+ghost use Rattle.std.specs.Prelude.{◌≡◌, ◌<◌, ◌≤◌, ◌↔◌, ◌⊎◌, IfOk, IsErrOf, MatchResult};
+ghost use Rattle.arrow2_types.specs.declared.error.Error.TheVariants.{Overflow, OutOfMemory};
+ghost use Rattle.arrow2_model.specs.Buffers.{buffer_items, whole_buffer};
+ghost use Rattle.arrow2_model.specs.Offsets.{AreOffsetsUpTo, last_of, last_of_growing, SameOffsets};
+
+use crate::immutable::OffsetsBuffer;
+use crate::mutable::Offsets;
+use arrow2_index::offset::Offset;
+use arrow2_types::error::{Error, Result};
+use std::alloc::{AllocError, Global};
+
+/// The same offsets, copied. They can be narrowed again.
+///
+/// Stands for arrow2's `From`.
+///
+/// # Errors
+///
+/// `OutOfMemory` alone.
+impl TryFrom<Offsets<i32>> for Offsets<i64> {
+    type Error = Error;
+
+    ghost try_from_gives = { λ offsets r. MatchResult r (λ o. SameOffsets offsets o × (last_of_growing o ≤ 2147483647)) (λ e. e ≡ OutOfMemory) };
+
+    fn try_from(offsets: Offsets<i32>) -> Result<Self> {
+        let offsets = offsets.into_inner();
+        let wide = widened(*offsets.allocator(), offsets.as_slice())?;
+        Ok(Offsets::of_vec(wide))
+    }
+}
+
+/// The same offsets, copied.
+///
+/// # Errors
+///
+/// `Overflow` exactly where the last offset is above 2147483647, else `OutOfMemory` alone.
+impl TryFrom<Offsets<i64>> for Offsets<i32> {
+    type Error = Error;
+
+    ghost try_from_gives = { λ offsets r. MatchResult r (SameOffsets offsets) (λ e. (e ≡ Overflow) ⊎ (e ≡ OutOfMemory)) × (IsErrOf r Overflow ↔ (2147483647 < last_of_growing offsets)) };
+
+    fn try_from(offsets: Offsets<i64>) -> Result<Self> {
+        if *offsets.last() > i64::from(i32::MAX) {
+            return Err(Error::Overflow);
+        }
+        let offsets = offsets.into_inner();
+        let narrow = narrowed(*offsets.allocator(), offsets.as_slice())?;
+        Ok(Offsets::of_vec(narrow))
+    }
+}
+
+/// The same offsets, copied. They can be narrowed again.
+///
+/// Stands for arrow2's `From`.
+///
+/// # Errors
+///
+/// `OutOfMemory` alone.
+impl<'a> TryFrom<&'a OffsetsBuffer<i32>> for OffsetsBuffer<i64> {
+    type Error = Error;
+
+    ghost try_from_gives = { λ offsets r. MatchResult r (λ b. (b ≡ whole_buffer (buffer_items offsets.now)) × (last_of (buffer_items offsets.now) ≤ 2147483647)) (λ e. e ≡ OutOfMemory) };
+
+    fn try_from(offsets: &'a OffsetsBuffer<i32>) -> Result<Self> {
+        let alloc = *offsets.buffer().empty_vec().allocator();
+        let wide = widened(alloc, offsets.as_slice())?;
+        OffsetsBuffer::try_from(Offsets::of_vec(wide))
+    }
+}
+
+/// The same offsets, copied.
+///
+/// # Errors
+///
+/// `Overflow` exactly where the last offset is above 2147483647, else `OutOfMemory` alone.
+impl<'a> TryFrom<&'a OffsetsBuffer<i64>> for OffsetsBuffer<i32> {
+    type Error = Error;
+
+    ghost try_from_gives = { λ offsets r. MatchResult r (λ b. b ≡ whole_buffer (buffer_items offsets.now)) (λ e. (e ≡ Overflow) ⊎ (e ≡ OutOfMemory)) × (IsErrOf r Overflow ↔ (2147483647 < last_of (buffer_items offsets.now))) };
+
+    fn try_from(offsets: &'a OffsetsBuffer<i64>) -> Result<Self> {
+        if *offsets.last() > i64::from(i32::MAX) {
+            return Err(Error::Overflow);
+        }
+        let alloc = *offsets.buffer().empty_vec().allocator();
+        let narrow = narrowed(alloc, offsets.as_slice())?;
+        OffsetsBuffer::try_from(Offsets::of_vec(narrow))
+    }
+}
+
+/// The same numbers, in 64 bits each.
+fn widened(alloc: Global, offsets: &[i32]) -> std::result::Result<Vec<i64>, AllocError>
+    ensures { IfOk result (λ wide. wide.items ≡ offsets.now) }
+{
+    let mut wide = Vec::with_capacity(alloc, offsets.len())?;
+    for offset in offsets {
+        wide.push(i64::from(*offset))?;
+    }
+    Ok(wide)
+}
+
+/// The same numbers, in 32 bits each. Asks that they are offsets that fit.
+fn narrowed(alloc: Global, offsets: &[i64]) -> std::result::Result<Vec<i32>, AllocError>
+    requires { AreOffsetsUpTo 2147483647 offsets.now }
+    ensures { IfOk result (λ narrow. narrow.items ≡ offsets.now) }
+{
+    let mut narrow = Vec::with_capacity(alloc, offsets.len())?;
+    for offset in offsets {
+        narrow.push(*offset as i32)?;
+    }
+    Ok(narrow)
+}

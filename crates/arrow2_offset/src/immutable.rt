@@ -1,0 +1,259 @@
+//! Offsets that are shared.
+ghost use Rattle.std.specs.Prelude.{◌≡◌, ◌+◌, ◌-◌, ◌<◌, ◌≤◌, ◌↔◌, ⊤, [], ◌∷◌, length, map, sum, MatchResult, pos, slice_index_or, IfOk, IfErr, IsTrue};
+ghost use Rattle.std.specs.Ordering.{on, int_eq};
+ghost use Rattle.std.specs.Cmp.{partial_equiv_from_equiv, int_eq_equiv, on_equiv};
+ghost use Rattle.std.specs.Cmp.Lexicographic.{pointwise, lists_equiv};
+ghost use Rattle.either.specs.Either.{MatchEither};
+ghost use Rattle.arrow2_types.specs.declared.error.Error.TheVariants.{OutOfMemory};
+ghost use Rattle.arrow2_offset.specs.Refused.{IsOutOfSpec, why_not_offsets};
+ghost use Rattle.arrow2_model.specs.Parts.{part};
+ghost use Rattle.arrow2_model.specs.Buffers.{buffer_items, whole_buffer};
+ghost use Rattle.arrow2_model.specs.Offsets.{AreOffsets, offset_at, offsets_of, offsets_list, start_of, lengths_of, last_of, numbers_of};
+
+use crate::check::try_check_offsets;
+use crate::iterator::Lengths;
+use crate::mutable::Offsets;
+use arrow2_buffer::Buffer;
+use arrow2_index::offset::Offset;
+use arrow2_types::error::{Error, Result};
+use either::Either;
+use std::alloc::{AllocError, Global};
+use std::marker::Model;
+
+/// Offsets over a shared buffer: contracts see the numbers of its storage, the place of the first offset
+/// there, and how many offsets there are.
+///
+/// There is always at least one offset, none is negative, and none is below the one before it. Clones
+/// and slices share the storage, and take no memory.
+///
+/// Differs from arrow2: the slice of its offsets is [`OffsetsBuffer::as_slice`], since there is no
+/// `Deref` to a slice.
+#[derive(Debug, Drop)]
+pub struct OffsetsBuffer<O: Offset> {
+    buffer: Buffer<O>,
+}
+
+impl<O: Offset> Model for OffsetsBuffer<O> {
+    ghost use Rattle.std.specs.Prelude.{ℤ};
+    ghost use Rattle.arrow2_model.specs.Buffers.{BufferStorage, buffer_items};
+    ghost use Rattle.arrow2_model.specs.Offsets.{AreOffsetsUpTo, numbers_of};
+
+    ghost Value = { BufferStorage ℤ };
+
+    ghost view = { λ b. numbers_of O.value b.buffer };
+
+    ghost invariant = { λ b. AreOffsetsUpTo O.MAX (buffer_items (numbers_of O.value b.buffer)) };
+}
+
+#[tactic(auto, using(crate::proofs::Frozen::frozen))]
+impl<O: Offset> OffsetsBuffer<O> {
+    /// Offset 0 alone, and so no slot.
+    ///
+    /// # Errors
+    ///
+    /// `OutOfMemory` alone.
+    pub fn new(alloc: Global) -> Result<Self>
+        ensures ok { IfOk result (λ b. b ≡ whole_buffer (pos 0 ∷ [])) }
+        ensures only { IfErr result (λ e. e ≡ Error.OutOfMemory) }
+    {
+        OffsetsBuffer::try_from(Offsets::new(alloc)?)
+    }
+
+    /// The offsets as they grow, where no one shares the storage and nothing is sliced off, and the
+    /// offsets themselves elsewhere. Either side holds the same list. Takes no memory.
+    ///
+    /// Differs from arrow2, which gives the whole storage of sliced offsets.
+    pub fn into_mut(self) -> Either<Self, Offsets<O>>
+        ensures same { MatchEither result (λ b. b ≡ self) (λ o. (map pos (offsets_of o) ≡ buffer_items self) × (o.start ≡ start_of (buffer_items self)) × (o.lengths ≡ lengths_of (buffer_items self))) }
+        ensures whole { MatchEither result (λ _. ⊤) (λ o. map pos (offsets_of o) ≡ self.storage) }
+    {
+        let OffsetsBuffer { buffer } = self;
+        match buffer.into_mut() {
+            Either::Left(buffer) => Either::Left(OffsetsBuffer { buffer }),
+            Either::Right(offsets) => Either::Right(Offsets::of_vec(offsets)),
+        }
+    }
+
+    /// The buffer of the offsets.
+    pub fn buffer(&self) -> &Buffer<O>
+        ensures { numbers_of O.value result.now ≡ self.now }
+    {
+        &self.buffer
+    }
+
+    /// How many slots there are: one less than offsets.
+    pub fn len_proxy(&self) -> usize
+        ensures offsets { result + 1 ≡ self.now.len }
+        ensures slots { result ≡ length (lengths_of (buffer_items self.now)) }
+    {
+        self.buffer.len() - 1
+    }
+
+    /// How many offsets there are.
+    pub fn len(&self) -> usize
+        ensures value { result ≡ self.now.len }
+        ensures offsets { result ≡ length (buffer_items self.now) }
+        ensures some { 0 < result }
+    {
+        self.buffer.len()
+    }
+
+    /// The offsets.
+    pub fn as_slice(&self) -> &[O]
+        ensures offsets { map O.value result.now ≡ buffer_items self.now }
+        ensures valid { AreOffsets (buffer_items self.now) }
+        ensures spelled { buffer_items self.now ≡ map pos (offsets_list (start_of (buffer_items self.now)) (lengths_of (buffer_items self.now))) }
+        ensures fits { last_of (buffer_items self.now) ≤ O.MAX }
+        ensures len { length result.now ≡ self.now.len }
+    {
+        let offsets = self.buffer.as_slice();
+        prove!(offsets.len() == self.buffer.len());
+        offsets
+    }
+
+    /// How far the last offset is above the first.
+    pub fn range(&self) -> O
+        ensures value { O.value result ≡ pos (last_of (buffer_items self.now) - start_of (buffer_items self.now)) }
+        ensures lengths { O.value result ≡ pos (sum (lengths_of (buffer_items self.now))) }
+    {
+        O::from_as_usize(self.first().distance_to(*self.last()))
+    }
+
+    /// The first offset.
+    pub fn first(&self) -> &O
+        ensures { O.value result.now ≡ pos (start_of (buffer_items self.now)) }
+    {
+        &self.as_slice()[0]
+    }
+
+    /// The last offset.
+    pub fn last(&self) -> &O
+        ensures value { O.value result.now ≡ pos (last_of (buffer_items self.now)) }
+        ensures fits { last_of (buffer_items self.now) ≤ O.MAX }
+    {
+        let offsets = self.as_slice();
+        &offsets[offsets.len() - 1]
+    }
+
+    /// Where slot `index` starts and where it ends. Asks that `index` is below
+    /// [`OffsetsBuffer::len_proxy`].
+    ///
+    /// arrow2's documentation says [`OffsetsBuffer::len`].
+    pub fn start_end(&self, index: usize) -> (usize, usize)
+        requires { index < length (lengths_of (buffer_items self.now)) }
+        ensures start { result.0 ≡ offset_at (start_of (buffer_items self.now)) (lengths_of (buffer_items self.now)) index }
+        ensures end { result.1 ≡ result.0 + slice_index_or (lengths_of (buffer_items self.now)) index 0 }
+        ensures within { result.1 ≤ last_of (buffer_items self.now) }
+    {
+        let offsets = self.as_slice();
+        (offsets[index].to_usize(), offsets[index + 1].to_usize())
+    }
+
+    /// Keeps `length` offsets from offset `offset` on, over the same storage. Takes no memory.
+    ///
+    /// Asks that `length` is above 0, and that `offset + length` is at most [`OffsetsBuffer::len`].
+    pub fn slice(&mut self, offset: usize, length: usize)
+        requires some { 0 < length }
+        requires within { offset + length ≤ self.old.len }
+        ensures offsets { buffer_items self.new ≡ part (buffer_items self.old) offset length }
+        ensures storage { self.new ≡ record self.old { offset = self.old.offset + offset; len = length } }
+        ensures start { start_of (buffer_items self.new) ≡ offset_at (start_of (buffer_items self.old)) (lengths_of (buffer_items self.old)) offset }
+        ensures lengths { lengths_of (buffer_items self.new) ≡ part (lengths_of (buffer_items self.old)) offset (length - 1) }
+    {
+        prove!(length <= self.buffer.len());
+        self.buffer.slice(offset, length);
+    }
+
+    /// The lengths of the slots, one by one.
+    pub fn lengths(&self) -> Lengths<'_, O>
+        ensures { result ≡ lengths_of (buffer_items self.now) }
+    {
+        Lengths::new(self.as_slice())
+    }
+
+    /// The buffer of the offsets. Takes no memory.
+    pub fn into_inner(self) -> Buffer<O>
+        ensures { numbers_of O.value result ≡ self }
+    {
+        let OffsetsBuffer { buffer } = self;
+        buffer
+    }
+}
+
+/// The buffer itself, which is moved and not copied.
+///
+/// # Errors
+///
+/// `OutOfSpec` exactly where the items are not offsets, with the text of the first rule that they break,
+/// or `OutOfMemory` there, where the text finds no memory. The buffer is then dropped.
+impl<O: Offset> TryFrom<Buffer<O>> for OffsetsBuffer<O> {
+    type Error = Error;
+
+    ghost try_from_gives = { λ buffer r. MatchResult r (λ b. AreOffsets (buffer_items b) × (b ≡ numbers_of O.value buffer)) (λ e. (AreOffsets (map O.value (buffer_items buffer)) → ⊥) × IsOutOfSpec e (why_not_offsets (map O.value (buffer_items buffer)))) };
+
+    fn try_from(buffer: Buffer<O>) -> Result<Self> {
+        let alloc = *buffer.empty_vec().allocator();
+        try_check_offsets(alloc, buffer.as_slice())?;
+        Ok(OffsetsBuffer { buffer })
+    }
+}
+
+/// The whole vector, which is moved and not copied.
+///
+/// # Errors
+///
+/// `OutOfSpec` exactly where the items are not offsets, with the text of the first rule that they break;
+/// else `OutOfMemory` alone. The vector is then dropped.
+impl<O: Offset> TryFrom<Vec<O>> for OffsetsBuffer<O> {
+    type Error = Error;
+
+    ghost try_from_gives = { λ items r. MatchResult r (λ b. AreOffsets (buffer_items b) × (b ≡ whole_buffer (map O.value items.items))) (λ e. IsOutOfSpec e (why_not_offsets (map O.value items.items)) × (AreOffsets (map O.value items.items) → e ≡ OutOfMemory)) };
+
+    fn try_from(offsets: Vec<O>) -> Result<Self> {
+        OffsetsBuffer::try_from(Offsets::try_from(offsets)?)
+    }
+}
+
+/// The same offsets. They are moved and not copied.
+///
+/// Stands for arrow2's `From`.
+///
+/// # Errors
+///
+/// `OutOfMemory` alone, where the count of the owners finds no memory. The offsets are then dropped.
+impl<O: Offset> TryFrom<Offsets<O>> for OffsetsBuffer<O> {
+    type Error = Error;
+
+    ghost try_from_gives = { λ offsets r. MatchResult r (λ b. (b ≡ whole_buffer (map pos (offsets_of offsets))) × (start_of (buffer_items b) ≡ offsets.start) × (lengths_of (buffer_items b) ≡ offsets.lengths)) (λ e. e ≡ OutOfMemory) };
+
+    fn try_from(offsets: Offsets<O>) -> Result<Self> {
+        let buffer = Buffer::try_from(offsets.into_inner())?;
+        Ok(OffsetsBuffer { buffer })
+    }
+}
+
+/// The same storage, place and number of offsets. Takes no memory: it is refused only where the count of
+/// owners is full.
+impl<O: Offset> Clone for OffsetsBuffer<O> {
+    ghost is_clone = { λ b copy. copy ≡ b };
+
+    fn clone(&self) -> std::result::Result<Self, AllocError> {
+        Ok(OffsetsBuffer {
+            buffer: self.buffer.clone()?,
+        })
+    }
+}
+
+/// Equality of the lists, whatever storage is behind them.
+impl<O: Offset> PartialEq for OffsetsBuffer<O> {
+    ghost eq = { on buffer_items (pointwise int_eq) };
+
+    ghost laws = { partial_equiv_from_equiv (on_equiv buffer_items (lists_equiv int_eq_equiv)) };
+
+    fn eq(&self, other: &Self) -> bool
+        ensures value { result ≡ on buffer_items (pointwise int_eq) self.now other.now }
+        ensures lists { IsTrue result ↔ (buffer_items self.now ≡ buffer_items other.now) }
+    {
+        self.as_slice() == other.as_slice()
+    }
+}

@@ -1,0 +1,76 @@
+//! The lengths between offsets, one by one.
+ghost use Rattle.std.specs.Prelude.{◌≡◌, map, length, Some, IfSome};
+ghost use Rattle.std.specs.Iterator.{YieldsFirst, item_count, UpTo};
+ghost use Rattle.std.specs.Iterator.SizeHint.{IsWithinCount};
+ghost use Rattle.arrow2_model.specs.Offsets.{AreOffsets, lengths_of};
+
+use arrow2_index::offset::Offset;
+use std::alloc::AllocError;
+use std::marker::Model;
+
+/// The lengths between neighbouring offsets: contracts see it as the list of the lengths still to come.
+///
+/// Stands for arrow2's `impl Iterator`.
+#[derive(Debug, Drop)]
+pub struct Lengths<'a, O: Offset> {
+    offsets: &'a [O],
+}
+
+impl<'a, O: Offset> Model for Lengths<'a, O> {
+    ghost use Rattle.std.specs.Prelude.{List, ℕ, map};
+    ghost use Rattle.arrow2_model.specs.Offsets.{AreOffsets, lengths_of};
+
+    ghost Value = { List ℕ };
+
+    ghost view = { λ walk. lengths_of (map O.value walk.offsets.now) };
+
+    ghost invariant = { λ walk. AreOffsets (map O.value walk.offsets.now) };
+}
+
+impl<'a, O: Offset> Lengths<'a, O> {
+    /// The walk over the lengths between the offsets.
+    pub(crate) fn new(offsets: &'a [O]) -> Lengths<'a, O>
+        requires { AreOffsets (map O.value offsets.now) }
+        ensures { result ≡ lengths_of (map O.value offsets.entry.now) }
+    {
+        Lengths { offsets }
+    }
+}
+
+/// The same lengths still to come. Takes no memory.
+impl<'a, O: Offset> Clone for Lengths<'a, O> {
+    ghost is_clone = { λ walk copy. copy ≡ walk };
+
+    fn clone(&self) -> Result<Lengths<'a, O>, AllocError> {
+        Ok(Lengths {
+            offsets: self.offsets,
+        })
+    }
+}
+
+impl<'a, O: Offset> Iterator for Lengths<'a, O> {
+    type Item = usize;
+
+    ghost next_gives = { YieldsFirst (λ s. s) };
+
+    ghost remaining = { item_count (λ s. s) };
+
+    fn next(&mut self) -> Option<usize> {
+        if self.offsets.len() == 1 {
+            return None;
+        }
+        let length = self.offsets[0].distance_to(self.offsets[1]);
+        self.offsets = &self.offsets[1..];
+        Some(length)
+    }
+
+    /// Both bounds are the number of lengths still to come.
+    fn size_hint(&self) -> (usize, Option<usize>)
+        ensures exact { (result.0 ≡ length self.now) × (result.1 ≡ Some (length self.now)) }
+        ensures lower { IsWithinCount result.0 (item_count (λ s. s) self.now) }
+        ensures upper { IfSome result.1 (UpTo (item_count (λ s. s) self.now)) }
+    {
+        let left = self.offsets.len() - 1;
+        (left, Some(left))
+    }
+}

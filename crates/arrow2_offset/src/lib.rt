@@ -1,0 +1,14 @@
+//! Where the values of binary, text and list arrays begin: offsets that grow, and offsets that are shared.
+#![tactic(auto)]
+
+mod check;
+pub mod convert;
+pub mod immutable;
+pub mod iterator;
+pub mod laws;
+pub mod mutable;
+mod refusal;
+
+pub use immutable::OffsetsBuffer;
+pub use iterator::Lengths;
+pub use mutable::Offsets;

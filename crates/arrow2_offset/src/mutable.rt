@@ -1,0 +1,519 @@
+//! Offsets that grow.
+ghost use Rattle.std.specs.Prelude.{◌≡◌, ◌+◌, ◌-◌, ◌<◌, ◌≤◌, ◌^◌, ◌≤ℤ◌, ◌↔◌, ◌⊎◌, [], ◌∷◌, ◌++◌, length, map, sum, take, pos, replicate, slice_index_or, unsigned_abs, OnOk, OnErr, IsOk, IfOk, IfErr, IsErrOf, IsTrue, MatchOption, MatchResult, vec_capacity};
+ghost use Rattle.std.specs.Iterator.{IsFinite};
+ghost use Rattle.std.specs.Iterator.Runs.{WholeRun};
+ghost use Rattle.std.specs.Ordering.{on};
+ghost use Rattle.std.specs.Prelude.{nat_eq};
+ghost use Rattle.std.specs.Cmp.{partial_equiv_from_equiv, nat_eq_equiv, on_equiv};
+ghost use Rattle.std.specs.Cmp.Lexicographic.{pointwise, lists_equiv};
+ghost use Rattle.arrow2_model.specs.Parts.{part};
+ghost use Rattle.arrow2_model.specs.Buffers.{buffer_items};
+ghost use Rattle.arrow2_model.specs.Offsets.{AreOffsets, offset_at, AreOffsetsUpTo, offsets_of, last_of_growing, start_of, lengths_of, slots, SameOffsets, GrownBy};
+ghost use Rattle.arrow2_offset.specs.Collected.{GivesPast};
+ghost use Rattle.arrow2_offset.specs.Made.{made_of};
+ghost use Rattle.arrow2_offset.specs.Refused.{IsOutOfSpec, why_not_offsets};
+ghost use Rattle.arrow2_offset.specs.declared.refusal.Refusal.TheVariants as refusal;
+
+use crate::check::try_check_offsets;
+use crate::immutable::OffsetsBuffer;
+use crate::iterator::Lengths;
+use crate::refusal::Refusal;
+use arrow2_index::offset::Offset;
+use arrow2_types::error::{Error, Result};
+use std::alloc::{AllocError, Global};
+use std::marker::Model;
+
+/// Offsets that grow: contracts see their start, their lengths, and for how many lengths there is room.
+///
+/// There is always at least one offset, none is negative, and none is below the one before it. Each
+/// slot spans from one offset to the next, so there is one slot less than offsets, and as many as
+/// lengths.
+///
+/// Differs from arrow2: sums are exact, and a call that refuses leaves the offsets as they were.
+#[derive(Debug, Drop)]
+pub struct Offsets<O: Offset> {
+    offsets: Vec<O>,
+}
+
+impl<O: Offset> Model for Offsets<O> {
+    ghost use Rattle.std.specs.Prelude.{◌-◌, map, vec_capacity};
+    ghost use Rattle.arrow2_model.specs.Offsets.{GrowingOffsets, start_of, lengths_of, AreOffsetsUpTo};
+
+    ghost Value = { GrowingOffsets };
+
+    ghost view = { λ o. record { start = start_of (map O.value o.offsets.items); lengths = lengths_of (map O.value o.offsets.items); capacity = vec_capacity o.offsets - 1 } };
+
+    ghost invariant = { λ o. AreOffsetsUpTo O.MAX (map O.value o.offsets.items) };
+}
+
+#[tactic(auto, using(crate::proofs::Growing::growing))]
+impl<O: Offset> Offsets<O> {
+    /// Offset 0 alone, and so no slot.
+    ///
+    /// # Errors
+    ///
+    /// `OutOfMemory` alone.
+    pub fn new(alloc: Global) -> Result<Self>
+        ensures ok { IfOk result (λ o. (o.start ≡ 0) × (o.lengths ≡ [])) }
+        ensures only { IfErr result (λ e. e ≡ Error.OutOfMemory) }
+    {
+        Offsets::with_capacity(alloc, 0)
+    }
+
+    /// `length` slots of length 0, from offset 0 on.
+    ///
+    /// # Errors
+    ///
+    /// `Overflow` exactly where `length` is `usize::MAX`, since there is one offset more; else
+    /// `OutOfMemory` alone. arrow2 wraps there.
+    pub fn new_zeroed(alloc: Global, length: usize) -> Result<Self>
+        ensures ok { IfOk result (λ o. (o.start ≡ 0) × (o.lengths ≡ replicate length 0)) }
+        ensures overflow { IsErrOf result Error.Overflow ↔ (2 ^ 64 ≤ length + 1) }
+        ensures only { IfErr result (λ e. (e ≡ Error.Overflow) ⊎ (e ≡ Error.OutOfMemory)) }
+    {
+        let mut offsets = Offsets::with_capacity(alloc, length)?;
+        offsets.extend_constant(length)?;
+        Ok(offsets)
+    }
+
+    /// Offset 0 alone, with room for `capacity` lengths.
+    ///
+    /// # Errors
+    ///
+    /// `Overflow` exactly where `capacity` is `usize::MAX`, since there is one offset more; else
+    /// `OutOfMemory` alone. arrow2 wraps there.
+    pub fn with_capacity(alloc: Global, capacity: usize) -> Result<Self>
+        ensures ok { IfOk result (λ o. (o.start ≡ 0) × (o.lengths ≡ [])) }
+        ensures room { IfOk result (λ o. capacity ≤ o.capacity) }
+        ensures overflow { IsErrOf result Error.Overflow ↔ (2 ^ 64 ≤ capacity + 1) }
+        ensures only { IfErr result (λ e. (e ≡ Error.Overflow) ⊎ (e ≡ Error.OutOfMemory)) }
+    {
+        let Some(room) = capacity.checked_add(1) else {
+            return Err(Error::Overflow);
+        };
+        let mut offsets = Vec::with_capacity(alloc, room)?;
+        offsets.push(O::zero())?;
+        Ok(Offsets { offsets })
+    }
+
+    /// The offsets from 0 on whose lengths an iterator gives, which ends. Its size hint is not read.
+    ///
+    /// # Errors
+    ///
+    /// `Overflow` only where the sum of the lengths that came passes `O::MAX`, else `OutOfMemory` alone.
+    pub fn try_from_iter<I: IntoIterator<Item = usize>>(alloc: Global, iter: I) -> Result<Self>
+        requires { (it : I.IntoIter) → I.into_iter_gives iter it → I.IntoIter.can_next it × IsFinite (I.IntoIter.remaining it) }
+        ensures ok { IfOk result (λ o. (it : I.IntoIter) × I.into_iter_gives iter it × WholeRun I.IntoIter.next_gives it (λ p. (o.start ≡ 0) × (o.lengths ≡ p.items))) }
+        ensures fits { IfOk result (λ o. last_of_growing o ≤ O.MAX) }
+        ensures overflow { IsErrOf result Error.Overflow → (it : I.IntoIter) × I.into_iter_gives iter it × GivesPast O.MAX 0 I.IntoIter.next_gives it }
+        ensures only { IfErr result (λ e. (e ≡ Error.Overflow) ⊎ (e ≡ Error.OutOfMemory)) }
+    {
+        Offsets::try_from_lengths(alloc, iter.into_iter())
+    }
+
+    /// The offsets from 0 on with these lengths. The iterator ends, and its size hint is not read.
+    ///
+    /// # Errors
+    ///
+    /// `Overflow` only where the sum of the lengths that came passes `O::MAX`, else `OutOfMemory` alone.
+    pub fn try_from_lengths<I: Iterator<Item = usize> + Drop>(
+        alloc: Global,
+        lengths: I,
+    ) -> Result<Self>
+        requires can { I.can_next lengths }
+        requires ends { IsFinite (I.remaining lengths) }
+        ensures ok { IfOk result (λ o. WholeRun I.next_gives lengths (λ p. (o.start ≡ 0) × (o.lengths ≡ p.items))) }
+        ensures fits { IfOk result (λ o. last_of_growing o ≤ O.MAX) }
+        ensures overflow { IsErrOf result Error.Overflow → GivesPast O.MAX 0 I.next_gives lengths }
+        ensures only { IfErr result (λ e. (e ≡ Error.Overflow) ⊎ (e ≡ Error.OutOfMemory)) }
+    {
+        let mut offsets = Offsets::new(alloc)?;
+        offsets.extend_lengths(lengths)?;
+        Ok(offsets)
+    }
+
+    /// For how many lengths there is room before memory is asked for.
+    pub fn capacity(&self) -> usize
+        ensures { result ≡ self.now.capacity }
+    {
+        self.offsets.capacity().saturating_sub(1)
+    }
+
+    /// Makes room for `additional` more lengths.
+    ///
+    /// # Errors
+    ///
+    /// `OutOfMemory` alone.
+    pub fn reserve(&mut self, additional: usize) -> Result<()>
+        ensures same { SameOffsets self.old self.new }
+        ensures ok { OnOk result (slots self.old + additional ≤ self.new.capacity) }
+        ensures capacity { self.old.capacity ≤ self.new.capacity }
+        ensures room { slots self.old + additional ≤ self.old.capacity → IsOk result }
+        ensures only { IfErr result (λ e. e ≡ Error.OutOfMemory) }
+    {
+        self.reserve_room(additional)?;
+        Ok(())
+    }
+
+    /// Gives back room that is not used, where the allocator takes it.
+    ///
+    /// It is never refused: where a smaller block finds no memory, the offsets stay where they are.
+    pub fn shrink_to_fit(&mut self) -> Result<()>
+        ensures ok { IsOk result }
+        ensures same { SameOffsets self.old self.new }
+        ensures capacity { self.new.capacity ≤ self.old.capacity }
+    {
+        self.offsets.shrink_to_fit();
+        Ok(())
+    }
+
+    /// Appends one length. Asks that it is not negative. Below the capacity it takes no memory.
+    ///
+    /// arrow2's documentation asks for a length above 0.
+    ///
+    /// # Errors
+    ///
+    /// `Overflow` exactly where the last offset would pass `O::MAX`, else `OutOfMemory` alone. After
+    /// both the offsets are as they were.
+    pub fn try_push(&mut self, length: O) -> Result<()>
+        requires { pos 0 ≤ℤ O.value length }
+        ensures ok { OnOk result (GrownBy (unsigned_abs (O.value length) ∷ []) self.old self.new) }
+        ensures err { OnErr result (SameOffsets self.old self.new) }
+        ensures overflow { IsErrOf result Error.Overflow ↔ (O.MAX < last_of_growing self.old + unsigned_abs (O.value length)) }
+        ensures only { IfErr result (λ e. (e ≡ Error.Overflow) ⊎ (e ≡ Error.OutOfMemory)) }
+        ensures room { slots self.old < self.old.capacity → last_of_growing self.old + unsigned_abs (O.value length) ≤ O.MAX → IsOk result }
+        ensures capacity { self.old.capacity ≤ self.new.capacity }
+    {
+        self.push_length(length.to_usize())?;
+        Ok(())
+    }
+
+    /// Appends one length. Below the capacity it takes no memory.
+    ///
+    /// # Errors
+    ///
+    /// `Overflow` exactly where the last offset would pass `O::MAX`, else `OutOfMemory` alone. After
+    /// both the offsets are as they were.
+    pub fn try_push_usize(&mut self, length: usize) -> Result<()>
+        ensures ok { OnOk result (GrownBy (length ∷ []) self.old self.new) }
+        ensures err { OnErr result (SameOffsets self.old self.new) }
+        ensures overflow { IsErrOf result Error.Overflow ↔ (O.MAX < last_of_growing self.old + length) }
+        ensures only { IfErr result (λ e. (e ≡ Error.Overflow) ⊎ (e ≡ Error.OutOfMemory)) }
+        ensures room { slots self.old < self.old.capacity → last_of_growing self.old + length ≤ O.MAX → IsOk result }
+        ensures capacity { self.old.capacity ≤ self.new.capacity }
+    {
+        self.push_length(length)?;
+        Ok(())
+    }
+
+    /// Appends the lengths of an iterator that ends. Its size hint is not read.
+    ///
+    /// Differs from arrow2, whose sums wrap, and which keeps the lengths that it took where it answers
+    /// `Overflow`.
+    ///
+    /// # Errors
+    ///
+    /// `Overflow` only where the last offset and the sum of the lengths that came pass `O::MAX`, else
+    /// `OutOfMemory` alone. After both the offsets are as they were.
+    pub fn try_extend_from_lengths<I: Iterator<Item = usize> + Drop>(
+        &mut self,
+        lengths: I,
+    ) -> Result<()>
+        requires can { I.can_next lengths }
+        requires ends { IsFinite (I.remaining lengths) }
+        ensures ok { OnOk result (WholeRun I.next_gives lengths (λ p. GrownBy p.items self.old self.new)) }
+        ensures fits { OnOk result (last_of_growing self.new ≤ O.MAX) }
+        ensures err { OnErr result (SameOffsets self.old self.new) }
+        ensures overflow { IsErrOf result Error.Overflow → GivesPast O.MAX (last_of_growing self.old) I.next_gives lengths }
+        ensures only { IfErr result (λ e. (e ≡ Error.Overflow) ⊎ (e ≡ Error.OutOfMemory)) }
+    {
+        self.extend_lengths(lengths)?;
+        Ok(())
+    }
+
+    /// Appends the lengths of other offsets.
+    ///
+    /// Differs from arrow2, which tests the other's last offset in place of the sum of its lengths.
+    ///
+    /// # Errors
+    ///
+    /// `Overflow` exactly where the last offset and the sum of the lengths pass `O::MAX`, else
+    /// `OutOfMemory` alone. After both the offsets are as they were.
+    pub fn try_extend_from_self(&mut self, other: &Self) -> Result<()>
+        ensures ok { OnOk result (GrownBy other.now.lengths self.old self.new) }
+        ensures err { OnErr result (SameOffsets self.old self.new) }
+        ensures overflow { IsErrOf result Error.Overflow ↔ (O.MAX < last_of_growing self.old + sum other.now.lengths) }
+        ensures only { IfErr result (λ e. (e ≡ Error.Overflow) ⊎ (e ≡ Error.OutOfMemory)) }
+    {
+        self.append(other.as_slice())?;
+        Ok(())
+    }
+
+    /// Appends `length` of the lengths of other offsets, from length `start` on. Asks that `length` is
+    /// 0, or that `start + length` is below the number of the other's offsets.
+    ///
+    /// Differs from arrow2, which tests the other's last offset in place of the sum of the lengths.
+    ///
+    /// # Errors
+    ///
+    /// `Overflow` exactly where the last offset and the sum of these lengths pass `O::MAX`, else
+    /// `OutOfMemory` alone. After both the offsets are as they were.
+    pub fn try_extend_from_slice(
+        &mut self,
+        other: &OffsetsBuffer<O>,
+        start: usize,
+        length: usize,
+    ) -> Result<()>
+        requires { (length ≡ 0) ⊎ (start + length < other.now.len) }
+        ensures ok { OnOk result (GrownBy (part (lengths_of (buffer_items other.now)) start length) self.old self.new) }
+        ensures err { OnErr result (SameOffsets self.old self.new) }
+        ensures overflow { IsErrOf result Error.Overflow ↔ (O.MAX < last_of_growing self.old + sum (part (lengths_of (buffer_items other.now)) start length)) }
+        ensures only { IfErr result (λ e. (e ≡ Error.Overflow) ⊎ (e ≡ Error.OutOfMemory)) }
+    {
+        // The field is read for what the type keeps: the last offset is at most `O::MAX`.
+        let _ = &self.offsets;
+        if length == 0 {
+            return Ok(());
+        }
+        self.append(&other.as_slice()[start..start + length + 1])?;
+        Ok(())
+    }
+
+    /// Appends `additional` lengths 0.
+    ///
+    /// # Errors
+    ///
+    /// `Overflow` exactly where the number of offsets would pass `usize::MAX`, else `OutOfMemory`
+    /// alone. After both the offsets are as they were. arrow2 wraps there, and shrinks.
+    pub fn extend_constant(&mut self, additional: usize) -> Result<()>
+        ensures ok { OnOk result (GrownBy (replicate additional 0) self.old self.new) }
+        ensures err { OnErr result (SameOffsets self.old self.new) }
+        ensures overflow { IsErrOf result Error.Overflow ↔ (2 ^ 64 ≤ slots self.old + 1 + additional) }
+        ensures only { IfErr result (λ e. (e ≡ Error.Overflow) ⊎ (e ≡ Error.OutOfMemory)) }
+        ensures room { slots self.old + additional ≤ self.old.capacity → 1 + slots self.old + additional < 2 ^ 64 → IsOk result }
+        ensures capacity { self.old.capacity ≤ self.new.capacity }
+    {
+        let Some(count) = self.offsets.len().checked_add(additional) else {
+            return Err(Error::Overflow);
+        };
+        let last = *self.last();
+        self.offsets.resize(count, last)?;
+        Ok(())
+    }
+
+    /// The last offset.
+    pub fn last(&self) -> &O
+        ensures value { O.value result.now ≡ pos (last_of_growing self.now) }
+        ensures fits { last_of_growing self.now ≤ O.MAX }
+    {
+        &self.offsets[self.offsets.len() - 1]
+    }
+
+    /// Where slot `index` starts and where it ends. Asks that `index` is below
+    /// [`Offsets::len_proxy`].
+    ///
+    /// arrow2's documentation says [`Offsets::len`].
+    pub fn start_end(&self, index: usize) -> (usize, usize)
+        requires { index < slots self.now }
+        ensures start { result.0 ≡ offset_at self.now.start self.now.lengths index }
+        ensures end { result.1 ≡ result.0 + slice_index_or self.now.lengths index 0 }
+        ensures within { result.1 ≤ last_of_growing self.now }
+    {
+        (
+            self.offsets[index].to_usize(),
+            self.offsets[index + 1].to_usize(),
+        )
+    }
+
+    /// How many slots there are: as many as lengths.
+    pub fn len_proxy(&self) -> usize
+        ensures { result ≡ slots self.now }
+    {
+        self.offsets.len() - 1
+    }
+
+    /// How many offsets there are: one more than slots.
+    pub fn len(&self) -> usize
+        ensures offsets { result ≡ length (offsets_of self.now) }
+        ensures slots { result ≡ slots self.now + 1 }
+    {
+        self.offsets.len()
+    }
+
+    /// The offsets.
+    pub fn as_slice(&self) -> &[O]
+        ensures offsets { map O.value result.now ≡ map pos (offsets_of self.now) }
+        ensures lengths { lengths_of (map O.value result.now) ≡ self.now.lengths }
+        ensures valid { AreOffsets (map O.value result.now) }
+        ensures fits { last_of_growing self.now ≤ O.MAX }
+    {
+        self.offsets.as_slice()
+    }
+
+    /// Takes the last offset off and gives it back, or `None` where only the first is left.
+    pub fn pop(&mut self) -> Option<O>
+        ensures last { MatchOption result (self.old.lengths ≡ []) (λ offset. (0 < slots self.old) × (O.value offset ≡ pos (last_of_growing self.old))) }
+        ensures start { self.new.start ≡ self.old.start }
+        ensures lengths { self.new.lengths ≡ take (slots self.old - 1) self.old.lengths }
+        ensures capacity { self.new.capacity ≡ self.old.capacity }
+    {
+        let left = self.len_proxy().checked_sub(1)?;
+        let offset = *self.last();
+        self.truncate(left);
+        Some(offset)
+    }
+
+    /// The vector of the offsets. Takes no memory.
+    pub fn into_inner(self) -> Vec<O>
+        ensures offsets { map O.value result.items ≡ map pos (offsets_of self) }
+        ensures lengths { lengths_of (map O.value result.items) ≡ self.lengths }
+        ensures valid { AreOffsetsUpTo O.MAX (map O.value result.items) }
+        ensures fits { last_of_growing self ≤ O.MAX }
+        ensures capacity { vec_capacity result ≡ self.capacity + 1 }
+    {
+        let Offsets { offsets } = self;
+        offsets
+    }
+
+    /// The vector itself, which is known to hold offsets.
+    pub(crate) fn of_vec(offsets: Vec<O>) -> Self
+        requires { AreOffsetsUpTo O.MAX (map O.value offsets.items) }
+        ensures { result ≡ made_of (map O.value offsets.items) (vec_capacity offsets) }
+    {
+        Offsets { offsets }
+    }
+
+    /// Appends one length. The error is one byte.
+    fn push_length(&mut self, length: usize) -> std::result::Result<(), Refusal>
+        ensures ok { OnOk result (GrownBy (length ∷ []) self.old self.new) }
+        ensures fits { last_of_growing self.new ≤ O.MAX }
+        ensures err { OnErr result (SameOffsets self.old self.new) }
+        ensures overflow { IsErrOf result refusal.Overflow ↔ (O.MAX < last_of_growing self.old + length) }
+        ensures room { slots self.old < self.old.capacity → last_of_growing self.old + length ≤ O.MAX → IsOk result }
+        ensures capacity { self.old.capacity ≤ self.new.capacity }
+    {
+        let last = self.last().to_usize();
+        if length > O::MAX - last {
+            return Err(Refusal::Overflow);
+        }
+        self.offsets.push(O::from_as_usize(last + length))?;
+        Ok(())
+    }
+
+    /// Makes room for `additional` more lengths.
+    fn reserve_room(&mut self, additional: usize) -> std::result::Result<(), AllocError>
+        ensures same { SameOffsets self.old self.new }
+        ensures ok { OnOk result (slots self.old + additional ≤ self.new.capacity) }
+        ensures capacity { self.old.capacity ≤ self.new.capacity }
+        ensures room { slots self.old + additional ≤ self.old.capacity → IsOk result }
+    {
+        self.offsets.reserve(additional)
+    }
+
+    /// Appends one length. Asks that there is room for it.
+    fn push_within(&mut self, length: usize)
+        requires room { slots self.old < self.old.capacity }
+        requires fits { last_of_growing self.old + length ≤ O.MAX }
+        ensures grown { GrownBy (length ∷ []) self.old self.new }
+        ensures capacity { self.new.capacity ≡ self.old.capacity }
+    {
+        let last = self.last().to_usize();
+        self.offsets.push_reserved(O::from_as_usize(last + length));
+    }
+
+    /// Keeps the first `count` slots.
+    fn truncate(&mut self, count: usize)
+        requires { count ≤ slots self.old }
+        ensures start { self.new.start ≡ self.old.start }
+        ensures lengths { self.new.lengths ≡ take count self.old.lengths }
+        ensures capacity { self.new.capacity ≡ self.old.capacity }
+    {
+        self.offsets.truncate(count + 1);
+    }
+
+    /// Appends the lengths of an iterator that ends, and takes them off again where it refuses.
+    fn extend_lengths<I: Iterator<Item = usize> + Drop>(
+        &mut self,
+        lengths: I,
+    ) -> std::result::Result<(), Refusal>
+        requires can { I.can_next lengths }
+        requires ends { IsFinite (I.remaining lengths) }
+        ensures ok { OnOk result (WholeRun I.next_gives lengths (λ p. GrownBy p.items self.old self.new)) }
+        ensures fits { OnOk result (last_of_growing self.new ≤ O.MAX) }
+        ensures err { OnErr result (SameOffsets self.old self.new) }
+        ensures overflow { IsErrOf result refusal.Overflow → GivesPast O.MAX (last_of_growing self.old) I.next_gives lengths }
+    {
+        let slots = self.offsets.len() - 1;
+        for length in lengths {
+            if let Err(refusal) = self.push_length(length) {
+                self.truncate(slots);
+                return Err(refusal);
+            }
+        }
+        Ok(())
+    }
+
+    /// Appends the lengths between the offsets. Tests their sum before it asks for memory.
+    fn append(&mut self, offsets: &[O]) -> std::result::Result<(), Refusal>
+        requires { AreOffsets (map O.value offsets.now) }
+        ensures ok { OnOk result (GrownBy (lengths_of (map O.value offsets.now)) self.old self.new) }
+        ensures err { OnErr result (SameOffsets self.old self.new) }
+        ensures overflow { IsErrOf result refusal.Overflow ↔ (O.MAX < last_of_growing self.old + sum (lengths_of (map O.value offsets.now))) }
+    {
+        let count = offsets.len() - 1;
+        let total = offsets[0].distance_to(offsets[count]);
+        if total > O::MAX - self.last().to_usize() {
+            return Err(Refusal::Overflow);
+        }
+        self.reserve_room(count)?;
+        for length in Lengths::new(offsets) {
+            self.push_within(length);
+        }
+        Ok(())
+    }
+}
+
+/// The vector itself, which is moved and not copied.
+///
+/// # Errors
+///
+/// `OutOfSpec` exactly where the items are not offsets, with the text of the first rule that they break,
+/// or `OutOfMemory` there, where the text finds no memory.
+impl<O: Offset> TryFrom<Vec<O>> for Offsets<O> {
+    type Error = Error;
+
+    ghost try_from_gives = { λ items r. MatchResult r (λ o. AreOffsets (map O.value items.items) × (o ≡ made_of (map O.value items.items) (vec_capacity items))) (λ e. (AreOffsets (map O.value items.items) → ⊥) × IsOutOfSpec e (why_not_offsets (map O.value items.items))) };
+
+    fn try_from(offsets: Vec<O>) -> Result<Self> {
+        try_check_offsets(*offsets.allocator(), offsets.as_slice())?;
+        Ok(Offsets { offsets })
+    }
+}
+
+/// A copy of the offsets.
+impl<O: Offset> Clone for Offsets<O> {
+    ghost is_clone = { SameOffsets };
+
+    fn clone(&self) -> std::result::Result<Self, AllocError> {
+        let offsets = Vec::from_slice(*self.offsets.allocator(), self.offsets.as_slice())?;
+        Ok(Offsets { offsets })
+    }
+}
+
+/// Equality of the lists, whatever room they have.
+impl<O: Offset> PartialEq for Offsets<O> {
+    ghost eq = { on offsets_of (pointwise nat_eq) };
+
+    ghost laws = { partial_equiv_from_equiv (on_equiv offsets_of (lists_equiv nat_eq_equiv)) };
+
+    fn eq(&self, other: &Self) -> bool
+        ensures value { result ≡ on offsets_of (pointwise nat_eq) self.now other.now }
+        ensures lists { IsTrue result ↔ (offsets_of self.now ≡ offsets_of other.now) }
+    {
+        self.as_slice() == other.as_slice()
+    }
+}
+
+impl<O: Offset> Eq for Offsets<O> {
+    ghost laws = { on_equiv offsets_of (lists_equiv nat_eq_equiv) };
+}

@@ -1,5 +1,0 @@
-use Rattle.arrow2_replay.proofs.LawLemmas.{lines_are, lines_only}
-use Rattle.arrow2_replay.proofs.laws.lines_of_a_script.Goals as goal
-
-pub returns : goal.returns
-returns c = record { are = lines_are; only = lines_only }

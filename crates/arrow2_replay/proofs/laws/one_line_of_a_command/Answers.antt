@@ -1,5 +1,0 @@
-use Rattle.arrow2_replay.proofs.LawLemmas.{command_law}
-use Rattle.arrow2_replay.proofs.laws.one_line_of_a_command.Goals as goal
-
-pub returns : goal.returns
-returns c = command_law

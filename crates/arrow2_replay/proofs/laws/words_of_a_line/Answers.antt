@@ -1,5 +1,0 @@
-use Rattle.arrow2_replay.proofs.LawLemmas.{words_law}
-use Rattle.arrow2_replay.proofs.laws.words_of_a_line.Goals as goal
-
-pub returns : goal.returns
-returns c = words_law

@@ -1,0 +1,191 @@
+-- The laws of the script's grammar.
+use Rattle.std.proofs.Common.{◌≡◌, ◌≢◌, ◌∙◌, sym, ap, refl, subst, ◌<◌, ℕ, suc, List, [], ◌∷◌, ◌++◌, length, Bool, true, false, cond, ◌&&◌, ◌||◌, not, ◌⊎◌, inl, inr, arith, eqb, append_assoc}
+use Rattle.std.specs.Prelude.{Some, ◌↔◌}
+use Rattle.std.specs.List.{All, flat_map, list_any, list_all, slice_split, onto_first, join_with_byte}
+use Rattle.std.proofs.lemmas.List.Elements.{All-cons, All-nil}
+use Rattle.std.proofs.lemmas.List.Splits.{join_with_byte-slice_split}
+use Rattle.arrow2_script.specs.Lines.{lines_of, parts_of, words_of, is_blank, closed, ended, IsLine, AreLines, IsWord, AreWords}
+use Rattle.arrow2_script.specs.Commands.{command_of, command_in, command_words, IsSpelling}
+use Rattle.arrow2_script.specs.declared.command.Command.{Command}
+use Rattle.arrow2_script.proofs.LineLemmas.{lines_of-cut, parts_of-cut, parts_of-last}
+use Rattle.arrow2_script.proofs.SpellingLemmas.{is_word, both, not_true, filled}
+use Rattle.arrow2_script.proofs.CommandLemmas.{command_says, command_of-words, command_words_pass, some_words}
+
+-- a byte is this one, or the test tells it apart
+is_or_other : (a b : ℕ) → (a ≡ b) ⊎ (eqb a b ≡ false)
+is_or_other a b = grind arith
+
+-- the first element of such a list, and the others
+parts_all : {X : Type 0} (P : X → Type 0) (x : X) (xs : List X) → All P (x ∷ xs) → P x × All P xs
+parts_all P x xs all = (all 0 x (omega arith), λ k d h. all (suc k) d (omega arith))
+
+-- ---- lines
+
+closed_moved : (t : Bool) (b : ℕ) (bytes : List ℕ) → cond t (b ∷ bytes) ((b ∷ bytes) ++ 10 ∷ []) ≡ b ∷ cond t bytes (bytes ++ 10 ∷ [])
+closed_moved true b bytes = refl
+closed_moved false b bytes = refl
+
+closed-cons : (b c : ℕ) (bytes : List ℕ) → closed (b ∷ c ∷ bytes) ≡ b ∷ closed (c ∷ bytes)
+closed-cons b c bytes = closed_moved _ b (c ∷ bytes)
+
+-- a byte before a first line
+first_longer : (b : ℕ) (lines : List (List ℕ)) → 0 < length lines → flat_map ended (onto_first b lines) ≡ b ∷ flat_map ended lines
+first_longer b [] some = absurd (omega arith)
+first_longer b (line ∷ lines) some = refl
+
+more_lines : (t : Bool) (b : ℕ) (lines : List (List ℕ)) → 0 < length (cond t ([] ∷ lines) (onto_first b lines))
+more_lines true b lines = omega arith
+more_lines false b [] = omega arith
+more_lines false b (line ∷ lines) = omega arith
+
+some_lines : (b : ℕ) (bytes : List ℕ) → 0 < length (lines_of (b ∷ bytes))
+unfolding lines_of
+some_lines b bytes = more_lines (eqb b 10) b (lines_of bytes)
+
+-- each line with its end, in order, is the script
+lines_join : (script : List ℕ) → flat_map ended (lines_of script) ≡ closed script
+unfolding lines_of
+lines_join [] = refl
+lines_join (b ∷ []) = elim (is_or_other b 10) [ inl is ↦ rw is refl | inr other ↦ rw other refl ]
+lines_join (b ∷ c ∷ bytes) =
+    let others = lines_join (c ∷ bytes) in
+    elim (is_or_other b 10) [
+      | inl is ↦ rw is (ap (λ t. 10 ∷ t) others ∙ sym (closed-cons 10 c bytes))
+      | inr other ↦ rw other (first_longer b (lines_of (c ∷ bytes)) (some_lines c bytes) ∙ ap (λ t. b ∷ t) others ∙ sym (closed-cons b c bytes))
+    ]
+
+line_longer : (b : ℕ) (lines : List (List ℕ)) → b ≢ 10 → All IsLine lines → All IsLine (onto_first b lines)
+line_longer b [] other all = All-cons IsLine (b ∷ []) [] (All-cons (λ x. x ≢ 10) b [] other (All-nil (λ x. x ≢ 10))) (All-nil IsLine)
+line_longer b (line ∷ lines) other all =
+    let p = parts_all IsLine line lines all in
+    All-cons IsLine (b ∷ line) lines (All-cons (λ x. x ≢ 10) b line other p.0) p.1
+
+apart : (a b : ℕ) → eqb a b ≡ false → a ≢ b
+apart a b e = grind (arith, e)
+
+lines_free : (script : List ℕ) → All IsLine (lines_of script)
+unfolding lines_of
+lines_free [] = All-nil IsLine
+lines_free (b ∷ bytes) = elim (is_or_other b 10) [
+  | inl is ↦ rw is (All-cons IsLine [] (lines_of bytes) (All-nil (λ x. x ≢ 10)) (lines_free bytes))
+  | inr other ↦ rw other (line_longer b (lines_of bytes) (apart b 10 other) (lines_free bytes))
+]
+
+pub lines_are : (script : List ℕ) → AreLines script (lines_of script)
+lines_are script = (lines_free script, lines_join script)
+
+closed_lines : (script : List ℕ) → lines_of (closed script) ≡ lines_of script
+unfolding lines_of
+closed_lines [] = refl
+closed_lines (b ∷ []) = elim (is_or_other b 10) [ inl is ↦ rw is refl | inr other ↦ rw (other, other) refl ]
+closed_lines (b ∷ c ∷ bytes) =
+    let others = closed_lines (c ∷ bytes) in
+    rw (closed-cons b c bytes) (rw others refl)
+
+lines_again : (lines : List (List ℕ)) → All IsLine lines → lines_of (flat_map ended lines) ≡ lines
+unfolding lines_of
+lines_again [] all = refl
+lines_again (line ∷ lines) all =
+    let p = parts_all IsLine line lines all in
+    ap lines_of (append_assoc line (10 ∷ []) (flat_map ended lines)) ∙ lines_of-cut line (flat_map ended lines) p.0 ∙ ap (λ t. line ∷ t) (lines_again lines p.1)
+
+pub lines_only : (script : List ℕ) (lines : List (List ℕ)) → AreLines script lines → lines ≡ lines_of script
+lines_only script lines are = sym (lines_again lines are.0) ∙ ap lines_of are.1 ∙ closed_lines script
+
+-- ---- words
+
+spaceless : (bytes : List ℕ) → list_all (λ b. not (eqb b 32)) bytes ≡ true → All (λ b. b ≢ 32) bytes
+spaceless [] e = All-nil (λ b. b ≢ 32)
+spaceless (b ∷ bytes) e =
+    let p = both (not (eqb b 32)) (list_all (λ x. not (eqb x 32)) bytes) e in
+    let other : b ≢ 32 = grind (arith, p.0) in
+    All-cons (λ x. x ≢ 32) b bytes other (spaceless bytes p.1)
+
+there : (bytes : List ℕ) → is_blank bytes ≡ false → 0 < length bytes
+there [] e = cc
+there (b ∷ bytes) e = omega arith
+
+word_passes : (word : List ℕ) → is_word word ≡ true → IsWord word
+unfolding is_word
+word_passes word e =
+    let p = both (not (is_blank word)) (list_all (λ b. not (eqb b 32)) word) e in
+    (there word (not_true (is_blank word) p.0), spaceless word p.1)
+
+words_pass : (words : List (List ℕ)) → list_all is_word words ≡ true → All IsWord words
+words_pass [] e = All-nil IsWord
+words_pass (word ∷ words) e =
+    let p = both (is_word word) (list_all is_word words) e in
+    All-cons IsWord word words (word_passes word p.0) (words_pass words p.1)
+
+part_longer : (b : ℕ) (parts : List (List ℕ)) → b ≢ 32 → All (λ part. All (λ x. x ≢ 32) part) parts → All (λ part. All (λ x. x ≢ 32) part) (onto_first b parts)
+part_longer b [] other all = All-cons (λ part. All (λ x. x ≢ 32) part) (b ∷ []) [] (All-cons (λ x. x ≢ 32) b [] other (All-nil (λ x. x ≢ 32))) (All-nil (λ part. All (λ x. x ≢ 32) part))
+part_longer b (part ∷ parts) other all =
+    let p = parts_all (λ x. All (λ y. y ≢ 32) x) part parts all in
+    All-cons (λ x. All (λ y. y ≢ 32) x) (b ∷ part) parts (All-cons (λ x. x ≢ 32) b part other p.0) p.1
+
+parts_free : (line : List ℕ) → All (λ part. All (λ x. x ≢ 32) part) (slice_split (λ b. eqb b 32) line)
+parts_free [] = All-cons (λ part. All (λ x. x ≢ 32) part) [] [] (All-nil (λ x. x ≢ 32)) (All-nil (λ part. All (λ x. x ≢ 32) part))
+parts_free (b ∷ bytes) = elim (is_or_other b 32) [
+  | inl is ↦ rw is (All-cons (λ part. All (λ x. x ≢ 32) part) [] (slice_split (λ x. eqb x 32) bytes) (All-nil (λ x. x ≢ 32)) (parts_free bytes))
+  | inr other ↦ rw other (part_longer b (slice_split (λ x. eqb x 32) bytes) (apart b 32 other) (parts_free bytes))
+]
+
+neither : (a b : Bool) → (a || b) ≡ false → (a ≡ false) × (b ≡ false)
+neither true b e = cc
+neither false b e = (refl, e)
+
+all_words : (parts : List (List ℕ)) → list_any is_blank parts ≡ false → All (λ part. All (λ x. x ≢ 32) part) parts → All IsWord parts
+all_words [] e all = All-nil IsWord
+all_words (part ∷ parts) e all =
+    let p = neither (is_blank part) (list_any is_blank parts) e in
+    let q = parts_all (λ x. All (λ y. y ≢ 32) x) part parts all in
+    All-cons IsWord part parts (there part p.0, q.0) (all_words parts p.1 q.1)
+
+words_if : (blank : Bool) (line : List ℕ) → blank ≡ list_any is_blank (slice_split (λ b. eqb b 32) line) → 0 < length (cond blank [] (slice_split (λ b. eqb b 32) line)) → AreWords line (cond blank [] (slice_split (λ b. eqb b 32) line))
+words_if true line e some = absurd (omega arith)
+words_if false line e some = (some, all_words (slice_split (λ b. eqb b 32) line) (sym e) (parts_free line), join_with_byte-slice_split 32 line)
+
+pub words_are : (line : List ℕ) → 0 < length (words_of line) → AreWords line (words_of line)
+unfolding words_of parts_of
+words_are line some = words_if (list_any is_blank (slice_split (λ b. eqb b 32) line)) line refl some
+
+-- the parts of words that are joined are the words
+parts_again : (words : List (List ℕ)) → 0 < length words → All IsWord words → parts_of (join_with_byte 32 words) ≡ words
+parts_again [] some all = absurd (omega arith)
+parts_again (word ∷ []) some all = parts_of-last word (parts_all IsWord word [] all).0.1
+parts_again (word ∷ other ∷ words) some all =
+    let p = parts_all IsWord word (other ∷ words) all in
+    parts_of-cut word (join_with_byte 32 (other ∷ words)) p.0.1 ∙ ap (λ t. word ∷ t) (parts_again (other ∷ words) (omega arith) p.1)
+
+none_blank : (words : List (List ℕ)) → All IsWord words → list_any is_blank words ≡ false
+none_blank [] all = refl
+none_blank (word ∷ words) all =
+    let p = parts_all IsWord word words all in
+    rw (filled word p.0.0, none_blank words p.1) refl
+
+pub words_only : (line : List ℕ) (words : List (List ℕ)) → AreWords line words → words_of line ≡ words
+unfolding words_of
+words_only line words are =
+    let parts : parts_of line ≡ words = ap parts_of (sym are.2) ∙ parts_again words are.0 are.1 in
+    rw (parts, none_blank words are.1) refl
+
+pub words_law : (line : List ℕ) (words : List (List ℕ)) → 0 < length words → (words_of line ≡ words) ↔ AreWords line words
+words_law line words some = (λ e. let P : List (List ℕ) → Type 0 = λ w. AreWords line w in subst P e (words_are line (rw e some)), words_only line words)
+
+-- ---- commands
+
+spelled : (line : List ℕ) (command : Command) → command_in line ≡ Some command → IsSpelling line command
+unfolding command_in
+spelled line command e =
+    let p = command_says (words_of line) command e in
+    let are = words_are line (rw p.1 (some_words command)) in
+    (p.0, sym are.2 ∙ ap (λ t. join_with_byte 32 t) p.1)
+
+read : (line : List ℕ) (command : Command) → IsSpelling line command → command_in line ≡ Some command
+unfolding command_in
+read line command is =
+    let words = words_only line (command_words command) (some_words command, words_pass (command_words command) (command_words_pass command is.0), sym is.1) in
+    ap command_of words ∙ command_of-words command is.0
+
+pub command_law : (line : List ℕ) (command : Command) → (command_in line ≡ Some command) ↔ IsSpelling line command
+command_law line command = (spelled line command, read line command)

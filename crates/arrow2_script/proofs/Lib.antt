@@ -1,0 +1,7 @@
+pub mod ArgumentLemmas
+pub mod BitmapCommandLemmas
+pub mod CommandLemmas
+pub mod LawLemmas
+pub mod LineLemmas
+pub mod SpellingLemmas
+pub mod WordLemmas

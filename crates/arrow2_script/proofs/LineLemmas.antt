@@ -1,0 +1,62 @@
+-- Lines and words, cut from the front.
+use Rattle.std.proofs.Common.{◌≡◌, ◌≢◌, ◌∙◌, ap, refl, ◌<◌, ℕ, suc, List, [], ◌∷◌, ◌++◌, length, get_or, false, arith, eqb}
+use Rattle.std.specs.List.{All}
+use Rattle.std.proofs.lemmas.List.Splits.{slice_split_none, slice_split_at}
+use Rattle.arrow2_script.specs.Lines.{lines_of, parts_of}
+
+-- a byte that is not another is told apart by the test
+other : (a b : ℕ) → a ≢ b → eqb a b ≡ false
+other a b ne = grind (arith, ne)
+
+-- the first element of such a list, and the others
+front : (c b : ℕ) (bytes : List ℕ) → All (λ x. x ≢ c) (b ∷ bytes) → (b ≢ c) × All (λ x. x ≢ c) bytes
+front c b bytes all = (all 0 0 (omega arith), λ k d h. all (suc k) d (omega arith))
+
+-- what is free of byte 10 is the first line, before a byte 10
+pub lines_of-cut : (line rest : List ℕ) → All (λ b. b ≢ 10) line → lines_of (line ++ 10 ∷ rest) ≡ line ∷ lines_of rest
+unfolding lines_of
+lines_of-cut [] rest all = refl
+lines_of-cut (b ∷ line) rest all =
+    let f = front 10 b line all in
+    let test = other b 10 f.0 in
+    rw (test, lines_of-cut line rest f.1) refl
+
+-- and the only one, where it ends the script and is not empty
+pub lines_of-last : (b : ℕ) (line : List ℕ) → All (λ x. x ≢ 10) (b ∷ line) → lines_of (b ∷ line) ≡ (b ∷ line) ∷ []
+unfolding lines_of
+lines_of-last b [] all =
+    let test = other b 10 (front 10 b [] all).0 in
+    rw test refl
+lines_of-last b (c ∷ line) all =
+    let f = front 10 b (c ∷ line) all in
+    let test = other b 10 f.0 in
+    rw (test, lines_of-last c line f.1) refl
+
+-- each element passes the test for another byte
+tests : (c : ℕ) (bytes : List ℕ) → All (λ b. b ≢ c) bytes → All (λ b. eqb b c ≡ false) bytes
+tests c bytes all k d h = other (get_or bytes k d) c (all k d h)
+
+pub parts_of-cut : (part rest : List ℕ) → All (λ b. b ≢ 32) part → parts_of (part ++ 32 ∷ rest) ≡ part ∷ parts_of rest
+unfolding parts_of
+parts_of-cut part rest all = slice_split_at (λ b. eqb b 32) part 32 rest (tests 32 part all) refl
+
+pub parts_of-last : (part : List ℕ) → All (λ b. b ≢ 32) part → parts_of part ≡ part ∷ []
+unfolding parts_of
+parts_of-last part all = slice_split_none (λ b. eqb b 32) part (tests 32 part all)
+
+-- the first line, or the first part, of a list of bytes that is cut there
+pub line_first : (script line rest : List ℕ) → script ≡ line ++ 10 ∷ rest → All (λ b. b ≢ 10) line → lines_of script ≡ line ∷ lines_of rest
+line_first script line rest e all = ap lines_of e ∙ lines_of-cut line rest all
+
+pub line_last : (script line : List ℕ) → script ≡ line → 0 < length script → All (λ b. b ≢ 10) line → lines_of script ≡ line ∷ lines_of []
+unfolding lines_of
+line_last [] line e some all = absurd (omega arith)
+line_last (b ∷ bytes) line e some all = rw (← e) (lines_of-last b bytes (rw (← e) at all))
+
+pub part_first : (line part rest : List ℕ) → line ≡ part ++ 32 ∷ rest → All (λ b. b ≢ 32) part → parts_of line ≡ part ∷ parts_of rest
+part_first line part rest e all = ap parts_of e ∙ parts_of-cut part rest all
+
+pub part_last : (line part : List ℕ) → line ≡ part → All (λ b. b ≢ 32) part → parts_of line ≡ part ∷ []
+part_last line part e all = ap parts_of e ∙ parts_of-last part all
+
+pub ruleset cutting = (line_first, line_last, part_first, part_last)

@@ -1,0 +1,65 @@
+-- Words that spell numbers, slots, bits and texts of bits.
+use Rattle.std.proofs.Common.{◌≡◌, refl, ◌<◌, ◌^◌, ℕ, List, [], ◌∷◌, length, Bool, true, false, ◌&&◌, ◌||◌, not, arith, eqb, map}
+use Rattle.std.specs.List.{list_any, list_all}
+use Rattle.std.specs.Str.Parse.{AllDigits}
+use Rattle.std.specs.Fmt.{decimal}
+use Rattle.std.proofs.lemmas.Str.Parse.{digit_from_value}
+use Rattle.std.proofs.lemmas.Fmt.{decimal_is_IsNumeral}
+use Rattle.arrow2_script.specs.Lines.{is_blank}
+use Rattle.arrow2_script.specs.Words.{bit_byte, bits_text}
+
+-- one byte or more, none of them 32
+unfoldable pub is_word : List ℕ → Bool
+is_word word = not (is_blank word) && list_all (λ b. not (eqb b 32)) word
+
+pub both : (a b : Bool) → (a && b) ≡ true → (a ≡ true) × (b ≡ true)
+both true true e = (refl, refl)
+both true false e = cc
+both false b e = cc
+
+pub not_true : (b : Bool) → not b ≡ true → b ≡ false
+not_true true e = cc
+not_true false e = refl
+
+pub filled : (bytes : List ℕ) → 0 < length bytes → is_blank bytes ≡ false
+filled bytes some = grind (arith, some)
+
+digits_spaceless : (digits : List ℕ) → AllDigits 10 digits → list_all (λ b. not (eqb b 32)) digits ≡ true
+digits_spaceless [] all = refl
+digits_spaceless (d ∷ digits) all =
+    let range = digit_from_value d all.0 in
+    let other : eqb d 32 ≡ false = grind (arith, range.0) in
+    rw (other, digits_spaceless digits all.1) refl
+
+pub number_word : (n : ℕ) → n < 2 ^ 64 → is_word (decimal n) ≡ true
+unfolding is_word
+number_word n h =
+    let is = (decimal_is_IsNumeral n h).0 in
+    rw (filled (decimal n) is.0, digits_spaceless (decimal n) is.1) refl
+
+pub slot_word : (n : ℕ) → n < 16 → is_word (decimal n) ≡ true
+slot_word n h = number_word n (omega arith)
+
+bits_spaceless : (items : List Bool) → list_all (λ b. not (eqb b 32)) (map bit_byte items) ≡ true
+bits_spaceless [] = refl
+bits_spaceless (true ∷ items) = bits_spaceless items
+bits_spaceless (false ∷ items) = bits_spaceless items
+
+pub bits_word : (items : List Bool) → is_word (bits_text items) ≡ true
+unfolding is_word
+bits_word [] = refl
+bits_word (item ∷ items) = rw (filled (map bit_byte (item ∷ items)) (omega arith), bits_spaceless (item ∷ items)) refl
+
+pub bit_word : (bit : Bool) → is_word (bit_byte bit ∷ []) ≡ true
+unfolding is_word
+bit_word true = refl
+bit_word false = refl
+
+-- words are not blank
+pub words_there : (words : List (List ℕ)) → list_all is_word words ≡ true → list_any is_blank words ≡ false
+unfolding is_word
+words_there [] e = refl
+words_there (word ∷ words) e =
+    let p = both (is_word word) (list_all is_word words) e in
+    let q = both (not (is_blank word)) (list_all (λ b. not (eqb b 32)) word) p.0 in
+    rw (not_true (is_blank word) q.0, words_there words p.1) refl

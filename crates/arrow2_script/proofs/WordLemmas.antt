@@ -1,0 +1,173 @@
+-- What a word says, and the one word that says it.
+use Rattle.std.proofs.Common.{map, codes, eqb, ◌≡◌, ◌∙◌, sym, ap, refl, ◌<◌, ◌^◌, ℕ, zero, suc, List, [], ◌∷◌, length, get_or, Bool, true, false, cond, ◌&&◌, ◌⊎◌, inl, inr, arith, lit<}
+use Rattle.std.specs.Prelude.{Option, Some, None, Result, Ok, Err, nat_lt}
+use Rattle.std.specs.Result.{result_ok}
+use Rattle.std.specs.Str.{bytes_eq, IsUtf8}
+use Rattle.std.specs.Str.Parse.{digits_value, AllDigits, ParsesUnsigned}
+use Rattle.std.specs.Fmt.{decimal}
+use Rattle.std.proofs.lemmas.Fmt.{decimal_is_IsNumeral, decimal-digits_value, first_decimal, decimal_digit, IsAscii-decimal}
+use Rattle.std.proofs.lemmas.Str.{IsUtf8-from_ascii}
+use Rattle.std.proofs.lemmas.Str.Parse.{numerals_by_value, tells_digits, parse_plain, IsNumeralModel}
+use Rattle.std.proofs.lemmas.Slice.Eq.{bytes_eq-Decides}
+use Rattle.std.specs.List.{list_all}
+use Rattle.std.proofs.lemmas.Option.{option_and_then_some, cond_some, same_Some, none-some}
+use Rattle.arrow2_script.specs.Words.{number_of, slot_of, bit_of, bits_of, bit_byte, bits_text, is_bit_byte, items_said}
+
+-- a number's own word says it
+pub number_of-decimal : (n : ℕ) → n < 2 ^ 64 → number_of (decimal n) ≡ Some n
+unfolding number_of
+number_of-decimal n h =
+    let value = (decimal_is_IsNumeral n h).1 in
+    let fits : nat_lt n (2 ^ 64) ≡ true = grind (arith, h) in
+    let same : bytes_eq (decimal n) (decimal n) ≡ true = (bytes_eq-Decides (decimal n) (decimal n)).1 refl in
+    rw (value, fits, same) refl
+
+-- a choice behind two tests
+tested : {X : Type 0} (a b : Bool) (x y : X) → cond (a && b) (Some x) None ≡ Some y → (a ≡ true) × (b ≡ true) × (x ≡ y)
+tested true true x y e = (refl, refl, cc)
+tested true false x y e = cc
+tested false b x y e = cc
+
+-- a word that says a number is its decimal digits
+pub decimal-number_of : (word : List ℕ) (n : ℕ) → number_of word ≡ Some n → (n < 2 ^ 64) × (decimal n ≡ word)
+unfolding number_of
+decimal-number_of word n e =
+    let v = digits_value 10 word in
+    let p = tested (nat_lt v (2 ^ 64)) (bytes_eq (decimal v) word) v n e in
+    let fits : v < 2 ^ 64 = grind (arith, p.0) in
+    let same = (bytes_eq-Decides (decimal v) word).0 p.1 in
+    (rw (← p.2) fits, rw (← p.2) same)
+
+-- a value is there, or not
+pub some_or_none : {X : Type 0} (o : Option X) → ((x : X) × (o ≡ Some x)) ⊎ (o ≡ None)
+some_or_none None = inr refl
+some_or_none (Some x) = inl (x, refl)
+
+-- a word says no number where it is no number's digits
+pub number_of-none : (word : List ℕ) → ((n : ℕ) → n < 2 ^ 64 → decimal n ≡ word → ⊥) → number_of word ≡ None
+number_of-none word never = elim (some_or_none (number_of word)) [
+  | inl p ↦ let d = decimal-number_of word p.0 p.1 in absurd (never p.0 d.0 d.1)
+  | inr e ↦ e
+]
+
+-- the first digit of a number is neither a sign nor, where more follow it, 0
+first_digit : (n : ℕ) → n < 2 ^ 64 → ((0 < length (decimal n)) × (get_or (decimal n) 0 0 ≡ 43)) ⊎ ((1 < length (decimal n)) × (get_or (decimal n) 0 0 ≡ 48)) → ⊥
+first_digit zero h padded = elim (rw (decimal_digit 0 (lit< tt)) at padded) [ inl p ↦ omega (arith, p.1) | inr p ↦ omega (arith, p.0) ]
+first_digit (suc n) h padded =
+    let above : 0 < suc n = omega arith in
+    let first = first_decimal (suc n) above h in
+    elim padded [ inl p ↦ omega (arith, first, p.1) | inr p ↦ omega (arith, first, p.1) ]
+
+pub number_of-padded : (word : List ℕ) → ((0 < length word) × (get_or word 0 0 ≡ 43)) ⊎ ((1 < length word) × (get_or word 0 0 ≡ 48)) → number_of word ≡ None
+number_of-padded word padded = number_of-none word (λ n h e. first_digit n h (rw e padded))
+
+pub number_of-no_text : (word : List ℕ) → ¬ (IsUtf8 word) → number_of word ≡ None
+number_of-no_text word broken = number_of-none word (λ n h e. broken (rw (← e) (IsUtf8-from_ascii (decimal n) (IsAscii-decimal n h))))
+
+own : IsNumeralModel (AllDigits 10) (digits_value 10)
+own = numerals_by_value (AllDigits 10) tells_digits
+
+-- a list that begins with a sign is not empty
+there : (word : List ℕ) → get_or word 0 0 ≡ 43 → 0 < length word
+there [] e = omega arith
+there (b ∷ bytes) e = omega arith
+
+-- what parsing answers for a word without a sign or a leading zero
+pub number_of-parsed : {E : Type 0} (word : List ℕ) (r : Result ℕ E) → ¬ (((0 < length word) × (get_or word 0 0 ≡ 43)) ⊎ ((1 < length word) × (get_or word 0 0 ≡ 48))) → ParsesUnsigned 64 10 word r → result_ok r ≡ number_of word
+number_of-parsed {E} word (Ok x) plain parsed =
+    let q = parse_plain own {E = E} 64 word (Ok x) parsed (λ e. plain (inl (there word e, e))) in
+    let one : get_or word 0 0 ≡ 48 → length word ≡ 1 = λ e. let short : 1 < length word → ⊥ = λ l. plain (inr (l, e)) in omega (arith, short, q.0.1) in
+    let same = decimal-digits_value own word q.0.0 q.0.1 one q.0.2 in
+    ap Some q.1 ∙ sym (ap number_of (sym same) ∙ number_of-decimal (digits_value 10 word) q.0.2)
+number_of-parsed {E} word (Err d) plain parsed =
+    let refused = parse_plain own {E = E} 64 word (Err d) parsed (λ e. plain (inl (there word e, e))) in
+    sym (number_of-none word (λ n h e.
+    let is = decimal_is_IsNumeral n h in
+    refused (rw e at is.0.1, rw e at is.0.0, let v : digits_value 10 word ≡ n = ap (digits_value 10) (sym e) ∙ is.1 in omega (arith, v, h))))
+
+-- a slot's word
+pub slot_of-decimal : (n : ℕ) → n < 16 → slot_of (decimal n) ≡ Some n
+slot_of-decimal n h =
+    let wide : n < 2 ^ 64 = omega arith in
+    let fits : nat_lt n 16 ≡ true = grind (arith, h) in
+    rw (number_of-decimal n wide, fits) refl
+
+pub decimal-slot_of : (word : List ℕ) (n : ℕ) → slot_of word ≡ Some n → (n < 16) × (decimal n ≡ word)
+decimal-slot_of word n e = option_and_then_some {P = (n < 16) × (decimal n ≡ word)} (λ x. cond (nat_lt x 16) (Some x) None) (number_of word) n e
+    (λ x said kept.
+    let p = cond_some (nat_lt x 16) x n kept in
+    let fits : x < 16 = grind (arith, p.0) in
+    (rw (← p.1) fits, rw (← p.1) (decimal-number_of word x said).1))
+
+-- a bit's word
+pub bit_of-byte : (bit : Bool) → bit_of (bit_byte bit ∷ []) ≡ Some bit
+unfolding bit_of
+bit_of-byte true = refl
+bit_of-byte false = refl
+
+-- a choice between two values
+pub choice : {X : Type 0} (b : Bool) (x y z : X) → cond b x y ≡ z → ((b ≡ true) × (x ≡ z)) ⊎ ((b ≡ false) × (y ≡ z))
+choice true x y z e = inl (refl, e)
+choice false x y z e = inr (refl, e)
+
+pub byte-bit_of : (word : List ℕ) (bit : Bool) → bit_of word ≡ Some bit → bit_byte bit ∷ [] ≡ word
+unfolding bit_of
+byte-bit_of word bit e = elim (choice (bytes_eq word (codes "0")) _ _ _ e) [
+  | inl p ↦ let is = (bytes_eq-Decides word (codes "0")).0 p.0 in let b = same_Some _ _ p.1 in rw (← b) (sym is)
+  | inr q ↦ elim (choice (bytes_eq word (codes "1")) _ _ _ q.1) [
+    | inl p ↦ let is = (bytes_eq-Decides word (codes "1")).0 p.0 in let b = same_Some _ _ p.1 in rw (← b) (sym is)
+    | inr p ↦ absurd (none-some bit p.1)
+  ]
+]
+
+-- the items that a byte for each item says, and back
+items_said-text : (items : List Bool) → items_said (map bit_byte items) ≡ items
+items_said-text [] = refl
+items_said-text (true ∷ items) = ap (λ t. true ∷ t) (items_said-text items)
+items_said-text (false ∷ items) = ap (λ t. false ∷ t) (items_said-text items)
+
+all_bit_bytes : (items : List Bool) → list_all is_bit_byte (map bit_byte items) ≡ true
+all_bit_bytes [] = refl
+all_bit_bytes (true ∷ items) = all_bit_bytes items
+all_bit_bytes (false ∷ items) = all_bit_bytes items
+
+both : (a b : Bool) → (a && b) ≡ true → (a ≡ true) × (b ≡ true)
+both true true e = (refl, refl)
+both true false e = cc
+both false b e = cc
+
+said_byte : (byte : ℕ) → is_bit_byte byte ≡ true → bit_byte (eqb byte 49) ≡ byte
+said_byte byte e = grind (arith, e)
+
+text-items_said : (word : List ℕ) → list_all is_bit_byte word ≡ true → map bit_byte (items_said word) ≡ word
+text-items_said [] e = refl
+text-items_said (byte ∷ bytes) e =
+    let p = both (is_bit_byte byte) (list_all is_bit_byte bytes) e in
+    rw (said_byte byte p.0, text-items_said bytes p.1) refl
+
+-- a list that begins with a byte is not empty
+pub some_bytes : (byte : ℕ) (bytes : List ℕ) → eqb (length (byte ∷ bytes)) 0 ≡ false
+some_bytes byte bytes = grind arith
+
+-- a text of bits
+pub bits_of-text : (items : List Bool) → bits_of (bits_text items) ≡ Some items
+unfolding bits_of
+bits_of-text [] = refl
+bits_of-text (true ∷ items) = rw (some_bytes 49 (map bit_byte items), all_bit_bytes items) (ap (λ t. Some (true ∷ t)) (items_said-text items))
+bits_of-text (false ∷ items) = rw (some_bytes 48 (map bit_byte items), all_bit_bytes items) (ap (λ t. Some (false ∷ t)) (items_said-text items))
+
+some_said : (word : List ℕ) → (eqb (length word) 0) ≡ false → bits_text (items_said word) ≡ map bit_byte (items_said word)
+some_said [] e = cc
+some_said (byte ∷ bytes) e = refl
+
+pub text-bits_of : (word : List ℕ) (items : List Bool) → bits_of word ≡ Some items → bits_text items ≡ word
+unfolding bits_of
+text-bits_of word items e = elim (choice (bytes_eq word (codes "-")) _ _ _ e) [
+  | inl p ↦ let is = (bytes_eq-Decides word (codes "-")).0 p.0 in let b = same_Some _ _ p.1 in rw (← b) (sym is)
+  | inr q ↦ elim (choice (eqb (length word) 0) _ _ _ q.1) [
+    | inl p ↦ absurd (none-some items p.1)
+    | inr r ↦
+        let p = cond_some (list_all is_bit_byte word) (items_said word) items r.1 in
+        rw (← p.1) (some_said word r.0 ∙ text-items_said word p.0)
+  ]
+]

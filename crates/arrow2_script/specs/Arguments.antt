@@ -1,0 +1,28 @@
+-- The words behind a command's name.
+use Rattle.std.specs.Prelude.{ℕ, List, [], ◌∷◌, Option, Some, None}
+
+infixl 10 ◌>>=◌
+-- what a value says, where there is one
+abbrev pub ◌>>=◌ : {A B : Type 0} → Option A → (A → Option B) → Option B
+None >>= f = None
+(Some x) >>= f = f x
+
+-- just one word
+abbrev pub one_of : List (List ℕ) → Option (List ℕ)
+one_of [] = None
+one_of (a ∷ []) = Some a
+one_of (a ∷ b ∷ words) = None
+
+-- just two words
+abbrev pub two_of : List (List ℕ) → Option (List ℕ × List ℕ)
+two_of [] = None
+two_of (a ∷ words) = do
+  b ← one_of words
+  Some (a, b)
+
+-- just three words
+abbrev pub three_of : List (List ℕ) → Option (List ℕ × List ℕ × List ℕ)
+three_of [] = None
+three_of (a ∷ words) = do
+  others ← two_of words
+  Some (a, others.0, others.1)

@@ -1,0 +1,32 @@
+-- The commands of a script, by kind, and how each is spelled.
+use Rattle.std.specs.Prelude.{◌≡◌, ℕ, List, [], ◌∷◌, Option, None, option_map}
+use Rattle.std.specs.List.{join_with_byte}
+use Rattle.arrow2_script.specs.Lines.{words_of}
+use Rattle.arrow2_script.specs.BitmapCommands.{bitmap_named, bitmap_words, BitmapFits}
+use Rattle.arrow2_script.specs.declared.command.Command.{Command}
+use Rattle.arrow2_script.specs.declared.command.Command.TheVariants.{Bitmap}
+
+-- the command that the words after a name say
+unfoldable pub named : List ℕ → List (List ℕ) → Option Command
+named name words = option_map Bitmap (bitmap_named name words)
+
+-- the command that words say
+unfoldable pub command_of : List (List ℕ) → Option Command
+command_of [] = None
+command_of (name ∷ words) = named name words
+
+-- the command that a line says, if it says one
+unfoldable pub command_in : List ℕ → Option Command
+command_in line = command_of (words_of line)
+
+-- the words of a command
+abbrev pub command_words : Command → List (List ℕ)
+command_words (Bitmap command) = bitmap_words command
+
+-- slots are below 16, and numbers fit 64 bits
+abbrev pub Fits : Command → Type 0
+Fits (Bitmap command) = BitmapFits command
+
+-- the line is the command: its words, joined by one byte 32
+abbrev pub IsSpelling : List ℕ → Command → Type 0
+IsSpelling line command = Fits command × (line ≡ join_with_byte 32 (command_words command))

@@ -1,0 +1,5 @@
+pub mod Arguments
+pub mod BitmapCommands
+pub mod Commands
+pub mod Lines
+pub mod Words

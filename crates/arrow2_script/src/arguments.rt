@@ -1,0 +1,37 @@
+//! The words behind a command's name.
+ghost use Rattle.std.specs.Prelude.{◌≡◌, option_map};
+ghost use Rattle.arrow2_script.specs.Arguments.{one_of, two_of, three_of};
+
+use crate::lines::Parts;
+
+/// The word that is left, if it is the only one.
+pub(crate) fn one<'a>(parts: Parts<'a>) -> Option<&'a [u8]>
+    ensures { option_map (λ word. word.now) result ≡ one_of parts.entry }
+{
+    let mut parts = parts;
+    let first = parts.next()?;
+    match parts.next() {
+        Some(_) => None,
+        None => Some(first),
+    }
+}
+
+/// The words that are left, if they are two.
+pub(crate) fn two<'a>(parts: Parts<'a>) -> Option<(&'a [u8], &'a [u8])>
+    ensures { option_map (λ words. (words.0.now, words.1.now)) result ≡ two_of parts.entry }
+{
+    let mut parts = parts;
+    let first = parts.next()?;
+    let second = one(parts)?;
+    Some((first, second))
+}
+
+/// The words that are left, if they are three.
+pub(crate) fn three<'a>(parts: Parts<'a>) -> Option<(&'a [u8], &'a [u8], &'a [u8])>
+    ensures { option_map (λ words. (words.0.now, words.1.now, words.2.now)) result ≡ three_of parts.entry }
+{
+    let mut parts = parts;
+    let first = parts.next()?;
+    let (second, third) = two(parts)?;
+    Some((first, second, third))
+}

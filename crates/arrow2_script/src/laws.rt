@@ -1,0 +1,31 @@
+//! Laws of the script's grammar. Each function is its law and nothing else.
+ghost use Rattle.std.specs.Prelude.{◌≡◌, ◌<◌, ◌^◌, ◌∷◌, [], ◌↔◌, ℕ, List, Bool, Some, length};
+ghost use Rattle.std.specs.Fmt.{decimal};
+ghost use Rattle.arrow2_script.specs.Lines.{lines_of, words_of, AreLines, AreWords};
+ghost use Rattle.arrow2_script.specs.Words.{number_of, slot_of, bit_of, bits_of, bit_byte, bits_text};
+ghost use Rattle.arrow2_script.specs.Commands.{command_in, IsSpelling};
+ghost use Rattle.arrow2_script.specs.declared.command.Command.{Command};
+
+/// A script's lines hold no line end, and each followed by one they are the script; no other lines are.
+pub fn lines_of_a_script()
+    ensures are { (script : List ℕ) → AreLines script (lines_of script) }
+    ensures only { (script : List ℕ) (lines : List (List ℕ)) → AreLines script lines → lines ≡ lines_of script }
+{}
+
+/// A line's words are not empty, hold no space, and joined by one space they are the line; no other words are.
+pub fn words_of_a_line()
+    ensures { (line : List ℕ) (words : List (List ℕ)) → 0 < length words → (words_of line ≡ words) ↔ AreWords line words }
+{}
+
+/// A word says a number, a slot, a bit or a text of bits exactly where it is the one word that spells it.
+pub fn one_word_of_a_value()
+    ensures number { (word : List ℕ) (n : ℕ) → (number_of word ≡ Some n) ↔ ((n < 2 ^ 64) × (decimal n ≡ word)) }
+    ensures slot { (word : List ℕ) (n : ℕ) → (slot_of word ≡ Some n) ↔ ((n < 16) × (decimal n ≡ word)) }
+    ensures bit { (word : List ℕ) (bit : Bool) → (bit_of word ≡ Some bit) ↔ (bit_byte bit ∷ [] ≡ word) }
+    ensures bits { (word : List ℕ) (items : List Bool) → (bits_of word ≡ Some items) ↔ (bits_text items ≡ word) }
+{}
+
+/// A line says a command exactly where it is that command's words, joined by one space.
+pub fn one_line_of_a_command()
+    ensures { (line : List ℕ) (command : Command) → (command_in line ≡ Some command) ↔ IsSpelling line command }
+{}

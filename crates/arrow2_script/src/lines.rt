@@ -1,0 +1,84 @@
+//! The lines of a script, and the words of a line.
+ghost use Rattle.std.specs.Prelude.{false, ◌≡◌, ◌≢◌, ◌<◌, List, [], ◌∷◌, ◌++◌, ℕ, length, MatchOption};
+ghost use Rattle.std.specs.List.{All};
+ghost use Rattle.std.specs.Iterator.{YieldsFirstRef, item_count};
+ghost use Rattle.arrow2_script.specs.Lines.{lines_of, parts_left};
+
+use memchr::memchr;
+use std::marker::Model;
+
+/// The bytes before the first `byte`, and those behind it where there is one.
+fn cut_at(bytes: &[u8], byte: u8) -> (&[u8], Option<&[u8]>)
+    ensures free { All (λ b. b ≢ byte) result.0.now }
+    ensures joined { MatchOption result.1 (bytes.now ≡ result.0.now) (λ after. bytes.now ≡ result.0.now ++ byte ∷ after.now) }
+{
+    match memchr(byte, bytes) {
+        Some(at) => (&bytes[..at], Some(&bytes[at + 1..])),
+        None => (bytes, None),
+    }
+}
+
+/// The first line of a script that is not empty, and the rest of the script behind its line end.
+#[tactic(auto, using(crate::proofs::LineLemmas::cutting))]
+pub fn next_line(script: &[u8]) -> (&[u8], &[u8])
+    requires { 0 < length script.now }
+    ensures lines { lines_of script.now ≡ result.0.now ∷ lines_of result.1.now }
+    ensures shorter { length result.1.now < length script.now }
+{
+    let (line, rest) = cut_at(script, b'\n');
+    match rest {
+        Some(rest) => (line, rest),
+        None => (line, &[]),
+    }
+}
+
+/// The parts of a line between its spaces that are still to come, empty ones too.
+#[derive(Drop)]
+pub struct Parts<'a> {
+    rest: &'a [u8],
+    ended: bool,
+}
+
+impl<'a> Model for Parts<'a> {
+    ghost Value = { List (List ℕ) };
+
+    ghost view = { λ p. parts_left p.ended p.rest.now };
+}
+
+impl<'a> Parts<'a> {
+    /// All parts of a line.
+    pub fn new(line: &'a [u8]) -> Parts<'a>
+        ensures { result ≡ parts_left false line.entry.now }
+    {
+        Parts {
+            rest: line,
+            ended: false,
+        }
+    }
+}
+
+impl<'a> Iterator for Parts<'a> {
+    type Item = &'a [u8];
+
+    ghost next_gives = { YieldsFirstRef (λ parts. parts) };
+
+    ghost remaining = { item_count (λ parts. parts) };
+
+    #[tactic(auto, using(crate::proofs::LineLemmas::cutting))]
+    fn next(&mut self) -> Option<&'a [u8]> {
+        if self.ended {
+            return None;
+        }
+        let (part, rest) = cut_at(self.rest, b' ');
+        match rest {
+            Some(rest) => {
+                self.rest = rest;
+                Some(part)
+            }
+            None => {
+                self.ended = true;
+                Some(part)
+            }
+        }
+    }
+}

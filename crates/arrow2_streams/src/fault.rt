@@ -1,0 +1,68 @@
+//! What can end a replay.
+ghost use Rattle.std.specs.Prelude.{◌≡◌, Some, MatchResult};
+
+use std::alloc::{AllocError, AllocFailed};
+use std::fmt;
+use std::io::Eprint;
+use std::process::ExitCode;
+
+/// What ended a replay before its end.
+#[derive(Clone, Copy, Debug, PartialEq, Eq)]
+pub enum ReplayFault {
+    /// A call of the reader failed. Nothing was written.
+    Read,
+    /// A request for memory was refused. Nothing was written.
+    Memory,
+    /// A call of the writer failed. What was written is a beginning of the replies.
+    Write,
+}
+
+impl fmt::Display for ReplayFault {
+    ghost use Rattle.arrow2_streams.specs.FaultTexts.{fault_text};
+
+    ghost output = { λ fault. Some (fault_text fault) };
+
+    fn fmt<W: fmt::Write>(&self, f: &mut fmt::Formatter<W>) -> fmt::Result {
+        match self {
+            ReplayFault::Read => write!(f, "read failed"),
+            ReplayFault::Memory => write!(f, "out of memory"),
+            ReplayFault::Write => write!(f, "write failed"),
+        }
+    }
+}
+
+impl std::error::Error for ReplayFault {}
+
+impl From<AllocError> for ReplayFault {
+    ghost use Rattle.arrow2_streams.specs.declared.fault.ReplayFault.TheVariants.{Memory};
+
+    ghost from_gives = { λ _ fault. fault ≡ Memory };
+
+    fn from(_error: AllocError) -> ReplayFault {
+        ReplayFault::Memory
+    }
+}
+
+/// The value that found no room is dropped.
+impl<T: Drop> From<AllocFailed<T>> for ReplayFault {
+    ghost use Rattle.arrow2_streams.specs.declared.fault.ReplayFault.TheVariants.{Memory};
+
+    ghost from_gives = { λ _ fault. fault ≡ Memory };
+
+    fn from(_error: AllocFailed<T>) -> ReplayFault {
+        ReplayFault::Memory
+    }
+}
+
+/// The status that a program ends with after a replay. A fault is said on standard error, as one line.
+pub fn exit_code<R: Eprint>(rt: &R, answer: Result<(), ReplayFault>) -> ExitCode
+    ensures { MatchResult answer (λ _. result ≡ ExitCode.SUCCESS) (λ _. result ≡ ExitCode.FAILURE) }
+{
+    match answer {
+        Ok(()) => ExitCode::SUCCESS,
+        Err(fault) => {
+            let _ = rt.eprintln(fault);
+            ExitCode::FAILURE
+        }
+    }
+}

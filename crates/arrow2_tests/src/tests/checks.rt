@@ -1,0 +1,57 @@
+//! What many tests ask, each proved once.
+ghost use Rattle.std.specs.Iterator.{IsFinite};
+
+use arrow2_types::native::NativeType;
+use arrow2_types::primitive::PrimitiveType;
+use std::alloc::Global;
+use std::convert::AsSlice;
+use std::fmt::{Debug, Display};
+use std::process::Abort;
+
+/// A value prints as the text.
+pub(super) fn prints(rt: &impl Abort, alloc: Global, value: &impl Display, text: &str) {
+    let printed = value.to_string(alloc).expect(rt, "no memory for a text");
+    assert_eq!(rt; printed.as_str(), text);
+}
+
+/// A value prints as the text where it is debugged.
+pub(super) fn shows(rt: &impl Abort, alloc: Global, value: &impl Debug, text: &str) {
+    let shown = format!(in alloc; "{value:?}").expect(rt, "no memory for a text");
+    assert_eq!(rt; shown.as_str(), text);
+}
+
+/// The bytes are these.
+pub(super) fn has(rt: &impl Abort, bytes: &[u8], wanted: &[u8]) {
+    assert_eq!(rt; bytes, wanted);
+}
+
+/// A walk gives the items in this order, and no others.
+pub(super) fn gives<I: Iterator<Item = bool>>(
+    rt: &impl Abort,
+    alloc: Global,
+    walk: I,
+    items: &[bool],
+)
+    requires next { I.can_next walk }
+    requires finite { IsFinite (I.remaining walk) }
+{
+    let given: Vec<bool> = walk.collect(alloc).expect(rt, "no memory for the items");
+    assert_eq!(rt; given.as_slice(), items);
+}
+
+/// A native value has the name and the bytes in both orders, and is read back from them.
+pub(super) fn has_bytes<T: NativeType>(
+    rt: &impl Abort,
+    value: T,
+    name: PrimitiveType,
+    little: &[u8],
+    big: &[u8],
+) {
+    let (le, be) = (value.to_le_bytes(), value.to_be_bytes());
+    assert!(rt; T::PRIMITIVE == name && T::SIZE == little.len());
+    has(rt, le.as_slice(), little);
+    has(rt, be.as_slice(), big);
+    assert!(rt; T::from_le_bytes(le) == value && T::from_be_bytes(be) == value);
+    assert!(rt; T::from_le_slice(le.as_slice()) == value);
+    assert!(rt; T::from_be_slice(be.as_slice()) == value);
+}

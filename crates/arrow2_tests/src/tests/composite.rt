@@ -1,0 +1,72 @@
+//! Known bytes and printed texts of native values of several parts.
+use super::checks::{has_bytes, prints, shows};
+use arrow2_composite::interval::{days_ms, months_days_ns};
+use arrow2_composite::wide::i256;
+use arrow2_types::primitive::PrimitiveType;
+
+#[test]
+fn parts_are_written_in_order(rt: HostRuntime) {
+    has_bytes(
+        &rt,
+        days_ms::new(1, -1),
+        PrimitiveType::DaysMs,
+        &[1, 0, 0, 0, 255, 255, 255, 255],
+        &[0, 0, 0, 1, 255, 255, 255, 255],
+    );
+    has_bytes(
+        &rt,
+        months_days_ns::new(1, 2, 3),
+        PrimitiveType::MonthDayNano,
+        &[1, 0, 0, 0, 2, 0, 0, 0, 3, 0, 0, 0, 0, 0, 0, 0],
+        &[0, 0, 0, 1, 0, 0, 0, 2, 0, 0, 0, 0, 0, 0, 0, 3],
+    );
+}
+
+#[test]
+fn wide_numbers_are_their_digits(rt: HostRuntime) {
+    let (mut little, mut big) = ([0; 32], [0; 32]);
+    little[0] = 1;
+    big[31] = 1;
+    has_bytes(
+        &rt,
+        i256::from_words(0, 1),
+        PrimitiveType::Int256,
+        &little,
+        &big,
+    );
+    little[..16].fill(255);
+    big[16..].fill(255);
+    has_bytes(
+        &rt,
+        i256::from_words(0, -1),
+        PrimitiveType::Int256,
+        &little,
+        &big,
+    );
+}
+
+#[test]
+fn spans_print_their_parts(rt: HostRuntime) {
+    let alloc = rt.alloc();
+    let (days, months) = (days_ms::new(1, -1), months_days_ns::new(1, 2, 3));
+    prints(&rt, alloc, &days, "1d -1ms");
+    shows(&rt, alloc, &days, "days_ms(1, -1)");
+    prints(&rt, alloc, &days_ms::default(), "0d 0ms");
+    prints(&rt, alloc, &months, "1m 2d 3ns");
+    shows(&rt, alloc, &months, "months_days_ns(1, 2, 3)");
+    let (days, months) = (-days, -months);
+    assert!(rt; days.days() == -1 && days.milliseconds() == 1);
+    assert!(rt; months.months() == -1 && months.days() == -2 && months.ns() == -3);
+}
+
+#[test]
+#[tactic(auto, unfolding(arrow2_model::specs::Digits::words_value))]
+fn wide_numbers_go_by_value(rt: HostRuntime) {
+    let one = i256::from_words(0, 1);
+    assert!(rt; one < i256::from_words(0, -1) && i256::from_words(-1, 0) < one);
+    assert!(rt; -i256::from_words(1, 0) == i256::from_words(-1, 0));
+    assert!(rt; -one == i256::from_words(-1, -1));
+    assert!(rt; one != i256::from_words(1, 1));
+    assert!(rt; matches!(i256::default().into_words(), (0, 0)));
+    assert!(rt; matches!(i256::from_words(5, -6).into_words(), (5, -6)));
+}
