@@ -15,7 +15,7 @@ use std::test::Fail;
 
 /// The first `length` bits of the bytes, in memory of its own.
 fn bitmap_of(rt: &impl Abort, alloc: Global, bytes: &[u8], length: usize) -> Bitmap
-    ensures { result ≡ record { bytes = bytes.now; offset = 0; len = length } }
+    ensures len { count (items_of result) ≡ length }
 {
     let bytes = bytes.to_vec(alloc).expect(rt, "no memory");
     Bitmap::try_new(bytes, length).expect(rt, "no memory")
