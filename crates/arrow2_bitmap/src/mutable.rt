@@ -18,6 +18,7 @@ ghost use Rattle.arrow2_bitmap.specs.Refused.{too_long};
 ghost use Rattle.std.specs.declared.alloc.Global.{Global};
 
 use crate::check::check_length;
+use crate::collect::packed;
 use arrow2_bits::iterator::BitmapIter;
 use arrow2_bits::{bytes_for, count_zeros, get_bit, set_bit};
 use arrow2_types::error::{Error, Result};
@@ -165,11 +166,7 @@ impl MutableBitmap {
         ensures ok { IfOk result (λ m. m.items ≡ items.now) }
         ensures only { IfErr result (λ e. e ≡ Error.OutOfMemory) }
     {
-        let mut bitmap = MutableBitmap::with_capacity(alloc, items.len())?;
-        for item in items {
-            bitmap.push(*item)?;
-        }
-        Ok(bitmap)
+        Ok(MutableBitmap::from_vec(packed(alloc, items)?, items.len()))
     }
 
     /// Adds one item at the end. Below the capacity it takes no memory.
