@@ -1,12 +1,12 @@
 -- Items as bytes, 64 at a time.
-use Rattle.std.proofs.Common.{◌≡◌, ◌∙◌, ℕ, zero, suc, ◌+◌, ◌-◌, ◌*◌, ◌/◌, ◌%◌, ◌^◌, ◌<◌, ◌≤◌, List, [], ◌∷◌, ◌++◌, Bool, true, false, map, take, drop, length, get_or, set, not, refl, ap, sym, subst, arith}
+use Rattle.std.proofs.Common.{◌≡◌, ◌∙◌, ℕ, zero, suc, ◌+◌, ◌*◌, ◌<◌, ◌≤◌, List, [], ◌∷◌, ◌++◌, Bool, true, false, map, take, drop, length, get_or, set, not, refl, ap, sym, subst, arith}
 use Rattle.std.proofs.Math.Dec.{eqb}
 use Rattle.std.specs.Int.{from_bool}
 use Rattle.std.specs.Simd.{first_chunks}
-use Rattle.std.proofs.lemmas.List.{get_or-set_same, take-append-drop, append_assoc, drop-drop, length-append, length-drop, length-take-le}
+use Rattle.std.proofs.lemmas.List.{take-append-drop, append_assoc, drop-drop, length-append, length-drop, length-take-le, length-set, append-nil, take_all, take_more_set}
 use Rattle.std.proofs.Math.Seq.{take-append-add}
 use Rattle.arrow2_model.specs.Bits.{bits, num, unnum}
-use Rattle.arrow2_model.proofs.Bits.{bits-append, length-bits}
+use Rattle.arrow2_model.proofs.Bits.{bits-nil, bits-append, length-bits}
 use Rattle.arrow2_model.proofs.Numbers.{unnum-num}
 
 -- whether a lane is not 0 says its item
@@ -43,3 +43,30 @@ packed_all items padded rest bytes after word x so front wide few number was bit
       omega (arith, n, m, l, ap length so, ap length e, wide, few),
       ap (take (length items)) e ∙ (ap (λ k. take k (bits bytes ++ padded)) (ap length (sym so) ∙ n) ∙ (take-append-add (bits bytes) padded (length rest) ∙ (ap (λ r. bits bytes ++ r) front ∙ so))),
     )
+
+-- how many items stand in bytes and in the front of a block
+pub length-packing : (bytes : List ℕ) (block : List Bool) (place : ℕ) → place ≤ length block → length (bits bytes ++ take place block) ≡ 8 * length bytes + place
+length-packing bytes block place h = omega (arith, length-append (bits bytes) (take place block), length-bits bytes, length-take-le place block h)
+
+-- the word of a block holds it
+pub block_word : (block : List Bool) (word : List ℕ) (x : ℕ) → length block ≡ 64 → x ≡ num block → bits word ≡ unnum 64 x → bits word ≡ block
+block_word block word x wide number bits-of = bits-of ∙ (ap (unnum 64) number ∙ subst (λ (n : ℕ). unnum n (num block) ≡ block) wide (unnum-num block))
+
+-- a block whose last item comes is full
+pub block_full : (bytes after word : List ℕ) (block items : List Bool) (place x : ℕ) (item : Bool) → bits bytes ++ take place block ≡ items → place ≡ 63 → length block ≡ 64 → x ≡ num (set block place item) → after ≡ bytes ++ word → bits word ≡ unnum 64 x → bits after ++ [] ≡ items ++ item ∷ []
+block_full bytes after word block items place x item so last wide number was bits-of =
+    let size : length (set block place item) ≡ 64 = length-set block place item ∙ wide in
+    let w : bits word ≡ set block place item = block_word (set block place item) word x size number bits-of in
+    let whole : set block place item ≡ take place block ++ item ∷ [] = sym (take_all (place + 1) (set block place item) (omega (arith, last, size))) ∙ take_more_set block place item (omega (arith, last, wide)) in
+    append-nil (bits after) ∙ rw (was, bits-append bytes word, w, whole) (sym (append_assoc (bits bytes) (take place block) (item ∷ [])) ∙ ap (λ l. l ++ item ∷ []) so)
+
+-- the items that have come are the front of the bytes with the word of the block behind them
+pub packing_ended : (bytes after word : List ℕ) (block items : List Bool) (place len x : ℕ) → bits bytes ++ take place block ≡ items → place < 64 → length block ≡ 64 → len ≡ length bytes → x ≡ num block → after ≡ bytes ++ word → bits word ≡ unnum 64 x → take (8 * len + place) (bits after) ≡ items
+packing_ended bytes after word block items place len x so few wide size number was bits-of =
+    let e : bits after ≡ bits bytes ++ block = rw (was, bits-append bytes word, block_word block word x wide number bits-of) refl in
+    let n : 8 * len + place ≡ length (bits bytes) + place = omega (arith, size, length-bits bytes) in
+    ap (take (8 * len + place)) e ∙ (ap (λ k. take k (bits bytes ++ block)) n ∙ (take-append-add (bits bytes) block place ∙ so))
+
+-- no items
+pub packing_nil : (bytes : List ℕ) (block : List Bool) → bytes ≡ [] → bits bytes ++ take 0 block ≡ []
+packing_nil bytes block e = append-nil (bits bytes) ∙ (ap bits e ∙ bits-nil)

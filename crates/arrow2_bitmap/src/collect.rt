@@ -1,11 +1,82 @@
 //! Items as bytes, 64 at a time.
-ghost use Rattle.std.specs.Prelude.{◌≡◌, ◌*◌, ◌≤◌, length, map, take, IfOk, vec_len};
+ghost use Rattle.std.specs.Prelude.{◌≡◌, ◌-◌, ◌*◌, ◌<◌, ◌≤◌, ◌^◌, [], ◌∷◌, ◌++◌, length, map, take, OnOk, IfOk, IfErr, IsErrOf, vec_len};
 ghost use Rattle.std.specs.Int.{from_bool};
 ghost use Rattle.arrow2_model.specs.Bits.{bits, num};
+ghost use Rattle.arrow2_types.specs.declared.refusal.Refusal.TheVariants as refusal;
 
 use arrow2_chunk::bit_chunk::BitChunk;
+use arrow2_types::refusal::Refusal;
 use std::alloc::{AllocError, Global};
+use std::marker::Model;
 use std::simd::prelude::*;
+
+/// Items that come one by one: contracts see them all. The last of them stand in a block of their own until it is full.
+#[derive(Drop)]
+pub(crate) struct Packing {
+    bytes: Vec<u8>,
+    block: [bool; 64],
+    place: usize,
+}
+
+impl Model for Packing {
+    ghost use Rattle.std.specs.Prelude.{◌≡◌, ◌*◌, ◌%◌, ◌<◌, ◌^◌, ◌++◌, length, take, List, Bool};
+    ghost use Rattle.arrow2_model.specs.Bits.{bits};
+
+    ghost Value = { List Bool };
+
+    ghost view = { λ p. bits p.bytes.items ++ take p.place p.block };
+
+    ghost invariant = { λ p. (p.place < 64) × (length p.block ≡ 64) × (length p.bytes.items % 8 ≡ 0) × (8 * length p.bytes.items < 2 ^ 64) };
+}
+
+impl Packing {
+    /// No items. Takes no memory.
+    pub(crate) fn new(alloc: Global) -> Packing
+        ensures { result ≡ [] }
+    {
+        Packing {
+            bytes: Vec::new(alloc),
+            block: [false; 64],
+            place: 0,
+        }
+    }
+
+    /// One item more. Takes memory at the last one of a block alone.
+    pub(crate) fn push(&mut self, item: bool) -> Result<(), Refusal>
+        ensures ok { OnOk result (self.new ≡ self.old ++ item ∷ []) }
+        ensures overflow { IsErrOf result refusal.Overflow → length self.old ≡ 2 ^ 64 - 1 }
+        ensures fits { OnOk result (length self.new < 2 ^ 64) }
+    {
+        self.block[self.place] = item;
+        if self.place < 63 {
+            self.place += 1;
+            return Ok(());
+        }
+        if self.bytes.len() == usize::MAX / 8 - 7 {
+            return Err(Refusal::Overflow);
+        }
+        let word = BitChunk::to_ne_bytes(word_of(&self.block));
+        self.bytes.extend_from_slice(&word)?;
+        self.place = 0;
+        Ok(())
+    }
+
+    /// The bytes of the items, with spare bits behind them, and how many items there are.
+    pub(crate) fn finish(self) -> Result<(Vec<u8>, usize), AllocError>
+        ensures enough { IfOk result (λ r. r.1 ≤ 8 * vec_len r.0) }
+        ensures items { IfOk result (λ r. take r.1 (bits r.0.items) ≡ self) }
+        ensures len { IfOk result (λ r. r.1 ≡ length self) }
+    {
+        let Packing {
+            mut bytes,
+            block,
+            place,
+        } = self;
+        let length = 8 * bytes.len() + place;
+        bytes.extend_from_slice(&BitChunk::to_ne_bytes(word_of(&block)))?;
+        Ok((bytes, length))
+    }
+}
 
 /// The bytes of the items, with spare bits behind them. Asks for memory once.
 pub(crate) fn packed(alloc: Global, items: &[bool]) -> Result<Vec<u8>, AllocError>

@@ -18,7 +18,7 @@ ghost use Rattle.arrow2_bitmap.specs.Refused.{too_long};
 ghost use Rattle.std.specs.declared.alloc.Global.{Global};
 
 use crate::check::check_length;
-use crate::collect::packed;
+use crate::collect::{Packing, packed};
 use arrow2_bits::iterator::BitmapIter;
 use arrow2_bits::{bytes_for, count_zeros, get_bit, set_bit};
 use arrow2_types::error::{Error, Result};
@@ -150,11 +150,12 @@ impl MutableBitmap {
         ensures overflow { IsErrOf result Error.Overflow → (it : I.IntoIter) × I.into_iter_gives iter it × GivesTooMany I.IntoIter.next_gives it }
         ensures only { IfErr result (λ e. (e ≡ Error.Overflow) ⊎ (e ≡ Error.OutOfMemory)) }
     {
-        let mut collected = MutableBitmap::new(alloc);
+        let mut packing = Packing::new(alloc);
         for item in iter {
-            collected.push(item)?;
+            packing.push(item)?;
         }
-        Ok(collected)
+        let (bytes, length) = packing.finish()?;
+        Ok(MutableBitmap::from_vec(bytes, length))
     }
 
     /// The bitmap of the items.
