@@ -12,14 +12,17 @@ ghost use Rattle.arrow2_model.specs.Canonical.{canonical_bytes, IsCanonical};
 ghost use Rattle.arrow2_model.specs.Shown.{shown};
 ghost use Rattle.arrow2_model.specs.Storage.{GrowingBitmap};
 ghost use Rattle.arrow2_types.specs.Refusals.{IsInvalidArgument};
+ghost use Rattle.arrow2_types.specs.declared.refusal.Refusal.TheVariants as refusal;
 ghost use Rattle.arrow2_bitmap.specs.Collected.{GivesTooMany};
 ghost use Rattle.arrow2_bitmap.specs.Refused.{too_long};
 ghost use Rattle.std.specs.declared.alloc.Global.{Global};
 
 use crate::check::check_length;
+use crate::collect::{Packing, packed};
 use arrow2_bits::iterator::BitmapIter;
 use arrow2_bits::{bytes_for, count_zeros, get_bit, set_bit};
 use arrow2_types::error::{Error, Result};
+use arrow2_types::refusal::Refusal;
 use std::alloc::{AllocError, Global};
 use std::fmt;
 use std::marker::Model;
@@ -147,11 +150,12 @@ impl MutableBitmap {
         ensures overflow { IsErrOf result Error.Overflow → (it : I.IntoIter) × I.into_iter_gives iter it × GivesTooMany I.IntoIter.next_gives it }
         ensures only { IfErr result (λ e. (e ≡ Error.Overflow) ⊎ (e ≡ Error.OutOfMemory)) }
     {
-        let mut collected = MutableBitmap::new(alloc);
+        let mut packing = Packing::new(alloc);
         for item in iter {
-            collected.push(item)?;
+            packing.push(item)?;
         }
-        Ok(collected)
+        let (bytes, length) = packing.finish()?;
+        Ok(MutableBitmap::from_vec(bytes, length))
     }
 
     /// The bitmap of the items.
@@ -163,11 +167,7 @@ impl MutableBitmap {
         ensures ok { IfOk result (λ m. m.items ≡ items.now) }
         ensures only { IfErr result (λ e. e ≡ Error.OutOfMemory) }
     {
-        let mut bitmap = MutableBitmap::with_capacity(alloc, items.len())?;
-        for item in items {
-            bitmap.push(*item)?;
-        }
-        Ok(bitmap)
+        Ok(MutableBitmap::from_vec(packed(alloc, items)?, items.len()))
     }
 
     /// Adds one item at the end. Below the capacity it takes no memory.
@@ -184,11 +184,7 @@ impl MutableBitmap {
         ensures room { length self.old.items < self.old.capacity → IsOk result }
         ensures capacity { self.old.capacity ≤ self.new.capacity }
     {
-        if self.length == usize::MAX {
-            return Err(Error::Overflow);
-        }
-        push_bit(&mut self.buffer, self.length, value)?;
-        self.length += 1;
+        self.push_item(value)?;
         Ok(())
     }
 
@@ -293,6 +289,22 @@ impl MutableBitmap {
         ensures len { length result.now ≡ (length self.now.items + 7) / 8 }
     {
         self.buffer.as_slice()
+    }
+
+    /// Adds one item at the end. The error is one byte.
+    fn push_item(&mut self, value: bool) -> std::result::Result<(), Refusal>
+        ensures ok { OnOk result (self.new.items ≡ self.old.items ++ value ∷ []) }
+        ensures err { OnErr result (self.new.items ≡ self.old.items) }
+        ensures overflow { IsErrOf result refusal.Overflow ↔ (length self.old.items ≡ 2 ^ 64 - 1) }
+        ensures room { length self.old.items < self.old.capacity → IsOk result }
+        ensures capacity { self.old.capacity ≤ self.new.capacity }
+    {
+        if self.length == usize::MAX {
+            return Err(Refusal::Overflow);
+        }
+        push_bit(&mut self.buffer, self.length, value)?;
+        self.length += 1;
+        Ok(())
     }
 
     /// Its bytes, and how many items they hold.

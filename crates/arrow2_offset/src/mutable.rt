@@ -12,14 +12,14 @@ ghost use Rattle.arrow2_model.specs.Offsets.{AreOffsets, offset_at, AreOffsetsUp
 ghost use Rattle.arrow2_offset.specs.Collected.{GivesPast};
 ghost use Rattle.arrow2_offset.specs.Made.{made_of};
 ghost use Rattle.arrow2_offset.specs.Refused.{IsOutOfSpec, why_not_offsets};
-ghost use Rattle.arrow2_offset.specs.declared.refusal.Refusal.TheVariants as refusal;
+ghost use Rattle.arrow2_types.specs.declared.refusal.Refusal.TheVariants as refusal;
 
 use crate::check::try_check_offsets;
 use crate::immutable::OffsetsBuffer;
 use crate::iterator::Lengths;
-use crate::refusal::Refusal;
 use arrow2_index::offset::Offset;
 use arrow2_types::error::{Error, Result};
+use arrow2_types::refusal::Refusal;
 use std::alloc::{AllocError, Global};
 use std::marker::Model;
 
