@@ -7,6 +7,7 @@ mod chunk;
 mod chunks_mut;
 mod composite;
 mod datatypes;
+mod facade;
 mod hinting;
 mod index;
 mod offset;
