@@ -1,4 +1,4 @@
-pub use Rattle.arrow2_model.specs.Bits
+pub mod Bits
 pub use Rattle.arrow2_model.specs.Buffers
 pub use Rattle.arrow2_model.specs.Canonical
 pub use Rattle.arrow2_model.specs.Digits
