@@ -1,4 +1,5 @@
 pub mod Bits
+pub mod Errors
 pub use Rattle.arrow2_model.specs.Buffers
 pub use Rattle.arrow2_model.specs.Canonical
 pub use Rattle.arrow2_model.specs.Digits
