@@ -6,6 +6,8 @@ mod checks;
 mod chunk;
 mod chunks_mut;
 mod composite;
+mod datatypes;
+mod facade;
 mod hinting;
 mod index;
 mod offset;

@@ -1,0 +1,17 @@
+pub mod Bits
+pub mod Errors
+pub use Rattle.arrow2_model.specs.Buffers
+pub use Rattle.arrow2_model.specs.Canonical
+pub use Rattle.arrow2_model.specs.Digits
+pub use Rattle.arrow2_model.specs.Offsets
+pub use Rattle.arrow2_model.specs.Ones
+pub use Rattle.arrow2_model.specs.Parts
+pub use Rattle.arrow2_model.specs.Ranges
+pub use Rattle.arrow2_model.specs.Shown
+pub use Rattle.arrow2_model.specs.Storage
+pub use Rattle.arrow2_model.specs.Words
+pub use Rattle.arrow2_types.specs.ErrorTexts
+pub use Rattle.arrow2_types.specs.Refusals
+pub use Rattle.arrow2_datatypes.specs.Extensions
+pub use Rattle.arrow2_datatypes.specs.Kept
+pub use Rattle.arrow2_datatypes.specs.Types

@@ -1,0 +1,9 @@
+//! Bits of bytes: reading, writing, counting, printing and walking them, also by words.
+
+pub use arrow2_bits::chunk_iterator::{BitChunkIterExact, BitChunks};
+pub use arrow2_bits::chunks_exact::BitChunksExact;
+pub use arrow2_bits::chunks_exact_mut::BitChunksExactMut;
+pub use arrow2_bits::fmt::fmt;
+pub use arrow2_bits::iterator::BitmapIter;
+pub use arrow2_bits::{bytes_for, count_zeros, get_bit, get_bit_from, is_set, set, set_bit};
+pub use arrow2_chunk::BitChunk;

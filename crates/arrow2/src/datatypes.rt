@@ -1,0 +1,6 @@
+//! What arrays mean and how they are laid out: logical types, physical types, fields and schemas.
+
+pub use arrow2_datatypes::{
+    DataType, Field, IntegerType, IntervalUnit, Metadata, PhysicalType, PrimitiveType, Schema,
+    SchemaRef, TimeUnit, UnionMode, get_extension,
+};

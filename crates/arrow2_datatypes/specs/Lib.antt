@@ -1,0 +1,3 @@
+pub mod Extensions
+pub mod Kept
+pub mod Types

@@ -1,0 +1,34 @@
+//! Laws of the type tables. Each function is its law and nothing else.
+ghost use Rattle.std.specs.Prelude.{◌≡◌, IsTrue};
+ghost use Rattle.arrow2_types.specs.declared.primitive.PrimitiveType.{PrimitiveType};
+ghost use Rattle.arrow2_datatypes.specs.declared.DataType.{DataType};
+ghost use Rattle.arrow2_datatypes.specs.declared.field.Field.{Field};
+ghost use Rattle.arrow2_datatypes.specs.Types.{physical, logical, of_primitive};
+
+use crate::{DataType, Field, PhysicalType};
+use std::cmp::PartialEq;
+use std::hash::Hash;
+
+/// The type that stands for a native type is laid out as that native type.
+#[tactic(auto, using(crate::proofs::Tables::tables))]
+pub fn a_native_type_is_laid_out_as_itself()
+    ensures { (p : PrimitiveType) → physical (of_primitive p) ≡ PhysicalType.Primitive p }
+{}
+
+/// A type and the one behind its extensions are laid out alike.
+#[tactic(auto, using(crate::proofs::Tables::tables))]
+pub fn extensions_are_laid_out_as_what_they_extend()
+    ensures { (t : DataType) → physical (logical t) ≡ physical t }
+{}
+
+/// The type behind the extensions of a type is no extension: it is its own logical type.
+#[tactic(auto, using(crate::proofs::Tables::tables))]
+pub fn a_logical_type_is_its_own()
+    ensures { (t : DataType) → logical (logical t) ≡ logical t }
+{}
+
+/// Equal types and equal fields hash alike.
+pub fn equal_types_hash_alike()
+    ensures types { (a b : DataType) → IsTrue (⟦<DataType as PartialEq>⟧.eq a b) → ⟦<DataType as Hash>⟧.hash_input a ≡ ⟦<DataType as Hash>⟧.hash_input b }
+    ensures fields { (a b : Field) → IsTrue (⟦<Field as PartialEq>⟧.eq a b) → ⟦<Field as Hash>⟧.hash_input a ≡ ⟦<Field as Hash>⟧.hash_input b }
+{}

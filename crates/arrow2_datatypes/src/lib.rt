@@ -1,0 +1,294 @@
+//! What arrays mean and how they are laid out: logical types, physical types, fields and schemas.
+#![tactic(auto)]
+
+ghost use Rattle.std.specs.Prelude.{◌≡◌, ◌↔◌, IsTrue, IsOk, IfOk, IfErr, Some, None, if◌then◌else◌, codes};
+ghost use Rattle.std.specs.BTreeMap.{get_by_text};
+ghost use Rattle.arrow2_datatypes.specs.Extensions.{extension, texts};
+ghost use Rattle.arrow2_datatypes.specs.Types.{physical, logical, of_integer, of_primitive};
+
+pub mod field;
+pub mod laws;
+pub mod physical_type;
+pub mod schema;
+
+use arrow2_types::error::{Error, Result};
+pub use field::Field;
+pub use physical_type::{IntegerType, PhysicalType, PrimitiveType};
+pub use schema::Schema;
+use std::collections::BTreeMap;
+use std::rc::Rc;
+
+/// What a field or a schema is annotated with: texts under names.
+pub type Metadata = BTreeMap<String, String>;
+
+/// A schema that several own.
+pub type SchemaRef = Rc<Schema>;
+
+/// A logical type: what the values of an array mean. Each has one [`PhysicalType`], which says how they are laid
+/// out. An extension gives a type a name and a text of its own, and is otherwise the type that it extends.
+#[cycle(types)]
+#[derive(Debug, Clone, PartialEq, Eq, Hash, Drop)]
+pub enum DataType {
+    /// Nulls alone.
+    Null,
+    /// `true` and `false`.
+    Boolean,
+    /// Signed integers of 8 bits.
+    Int8,
+    /// Signed integers of 16 bits.
+    Int16,
+    /// Signed integers of 32 bits.
+    Int32,
+    /// Signed integers of 64 bits.
+    Int64,
+    /// Unsigned integers of 8 bits.
+    UInt8,
+    /// Unsigned integers of 16 bits.
+    UInt16,
+    /// Unsigned integers of 32 bits.
+    UInt32,
+    /// Unsigned integers of 64 bits.
+    UInt64,
+    /// Floats of 16 bits.
+    Float16,
+    /// Floats of 32 bits.
+    Float32,
+    /// Floats of 64 bits.
+    Float64,
+    /// Points in time, as 64-bit counts of a unit since the start of 1970 in UTC. With a time zone, by its name or as
+    /// an offset such as `+07:30`, they are shown in that zone; without one they stand for themselves.
+    Timestamp(TimeUnit, Option<String>),
+    /// Days since the start of 1970, in 32 bits.
+    Date32,
+    /// Milliseconds since the start of 1970, in 64 bits: whole days.
+    Date64,
+    /// Times since midnight in seconds or milliseconds, in 32 bits.
+    Time32(TimeUnit),
+    /// Times since midnight in microseconds or nanoseconds, in 64 bits.
+    Time64(TimeUnit),
+    /// Lengths of time, as 64-bit counts of a unit.
+    Duration(TimeUnit),
+    /// Spans of the calendar, in which a day need not have 24 hours.
+    Interval(IntervalUnit),
+    /// Bytes of any length, with offsets of 32 bits.
+    Binary,
+    /// So many bytes each.
+    FixedSizeBinary(usize),
+    /// Bytes of any length, with offsets of 64 bits.
+    LargeBinary,
+    /// UTF-8 texts, with offsets of 32 bits.
+    Utf8,
+    /// UTF-8 texts, with offsets of 64 bits.
+    LargeUtf8,
+    /// Lists of what the field says, with offsets of 32 bits.
+    List(Box<Field>),
+    /// Lists of so many items each.
+    FixedSizeList(Box<Field>, usize),
+    /// Lists of what the field says, with offsets of 64 bits.
+    LargeList(Box<Field>),
+    /// One value of each field.
+    Struct(Vec<Field>),
+    /// A value of one of the fields each. The numbers, where they are there, name the fields in turn.
+    Union(Vec<Field>, Option<Vec<i32>>, UnionMode),
+    /// Lists of pairs of a key and a value: the field is a `Struct` of these two. The flag says whether the keys are sorted.
+    Map(Box<Field>, bool),
+    /// Indexes of a kind into values of a type. The flag says whether these are sorted.
+    Dictionary(IntegerType, Box<DataType>, bool),
+    /// Decimals in 128 bits, by their precision, which is the number of digits, and their scale, which is how many of
+    /// these stand behind the point: 999.99 has precision 5 and scale 2.
+    Decimal(usize, usize),
+    /// The same in 256 bits.
+    Decimal256(usize, usize),
+    /// A type under a name of its own, with a text that says more where there is one.
+    Extension(String, Box<DataType>, Option<String>),
+}
+
+/// How the fields of a union are laid out.
+#[derive(Debug, Clone, Copy, PartialEq, Eq, Hash)]
+pub enum UnionMode {
+    /// Each field has only the values that are its own.
+    Dense,
+    /// Each field is as long as the union.
+    Sparse,
+}
+
+/// Units of time.
+#[derive(Debug, Clone, Copy, PartialEq, Eq, Hash)]
+pub enum TimeUnit {
+    /// Seconds.
+    Second,
+    /// Thousandths of a second.
+    Millisecond,
+    /// Millionths of a second.
+    Microsecond,
+    /// Billionths of a second.
+    Nanosecond,
+}
+
+/// Units of calendar spans.
+#[derive(Debug, Clone, Copy, PartialEq, Eq, Hash)]
+pub enum IntervalUnit {
+    /// Whole months.
+    YearMonth,
+    /// Days and milliseconds, in 32 bits each.
+    DayTime,
+    /// Months and days in 32 bits each, and nanoseconds in 64.
+    MonthDayNano,
+}
+
+impl DataType {
+    /// How its values are laid out: an extension as the type that it extends.
+    pub fn to_physical_type(&self) -> PhysicalType
+        ensures { result ≡ physical self.now }
+    {
+        match self {
+            DataType::Null => PhysicalType::Null,
+            DataType::Boolean => PhysicalType::Boolean,
+            DataType::Int8 => PhysicalType::Primitive(PrimitiveType::Int8),
+            DataType::Int16 => PhysicalType::Primitive(PrimitiveType::Int16),
+            DataType::Int32
+            | DataType::Date32
+            | DataType::Time32(_)
+            | DataType::Interval(IntervalUnit::YearMonth) => {
+                PhysicalType::Primitive(PrimitiveType::Int32)
+            }
+            DataType::Int64
+            | DataType::Date64
+            | DataType::Timestamp(_, _)
+            | DataType::Time64(_)
+            | DataType::Duration(_) => PhysicalType::Primitive(PrimitiveType::Int64),
+            DataType::Decimal(_, _) => PhysicalType::Primitive(PrimitiveType::Int128),
+            DataType::Decimal256(_, _) => PhysicalType::Primitive(PrimitiveType::Int256),
+            DataType::UInt8 => PhysicalType::Primitive(PrimitiveType::UInt8),
+            DataType::UInt16 => PhysicalType::Primitive(PrimitiveType::UInt16),
+            DataType::UInt32 => PhysicalType::Primitive(PrimitiveType::UInt32),
+            DataType::UInt64 => PhysicalType::Primitive(PrimitiveType::UInt64),
+            DataType::Float16 => PhysicalType::Primitive(PrimitiveType::Float16),
+            DataType::Float32 => PhysicalType::Primitive(PrimitiveType::Float32),
+            DataType::Float64 => PhysicalType::Primitive(PrimitiveType::Float64),
+            DataType::Interval(IntervalUnit::DayTime) => {
+                PhysicalType::Primitive(PrimitiveType::DaysMs)
+            }
+            DataType::Interval(IntervalUnit::MonthDayNano) => {
+                PhysicalType::Primitive(PrimitiveType::MonthDayNano)
+            }
+            DataType::Binary => PhysicalType::Binary,
+            DataType::FixedSizeBinary(_) => PhysicalType::FixedSizeBinary,
+            DataType::LargeBinary => PhysicalType::LargeBinary,
+            DataType::Utf8 => PhysicalType::Utf8,
+            DataType::LargeUtf8 => PhysicalType::LargeUtf8,
+            DataType::List(_) => PhysicalType::List,
+            DataType::FixedSizeList(_, _) => PhysicalType::FixedSizeList,
+            DataType::LargeList(_) => PhysicalType::LargeList,
+            DataType::Struct(_) => PhysicalType::Struct,
+            DataType::Union(_, _, _) => PhysicalType::Union,
+            DataType::Map(_, _) => PhysicalType::Map,
+            DataType::Dictionary(key, _, _) => PhysicalType::Dictionary(*key),
+            DataType::Extension(_, inner, _) => inner.to_physical_type(),
+        }
+    }
+
+    /// The type itself, or the one behind all its extensions. It is never an extension.
+    pub fn to_logical_type(&self) -> &DataType
+        ensures { result.now ≡ logical self.now }
+    {
+        match self {
+            DataType::Extension(_, inner, _) => inner.to_logical_type(),
+            _ => self,
+        }
+    }
+}
+
+/// The integers of this kind.
+impl From<IntegerType> for DataType {
+    ghost from_gives = { λ integer t. t ≡ of_integer integer };
+
+    fn from(integer: IntegerType) -> DataType {
+        match integer {
+            IntegerType::Int8 => DataType::Int8,
+            IntegerType::Int16 => DataType::Int16,
+            IntegerType::Int32 => DataType::Int32,
+            IntegerType::Int64 => DataType::Int64,
+            IntegerType::UInt8 => DataType::UInt8,
+            IntegerType::UInt16 => DataType::UInt16,
+            IntegerType::UInt32 => DataType::UInt32,
+            IntegerType::UInt64 => DataType::UInt64,
+        }
+    }
+}
+
+/// A type whose values are laid out so: that of the same name where there is one, decimals of 32 digits and scale 32 for
+/// the numbers of 128 and 256 bits, and intervals for the spans of time.
+impl From<PrimitiveType> for DataType {
+    ghost from_gives = { λ primitive t. t ≡ of_primitive primitive };
+
+    fn from(primitive: PrimitiveType) -> DataType {
+        match primitive {
+            PrimitiveType::Int8 => DataType::Int8,
+            PrimitiveType::Int16 => DataType::Int16,
+            PrimitiveType::Int32 => DataType::Int32,
+            PrimitiveType::Int64 => DataType::Int64,
+            PrimitiveType::Int128 => DataType::Decimal(32, 32),
+            PrimitiveType::Int256 => DataType::Decimal256(32, 32),
+            PrimitiveType::UInt8 => DataType::UInt8,
+            PrimitiveType::UInt16 => DataType::UInt16,
+            PrimitiveType::UInt32 => DataType::UInt32,
+            PrimitiveType::UInt64 => DataType::UInt64,
+            PrimitiveType::Float16 => DataType::Float16,
+            PrimitiveType::Float32 => DataType::Float32,
+            PrimitiveType::Float64 => DataType::Float64,
+            PrimitiveType::DaysMs => DataType::Interval(IntervalUnit::DayTime),
+            PrimitiveType::MonthDayNano => DataType::Interval(IntervalUnit::MonthDayNano),
+        }
+    }
+}
+
+impl UnionMode {
+    /// `Sparse` if so, else `Dense`.
+    pub fn sparse(is_sparse: bool) -> UnionMode
+        ensures { result ≡ (if is_sparse then UnionMode.Sparse else UnionMode.Dense) }
+    {
+        if is_sparse {
+            UnionMode::Sparse
+        } else {
+            UnionMode::Dense
+        }
+    }
+
+    /// Whether it is `Sparse`.
+    pub fn is_sparse(&self) -> bool
+        ensures { IsTrue result ↔ (self.now ≡ UnionMode.Sparse) }
+    {
+        matches!(self, UnionMode::Sparse)
+    }
+
+    /// Whether it is `Dense`.
+    pub fn is_dense(&self) -> bool
+        ensures { IsTrue result ↔ (self.now ≡ UnionMode.Dense) }
+    {
+        matches!(self, UnionMode::Dense)
+    }
+}
+
+/// The extension that a field's metadata names: the text under `ARROW:extension:name`, and the one under
+/// `ARROW:extension:metadata` where it is there. `None` where the name is not there, whatever else is.
+///
+/// arrow2 answers no `Result`.
+///
+/// # Errors
+///
+/// `OutOfMemory` alone, and only where the name is there.
+pub fn get_extension(metadata: &Metadata) -> Result<Option<(String, Option<String>)>>
+    ensures ok { IfOk result (λ found. texts found ≡ extension metadata.now) }
+    ensures room { get_by_text metadata.now (codes "ARROW:extension:name") ≡ None → IsOk result }
+    ensures only { IfErr result (λ e. e ≡ Error.OutOfMemory) }
+{
+    let Some(name) = metadata.get("ARROW:extension:name") else {
+        return Ok(None);
+    };
+    let name = name.clone()?;
+    match metadata.get("ARROW:extension:metadata") {
+        Some(text) => Ok(Some((name, Some(text.clone()?)))),
+        None => Ok(Some((name, None))),
+    }
+}

@@ -1,0 +1,72 @@
+//! How arrays are laid out.
+ghost use Rattle.std.specs.Prelude.{◌≡◌, ◌↔◌, IsTrue};
+
+pub use arrow2_types::primitive::PrimitiveType;
+
+/// How the values of an array are laid out in memory. Several logical types may share one.
+#[derive(Debug, Clone, Copy, PartialEq, Eq, Hash)]
+pub enum PhysicalType {
+    /// No memory at all.
+    Null,
+    /// One bit a value.
+    Boolean,
+    /// Values of a native type, one behind the other.
+    Primitive(PrimitiveType),
+    /// Bytes of any length, with offsets of 32 bits.
+    Binary,
+    /// Equally many bytes each.
+    FixedSizeBinary,
+    /// Bytes of any length, with offsets of 64 bits.
+    LargeBinary,
+    /// UTF-8 texts, with offsets of 32 bits.
+    Utf8,
+    /// UTF-8 texts, with offsets of 64 bits.
+    LargeUtf8,
+    /// Lists of any length, with offsets of 32 bits.
+    List,
+    /// Lists of equally many items.
+    FixedSizeList,
+    /// Lists of any length, with offsets of 64 bits.
+    LargeList,
+    /// An array a field.
+    Struct,
+    /// An array a field, and for each value which of them holds it.
+    Union,
+    /// Lists of pairs of a key and a value.
+    Map,
+    /// Indexes of a kind into an array of values.
+    Dictionary(IntegerType),
+}
+
+/// The kinds of integers that may index a dictionary.
+#[derive(Debug, Clone, Copy, PartialEq, Eq, Hash)]
+pub enum IntegerType {
+    /// A signed integer of 8 bits.
+    Int8,
+    /// A signed integer of 16 bits.
+    Int16,
+    /// A signed integer of 32 bits.
+    Int32,
+    /// A signed integer of 64 bits.
+    Int64,
+    /// An unsigned integer of 8 bits.
+    UInt8,
+    /// An unsigned integer of 16 bits.
+    UInt16,
+    /// An unsigned integer of 32 bits.
+    UInt32,
+    /// An unsigned integer of 64 bits.
+    UInt64,
+}
+
+impl PhysicalType {
+    /// Whether it is `Primitive` of this native type.
+    pub fn eq_primitive(&self, primitive: PrimitiveType) -> bool
+        ensures { IsTrue result ↔ (self.now ≡ PhysicalType.Primitive primitive) }
+    {
+        match self {
+            PhysicalType::Primitive(own) => *own == primitive,
+            _ => false,
+        }
+    }
+}

@@ -1,0 +1,88 @@
+//! Each item of the one crate that users name, at its path.
+use super::checks::prints;
+use arrow2::bitmap::utils;
+use arrow2::{bitmap, buffer, datatypes, error, laws, offset, types};
+use std::fmt;
+
+/// Shared and growing lists.
+fn lists<T: Copy, O: offset::Offset>(
+    _bits: (&bitmap::Bitmap, &bitmap::MutableBitmap, &bitmap::IntoIter),
+    _items: (&buffer::Buffer<T>, &buffer::Bytes<T>, &buffer::IntoIter<T>),
+    _offsets: (
+        &offset::Offsets<O>,
+        &offset::OffsetsBuffer<O>,
+        &offset::Lengths<O>,
+    ),
+) {}
+
+/// Walks over bits and over words.
+fn walks<B: utils::BitChunk, W: utils::BitChunkIterExact<B>>(
+    _exact: &W,
+    _words: (&utils::BitChunks<B>, &utils::BitChunksExact<B>),
+    _chunks: &utils::BitChunksExactMut<B>,
+    _bits: (
+        &utils::BitmapIter,
+        &types::BitChunkIter<B>,
+        &types::BitChunkOnes<B>,
+    ),
+) {}
+
+/// What stands in buffers.
+fn natives<N: types::NativeType, B: types::BitChunk, I: types::Index, O: types::Offset>(
+    _values: (&N, &B, &I, &O),
+    _range: &types::IndexRange<I>,
+    _spans: (&types::days_ms, &types::months_days_ns),
+    _wide: &types::i256,
+    _name: types::PrimitiveType,
+) {}
+
+/// What arrays are.
+fn arrays(
+    _field: (&datatypes::DataType, &datatypes::Field),
+    _schema: (
+        &datatypes::Schema,
+        &datatypes::SchemaRef,
+        &datatypes::Metadata,
+    ),
+    _layout: (
+        datatypes::PhysicalType,
+        datatypes::PrimitiveType,
+        datatypes::IntegerType,
+    ),
+    _units: (
+        datatypes::TimeUnit,
+        datatypes::IntervalUnit,
+        datatypes::UnionMode,
+    ),
+) {}
+
+/// Bits that print.
+#[derive(Drop)]
+struct Bits;
+
+impl fmt::Display for Bits {
+    fn fmt<W: fmt::Write>(&self, f: &mut fmt::Formatter<W>) -> fmt::Result {
+        utils::fmt(&[0b101], 0, 3, f)
+    }
+}
+
+fn refused() -> error::Result<()> {
+    Err(error::Error::Overflow)
+}
+
+#[test]
+fn each_item_has_its_path(rt: HostRuntime) {
+    let mut bytes = [0b101u8];
+    utils::set_bit(&mut bytes, 1, true);
+    assert!(rt; utils::get_bit(&bytes, 1) && utils::get_bit_from(&bytes, 1, 1));
+    assert!(rt; utils::is_set(utils::set(0, 3, true), 3));
+    assert!(rt; utils::bytes_for(9) == 2 && utils::count_zeros(&bytes, 0, 8) == 5);
+    prints(&rt, rt.alloc(), &Bits, "[0b_____101]");
+    let metadata = datatypes::Metadata::new(rt.alloc());
+    assert!(rt; matches!(datatypes::get_extension(&metadata), Ok(None)));
+    assert!(rt; refused().is_err());
+    laws::lists::part_of_a_part();
+    laws::buffers::written_items_are_the_items::<u8>();
+    laws::offsets::offset_is_a_sum();
+    laws::datatypes::a_logical_type_is_its_own();
+}

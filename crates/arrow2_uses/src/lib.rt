@@ -1,0 +1,5 @@
+//! Small callers of the memory layer, each with a contract of its own. They name the crate `arrow2` alone.
+#![tactic(auto)]
+
+pub mod texts;
+pub mod validity;

@@ -1,0 +1,49 @@
+//! Which values are there.
+ghost use Rattle.std.specs.Prelude.{◌≡◌, ◌+◌, length, map, is_some, IfOk, IfErr, true, false, [], ◌∷◌};
+ghost use Rattle.arrow2.specs.Parts.{falses};
+ghost use Rattle.arrow2.specs.Storage.{items_of};
+
+use arrow2::bitmap::{Bitmap, MutableBitmap};
+use arrow2::error::{Error, Result};
+use std::alloc::Global;
+
+/// Which of the values are there, as a validity bitmap.
+///
+/// # Errors
+///
+/// `OutOfMemory` alone.
+pub fn validity_of(alloc: Global, values: &[Option<i64>]) -> Result<Bitmap>
+    ensures items { IfOk result (λ b. items_of b ≡ map is_some values.now) }
+    ensures only { IfErr result (λ e. e ≡ Error.OutOfMemory) }
+{
+    let mut validity = MutableBitmap::with_capacity(alloc, values.len())?;
+    for value in values {
+        validity.push(value.is_some())?;
+    }
+    Bitmap::try_from(validity)
+}
+
+/// How many of the values are there.
+pub fn valid_count(validity: &Bitmap) -> usize
+    ensures { result + falses (items_of validity.now) ≡ length (items_of validity.now) }
+{
+    validity.len() - validity.unset_bits()
+}
+
+/// The nulls of both halves together, by a ruleset of counts.
+#[tactic(auto, using(arrow2::proofs::Rulesets::counting))]
+pub fn nulls_by_halves(validity: &Bitmap) -> usize
+    ensures { result ≡ falses (items_of validity.now) }
+{
+    let middle = validity.len() / 2;
+    let rest = validity.len() - middle;
+    validity.null_count_range(0, middle) + validity.null_count_range(middle, rest)
+}
+
+/// The validity of a value, a null and a value: literal bytes compute where the definitions of bits are opened.
+#[tactic(auto, unfolding(arrow2::specs::Bits::bits, arrow2::specs::Bits::unnum))]
+pub fn one_null_of_three(alloc: Global) -> Result<Bitmap>
+    ensures { IfOk result (λ b. items_of b ≡ true ∷ false ∷ true ∷ []) }
+{
+    Bitmap::from_u8_slice(alloc, &[0b101], 3)
+}
