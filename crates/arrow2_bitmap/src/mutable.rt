@@ -196,7 +196,7 @@ impl MutableBitmap {
     {
         let last = self.length.checked_sub(1)?;
         let item = get_bit(self.buffer.as_slice(), last);
-        cut(&mut self.buffer, last);
+        drop_bit(&mut self.buffer, self.length, last);
         self.length = last;
         Some(item)
     }
@@ -379,6 +379,22 @@ fn cut(buffer: &mut Vec<u8>, length: usize)
     buffer.truncate(bytes_for(length));
     if length % 8 != 0 {
         buffer[length / 8] %= 1 << (length % 8);
+    }
+}
+
+/// Drops bit `last`, the last of the first `length` bits, which are all that the bytes hold: with its byte where it is
+/// alone there.
+fn drop_bit(buffer: &mut Vec<u8>, length: usize, last: usize)
+    requires canonical { IsCanonical buffer.old.items length }
+    requires last { last + 1 ≡ length }
+    ensures canonical { IsCanonical buffer.new.items last }
+    ensures items { take last (bits buffer.new.items) ≡ take last (bits buffer.old.items) }
+    ensures capacity { vec_capacity buffer.new ≡ vec_capacity buffer.old }
+{
+    if last % 8 == 0 {
+        buffer.truncate(last / 8);
+    } else {
+        write_bit(buffer, length, last, false);
     }
 }
 
