@@ -41,9 +41,14 @@ pub fn nulls_by_halves(validity: &Bitmap) -> usize
 }
 
 /// The validity of a value, a null and a value: literal bytes compute where the definitions of bits are opened.
+///
+/// # Errors
+///
+/// `OutOfMemory` alone.
 #[tactic(auto, unfolding(arrow2::specs::Bits::bits, arrow2::specs::Bits::unnum))]
 pub fn one_null_of_three(alloc: Global) -> Result<Bitmap>
-    ensures { IfOk result (λ b. items_of b ≡ true ∷ false ∷ true ∷ []) }
+    ensures items { IfOk result (λ b. items_of b ≡ true ∷ false ∷ true ∷ []) }
+    ensures only { IfErr result (λ e. e ≡ Error.OutOfMemory) }
 {
     Bitmap::from_u8_slice(alloc, &[0b101], 3)
 }

@@ -1,0 +1,31 @@
+//! Columns chosen from a schema.
+ghost use Rattle.std.specs.Prelude.{◌≡◌, nat_lt};
+ghost use Rattle.arrow2.specs.Kept.{accepted};
+ghost use Rattle.arrow2.specs.Types.{physical};
+
+use arrow2::datatypes::{self, Schema};
+use arrow2::laws;
+
+/// The first `count` columns, or all where there are fewer.
+pub fn first_columns(schema: Schema, count: usize) -> Schema
+    ensures columns { result.fields.items ≡ accepted (λ place _. nat_lt place count) schema.fields.items }
+    ensures metadata { result.metadata ≡ schema.metadata }
+{
+    schema.filter(|place, _| place < count)
+}
+
+/// The columns in which nulls may stand.
+pub fn nullable_columns(schema: Schema) -> Schema
+    ensures columns { result.fields.items ≡ accepted (λ _ field. field.is_nullable) schema.fields.items }
+    ensures metadata { result.metadata ≡ schema.metadata }
+{
+    schema.filter(|_, field| field.is_nullable)
+}
+
+/// How a type and all its extensions are laid out.
+pub fn layout(data_type: &datatypes::DataType) -> datatypes::PhysicalType
+    ensures { result ≡ physical data_type.now }
+{
+    laws::datatypes::extensions_are_laid_out_as_what_they_extend();
+    data_type.to_logical_type().to_physical_type()
+}
