@@ -5,10 +5,10 @@ use Rattle.std.specs.Fmt.{decimal}
 use Rattle.arrow2_model.specs.Parts.{part}
 use Rattle.arrow2_model.specs.Offsets.{offset_at, last_offset}
 use Rattle.arrow2_script.specs.declared.offset_command.OffsetCommand.{OffsetCommand}
-use Rattle.arrow2_script.specs.declared.offset_command.OffsetCommand.TheVariants.{New, Push, Pop, Extend, Offsets, Freeze, Slice, Zip}
+use Rattle.arrow2_script.specs.declared.offset_command.OffsetCommand.TheVariants as command
 use Rattle.arrow2_machine.specs.declared.refusal.Refusal.{Refusal}
 use Rattle.arrow2_machine.specs.declared.refusal.Refusal.TheVariants.{Range, Length, Overflow}
-use Rattle.arrow2_machine.specs.Held.{Held, FrozenOffsets, GrowingOffsets, ◌>>=◌, at, frozen, growing_offsets, frozen_offsets, spelled_offsets, offset_list}
+use Rattle.arrow2_machine.specs.Held.{Offsets, Held, FrozenOffsets, GrowingOffsets, ◌>>=◌, at, frozen, growing_offsets, frozen_offsets, spelled_offsets, offset_list}
 use Rattle.arrow2_machine.specs.Replies.{words_text, slot_word}
 
 -- the greatest offset
@@ -25,11 +25,15 @@ grown held lengths = do
   o ← growing_offsets held
   if nat_lt greatest (last_offset o.start o.lengths + sum lengths) then Err Overflow else Ok (GrowingOffsets (record o { lengths = o.lengths ++ lengths }))
 
--- what a slot holds after its last offset is taken off, and the reply that tells it: the first one stays
+-- the reply that tells the offset which is taken off: the last one, unless it is the only one
+abbrev pub taken_off : Offsets → List ℕ
+taken_off o = if length o.lengths == 0 then codes "none" else decimal (last_offset o.start o.lengths)
+
+-- what a slot holds after its last offset is taken off, and the reply that tells it
 abbrev pub shortened : Held → Result (Held × List ℕ) Refusal
 shortened held = do
   o ← growing_offsets held
-  let said = if length o.lengths == 0 then codes "none" else decimal (last_offset o.start o.lengths) in Ok (GrowingOffsets (record o { lengths = take (length o.lengths - 1) o.lengths }), said)
+  Ok (GrowingOffsets (record o { lengths = take (length o.lengths - 1) o.lengths }), taken_off o)
 
 -- the text of a slot's offsets
 abbrev pub offset_text : Held → Result (List ℕ) Refusal
@@ -58,27 +62,27 @@ zipped offsets validity = do
 
 -- the slots after a command on offsets, and its reply
 unfoldable pub offset_outcome : List Held → OffsetCommand → Result (List Held × List ℕ) Refusal
-offset_outcome slots (New s first) = do
+offset_outcome slots (command.New s first) = do
   held ← begun first
   Ok (slice_set slots s held, codes "ok")
-offset_outcome slots (Push s n) = do
+offset_outcome slots (command.Push s n) = do
   held ← grown (at slots s) (n ∷ [])
   Ok (slice_set slots s held, codes "ok")
-offset_outcome slots (Pop s) = do
+offset_outcome slots (command.Pop s) = do
   after ← shortened (at slots s)
   Ok (slice_set slots s after.0, after.1)
-offset_outcome slots (Extend s lengths) = do
+offset_outcome slots (command.Extend s lengths) = do
   held ← grown (at slots s) lengths
   Ok (slice_set slots s held, codes "ok")
-offset_outcome slots (Offsets s) = do
+offset_outcome slots (command.Offsets s) = do
   said ← offset_text (at slots s)
   Ok (slots, said)
-offset_outcome slots (Freeze s) = do
+offset_outcome slots (command.Freeze s) = do
   held ← froze_offsets (at slots s)
   Ok (slice_set slots s held, codes "ok")
-offset_outcome slots (Slice s i n) = do
+offset_outcome slots (command.Slice s i n) = do
   held ← sliced_offsets (at slots s) i n
   Ok (slice_set slots s held, codes "ok")
-offset_outcome slots (Zip s v) = do
+offset_outcome slots (command.Zip s v) = do
   said ← zipped (at slots s) (at slots v)
   Ok (slots, said)

@@ -60,6 +60,7 @@ impl Slot {
         match (&self.contents, &other.contents) {
             (Contents::Frozen(a), Contents::Frozen(b)) => Ok(a == b),
             (Contents::Growing(a), Contents::Growing(b)) => Ok(a == b),
+            // By the method, since its contract speaks of the starts and the lengths.
             (Contents::FrozenOffsets(a), Contents::FrozenOffsets(b)) => Ok(a.eq(b)),
             (Contents::GrowingOffsets(a), Contents::GrowingOffsets(b)) => Ok(a == b),
             _ => Err(CommandError::Refused(Refusal::Kind)),
