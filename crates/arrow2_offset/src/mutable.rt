@@ -1,5 +1,5 @@
 //! Offsets that grow.
-ghost use Rattle.std.specs.Prelude.{◌≡◌, ◌+◌, ◌-◌, ◌<◌, ◌≤◌, ◌^◌, ◌≤ℤ◌, ◌↔◌, ◌⊎◌, [], ◌∷◌, ◌++◌, length, map, sum, take, pos, replicate, slice_index_or, unsigned_abs, OnOk, OnErr, IsOk, IfOk, IfErr, IsErrOf, IsTrue, MatchOption, MatchResult, vec_capacity};
+ghost use Rattle.std.specs.Prelude.{◌≡◌, ◌+◌, ◌-◌, ◌<◌, ◌≤◌, ◌^◌, ◌≤ℤ◌, ◌↔◌, ◌⊎◌, [], ◌∷◌, ◌++◌, length, length as count_of, map, sum, take, pos, replicate, slice_index_or, unsigned_abs, OnOk, OnErr, IsOk, IfOk, IfErr, IsErrOf, IsTrue, MatchOption, MatchResult, vec_capacity};
 ghost use Rattle.std.specs.Iterator.{IsFinite};
 ghost use Rattle.std.specs.Iterator.Runs.{WholeRun};
 ghost use Rattle.std.specs.Ordering.{on};
@@ -264,7 +264,7 @@ impl<O: Offset> Offsets<O> {
         start: usize,
         length: usize,
     ) -> Result<()>
-        requires { (length ≡ 0) ⊎ (start + length < other.now.len) }
+        requires inside { (length ≡ 0) ⊎ (start + length < count_of (buffer_items other.now)) }
         ensures ok { OnOk result (GrownBy (part (lengths_of (buffer_items other.now)) start length) self.old self.new) }
         ensures err { OnErr result (SameOffsets self.old self.new) }
         ensures overflow { IsErrOf result Error.Overflow ↔ (O.MAX < last_of_growing self.old + sum (part (lengths_of (buffer_items other.now)) start length)) }
