@@ -56,9 +56,9 @@ fn keep_memory() {
 fn check() -> Answer {
     let inputs = Inputs::new();
     let mut differing = 0;
-    for line in lines::all(&inputs) {
+    for (group, line) in lines::all(&inputs) {
         if let Some((ours, original)) = measure::difference(&line) {
-            eprintln!("{}: {} differs: {ours}, and {original} by arrow2", line.group, line.name);
+            eprintln!("{group}: {} differs: {ours}, and {original} by arrow2", line.name);
             differing += 1;
         }
     }
@@ -71,11 +71,11 @@ fn check() -> Answer {
 fn measure(seconds: f64, words: &[&str]) -> Answer {
     keep_memory();
     let inputs = Inputs::new();
-    for line in lines::all(&inputs) {
-        let name = format!("{}: {}", line.group, line.name);
+    for (group, line) in lines::all(&inputs) {
+        let name = format!("{group}: {}", line.name);
         if words.is_empty() || words.iter().any(|word| name.contains(word)) {
             let times = measure::measure(&line, seconds);
-            println!("{}", Row::new(line.group, line.name, line.elements, line.unit, &times));
+            println!("{}", Row::new(group, line.name, line.elements, line.unit, &times));
         }
     }
     Ok(())

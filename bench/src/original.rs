@@ -199,17 +199,28 @@ pub fn iter_back(bytes: &[u8], parts: &[Part], runs: &[usize]) -> usize {
     })
 }
 
-pub fn iter_nth(bytes: &[u8], parts: &[Part], runs: &[usize]) -> usize {
-    answers(bytes, parts, runs, |bitmap| {
-        let mut ones = 0usize;
-        let mut walk = bitmap.iter();
-        for _ in 0..bitmap.len() / 8 {
-            if let Some(item) = walk.nth(7) {
-                ones = ones.wrapping_add(usize::from(item));
-            }
+pub fn iter_nth(bytes: &[u8], steps: &[usize]) -> usize {
+    let whole = whole(bytes);
+    let mut ones = 0usize;
+    for step in steps {
+        ones = ones.wrapping_add(ones_by_steps(&whole, *step));
+    }
+    ones
+}
+
+/// How many of each `step`th item are true.
+fn ones_by_steps(bitmap: &Bitmap, step: usize) -> usize {
+    let Some(skipped) = step.checked_sub(1) else {
+        return 0;
+    };
+    let mut ones = 0usize;
+    let mut walk = bitmap.iter();
+    for _ in 0..bitmap.len() / step {
+        if let Some(item) = walk.nth(skipped) {
+            ones = ones.wrapping_add(usize::from(item));
         }
-        ones
-    })
+    }
+    ones
 }
 
 pub fn debug(bytes: &[u8], parts: &[Part], runs: &[usize]) -> usize {
@@ -260,14 +271,21 @@ pub fn set(bytes: &[u8], items: &[bool], lengths: &[usize]) -> usize {
 pub fn pop(bytes: &[u8], lengths: &[usize]) -> usize {
     let mut sum = 0usize;
     for length in lengths {
-        let mut bitmap = MutableBitmap::from_vec(bytes.to_vec(), *length);
-        for _ in 0..bitmap.len() {
-            if let Some(item) = bitmap.pop() {
-                sum = sum.wrapping_add(usize::from(item));
-            }
-        }
+        let bitmap = MutableBitmap::from_vec(bytes.to_vec(), *length);
+        sum = sum.wrapping_add(popped(bitmap));
     }
     sum
+}
+
+/// How many items are true, popped one by one.
+fn popped(mut bitmap: MutableBitmap) -> usize {
+    let mut ones = 0usize;
+    for _ in 0..bitmap.len() {
+        if let Some(item) = bitmap.pop() {
+            ones = ones.wrapping_add(usize::from(item));
+        }
+    }
+    ones
 }
 
 /// The answers on slices of one buffer, added up.

@@ -30,7 +30,7 @@ exports! {
     fn iter = bench_iter(bytes: u8, parts: Part, runs: usize);
     fn iter_places = bench_iter_places(bytes: u8, parts: Part, runs: usize);
     fn iter_back = bench_iter_back(bytes: u8, parts: Part, runs: usize);
-    fn iter_nth = bench_iter_nth(bytes: u8, parts: Part, runs: usize);
+    fn iter_nth = bench_iter_nth(bytes: u8, steps: usize);
     fn debug = bench_debug(bytes: u8, parts: Part, runs: usize);
 
     fn push = bench_push(items: bool, lengths: usize);

@@ -65,8 +65,12 @@ pub fn text(rows: &[Row]) -> String {
 
 /// Three digits of a number.
 fn number(value: f64) -> String {
-    let before_point = value.log10().floor() as i32 + 1;
-    format!("{value:.*}", (3 - before_point).max(0) as usize)
+    let power = value.log10().floor() as i32;
+    if power < -3 {
+        format!("{value:.2e}")
+    } else {
+        format!("{value:.*}", (2 - power).max(0) as usize)
+    }
 }
 
 /// A ratio with two digits behind the point, or three digits below 0.1.

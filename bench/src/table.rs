@@ -54,7 +54,8 @@ impl Row {
     /// The least and the greatest ratio of one order, where there are several.
     pub fn spread(&self) -> Option<(f64, f64)> {
         let ratios = || self.times.iter().map(|(ours, original)| ours / original);
-        (self.times.len() > 1).then(|| (ratios().fold(f64::MAX, f64::min), ratios().fold(0.0, f64::max)))
+        (self.times.len() > 1)
+            .then(|| (ratios().fold(f64::MAX, f64::min), ratios().fold(0.0, f64::max)))
     }
 
     /// Elements in a nanosecond, ours and the original's.

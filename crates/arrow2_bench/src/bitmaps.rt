@@ -1,5 +1,4 @@
 //! Shared bitmaps.
-ghost use Rattle.std.specs.Prelude.{◌≡◌};
 
 use crate::part::Part;
 use arrow2_bitmap::immutable::Bitmap;
@@ -35,16 +34,20 @@ pub extern "C" fn bench_new_zeroed(alloc: Global, lengths: &[usize]) -> usize {
     zeros
 }
 
-/// Slices of one bitmap of all bytes, each with its count.
+/// The bitmap of all bits of the bytes.
+fn whole(alloc: Global, bytes: &[u8]) -> Result<Bitmap> {
+    Bitmap::from_u8_slice(alloc, bytes, bytes.len().saturating_mul(8))
+}
+
+/// Slices of the bitmap of all bytes, each with its count.
 #[unsafe(no_mangle)]
 pub extern "C" fn bench_sliced(alloc: Global, bytes: &[u8], parts: &[Part]) -> usize {
-    let bits = bytes.len().saturating_mul(8);
-    let Ok(whole) = Bitmap::from_u8_slice(alloc, bytes, bits) else {
+    let Ok(whole) = whole(alloc, bytes) else {
         return 0;
     };
     let mut zeros = 0usize;
     for part in parts {
-        if part.is_within(bits) {
+        if part.is_within(whole.len()) {
             let Ok(shared) = whole.clone() else {
                 return 0;
             };
@@ -57,11 +60,10 @@ pub extern "C" fn bench_sliced(alloc: Global, bytes: &[u8], parts: &[Part]) -> u
 
 /// A bitmap for each part of the bytes, all over the same storage.
 fn bitmaps(alloc: Global, bytes: &[u8], parts: &[Part]) -> Result<Vec<Bitmap>> {
-    let bits = bytes.len().saturating_mul(8);
-    let whole = Bitmap::from_u8_slice(alloc, bytes, bits)?;
+    let whole = whole(alloc, bytes)?;
     let mut bitmaps = Vec::new(alloc);
     for part in parts {
-        if part.is_within(bits) {
+        if part.is_within(whole.len()) {
             bitmaps.push(whole.clone()?.sliced(part.offset, part.length))?;
         }
     }
@@ -197,23 +199,28 @@ fn ones_from_the_back(bitmap: &Bitmap) -> usize {
     ones
 }
 
-/// Walks that take each eighth item.
+/// Walks over the bitmap of all bytes that take each item at a step.
 #[unsafe(no_mangle)]
-pub extern "C" fn bench_iter_nth(
-    alloc: Global,
-    bytes: &[u8],
-    parts: &[Part],
-    runs: &[usize],
-) -> usize {
-    answers(alloc, bytes, parts, runs, ones_of_each_eighth)
+pub extern "C" fn bench_iter_nth(alloc: Global, bytes: &[u8], steps: &[usize]) -> usize {
+    let Ok(whole) = whole(alloc, bytes) else {
+        return 0;
+    };
+    let mut ones = 0usize;
+    for step in steps {
+        ones = ones.wrapping_add(ones_by_steps(&whole, *step));
+    }
+    ones
 }
 
-/// How many of each eighth item are true.
-fn ones_of_each_eighth(bitmap: &Bitmap) -> usize {
+/// How many of each `step`th item are true.
+fn ones_by_steps(bitmap: &Bitmap, step: usize) -> usize {
+    let Some(skipped) = step.checked_sub(1) else {
+        return 0;
+    };
     let mut ones = 0usize;
     let mut walk = bitmap.iter();
-    for _ in 0..bitmap.len() / 8 {
-        if let Some(item) = walk.nth(7) {
+    for _ in 0..bitmap.len() / step {
+        if let Some(item) = walk.nth(skipped) {
             ones = ones.wrapping_add(usize::from(item));
         }
     }
@@ -236,16 +243,15 @@ pub extern "C" fn bench_debug(
     })
 }
 
-/// Items at places of a bitmap of all bytes.
+/// Items at places of the bitmap of all bytes.
 #[unsafe(no_mangle)]
 pub extern "C" fn bench_get(alloc: Global, bytes: &[u8], places: &[usize]) -> usize {
-    let bits = bytes.len().saturating_mul(8);
-    let Ok(bitmap) = Bitmap::from_u8_slice(alloc, bytes, bits) else {
+    let Ok(whole) = whole(alloc, bytes) else {
         return 0;
     };
     let mut ones = 0usize;
     for place in places {
-        if let Some(item) = bitmap.get(*place) {
+        if let Some(item) = whole.get(*place) {
             ones = ones.wrapping_add(usize::from(item));
         }
     }

@@ -81,19 +81,14 @@ pub extern "C" fn bench_set(
     let mut bitmap = made;
     for length in lengths {
         if let Some(items) = items.get(..*length) {
-            set_firsts(&mut bitmap, items);
+            for (place, item) in items.iter().enumerate() {
+                if place < bitmap.len() {
+                    bitmap.set(place, *item);
+                }
+            }
         }
     }
     bitmap.unset_bits()
-}
-
-/// Sets the first items, as many as the bitmap has.
-fn set_firsts(bitmap: &mut MutableBitmap, items: &[bool]) {
-    for (place, item) in items.iter().enumerate() {
-        if place < bitmap.len() {
-            bitmap.set(place, *item);
-        }
-    }
 }
 
 /// Bitmaps of copied bytes, popped until they are empty.
