@@ -1,0 +1,2 @@
+pub mod MapSteps
+pub mod RowSteps

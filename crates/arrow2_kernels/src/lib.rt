@@ -1,0 +1,6 @@
+//! Functions of words over lists of booleans: the loops, which know bytes and words alone.
+#![tactic(auto)]
+
+pub mod assigned;
+pub mod mapped;
+pub mod rows;
