@@ -1,2 +1,3 @@
+pub mod AssignSteps
 pub mod MapSteps
 pub mod RowSteps
