@@ -4,3 +4,4 @@
 pub mod assigned;
 pub mod mapped;
 pub mod rows;
+pub mod tables;

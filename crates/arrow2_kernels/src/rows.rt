@@ -33,6 +33,33 @@ pub trait WordRows<B: BitChunk>: Drop {
         ensures fits { AreWords B.BitChunk.WIDTH (words result) };
 }
 
+/// No list, for so many items: its rows are empty.
+#[derive(Drop)]
+pub struct NoList {
+    /// How many items are still to come.
+    pub left: usize,
+}
+
+impl<B: BitChunk> WordRows<B> for NoList {
+    type Row = ();
+
+    ghost words = { λ r. [] };
+
+    ghost length = { λ s. s.left };
+
+    ghost row_at = { λ s j. [] };
+
+    fn next_row(&mut self) -> Option<()> {
+        if self.left < B::WIDTH {
+            return None;
+        }
+        self.left -= B::WIDTH;
+        Some(())
+    }
+
+    fn rest_row(&self) {}
+}
+
 /// One list, by a walk over its words.
 #[derive(Drop)]
 pub struct OneList<I> {
