@@ -18,6 +18,7 @@ pub fn assign_rows<T: BitChunk, S: WordRows<T>, F: Fn(T, S::Row) -> T>(
     op: F,
 )
     requires callable { F.IsAlwaysCallable op }
+    requires alike { S.alike rows }
     requires length { S.length rows ≡ length }
     requires exact { length' bytes.old ≡ (length + 7) / 8 }
     ensures canonical { IsCanonical bytes.new length }

@@ -22,6 +22,7 @@ pub fn map_rows<S: WordRows<u64>, F: Fn(S::Row) -> u64>(
     op: F,
 ) -> Result<Vec<u8>, AllocError>
     requires callable { F.IsAlwaysCallable op }
+    requires alike { S.alike rows }
     requires length { S.length rows ≡ length }
     ensures canonical { IfOk result (λ v. IsCanonical v.items length) }
     ensures items { (f : List ℕ → ℕ) → IsRowFunction 64 S.words (λ x. x) (F.post op) f → IfOk result (λ v. take length (bits v.items) ≡ joined 64 (λ j. f (S.row_at rows j)) length) }

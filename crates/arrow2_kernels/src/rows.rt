@@ -6,7 +6,6 @@ ghost use Rattle.arrow2_kernels.specs.Rows.{GivesRow};
 
 use arrow2_bits::chunk_iterator::BitChunkIterExact;
 use arrow2_chunk::bit_chunk::BitChunk;
-use std::marker::PhantomData;
 
 /// Lists of one length, read row by row: a row has the next word of each list.
 pub trait WordRows<B: BitChunk>: Drop {
@@ -22,12 +21,18 @@ pub trait WordRows<B: BitChunk>: Drop {
     // Row j of those still to come. Items past the end count as false.
     ghost row_at: { Self → ℕ → List ℕ };
 
+    // All lists have one length.
+    ghost alike: { Self → Type 0 };
+
     /// The next row, or `None` where fewer items are left than a word has.
     fn next_row(&mut self) -> Option<Self::Row>
-        ensures { GivesRow B.BitChunk.WIDTH words (length self.old) (row_at self.old) result (length self.new) (row_at self.new) };
+        requires { alike self.old }
+        ensures alike { alike self.new }
+        ensures row { GivesRow B.BitChunk.WIDTH words (length self.old) (row_at self.old) result (length self.new) (row_at self.new) };
 
     /// The row of the items that are left, with false behind them. Asks that they are fewer than a word has.
     fn rest_row(&self) -> Self::Row
+        requires alike { alike self.now }
         requires short { length self.now < B.BitChunk.WIDTH }
         ensures row { words result ≡ row_at self.now 0 }
         ensures fits { AreWords B.BitChunk.WIDTH (words result) };
@@ -48,6 +53,8 @@ impl<B: BitChunk> WordRows<B> for NoList {
     ghost length = { λ s. s.left };
 
     ghost row_at = { λ s j. [] };
+
+    ghost alike = { λ s. Unit {0} };
 
     fn next_row(&mut self) -> Option<()> {
         if self.left < B::WIDTH {
@@ -76,6 +83,8 @@ impl<B: BitChunk, I: BitChunkIterExact<B> + Drop> WordRows<B> for OneList<I> {
 
     ghost row_at = { λ s j. word B.BitChunk.WIDTH (I.walk s.chunks).items j ∷ [] };
 
+    ghost alike = { λ s. Unit {0} };
+
     fn next_row(&mut self) -> Option<B> {
         self.chunks.next()
     }
@@ -89,29 +98,14 @@ impl<B: BitChunk, I: BitChunkIterExact<B> + Drop> WordRows<B> for OneList<I> {
 
 /// The lists of two sides beside one another.
 #[derive(Drop)]
-pub struct Beside<B: BitChunk, L: WordRows<B>, R: WordRows<B>> {
-    left: L,
-    right: R,
-    word: PhantomData<B>,
-    ghost same: { L.length left ≡ R.length right },
+pub struct Beside<L, R> {
+    /// The lists of the one side, which come first in a row.
+    pub left: L,
+    /// The lists of the other side.
+    pub right: R,
 }
 
-impl<B: BitChunk, L: WordRows<B>, R: WordRows<B>> Beside<B, L, R> {
-    /// The lists of `left`, and behind them those of `right`. Asks that all have one length.
-    pub fn new(left: L, right: R) -> Beside<B, L, R>
-        requires same { L.length left ≡ R.length right }
-        ensures left { result.left ≡ left }
-        ensures right { result.right ≡ right }
-    {
-        Beside {
-            left,
-            right,
-            word: PhantomData,
-        }
-    }
-}
-
-impl<B: BitChunk, L: WordRows<B>, R: WordRows<B>> WordRows<B> for Beside<B, L, R> {
+impl<B: BitChunk, L: WordRows<B>, R: WordRows<B>> WordRows<B> for Beside<L, R> {
     type Row = (L::Row, R::Row);
 
     ghost words = { λ r. L.words r.0 ++ R.words r.1 };
@@ -119,6 +113,8 @@ impl<B: BitChunk, L: WordRows<B>, R: WordRows<B>> WordRows<B> for Beside<B, L, R
     ghost length = { λ s. L.length s.left };
 
     ghost row_at = { λ s j. L.row_at s.left j ++ R.row_at s.right j };
+
+    ghost alike = { λ s. L.alike s.left × R.alike s.right × (L.length s.left ≡ R.length s.right) };
 
     fn next_row(&mut self) -> Option<(L::Row, R::Row)> {
         let left = self.left.next_row()?;

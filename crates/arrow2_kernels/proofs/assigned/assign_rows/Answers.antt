@@ -17,7 +17,7 @@ loop-row-preserved g c =
     let wide = g.met.T.BitChunk.size_law in
     let bounds = g.met.T.BitChunk.width_bounds in
     let before = c.loop-row.invariant in
-    let step = c.in-Some.ensures in
+    let step = c.in-Some.ensures.row in
     let pos : 8 * at ≡ w * q = place_now w size at wide before.whole in
     let next = place_next size at c.SIZE-at.result (omega (arith, wide, bounds)) c.SIZE-at.ensures before.whole in
     let end : 8 * (at + c.SIZE-at.result) ≡ 8 * at + w = omega (arith, wide, c.SIZE-at.ensures) in
@@ -26,6 +26,7 @@ loop-row-preserved g c =
     let same : (k : ℕ) → (k < 8 * at) ⊎ (8 * at + w ≤ k) → _ = λ k h. c.put_word.ensures.kept k (elim h [ inl lt ↦ inl lt | inr ge ↦ inr (omega (arith, ge, wide, c.SIZE-in-Some.ensures)) ]) in
     record {
       callable = before.callable;
+      alike = c.next_row.ensures.alike;
       size = search rules;
       fits = λ k. (c.type_inv.bytes k).fits;
       whole = next.0;
@@ -53,7 +54,7 @@ returns-then-len-gt0-clause-canonical g c =
     let after = c.put_word-then-len-gt0.new.bytes in
     let wide = g.met.T.BitChunk.size_law in
     let before = c.loop-row.invariant in
-    let short = c.in_default.ensures.0 in
+    let short = c.in_default.ensures.row.0 in
     let size : length after ≡ (n + 7) / 8 = omega (arith, c.put_word-then-len-gt0.auto.bytes, before.size, c.requires.exact) in
     rest_canonical w (g.T.BitChunk.number c.op.result) (g.T.BitChunk.number c.masked.result) len (8 * at) count n after
     (omega (arith, before.left, short)) (omega (arith, before.left)) (omega (arith, before.left, before.size, c.requires.exact, size)) (omega (arith, before.left, short, wide, before.size, c.requires.exact)) size
@@ -73,10 +74,10 @@ returns-then-len-gt0-clause-items g c f h =
     let wide = g.met.T.BitChunk.size_law in
     let bounds = g.met.T.BitChunk.width_bounds in
     let before = c.loop-row.invariant in
-    let short = c.in_default.ensures.0 in
+    let short = c.in_default.ensures.row.0 in
     let pos : 8 * at ≡ w * q = place_now w size at wide before.whole in
     let word_of : ℕ → ℕ = λ j. f (word w (take n (bits old)) j ∷ g.S.WordRows.row_at c.args.rows j) in
-    let row : g.S.WordRows.words c.rest_row.result ≡ g.S.WordRows.row_at c.args.rows q = c.rest_row.ensures.row ∙ (c.in_default.ensures.2 0 ∙ (before.rows 0 ∙ ap (g.S.WordRows.row_at c.args.rows) (omega arith))) in
+    let row : g.S.WordRows.words c.rest_row.result ≡ g.S.WordRows.row_at c.args.rows q = c.rest_row.ensures.row ∙ (c.in_default.ensures.row.2 0 ∙ (before.rows 0 ∙ ap (g.S.WordRows.row_at c.args.rows) (omega arith))) in
     let own = own_rest w (g.T.BitChunk.number c.word_at-then-len-gt0.result) (g.T.BitChunk.number c.masked-own.result) len q n (8 * at) old bytes pos (omega (arith, before.left)) (omega (arith, before.left, short)) (omega (arith, c.requires.exact))
     c.masked-own.ensures.fits c.masked-own.ensures.bits (λ i i<. c.word_at-then-len-gt0.ensures.items i (omega (arith, i<, before.left, before.size, c.requires.exact))) before.kept in
     done_all w n word_of after (omega (arith, bounds)) (omega (arith, c.put_word-then-len-gt0.auto.bytes, before.size, c.requires.exact))

@@ -7,6 +7,7 @@ use Rattle.arrow2_kernels.proofs.assigned.assign_rows.Given as goal
 abbrev pub invariant-loop-row : goal.invariant-loop-row
 invariant-loop-row g l = record {
   callable : goal.F-IsAlwaysCallable g l.op;
+  alike : g.S.WordRows.alike l.rows;
   size : length l.bytes ≡ length l.fn.bytes;
   fits : (k : ℕ) → slice_index l.bytes k < 256;
   whole : l.at % g.T.NativeType.SIZE ≡ 0;

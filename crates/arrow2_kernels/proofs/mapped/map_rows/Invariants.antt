@@ -6,6 +6,7 @@ use Rattle.arrow2_kernels.proofs.mapped.map_rows.Given as goal
 abbrev pub invariant-loop-row : goal.invariant-loop-row
 invariant-loop-row g l = record {
   callable : goal.F-IsAlwaysCallable g l.op;
+  alike : g.S.WordRows.alike l.rows;
   whole : length l.bytes.items % 8 ≡ 0;
   left : g.S.WordRows.length l.rows + 8 * length l.bytes.items ≡ l.length;
   rows : (j : ℕ) → g.S.WordRows.row_at l.rows j ≡ g.S.WordRows.row_at l.fn.rows (length l.bytes.items / 8 + j);
