@@ -8,5 +8,6 @@ mod chunks_mut;
 mod composite;
 mod hinting;
 mod index;
+mod kernels;
 mod offset;
 mod types;
