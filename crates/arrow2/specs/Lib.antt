@@ -3,12 +3,14 @@ pub mod Errors
 pub use Rattle.arrow2_model.specs.Buffers
 pub use Rattle.arrow2_model.specs.Canonical
 pub use Rattle.arrow2_model.specs.Digits
+pub use Rattle.arrow2_model.specs.Kernels
 pub use Rattle.arrow2_model.specs.Offsets
 pub use Rattle.arrow2_model.specs.Ones
 pub use Rattle.arrow2_model.specs.Parts
 pub use Rattle.arrow2_model.specs.Ranges
 pub use Rattle.arrow2_model.specs.Shown
 pub use Rattle.arrow2_model.specs.Storage
+pub use Rattle.arrow2_model.specs.Tables
 pub use Rattle.arrow2_model.specs.Words
 pub use Rattle.arrow2_types.specs.ErrorTexts
 pub use Rattle.arrow2_types.specs.Refusals

@@ -1,6 +1,8 @@
 //! Bitmaps: lists of booleans kept as bits, shared ones and ones that grow.
 #![tactic(auto)]
 
+pub mod assign_ops;
+pub mod bitmap_ops;
 mod check;
 mod collect;
 pub mod immutable;

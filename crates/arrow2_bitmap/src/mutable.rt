@@ -1,5 +1,5 @@
 //! A bitmap that grows.
-ghost use Rattle.std.specs.Prelude.{◌≡◌, ◌+◌, ◌-◌, ◌*◌, ◌/◌, ◌<◌, ◌≤◌, ◌^◌, ◌↔◌, ◌⊎◌, [], ◌∷◌, ◌++◌, false, length, length as length', take, slice_index_or, slice_set, OnOk, OnErr, IsOk, IsErr, IfOk, IfErr, IsErrOf, IsTrue, IfNone, MatchOption, Some, codes, vec_len, vec_capacity, List, Bool, true, replicate};
+ghost use Rattle.std.specs.Prelude.{◌≡◌, ◌+◌, ◌-◌, ◌*◌, ◌/◌, ◌<◌, ◌≤◌, ◌^◌, ◌↔◌, ◌⊎◌, [], ◌∷◌, ◌++◌, false, length, length as length', take, slice_index_or, slice_set, OnOk, OnErr, IsOk, IsErr, IfOk, IfErr, IsErrOf, IsTrue, IfNone, MatchOption, Some, codes, vec_len, vec_capacity, List, Bool, ℕ, true, replicate};
 ghost use Rattle.std.specs.Iterator.{IsFinite};
 ghost use Rattle.std.specs.Iterator.Runs.{WholeRun};
 ghost use Rattle.std.specs.Bool.{beq};
@@ -9,8 +9,11 @@ ghost use Rattle.std.specs.Cmp.Lexicographic.{pointwise, lists_equiv};
 ghost use Rattle.arrow2_model.specs.Bits.{bits};
 ghost use Rattle.arrow2_model.specs.Parts.{falses};
 ghost use Rattle.arrow2_model.specs.Canonical.{canonical_bytes, IsCanonical};
+ghost use Rattle.arrow2_model.specs.Kernels.{joined, kernel, word, words_at, IsOwnRowFunction};
 ghost use Rattle.arrow2_model.specs.Shown.{shown};
 ghost use Rattle.arrow2_model.specs.Storage.{GrowingBitmap};
+ghost use Rattle.arrow2_model.specs.Tables.{each};
+ghost use Rattle.arrow2_kernels.specs.Rows.{ActsBesideRows};
 ghost use Rattle.arrow2_types.specs.Refusals.{IsInvalidArgument};
 ghost use Rattle.arrow2_types.specs.declared.refusal.Refusal.TheVariants as refusal;
 ghost use Rattle.arrow2_bitmap.specs.Collected.{GivesTooMany};
@@ -21,6 +24,9 @@ use crate::check::check_length;
 use crate::collect::{Packing, packed};
 use arrow2_bits::iterator::BitmapIter;
 use arrow2_bits::{bytes_for, count_zeros, get_bit, set_bit};
+use arrow2_chunk::bit_chunk::BitChunk;
+use arrow2_kernels::assigned::assign_rows;
+use arrow2_kernels::rows::WordRows;
 use arrow2_types::error::{Error, Result};
 use arrow2_types::refusal::Refusal;
 use std::alloc::{AllocError, Global};
@@ -307,6 +313,33 @@ impl MutableBitmap {
         Ok(())
     }
 
+    /// Writes what `op` answers to each word of the items, and to the row of words beside it, in place of that word.
+    /// Takes no memory. Asks for rows of as many items.
+    pub(crate) fn assign_rows<T: BitChunk, S: WordRows<T>, F: Fn(T, S::Row) -> T>(
+        &mut self,
+        rows: S,
+        op: F,
+    )
+        requires callable { F.IsAlwaysCallable op }
+        requires alike { S.alike rows }
+        requires length { S.length rows ≡ length self.old.items }
+        ensures kernel { (f : List ℕ → ℕ) (lists : List (List Bool)) → IsOwnRowFunction T.BitChunk.WIDTH S.words T.BitChunk.number (F.post op) f → ((j : ℕ) → S.row_at rows j ≡ words_at T.BitChunk.WIDTH lists j) → self.new.items ≡ kernel T.BitChunk.WIDTH f (self.old.items ∷ lists) }
+        ensures table { (t : ℕ) (lists : List (List Bool)) → ActsBesideRows T.BitChunk.WIDTH S.words T.BitChunk.number (F.post op) t → ((j : ℕ) → S.row_at rows j ≡ words_at T.BitChunk.WIDTH lists j) → self.new.items ≡ each t (self.old.items ∷ lists) }
+        ensures len { length self.new.items ≡ length self.old.items }
+        ensures capacity { self.new.capacity ≡ self.old.capacity }
+    {
+        write_rows(&mut self.buffer, self.length, rows, op);
+    }
+
+    /// Makes each item `value`. Takes no memory.
+    pub(crate) fn fill(&mut self, value: bool)
+        ensures items { self.new.items ≡ replicate (length self.old.items) value }
+        ensures capacity { self.new.capacity ≡ self.old.capacity }
+    {
+        fill_bytes(&mut self.buffer, if value { u8::MAX } else { 0 });
+        cut(&mut self.buffer, self.length);
+    }
+
     /// Its bytes, and how many items they hold.
     pub(crate) fn into_parts(self) -> (Vec<u8>, usize)
         ensures bytes { result.0.items ≡ canonical_bytes self.items }
@@ -408,6 +441,33 @@ fn write_bit(buffer: &mut Vec<u8>, length: usize, index: usize, value: bool)
     ensures capacity { vec_capacity buffer.new ≡ vec_capacity buffer.old }
 {
     set_bit(buffer.as_mut_slice(), index, value);
+}
+
+/// Writes what `op` answers to each word of the first `length` bits, which are all that the bytes hold, and to the row
+/// of words beside it, in place of that word.
+fn write_rows<T: BitChunk, S: WordRows<T>, F: Fn(T, S::Row) -> T>(
+    buffer: &mut Vec<u8>,
+    length: usize,
+    rows: S,
+    op: F,
+)
+    requires callable { F.IsAlwaysCallable op }
+    requires alike { S.alike rows }
+    requires length { S.length rows ≡ length }
+    requires canonical { IsCanonical buffer.old.items length }
+    ensures canonical { IsCanonical buffer.new.items length }
+    ensures items { (f : List ℕ → ℕ) → IsOwnRowFunction T.BitChunk.WIDTH S.words T.BitChunk.number (F.post op) f → take length (bits buffer.new.items) ≡ joined T.BitChunk.WIDTH (λ j. f (word T.BitChunk.WIDTH (take length (bits buffer.old.items)) j ∷ S.row_at rows j)) length }
+    ensures capacity { vec_capacity buffer.new ≡ vec_capacity buffer.old }
+{
+    assign_rows(buffer.as_mut_slice(), length, rows, op);
+}
+
+/// Makes each byte `byte`.
+fn fill_bytes(buffer: &mut Vec<u8>, byte: u8)
+    ensures items { buffer.new.items ≡ replicate (vec_len buffer.old) byte }
+    ensures capacity { vec_capacity buffer.new ≡ vec_capacity buffer.old }
+{
+    buffer.as_mut_slice().fill(byte);
 }
 
 /// Adds one bit behind the first `length` bits, which are all that the bytes hold.

@@ -4,6 +4,8 @@ pub mod Canonical
 pub mod Chunks
 pub mod Counts
 pub mod Digits
+pub mod Joined
+pub mod Kernels
 pub mod Merged
 pub mod Numbers
 pub mod Offsets
@@ -11,6 +13,7 @@ pub mod Ones
 pub mod Parts
 pub mod Ranges
 pub mod Shown
+pub mod Tables
 pub mod Texts
 pub mod Walks
 pub mod Words

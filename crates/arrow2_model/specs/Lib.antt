@@ -2,10 +2,12 @@ pub mod Bits
 pub mod Buffers
 pub mod Canonical
 pub mod Digits
+pub mod Kernels
 pub mod Offsets
 pub mod Ones
 pub mod Parts
 pub mod Ranges
 pub mod Shown
 pub mod Storage
+pub mod Tables
 pub mod Words

@@ -1,12 +1,15 @@
 //! Laws of the definitions. Each function is its law and nothing else.
-ghost use Rattle.std.specs.Prelude.{◌≡◌, ◌↔◌, ℕ, ◌+◌, ◌*◌, ◌/◌, ◌%◌, ◌<◌, ◌≤◌, ◌^◌, List, ◌∷◌, [], ◌++◌, Bool, true, length, codes, count_by, replicate, slice_get, slice_index, Some, take, IsTrue};
+ghost use Rattle.std.specs.Prelude.{◌≡◌, ◌↔◌, ℕ, ◌+◌, ◌*◌, ◌/◌, ◌%◌, ◌<◌, ◌≤◌, ◌^◌, List, ◌∷◌, [], ◌++◌, Bool, true, length, codes, count_by, replicate, slice_get, slice_index, false, Some, take, IsTrue};
 ghost use Rattle.std.specs.Bool.{beq};
 ghost use Rattle.std.specs.Cmp.Lexicographic.{pointwise};
+ghost use Rattle.std.specs.Int.{div_ceil};
 ghost use Rattle.std.specs.List.{flat_map};
 ghost use Rattle.arrow2_model.specs.Bits.{bit, bits, num, unnum, sum_of_powers};
 ghost use Rattle.arrow2_model.specs.Parts.{part, falses};
 ghost use Rattle.arrow2_model.specs.Storage.{BitmapStorage, items_of};
-ghost use Rattle.arrow2_model.specs.Words.{full_words, rest};
+ghost use Rattle.arrow2_model.specs.Words.{words, full_words, rest};
+ghost use Rattle.arrow2_model.specs.Kernels.{word, kernel};
+ghost use Rattle.arrow2_model.specs.Tables.{each, Acts};
 ghost use Rattle.arrow2_model.specs.Canonical.{canonical_bytes};
 ghost use Rattle.arrow2_model.specs.Shown.{shown, items_text};
 
@@ -104,4 +107,40 @@ pub fn a_bitmap_is_shown_as_its_list()
 #[tactic(auto, using(crate::proofs::Same::comparing))]
 pub fn a_comparison_tells_lists_apart()
     ensures { (xs ys : List Bool) → IsTrue (pointwise beq xs ys) ↔ (xs ≡ ys) }
+{}
+
+/// The words of which kernels are made are those of the list.
+#[tactic(auto, using(crate::proofs::Kernels::kernels))]
+pub fn kernels_go_by_the_words_of_a_list()
+    ensures { (w : ℕ) (items : List Bool) (j : ℕ) → j < div_ceil (length items) w → slice_index (words w items) j ≡ word w items j }
+{}
+
+/// A function of words that acts on each bit by one table has that table, item by item, as its kernel.
+#[tactic(auto, using(crate::proofs::Kernels::kernels))]
+pub fn a_function_bit_by_bit_is_its_table()
+    ensures { (w t : ℕ) (f : List ℕ → ℕ) (lists : List (List Bool)) → 0 < w → Acts t w f → kernel w f lists ≡ each t lists }
+{}
+
+/// One table gives the same list at any two widths.
+#[tactic(auto, using(crate::proofs::Kernels::kernels))]
+pub fn a_table_is_the_same_at_each_width()
+    ensures { (v w t : ℕ) (f g : List ℕ → ℕ) (lists : List (List Bool)) → 0 < v → 0 < w → Acts t v f → Acts t w g → kernel v f lists ≡ kernel w g lists }
+{}
+
+/// Not of both is not of the one or not of the other.
+#[tactic(auto, using(crate::proofs::Tables::operators))]
+pub fn not_of_and_is_or_of_nots()
+    ensures { (xs ys : List Bool) → length xs ≡ length ys → each 1 (each 8 (xs ∷ ys ∷ []) ∷ []) ≡ each 14 (each 1 (xs ∷ []) ∷ each 1 (ys ∷ []) ∷ []) }
+{}
+
+/// Exclusive or of a list with itself is false everywhere.
+#[tactic(auto, using(crate::proofs::Tables::operators))]
+pub fn xor_with_itself_is_false()
+    ensures { (xs : List Bool) → each 6 (xs ∷ xs ∷ []) ≡ replicate (length xs) false }
+{}
+
+/// Not of not is the list.
+#[tactic(auto, using(crate::proofs::Tables::operators))]
+pub fn not_twice_is_the_list()
+    ensures { (xs : List Bool) → each 1 (each 1 (xs ∷ []) ∷ []) ≡ xs }
 {}

@@ -10,5 +10,6 @@ mod datatypes;
 mod facade;
 mod hinting;
 mod index;
+mod kernels;
 mod offset;
 mod types;

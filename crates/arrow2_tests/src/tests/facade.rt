@@ -3,6 +3,7 @@ use super::checks::prints;
 use arrow2::bitmap::utils;
 use arrow2::{bitmap, buffer, datatypes, error, laws, offset, types};
 use std::fmt;
+use std::process::Abort;
 
 /// Shared and growing lists.
 fn lists<T: Copy, O: offset::Offset>(
@@ -70,6 +71,37 @@ fn refused() -> error::Result<()> {
     Err(error::Error::Overflow)
 }
 
+/// Functions of words and tables, each once.
+fn combines(rt: &impl Abort, a: bitmap::Bitmap) {
+    let same = bitmap::unary(&a, |x| x).expect(rt, "no memory");
+    assert!(rt; bitmap::binary(&a, &a, |x, _| x).expect(rt, "no memory") == same);
+    assert!(rt; bitmap::ternary(&a, &a, &a, |x, _, _| x).expect(rt, "no memory") == same);
+    assert!(rt; bitmap::quaternary(&a, &a, &a, &a, |x, _, _, _| x).expect(rt, "no memory") == same);
+    assert!(rt; bitmap::and(&a, &a).expect(rt, "no memory") == same);
+    assert!(rt; bitmap::or(&a, &a).expect(rt, "no memory") == same);
+    assert!(rt; bitmap::xor(&a, &a).expect(rt, "no memory").unset_bits() == a.len());
+    combines_by_tables(rt, a, same);
+}
+
+/// The same by truth tables, in new memory and in place.
+fn combines_by_tables(rt: &impl Abort, a: bitmap::Bitmap, same: bitmap::Bitmap) {
+    assert!(rt; bitmap::unary_table(&a, 2).expect(rt, "no memory") == same);
+    assert!(rt; bitmap::binary_table(&a, &a, 8).expect(rt, "no memory") == same);
+    assert!(rt; bitmap::ternary_table(&a, &a, &a, 128).expect(rt, "no memory") == same);
+    assert!(rt; bitmap::quaternary_table(&a, &a, &a, &a, 32768).expect(rt, "no memory") == same);
+    let mut own = same.make_mut().expect(rt, "no memory");
+    bitmap::unary_assign(&mut own, |x: u8| !x);
+    bitmap::unary_assign_table::<u16>(&mut own, 1);
+    assert!(rt; own.unset_bits() == a.unset_bits());
+    if own.len() == a.len() {
+        bitmap::binary_assign(&mut own, &a, |x: u32, y| x | y);
+    }
+    if own.len() == a.len() {
+        bitmap::binary_assign_table::<u64>(&mut own, &a, 14);
+    }
+    assert!(rt; own.unset_bits() == a.unset_bits());
+}
+
 #[test]
 fn each_item_has_its_path(rt: HostRuntime) {
     let mut bytes = [0b101u8];
@@ -78,6 +110,10 @@ fn each_item_has_its_path(rt: HostRuntime) {
     assert!(rt; utils::is_set(utils::set(0, 3, true), 3));
     assert!(rt; utils::bytes_for(9) == 2 && utils::count_zeros(&bytes, 0, 8) == 5);
     prints(&rt, rt.alloc(), &Bits, "[0b_____101]");
+    combines(
+        &rt,
+        bitmap::Bitmap::from_bools(rt.alloc(), &[true, false]).expect(&rt, "no memory"),
+    );
     let metadata = datatypes::Metadata::new(rt.alloc());
     assert!(rt; matches!(datatypes::get_extension(&metadata), Ok(None)));
     assert!(rt; refused().is_err());

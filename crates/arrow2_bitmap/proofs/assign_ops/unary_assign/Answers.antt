@@ -1,0 +1,10 @@
+use Rattle.std.proofs.Common.{◌∙◌, ℕ, List, [], ◌∷◌, slice_index, ap, refl, rules}
+use Rattle.arrow2_model.specs.Bits.{unnum}
+use Rattle.arrow2_kernels.proofs.RowKernels.{unary_is}
+use Rattle.arrow2_bitmap.proofs.assign_ops.unary_assign.Goals as goal
+
+pub returns-clause-kernel : goal.returns-clause-kernel
+returns-clause-kernel g c f is =
+    let w : ℕ = g.T.BitChunk.WIDTH in
+    c.assign_rows.ensures.kernel (λ xs. f (slice_index xs 0)) [] (λ x row r small fits post. ap (unnum w) (is x r small (search rules))) (λ j. refl)
+    ∙ unary_is w f c.args.bitmap.now.items

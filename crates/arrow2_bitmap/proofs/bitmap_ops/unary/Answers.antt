@@ -1,0 +1,43 @@
+use Rattle.std.proofs.Common.{◌≡◌, ◌∙◌, ℕ, List, [], ◌∷◌, Bool, length, slice_index, sym, ap}
+use Rattle.std.proofs.lemmas.Result.{IfOk-weaker}
+use Rattle.arrow2_model.specs.Bits.{bits, unnum}
+use Rattle.arrow2_model.specs.Kernels.{word}
+use Rattle.arrow2_model.specs.Parts.{part}
+use Rattle.arrow2_model.specs.Storage.{items_of}
+use Rattle.arrow2_kernels.proofs.RowKernels.{unary_is}
+use Rattle.arrow2_kernels.specs.Rows.{AreRowsOf}
+use Rattle.arrow2_bitmap.proofs.bitmap_ops.unary.Goals as goal
+
+-- the rows of a walk over all items
+rows_of : (items walked : List Bool) (n : ℕ) → walked ≡ items → length walked ≡ n → AreRowsOf 64 (items ∷ []) (λ j. word 64 walked j ∷ []) n
+rows_of items walked n e l = (sym (ap length e) ∙ l, λ j. ap (λ (i : List Bool). word 64 i j ∷ []) e)
+
+pub returns-then-offset-eq0-clause-kernel : goal.returns-then-offset-eq0-clause-kernel
+returns-then-offset-eq0-clause-kernel g c f is =
+    let items : List Bool = items_of c.args.lhs.now in
+    let shown = c.as_slice-offset.result in
+    let e : c.new-chunks.result.items ≡ items = c.new-chunks.ensures.items ∙ (ap (λ o. part (bits shown.0.now) o shown.2) (sym c.if-offset-eq0.true) ∙ c.as_slice-offset.ensures.items) in
+    IfOk-weaker c.from_rows.result _ _ (λ b h. h ∙ unary_is 64 f items)
+    (c.from_rows.ensures.kernel (λ xs. f (slice_index xs 0)) (items ∷ []) (λ x r fits post. ap (unnum 64) (is x r (fits 0) post)) (rows_of items c.new-chunks.result.items shown.2 e c.new-chunks.ensures.count))
+
+pub returns-then-offset-eq0-clause-table : goal.returns-then-offset-eq0-clause-table
+returns-then-offset-eq0-clause-table g c t acts =
+    let items : List Bool = items_of c.args.lhs.now in
+    let shown = c.as_slice-offset.result in
+    let e : c.new-chunks.result.items ≡ items = c.new-chunks.ensures.items ∙ (ap (λ o. part (bits shown.0.now) o shown.2) (sym c.if-offset-eq0.true) ∙ c.as_slice-offset.ensures.items) in
+    c.from_rows.ensures.table t (items ∷ []) (λ x r i fits h post. acts x r i (fits 0) h post) (rows_of items c.new-chunks.result.items shown.2 e c.new-chunks.ensures.count)
+
+pub returns-else-offset-eq0-clause-kernel : goal.returns-else-offset-eq0-clause-kernel
+returns-else-offset-eq0-clause-kernel g c f is =
+    let items : List Bool = items_of c.args.lhs.now in
+    let walk = c.new-chunks-else-offset-eq0 in
+    IfOk-weaker c.from_rows-else-offset-eq0.result _ _ (λ b h. h ∙ unary_is 64 f items)
+    (c.from_rows-else-offset-eq0.ensures.kernel (λ xs. f (slice_index xs 0)) (items ∷ []) (λ x r fits post. ap (unnum 64) (is x r (fits 0) post))
+    (rows_of items walk.result.items c.as_slice-offset.result.2 (walk.ensures.items ∙ c.as_slice-offset.ensures.items) walk.ensures.count))
+
+pub returns-else-offset-eq0-clause-table : goal.returns-else-offset-eq0-clause-table
+returns-else-offset-eq0-clause-table g c t acts =
+    let items : List Bool = items_of c.args.lhs.now in
+    let walk = c.new-chunks-else-offset-eq0 in
+    c.from_rows-else-offset-eq0.ensures.table t (items ∷ []) (λ x r i fits h post. acts x r i (fits 0) h post)
+    (rows_of items walk.result.items c.as_slice-offset.result.2 (walk.ensures.items ∙ c.as_slice-offset.ensures.items) walk.ensures.count)

@@ -1,0 +1,177 @@
+//! Bitmaps that grow, changed in place by functions of words, and their operators. None of these calls takes memory.
+ghost use Rattle.std.specs.Prelude.{◌≡◌, ◌<◌, ℕ, [], ◌∷◌, length};
+ghost use Rattle.arrow2_model.specs.Kernels.{unary_kernel, binary_kernel, IsUnary, IsBinary};
+ghost use Rattle.arrow2_model.specs.Storage.{BitmapStorage, GrowingBitmap, items_of};
+ghost use Rattle.arrow2_model.specs.Tables.{each, ActsUnary, ActsBinary};
+
+use crate::bitmap_ops::are_all;
+use crate::immutable::Bitmap;
+use crate::mutable::MutableBitmap;
+use arrow2_chunk::bit_chunk::BitChunk;
+use arrow2_kernels::rows::{NoList, OneList};
+use std::ops::{BitAnd, BitAndAssign, BitOr, BitOrAssign, BitXor, BitXorAssign, Not};
+
+/// Writes what `op` answers to each word of `T` in its place. In the last word false stands behind the items, and what
+/// `op` sets there is cleared. Takes no memory.
+///
+/// Differs from arrow2: spare bits don't reach `op`, and are false afterwards.
+pub fn unary_assign<T: BitChunk, F: Fn(T) -> T>(bitmap: &mut MutableBitmap, op: F)
+    requires callable { F.IsAlwaysCallable op }
+    ensures kernel { (f : ℕ → ℕ) → IsUnary T.BitChunk.WIDTH T.BitChunk.number (F.post op) f → bitmap.new.items ≡ unary_kernel T.BitChunk.WIDTH f bitmap.old.items }
+    ensures table { (t : ℕ) → ActsUnary T.BitChunk.WIDTH T.BitChunk.number (F.post op) t → bitmap.new.items ≡ each t (bitmap.old.items ∷ []) }
+    ensures len { length bitmap.new.items ≡ length bitmap.old.items }
+    ensures capacity { bitmap.new.capacity ≡ bitmap.old.capacity }
+{
+    let rows = NoList { left: bitmap.len() };
+    bitmap.assign_rows(rows, |own: T, _none: ()| op(own));
+}
+
+/// Writes what `op` answers to each word of `T` and the word of `rhs` at its place. In the last words false stands
+/// behind the items, and what `op` sets there is cleared. Takes no memory. Asks that both have one length.
+///
+/// Differs from arrow2: spare bits don't reach `op`, and are false afterwards.
+pub fn binary_assign<T: BitChunk, F: Fn(T, T) -> T>(lhs: &mut MutableBitmap, rhs: &Bitmap, op: F)
+    requires callable { F.IsAlwaysCallable op }
+    requires same_length { length lhs.old.items ≡ length (items_of rhs.now) }
+    ensures kernel { (f : ℕ → ℕ → ℕ) → IsBinary T.BitChunk.WIDTH T.BitChunk.number (F.post op) f → lhs.new.items ≡ binary_kernel T.BitChunk.WIDTH f lhs.old.items (items_of rhs.now) }
+    ensures table { (t : ℕ) → ActsBinary T.BitChunk.WIDTH T.BitChunk.number (F.post op) t → lhs.new.items ≡ each t (lhs.old.items ∷ items_of rhs.now ∷ []) }
+    ensures len { length lhs.new.items ≡ length lhs.old.items }
+    ensures capacity { lhs.new.capacity ≡ lhs.old.capacity }
+{
+    let chunks = rhs.chunks::<T>();
+    lhs.assign_rows(OneList { chunks }, op);
+}
+
+/// Item by item, whether both are true. Takes no memory. Asks that both have one length.
+impl<'a> BitAndAssign<&'a Bitmap> for MutableBitmap {
+    ghost can_bitand_assign = { λ m b. length m.items ≡ length (items_of b.now) };
+
+    ghost bitand_assign_gives = { λ old b new. (new.items ≡ each 8 (old.items ∷ items_of b.now ∷ [])) × (new.capacity ≡ old.capacity) };
+
+    fn bitand_assign(&mut self, rhs: &'a Bitmap) {
+        and_assign(self, rhs);
+    }
+}
+
+/// Item by item, whether both are true. Takes no memory. Asks that both have one length.
+impl<'a> BitAnd<&'a Bitmap> for MutableBitmap {
+    type Output = MutableBitmap;
+
+    ghost can_bitand = { λ m b. length m.items ≡ length (items_of b.now) };
+
+    ghost bitand_gives = { λ m b r. (r.items ≡ each 8 (m.items ∷ items_of b.now ∷ [])) × (r.capacity ≡ m.capacity) };
+
+    fn bitand(self, rhs: &'a Bitmap) -> MutableBitmap {
+        let mut bitmap = self;
+        and_assign(&mut bitmap, rhs);
+        bitmap
+    }
+}
+
+/// Item by item, whether one is true, or both. Takes no memory. Asks that both have one length.
+impl<'a> BitOrAssign<&'a Bitmap> for MutableBitmap {
+    ghost can_bitor_assign = { λ m b. length m.items ≡ length (items_of b.now) };
+
+    ghost bitor_assign_gives = { λ old b new. (new.items ≡ each 14 (old.items ∷ items_of b.now ∷ [])) × (new.capacity ≡ old.capacity) };
+
+    fn bitor_assign(&mut self, rhs: &'a Bitmap) {
+        or_assign(self, rhs);
+    }
+}
+
+/// Item by item, whether one is true, or both. Takes no memory. Asks that both have one length.
+impl<'a> BitOr<&'a Bitmap> for MutableBitmap {
+    type Output = MutableBitmap;
+
+    ghost can_bitor = { λ m b. length m.items ≡ length (items_of b.now) };
+
+    ghost bitor_gives = { λ m b r. (r.items ≡ each 14 (m.items ∷ items_of b.now ∷ [])) × (r.capacity ≡ m.capacity) };
+
+    fn bitor(self, rhs: &'a Bitmap) -> MutableBitmap {
+        let mut bitmap = self;
+        or_assign(&mut bitmap, rhs);
+        bitmap
+    }
+}
+
+/// Item by item, whether one is true, and not both. Takes no memory. Asks that both have one length.
+impl<'a> BitXorAssign<&'a Bitmap> for MutableBitmap {
+    ghost can_bitxor_assign = { λ m b. length m.items ≡ length (items_of b.now) };
+
+    ghost bitxor_assign_gives = { λ old b new. (new.items ≡ each 6 (old.items ∷ items_of b.now ∷ [])) × (new.capacity ≡ old.capacity) };
+
+    fn bitxor_assign(&mut self, rhs: &'a Bitmap) {
+        xor_assign(self, rhs);
+    }
+}
+
+/// Item by item, whether one is true, and not both. Takes no memory. Asks that both have one length.
+impl<'a> BitXor<&'a Bitmap> for MutableBitmap {
+    type Output = MutableBitmap;
+
+    ghost can_bitxor = { λ m b. length m.items ≡ length (items_of b.now) };
+
+    ghost bitxor_gives = { λ m b r. (r.items ≡ each 6 (m.items ∷ items_of b.now ∷ [])) × (r.capacity ≡ m.capacity) };
+
+    fn bitxor(self, rhs: &'a Bitmap) -> MutableBitmap {
+        let mut bitmap = self;
+        xor_assign(&mut bitmap, rhs);
+        bitmap
+    }
+}
+
+/// Item by item, whether it is false. Takes no memory.
+impl Not for MutableBitmap {
+    type Output = MutableBitmap;
+
+    ghost not_gives = { λ m r. (r.items ≡ each 1 (m.items ∷ [])) × (r.capacity ≡ m.capacity) };
+
+    fn not(self) -> MutableBitmap {
+        let mut bitmap = self;
+        not_assign(&mut bitmap);
+        bitmap
+    }
+}
+
+/// Item by item, whether both are true. Where `rhs` is true everywhere, nothing is written.
+fn and_assign(lhs: &mut MutableBitmap, rhs: &Bitmap)
+    requires same_length { length lhs.old.items ≡ length (items_of rhs.now) }
+    ensures items { lhs.new.items ≡ each 8 (lhs.old.items ∷ items_of rhs.now ∷ []) }
+    ensures capacity { lhs.new.capacity ≡ lhs.old.capacity }
+{
+    if are_all(rhs, false) {
+        lhs.fill(false);
+    } else if !are_all(rhs, true) {
+        binary_assign(lhs, rhs, |x: u64, y: u64| x & y);
+    }
+}
+
+/// Item by item, whether one is true, or both. Where `rhs` is false everywhere, nothing is written.
+fn or_assign(lhs: &mut MutableBitmap, rhs: &Bitmap)
+    requires same_length { length lhs.old.items ≡ length (items_of rhs.now) }
+    ensures items { lhs.new.items ≡ each 14 (lhs.old.items ∷ items_of rhs.now ∷ []) }
+    ensures capacity { lhs.new.capacity ≡ lhs.old.capacity }
+{
+    if are_all(rhs, true) {
+        lhs.fill(true);
+    } else if !are_all(rhs, false) {
+        binary_assign(lhs, rhs, |x: u64, y: u64| x | y);
+    }
+}
+
+/// Item by item, whether one is true, and not both.
+fn xor_assign(lhs: &mut MutableBitmap, rhs: &Bitmap)
+    requires same_length { length lhs.old.items ≡ length (items_of rhs.now) }
+    ensures items { lhs.new.items ≡ each 6 (lhs.old.items ∷ items_of rhs.now ∷ []) }
+    ensures capacity { lhs.new.capacity ≡ lhs.old.capacity }
+{
+    binary_assign(lhs, rhs, |x: u64, y: u64| x ^ y);
+}
+
+/// Item by item, whether it is false.
+fn not_assign(bitmap: &mut MutableBitmap)
+    ensures items { bitmap.new.items ≡ each 1 (bitmap.old.items ∷ []) }
+    ensures capacity { bitmap.new.capacity ≡ bitmap.old.capacity }
+{
+    unary_assign(bitmap, |x: u64| !x);
+}

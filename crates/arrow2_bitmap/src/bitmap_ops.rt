@@ -1,0 +1,256 @@
+//! New bitmaps from functions of words, and the operators on shared bitmaps.
+ghost use Rattle.std.specs.Prelude.{◌≡◌, ◌<◌, ℕ, List, Bool, [], ◌∷◌, length as length', replicate, IfOk, IfErr, IfSome, IsTrue, MatchResult, ◌⊎◌};
+ghost use Rattle.arrow2_model.specs.Canonical.{canonical_bytes};
+ghost use Rattle.arrow2_model.specs.Kernels.{kernel, unary_kernel, binary_kernel, IsUnary, IsBinary, IsRowFunction};
+ghost use Rattle.arrow2_model.specs.Storage.{BitmapStorage, items_of};
+ghost use Rattle.arrow2_model.specs.Tables.{each, ActsUnary, ActsBinary};
+ghost use Rattle.arrow2_types.specs.declared.error.Error.TheVariants.{OutOfMemory};
+ghost use Rattle.arrow2_kernels.specs.Rows.{AreRowsOf, ActsOnRows};
+
+use crate::immutable::Bitmap;
+use crate::mutable::MutableBitmap;
+use arrow2_bits::chunk_iterator::BitChunks;
+use arrow2_bits::chunks_exact::BitChunksExact;
+use arrow2_kernels::mapped::map_rows;
+use arrow2_kernels::rows::{Beside, OneList, WordRows};
+use arrow2_types::error::{Error, Result};
+use std::alloc::Global;
+use std::convert::TryFrom;
+use std::ops::{BitAnd, BitOr, BitXor, Not};
+
+/// The bitmap of what `op` answers to each row of words, for lists of `length` items.
+///
+/// In arrow2 it has no name.
+///
+/// # Errors
+///
+/// `OutOfMemory` alone.
+pub fn from_rows<S: WordRows<u64>, F: Fn(S::Row) -> u64>(
+    alloc: Global,
+    length: usize,
+    rows: S,
+    op: F,
+) -> Result<Bitmap>
+    requires callable { F.IsAlwaysCallable op }
+    requires alike { S.alike rows }
+    requires length { S.length rows ≡ length }
+    ensures kernel { (f : List ℕ → ℕ) (lists : List (List Bool)) → IsRowFunction 64 S.words (λ x. x) (F.post op) f → AreRowsOf 64 lists (S.row_at rows) length → IfOk result (λ b. items_of b ≡ kernel 64 f lists) }
+    ensures table { (t : ℕ) (lists : List (List Bool)) → ActsOnRows 64 S.words (λ x. x) (F.post op) t → AreRowsOf 64 lists (S.row_at rows) length → IfOk result (λ b. items_of b ≡ each t lists) }
+    ensures len { IfOk result (λ b. length' (items_of b) ≡ length) }
+    ensures storage { IfOk result (λ b. b ≡ record { bytes = canonical_bytes (items_of b); offset = 0; len = length }) }
+    ensures only { IfErr result (λ e. e ≡ Error.OutOfMemory) }
+{
+    let bytes = map_rows(alloc, length, rows, op)?;
+    prove!(length / 8 + usize::from(length % 8 != 0) <= bytes.len());
+    Bitmap::from_u8_vec(bytes, length)
+}
+
+/// The bitmap of what `op` answers to each word of 64 items. In the last word false stands behind the items.
+///
+/// Differs from arrow2: spare bits don't reach `op`, nor does a word behind the last item.
+///
+/// # Errors
+///
+/// `OutOfMemory` alone.
+pub fn unary<F: Fn(u64) -> u64>(lhs: &Bitmap, op: F) -> Result<Bitmap>
+    requires callable { F.IsAlwaysCallable op }
+    ensures kernel { (f : ℕ → ℕ) → IsUnary 64 (λ x. x) (F.post op) f → IfOk result (λ b. items_of b ≡ unary_kernel 64 f (items_of lhs.now)) }
+    ensures table { (t : ℕ) → ActsUnary 64 (λ x. x) (F.post op) t → IfOk result (λ b. items_of b ≡ each t (items_of lhs.now ∷ [])) }
+    ensures len { IfOk result (λ b. length' (items_of b) ≡ length' (items_of lhs.now)) }
+    ensures storage { IfOk result (λ b. b ≡ record { bytes = canonical_bytes (items_of b); offset = 0; len = length' (items_of lhs.now) }) }
+    ensures only { IfErr result (λ e. e ≡ Error.OutOfMemory) }
+{
+    let alloc = lhs.allocator();
+    let (bytes, offset, length) = lhs.as_slice();
+    if offset == 0 {
+        let chunks = BitChunksExact::<u64>::new(bytes, length);
+        from_rows(alloc, length, OneList { chunks }, op)
+    } else {
+        let chunks = BitChunks::<u64>::new(bytes, offset, length);
+        from_rows(alloc, length, OneList { chunks }, op)
+    }
+}
+
+/// The bitmap of what `op` answers to each two words of 64 items at one place. In the last words false stands behind
+/// the items. Asks that both have one length.
+///
+/// Differs from arrow2: spare bits don't reach `op`, nor do words behind the last item.
+///
+/// # Errors
+///
+/// `OutOfMemory` alone.
+pub fn binary<F: Fn(u64, u64) -> u64>(lhs: &Bitmap, rhs: &Bitmap, op: F) -> Result<Bitmap>
+    requires callable { F.IsAlwaysCallable op }
+    requires same_length { length' (items_of lhs.now) ≡ length' (items_of rhs.now) }
+    ensures kernel { (f : ℕ → ℕ → ℕ) → IsBinary 64 (λ x. x) (F.post op) f → IfOk result (λ b. items_of b ≡ binary_kernel 64 f (items_of lhs.now) (items_of rhs.now)) }
+    ensures table { (t : ℕ) → ActsBinary 64 (λ x. x) (F.post op) t → IfOk result (λ b. items_of b ≡ each t (items_of lhs.now ∷ items_of rhs.now ∷ [])) }
+    ensures len { IfOk result (λ b. length' (items_of b) ≡ length' (items_of lhs.now)) }
+    ensures storage { IfOk result (λ b. b ≡ record { bytes = canonical_bytes (items_of b); offset = 0; len = length' (items_of lhs.now) }) }
+    ensures only { IfErr result (λ e. e ≡ Error.OutOfMemory) }
+{
+    let left = OneList { chunks: lhs.chunks::<u64>() };
+    let right = OneList { chunks: rhs.chunks::<u64>() };
+    from_rows(
+        lhs.allocator(),
+        lhs.len(),
+        Beside { left, right },
+        |(x, y)| op(x, y),
+    )
+}
+
+/// Item by item, whether both are true. Asks that both have one length.
+///
+/// # Errors
+///
+/// `OutOfMemory` alone.
+pub fn and(lhs: &Bitmap, rhs: &Bitmap) -> Result<Bitmap>
+    requires same_length { length' (items_of lhs.now) ≡ length' (items_of rhs.now) }
+    ensures items { IfOk result (λ b. items_of b ≡ each 8 (items_of lhs.now ∷ items_of rhs.now ∷ [])) }
+    ensures len { IfOk result (λ b. length' (items_of b) ≡ length' (items_of lhs.now)) }
+    ensures only { IfErr result (λ e. e ≡ Error.OutOfMemory) }
+{
+    if one_is_all(lhs, rhs, false) {
+        filled(lhs.allocator(), lhs.len(), false)
+    } else {
+        binary(lhs, rhs, |x, y| x & y)
+    }
+}
+
+/// Item by item, whether one is true, or both. Asks that both have one length.
+///
+/// # Errors
+///
+/// `OutOfMemory` alone.
+pub fn or(lhs: &Bitmap, rhs: &Bitmap) -> Result<Bitmap>
+    requires same_length { length' (items_of lhs.now) ≡ length' (items_of rhs.now) }
+    ensures items { IfOk result (λ b. items_of b ≡ each 14 (items_of lhs.now ∷ items_of rhs.now ∷ [])) }
+    ensures len { IfOk result (λ b. length' (items_of b) ≡ length' (items_of lhs.now)) }
+    ensures only { IfErr result (λ e. e ≡ Error.OutOfMemory) }
+{
+    if one_is_all(lhs, rhs, true) {
+        filled(lhs.allocator(), lhs.len(), true)
+    } else {
+        binary(lhs, rhs, |x, y| x | y)
+    }
+}
+
+/// Item by item, whether one is true, and not both. Asks that both have one length.
+///
+/// # Errors
+///
+/// `OutOfMemory` alone.
+pub fn xor(lhs: &Bitmap, rhs: &Bitmap) -> Result<Bitmap>
+    requires same_length { length' (items_of lhs.now) ≡ length' (items_of rhs.now) }
+    ensures items { IfOk result (λ b. items_of b ≡ each 6 (items_of lhs.now ∷ items_of rhs.now ∷ [])) }
+    ensures len { IfOk result (λ b. length' (items_of b) ≡ length' (items_of lhs.now)) }
+    ensures only { IfErr result (λ e. e ≡ Error.OutOfMemory) }
+{
+    let left = value_of_all(lhs);
+    let right = value_of_all(rhs);
+    match (left, right) {
+        (Some(left), Some(right)) => filled(lhs.allocator(), lhs.len(), left != right),
+        _ => binary(lhs, rhs, |x, y| x ^ y),
+    }
+}
+
+/// [`and`], with its `Result`.
+impl<'a, 'b> BitAnd<&'b Bitmap> for &'a Bitmap {
+    type Output = Result<Bitmap>;
+
+    ghost can_bitand = { λ a b. length' (items_of a.now) ≡ length' (items_of b.now) };
+
+    ghost bitand_gives = { λ a b r. MatchResult r (λ m. items_of m ≡ each 8 (items_of a.now ∷ items_of b.now ∷ [])) (λ e. e ≡ OutOfMemory) };
+
+    fn bitand(self, rhs: &'b Bitmap) -> Result<Bitmap> {
+        and(self, rhs)
+    }
+}
+
+/// [`or`], with its `Result`.
+impl<'a, 'b> BitOr<&'b Bitmap> for &'a Bitmap {
+    type Output = Result<Bitmap>;
+
+    ghost can_bitor = { λ a b. length' (items_of a.now) ≡ length' (items_of b.now) };
+
+    ghost bitor_gives = { λ a b r. MatchResult r (λ m. items_of m ≡ each 14 (items_of a.now ∷ items_of b.now ∷ [])) (λ e. e ≡ OutOfMemory) };
+
+    fn bitor(self, rhs: &'b Bitmap) -> Result<Bitmap> {
+        or(self, rhs)
+    }
+}
+
+/// [`xor`], with its `Result`.
+impl<'a, 'b> BitXor<&'b Bitmap> for &'a Bitmap {
+    type Output = Result<Bitmap>;
+
+    ghost can_bitxor = { λ a b. length' (items_of a.now) ≡ length' (items_of b.now) };
+
+    ghost bitxor_gives = { λ a b r. MatchResult r (λ m. items_of m ≡ each 6 (items_of a.now ∷ items_of b.now ∷ [])) (λ e. e ≡ OutOfMemory) };
+
+    fn bitxor(self, rhs: &'b Bitmap) -> Result<Bitmap> {
+        xor(self, rhs)
+    }
+}
+
+/// Item by item, whether it is false.
+impl<'a> Not for &'a Bitmap {
+    type Output = Result<Bitmap>;
+
+    ghost not_gives = { λ a r. MatchResult r (λ m. items_of m ≡ each 1 (items_of a.now ∷ [])) (λ e. e ≡ OutOfMemory) };
+
+    fn not(self) -> Result<Bitmap> {
+        complement(self)
+    }
+}
+
+/// Item by item, whether it is false.
+fn complement(bitmap: &Bitmap) -> Result<Bitmap>
+    ensures items { IfOk result (λ b. items_of b ≡ each 1 (items_of bitmap.now ∷ [])) }
+    ensures only { IfErr result (λ e. e ≡ Error.OutOfMemory) }
+{
+    unary(bitmap, |x| !x)
+}
+
+/// Whether the items of one of the two are all `value`. Takes no walk.
+fn one_is_all(lhs: &Bitmap, rhs: &Bitmap, value: bool) -> bool
+    ensures { IsTrue result → (items_of lhs.now ≡ replicate (length' (items_of lhs.now)) value) ⊎ (items_of rhs.now ≡ replicate (length' (items_of rhs.now)) value) }
+{
+    are_all(lhs, value) || are_all(rhs, value)
+}
+
+/// Whether the items are all `value`. The count of false items is kept, so it takes no walk.
+#[tactic(auto, using(crate::proofs::Constant::constant))]
+pub(crate) fn are_all(bitmap: &Bitmap, value: bool) -> bool
+    ensures { IsTrue result → items_of bitmap.now ≡ replicate (length' (items_of bitmap.now)) value }
+{
+    if value {
+        bitmap.unset_bits() == 0
+    } else {
+        bitmap.unset_bits() == bitmap.len()
+    }
+}
+
+/// The value that all items have, if they have one. The count of false items is kept, so it takes no walk.
+fn value_of_all(bitmap: &Bitmap) -> Option<bool>
+    ensures { IfSome result (λ value. items_of bitmap.now ≡ replicate (length' (items_of bitmap.now)) value) }
+{
+    if are_all(bitmap, false) {
+        Some(false)
+    } else if are_all(bitmap, true) {
+        Some(true)
+    } else {
+        None
+    }
+}
+
+/// `length` items, all of them `value`.
+fn filled(alloc: Global, length: usize, value: bool) -> Result<Bitmap>
+    ensures items { IfOk result (λ b. items_of b ≡ replicate length value) }
+    ensures only { IfErr result (λ e. e ≡ Error.OutOfMemory) }
+{
+    if value {
+        Bitmap::try_from(MutableBitmap::from_len_set(alloc, length)?)
+    } else {
+        Bitmap::new_zeroed(alloc, length)
+    }
+}

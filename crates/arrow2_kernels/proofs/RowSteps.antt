@@ -1,0 +1,80 @@
+-- Steps over rows of words.
+use Rattle.std.proofs.Common.{◌≡◌, inl, inr, ℕ, zero, suc, ◌+◌, ◌-◌, ◌*◌, ◌/◌, ◌%◌, ◌^◌, ◌<◌, ◌≤◌, List, [], ◌∷◌, ◌++◌, Bool, true, false, Option, None, Some, take, drop, replicate, length, get_or, refl, ap, sym, ◌∙◌, subst, arith}
+use Rattle.std.proofs.lemmas.Bool.{cases_lt}
+use Rattle.std.proofs.lemmas.Nat.{pow_pos}
+use Rattle.std.proofs.lemmas.List.{length-append, take_at, drop_at, drop-drop, get_or_append_left, get_or-append_right, append-nil, take_all}
+use Rattle.std.proofs.Math.Nat.{mul-suc}
+use Rattle.arrow2_model.specs.Bits.{num, unnum}
+use Rattle.arrow2_model.specs.Parts.{part}
+use Rattle.arrow2_model.specs.Words.{full_words, rest, WordWalk, GivesWord}
+use Rattle.arrow2_model.specs.Kernels.{word, AreWords}
+use Rattle.arrow2_model.proofs.Bits.{length-unnum}
+use Rattle.arrow2_model.proofs.Numbers.{num-unnum, num-part-lt, same_from_bits, bit-num}
+use Rattle.arrow2_model.proofs.Words.{length-rest, rest-none, rest-whole, length-full_words, get_or-full_words}
+use Rattle.arrow2_kernels.specs.Rows.{GivesRow}
+
+-- false behind the items changes no number
+num-falses : (items : List Bool) (m : ℕ) → num (items ++ replicate m false) ≡ num items
+num-falses [] zero = refl
+num-falses [] (suc m) = rw (num-falses [] m) refl
+num-falses (true ∷ items) m = rw (num-falses items m) refl
+num-falses (false ∷ items) m = rw (num-falses items m) refl
+
+-- the words of two rows
+pub words_beside : (w : ℕ) (xs ys : List ℕ) → AreWords w xs → AreWords w ys → AreWords w (xs ++ ys)
+words_beside w xs ys p q k = elim (cases_lt k (length xs)) [
+  | inl lt ↦ subst (λ (x : ℕ). x < 2 ^ w) (sym (get_or_append_left xs ys 0 k lt)) (p k)
+  | inr ge ↦ subst (λ (x : ℕ). x < 2 ^ w) (sym (get_or-append_right xs ys (length xs) k 0 refl ge)) (q (k - length xs))
+]
+
+-- one word
+pub one_word : (w x : ℕ) → x < 2 ^ w → AreWords w (x ∷ [])
+one_word w x h zero = h
+one_word w x h (suc k) = pow_pos w
+
+-- word j of a list behind its first word
+word_behind : (w x : ℕ) (items left : List Bool) (j : ℕ) → items ≡ unnum w x ++ left → word w left j ≡ word w items (j + 1)
+word_behind w x items left j e =
+    let m = mul-suc w j in
+    let n : j + 1 ≡ suc j = omega arith in
+    let at : w * (j + 1) ≡ w * j + w = ap (λ q. w * q) n ∙ omega (arith, m) in
+    let front : drop w items ≡ left = ap (drop w) e ∙ drop_at (unnum w x) left w (length-unnum w x) in
+    rw at (ap (λ (t : List Bool). num (take w t)) (ap (drop (w * j)) (sym front) ∙ (drop-drop (w * j) w items ∙ ap (λ q. drop q items) (omega arith))))
+
+-- the first word
+first_word : (w x : ℕ) (items : List Bool) (left : List ℕ) → 0 < w → full_words w items ≡ x ∷ left → x ≡ word w items 0
+first_word w x items left p e =
+    let l = length-full_words w items in
+    let some : 0 < length items / w = omega (arith, l, ap length e) in
+    sym (ap (λ (t : List ℕ). get_or t 0 0) e) ∙ get_or-full_words w items 0 some
+
+-- a step of one list
+pub one_step : {S A : Type 0} (w : ℕ) (number : A → ℕ) (walk : S → WordWalk) (s : S) (r : Option A) (t : S) → 0 < w → GivesWord w number walk s r t
+    → GivesRow w (λ x. number x ∷ []) (length (walk s).items) (λ j. word w (walk s).items j ∷ []) r (length (walk t).items) (λ j. word w (walk t).items j ∷ [])
+one_step w number walk s None t p gives =
+    let short = length-rest w (walk s).items p in
+    let whole : rest w (walk s).items ≡ (walk s).items = gives.items in
+    let also : rest w (walk t).items ≡ (walk t).items = rest-whole w (walk t).items p gives.word.1 in
+    let same : (walk t).items ≡ (walk s).items = sym also ∙ (gives.rest ∙ whole) in
+    (omega (arith, short, ap length whole), ap length same, λ j. ap (λ (i : List Bool). word w i j ∷ []) same)
+one_step w number walk s (Some x) t p gives =
+    let first : number x ≡ word w (walk s).items 0 = first_word w (number x) (walk s).items (full_words w (walk t).items) p gives.word in
+    let e : (walk s).items ≡ unnum w (number x) ++ (walk t).items = gives.items in
+    let n = length-append (unnum w (number x)) (walk t).items in
+    let m = length-unnum w (number x) in (
+      ap (λ n. n ∷ []) first,
+      one_word w (number x) (subst (λ (y : ℕ). y < 2 ^ w) (sym first) (num-part-lt w (walk s).items (w * 0))),
+      omega (arith, ap length e, n, m),
+      λ j. ap (λ n. n ∷ []) (word_behind w (number x) (walk s).items (walk t).items j e),
+    )
+
+-- the masked word of a rest
+pub one_rest : (w x m len : ℕ) (items : List Bool) → 0 < w → length items < w → take (length (rest w items)) (unnum w x) ≡ rest w items → len ≡ length (rest w items)
+    → unnum w m ≡ take len (unnum w x) ++ replicate (w - len) false → m < 2 ^ w → m ≡ word w items 0
+one_rest w x m len items p short spilled size masked fits =
+    let whole : rest w items ≡ items = rest-none w items short in
+    let l : len ≡ length items = size ∙ ap length whole in
+    let cut : take len (unnum w x) ≡ items = ap (λ n. take n (unnum w x)) size ∙ (spilled ∙ whole) in
+    let z : w * 0 ≡ 0 = omega arith in
+    let all : take w items ≡ items = take_all w items (omega arith) in
+    sym (num-unnum w m fits) ∙ (ap num (masked ∙ ap (λ (t : List Bool). t ++ replicate (w - len) false) cut) ∙ (num-falses items (w - len) ∙ rw (z, all) refl))

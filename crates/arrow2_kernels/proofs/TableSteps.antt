@@ -1,0 +1,89 @@
+-- Tables of fewer inputs within tables of more.
+use Rattle.std.proofs.Common.{◌≡◌, ℕ, zero, suc, ◌+◌, ◌-◌, ◌*◌, ◌/◌, ◌%◌, ◌^◌, ◌<◌, ◌≤◌, ◌==◌, ◌&&◌, ◌||◌, not, List, [], ◌∷◌, Bool, true, false, length, get_or, map, cond, refl, ap, sym, ◌∙◌, arith}
+use lib.Lanes.{zip2}
+use mathlib.Core.Bool.{xor}
+use Rattle.std.proofs.Math.Nat.{div-div-eq-div-mul, div-one, pow-succ'}
+use Rattle.arrow2_model.specs.Bits.{bit, unnum}
+use Rattle.arrow2_model.specs.Tables.{answer}
+use Rattle.arrow2_model.proofs.Tables.{bit-zip2, bit-map}
+
+-- bit i of a number without its lowest k bits
+bit_down : (k i x : ℕ) → bit (x / 2 ^ k) i ≡ bit x (k + i)
+unfolding bit
+bit_down zero i x = let e : 0 + i ≡ i = omega arith in rw (e, div-one x) refl
+bit_down (suc k) i x =
+    let e : suc k + i ≡ suc (k + i) = omega arith in
+    let d : x / 2 ^ suc k ≡ x / 2 / 2 ^ k = ap (λ (p : ℕ). x / p) (pow-succ' 2 k) ∙ sym (div-div-eq-div-mul x 2 (2 ^ k)) in
+    rw (e, d) (bit_down k i (x / 2))
+
+same_differ : (a : Bool) → xor a a ≡ false
+unfolding xor
+same_differ true = refl
+same_differ false = refl
+
+pub zero_bit : (w x r i : ℕ) → unnum w r ≡ zip2 xor (unnum w x) (unnum w x) → i < w → bit r i ≡ false
+zero_bit w x r i is h = bit-zip2 w x x r i xor is h ∙ same_differ (bit x i)
+
+pub ones_bit : (w x z r i : ℕ) → unnum w z ≡ zip2 xor (unnum w x) (unnum w x) → unnum w r ≡ map not (unnum w z) → i < w → bit r i ≡ true
+ones_bit w x z r i zeros is h = bit-map w z r i not is h ∙ ap not (zero_bit w x z i zeros h)
+
+pub chosen_bit : (w c a b n p q r i : ℕ) → unnum w p ≡ zip2 (λ a b. a && b) (unnum w a) (unnum w c) → unnum w n ≡ map not (unnum w c) → unnum w q ≡ zip2 (λ a b. a && b) (unnum w b) (unnum w n) → unnum w r ≡ zip2 (λ a b. a || b) (unnum w p) (unnum w q)
+    → i < w → bit r i ≡ cond (bit c i) (bit a i) (bit b i)
+chosen_bit w c a b n p q r i is-p is-n is-q is-r h =
+    let f = bit-zip2 w a c p i (λ a b. a && b) is-p h in
+    let g = bit-map w c n i not is-n h in
+    let k = bit-zip2 w b n q i (λ a b. a && b) is-q h in
+    let l = bit-zip2 w p q r i (λ a b. a || b) is-r h in
+    l ∙ (ap (λ x. x || bit q i) f ∙ (ap (λ x. (bit a i && bit c i) || x) (k ∙ ap (λ x. bit b i && x) g) ∙ picked (bit a i) (bit b i) (bit c i)))
+  where
+    picked : (a b c : Bool) → ((a && c) || (b && not c)) ≡ cond c a b
+    picked true true true = refl
+    picked true true false = refl
+    picked true false true = refl
+    picked true false false = refl
+    picked false true true = refl
+    picked false true false = refl
+    picked false false true = refl
+    picked false false false = refl
+
+-- a table of one input
+pub unary_answer : (t : ℕ) (a low high : Bool) → high ≡ bit t 1 → low ≡ bit t 0 → cond a high low ≡ answer t (a ∷ [])
+unary_answer t true low high h l = h
+unary_answer t false low high h l = l
+
+-- one input more: the other half of the table
+pub binary_answer : (t : ℕ) (a b : Bool) → cond b (answer (t / 2 ^ 2) (a ∷ [])) (answer t (a ∷ [])) ≡ answer t (a ∷ b ∷ [])
+binary_answer t true true = bit_down 2 1 t
+binary_answer t true false = refl
+binary_answer t false true = bit_down 2 0 t
+binary_answer t false false = refl
+
+-- one input more: the other half of the table
+pub ternary_answer : (t : ℕ) (a b c : Bool) → cond c (answer (t / 2 ^ 4) (a ∷ b ∷ [])) (answer t (a ∷ b ∷ [])) ≡ answer t (a ∷ b ∷ c ∷ [])
+ternary_answer t true true true = bit_down 4 3 t
+ternary_answer t true true false = refl
+ternary_answer t true false true = bit_down 4 1 t
+ternary_answer t true false false = refl
+ternary_answer t false true true = bit_down 4 2 t
+ternary_answer t false true false = refl
+ternary_answer t false false true = bit_down 4 0 t
+ternary_answer t false false false = refl
+
+-- one input more: the other half of the table
+pub quaternary_answer : (t : ℕ) (a b c d : Bool) → cond d (answer (t / 2 ^ 8) (a ∷ b ∷ c ∷ [])) (answer t (a ∷ b ∷ c ∷ [])) ≡ answer t (a ∷ b ∷ c ∷ d ∷ [])
+quaternary_answer t true true true true = bit_down 8 7 t
+quaternary_answer t true true true false = refl
+quaternary_answer t true true false true = bit_down 8 3 t
+quaternary_answer t true true false false = refl
+quaternary_answer t true false true true = bit_down 8 5 t
+quaternary_answer t true false true false = refl
+quaternary_answer t true false false true = bit_down 8 1 t
+quaternary_answer t true false false false = refl
+quaternary_answer t false true true true = bit_down 8 6 t
+quaternary_answer t false true true false = refl
+quaternary_answer t false true false true = bit_down 8 2 t
+quaternary_answer t false true false false = refl
+quaternary_answer t false false true true = bit_down 8 4 t
+quaternary_answer t false false true false = refl
+quaternary_answer t false false false true = bit_down 8 0 t
+quaternary_answer t false false false false = refl

@@ -1,0 +1,14 @@
+use Rattle.std.proofs.Common.{◌≡◌, ◌∙◌, Bool, cond, ap}
+use Rattle.arrow2_model.specs.Bits.{bit}
+use Rattle.arrow2_kernels.proofs.TableSteps.{quaternary_answer}
+use Rattle.arrow2_kernels.proofs.tables.quaternary_answers.Goals as goal
+
+pub returns : goal.returns
+returns g c = record {
+  answers = λ i h.
+      let x : Bool = bit (g.T.BitChunk.number c.args.x) i in
+      let y : Bool = bit (g.T.BitChunk.number c.args.y) i in
+      let z : Bool = bit (g.T.BitChunk.number c.args.z) i in
+      let v : Bool = bit (g.T.BitChunk.number c.args.v) i in
+      c.chosen.ensures i h ∙ (ap (λ t. cond v t (bit (g.T.BitChunk.number c.ternary_answers-no.result) i)) (c.ternary_answers-yes.ensures.answers i h) ∙ (ap (cond v _) (c.ternary_answers-no.ensures.answers i h) ∙ quaternary_answer c.args.table x y z v));
+}

@@ -1,0 +1,25 @@
+-- Lists of one length that are read row by row: a row has the next word of each list.
+use Rattle.std.specs.Prelude.{◌≡◌, ℕ, ◌+◌, ◌<◌, ◌^◌, List, ◌∷◌, Bool, Option, MatchOption}
+use Rattle.arrow2_model.specs.Bits.{bit}
+use Rattle.arrow2_model.specs.Kernels.{AreWords, common_length, words_at}
+use Rattle.arrow2_model.specs.Tables.{answer, bits_at}
+
+-- one step, where `left` items of each list and the rows `row` were still to come: the first row comes, and the others
+-- stay; where fewer items are left than a word has, none comes, and all stays
+abbrev pub GivesRow : {R : Type 0} → ℕ → (R → List ℕ) → ℕ → (ℕ → List ℕ) → Option R → ℕ → (ℕ → List ℕ) → Type 0
+GivesRow w words left row r left' row' = MatchOption r
+    ((left < w) × (left' ≡ left) × ((j : ℕ) → row' j ≡ row j))
+    (λ x. (words x ≡ row 0) × AreWords w (words x) × (left ≡ w + left') × ((j : ℕ) → row' j ≡ row (j + 1)))
+
+-- the rows of n items are the words of these lists
+abbrev pub AreRowsOf : ℕ → List (List Bool) → (ℕ → List ℕ) → ℕ → Type 0
+AreRowsOf w lists row n = (common_length lists ≡ n) × ((j : ℕ) → row j ≡ words_at w lists j)
+
+-- which results a function of a row may give says that each of the first w bits is the answer of table t for the
+-- same bit of each word
+abbrev pub ActsOnRows : {R X : Type 0} → ℕ → (R → List ℕ) → (X → ℕ) → (R → X → Type 0) → ℕ → Type 0
+ActsOnRows {R} {X} w numbers number gives t = (row : R) (r : X) (i : ℕ) → AreWords w (numbers row) → i < w → gives row r → bit (number r) i ≡ answer t (bits_at (numbers row) i)
+
+-- the same of a function of a word and of a row beside it
+abbrev pub ActsBesideRows : {X R : Type 0} → ℕ → (R → List ℕ) → (X → ℕ) → (X → R → X → Type 0) → ℕ → Type 0
+ActsBesideRows {X} {R} w numbers number gives t = (x : X) (row : R) (r : X) (i : ℕ) → number x < 2 ^ w → AreWords w (numbers row) → i < w → gives x row r → bit (number r) i ≡ answer t (bits_at (number x ∷ numbers row) i)

@@ -1,0 +1,128 @@
+//! Lists of booleans beside one another, read by words.
+ghost use Rattle.std.specs.Prelude.{◌≡◌, ◌+◌, ◌<◌, ◌++◌, ℕ, List, [], ◌∷◌, length as length'};
+ghost use Rattle.arrow2_model.specs.Kernels.{word, AreWords};
+ghost use Rattle.arrow2_model.specs.Words.{WordWalk};
+ghost use Rattle.arrow2_kernels.specs.Rows.{GivesRow};
+
+use arrow2_bits::chunk_iterator::BitChunkIterExact;
+use arrow2_chunk::bit_chunk::BitChunk;
+
+/// Lists of one length, read row by row: a row has the next word of each list.
+pub trait WordRows<B: BitChunk>: Drop {
+    /// The next word of each list.
+    type Row: Copy;
+
+    // The words of a row.
+    ghost words: { Self.Row → List ℕ };
+
+    // How many items of each list are still to come.
+    ghost length: { Self → ℕ };
+
+    // Row j of those still to come. Items past the end count as false.
+    ghost row_at: { Self → ℕ → List ℕ };
+
+    // All lists have one length.
+    ghost alike: { Self → Type 0 };
+
+    /// The next row, or `None` where fewer items are left than a word has.
+    fn next_row(&mut self) -> Option<Self::Row>
+        requires { alike self.old }
+        ensures alike { alike self.new }
+        ensures row { GivesRow B.BitChunk.WIDTH words (length self.old) (row_at self.old) result (length self.new) (row_at self.new) };
+
+    /// The row of the items that are left, with false behind them. Asks that they are fewer than a word has.
+    fn rest_row(&self) -> Self::Row
+        requires alike { alike self.now }
+        requires short { length self.now < B.BitChunk.WIDTH }
+        ensures row { words result ≡ row_at self.now 0 }
+        ensures fits { AreWords B.BitChunk.WIDTH (words result) };
+}
+
+/// No list, for so many items: its rows are empty.
+#[derive(Drop)]
+pub struct NoList {
+    /// How many items are still to come.
+    pub left: usize,
+}
+
+impl<B: BitChunk> WordRows<B> for NoList {
+    type Row = ();
+
+    ghost words = { λ r. [] };
+
+    ghost length = { λ s. s.left };
+
+    ghost row_at = { λ s j. [] };
+
+    ghost alike = { λ s. Unit {0} };
+
+    fn next_row(&mut self) -> Option<()> {
+        if self.left < B::WIDTH {
+            return None;
+        }
+        self.left -= B::WIDTH;
+        Some(())
+    }
+
+    fn rest_row(&self) {}
+}
+
+/// One list, by a walk over its words.
+#[derive(Drop)]
+pub struct OneList<I> {
+    /// The walk.
+    pub chunks: I,
+}
+
+impl<B: BitChunk, I: BitChunkIterExact<B> + Drop> WordRows<B> for OneList<I> {
+    type Row = B;
+
+    ghost words = { λ x. B.BitChunk.number x ∷ [] };
+
+    ghost length = { λ s. length' (I.walk s.chunks).items };
+
+    ghost row_at = { λ s j. word B.BitChunk.WIDTH (I.walk s.chunks).items j ∷ [] };
+
+    ghost alike = { λ s. Unit {0} };
+
+    fn next_row(&mut self) -> Option<B> {
+        self.chunks.next()
+    }
+
+    fn rest_row(&self) -> B {
+        self.chunks
+            .remainder()
+            .masked(self.chunks.remainder_len())
+    }
+}
+
+/// The lists of two sides beside one another.
+#[derive(Drop)]
+pub struct Beside<L, R> {
+    /// The lists of the one side, which come first in a row.
+    pub left: L,
+    /// The lists of the other side.
+    pub right: R,
+}
+
+impl<B: BitChunk, L: WordRows<B>, R: WordRows<B>> WordRows<B> for Beside<L, R> {
+    type Row = (L::Row, R::Row);
+
+    ghost words = { λ r. L.words r.0 ++ R.words r.1 };
+
+    ghost length = { λ s. L.length s.left };
+
+    ghost row_at = { λ s j. L.row_at s.left j ++ R.row_at s.right j };
+
+    ghost alike = { λ s. L.alike s.left × R.alike s.right × (L.length s.left ≡ R.length s.right) };
+
+    fn next_row(&mut self) -> Option<(L::Row, R::Row)> {
+        let left = self.left.next_row()?;
+        let right = self.right.next_row()?;
+        Some((left, right))
+    }
+
+    fn rest_row(&self) -> (L::Row, R::Row) {
+        (self.left.rest_row(), self.right.rest_row())
+    }
+}

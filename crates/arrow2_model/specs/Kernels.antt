@@ -1,0 +1,67 @@
+-- Functions of words on lists of booleans: each list is read as words of some width, the last one filled with false,
+-- and the answers are a list again (Arrow columnar format, "Validity bitmaps": work by words has to say what it makes
+-- of the bits behind the last item).
+use Rattle.std.specs.Prelude.{◌≡◌, ℕ, ◌*◌, ◌<◌, ◌^◌, List, [], ◌∷◌, Bool, map, take, length, slice_index, slice_index_or}
+use Rattle.std.specs.List.{flat_map, range_with_len}
+use Rattle.std.specs.Int.{div_ceil}
+use Rattle.arrow2_model.specs.Bits.{num, unnum}
+use Rattle.arrow2_model.specs.Parts.{part}
+
+-- word j of a list: its item of `words`, and 0 past the last one
+abbrev pub word : ℕ → List Bool → ℕ → ℕ
+word w items j = num (part items (w * j) w)
+
+-- word j of each list
+abbrev pub words_at : ℕ → List (List Bool) → ℕ → List ℕ
+words_at w lists j = map (λ items. word w items j) lists
+
+-- how many items the first of the lists has, which is how many each has where they have one length
+abbrev pub common_length : List (List Bool) → ℕ
+common_length lists = length (slice_index_or lists 0 [])
+
+-- the bits of the words at places 0, 1 and so on, w bits a word, of which the first n are kept
+unfoldable pub joined : ℕ → (ℕ → ℕ) → ℕ → List Bool
+joined w word_of n = take n (flat_map (λ j. unnum w (word_of j)) (range_with_len 0 (div_ceil n w)))
+
+-- the kernel of a function of words, on lists of one length: what it answers to word j of each list, for each j in
+-- turn, and of all these bits as many as the lists have items
+unfoldable pub kernel : ℕ → (List ℕ → ℕ) → List (List Bool) → List Bool
+kernel w f lists = joined w (λ j. f (words_at w lists j)) (common_length lists)
+
+-- the kernel of a function of one word, of two, of three and of four
+unfoldable pub unary_kernel : ℕ → (ℕ → ℕ) → List Bool → List Bool
+unary_kernel w f a = kernel w (λ xs. f (slice_index xs 0)) (a ∷ [])
+
+unfoldable pub binary_kernel : ℕ → (ℕ → ℕ → ℕ) → List Bool → List Bool → List Bool
+binary_kernel w f a b = kernel w (λ xs. f (slice_index xs 0) (slice_index xs 1)) (a ∷ b ∷ [])
+
+unfoldable pub ternary_kernel : ℕ → (ℕ → ℕ → ℕ → ℕ) → List Bool → List Bool → List Bool → List Bool
+ternary_kernel w f a b c = kernel w (λ xs. f (slice_index xs 0) (slice_index xs 1) (slice_index xs 2)) (a ∷ b ∷ c ∷ [])
+
+unfoldable pub quaternary_kernel : ℕ → (ℕ → ℕ → ℕ → ℕ → ℕ) → List Bool → List Bool → List Bool → List Bool → List Bool
+quaternary_kernel w f a b c d = kernel w (λ xs. f (slice_index xs 0) (slice_index xs 1) (slice_index xs 2) (slice_index xs 3)) (a ∷ b ∷ c ∷ d ∷ [])
+
+-- words of w bits each
+abbrev pub AreWords : ℕ → List ℕ → Type 0
+AreWords w xs = (k : ℕ) → slice_index xs k < 2 ^ w
+
+-- which results a word function may give says that it answers each word, or words, of w bits with that of f
+abbrev pub IsUnary : {X : Type 0} → ℕ → (X → ℕ) → (X → X → Type 0) → (ℕ → ℕ) → Type 0
+IsUnary {X} w number gives f = (x r : X) → number x < 2 ^ w → gives x r → number r ≡ f (number x)
+
+abbrev pub IsBinary : {X : Type 0} → ℕ → (X → ℕ) → (X → X → X → Type 0) → (ℕ → ℕ → ℕ) → Type 0
+IsBinary {X} w number gives f = (x y r : X) → number x < 2 ^ w → number y < 2 ^ w → gives x y r → number r ≡ f (number x) (number y)
+
+abbrev pub IsTernary : {X : Type 0} → ℕ → (X → ℕ) → (X → X → X → X → Type 0) → (ℕ → ℕ → ℕ → ℕ) → Type 0
+IsTernary {X} w number gives f = (x y z r : X) → number x < 2 ^ w → number y < 2 ^ w → number z < 2 ^ w → gives x y z r → number r ≡ f (number x) (number y) (number z)
+
+abbrev pub IsQuaternary : {X : Type 0} → ℕ → (X → ℕ) → (X → X → X → X → X → Type 0) → (ℕ → ℕ → ℕ → ℕ → ℕ) → Type 0
+IsQuaternary {X} w number gives f = (x y z v r : X) → number x < 2 ^ w → number y < 2 ^ w → number z < 2 ^ w → number v < 2 ^ w → gives x y z v r → number r ≡ f (number x) (number y) (number z) (number v)
+
+-- the same of a word function of a row of words, as far as its first w bits go
+abbrev pub IsRowFunction : {R X : Type 0} → ℕ → (R → List ℕ) → (X → ℕ) → (R → X → Type 0) → (List ℕ → ℕ) → Type 0
+IsRowFunction {R} {X} w numbers number gives f = (row : R) (r : X) → AreWords w (numbers row) → gives row r → unnum w (number r) ≡ unnum w (f (numbers row))
+
+-- the same of a word function of a word and of a row beside it
+abbrev pub IsOwnRowFunction : {X R : Type 0} → ℕ → (R → List ℕ) → (X → ℕ) → (X → R → X → Type 0) → (List ℕ → ℕ) → Type 0
+IsOwnRowFunction {X} {R} w numbers number gives f = (x : X) (row : R) (r : X) → number x < 2 ^ w → AreWords w (numbers row) → gives x row r → unnum w (number r) ≡ unnum w (f (number x ∷ numbers row))

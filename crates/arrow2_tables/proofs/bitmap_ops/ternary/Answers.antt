@@ -1,0 +1,14 @@
+use Rattle.std.proofs.Common.{◌≡◌, ◌∙◌, ℕ, List, [], ◌∷◌, Bool, slice_index, ap, rules}
+use Rattle.std.proofs.lemmas.Result.{IfOk-weaker}
+use Rattle.arrow2_model.specs.Bits.{unnum}
+use Rattle.arrow2_model.specs.Storage.{items_of}
+use Rattle.arrow2_kernels.proofs.RowKernels.{ternary_is}
+use Rattle.arrow2_tables.proofs.bitmap_ops.ternary.Goals as goal
+
+pub returns-clause-kernel : goal.returns-clause-kernel
+returns-clause-kernel g c f is =
+    let a1 : List Bool = items_of c.args.a1.now in
+    let a2 : List Bool = items_of c.args.a2.now in
+    let a3 : List Bool = items_of c.args.a3.now in
+    IfOk-weaker c.from_rows.result _ _ (λ m h. h ∙ ternary_is 64 f a1 a2 a3)
+    (c.from_rows.ensures.kernel (λ xs. f (slice_index xs 0) (slice_index xs 1) (slice_index xs 2)) (a1 ∷ a2 ∷ a3 ∷ []) (λ row r fits post. ap (unnum 64) (is row.0.0 row.0.1 row.1 r (fits 0) (fits 1) (fits 2) (search rules))) (search rules))

@@ -1,0 +1,153 @@
+//! New bitmaps from three and four bitmaps, and from truth tables.
+ghost use Rattle.std.specs.Prelude.{◌≡◌, ◌<◌, ℕ, [], ◌∷◌, length as length', IfOk, IfErr};
+ghost use Rattle.arrow2_model.specs.Canonical.{canonical_bytes};
+ghost use Rattle.arrow2_model.specs.Kernels.{ternary_kernel, quaternary_kernel, IsTernary, IsQuaternary};
+ghost use Rattle.arrow2_model.specs.Storage.{BitmapStorage, items_of};
+ghost use Rattle.arrow2_model.specs.Tables.{each, ActsTernary, ActsQuaternary};
+
+use crate::pair::Pair;
+use arrow2_bitmap::bitmap_ops::{binary, from_rows, unary};
+use arrow2_bitmap::immutable::Bitmap;
+use arrow2_kernels::rows::{Beside, OneList};
+use arrow2_kernels::tables::{binary_answers, quaternary_answers, ternary_answers, unary_answers};
+use arrow2_types::error::{Error, Result};
+
+/// The bitmap of what `op` answers to each three words of 64 items at one place. In the last words false stands behind
+/// the items. Asks that all have one length.
+///
+/// Differs from arrow2: spare bits don't reach `op`, nor do words behind the last item.
+///
+/// # Errors
+///
+/// `OutOfMemory` alone.
+pub fn ternary<F: Fn(u64, u64, u64) -> u64>(
+    a1: &Bitmap,
+    a2: &Bitmap,
+    a3: &Bitmap,
+    op: F,
+) -> Result<Bitmap>
+    requires callable { F.IsAlwaysCallable op }
+    requires same_length2 { length' (items_of a1.now) ≡ length' (items_of a2.now) }
+    requires same_length3 { length' (items_of a1.now) ≡ length' (items_of a3.now) }
+    ensures kernel { (f : ℕ → ℕ → ℕ → ℕ) → IsTernary 64 (λ x. x) (F.post op) f → IfOk result (λ b. items_of b ≡ ternary_kernel 64 f (items_of a1.now) (items_of a2.now) (items_of a3.now)) }
+    ensures table { (t : ℕ) → ActsTernary 64 (λ x. x) (F.post op) t → IfOk result (λ b. items_of b ≡ each t (items_of a1.now ∷ items_of a2.now ∷ items_of a3.now ∷ [])) }
+    ensures len { IfOk result (λ b. length' (items_of b) ≡ length' (items_of a1.now)) }
+    ensures storage { IfOk result (λ b. b ≡ record { bytes = canonical_bytes (items_of b); offset = 0; len = length' (items_of a1.now) }) }
+    ensures only { IfErr result (λ e. e ≡ Error.OutOfMemory) }
+{
+    let a1_words = OneList { chunks: a1.chunks::<u64>() };
+    let a2_words = OneList { chunks: a2.chunks::<u64>() };
+    let a3_words = OneList { chunks: a3.chunks::<u64>() };
+    let two = Beside {
+        left: a1_words,
+        right: a2_words,
+    };
+    let three = Beside {
+        left: two,
+        right: a3_words,
+    };
+    from_rows(a1.allocator(), a1.len(), three, |((x, y), z)| op(x, y, z))
+}
+
+/// The bitmap of what `op` answers to each four words of 64 items at one place. In the last words false stands behind
+/// the items. Asks that all have one length.
+///
+/// Differs from arrow2: spare bits don't reach `op`, nor do words behind the last item.
+///
+/// # Errors
+///
+/// `OutOfMemory` alone.
+pub fn quaternary<F: Fn(u64, u64, u64, u64) -> u64>(
+    a1: &Bitmap,
+    a2: &Bitmap,
+    a3: &Bitmap,
+    a4: &Bitmap,
+    op: F,
+) -> Result<Bitmap>
+    requires callable { F.IsAlwaysCallable op }
+    requires same_length2 { length' (items_of a1.now) ≡ length' (items_of a2.now) }
+    requires same_length3 { length' (items_of a1.now) ≡ length' (items_of a3.now) }
+    requires same_length4 { length' (items_of a1.now) ≡ length' (items_of a4.now) }
+    ensures kernel { (f : ℕ → ℕ → ℕ → ℕ → ℕ) → IsQuaternary 64 (λ x. x) (F.post op) f → IfOk result (λ b. items_of b ≡ quaternary_kernel 64 f (items_of a1.now) (items_of a2.now) (items_of a3.now) (items_of a4.now)) }
+    ensures table { (t : ℕ) → ActsQuaternary 64 (λ x. x) (F.post op) t → IfOk result (λ b. items_of b ≡ each t (items_of a1.now ∷ items_of a2.now ∷ items_of a3.now ∷ items_of a4.now ∷ [])) }
+    ensures len { IfOk result (λ b. length' (items_of b) ≡ length' (items_of a1.now)) }
+    ensures storage { IfOk result (λ b. b ≡ record { bytes = canonical_bytes (items_of b); offset = 0; len = length' (items_of a1.now) }) }
+    ensures only { IfErr result (λ e. e ≡ Error.OutOfMemory) }
+{
+    let rows = Beside {
+        left: Pair::new(a1, a2),
+        right: Pair::new(a3, a4),
+    };
+    from_rows(a1.allocator(), a1.len(), rows, |((x, y), (z, v))| {
+        op(x, y, z, v)
+    })
+}
+
+/// The answers of table `t` of one input, item by item: bit `a1` of `t`. Asks that `t` is below 4.
+///
+/// In arrow2 it has no name.
+///
+/// # Errors
+///
+/// `OutOfMemory` alone.
+pub fn unary_table(a1: &Bitmap, t: u8) -> Result<Bitmap>
+    requires table { t < 4 }
+    ensures items { IfOk result (λ b. items_of b ≡ each t (items_of a1.now ∷ [])) }
+    ensures len { IfOk result (λ b. length' (items_of b) ≡ length' (items_of a1.now)) }
+    ensures only { IfErr result (λ e. e ≡ Error.OutOfMemory) }
+{
+    unary(a1, |x| unary_answers(u16::from(t), x))
+}
+
+/// The answers of table `t` of two inputs, item by item: bit `a1 + 2 * a2` of `t`. Asks that `t` is below 16, and that both
+/// have one length.
+///
+/// In arrow2 it has no name.
+///
+/// # Errors
+///
+/// `OutOfMemory` alone.
+pub fn binary_table(a1: &Bitmap, a2: &Bitmap, t: u8) -> Result<Bitmap>
+    requires table { t < 16 }
+    requires same_length { length' (items_of a1.now) ≡ length' (items_of a2.now) }
+    ensures items { IfOk result (λ b. items_of b ≡ each t (items_of a1.now ∷ items_of a2.now ∷ [])) }
+    ensures len { IfOk result (λ b. length' (items_of b) ≡ length' (items_of a1.now)) }
+    ensures only { IfErr result (λ e. e ≡ Error.OutOfMemory) }
+{
+    binary(a1, a2, |x, y| binary_answers(u16::from(t), x, y))
+}
+
+/// The answers of table `t` of three inputs, item by item: bit `a1 + 2 * a2 + 4 * a3` of `t`. Asks that all have one length.
+///
+/// In arrow2 it has no name.
+///
+/// # Errors
+///
+/// `OutOfMemory` alone.
+pub fn ternary_table(a1: &Bitmap, a2: &Bitmap, a3: &Bitmap, t: u8) -> Result<Bitmap>
+    requires same_length2 { length' (items_of a1.now) ≡ length' (items_of a2.now) }
+    requires same_length3 { length' (items_of a1.now) ≡ length' (items_of a3.now) }
+    ensures items { IfOk result (λ b. items_of b ≡ each t (items_of a1.now ∷ items_of a2.now ∷ items_of a3.now ∷ [])) }
+    ensures len { IfOk result (λ b. length' (items_of b) ≡ length' (items_of a1.now)) }
+    ensures only { IfErr result (λ e. e ≡ Error.OutOfMemory) }
+{
+    ternary(a1, a2, a3, |x, y, z| ternary_answers(u16::from(t), x, y, z))
+}
+
+/// The answers of table `t` of four inputs, item by item: bit `a1 + 2 * a2 + 4 * a3 + 8 * a4` of `t`. Asks that all have one length.
+///
+/// In arrow2 it has no name.
+///
+/// # Errors
+///
+/// `OutOfMemory` alone.
+pub fn quaternary_table(a1: &Bitmap, a2: &Bitmap, a3: &Bitmap, a4: &Bitmap, t: u16) -> Result<Bitmap>
+    requires same_length2 { length' (items_of a1.now) ≡ length' (items_of a2.now) }
+    requires same_length3 { length' (items_of a1.now) ≡ length' (items_of a3.now) }
+    requires same_length4 { length' (items_of a1.now) ≡ length' (items_of a4.now) }
+    ensures items { IfOk result (λ b. items_of b ≡ each t (items_of a1.now ∷ items_of a2.now ∷ items_of a3.now ∷ items_of a4.now ∷ [])) }
+    ensures len { IfOk result (λ b. length' (items_of b) ≡ length' (items_of a1.now)) }
+    ensures only { IfErr result (λ e. e ≡ Error.OutOfMemory) }
+{
+    quaternary(a1, a2, a3, a4, |x, y, z, v| quaternary_answers(t, x, y, z, v))
+}
