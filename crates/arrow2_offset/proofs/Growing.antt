@@ -1,7 +1,7 @@
 -- Vectors of offsets as their numbers: what growing and cutting leaves.
 use Rattle.std.proofs.Common.{◌≡◌, ℕ, zero, suc, ◌+◌, ◌-◌, ◌<◌, ◌≤◌, List, [], ◌∷◌, ◌++◌, map, length, sum, take, drop, get_or, replicate, Bool, false, ap, sym, ◌∙◌, refl, arith, add-one}
 use Rattle.std.specs.Prelude.{ℤ, pos, ◌≤ℤ◌, ◌-ℤ◌, unsigned_abs}
-use Rattle.std.specs.Int.{w64 as as_i64}
+use Rattle.std.specs.Int as integers
 use Rattle.std.specs.Int.Signed.{lt_z}
 use Rattle.std.proofs.Common.{to_z, of_z}
 use Rattle.std.proofs.lemmas.Int.{ints}
@@ -78,13 +78,13 @@ up_to max xs start ns h l =
 pub list_up_to : (max : ℕ) (xs : List ℤ) (start : ℕ) (ns : List ℕ) → xs ≡ map pos (offsets_list start ns) → start + sum ns ≤ max → AreOffsetsUpTo max xs
 list_up_to max xs start ns e within = up_to max xs start ns (spells xs start ns e) within
 
-tested : (n : ℕ) → n ≤ 9223372036854775807 → lt_z (to_z as_i64 (of_z as_i64 (pos 2147483647))) (to_z as_i64 (of_z as_i64 (pos n))) ≡ false → n ≤ 2147483647
+tested : (n : ℕ) → n ≤ 9223372036854775807 → lt_z (to_z integers.w64 (of_z integers.w64 (pos 2147483647))) (to_z integers.w64 (of_z integers.w64 (pos n))) ≡ false → n ≤ 2147483647
 tested n h t = grind (arith, ints)
 
 -- a last offset that was tested against the greatest one of 32 bits
-pub tested_last : (n : ℕ) (x y : ℤ) → x ≡ pos 2147483647 → y ≡ pos n → n ≤ 9223372036854775807 → lt_z (to_z as_i64 (of_z as_i64 x)) (to_z as_i64 (of_z as_i64 y)) ≡ false → n ≤ 2147483647
+pub tested_last : (n : ℕ) (x y : ℤ) → x ≡ pos 2147483647 → y ≡ pos n → n ≤ 9223372036854775807 → lt_z (to_z integers.w64 (of_z integers.w64 x)) (to_z integers.w64 (of_z integers.w64 y)) ≡ false → n ≤ 2147483647
 tested_last n x y e f h t =
-    let below : ℤ → ℤ → Bool = λ a b. lt_z (to_z as_i64 (of_z as_i64 a)) (to_z as_i64 (of_z as_i64 b)) in
+    let below : ℤ → ℤ → Bool = λ a b. lt_z (to_z integers.w64 (of_z integers.w64 a)) (to_z integers.w64 (of_z integers.w64 b)) in
     tested n h (ap (λ z. below (pos 2147483647) z) (sym f) ∙ (ap (λ z. below z y) (sym e) ∙ t))
 
 -- the list of a whole buffer of tested offsets

@@ -38,3 +38,7 @@ pub numbers_same : {X : Type 0} (value : X → ℤ) (E : X → X → Bool) → (
 numbers_same value E law xs ys ms ns r is is-ms is-ns =
     let e : r ≡ pointwise int_eq ms ns = is ∙ (numbers_told value E law xs ys ∙ (ap (λ zs. pointwise int_eq zs (map value ys)) is-ms ∙ ap (pointwise int_eq ms) is-ns)) in
     (e, slice_eq-Decides Decides-int_eq ms ns r e)
+
+-- `==` of items whose numbers are lists of naturals
+pub spelled_same : {X : Type 0} (value : X → ℤ) (E : X → X → Bool) → ((a b : X) → IsTrue (E a b) ↔ (value a ≡ value b)) → (xs ys : List X) (vs ws : List ℤ) (ms ns : List ℕ) (r : Bool) → r ≡ pointwise E xs ys → map value xs ≡ vs → vs ≡ map pos ms → map value ys ≡ ws → ws ≡ map pos ns → r ≡ pointwise nat_eq ms ns
+spelled_same value E law xs ys vs ws ms ns r is is-vs spell-vs is-ws spell-ws = (naturals_same value E law xs ys ms ns r is (is-vs ∙ spell-vs) (is-ws ∙ spell-ws)).0

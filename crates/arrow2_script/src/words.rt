@@ -128,7 +128,8 @@ impl<'a> BitText<'a> {
     }
 }
 
-/// A list of numbers, the first one first: the walk over the numbers that are still to come.
+/// A list of numbers, the first one first: the walk over the numbers that are still to come. It gives them as
+/// lengths, since a `usize` has 64 bits.
 #[derive(Drop)]
 pub struct NumberText<'a> {
     words: Parts<'a>,

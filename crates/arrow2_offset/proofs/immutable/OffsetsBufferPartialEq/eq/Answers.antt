@@ -1,7 +1,6 @@
-use Rattle.std.proofs.Common.{◌∙◌}
 use Rattle.arrow2_model.specs.Buffers.{buffer_items}
 use Rattle.arrow2_model.specs.Offsets.{offsets_list, start_of, lengths_of}
-use Rattle.arrow2_offset.proofs.Same.{numbers_same, naturals_same}
+use Rattle.arrow2_offset.proofs.Same.{numbers_same, spelled_same}
 use Rattle.arrow2_offset.proofs.immutable.OffsetsBufferPartialEq.eq.Goals as goal
 
 pub returns-clause-value : goal.returns-clause-value
@@ -16,4 +15,6 @@ pub returns-clause-spelled : goal.returns-clause-spelled
 returns-clause-spelled g c =
     let own = buffer_items c.args.self.now in
     let others = buffer_items c.args.other.now in
-    (naturals_same g.O.Number.value g.O.PartialEq.eq (λ a b. g.met.O.Number.eq_law a b g.met.O.Integral.exact_law) c.as_slice.result.now c.as_slice-2.result.now (offsets_list (start_of own) (lengths_of own)) (offsets_list (start_of others) (lengths_of others)) c.eq.result c.eq.ensures (c.as_slice.ensures.offsets ∙ c.as_slice.ensures.spelled) (c.as_slice-2.ensures.offsets ∙ c.as_slice-2.ensures.spelled)).0
+    let a = c.as_slice.ensures in
+    let b = c.as_slice-2.ensures in
+    spelled_same g.O.Number.value g.O.PartialEq.eq (λ x y. g.met.O.Number.eq_law x y g.met.O.Integral.exact_law) c.as_slice.result.now c.as_slice-2.result.now own others (offsets_list (start_of own) (lengths_of own)) (offsets_list (start_of others) (lengths_of others)) c.eq.result c.eq.ensures a.offsets a.spelled b.offsets b.spelled
