@@ -57,7 +57,9 @@ fn dirty(rt: &impl Abort, alloc: Global, seed: u64, offset: usize, length: usize
     let mut state = seed;
     let mut bytes = Vec::new(alloc);
     for _ in 0..4 {
-        state = state.wrapping_mul(6364136223846793005).wrapping_add(1442695040888963407);
+        state = state
+            .wrapping_mul(6364136223846793005)
+            .wrapping_add(1442695040888963407);
         bytes
             .extend_from_slice(&state.to_le_bytes())
             .expect(rt, "no memory");
@@ -144,13 +146,24 @@ fn new_by_words(rt: &impl Abort, alloc: Global, offset: usize, length: usize)
         word(&a, 64, i).wrapping_mul(5).wrapping_add(9)
     });
     let two = binary(&a, &b, |x, y| x.wrapping_sub(y)).expect(rt, "no memory");
-    is_each_word(rt, &two, 64, |i| word(&a, 64, i).wrapping_sub(word(&b, 64, i)));
+    is_each_word(
+        rt,
+        &two,
+        64,
+        |i| word(&a, 64, i).wrapping_sub(word(&b, 64, i)),
+    );
     let three = ternary(&a, &b, &c, |x, y, z| x.wrapping_sub(y) ^ z).expect(rt, "no memory");
     is_each_word(rt, &three, 64, |i| {
         word(&a, 64, i).wrapping_sub(word(&b, 64, i)) ^ word(&c, 64, i)
     });
-    let four = quaternary(&a, &b, &c, &d, |x, y, z, v| x.wrapping_sub(y) ^ z.wrapping_sub(v))
-        .expect(rt, "no memory");
+    let four = quaternary(
+        &a,
+        &b,
+        &c,
+        &d,
+        |x, y, z, v| x.wrapping_sub(y) ^ z.wrapping_sub(v),
+    )
+    .expect(rt, "no memory");
     is_each_word(rt, &four, 64, |i| {
         let front = word(&a, 64, i).wrapping_sub(word(&b, 64, i));
         front ^ word(&c, 64, i).wrapping_sub(word(&d, 64, i))
@@ -169,7 +182,11 @@ fn new_by_tables(rt: &impl Abort, alloc: Global, offset: usize, length: usize)
     let one = unary_table(&a, 1).expect(rt, "no memory");
     is_each(rt, &one, |i| looked_up(1, at(&a, i), false, false, false));
     let two = binary_table(&a, &b, 11).expect(rt, "no memory");
-    is_each(rt, &two, |i| looked_up(11, at(&a, i), at(&b, i), false, false));
+    is_each(
+        rt,
+        &two,
+        |i| looked_up(11, at(&a, i), at(&b, i), false, false),
+    );
     let three = ternary_table(&a, &b, &c, 0b11010010).expect(rt, "no memory");
     is_each(rt, &three, |i| {
         looked_up(0b11010010, at(&a, i), at(&b, i), at(&c, i), false)
