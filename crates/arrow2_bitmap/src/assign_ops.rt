@@ -7,6 +7,8 @@ ghost use Rattle.arrow2_model.specs.Tables.{each, ActsUnary, ActsBinary};
 use crate::bitmap_ops::are_all;
 use crate::immutable::Bitmap;
 use crate::mutable::MutableBitmap;
+use arrow2_bits::chunk_iterator::BitChunks;
+use arrow2_bits::chunks_exact::BitChunksExact;
 use arrow2_chunk::bit_chunk::BitChunk;
 use arrow2_kernels::rows::{NoList, OneList};
 use std::ops::{BitAnd, BitAndAssign, BitOr, BitOrAssign, BitXor, BitXorAssign, Not};
@@ -38,8 +40,14 @@ pub fn binary_assign<T: BitChunk, F: Fn(T, T) -> T>(lhs: &mut MutableBitmap, rhs
     ensures len { length lhs.new.items ≡ length lhs.old.items }
     ensures capacity { lhs.new.capacity ≡ lhs.old.capacity }
 {
-    let chunks = rhs.chunks::<T>();
-    lhs.assign_rows(OneList { chunks }, op);
+    let (bytes, offset, length) = rhs.as_slice();
+    if offset == 0 {
+        let chunks = BitChunksExact::<T>::new(bytes, length);
+        lhs.assign_rows(OneList { chunks }, op);
+    } else {
+        let chunks = BitChunks::<T>::new(bytes, offset, length);
+        lhs.assign_rows(OneList { chunks }, op);
+    }
 }
 
 /// Item by item, whether both are true. Takes no memory. Asks that both have one length.

@@ -88,8 +88,12 @@ pub fn binary<F: Fn(u64, u64) -> u64>(lhs: &Bitmap, rhs: &Bitmap, op: F) -> Resu
     ensures storage { IfOk result (λ b. b ≡ record { bytes = canonical_bytes (items_of b); offset = 0; len = length' (items_of lhs.now) }) }
     ensures only { IfErr result (λ e. e ≡ Error.OutOfMemory) }
 {
-    let left = OneList { chunks: lhs.chunks::<u64>() };
-    let right = OneList { chunks: rhs.chunks::<u64>() };
+    let left = OneList {
+        chunks: lhs.chunks::<u64>(),
+    };
+    let right = OneList {
+        chunks: rhs.chunks::<u64>(),
+    };
     from_rows(
         lhs.allocator(),
         lhs.len(),

@@ -1,18 +1,17 @@
 -- Words that are read from bytes and written there.
-use Rattle.std.proofs.Common.{◌≡◌, inl, inr, ◌⊎◌, ℕ, zero, suc, ◌+◌, ◌-◌, ◌*◌, ◌/◌, ◌%◌, ◌^◌, ◌<◌, ◌≤◌, List, [], ◌∷◌, ◌++◌, Bool, true, false, take, drop, replicate, length, get_or, refl, ap, sym, ◌∙◌, subst, arith}
+use Rattle.std.proofs.Common.{◌≡◌, inl, inr, ◌⊎◌, ℕ, ◌+◌, ◌-◌, ◌*◌, ◌/◌, ◌%◌, ◌^◌, ◌<◌, ◌≤◌, List, ◌++◌, Bool, false, take, drop, replicate, length, get_or, ap, sym, ◌∙◌, arith}
 use Rattle.std.proofs.lemmas.Bool.{cases_lt}
-use Rattle.std.proofs.lemmas.List.{length-append, length-take, length-take-le, length-drop, length-replicate, get_or-take, get_or-drop, get_or_append_left, get_or-append_right, get_or-replicate, get_or_past, ext_get_or, take-append-drop}
+use Rattle.std.proofs.lemmas.List.{length-append, length-take, length-take-le, length-drop, get_or-take, get_or-drop, get_or_append_left, get_or-append_right, get_or-replicate, get_or_past, take-append-drop}
 use Rattle.std.proofs.lemmas.Nat.{div-mul-add, mod-mul-add}
 use Rattle.std.proofs.lemmas.Slice.{take-put_mid, drop-put_mid}
 use Rattle.std.proofs.Math.Nat.{mul_comm, div-add-mod, add-mul-mod_self_right, add-mul-div_right}
 use borrow.Rule.Slice.PartMut.{put_mid}
-use Rattle.arrow2_model.specs.Bits.{bit, bits, unnum, num}
+use Rattle.arrow2_model.specs.Bits.{bit, bits, unnum}
 use Rattle.arrow2_model.specs.Parts.{part}
 use Rattle.arrow2_model.specs.Canonical.{IsCanonical}
 use Rattle.arrow2_model.specs.Kernels.{word, joined}
-use Rattle.arrow2_model.proofs.Bits.{length-unnum, get_or-unnum, bits-append, bits-nil, length-bits}
+use Rattle.arrow2_model.proofs.Bits.{length-unnum, get_or-unnum, bits-append, length-bits}
 use Rattle.arrow2_model.proofs.Bytes.{take-bits, drop-bits}
-use Rattle.arrow2_model.proofs.Canonical.{bytes_fit}
 use Rattle.arrow2_model.proofs.Joined.{joined_from}
 use Rattle.arrow2_model.proofs.Numbers.{bit-num, num-part-lt, same_from_bits}
 use Rattle.arrow2_model.proofs.Parts.{get_or-part}
@@ -50,13 +49,13 @@ put_outside xs ys a k p inside size h =
     ap (λ (t : List Bool). get_or t p false) (bits_put xs ys a k inside size)
     ∙ (elim h [
       | inl before ↦
-        get_or_append_left (bits (take a xs) ++ bits ys) (bits (drop (a + k) xs)) false p (omega (arith, l, f, m, front))
-        ∙ (get_or_append_left (bits (take a xs)) (bits ys) false p (omega (arith, f, front))
-        ∙ (ap (λ (t : List Bool). get_or t p false) (sym (take-bits xs a (omega arith))) ∙ get_or-take (8 * a) (bits xs) p false before))
+          get_or_append_left (bits (take a xs) ++ bits ys) (bits (drop (a + k) xs)) false p (omega (arith, l, f, m, front))
+          ∙ (get_or_append_left (bits (take a xs)) (bits ys) false p (omega (arith, f, front))
+          ∙ (ap (λ (t : List Bool). get_or t p false) (sym (take-bits xs a (omega arith))) ∙ get_or-take (8 * a) (bits xs) p false before))
       | inr behind ↦
-        let q : 8 * (a + k) + (p - 8 * (a + k)) ≡ p = omega arith in
-        get_or-append_right (bits (take a xs) ++ bits ys) (bits (drop (a + k) xs)) (8 * (a + k)) p false (omega (arith, l, f, m, front)) behind
-        ∙ (ap (λ (t : List Bool). get_or t (p - 8 * (a + k)) false) (sym (drop-bits xs (a + k) inside)) ∙ (get_or-drop (8 * (a + k)) (bits xs) (p - 8 * (a + k)) false ∙ ap (λ j. get_or (bits xs) j false) q))
+          let q : 8 * (a + k) + (p - 8 * (a + k)) ≡ p = omega arith in
+          get_or-append_right (bits (take a xs) ++ bits ys) (bits (drop (a + k) xs)) (8 * (a + k)) p false (omega (arith, l, f, m, front)) behind
+          ∙ (ap (λ (t : List Bool). get_or t (p - 8 * (a + k)) false) (sym (drop-bits xs (a + k) inside)) ∙ (get_or-drop (8 * (a + k)) (bits xs) (p - 8 * (a + k)) false ∙ ap (λ j. get_or (bits xs) j false) q))
     ])
 
 -- a bit of the first bytes of a word
@@ -126,12 +125,12 @@ own_rest w x m len q n p old bytes at end short room fits masked read kept =
     same_from_bits w m (word w (take n (bits old)) q) fits (num-part-lt w (take n (bits old)) (w * q))
     (λ i h. sym (get_or-unnum w m i false h) ∙ (ap (λ (b : List Bool). get_or b i false) masked ∙ sym (bit-num (part (take n (bits old)) (w * q) w) i ∙ (get_or-part (take n (bits old)) (w * q) w i false h ∙ sym (elim (cases_lt i len) [
       | inl lt ↦
-        get_or_append_left (take len (unnum w x)) (replicate (w - len) false) false i (omega (arith, t))
-        ∙ (get_or-take len (unnum w x) i false lt ∙ (get_or-unnum w x i false h ∙ (read i lt ∙ (kept (p + i) (omega arith)
-        ∙ (ap (λ k. get_or (bits old) k false) (omega arith) ∙ sym (get_or-take n (bits old) (w * q + i) false (omega arith)))))))
+          get_or_append_left (take len (unnum w x)) (replicate (w - len) false) false i (omega (arith, t))
+          ∙ (get_or-take len (unnum w x) i false lt ∙ (get_or-unnum w x i false h ∙ (read i lt ∙ (kept (p + i) (omega arith)
+          ∙ (ap (λ k. get_or (bits old) k false) (omega arith) ∙ sym (get_or-take n (bits old) (w * q + i) false (omega arith)))))))
       | inr ge ↦
-        get_or-append_right (take len (unnum w x)) (replicate (w - len) false) len i false t ge
-        ∙ (get_or-replicate (w - len) (i - len) false false (omega arith) ∙ sym (get_or_past (take n (bits old)) (w * q + i) false (omega (arith, l))))
+          get_or-append_right (take len (unnum w x)) (replicate (w - len) false) len i false t ge
+          ∙ (get_or-replicate (w - len) (i - len) false false (omega arith) ∙ sym (get_or_past (take n (bits old)) (w * q + i) false (omega (arith, l))))
     ])))))
 
 -- a word that was written
@@ -140,13 +139,13 @@ pub done_word : (w r q p : ℕ) (g : ℕ → ℕ) (bytes after : List ℕ) → 0
 done_word w r q p g bytes after pos at written kept same done k h = elim (cases_lt k p) [
   | inl lt ↦ kept k (inl lt) ∙ done k lt
   | inr ge ↦
-    let i : ℕ = k - p in
-    let i< : i < w = omega arith in
-    let e : k ≡ w * q + i = omega arith in
-    let place = place_of w q i i< in
-    let e' : p + i ≡ k = omega arith in
-    ap (λ z. get_or (bits after) z false) (sym e') ∙ (written i i< ∙ (sym (get_or-unnum w r i false i<) ∙ (ap (λ (b : List Bool). get_or b i false) same ∙ (get_or-unnum w (g q) i false i<
-    ∙ sym (ap (λ z. bit (g (z / w)) (z % w)) e ∙ (ap (λ z. bit (g z) ((w * q + i) % w)) place.0 ∙ ap (bit (g q)) place.1))))))
+      let i : ℕ = k - p in
+      let i< : i < w = omega arith in
+      let e : k ≡ w * q + i = omega arith in
+      let place = place_of w q i i< in
+      let e' : p + i ≡ k = omega arith in
+      ap (λ z. get_or (bits after) z false) (sym e') ∙ (written i i< ∙ (sym (get_or-unnum w r i false i<) ∙ (ap (λ (b : List Bool). get_or b i false) same ∙ (get_or-unnum w (g q) i false i<
+      ∙ sym (ap (λ z. bit (g (z / w)) (z % w)) e ∙ (ap (λ z. bit (g z) ((w * q + i) % w)) place.0 ∙ ap (bit (g q)) place.1))))))
 ]
 
 pub kept_word : (old bytes after : List ℕ) (p w : ℕ) → Kept old bytes p → ((k : ℕ) → (k < p) ⊎ (p + w ≤ k) → get_or (bits after) k false ≡ get_or (bits bytes) k false) → Kept old after (p + w)
@@ -166,14 +165,14 @@ pub done_rest : (w r m len q p n : ℕ) (g : ℕ → ℕ) (bytes after : List �
 done_rest w r m len q p n g bytes after pos at end short masked written kept same done k h = elim (cases_lt k p) [
   | inl lt ↦ kept k lt ∙ done k lt
   | inr ge ↦
-    let i : ℕ = k - p in
-    let i< : i < len = omega arith in
-    let i<w : i < w = omega arith in
-    let e : k ≡ w * q + i = omega arith in
-    let place = place_of w q i i<w in
-    let e' : p + i ≡ k = omega arith in
-    ap (λ z. get_or (bits after) z false) (sym e') ∙ (written i i< ∙ (low_bit w len r m i (omega arith) masked i< ∙ (sym (get_or-unnum w r i false i<w) ∙ (ap (λ (b : List Bool). get_or b i false) same ∙ (get_or-unnum w (g q) i false i<w
-    ∙ sym (ap (λ z. bit (g (z / w)) (z % w)) e ∙ (ap (λ z. bit (g z) ((w * q + i) % w)) place.0 ∙ ap (bit (g q)) place.1)))))))
+      let i : ℕ = k - p in
+      let i< : i < len = omega arith in
+      let i<w : i < w = omega arith in
+      let e : k ≡ w * q + i = omega arith in
+      let place = place_of w q i i<w in
+      let e' : p + i ≡ k = omega arith in
+      ap (λ z. get_or (bits after) z false) (sym e') ∙ (written i i< ∙ (low_bit w len r m i (omega arith) masked i< ∙ (sym (get_or-unnum w r i false i<w) ∙ (ap (λ (b : List Bool). get_or b i false) same ∙ (get_or-unnum w (g q) i false i<w
+      ∙ sym (ap (λ z. bit (g (z / w)) (z % w)) e ∙ (ap (λ z. bit (g z) ((w * q + i) % w)) place.0 ∙ ap (bit (g q)) place.1)))))))
 ]
   where
     low_bit : (w len r m i : ℕ) → len ≤ w → unnum w m ≡ take len (unnum w r) ++ replicate (w - len) false → i < len → bit m i ≡ bit r i
@@ -193,9 +192,9 @@ rest_canonical w r m len p c n after most end whole room exact masked written fi
       clear = λ k h. elim (cases_lt k (8 * length after)) [
         | inr past ↦ get_or_past (bits after) k false (omega (arith, l))
         | inl lt ↦
-          let i : ℕ = k - p in
-          let e : p + i ≡ k = omega arith in
-          ap (λ z. get_or (bits after) z false) (sym e) ∙ (written i (omega arith) ∙ high_bit w len r m i masked (omega arith) (omega arith))
+            let i : ℕ = k - p in
+            let e : p + i ≡ k = omega arith in
+            ap (λ z. get_or (bits after) z false) (sym e) ∙ (written i (omega arith) ∙ high_bit w len r m i masked (omega arith) (omega arith))
       ];
     }
   where

@@ -1,11 +1,11 @@
 -- Words that are written one behind the other.
-use Rattle.std.proofs.Common.{◌≡◌, inl, inr, ℕ, zero, suc, ◌+◌, ◌-◌, ◌*◌, ◌/◌, ◌%◌, ◌^◌, ◌<◌, ◌≤◌, List, [], ◌∷◌, ◌++◌, Bool, true, false, take, drop, replicate, length, get_or, refl, ap, sym, ◌∙◌, subst, arith}
+use Rattle.std.proofs.Common.{◌≡◌, inl, inr, ℕ, ◌+◌, ◌-◌, ◌*◌, ◌/◌, ◌%◌, ◌<◌, ◌≤◌, List, [], ◌++◌, Bool, false, take, replicate, length, get_or, ap, sym, ◌∙◌, arith}
 use Rattle.std.proofs.lemmas.Bool.{cases_lt}
 use Rattle.std.proofs.lemmas.List.{length-append, length-take-le, get_or-take, get_or_append_left, get_or-append_right, get_or-replicate, get_or_past, ext_get_or}
 use Rattle.arrow2_model.specs.Bits.{bit, bits, unnum}
 use Rattle.arrow2_model.specs.Canonical.{IsCanonical}
 use Rattle.arrow2_model.specs.Kernels.{joined}
-use Rattle.arrow2_model.proofs.Bits.{length-unnum, get_or-unnum, bits-append, bits-nil, length-bits}
+use Rattle.arrow2_model.proofs.Bits.{length-unnum, get_or-unnum, bits-append, length-bits}
 use Rattle.arrow2_model.proofs.Bytes.{take-bits}
 use Rattle.arrow2_model.proofs.Canonical.{bytes_fit}
 use Rattle.arrow2_model.proofs.Joined.{joined_from}
@@ -33,10 +33,10 @@ wrote_word g bytes after word m r size e of same wrote k h =
     elim (cases_lt k (8 * length bytes)) [
       | inl lt ↦ before bytes after word k e lt ∙ wrote k lt
       | inr ge ↦
-        let i : k - 8 * length bytes ≡ k % 64 = omega (arith, l, b, u, ap length e, ap length of) in
-        let j : k / 64 ≡ m = omega (arith, l, b, u, ap length e, ap length of) in
-        appended bytes after word k e ge
-        ∙ (ap (λ q. get_or (bits word) q false) i ∙ (ap (λ (t : List Bool). get_or t (k % 64) false) (of ∙ same) ∙ (get_or-unnum 64 (g m) (k % 64) false (omega arith) ∙ ap (λ q. bit (g q) (k % 64)) (sym j))))
+          let i : k - 8 * length bytes ≡ k % 64 = omega (arith, l, b, u, ap length e, ap length of) in
+          let j : k / 64 ≡ m = omega (arith, l, b, u, ap length e, ap length of) in
+          appended bytes after word k e ge
+          ∙ (ap (λ q. get_or (bits word) q false) i ∙ (ap (λ (t : List Bool). get_or t (k % 64) false) (of ∙ same) ∙ (get_or-unnum 64 (g m) (k % 64) false (omega arith) ∙ ap (λ q. bit (g q) (k % 64)) (sym j))))
     ]
 
 -- a bit of the word of the rest
@@ -76,10 +76,10 @@ pushed_items bytes after word len c r x short is-c e of masked =
     ext_get_or false (take n (bits after)) (bits bytes ++ low) (omega (arith, f, g, q, p)) (λ k h. get_or-take n (bits after) k false (omega (arith, f)) ∙ elim (cases_lt k (8 * length bytes)) [
       | inl lt ↦ before bytes after (take c word) k e lt ∙ sym (get_or_append_left (bits bytes) low false k (omega (arith, p)))
       | inr ge ↦
-        appended bytes after (take c word) k e ge
-        ∙ (rest_bytes word x c (k - 8 * length bytes) of room (omega (arith, f))
-        ∙ (low_bit len r x (k - 8 * length bytes) (omega arith) masked (omega (arith, f))
-        ∙ sym (get_or-append_right (bits bytes) low (8 * length bytes) k false p ge ∙ get_or-take len (unnum 64 r) (k - 8 * length bytes) false (omega (arith, f)))))
+          appended bytes after (take c word) k e ge
+          ∙ (rest_bytes word x c (k - 8 * length bytes) of room (omega (arith, f))
+          ∙ (low_bit len r x (k - 8 * length bytes) (omega arith) masked (omega (arith, f))
+          ∙ sym (get_or-append_right (bits bytes) low (8 * length bytes) k false p ge ∙ get_or-take len (unnum 64 r) (k - 8 * length bytes) false (omega (arith, f)))))
     ])
 
 pub pushed_canonical : (bytes after word : List ℕ) (len c r x : ℕ) → len < 64 → c ≡ (len + 7) / 8 → after ≡ bytes ++ take c word → bits word ≡ unnum 64 x
@@ -97,8 +97,8 @@ pushed_canonical bytes after word len c r x short is-c e of masked fits =
       clear = λ k h. elim (cases_lt k (8 * length after)) [
         | inr past ↦ get_or_past (bits after) k false (omega (arith, l))
         | inl lt ↦
-          appended bytes after (take c word) k e (omega arith)
-          ∙ (rest_bytes word x c (k - 8 * length bytes) of room (omega (arith, a, t, ap length e)) ∙ clear_bit len r x (k - 8 * length bytes) (omega arith) masked (omega arith) (omega (arith, a, t, ap length e)))
+            appended bytes after (take c word) k e (omega arith)
+            ∙ (rest_bytes word x c (k - 8 * length bytes) of room (omega (arith, a, t, ap length e)) ∙ clear_bit len r x (k - 8 * length bytes) (omega arith) masked (omega arith) (omega (arith, a, t, ap length e)))
       ];
     }
 
@@ -116,10 +116,10 @@ wrote_all g bytes out n m len r size total short e same wrote =
     is ∙ joined_from 64 g n (bits bytes ++ low) (omega arith) (omega (arith, p, t, q)) (λ k h. elim (cases_lt k (8 * length bytes)) [
       | inl lt ↦ get_or_append_left (bits bytes) low false k (omega (arith, p)) ∙ wrote k lt
       | inr ge ↦
-        let i : k - 8 * length bytes ≡ k % 64 = omega arith in
-        let j : k / 64 ≡ m = omega arith in
-        get_or-append_right (bits bytes) low (8 * length bytes) k false p ge
-        ∙ (get_or-take len (unnum 64 r) (k - 8 * length bytes) false (omega arith)
-        ∙ (ap (λ (u : List Bool). get_or u (k - 8 * length bytes) false) (same (omega arith))
-        ∙ (get_or-unnum 64 (g m) (k - 8 * length bytes) false (omega arith) ∙ (ap (λ z. bit (g m) z) i ∙ ap (λ z. bit (g z) (k % 64)) (sym j)))))
+          let i : k - 8 * length bytes ≡ k % 64 = omega arith in
+          let j : k / 64 ≡ m = omega arith in
+          get_or-append_right (bits bytes) low (8 * length bytes) k false p ge
+          ∙ (get_or-take len (unnum 64 r) (k - 8 * length bytes) false (omega arith)
+          ∙ (ap (λ (u : List Bool). get_or u (k - 8 * length bytes) false) (same (omega arith))
+          ∙ (get_or-unnum 64 (g m) (k - 8 * length bytes) false (omega arith) ∙ (ap (λ z. bit (g m) z) i ∙ ap (λ z. bit (g z) (k % 64)) (sym j)))))
     ])

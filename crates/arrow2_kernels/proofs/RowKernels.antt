@@ -1,8 +1,8 @@
 -- Kernels of lists that are read row by row.
-use Rattle.std.proofs.Common.{◌≡◌, ℕ, ◌+◌, ◌*◌, ◌<◌, ◌≤◌, ◌^◌, List, [], ◌∷◌, Bool, length, slice_index, ap, sym, ◌∙◌, refl, arith}
-use Rattle.arrow2_model.specs.Bits.{bit, unnum}
-use Rattle.arrow2_model.specs.Kernels.{joined, kernel, words_at, common_length, unary_kernel, binary_kernel, ternary_kernel, quaternary_kernel, AreWords, IsRowFunction, IsOwnRowFunction}
-use Rattle.arrow2_model.specs.Tables.{answer, each, bits_at}
+use Rattle.std.proofs.Common.{◌≡◌, ℕ, ◌<◌, List, [], ◌∷◌, Bool, slice_index, ap, sym, ◌∙◌, refl}
+use Rattle.arrow2_model.specs.Bits.{unnum}
+use Rattle.arrow2_model.specs.Kernels.{joined, kernel, words_at, common_length, unary_kernel, binary_kernel, ternary_kernel, quaternary_kernel, IsRowFunction, IsOwnRowFunction}
+use Rattle.arrow2_model.specs.Tables.{each}
 use Rattle.arrow2_model.proofs.Joined.{same_joined}
 use Rattle.arrow2_model.proofs.Kernels.{table_word, table_answers, kernel_of_table}
 use Rattle.arrow2_kernels.specs.Rows.{AreRowsOf, ActsOnRows, ActsBesideRows}

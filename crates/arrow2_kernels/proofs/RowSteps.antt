@@ -1,15 +1,14 @@
 -- Steps over rows of words.
-use Rattle.std.proofs.Common.{◌≡◌, inl, inr, ℕ, zero, suc, ◌+◌, ◌-◌, ◌*◌, ◌/◌, ◌%◌, ◌^◌, ◌<◌, ◌≤◌, List, [], ◌∷◌, ◌++◌, Bool, true, false, Option, None, Some, take, drop, replicate, length, get_or, refl, ap, sym, ◌∙◌, subst, arith}
+use Rattle.std.proofs.Common.{◌≡◌, inl, inr, ℕ, zero, suc, ◌+◌, ◌-◌, ◌*◌, ◌/◌, ◌^◌, ◌<◌, List, [], ◌∷◌, ◌++◌, Bool, true, false, Option, None, Some, take, drop, replicate, length, get_or, refl, ap, sym, ◌∙◌, subst, arith}
 use Rattle.std.proofs.lemmas.Bool.{cases_lt}
 use Rattle.std.proofs.lemmas.Nat.{pow_pos}
-use Rattle.std.proofs.lemmas.List.{length-append, take_at, drop_at, drop-drop, get_or_append_left, get_or-append_right, append-nil, take_all}
+use Rattle.std.proofs.lemmas.List.{length-append, drop_at, drop-drop, get_or_append_left, get_or-append_right, take_all}
 use Rattle.std.proofs.Math.Nat.{mul-suc}
 use Rattle.arrow2_model.specs.Bits.{num, unnum}
-use Rattle.arrow2_model.specs.Parts.{part}
 use Rattle.arrow2_model.specs.Words.{full_words, rest, WordWalk, GivesWord}
 use Rattle.arrow2_model.specs.Kernels.{word, AreWords}
 use Rattle.arrow2_model.proofs.Bits.{length-unnum}
-use Rattle.arrow2_model.proofs.Numbers.{num-unnum, num-part-lt, same_from_bits, bit-num}
+use Rattle.arrow2_model.proofs.Numbers.{num-unnum, num-part-lt}
 use Rattle.arrow2_model.proofs.Words.{length-rest, rest-none, rest-whole, length-full_words, get_or-full_words}
 use Rattle.arrow2_kernels.specs.Rows.{GivesRow}
 

@@ -1,5 +1,5 @@
 -- Tables of fewer inputs within tables of more.
-use Rattle.std.proofs.Common.{◌≡◌, ℕ, zero, suc, ◌+◌, ◌-◌, ◌*◌, ◌/◌, ◌%◌, ◌^◌, ◌<◌, ◌≤◌, ◌==◌, ◌&&◌, ◌||◌, not, List, [], ◌∷◌, Bool, true, false, length, get_or, map, cond, refl, ap, sym, ◌∙◌, arith}
+use Rattle.std.proofs.Common.{◌≡◌, ℕ, zero, suc, ◌+◌, ◌/◌, ◌^◌, ◌<◌, ◌&&◌, ◌||◌, not, [], ◌∷◌, Bool, true, false, map, cond, refl, ap, sym, ◌∙◌, arith}
 use lib.Lanes.{zip2}
 use mathlib.Core.Bool.{xor}
 use Rattle.std.proofs.Math.Nat.{div-div-eq-div-mul, div-one, pow-succ'}

@@ -90,9 +90,7 @@ impl<B: BitChunk, I: BitChunkIterExact<B> + Drop> WordRows<B> for OneList<I> {
     }
 
     fn rest_row(&self) -> B {
-        self.chunks
-            .remainder()
-            .masked(self.chunks.remainder_len())
+        self.chunks.remainder().masked(self.chunks.remainder_len())
     }
 }
 

@@ -1,5 +1,5 @@
 -- Kernels, and how tables are kernels.
-use Rattle.std.proofs.Common.{◌≡◌, inl, inr, ℕ, zero, suc, ◌+◌, ◌-◌, ◌*◌, ◌/◌, ◌%◌, ◌^◌, ◌<◌, ◌≤◌, List, [], ◌∷◌, ◌++◌, Bool, false, take, drop, length, get_or, map, refl, ap, sym, ◌∙◌, arith}
+use Rattle.std.proofs.Common.{◌≡◌, ℕ, zero, suc, ◌+◌, ◌*◌, ◌/◌, ◌%◌, ◌<◌, List, [], ◌∷◌, Bool, false, length, get_or, map, refl, ap, sym, ◌∙◌, arith}
 use Rattle.std.specs.Int.{div_ceil}
 use Rattle.std.specs.List.{range_with_len}
 use Rattle.std.proofs.lemmas.List.{ext_get_or}
@@ -15,7 +15,7 @@ use Rattle.arrow2_model.proofs.Bits.{length-unnum, get_or-unnum}
 use Rattle.arrow2_model.proofs.Numbers.{bit-num, num-part-lt}
 use Rattle.arrow2_model.proofs.Parts.{get_or-part}
 use Rattle.arrow2_model.proofs.Words.{get_or-words}
-use Rattle.arrow2_model.proofs.Joined.{length-joined, joined_from, same_joined, get_or-joined}
+use Rattle.arrow2_model.proofs.Joined.{length-joined, same_joined, get_or-joined}
 
 pub word-item : (w : ℕ) (items : List Bool) (j : ℕ) → j < div_ceil (length items) w → get_or (words w items) j 0 ≡ word w items j
 word-item w items j h = get_or-words w items j h

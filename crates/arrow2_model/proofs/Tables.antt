@@ -1,5 +1,5 @@
 -- The tables of the operators, and their laws.
-use Rattle.std.proofs.Common.{◌≡◌, ℕ, zero, suc, ◌+◌, ◌-◌, ◌*◌, ◌/◌, ◌%◌, ◌^◌, ◌<◌, ◌≤◌, ◌==◌, ◌&&◌, ◌||◌, not, List, [], ◌∷◌, Bool, true, false, length, get_or, map, replicate, refl, ap, sym, ◌∙◌, arith}
+use Rattle.std.proofs.Common.{◌≡◌, ℕ, ◌-◌, ◌^◌, ◌<◌, ◌&&◌, ◌||◌, not, List, [], ◌∷◌, Bool, true, false, length, get_or, map, replicate, refl, ap, sym, ◌∙◌, arith}
 use Rattle.std.specs.Prelude.{bit_and, bit_or, bit_xor}
 use mathlib.Core.Bool.{xor}
 use lib.Lanes.{zip2}
@@ -119,4 +119,5 @@ not-twice xs =
     (λ k k<. get_or-not (each 1 (xs ∷ [])) k (omega (arith, m)) ∙ (ap not (get_or-not xs k (omega (arith, l, m))) ∙ not_not (get_or xs k false)))
 
 pub ruleset operators = (not-of-and, xor-self, not-twice)
+
 pub ruleset acting = (acts-and, acts-or, acts-xor, acts-not)

@@ -35,9 +35,15 @@ pub fn ternary<F: Fn(u64, u64, u64) -> u64>(
     ensures storage { IfOk result (λ b. b ≡ record { bytes = canonical_bytes (items_of b); offset = 0; len = length' (items_of a1.now) }) }
     ensures only { IfErr result (λ e. e ≡ Error.OutOfMemory) }
 {
-    let a1_words = OneList { chunks: a1.chunks::<u64>() };
-    let a2_words = OneList { chunks: a2.chunks::<u64>() };
-    let a3_words = OneList { chunks: a3.chunks::<u64>() };
+    let a1_words = OneList {
+        chunks: a1.chunks::<u64>(),
+    };
+    let a2_words = OneList {
+        chunks: a2.chunks::<u64>(),
+    };
+    let a3_words = OneList {
+        chunks: a3.chunks::<u64>(),
+    };
     let two = Beside {
         left: a1_words,
         right: a2_words,
@@ -141,7 +147,13 @@ pub fn ternary_table(a1: &Bitmap, a2: &Bitmap, a3: &Bitmap, t: u8) -> Result<Bit
 /// # Errors
 ///
 /// `OutOfMemory` alone.
-pub fn quaternary_table(a1: &Bitmap, a2: &Bitmap, a3: &Bitmap, a4: &Bitmap, t: u16) -> Result<Bitmap>
+pub fn quaternary_table(
+    a1: &Bitmap,
+    a2: &Bitmap,
+    a3: &Bitmap,
+    a4: &Bitmap,
+    t: u16,
+) -> Result<Bitmap>
     requires same_length2 { length' (items_of a1.now) ≡ length' (items_of a2.now) }
     requires same_length3 { length' (items_of a1.now) ≡ length' (items_of a3.now) }
     requires same_length4 { length' (items_of a1.now) ≡ length' (items_of a4.now) }
@@ -149,5 +161,11 @@ pub fn quaternary_table(a1: &Bitmap, a2: &Bitmap, a3: &Bitmap, a4: &Bitmap, t: u
     ensures len { IfOk result (λ b. length' (items_of b) ≡ length' (items_of a1.now)) }
     ensures only { IfErr result (λ e. e ≡ Error.OutOfMemory) }
 {
-    quaternary(a1, a2, a3, a4, |x, y, z, v| quaternary_answers(t, x, y, z, v))
+    quaternary(
+        a1,
+        a2,
+        a3,
+        a4,
+        |x, y, z, v| quaternary_answers(t, x, y, z, v),
+    )
 }

@@ -1,4 +1,4 @@
-use Rattle.std.proofs.Common.{◌≡◌, ◌∙◌, List, Bool, false, replicate, ap, rules}
+use Rattle.std.proofs.Common.{◌∙◌, List, Bool, false, replicate, ap, rules}
 use Rattle.std.proofs.lemmas.Result.{IfOk-weaker}
 use Rattle.arrow2_model.specs.Storage.{items_of}
 use Rattle.arrow2_model.proofs.Tables.{acts-and}

@@ -1,6 +1,5 @@
-use Rattle.std.proofs.Common.{◌≡◌, ◌∙◌, ℕ, List, Bool, take, length, sym, ap, arith}
+use Rattle.std.proofs.Common.{◌∙◌, ℕ, List, sym, ap, arith}
 use Rattle.std.proofs.lemmas.Result.{IfOk-weaker}
-use Rattle.arrow2_model.specs.Bits.{bits}
 use Rattle.arrow2_model.specs.Storage.{BitmapStorage, items_of}
 use Rattle.arrow2_model.specs.Canonical.{canonical_bytes}
 use Rattle.arrow2_model.proofs.Canonical.{canonical_is}

@@ -1,4 +1,4 @@
-use Rattle.std.proofs.Common.{◌≡◌, ◌⊎◌, inl, inr, ℕ, List, [], ◌∷◌, ◌+◌, ◌-◌, ◌*◌, ◌/◌, ◌%◌, ◌<◌, ◌≤◌, length, take, ap, sym, subst, ◌∙◌, arith, rules}
+use Rattle.std.proofs.Common.{◌≡◌, ◌⊎◌, inl, inr, ℕ, List, ◌∷◌, ◌+◌, ◌-◌, ◌*◌, ◌/◌, ◌<◌, ◌≤◌, length, take, ap, sym, subst, ◌∙◌, arith, rules}
 use Rattle.arrow2_model.specs.Bits.{bits, unnum}
 use Rattle.arrow2_model.specs.Kernels.{word}
 use Rattle.arrow2_kernels.proofs.AssignSteps.{Done, Kept, place_now, place_next, own_word, own_rest, done_word, kept_word, done_all, done_rest, rest_canonical, whole_canonical}

@@ -1,4 +1,4 @@
-use Rattle.std.proofs.Common.{◌≡◌, inl, inr, ◌∙◌, ℕ, List, ◌+◌, ◌-◌, ap, arith, length, take, slice_index_or, false}
+use Rattle.std.proofs.Common.{inl, inr, ◌∙◌, ℕ, List, ◌+◌, ◌-◌, ap, arith, slice_index_or, false}
 use Rattle.arrow2_model.specs.Bits.{bits}
 use Rattle.arrow2_kernels.proofs.AssignSteps.{put_inside, put_outside, word_bit}
 use Rattle.arrow2_kernels.proofs.assigned.put_word.Goals as goal

@@ -1,4 +1,4 @@
-use Rattle.std.proofs.Common.{◌≡◌, ◌∙◌, ◌+◌, ◌-◌, ap, arith, take, drop}
+use Rattle.std.proofs.Common.{◌∙◌, ap, arith, take, drop}
 use Rattle.arrow2_kernels.proofs.AssignSteps.{read_bit}
 use Rattle.arrow2_kernels.proofs.assigned.word_at.Goals as goal
 

@@ -1,9 +1,8 @@
-use Rattle.std.proofs.Common.{◌≡◌, ℕ, List, ◌+◌, ◌-◌, ◌*◌, ◌/◌, ◌%◌, ◌<◌, ◌≤◌, ◌++◌, length, take, subst, ap, sym, ◌∙◌, arith}
+use Rattle.std.proofs.Common.{◌≡◌, ℕ, List, ◌+◌, ◌*◌, ◌/◌, ◌%◌, ◌++◌, length, subst, ap, ◌∙◌, arith}
 use Rattle.std.proofs.lemmas.List.{length-append}
-use Rattle.arrow2_model.specs.Bits.{bits, unnum}
+use Rattle.arrow2_model.specs.Bits.{unnum}
 use Rattle.arrow2_model.specs.Canonical.{IsCanonical}
-use Rattle.arrow2_model.specs.Kernels.{joined, IsRowFunction}
-use Rattle.arrow2_kernels.proofs.MapSteps.{wrote_none, wrote_word, wrote_all}
+use Rattle.arrow2_kernels.proofs.MapSteps.{wrote_word, wrote_all}
 use Rattle.arrow2_kernels.proofs.mapped.map_rows.Goals as goal
 use Rattle.arrow2_kernels.proofs.mapped.map_rows.Goals.{then-len-gt0, else-len-gt0}
 
@@ -47,9 +46,9 @@ returns-clause-items g c f h =
     (omega (arith, before.whole)) (omega (arith, before.left, before.whole, short)) (omega arith) c.in_ok-push_bits.ensures.items
     (λ some. elim c.if-len-gt0.branch [
       | then-len-gt0 w ↦
-        let row : g.S.WordRows.words w.rest_row.result ≡ g.S.WordRows.row_at c.args.rows m =
-        w.rest_row.ensures.row ∙ (c.in_default.ensures.row.2 0 ∙ (before.rows 0 ∙ ap (g.S.WordRows.row_at c.args.rows) (omega arith))) in
-        ap (unnum 64) w.word-is ∙ (h w.rest_row.result w.op-word.result w.rest_row.ensures.fits w.op-word.ensures ∙ ap (λ (r : List ℕ). unnum 64 (f r)) row)
+          let row : g.S.WordRows.words w.rest_row.result ≡ g.S.WordRows.row_at c.args.rows m =
+          w.rest_row.ensures.row ∙ (c.in_default.ensures.row.2 0 ∙ (before.rows 0 ∙ ap (g.S.WordRows.row_at c.args.rows) (omega arith))) in
+          ap (unnum 64) w.word-is ∙ (h w.rest_row.result w.op-word.result w.rest_row.ensures.fits w.op-word.ensures ∙ ap (λ (r : List ℕ). unnum 64 (f r)) row)
       | else-len-gt0 w ↦ absurd (omega (arith, w.if-len-gt0.false))
     ])
     (before.wrote f h)

@@ -1,4 +1,4 @@
-use Rattle.std.proofs.Common.{◌≡◌, ◌∙◌, Bool, cond, ap}
+use Rattle.std.proofs.Common.{◌∙◌, Bool, cond, ap}
 use Rattle.arrow2_model.specs.Bits.{bit}
 use Rattle.arrow2_kernels.proofs.TableSteps.{ternary_answer}
 use Rattle.arrow2_kernels.proofs.tables.ternary_answers.Goals as goal

@@ -1,4 +1,4 @@
-use Rattle.std.proofs.Common.{◌≡◌, ◌∙◌, ℕ, List, [], ◌∷◌, Bool, slice_index, ap, rules}
+use Rattle.std.proofs.Common.{◌∙◌, List, [], ◌∷◌, Bool, slice_index, ap, rules}
 use Rattle.std.proofs.lemmas.Result.{IfOk-weaker}
 use Rattle.arrow2_model.specs.Bits.{unnum}
 use Rattle.arrow2_model.specs.Storage.{items_of}

@@ -1,4 +1,4 @@
-use Rattle.std.proofs.Common.{◌≡◌, ◌∙◌, ℕ, ◌+◌, ◌/◌, Bool, true, false, ap, sym, length, replicate, take, vec_len, arith}
+use Rattle.std.proofs.Common.{◌≡◌, ◌∙◌, ℕ, ◌+◌, ◌/◌, ap, sym, length, replicate, take, vec_len, arith}
 use Rattle.arrow2_model.specs.Bits.{bits}
 use Rattle.arrow2_bitmap.proofs.Buffer.{length_items}
 use Rattle.arrow2_bitmap.proofs.Filled.{front_of_ones, front_of_zeros}

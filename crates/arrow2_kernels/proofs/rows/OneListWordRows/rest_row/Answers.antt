@@ -1,5 +1,5 @@
 use Rattle.std.proofs.Common.{◌∷◌, [], arith, ap}
-use Rattle.arrow2_kernels.proofs.RowSteps.{one_rest, one_word}
+use Rattle.arrow2_kernels.proofs.RowSteps.{one_rest}
 use Rattle.arrow2_kernels.proofs.rows.OneListWordRows.rest_row.Goals as goal
 
 pub returns-clause-row : goal.returns-clause-row
