@@ -1,8 +1,9 @@
 -- The bytes of a bitmap that grows.
-use Rattle.std.proofs.Common.{◌≡◌, ◌∙◌, ℕ, ◌+◌, ◌*◌, ◌/◌, ◌%◌, ◌^◌, ◌<◌, ◌≤◌, List, [], ◌∷◌, ◌++◌, Bool, false, take, drop, length, get_or, set, subst, ap, arith}
+use Rattle.std.proofs.Common.{◌≡◌, ◌∙◌, ℕ, ◌+◌, ◌*◌, ◌/◌, ◌%◌, ◌^◌, ◌<◌, ◌≤◌, List, [], ◌∷◌, ◌++◌, Bool, false, take, drop, length, get_or, set, subst, ap, sym, inl, inr, arith}
 use Rattle.std.specs.Prelude.{bit_or}
+use Rattle.std.proofs.lemmas.Bool.{cases_eq}
 use Rattle.std.specs.Int.{from_bool}
-use Rattle.std.proofs.lemmas.List.{length-take-le, take_more, take_all, drop_all, append-nil}
+use Rattle.std.proofs.lemmas.List.{length-take-le, take_more, take_all, take-set-le, take-take, drop_all, append-nil, get_or-take, get_or-set_same}
 use Rattle.std.proofs.lemmas.Grind.{get_or_default_zero}
 use Rattle.std.proofs.lemmas.Nat.{one_shl}
 use Rattle.arrow2_model.specs.Bits.{bits}
@@ -52,6 +53,27 @@ whole_written before after len e f = rw (drop_all (length after) before (omega a
 -- all but the last item, and the last
 pub popped : (bytes : List ℕ) (n m : ℕ) → IsCanonical bytes n → n ≡ m + 1 → take n (bits bytes) ≡ take m (bits bytes) ++ get_or (bits bytes) m false ∷ []
 popped bytes n m canonical e = let l = length-bits bytes in rw e (take_more (bits bytes) m false (omega (arith, l, canonical.exact)))
+
+-- a last item that was cleared is a spare bit
+pub cleared : (bytes after : List ℕ) (n m : ℕ) → IsCanonical after n → n ≡ m + 1 → 0 < m % 8 → take n (bits after) ≡ set (take n (bits bytes)) m false → n ≤ 8 * length bytes → IsCanonical after m × (take m (bits after) ≡ take m (bits bytes))
+cleared bytes after n m canonical e some is inside = (
+    record {
+      fits = canonical.fits;
+      exact = omega (arith, canonical.exact, e, some);
+      clear = λ k m≤k. elim (cases_eq k m) [
+        | inl same ↦ rw same last_false
+        | inr other ↦ canonical.clear k (omega (arith, e, m≤k, other))
+      ];
+    },
+    shorter (bits after) ∙ (ap (take m) is ∙ (take-set-le m (take n (bits bytes)) m false (omega arith) ∙ sym (shorter (bits bytes)))),
+  )
+  where
+    shorter : (items : List Bool) → take m items ≡ take m (take n items)
+    shorter items = sym (take-take m n items (omega (arith, e)))
+    size : length (take n (bits bytes)) ≡ n
+    size = length-take-le n (bits bytes) (omega (arith, inside, length-bits bytes))
+    last_false : get_or (bits after) m false ≡ false
+    last_false = sym (get_or-take n (bits after) m false (omega (arith, e))) ∙ (ap (λ l. get_or l m false) is ∙ get_or-set_same (take n (bits bytes)) m false false (omega (arith, e, size)))
 
 pub ruleset writes = (whole_written)
 

@@ -141,7 +141,14 @@ impl Bitmap {
         ensures storage { IfOk result (λ b. b ≡ record { bytes = replicate ((length + 7) / 8) 0; offset = 0; len = length }) }
         ensures only { IfErr result (λ e. e ≡ Error.OutOfMemory) }
     {
-        Bitmap::from_u8_vec(vec![in alloc; 0u8; bytes_for(length)]?, length)
+        let zeros = vec![in alloc; 0u8; bytes_for(length)]?;
+        let bytes = Rc::new(alloc, Bytes::from(zeros))?;
+        Ok(Bitmap {
+            bytes,
+            offset: 0,
+            length,
+            unset_bits: length,
+        })
     }
 
     /// The bitmap of the items.
@@ -352,13 +359,36 @@ impl Bitmap {
         ensures only { IfErr result (λ e. e ≡ Error.OutOfMemory) }
     {
         match self.into_mut() {
-            Either::Left(shared) => copy_items(&shared),
+            Either::Left(shared) => copied(&shared),
             Either::Right(own) => Ok(own),
         }
     }
 }
 
-/// A copy of the items, to be changed, by words of 64 bits. Asks for memory once.
+/// A copy of the items, to be changed. Asks for memory once.
+fn copied(bitmap: &Bitmap) -> Result<MutableBitmap>
+    ensures ok { IfOk result (λ m. m.items ≡ items_of bitmap.now) }
+    ensures only { IfErr result (λ e. e ≡ Error.OutOfMemory) }
+{
+    if bitmap.offset % 8 == 0 {
+        copy_bytes(bitmap)
+    } else {
+        copy_items(bitmap)
+    }
+}
+
+/// A copy of items that begin with a byte, to be changed: the bytes at once.
+fn copy_bytes(bitmap: &Bitmap) -> Result<MutableBitmap>
+    requires { bitmap.now.offset % 8 ≡ 0 }
+    ensures ok { IfOk result (λ m. m.items ≡ items_of bitmap.now) }
+    ensures only { IfErr result (λ e. e ≡ Error.OutOfMemory) }
+{
+    let (stored, _, length) = bitmap.as_slice();
+    let bytes = Vec::from_slice(bitmap.allocator(), stored)?;
+    Ok(MutableBitmap::from_vec(bytes, length))
+}
+
+/// A copy of the items, to be changed, by words of 64 bits.
 fn copy_items(bitmap: &Bitmap) -> Result<MutableBitmap>
     ensures ok { IfOk result (λ m. m.items ≡ items_of bitmap.now) }
     ensures only { IfErr result (λ e. e ≡ Error.OutOfMemory) }

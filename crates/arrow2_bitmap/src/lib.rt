@@ -2,6 +2,7 @@
 #![tactic(auto)]
 
 mod check;
+mod collect;
 pub mod immutable;
 pub mod iterator;
 pub mod mutable;

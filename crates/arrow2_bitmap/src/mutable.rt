@@ -12,14 +12,17 @@ ghost use Rattle.arrow2_model.specs.Canonical.{canonical_bytes, IsCanonical};
 ghost use Rattle.arrow2_model.specs.Shown.{shown};
 ghost use Rattle.arrow2_model.specs.Storage.{GrowingBitmap};
 ghost use Rattle.arrow2_types.specs.Refusals.{IsInvalidArgument};
+ghost use Rattle.arrow2_types.specs.declared.refusal.Refusal.TheVariants as refusal;
 ghost use Rattle.arrow2_bitmap.specs.Collected.{GivesTooMany};
 ghost use Rattle.arrow2_bitmap.specs.Refused.{too_long};
 ghost use Rattle.std.specs.declared.alloc.Global.{Global};
 
 use crate::check::check_length;
+use crate::collect::{Packing, packed};
 use arrow2_bits::iterator::BitmapIter;
 use arrow2_bits::{bytes_for, count_zeros, get_bit, set_bit};
 use arrow2_types::error::{Error, Result};
+use arrow2_types::refusal::Refusal;
 use std::alloc::{AllocError, Global};
 use std::fmt;
 use std::marker::Model;
@@ -147,11 +150,12 @@ impl MutableBitmap {
         ensures overflow { IsErrOf result Error.Overflow → (it : I.IntoIter) × I.into_iter_gives iter it × GivesTooMany I.IntoIter.next_gives it }
         ensures only { IfErr result (λ e. (e ≡ Error.Overflow) ⊎ (e ≡ Error.OutOfMemory)) }
     {
-        let mut collected = MutableBitmap::new(alloc);
+        let mut packing = Packing::new(alloc);
         for item in iter {
-            collected.push(item)?;
+            packing.push(item)?;
         }
-        Ok(collected)
+        let (bytes, length) = packing.finish()?;
+        Ok(MutableBitmap::from_vec(bytes, length))
     }
 
     /// The bitmap of the items.
@@ -163,11 +167,7 @@ impl MutableBitmap {
         ensures ok { IfOk result (λ m. m.items ≡ items.now) }
         ensures only { IfErr result (λ e. e ≡ Error.OutOfMemory) }
     {
-        let mut bitmap = MutableBitmap::with_capacity(alloc, items.len())?;
-        for item in items {
-            bitmap.push(*item)?;
-        }
-        Ok(bitmap)
+        Ok(MutableBitmap::from_vec(packed(alloc, items)?, items.len()))
     }
 
     /// Adds one item at the end. Below the capacity it takes no memory.
@@ -184,11 +184,7 @@ impl MutableBitmap {
         ensures room { length self.old.items < self.old.capacity → IsOk result }
         ensures capacity { self.old.capacity ≤ self.new.capacity }
     {
-        if self.length == usize::MAX {
-            return Err(Error::Overflow);
-        }
-        push_bit(&mut self.buffer, self.length, value)?;
-        self.length += 1;
+        self.push_item(value)?;
         Ok(())
     }
 
@@ -200,7 +196,7 @@ impl MutableBitmap {
     {
         let last = self.length.checked_sub(1)?;
         let item = get_bit(self.buffer.as_slice(), last);
-        cut(&mut self.buffer, last);
+        drop_bit(&mut self.buffer, self.length, last);
         self.length = last;
         Some(item)
     }
@@ -295,6 +291,22 @@ impl MutableBitmap {
         self.buffer.as_slice()
     }
 
+    /// Adds one item at the end. The error is one byte.
+    fn push_item(&mut self, value: bool) -> std::result::Result<(), Refusal>
+        ensures ok { OnOk result (self.new.items ≡ self.old.items ++ value ∷ []) }
+        ensures err { OnErr result (self.new.items ≡ self.old.items) }
+        ensures overflow { IsErrOf result refusal.Overflow ↔ (length self.old.items ≡ 2 ^ 64 - 1) }
+        ensures room { length self.old.items < self.old.capacity → IsOk result }
+        ensures capacity { self.old.capacity ≤ self.new.capacity }
+    {
+        if self.length == usize::MAX {
+            return Err(Refusal::Overflow);
+        }
+        push_bit(&mut self.buffer, self.length, value)?;
+        self.length += 1;
+        Ok(())
+    }
+
     /// Its bytes, and how many items they hold.
     pub(crate) fn into_parts(self) -> (Vec<u8>, usize)
         ensures bytes { result.0.items ≡ canonical_bytes self.items }
@@ -367,6 +379,22 @@ fn cut(buffer: &mut Vec<u8>, length: usize)
     buffer.truncate(bytes_for(length));
     if length % 8 != 0 {
         buffer[length / 8] %= 1 << (length % 8);
+    }
+}
+
+/// Drops bit `last`, the last of the first `length` bits, which are all that the bytes hold: with its byte where it is
+/// alone there.
+fn drop_bit(buffer: &mut Vec<u8>, length: usize, last: usize)
+    requires canonical { IsCanonical buffer.old.items length }
+    requires last { last + 1 ≡ length }
+    ensures canonical { IsCanonical buffer.new.items last }
+    ensures items { take last (bits buffer.new.items) ≡ take last (bits buffer.old.items) }
+    ensures capacity { vec_capacity buffer.new ≡ vec_capacity buffer.old }
+{
+    if last % 8 == 0 {
+        buffer.truncate(last / 8);
+    } else {
+        write_bit(buffer, length, last, false);
     }
 }
 

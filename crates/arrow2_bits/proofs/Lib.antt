@@ -1,3 +1,4 @@
+pub mod Tables
 pub mod Counted
 pub mod Lending
 pub mod Loaded

@@ -14,6 +14,10 @@ pub mod iterator;
 
 pub use counts::count_zeros;
 
+/// At place i nothing, and at place 8 + i the byte whose bit i alone is set: read in place of a shift by a variable and
+/// a branch on the value.
+const BITS: [u8; 16] = [0, 0, 0, 0, 0, 0, 0, 0, 1, 2, 4, 8, 16, 32, 64, 128];
+
 /// Whether bit `i` of the byte is set. Asks that `i` is below 8.
 pub fn is_set(byte: u8, i: usize) -> bool
     requires { i < 8 }
@@ -27,11 +31,7 @@ pub fn set(byte: u8, i: usize, value: bool) -> u8
     requires { i < 8 }
     ensures { unnum 8 result ≡ slice_set (unnum 8 byte) i value }
 {
-    if value {
-        byte | (1 << i)
-    } else {
-        byte & !(1 << i)
-    }
+    (byte & !BITS[8 + i]) | BITS[8 * usize::from(value) + i]
 }
 
 /// Bit `i` of the bytes. Asks that `i` is below eight times their number.

@@ -161,15 +161,6 @@ impl<T> Buffer<T> {
         change_unshared(&mut self.storage, start, end, change)
     }
 
-    /// An empty vector on the allocator of its storage. Takes no memory.
-    ///
-    /// arrow2 has no such call: its allocator has no value.
-    pub fn empty_vec(&self) -> Vec<T>
-        ensures { result.items ≡ [] }
-    {
-        self.storage.empty_vec()
-    }
-
     /// The storage whole, the place of the first item there, and how many items there are.
     pub fn into_inner(self) -> (Rc<Bytes<T>>, usize, usize)
         ensures storage { (result.0.value ≡ self.storage) × (result.1 ≡ self.offset) × (result.2 ≡ self.len) }

@@ -1,2 +1,4 @@
 pub mod MachineLemmas
+pub mod OffsetLemmas
 pub mod SlotLemmas
+pub mod WordListLemmas

@@ -4,7 +4,7 @@ use Rattle.std.specs.Fmt.{decimal}
 use Rattle.arrow2_model.specs.Parts.{part, falses}
 use Rattle.arrow2_script.specs.Words.{bits_text}
 use Rattle.arrow2_script.specs.declared.bitmap_command.BitmapCommand.{BitmapCommand}
-use Rattle.arrow2_script.specs.declared.bitmap_command.BitmapCommand.TheVariants.{New, Push, Pop, Get, Freeze, Thaw, Copy, Slice, Count, Bits}
+use Rattle.arrow2_script.specs.declared.bitmap_command.BitmapCommand.TheVariants.{New, Push, Pop, Get, Freeze, Thaw, Slice, Count, Bits}
 use Rattle.arrow2_machine.specs.declared.refusal.Refusal.{Refusal}
 use Rattle.arrow2_machine.specs.declared.refusal.Refusal.TheVariants.{Range, Overflow}
 use Rattle.arrow2_machine.specs.Held.{Held, Frozen, Growing, ◌>>=◌, at, growing, frozen, listed}
@@ -39,12 +39,6 @@ abbrev pub thawed : Held → Result Held Refusal
 thawed held = do
   items ← frozen held
   Ok (Growing items)
-
--- what a copy of a slot holds
-abbrev pub copied : Held → Result Held Refusal
-copied held = do
-  items ← frozen held
-  Ok (Frozen items)
 
 -- what a slot holds after it is cut to its n items from item i on
 abbrev pub sliced : Held → ℕ → ℕ → Result Held Refusal
@@ -82,9 +76,6 @@ bitmap_outcome slots (Freeze s) = do
 bitmap_outcome slots (Thaw s) = do
   held ← thawed (at slots s)
   Ok (slice_set slots s held, codes "ok")
-bitmap_outcome slots (Copy s d) = do
-  held ← copied (at slots s)
-  Ok (slice_set slots d held, codes "ok")
 bitmap_outcome slots (Slice s i n) = do
   held ← sliced (at slots s) i n
   Ok (slice_set slots s held, codes "ok")

@@ -1,13 +1,21 @@
 -- What a slot of the machine holds.
 use Rattle.std.specs.Prelude.{ℕ, Bool, List, slice_index_or, Result, Ok, Err}
+use Rattle.arrow2_model.specs.Offsets.{offsets_list}
 use Rattle.arrow2_machine.specs.declared.refusal.Refusal.{Refusal}
 use Rattle.arrow2_machine.specs.declared.refusal.Refusal.TheVariants.{Kind}
 
--- what a slot holds: nothing, a frozen list of booleans, or one that grows
+-- offsets: the first one, and the lengths
+pub record Offsets : Type 0 where
+  pub start : ℕ
+  pub lengths : List ℕ
+
+-- what a slot holds: nothing, or a list of booleans or offsets, frozen or growing
 pub data Held : Type 0 where
   Nothing : Held
   Frozen : List Bool → Held
   Growing : List Bool → Held
+  FrozenOffsets : Offsets → Held
+  GrowingOffsets : Offsets → Held
 
 infixl 10 ◌>>=◌
 -- what a value leads to, unless it is refused
@@ -19,20 +27,38 @@ abbrev pub ◌>>=◌ : {A B : Type 0} → Result A Refusal → (A → Result B R
 abbrev pub at : List Held → ℕ → Held
 at slots s = slice_index_or slots s Nothing
 
--- a list that grows
+-- a list of booleans that grows
 abbrev pub growing : Held → Result (List Bool) Refusal
-growing Nothing = Err Kind
-growing (Frozen items) = Err Kind
 growing (Growing items) = Ok items
+growing _ = Err Kind
 
--- a frozen list
+-- a frozen list of booleans
 abbrev pub frozen : Held → Result (List Bool) Refusal
-frozen Nothing = Err Kind
 frozen (Frozen items) = Ok items
-frozen (Growing items) = Err Kind
+frozen _ = Err Kind
 
 -- a list of booleans, frozen or not
 abbrev pub listed : Held → Result (List Bool) Refusal
-listed Nothing = Err Kind
 listed (Frozen items) = Ok items
 listed (Growing items) = Ok items
+listed _ = Err Kind
+
+-- offsets that grow
+abbrev pub growing_offsets : Held → Result Offsets Refusal
+growing_offsets (GrowingOffsets o) = Ok o
+growing_offsets _ = Err Kind
+
+-- frozen offsets
+abbrev pub frozen_offsets : Held → Result Offsets Refusal
+frozen_offsets (FrozenOffsets o) = Ok o
+frozen_offsets _ = Err Kind
+
+-- offsets, frozen or not
+abbrev pub spelled_offsets : Held → Result Offsets Refusal
+spelled_offsets (FrozenOffsets o) = Ok o
+spelled_offsets (GrowingOffsets o) = Ok o
+spelled_offsets _ = Err Kind
+
+-- the list of offsets
+abbrev pub offset_list : Offsets → List ℕ
+offset_list o = offsets_list o.start o.lengths

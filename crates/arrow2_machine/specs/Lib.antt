@@ -1,6 +1,8 @@
 pub mod BitmapOutcomes
 pub mod Held
 pub mod Machine
+pub mod OffsetOutcomes
 pub mod Outcomes
 pub mod Replies
 pub mod Slots
+pub mod ValueOutcomes

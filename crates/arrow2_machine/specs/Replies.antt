@@ -1,17 +1,35 @@
 -- What the machine replies.
-use Rattle.std.specs.Prelude.{ℕ, Bool, List, [], ◌∷◌, codes, Option, Some, None}
+use Rattle.std.specs.Prelude.{ℕ, ℤ, unsigned_abs, Bool, true, false, List, [], ◌∷◌, codes, Option, Some, None}
+use Rattle.std.specs.List.{join_with_byte}
+use Rattle.std.specs.Fmt.{decimal}
 use Rattle.arrow2_script.specs.Words.{bit_byte}
 use Rattle.arrow2_machine.specs.declared.refusal.Refusal.{Refusal}
-use Rattle.arrow2_machine.specs.declared.refusal.Refusal.TheVariants.{Syntax, Kind, Range, Overflow}
+use Rattle.arrow2_machine.specs.declared.refusal.Refusal.TheVariants.{Syntax, Kind, Range, Length, Overflow}
 
 -- the reply to a line that is refused
 abbrev pub refused_text : Refusal → List ℕ
 refused_text Syntax = codes "error syntax"
 refused_text Kind = codes "error kind"
 refused_text Range = codes "error range"
+refused_text Length = codes "error length"
 refused_text Overflow = codes "error overflow"
 
 -- the reply that tells an item, or that there is none
 abbrev pub item_said : Option Bool → List ℕ
 item_said None = codes "none"
 item_said (Some item) = bit_byte item ∷ []
+
+-- the reply that lists words: joined by one space, `-` where there is none
+unfoldable pub words_text : List (List ℕ) → List ℕ
+words_text [] = codes "-"
+words_text (word ∷ words) = join_with_byte 32 (word ∷ words)
+
+-- the word that tells the length of a slot, or `null` where the slot is not valid
+abbrev pub slot_word : ℕ → Bool → List ℕ
+slot_word length true = decimal length
+slot_word length false = codes "null"
+
+-- the reply that tells an offset, or that there is none
+abbrev pub offset_said : Option ℤ → List ℕ
+offset_said None = codes "none"
+offset_said (Some offset) = decimal (unsigned_abs offset)

@@ -1,12 +1,16 @@
 -- What a slot of the program holds, as the machine of lists sees it.
+use Rattle.arrow2_model.specs.Buffers.{buffer_items}
+use Rattle.arrow2_model.specs.Offsets.{start_of, lengths_of}
 use Rattle.arrow2_model.specs.Storage.{items_of}
 use Rattle.arrow2_machine.specs.Held.{Held}
 use Rattle.arrow2_machine.specs.Held as machine
 use Rattle.arrow2_machine.specs.declared.slot.Contents.{Contents}
-use Rattle.arrow2_machine.specs.declared.slot.Contents.TheVariants.{Nothing, Frozen, Growing}
+use Rattle.arrow2_machine.specs.declared.slot.Contents.TheVariants.{Nothing, Frozen, Growing, FrozenOffsets, GrowingOffsets}
 
--- a bitmap is its list
+-- a bitmap is its list, and offsets are their first one and their lengths
 abbrev pub held_in : Contents → Held
 held_in Nothing = machine.Nothing
 held_in (Frozen bitmap) = machine.Frozen (items_of bitmap)
 held_in (Growing bitmap) = machine.Growing bitmap.items
+held_in (FrozenOffsets offsets) = machine.FrozenOffsets (record { start = start_of (buffer_items offsets); lengths = lengths_of (buffer_items offsets) })
+held_in (GrowingOffsets offsets) = machine.GrowingOffsets (record { start = offsets.start; lengths = offsets.lengths })

@@ -4,7 +4,7 @@ ghost use Rattle.arrow2_model.specs.Parts.{part};
 ghost use Rattle.arrow2_model.specs.Storage.{items_of};
 ghost use Rattle.arrow2_machine.specs.Held.{Nothing, Growing};
 ghost use Rattle.arrow2_machine.specs.Replies.{item_said};
-ghost use Rattle.arrow2_machine.specs.BitmapOutcomes.{pushed, popped, got, froze, thawed, copied, sliced, counted, item_text, bitmap_outcome};
+ghost use Rattle.arrow2_machine.specs.BitmapOutcomes.{pushed, popped, got, froze, thawed, sliced, counted, item_text, bitmap_outcome};
 ghost use Rattle.arrow2_machine.specs.Outcomes.{Gives, Fails};
 
 use crate::refusal::{CommandError, Refusal};
@@ -37,7 +37,6 @@ pub(crate) fn run(
         BitmapCommand::Get(slot, index) => return write_item(slots[slot.get()].get(index)?, reply),
         BitmapCommand::Freeze(slot) => slots[slot.get()].freeze()?,
         BitmapCommand::Thaw(slot) => slots[slot.get()].thaw()?,
-        BitmapCommand::Copy(from, to) => slots[to.get()] = slots[from.get()].copy()?,
         BitmapCommand::Slice(slot, offset, length) => slots[slot.get()].slice(offset, length)?,
         BitmapCommand::Count(slot) => return write_number(slots[slot.get()].count()?, reply),
         BitmapCommand::Bits(slot) => return slots[slot.get()].write_bits(reply),
@@ -106,9 +105,9 @@ impl Slot {
         ensures only { IfErr result (λ e. e ≢ CommandError.OutOfMemory) }
     {
         match &self.contents {
-            Contents::Nothing => Err(CommandError::Refused(Refusal::Kind)),
             Contents::Frozen(bitmap) => Ok(bitmap.get(index as usize)),
             Contents::Growing(bitmap) => Ok(item_at(bitmap, index)),
+            _ => Err(CommandError::Refused(Refusal::Kind)),
         }
     }
 
@@ -156,22 +155,6 @@ impl Slot {
         }
     }
 
-    /// A slot with the same frozen bitmap.
-    ///
-    /// # Errors
-    ///
-    /// `Kind` or `OutOfMemory`.
-    pub fn copy(&self) -> Result<Slot, CommandError>
-        ensures { Gives (λ slot. slot) result (copied self.now) }
-    {
-        match &self.contents {
-            Contents::Frozen(bitmap) => Ok(Slot {
-                contents: Contents::Frozen(bitmap.clone()?),
-            }),
-            _ => Err(CommandError::Refused(Refusal::Kind)),
-        }
-    }
-
     /// Cuts a frozen bitmap to its `length` items from item `offset` on. Takes no memory.
     ///
     /// # Errors
@@ -198,9 +181,9 @@ impl Slot {
         ensures only { IfErr result (λ e. e ≢ CommandError.OutOfMemory) }
     {
         match &self.contents {
-            Contents::Nothing => Err(CommandError::Refused(Refusal::Kind)),
             Contents::Frozen(bitmap) => Ok(bitmap.unset_bits()),
             Contents::Growing(bitmap) => Ok(bitmap.unset_bits()),
+            _ => Err(CommandError::Refused(Refusal::Kind)),
         }
     }
 
@@ -215,9 +198,9 @@ impl Slot {
         ensures err { IfErr result (λ e. e ≢ CommandError.OutOfMemory → out.new.items ≡ out.old.items) }
     {
         match &self.contents {
-            Contents::Nothing => return Err(CommandError::Refused(Refusal::Kind)),
             Contents::Frozen(bitmap) => write_items(bitmap.iter(), out)?,
             Contents::Growing(bitmap) => write_items(bitmap.iter(), out)?,
+            _ => return Err(CommandError::Refused(Refusal::Kind)),
         }
         Ok(())
     }

@@ -3,7 +3,9 @@
 
 mod bitmaps;
 pub mod machine;
+mod offsets;
 pub mod refusal;
 pub mod replay;
 mod replies;
 pub mod slot;
+mod values;

@@ -5,9 +5,9 @@ ghost use Rattle.arrow2_machine.specs.Held.{Nothing};
 ghost use Rattle.arrow2_machine.specs.Machine.{outcome, step};
 ghost use Rattle.arrow2_machine.specs.Outcomes.{Fails};
 
-use crate::bitmaps;
 use crate::refusal::{CommandError, Refusal};
 use crate::slot::Slot;
+use crate::{bitmaps, offsets, values};
 use arrow2_script::command::{Command, parse};
 use std::alloc::{AllocError, Global};
 use std::array;
@@ -52,6 +52,8 @@ impl Machine {
     {
         match command {
             Command::Bitmap(command) => bitmaps::run(&mut self.slots, alloc, command, reply),
+            Command::Offset(command) => offsets::run(&mut self.slots, alloc, command, reply),
+            Command::Value(command) => values::run(&mut self.slots, command, reply),
         }
     }
 

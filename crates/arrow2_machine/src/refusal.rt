@@ -12,9 +12,11 @@ pub enum Refusal {
     Syntax,
     /// A slot does not hold what the command asks for.
     Kind,
-    /// A range is not inside its list.
+    /// A range is not inside its list, or an offset is too great.
     Range,
-    /// A length would pass the greatest number.
+    /// Two lists are not of one length.
+    Length,
+    /// A length or an offset would pass the greatest number.
     Overflow,
 }
 
@@ -27,6 +29,7 @@ impl Refusal {
             Refusal::Syntax => b"error syntax",
             Refusal::Kind => b"error kind",
             Refusal::Range => b"error range",
+            Refusal::Length => b"error length",
             Refusal::Overflow => b"error overflow",
         }
     }

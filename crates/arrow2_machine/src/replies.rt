@@ -1,11 +1,13 @@
 //! The parts of replies.
-ghost use Rattle.std.specs.Prelude.{◌≡◌, ◌++◌, OnOk, IfErr};
+ghost use Rattle.std.specs.Prelude.{◌≡◌, ◌++◌, length, map, unsigned_abs, OnOk, IfErr};
 ghost use Rattle.std.specs.Fmt.{decimal};
+ghost use Rattle.std.specs.List.{zip};
 ghost use Rattle.arrow2_script.specs.Words.{bit_byte as byte_of, bits_text};
-ghost use Rattle.arrow2_machine.specs.Replies.{item_said};
+ghost use Rattle.arrow2_machine.specs.Replies.{item_said, offset_said, slot_word, words_text};
 
 use crate::refusal::CommandError;
 use arrow2_bits::iterator::BitmapIter;
+use arrow2_offset::Lengths;
 use std::alloc::AllocError;
 
 /// The byte of a bit in a text of bits.
@@ -48,6 +50,80 @@ pub(crate) fn write_items(items: BitmapIter<'_>, out: &mut Vec<u8>) -> Result<()
     out.push(bit_byte(first))?;
     for item in items {
         out.push(bit_byte(item))?;
+    }
+    Ok(())
+}
+
+/// Appends the digits of a number without its sign, which an offset doesn't have.
+fn write_magnitude(number: &i32, out: &mut Vec<u8>) -> Result<(), CommandError>
+    ensures ok { OnOk result (out.new.items ≡ out.old.items ++ decimal (unsigned_abs number.now)) }
+    ensures only { IfErr result (λ e. e ≡ CommandError.OutOfMemory) }
+{
+    write_number(number.unsigned_abs() as usize, out)
+}
+
+/// Appends the reply that tells an offset, or that there is none.
+pub(crate) fn write_offset(offset: Option<i32>, reply: &mut Vec<u8>) -> Result<(), CommandError>
+    ensures ok { OnOk result (reply.new.items ≡ reply.old.items ++ offset_said offset) }
+    ensures only { IfErr result (λ e. e ≡ CommandError.OutOfMemory) }
+{
+    match offset {
+        Some(offset) => write_magnitude(&offset, reply)?,
+        None => reply.extend_from_slice(b"none")?,
+    }
+    Ok(())
+}
+
+/// Appends the text of a list of offsets.
+#[tactic(auto, unfolding(crate::specs::Replies::words_text))]
+pub(crate) fn write_offsets(offsets: &[i32], out: &mut Vec<u8>) -> Result<(), CommandError>
+    ensures ok { OnOk result (out.new.items ≡ out.old.items ++ words_text (map (λ x. decimal (unsigned_abs x)) offsets.now)) }
+    ensures only { IfErr result (λ e. e ≡ CommandError.OutOfMemory) }
+{
+    let Some((first, others)) = offsets.split_first() else {
+        out.extend_from_slice(b"-")?;
+        return Ok(());
+    };
+    write_magnitude(first, out)?;
+    for offset in others {
+        out.push(b' ')?;
+        write_magnitude(offset, out)?;
+    }
+    Ok(())
+}
+
+/// Appends the word that tells the length of a slot, or `null` where the slot is not valid.
+fn write_slot(length: usize, valid: bool, out: &mut Vec<u8>) -> Result<(), CommandError>
+    ensures ok { OnOk result (out.new.items ≡ out.old.items ++ slot_word length valid) }
+    ensures only { IfErr result (λ e. e ≡ CommandError.OutOfMemory) }
+{
+    if valid {
+        write_number(length, out)
+    } else {
+        out.extend_from_slice(b"null")?;
+        Ok(())
+    }
+}
+
+/// Appends the text of slots, of which some are valid.
+pub(crate) fn write_slots(
+    lengths: Lengths<'_, i32>,
+    validity: BitmapIter<'_>,
+    out: &mut Vec<u8>,
+) -> Result<(), CommandError>
+    requires { length lengths ≡ length validity }
+    ensures ok { OnOk result (out.new.items ≡ out.old.items ++ words_text (map (λ p. slot_word p.0 p.1) (zip lengths.entry validity.entry))) }
+    ensures only { IfErr result (λ e. e ≡ CommandError.OutOfMemory) }
+{
+    let mut slots = lengths.zip(validity);
+    let Some((length, valid)) = slots.next() else {
+        out.extend_from_slice(b"-")?;
+        return Ok(());
+    };
+    write_slot(length, valid, out)?;
+    for (length, valid) in slots {
+        out.push(b' ')?;
+        write_slot(length, valid, out)?;
     }
     Ok(())
 }

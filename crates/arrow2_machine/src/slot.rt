@@ -4,6 +4,7 @@ ghost use Rattle.arrow2_machine.specs.Held.{Nothing};
 
 use arrow2_bitmap::immutable::Bitmap;
 use arrow2_bitmap::mutable::MutableBitmap;
+use arrow2_offset::{Offsets, OffsetsBuffer};
 use std::marker::Model;
 
 /// What a slot holds.
@@ -12,6 +13,8 @@ pub(crate) enum Contents {
     Nothing,
     Frozen(Bitmap),
     Growing(MutableBitmap),
+    FrozenOffsets(OffsetsBuffer<i32>),
+    GrowingOffsets(Offsets<i32>),
 }
 
 /// A slot, which contracts see as what it holds in the machine of lists.

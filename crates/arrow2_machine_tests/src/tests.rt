@@ -123,6 +123,50 @@ fn scripts(rt: HostRuntime) -> Result<(), Fail> {
 }
 
 #[test]
+fn scripts_of_offsets(rt: HostRuntime) -> Result<(), Fail> {
+    let rows: [(&[u8], &[u8]); 8] = [
+        (
+            b"onew 0 5\nopush 0 3\noext 0 0,4\nolist 0\nopush 0 2147483647\nopop 0\nofreeze 0\noslice 0 1 2\nolist 0\nnew 1 0\nfreeze 1\nzip 0 1\n",
+            b"ok\nok\nok\n5 8 8 12\nerror overflow\n12\nok\nok\n8 8\nok\nok\nnull\n",
+        ),
+        (
+            b"onew 0 0\noext 0 1,18446744073709551615\nolist 0\noext 0 -\noext 0 2147483647\nopush 0 0\nolist 0\nopush 0 1\n",
+            b"ok\nerror overflow\n0\nok\nok\nok\n0 2147483647 2147483647\nerror overflow\n",
+        ),
+        (
+            b"onew 0 5\noext 0 3,0,4\nofreeze 0\nnew 1 101\nfreeze 1\nzip 0 1\noslice 0 0 0\ncopy 0 2\neq 0 2\n",
+            b"ok\nok\nok\nok\nok\n3 null 4\nerror range\nok\n1\n",
+        ),
+        (
+            b"onew 0 2147483648\nopop 0\nonew 0 2147483647\nopop 0\nopush 0 18446744073709551615\nopush 0 1\nolist 0\n",
+            b"error range\nerror kind\nok\nnone\nerror overflow\nerror overflow\n2147483647\n",
+        ),
+        (
+            b"onew 0 1\noext 0 ,\noext 0 1,,2\noext 0 -,1\noext 0 01\noext 0 18446744073709551616\nonew 16 0\nzip 0\nolist 0 0\neq 0 16\noslice 0 0 -\n",
+            b"ok\nerror syntax\nerror syntax\nerror syntax\nerror syntax\nerror syntax\nerror syntax\nerror syntax\nerror syntax\nerror syntax\nerror syntax\n",
+        ),
+        (
+            b"onew 0 7\noslice 0 0 0\nolist 1\nzip 0 1\nofreeze 0\nofreeze 0\nopush 0 9\noext 0 1\nopop 0\nzip 0 1\nnew 1 1\nzip 0 1\nfreeze 1\nzip 1 0\nzip 0 1\noslice 0 1 1\noslice 0 0 2\noslice 0 0 1\nslice 1 0 0\nzip 0 1\nolist 0\n",
+            b"ok\nerror kind\nerror kind\nerror kind\nok\nerror kind\nerror kind\nerror kind\nerror kind\nerror kind\nok\nerror kind\nok\nerror kind\nerror length\nerror range\nerror range\nok\nok\n-\n7\n",
+        ),
+        (
+            b"eq 0 0\nnew 0 01\nnew 1 01\neq 0 1\npush 1 0\neq 0 1\nfreeze 1\neq 0 1\nslice 1 0 2\nfreeze 0\neq 0 1\nslice 1 1 1\neq 1 0\n",
+            b"error kind\nok\nok\n1\nok\n0\nok\nerror kind\nok\nok\n1\nok\n0\n",
+        ),
+        (
+            b"onew 0 1\nonew 1 1\ncopy 0 1\neq 0 1\nopush 1 2\neq 0 1\nofreeze 1\neq 0 1\nofreeze 0\neq 0 1\noslice 1 0 1\neq 1 0\nnew 2 -\nfreeze 2\neq 0 2\ncopy 2 0\nbits 0\n",
+            b"ok\nok\nerror kind\n1\nok\n0\nok\nerror kind\nok\n0\nok\n1\nok\nok\nerror kind\nok\n-\n",
+        ),
+    ];
+    for (script, replies) in rows {
+        let (out, result) = told(rt.alloc(), script, Vec::new(rt.alloc()));
+        assert_eq!(&rt; result, Ok(()));
+        assert_eq!(&rt; out.as_slice(), replies);
+    }
+    Ok(())
+}
+
+#[test]
 fn long_line(rt: HostRuntime) -> Result<(), Fail> {
     let script = repeated(rt.alloc(), b'x', 1_000_000)?;
     let (out, result) = told(rt.alloc(), script.as_slice(), Vec::new(rt.alloc()));

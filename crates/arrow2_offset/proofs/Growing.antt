@@ -1,7 +1,7 @@
 -- Vectors of offsets as their numbers: what growing and cutting leaves.
 use Rattle.std.proofs.Common.{◌≡◌, ℕ, zero, suc, ◌+◌, ◌-◌, ◌<◌, ◌≤◌, List, [], ◌∷◌, ◌++◌, map, length, sum, take, drop, get_or, replicate, Bool, false, ap, sym, ◌∙◌, refl, arith, add-one}
 use Rattle.std.specs.Prelude.{ℤ, pos, ◌≤ℤ◌, ◌-ℤ◌, unsigned_abs}
-use Rattle.std.specs.Int.{w64}
+use Rattle.std.specs.Int.{w64 as as_i64}
 use Rattle.std.specs.Int.Signed.{lt_z}
 use Rattle.std.proofs.Common.{to_z, of_z}
 use Rattle.std.proofs.lemmas.Int.{ints}
@@ -78,13 +78,13 @@ up_to max xs start ns h l =
 pub list_up_to : (max : ℕ) (xs : List ℤ) (start : ℕ) (ns : List ℕ) → xs ≡ map pos (offsets_list start ns) → start + sum ns ≤ max → AreOffsetsUpTo max xs
 list_up_to max xs start ns e within = up_to max xs start ns (spells xs start ns e) within
 
-tested : (n : ℕ) → n ≤ 9223372036854775807 → lt_z (to_z w64 (of_z w64 (pos 2147483647))) (to_z w64 (of_z w64 (pos n))) ≡ false → n ≤ 2147483647
+tested : (n : ℕ) → n ≤ 9223372036854775807 → lt_z (to_z as_i64 (of_z as_i64 (pos 2147483647))) (to_z as_i64 (of_z as_i64 (pos n))) ≡ false → n ≤ 2147483647
 tested n h t = grind (arith, ints)
 
 -- a last offset that was tested against the greatest one of 32 bits
-pub tested_last : (n : ℕ) (x y : ℤ) → x ≡ pos 2147483647 → y ≡ pos n → n ≤ 9223372036854775807 → lt_z (to_z w64 (of_z w64 x)) (to_z w64 (of_z w64 y)) ≡ false → n ≤ 2147483647
+pub tested_last : (n : ℕ) (x y : ℤ) → x ≡ pos 2147483647 → y ≡ pos n → n ≤ 9223372036854775807 → lt_z (to_z as_i64 (of_z as_i64 x)) (to_z as_i64 (of_z as_i64 y)) ≡ false → n ≤ 2147483647
 tested_last n x y e f h t =
-    let below : ℤ → ℤ → Bool = λ a b. lt_z (to_z w64 (of_z w64 a)) (to_z w64 (of_z w64 b)) in
+    let below : ℤ → ℤ → Bool = λ a b. lt_z (to_z as_i64 (of_z as_i64 a)) (to_z as_i64 (of_z as_i64 b)) in
     tested n h (ap (λ z. below (pos 2147483647) z) (sym f) ∙ (ap (λ z. below z y) (sym e) ∙ t))
 
 -- the list of a whole buffer of tested offsets
@@ -160,6 +160,13 @@ module _ {X : Type 0} (value : X → ℤ) where
       let t : pos total ≡ pos (last_of xs) -ℤ pos (start_of xs) = e ∙ (ap (λ z. z -ℤ value a) (value_last items b (length items) h refl is-b) ∙ ap (λ z. pos (last_of xs) -ℤ z) first) in
       let u : total + start_of xs ≡ last_of xs = omega (arith, ints, t) in
       omega arith
+
+  -- what is inside the numbers of a buffer is inside its items
+  pub same_inside : (b : BufferStorage X) (numbers : BufferStorage ℤ) (n : ℕ) → numbers_of value b ≡ numbers → n ≤ length (buffer_items numbers) → n ≤ length (buffer_items b)
+  same_inside b numbers n is within =
+      let long = ap length (part-map value b.storage b.offset b.len) in
+      let m = length-map (buffer_items b) value in
+      omega (arith, ap (λ c. length (buffer_items c)) is, long, m, within)
 
   -- a part of the offsets of a buffer
   pub part_of : (max : ℕ) (b c : BufferStorage X) (a n : ℕ) → AreOffsetsUpTo max (buffer_items (numbers_of value b)) → buffer_items c ≡ part (buffer_items b) a n → 0 < n → a + n ≤ length (buffer_items b) → AreOffsetsUpTo max (buffer_items (numbers_of value c)) × (start_of (buffer_items (numbers_of value c)) ≡ offset_at (start_of (buffer_items (numbers_of value b))) (lengths_of (buffer_items (numbers_of value b))) a) × (lengths_of (buffer_items (numbers_of value c)) ≡ part (lengths_of (buffer_items (numbers_of value b))) a (n - 1))

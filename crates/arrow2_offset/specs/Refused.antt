@@ -1,14 +1,7 @@
 -- How calls on offsets refuse.
 use Rattle.std.specs.Prelude.{◌≡◌, ℕ, ℤ, pos, negsuc, List, [], ◌∷◌, codes, string_bytes}
 use Rattle.arrow2_types.specs.declared.error.Error.{Error}
-use Rattle.arrow2_types.specs.declared.error.Error.TheVariants.{Overflow, OutOfSpec, OutOfMemory}
-use Rattle.arrow2_offset.specs.declared.refusal.Refusal.{Refusal}
-use Rattle.arrow2_offset.specs.declared.refusal.Refusal.TheVariants as refusal
-
--- the error that a refused growth becomes
-abbrev pub error_of : Refusal → Error
-error_of refusal.Overflow = Overflow
-error_of refusal.OutOfMemory = OutOfMemory
+use Rattle.arrow2_types.specs.declared.error.Error.TheVariants.{OutOfSpec, OutOfMemory}
 
 -- the words for a list that is not offsets: those of the first rule that it breaks
 abbrev pub why_not_offsets : List ℤ → List ℕ

@@ -62,8 +62,7 @@ impl<'a> TryFrom<&'a OffsetsBuffer<i32>> for OffsetsBuffer<i64> {
     ghost try_from_gives = { λ offsets r. MatchResult r (λ b. (b ≡ whole_buffer (buffer_items offsets.now)) × (last_of (buffer_items offsets.now) ≤ 2147483647)) (λ e. e ≡ OutOfMemory) };
 
     fn try_from(offsets: &'a OffsetsBuffer<i32>) -> Result<Self> {
-        let alloc = *offsets.buffer().empty_vec().allocator();
-        let wide = widened(alloc, offsets.as_slice())?;
+        let wide = widened(offsets.buffer().allocator(), offsets.as_slice())?;
         OffsetsBuffer::try_from(Offsets::of_vec(wide))
     }
 }
@@ -82,8 +81,7 @@ impl<'a> TryFrom<&'a OffsetsBuffer<i64>> for OffsetsBuffer<i32> {
         if *offsets.last() > i64::from(i32::MAX) {
             return Err(Error::Overflow);
         }
-        let alloc = *offsets.buffer().empty_vec().allocator();
-        let narrow = narrowed(alloc, offsets.as_slice())?;
+        let narrow = narrowed(offsets.buffer().allocator(), offsets.as_slice())?;
         OffsetsBuffer::try_from(Offsets::of_vec(narrow))
     }
 }

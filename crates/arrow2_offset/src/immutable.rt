@@ -1,5 +1,5 @@
 //! Offsets that are shared.
-ghost use Rattle.std.specs.Prelude.{◌≡◌, ◌+◌, ◌-◌, ◌<◌, ◌≤◌, ◌↔◌, ⊤, [], ◌∷◌, length, map, sum, MatchResult, pos, slice_index_or, IfOk, IfErr, IsTrue};
+ghost use Rattle.std.specs.Prelude.{◌≡◌, ◌+◌, ◌-◌, ◌<◌, ◌≤◌, ◌↔◌, ⊤, [], ◌∷◌, length, length as count_of, map, sum, MatchResult, pos, slice_index_or, IfOk, IfErr, IsTrue, nat_eq};
 ghost use Rattle.std.specs.Ordering.{on, int_eq};
 ghost use Rattle.std.specs.Cmp.{partial_equiv_from_equiv, int_eq_equiv, on_equiv};
 ghost use Rattle.std.specs.Cmp.Lexicographic.{pointwise, lists_equiv};
@@ -93,6 +93,7 @@ impl<O: Offset> OffsetsBuffer<O> {
     pub fn len(&self) -> usize
         ensures value { result ≡ self.now.len }
         ensures offsets { result ≡ length (buffer_items self.now) }
+        ensures slots { result ≡ length (lengths_of (buffer_items self.now)) + 1 }
         ensures some { 0 < result }
     {
         self.buffer.len()
@@ -151,10 +152,11 @@ impl<O: Offset> OffsetsBuffer<O> {
 
     /// Keeps `length` offsets from offset `offset` on, over the same storage. Takes no memory.
     ///
-    /// Asks that `length` is above 0, and that `offset + length` is at most [`OffsetsBuffer::len`].
+    /// Asks that `length` is above 0, and that they are inside: `offset + length` is at most
+    /// [`OffsetsBuffer::len`].
     pub fn slice(&mut self, offset: usize, length: usize)
         requires some { 0 < length }
-        requires within { offset + length ≤ self.old.len }
+        requires inside { offset + length ≤ count_of (buffer_items self.old) }
         ensures offsets { buffer_items self.new ≡ part (buffer_items self.old) offset length }
         ensures storage { self.new ≡ record self.old { offset = self.old.offset + offset; len = length } }
         ensures start { start_of (buffer_items self.new) ≡ offset_at (start_of (buffer_items self.old)) (lengths_of (buffer_items self.old)) offset }
@@ -192,8 +194,7 @@ impl<O: Offset> TryFrom<Buffer<O>> for OffsetsBuffer<O> {
     ghost try_from_gives = { λ buffer r. MatchResult r (λ b. AreOffsets (buffer_items b) × (b ≡ numbers_of O.value buffer)) (λ e. (AreOffsets (map O.value (buffer_items buffer)) → ⊥) × IsOutOfSpec e (why_not_offsets (map O.value (buffer_items buffer)))) };
 
     fn try_from(buffer: Buffer<O>) -> Result<Self> {
-        let alloc = *buffer.empty_vec().allocator();
-        try_check_offsets(alloc, buffer.as_slice())?;
+        try_check_offsets(buffer.allocator(), buffer.as_slice())?;
         Ok(OffsetsBuffer { buffer })
     }
 }
@@ -253,6 +254,7 @@ impl<O: Offset> PartialEq for OffsetsBuffer<O> {
     fn eq(&self, other: &Self) -> bool
         ensures value { result ≡ on buffer_items (pointwise int_eq) self.now other.now }
         ensures lists { IsTrue result ↔ (buffer_items self.now ≡ buffer_items other.now) }
+        ensures spelled { result ≡ pointwise nat_eq (offsets_list (start_of (buffer_items self.now)) (lengths_of (buffer_items self.now))) (offsets_list (start_of (buffer_items other.now)) (lengths_of (buffer_items other.now))) }
     {
         self.as_slice() == other.as_slice()
     }

@@ -7,7 +7,6 @@ pub mod immutable;
 pub mod iterator;
 pub mod laws;
 pub mod mutable;
-mod refusal;
 
 pub use immutable::OffsetsBuffer;
 pub use iterator::Lengths;

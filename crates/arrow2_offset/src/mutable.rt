@@ -1,5 +1,5 @@
 //! Offsets that grow.
-ghost use Rattle.std.specs.Prelude.{◌≡◌, ◌+◌, ◌-◌, ◌<◌, ◌≤◌, ◌^◌, ◌≤ℤ◌, ◌↔◌, ◌⊎◌, [], ◌∷◌, ◌++◌, length, map, sum, take, pos, replicate, slice_index_or, unsigned_abs, OnOk, OnErr, IsOk, IfOk, IfErr, IsErrOf, IsTrue, MatchOption, MatchResult, vec_capacity};
+ghost use Rattle.std.specs.Prelude.{◌≡◌, ◌+◌, ◌-◌, ◌<◌, ◌≤◌, ◌^◌, ◌≤ℤ◌, ◌↔◌, ◌⊎◌, [], ◌∷◌, ◌++◌, length, length as count_of, map, sum, take, pos, replicate, slice_index_or, unsigned_abs, OnOk, OnErr, IsOk, IfOk, IfErr, IsErrOf, IsTrue, MatchOption, MatchResult, vec_capacity};
 ghost use Rattle.std.specs.Iterator.{IsFinite};
 ghost use Rattle.std.specs.Iterator.Runs.{WholeRun};
 ghost use Rattle.std.specs.Ordering.{on};
@@ -12,14 +12,14 @@ ghost use Rattle.arrow2_model.specs.Offsets.{AreOffsets, offset_at, AreOffsetsUp
 ghost use Rattle.arrow2_offset.specs.Collected.{GivesPast};
 ghost use Rattle.arrow2_offset.specs.Made.{made_of};
 ghost use Rattle.arrow2_offset.specs.Refused.{IsOutOfSpec, why_not_offsets};
-ghost use Rattle.arrow2_offset.specs.declared.refusal.Refusal.TheVariants as refusal;
+ghost use Rattle.arrow2_types.specs.declared.refusal.Refusal.TheVariants as refusal;
 
 use crate::check::try_check_offsets;
 use crate::immutable::OffsetsBuffer;
 use crate::iterator::Lengths;
-use crate::refusal::Refusal;
 use arrow2_index::offset::Offset;
 use arrow2_types::error::{Error, Result};
+use arrow2_types::refusal::Refusal;
 use std::alloc::{AllocError, Global};
 use std::marker::Model;
 
@@ -264,7 +264,7 @@ impl<O: Offset> Offsets<O> {
         start: usize,
         length: usize,
     ) -> Result<()>
-        requires { (length ≡ 0) ⊎ (start + length < other.now.len) }
+        requires inside { (length ≡ 0) ⊎ (start + length < count_of (buffer_items other.now)) }
         ensures ok { OnOk result (GrownBy (part (lengths_of (buffer_items other.now)) start length) self.old self.new) }
         ensures err { OnErr result (SameOffsets self.old self.new) }
         ensures overflow { IsErrOf result Error.Overflow ↔ (O.MAX < last_of_growing self.old + sum (part (lengths_of (buffer_items other.now)) start length)) }

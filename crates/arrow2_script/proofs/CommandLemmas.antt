@@ -1,48 +1,107 @@
 -- Each line is one command at most, and each command is spelled in one way.
-use Rattle.std.proofs.Common.{◌≡◌, ◌∙◌, sym, ap, refl, ◌<◌, ℕ, List, [], ◌∷◌, length, Bool, true, false, cond, inl, inr, arith}
+use Rattle.std.proofs.Common.{◌≡◌, ◌∙◌, sym, ap, refl, ◌<◌, ℕ, List, [], ◌∷◌, length, Bool, true, false, cond, ◌⊎◌, inl, inr, arith}
 use Rattle.std.specs.Prelude.{Option, Some, None, option_map}
+use Rattle.std.specs.Option.{option_or}
 use Rattle.std.specs.List.{list_any, list_all}
 use Rattle.std.proofs.lemmas.Option.{same_Some, none-some}
 use Rattle.arrow2_script.specs.Lines.{parts_of, words_of, is_blank}
-use Rattle.arrow2_script.specs.BitmapCommands.{bitmap_named}
+use Rattle.arrow2_script.specs.BitmapCommands.{bitmap_named, bitmap_words}
+use Rattle.arrow2_script.specs.OffsetCommands.{offset_named, offset_words}
+use Rattle.arrow2_script.specs.ValueCommands.{value_named, value_words}
+use Rattle.arrow2_script.specs.declared.offset_command.OffsetCommand.{OffsetCommand}
+use Rattle.arrow2_script.specs.declared.offset_command.OffsetCommand.TheVariants.{New, Push, Pop, Extend, Offsets, Freeze, Slice, Zip}
+use Rattle.arrow2_script.specs.declared.value_command.ValueCommand.{ValueCommand}
+use Rattle.arrow2_script.specs.declared.value_command.ValueCommand.TheVariants.{Copy, Compare}
 use Rattle.arrow2_script.specs.Commands.{named, command_of, command_in, command_words, Fits}
 use Rattle.arrow2_script.specs.declared.command.Command.{Command}
-use Rattle.arrow2_script.specs.declared.command.Command.TheVariants.{Bitmap}
+use Rattle.arrow2_script.specs.declared.command.Command.TheVariants.{Bitmap, Offset, Value}
 use Rattle.arrow2_script.proofs.WordLemmas.{some_or_none}
 use Rattle.arrow2_script.proofs.SpellingLemmas.{is_word, words_there}
 use Rattle.arrow2_script.proofs.BitmapCommandLemmas.{bitmap_says, bitmap_of, bitmap_of-words, bitmap_words_pass, some_bitmap_words}
+use Rattle.arrow2_script.proofs.OffsetCommandLemmas.{offset_says, offset_of, offset_of-words, offset_words_pass, some_offset_words}
+use Rattle.arrow2_script.proofs.ValueCommandLemmas.{value_says, value_of, value_of-words, value_words_pass, some_value_words}
+use Rattle.arrow2_script.proofs.KindLemmas.{same_says}
 
 -- what a value was mapped from
 mapped : {A B : Type 0} (f : A → B) (o : Option A) (y : B) → option_map f o ≡ Some y → (x : A) × (o ≡ Some x) × (f x ≡ y)
 mapped f None y e = absurd (none-some y e)
 mapped f (Some x) y e = (x, refl, same_Some (f x) y e)
 
+-- a value that is one of two
+either_way : {A : Type 0} (a b : Option A) (y : A) → option_or a b ≡ Some y → (a ≡ Some y) ⊎ (b ≡ Some y)
+either_way None b y e = inr e
+either_way (Some x) b y e = inl e
+
 -- words that say a command are its words
+abbrev Says : List ℕ → List (List ℕ) → Command → Type 0
+Says name words command = Fits command × (name ∷ words ≡ command_words command)
+
+named_says : (name : List ℕ) (words : List (List ℕ)) (command : Command) → named name words ≡ Some command → Says name words command
+unfolding named
+named_says name words command e = elim (either_way (option_map Bitmap (bitmap_named name words)) _ command e) [
+  | inl q ↦
+      let p = mapped Bitmap (bitmap_named name words) command q in
+      same_says (λ c. Says name words c) (Bitmap p.0) command p.2 (bitmap_says name words p.0 p.1)
+  | inr e ↦ elim (either_way (option_map Offset (offset_named name words)) _ command e) [
+    | inl q ↦
+        let p = mapped Offset (offset_named name words) command q in
+        same_says (λ c. Says name words c) (Offset p.0) command p.2 (offset_says name words p.0 p.1)
+    | inr q ↦
+        let p = mapped Value (value_named name words) command q in
+        same_says (λ c. Says name words c) (Value p.0) command p.2 (value_says name words p.0 p.1)
+  ]
+]
+
 pub command_says : (words : List (List ℕ)) (command : Command) → command_of words ≡ Some command → Fits command × (words ≡ command_words command)
-unfolding command_of named
+unfolding command_of
 command_says [] command e = absurd (none-some command e)
-command_says (name ∷ words) (Bitmap command) e =
-    let p = mapped Bitmap (bitmap_named name words) (Bitmap command) e in
-    let same : p.0 ≡ command = cc in
-    bitmap_says name words command (rw (← same) p.1)
+command_says (name ∷ words) command e = named_says name words command e
+
+-- the words of one kind say no command of another
+offset_no_bitmap : (command : OffsetCommand) → bitmap_of (offset_words command) ≡ None
+unfolding bitmap_named
+offset_no_bitmap (New slot first) = refl
+offset_no_bitmap (Push slot length) = refl
+offset_no_bitmap (Pop slot) = refl
+offset_no_bitmap (Extend slot lengths) = refl
+offset_no_bitmap (Offsets slot) = refl
+offset_no_bitmap (Freeze slot) = refl
+offset_no_bitmap (Slice slot first count) = refl
+offset_no_bitmap (Zip offsets validity) = refl
+
+value_no_bitmap : (command : ValueCommand) → bitmap_of (value_words command) ≡ None
+unfolding bitmap_named
+value_no_bitmap (Copy from to) = refl
+value_no_bitmap (Compare left right) = refl
+
+value_no_offset : (command : ValueCommand) → offset_of (value_words command) ≡ None
+unfolding offset_named
+value_no_offset (Copy from to) = refl
+value_no_offset (Compare left right) = refl
 
 -- words that are there, read by kind
-of_bitmap : (words : List (List ℕ)) → 0 < length words → command_of words ≡ option_map Bitmap (bitmap_of words)
+by_kind : (words : List (List ℕ)) → 0 < length words → command_of words ≡ option_or (option_map Bitmap (bitmap_of words)) (option_or (option_map Offset (offset_of words)) (option_map Value (value_of words)))
 unfolding command_of named
-of_bitmap [] some = absurd (omega arith)
-of_bitmap (name ∷ words) some = refl
+by_kind [] some = absurd (omega arith)
+by_kind (name ∷ words) some = refl
 
 -- a command has words
 pub some_words : (command : Command) → 0 < length (command_words command)
 some_words (Bitmap command) = some_bitmap_words command
+some_words (Offset command) = some_offset_words command
+some_words (Value command) = some_value_words command
 
 -- the words of a command say it
 pub command_of-words : (command : Command) → Fits command → command_of (command_words command) ≡ Some command
-command_of-words (Bitmap command) fits = rw (of_bitmap (command_words (Bitmap command)) (some_bitmap_words command), bitmap_of-words command fits) refl
+command_of-words (Bitmap command) fits = rw (by_kind (bitmap_words command) (some_bitmap_words command), bitmap_of-words command fits) refl
+command_of-words (Offset command) fits = rw (by_kind (offset_words command) (some_offset_words command), offset_no_bitmap command, offset_of-words command fits) refl
+command_of-words (Value command) fits = rw (by_kind (value_words command) (some_value_words command), value_no_bitmap command, value_no_offset command, value_of-words command fits) refl
 
 -- they are words
 pub command_words_pass : (command : Command) → Fits command → list_all is_word (command_words command) ≡ true
 command_words_pass (Bitmap command) fits = bitmap_words_pass command fits
+command_words_pass (Offset command) fits = offset_words_pass command fits
+command_words_pass (Value command) fits = value_words_pass command fits
 
 -- parts of which one is blank say no command
 blank_says_none : (parts : List (List ℕ)) → list_any is_blank parts ≡ true → command_of parts ≡ None

@@ -1,13 +1,13 @@
 -- The laws of the script's grammar.
-use Rattle.std.proofs.Common.{◌≡◌, ◌≢◌, ◌∙◌, sym, ap, refl, subst, ◌<◌, ℕ, suc, List, [], ◌∷◌, ◌++◌, length, Bool, true, false, cond, ◌&&◌, ◌||◌, not, ◌⊎◌, inl, inr, arith, eqb, append_assoc}
+use Rattle.std.proofs.Common.{◌≡◌, ◌≢◌, ◌∙◌, sym, ap, refl, subst, ◌<◌, ℕ, suc, List, [], ◌∷◌, ◌++◌, length, Bool, true, false, cond, ◌||◌, not, ◌⊎◌, inl, inr, arith, eqb, append_assoc}
 use Rattle.std.specs.Prelude.{Some, ◌↔◌}
 use Rattle.std.specs.List.{All, flat_map, list_any, list_all, slice_split, onto_first, join_with_byte}
 use Rattle.std.proofs.lemmas.List.Elements.{All-cons, All-nil}
 use Rattle.std.proofs.lemmas.List.Splits.{join_with_byte-slice_split}
-use Rattle.arrow2_script.specs.Lines.{lines_of, parts_of, words_of, is_blank, closed, ended, IsLine, AreLines, IsWord, AreWords}
+use Rattle.arrow2_script.specs.Lines.{lines_of, parts_of, parts_between, words_of, is_blank, closed, ended, IsLine, AreLines, IsWord, AreWords}
 use Rattle.arrow2_script.specs.Commands.{command_of, command_in, command_words, IsSpelling}
 use Rattle.arrow2_script.specs.declared.command.Command.{Command}
-use Rattle.arrow2_script.proofs.LineLemmas.{lines_of-cut, parts_of-cut, parts_of-last}
+use Rattle.arrow2_script.proofs.LineLemmas.{lines_of-cut, parts-joined}
 use Rattle.arrow2_script.proofs.SpellingLemmas.{is_word, both, not_true, filled}
 use Rattle.arrow2_script.proofs.CommandLemmas.{command_says, command_of-words, command_words_pass, some_words}
 
@@ -146,16 +146,12 @@ words_if true line e some = absurd (omega arith)
 words_if false line e some = (some, all_words (slice_split (λ b. eqb b 32) line) (sym e) (parts_free line), join_with_byte-slice_split 32 line)
 
 pub words_are : (line : List ℕ) → 0 < length (words_of line) → AreWords line (words_of line)
-unfolding words_of parts_of
+unfolding words_of parts_between
 words_are line some = words_if (list_any is_blank (slice_split (λ b. eqb b 32) line)) line refl some
 
 -- the parts of words that are joined are the words
 parts_again : (words : List (List ℕ)) → 0 < length words → All IsWord words → parts_of (join_with_byte 32 words) ≡ words
-parts_again [] some all = absurd (omega arith)
-parts_again (word ∷ []) some all = parts_of-last word (parts_all IsWord word [] all).0.1
-parts_again (word ∷ other ∷ words) some all =
-    let p = parts_all IsWord word (other ∷ words) all in
-    parts_of-cut word (join_with_byte 32 (other ∷ words)) p.0.1 ∙ ap (λ t. word ∷ t) (parts_again (other ∷ words) (omega arith) p.1)
+parts_again words some all = parts-joined 32 words some (λ k d h. (all k d h).1)
 
 none_blank : (words : List (List ℕ)) → All IsWord words → list_any is_blank words ≡ false
 none_blank [] all = refl

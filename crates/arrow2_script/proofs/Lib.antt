@@ -1,7 +1,11 @@
 pub mod ArgumentLemmas
 pub mod BitmapCommandLemmas
 pub mod CommandLemmas
+pub mod KindLemmas
 pub mod LawLemmas
 pub mod LineLemmas
+pub mod NumberListLemmas
+pub mod OffsetCommandLemmas
 pub mod SpellingLemmas
+pub mod ValueCommandLemmas
 pub mod WordLemmas

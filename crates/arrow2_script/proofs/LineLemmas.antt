@@ -1,8 +1,9 @@
 -- Lines and words, cut from the front.
 use Rattle.std.proofs.Common.{◌≡◌, ◌≢◌, ◌∙◌, ap, refl, ◌<◌, ℕ, suc, List, [], ◌∷◌, ◌++◌, length, get_or, false, arith, eqb}
-use Rattle.std.specs.List.{All}
+use Rattle.std.specs.List.{All, join_with_byte}
+use Rattle.std.proofs.lemmas.Bool.{eq-eqb}
 use Rattle.std.proofs.lemmas.List.Splits.{slice_split_none, slice_split_at}
-use Rattle.arrow2_script.specs.Lines.{lines_of, parts_of}
+use Rattle.arrow2_script.specs.Lines.{lines_of, parts_between}
 
 -- a byte that is not another is told apart by the test
 other : (a b : ℕ) → a ≢ b → eqb a b ≡ false
@@ -36,13 +37,19 @@ lines_of-last b (c ∷ line) all =
 tests : (c : ℕ) (bytes : List ℕ) → All (λ b. b ≢ c) bytes → All (λ b. eqb b c ≡ false) bytes
 tests c bytes all k d h = other (get_or bytes k d) c (all k d h)
 
-pub parts_of-cut : (part rest : List ℕ) → All (λ b. b ≢ 32) part → parts_of (part ++ 32 ∷ rest) ≡ part ∷ parts_of rest
-unfolding parts_of
-parts_of-cut part rest all = slice_split_at (λ b. eqb b 32) part 32 rest (tests 32 part all) refl
+pub parts-cut : (byte : ℕ) (part rest : List ℕ) → All (λ b. b ≢ byte) part → parts_between byte (part ++ byte ∷ rest) ≡ part ∷ parts_between byte rest
+unfolding parts_between
+parts-cut byte part rest all = slice_split_at (λ b. eqb b byte) part byte rest (tests byte part all) (eq-eqb byte byte refl)
 
-pub parts_of-last : (part : List ℕ) → All (λ b. b ≢ 32) part → parts_of part ≡ part ∷ []
-unfolding parts_of
-parts_of-last part all = slice_split_none (λ b. eqb b 32) part (tests 32 part all)
+pub parts-last : (byte : ℕ) (part : List ℕ) → All (λ b. b ≢ byte) part → parts_between byte part ≡ part ∷ []
+unfolding parts_between
+parts-last byte part all = slice_split_none (λ b. eqb b byte) part (tests byte part all)
+
+-- parts that hold no such byte, joined by it, have these parts between
+pub parts-joined : (byte : ℕ) (parts : List (List ℕ)) → 0 < length parts → All (λ part. All (λ b. b ≢ byte) part) parts → parts_between byte (join_with_byte byte parts) ≡ parts
+parts-joined byte [] some all = absurd (omega arith)
+parts-joined byte (part ∷ []) some all = parts-last byte part (all 0 [] (omega arith))
+parts-joined byte (part ∷ other ∷ parts) some all = parts-cut byte part (join_with_byte byte (other ∷ parts)) (all 0 [] (omega arith)) ∙ ap (λ t. part ∷ t) (parts-joined byte (other ∷ parts) (omega arith) (λ k d h. all (suc k) d (omega arith)))
 
 -- the first line, or the first part, of a list of bytes that is cut there
 pub line_first : (script line rest : List ℕ) → script ≡ line ++ 10 ∷ rest → All (λ b. b ≢ 10) line → lines_of script ≡ line ∷ lines_of rest
@@ -53,10 +60,10 @@ unfolding lines_of
 line_last [] line e some all = absurd (omega arith)
 line_last (b ∷ bytes) line e some all = rw (← e) (lines_of-last b bytes (rw (← e) at all))
 
-pub part_first : (line part rest : List ℕ) → line ≡ part ++ 32 ∷ rest → All (λ b. b ≢ 32) part → parts_of line ≡ part ∷ parts_of rest
-part_first line part rest e all = ap parts_of e ∙ parts_of-cut part rest all
+pub part_first : (byte : ℕ) (bytes part rest : List ℕ) → bytes ≡ part ++ byte ∷ rest → All (λ b. b ≢ byte) part → parts_between byte bytes ≡ part ∷ parts_between byte rest
+part_first byte bytes part rest e all = ap (λ t. parts_between byte t) e ∙ parts-cut byte part rest all
 
-pub part_last : (line part : List ℕ) → line ≡ part → All (λ b. b ≢ 32) part → parts_of line ≡ part ∷ []
-part_last line part e all = ap parts_of e ∙ parts_of-last part all
+pub part_last : (byte : ℕ) (bytes part : List ℕ) → bytes ≡ part → All (λ b. b ≢ byte) part → parts_between byte bytes ≡ part ∷ []
+part_last byte bytes part e all = ap (λ t. parts_between byte t) e ∙ parts-last byte part all
 
 pub ruleset cutting = (line_first, line_last, part_first, part_last)

@@ -1,12 +1,13 @@
 -- Words that spell numbers, slots, bits and texts of bits.
-use Rattle.std.proofs.Common.{◌≡◌, refl, ◌<◌, ◌^◌, ℕ, List, [], ◌∷◌, length, Bool, true, false, ◌&&◌, ◌||◌, not, arith, eqb, map}
-use Rattle.std.specs.List.{list_any, list_all}
+use Rattle.std.proofs.Common.{◌≡◌, refl, ◌<◌, ◌^◌, ℕ, suc, List, [], ◌∷◌, length, Bool, true, false, ◌&&◌, not, arith, eqb, map, length-append}
+use Rattle.std.specs.List.{All, list_any, list_all, join_with_byte}
+use Rattle.std.proofs.lemmas.List.Folds.{list_all-append}
 use Rattle.std.specs.Str.Parse.{AllDigits}
 use Rattle.std.specs.Fmt.{decimal}
 use Rattle.std.proofs.lemmas.Str.Parse.{digit_from_value}
 use Rattle.std.proofs.lemmas.Fmt.{decimal_is_IsNumeral}
 use Rattle.arrow2_script.specs.Lines.{is_blank}
-use Rattle.arrow2_script.specs.Words.{bit_byte, bits_text}
+use Rattle.arrow2_script.specs.Words.{bit_byte, bits_text, numbers_text}
 
 -- one byte or more, none of them 32
 unfoldable pub is_word : List ℕ → Bool
@@ -54,6 +55,22 @@ pub bit_word : (bit : Bool) → is_word (bit_byte bit ∷ []) ≡ true
 unfolding is_word
 bit_word true = refl
 bit_word false = refl
+
+numbers_spaceless : (n : ℕ) (ns : List ℕ) → All (λ m. m < 2 ^ 64) (n ∷ ns) → list_all (λ b. not (eqb b 32)) (join_with_byte 44 (map decimal (n ∷ ns))) ≡ true
+numbers_spaceless n [] all = digits_spaceless (decimal n) (decimal_is_IsNumeral n (all 0 0 (omega arith))).0.1
+numbers_spaceless n (m ∷ ns) all =
+    let first = digits_spaceless (decimal n) (decimal_is_IsNumeral n (all 0 0 (omega arith))).0.1 in
+    let others = numbers_spaceless m ns (λ k d h. all (suc k) d (omega arith)) in
+    rw (list_all-append (λ b. not (eqb b 32)) (decimal n) (44 ∷ join_with_byte 44 (map decimal (m ∷ ns))), first, others) refl
+
+some_numbers : (n : ℕ) (ns : List ℕ) → n < 2 ^ 64 → 0 < length (join_with_byte 44 (map decimal (n ∷ ns)))
+some_numbers n [] h = (decimal_is_IsNumeral n h).0.0
+some_numbers n (m ∷ ns) h = omega (arith, length-append (decimal n) (44 ∷ join_with_byte 44 (map decimal (m ∷ ns))))
+
+pub numbers_word : (ns : List ℕ) → All (λ m. m < 2 ^ 64) ns → is_word (numbers_text ns) ≡ true
+unfolding is_word
+numbers_word [] all = refl
+numbers_word (n ∷ ns) all = rw (filled (join_with_byte 44 (map decimal (n ∷ ns))) (some_numbers n ns (all 0 0 (omega arith))), numbers_spaceless n ns all) refl
 
 -- words are not blank
 pub words_there : (words : List (List ℕ)) → list_all is_word words ≡ true → list_any is_blank words ≡ false

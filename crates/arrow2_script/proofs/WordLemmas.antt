@@ -131,7 +131,7 @@ all_bit_bytes [] = refl
 all_bit_bytes (true ∷ items) = all_bit_bytes items
 all_bit_bytes (false ∷ items) = all_bit_bytes items
 
-both : (a b : Bool) → (a && b) ≡ true → (a ≡ true) × (b ≡ true)
+pub both : (a b : Bool) → (a && b) ≡ true → (a ≡ true) × (b ≡ true)
 both true true e = (refl, refl)
 both true false e = cc
 both false b e = cc

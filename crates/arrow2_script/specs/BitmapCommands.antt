@@ -5,7 +5,7 @@ use Rattle.std.specs.Fmt.{decimal}
 use Rattle.arrow2_script.specs.Arguments.{◌>>=◌, one_of, two_of, three_of}
 use Rattle.arrow2_script.specs.Words.{number_of, slot_of, bit_of, bits_of, bit_byte, bits_text}
 use Rattle.arrow2_script.specs.declared.bitmap_command.BitmapCommand.{BitmapCommand}
-use Rattle.arrow2_script.specs.declared.bitmap_command.BitmapCommand.TheVariants.{New, Push, Pop, Get, Freeze, Thaw, Copy, Slice, Count, Bits}
+use Rattle.arrow2_script.specs.declared.bitmap_command.BitmapCommand.TheVariants.{New, Push, Pop, Get, Freeze, Thaw, Slice, Count, Bits}
 
 -- `new s bits`, after its name
 unfoldable pub new_of : List (List ℕ) → Option BitmapCommand
@@ -52,14 +52,6 @@ thaw_of words = do
   slot ← slot_of said
   Some (Thaw slot)
 
--- `copy s d`
-unfoldable pub copy_of : List (List ℕ) → Option BitmapCommand
-copy_of words = do
-  said ← two_of words
-  from ← slot_of said.0
-  to ← slot_of said.1
-  Some (Copy from to)
-
 -- `slice s i n`
 unfoldable pub slice_of : List (List ℕ) → Option BitmapCommand
 slice_of words = do
@@ -92,7 +84,6 @@ bitmap_named name words =
     else if bytes_eq name (codes "get") then get_of words
     else if bytes_eq name (codes "freeze") then freeze_of words
     else if bytes_eq name (codes "thaw") then thaw_of words
-    else if bytes_eq name (codes "copy") then copy_of words
     else if bytes_eq name (codes "slice") then slice_of words
     else if bytes_eq name (codes "count") then count_of words
     else if bytes_eq name (codes "bits") then bits_of_slot words
@@ -106,7 +97,6 @@ bitmap_words (Pop slot) = codes "pop" ∷ decimal slot ∷ []
 bitmap_words (Get slot index) = codes "get" ∷ decimal slot ∷ decimal index ∷ []
 bitmap_words (Freeze slot) = codes "freeze" ∷ decimal slot ∷ []
 bitmap_words (Thaw slot) = codes "thaw" ∷ decimal slot ∷ []
-bitmap_words (Copy from to) = codes "copy" ∷ decimal from ∷ decimal to ∷ []
 bitmap_words (Slice slot offset length) = codes "slice" ∷ decimal slot ∷ decimal offset ∷ decimal length ∷ []
 bitmap_words (Count slot) = codes "count" ∷ decimal slot ∷ []
 bitmap_words (Bits slot) = codes "bits" ∷ decimal slot ∷ []
@@ -119,7 +109,6 @@ BitmapFits (Pop slot) = slot < 16
 BitmapFits (Get slot index) = (slot < 16) × (index < 2 ^ 64)
 BitmapFits (Freeze slot) = slot < 16
 BitmapFits (Thaw slot) = slot < 16
-BitmapFits (Copy from to) = (from < 16) × (to < 16)
 BitmapFits (Slice slot offset length) = (slot < 16) × (offset < 2 ^ 64) × (length < 2 ^ 64)
 BitmapFits (Count slot) = slot < 16
 BitmapFits (Bits slot) = slot < 16

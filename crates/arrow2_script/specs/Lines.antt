@@ -7,14 +7,18 @@ unfoldable pub lines_of : List ℕ → List (List ℕ)
 lines_of [] = []
 lines_of (b ∷ bytes) = if b == 10 then [] ∷ lines_of bytes else onto_first b (lines_of bytes)
 
--- the parts of a line between its bytes 32, empty ones too
-unfoldable pub parts_of : List ℕ → List (List ℕ)
-parts_of line = slice_split (λ b. b == 32) line
+-- the parts of a list of bytes between the bytes of one kind, empty ones too
+unfoldable pub parts_between : ℕ → List ℕ → List (List ℕ)
+parts_between byte bytes = slice_split (λ b. b == byte) bytes
 
--- the parts of a line that are still to come: none once the last one came
-abbrev pub parts_left : Bool → List ℕ → List (List ℕ)
-parts_left true rest = []
-parts_left false rest = parts_of rest
+-- the parts that are still to come: none once the last one came
+abbrev pub parts_left : ℕ → Bool → List ℕ → List (List ℕ)
+parts_left byte true rest = []
+parts_left byte false rest = parts_between byte rest
+
+-- the parts of a line between its bytes 32
+abbrev pub parts_of : List ℕ → List (List ℕ)
+parts_of line = parts_between 32 line
 
 -- whether a list of bytes is empty
 abbrev pub is_blank : List ℕ → Bool

@@ -1,9 +1,10 @@
 -- What a word says, and the word that says it.
-use Rattle.std.specs.Prelude.{ℕ, ◌^◌, ◌==◌, ◌&&◌, ◌||◌, nat_lt, Bool, true, false, List, [], ◌∷◌, length, map, codes, Option, Some, None, option_and_then, if◌then◌else◌}
-use Rattle.std.specs.List.{list_all}
+use Rattle.std.specs.Prelude.{ℕ, ◌^◌, ◌==◌, ◌&&◌, ◌||◌, nat_lt, Bool, true, false, List, [], ◌∷◌, length, map, codes, Option, Some, None, option_and_then, is_some, if◌then◌else◌}
+use Rattle.std.specs.List.{list_all, join_with_byte}
 use Rattle.std.specs.Str.{bytes_eq}
 use Rattle.std.specs.Str.Parse.{digits_value}
 use Rattle.std.specs.Fmt.{decimal}
+use Rattle.arrow2_script.specs.Lines.{parts_between}
 
 -- a number below 2 ^ 64, whose decimal digits are the word
 unfoldable pub number_of : List ℕ → Option ℕ
@@ -40,4 +41,24 @@ bits_of word =
     if bytes_eq word (codes "-") then Some []
     else if length word == 0 then None
     else if list_all is_bit_byte word then Some (items_said word)
+    else None
+
+-- whether a word is a number
+abbrev pub is_number : List ℕ → Bool
+is_number word = is_some (number_of word)
+
+-- the numbers that words say
+abbrev pub numbers_said : List (List ℕ) → List ℕ
+numbers_said words = map (digits_value 10) words
+
+-- the text of a list of numbers: `-` where it is empty, else the digits of each, joined by `,`
+abbrev pub numbers_text : List ℕ → List ℕ
+numbers_text [] = codes "-"
+numbers_text (n ∷ ns) = join_with_byte 44 (map decimal (n ∷ ns))
+
+-- a list of numbers
+unfoldable pub numbers_of : List ℕ → Option (List ℕ)
+numbers_of word =
+    if bytes_eq word (codes "-") then Some []
+    else if list_all is_number (parts_between 44 word) then Some (numbers_said (parts_between 44 word))
     else None

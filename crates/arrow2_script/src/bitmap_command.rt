@@ -1,6 +1,6 @@
 //! The commands on bitmaps, and which one the words of a line say.
 ghost use Rattle.std.specs.Prelude.{◌≡◌};
-ghost use Rattle.arrow2_script.specs.BitmapCommands.{new_of, push_of, pop_of, get_of, freeze_of, thaw_of, copy_of, slice_of, count_of, bits_of_slot, bitmap_named};
+ghost use Rattle.arrow2_script.specs.BitmapCommands.{new_of, push_of, pop_of, get_of, freeze_of, thaw_of, slice_of, count_of, bits_of_slot, bitmap_named};
 
 use crate::arguments::{one, three, two};
 use crate::lines::Parts;
@@ -21,8 +21,6 @@ pub enum BitmapCommand<'a> {
     Freeze(SlotIndex),
     /// `thaw s`: the frozen bitmap of slot s grows again.
     Thaw(SlotIndex),
-    /// `copy s d`: slot d holds the same frozen bitmap as slot s.
-    Copy(SlotIndex, SlotIndex),
     /// `slice s i n`: the frozen bitmap of slot s is cut to its n items from item i on.
     Slice(SlotIndex, u64, u64),
     /// `count s`: how many items of slot s are false.
@@ -85,16 +83,6 @@ fn read_thaw<'a>(parts: Parts<'a>) -> Option<BitmapCommand<'a>>
     Some(BitmapCommand::Thaw(slot))
 }
 
-#[tactic(auto, unfolding(crate::specs::BitmapCommands::copy_of))]
-fn read_copy<'a>(parts: Parts<'a>) -> Option<BitmapCommand<'a>>
-    ensures { result ≡ copy_of parts.entry }
-{
-    let (from, to) = two(parts)?;
-    let from = SlotIndex::read(from)?;
-    let to = SlotIndex::read(to)?;
-    Some(BitmapCommand::Copy(from, to))
-}
-
 #[tactic(auto, unfolding(crate::specs::BitmapCommands::slice_of))]
 fn read_slice<'a>(parts: Parts<'a>) -> Option<BitmapCommand<'a>>
     ensures { result ≡ slice_of parts.entry }
@@ -140,8 +128,6 @@ impl<'a> BitmapCommand<'a> {
             read_freeze(parts)
         } else if name == b"thaw".as_slice() {
             read_thaw(parts)
-        } else if name == b"copy".as_slice() {
-            read_copy(parts)
         } else if name == b"slice".as_slice() {
             read_slice(parts)
         } else if name == b"count".as_slice() {

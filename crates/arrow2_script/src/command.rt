@@ -4,12 +4,18 @@ ghost use Rattle.arrow2_script.specs.Commands.{named, command_in};
 
 use crate::bitmap_command::BitmapCommand;
 use crate::lines::Parts;
+use crate::offset_command::OffsetCommand;
+use crate::value_command::ValueCommand;
 
 /// A command of a script.
 #[derive(Drop)]
 pub enum Command<'a> {
     /// A command on bitmaps.
     Bitmap(BitmapCommand<'a>),
+    /// A command on offsets.
+    Offset(OffsetCommand<'a>),
+    /// A command on values of any kind.
+    Value(ValueCommand),
 }
 
 /// The command of this name, with these words behind it.
@@ -17,8 +23,14 @@ pub enum Command<'a> {
 fn read_named<'a>(name: &[u8], parts: Parts<'a>) -> Option<Command<'a>>
     ensures { result ≡ named name.now parts.entry }
 {
-    let command = BitmapCommand::read(name, parts)?;
-    Some(Command::Bitmap(command))
+    if let Some(command) = BitmapCommand::read(name, parts.again()) {
+        return Some(Command::Bitmap(command));
+    }
+    if let Some(command) = OffsetCommand::read(name, parts.again()) {
+        return Some(Command::Offset(command));
+    }
+    let command = ValueCommand::read(name, parts)?;
+    Some(Command::Value(command))
 }
 
 /// The command that a line says, if it says one.
@@ -26,7 +38,7 @@ fn read_named<'a>(name: &[u8], parts: Parts<'a>) -> Option<Command<'a>>
 pub fn parse<'a>(line: &'a [u8]) -> Option<Command<'a>>
     ensures { result ≡ command_in line.entry.now }
 {
-    let mut parts = Parts::new(line);
+    let mut parts = Parts::new(line, b' ');
     let name = parts.next()?;
     read_named(name, parts)
 }

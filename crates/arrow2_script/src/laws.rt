@@ -1,8 +1,9 @@
 //! Laws of the script's grammar. Each function is its law and nothing else.
 ghost use Rattle.std.specs.Prelude.{◌≡◌, ◌<◌, ◌^◌, ◌∷◌, [], ◌↔◌, ℕ, List, Bool, Some, length};
 ghost use Rattle.std.specs.Fmt.{decimal};
+ghost use Rattle.std.specs.List.{All};
 ghost use Rattle.arrow2_script.specs.Lines.{lines_of, words_of, AreLines, AreWords};
-ghost use Rattle.arrow2_script.specs.Words.{number_of, slot_of, bit_of, bits_of, bit_byte, bits_text};
+ghost use Rattle.arrow2_script.specs.Words.{number_of, slot_of, bit_of, bits_of, bit_byte, bits_text, numbers_of, numbers_text};
 ghost use Rattle.arrow2_script.specs.Commands.{command_in, IsSpelling};
 ghost use Rattle.arrow2_script.specs.declared.command.Command.{Command};
 
@@ -17,12 +18,14 @@ pub fn words_of_a_line()
     ensures { (line : List ℕ) (words : List (List ℕ)) → 0 < length words → (words_of line ≡ words) ↔ AreWords line words }
 {}
 
-/// A word says a number, a slot, a bit or a text of bits exactly where it is the one word that spells it.
+/// A word says a number, a slot, a bit, a text of bits or a list of numbers exactly where it is the one word that
+/// spells it.
 pub fn one_word_of_a_value()
     ensures number { (word : List ℕ) (n : ℕ) → (number_of word ≡ Some n) ↔ ((n < 2 ^ 64) × (decimal n ≡ word)) }
     ensures slot { (word : List ℕ) (n : ℕ) → (slot_of word ≡ Some n) ↔ ((n < 16) × (decimal n ≡ word)) }
     ensures bit { (word : List ℕ) (bit : Bool) → (bit_of word ≡ Some bit) ↔ (bit_byte bit ∷ [] ≡ word) }
     ensures bits { (word : List ℕ) (items : List Bool) → (bits_of word ≡ Some items) ↔ (bits_text items ≡ word) }
+    ensures numbers { (word ns : List ℕ) → (numbers_of word ≡ Some ns) ↔ (All (λ n. n < 2 ^ 64) ns × (numbers_text ns ≡ word)) }
 {}
 
 /// A line says a command exactly where it is that command's words, joined by one space.

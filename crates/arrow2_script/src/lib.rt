@@ -6,4 +6,6 @@ pub mod bitmap_command;
 pub mod command;
 pub mod laws;
 pub mod lines;
+pub mod offset_command;
+pub mod value_command;
 pub mod words;

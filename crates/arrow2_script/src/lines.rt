@@ -2,7 +2,7 @@
 ghost use Rattle.std.specs.Prelude.{false, ◌≡◌, ◌≢◌, ◌<◌, List, [], ◌∷◌, ◌++◌, ℕ, length, MatchOption};
 ghost use Rattle.std.specs.List.{All};
 ghost use Rattle.std.specs.Iterator.{YieldsFirstRef, item_count};
-ghost use Rattle.arrow2_script.specs.Lines.{lines_of, parts_left};
+ghost use Rattle.arrow2_script.specs.Lines.{lines_of, parts_between, parts_left};
 
 use memchr::memchr;
 use std::marker::Model;
@@ -32,9 +32,10 @@ pub fn next_line(script: &[u8]) -> (&[u8], &[u8])
     }
 }
 
-/// The parts of a line between its spaces that are still to come, empty ones too.
+/// The parts of some bytes between the bytes of one kind that are still to come, empty ones too.
 #[derive(Drop)]
 pub struct Parts<'a> {
+    byte: u8,
     rest: &'a [u8],
     ended: bool,
 }
@@ -42,17 +43,40 @@ pub struct Parts<'a> {
 impl<'a> Model for Parts<'a> {
     ghost Value = { List (List ℕ) };
 
-    ghost view = { λ p. parts_left p.ended p.rest.now };
+    ghost view = { λ p. parts_left p.byte p.ended p.rest.now };
 }
 
 impl<'a> Parts<'a> {
-    /// All parts of a line.
-    pub fn new(line: &'a [u8]) -> Parts<'a>
-        ensures { result ≡ parts_left false line.entry.now }
+    /// All parts between bytes `byte`.
+    pub fn new(bytes: &'a [u8], byte: u8) -> Parts<'a>
+        ensures { result ≡ parts_between byte bytes.entry.now }
     {
         Parts {
-            rest: line,
+            byte,
+            rest: bytes,
             ended: false,
+        }
+    }
+
+    /// No parts.
+    pub fn none() -> Parts<'a>
+        ensures { result ≡ [] }
+    {
+        Parts {
+            byte: 0,
+            rest: &[],
+            ended: true,
+        }
+    }
+
+    /// A second walk over the same parts.
+    pub fn again(&self) -> Parts<'a>
+        ensures { result ≡ self.now }
+    {
+        Parts {
+            byte: self.byte,
+            rest: self.rest,
+            ended: self.ended,
         }
     }
 }
@@ -69,7 +93,7 @@ impl<'a> Iterator for Parts<'a> {
         if self.ended {
             return None;
         }
-        let (part, rest) = cut_at(self.rest, b' ');
+        let (part, rest) = cut_at(self.rest, self.byte);
         match rest {
             Some(rest) => {
                 self.rest = rest;

@@ -1,8 +1,10 @@
 //! What a word of a line says.
 ghost use Rattle.std.specs.Prelude.{◌≡◌, ◌<◌, ◌↔◌, ◌⊎◌, List, Bool, ℕ, length, slice_index, IsTrue};
-ghost use Rattle.arrow2_script.specs.Words.{number_of, slot_of, bit_of, bits_of, is_bit_byte, items_said};
+ghost use Rattle.arrow2_script.specs.Words.{number_of, slot_of, bit_of, bits_of, is_bit_byte, items_said, is_number, numbers_of};
+ghost use Rattle.std.specs.Iterator.{YieldsFirst, item_count};
 ghost use Rattle.std.specs.List.{list_all};
 
+use crate::lines::Parts;
 use std::marker::Model;
 use std::str;
 
@@ -123,5 +125,65 @@ impl<'a> BitText<'a> {
         ensures { items_said result.now ≡ self.now }
     {
         self.digits
+    }
+}
+
+/// A list of numbers, the first one first: the walk over the numbers that are still to come.
+#[derive(Drop)]
+pub struct NumberText<'a> {
+    words: Parts<'a>,
+}
+
+impl<'a> Model for NumberText<'a> {
+    ghost use Rattle.std.specs.Prelude.{◌≡◌, true, ℕ, List};
+    ghost use Rattle.std.specs.List.{list_all};
+    ghost use Rattle.arrow2_script.specs.Words.{is_number, numbers_said};
+
+    ghost Value = { List ℕ };
+
+    ghost view = { λ t. numbers_said t.words };
+
+    ghost invariant = { λ t. list_all is_number t.words ≡ true };
+}
+
+impl<'a> NumberText<'a> {
+    /// The numbers that a word says: `-` for none, or numbers joined by `,`.
+    #[tactic(auto, unfolding(crate::specs::Words::numbers_of))]
+    pub fn read(word: &'a [u8]) -> Option<NumberText<'a>>
+        ensures { result ≡ numbers_of word.entry.now }
+    {
+        if word == b"-".as_slice() {
+            return Some(NumberText {
+                words: Parts::none(),
+            });
+        }
+        let words = Parts::new(word, b',');
+        if are_numbers(words.again()) {
+            Some(NumberText { words })
+        } else {
+            None
+        }
+    }
+}
+
+/// Whether each word is a number.
+fn are_numbers(words: Parts<'_>) -> bool
+    ensures { result ≡ list_all is_number words.entry }
+{
+    let mut words = words;
+    words.all(|word| number(word).is_some())
+}
+
+impl Iterator for NumberText<'_> {
+    type Item = usize;
+
+    ghost next_gives = { YieldsFirst (λ numbers. numbers) };
+
+    ghost remaining = { item_count (λ numbers. numbers) };
+
+    #[tactic(auto, using(crate::proofs::NumberListLemmas::numbers))]
+    fn next(&mut self) -> Option<usize> {
+        let number = number(self.words.next()?)?;
+        Some(number as usize)
     }
 }

@@ -5,3 +5,4 @@ pub mod arrays;
 pub mod error;
 pub mod native;
 pub mod primitive;
+pub mod refusal;

@@ -3,8 +3,9 @@ ghost use Rattle.std.specs.Prelude.{◌≡◌, length, replicate};
 ghost use Rattle.std.specs.Bool.{OnTrue};
 ghost use Rattle.arrow2_bits.specs.ChunksMut.{past};
 
+use super::checks::{has, shows};
 use arrow2_bits::chunks_exact_mut::BitChunksExactMut;
-use std::test::Fail;
+use std::process::Abort;
 
 /// The values, written over the first bytes of the chunk.
 fn write(chunk: &mut [u8], values: &[u8]) {
@@ -27,49 +28,70 @@ fn clear_next<T>(walk: &mut BitChunksExactMut<'_, T>) -> bool
     walk.change_next(|chunk| clear(chunk))
 }
 
-#[test]
-fn chunks_are_lent_to_be_written(rt: HostRuntime) -> Result<(), Fail> {
-    for (first, second, after) in [
-        ([7, 8], [9, 9], [7, 8, 9, 9, 5]),
-        ([0, 0], [3, 4], [0, 0, 3, 4, 5]),
-    ] {
-        let mut bytes = [1, 2, 3, 4, 5];
-        let mut walk = BitChunksExactMut::<u16>::new(&mut bytes, 35);
-        write(walk.next_chunk().ok_or("a first chunk")?, &first);
-        let chunk = walk.next_chunk().ok_or("a second chunk")?;
-        assert_eq!(rt; &*chunk, [3, 4].as_slice());
-        write(chunk, &second);
-        assert!(rt; walk.next_chunk().is_none());
-        assert_eq!(rt; &*walk.remainder(), [5].as_slice());
-        assert_eq!(rt; walk.remainder_len(), 3);
-        assert_eq!(rt; bytes, after);
+/// A walk by chunks of two bytes over five, of which it lends two and shows the last.
+fn walk_of(bytes: &mut [u8]) -> BitChunksExactMut<'_, u16>
+    requires { length bytes.old ≡ 5 }
+{
+    BitChunksExactMut::new(bytes, 35)
+}
 
-        let mut bytes = [1, 2, 3, 4, 5];
-        let mut walk = BitChunksExactMut::<u16>::new(&mut bytes, 35);
-        assert!(rt; walk.change_next(|chunk| write(chunk, &first)));
-        assert!(rt; walk.change_next(|chunk| write(chunk, &second)));
-        assert!(rt; !clear_next(&mut walk));
-        assert_eq!(rt; bytes, after);
-
-        let mut bytes = [1, 2, 3, 4, 5];
-        let mut walk = BitChunksExactMut::<u16>::new(&mut bytes, 35);
-        assert_eq!(rt; walk.size_hint(), (2, Some(2)));
-        write(walk.next().ok_or("a first chunk")?, &first);
-        let chunk = walk.next().ok_or("a second chunk")?;
-        assert_eq!(rt; &*chunk, [3, 4].as_slice());
-        write(chunk, &second);
-        assert!(rt; walk.next().is_none());
-        assert_eq!(rt; &*walk.remainder(), [5].as_slice());
-        assert_eq!(rt; bytes, after);
-    }
+/// What is written to the chunks that `next_chunk` lends stands in the bytes afterwards.
+fn writes_next_chunks(rt: &impl Abort, first: &[u8], second: &[u8], after: &[u8]) {
     let mut bytes = [1, 2, 3, 4, 5];
-    let mut walk = BitChunksExactMut::<u16>::new(&mut bytes, 35);
+    let mut walk = walk_of(&mut bytes);
+    write(walk.next_chunk().expect(rt, "a first chunk"), first);
+    let chunk = walk.next_chunk().expect(rt, "a second chunk");
+    has(rt, chunk, &[3, 4]);
+    write(chunk, second);
+    assert!(rt; walk.next_chunk().is_none() && walk.remainder_len() == 3);
+    has(rt, walk.remainder(), &[5]);
+    has(rt, &bytes, after);
+}
+
+/// The same, by `change_next`.
+fn changes_next(rt: &impl Abort, first: &[u8], second: &[u8], after: &[u8]) {
+    let mut bytes = [1, 2, 3, 4, 5];
+    let mut walk = walk_of(&mut bytes);
+    assert!(rt; walk.change_next(|chunk| write(chunk, first)));
+    assert!(rt; walk.change_next(|chunk| write(chunk, second)));
+    assert!(rt; !clear_next(&mut walk));
+    has(rt, &bytes, after);
+}
+
+/// The same, by the iterator.
+fn writes_walked(rt: &impl Abort, first: &[u8], second: &[u8], after: &[u8]) {
+    let mut bytes = [1, 2, 3, 4, 5];
+    let mut walk = walk_of(&mut bytes);
+    assert!(rt; matches!(walk.size_hint(), (2, Some(2))));
+    write(walk.next().expect(rt, "a first chunk"), first);
+    let chunk = walk.next().expect(rt, "a second chunk");
+    has(rt, chunk, &[3, 4]);
+    write(chunk, second);
+    assert!(rt; walk.next().is_none());
+    has(rt, walk.remainder(), &[5]);
+    has(rt, &bytes, after);
+}
+
+#[test]
+fn chunks_are_lent_to_be_written(rt: HostRuntime) {
+    let after = &[7, 8, 9, 9, 5];
+    writes_next_chunks(&rt, &[7, 8], &[9, 9], after);
+    changes_next(&rt, &[7, 8], &[9, 9], after);
+    writes_walked(&rt, &[7, 8], &[9, 9], after);
+    let after = &[0, 0, 3, 4, 5];
+    writes_next_chunks(&rt, &[0, 0], &[3, 4], after);
+    changes_next(&rt, &[0, 0], &[3, 4], after);
+    writes_walked(&rt, &[0, 0], &[3, 4], after);
+}
+
+#[test]
+fn a_walk_shows_its_bytes_and_its_place(rt: HostRuntime) {
+    let mut bytes = [1, 2, 3, 4, 5];
+    let mut walk = walk_of(&mut bytes);
     assert!(rt; clear_next(&mut walk));
     walk.remainder().fill(9);
-    assert_eq!(rt;
-        format!(in rt.alloc(); "{walk:?}")?.as_str(),
-        "BitChunksExactMut { bytes: [0, 0, 3, 4], at: 2, size: 2, remainder: [9], remainder_len: 3, marker: PhantomData<_> }"
-    );
-    assert_eq!(rt; bytes, [0, 0, 3, 4, 9]);
-    Ok(())
+    let text =
+        "BitChunksExactMut { bytes: [0, 0, 3, 4], at: 2, size: 2, remainder: [9], remainder_len: 3, marker: PhantomData<_> }";
+    shows(&rt, rt.alloc(), &walk, text);
+    has(&rt, &bytes, &[0, 0, 3, 4, 9]);
 }

@@ -2,14 +2,14 @@
 ghost use Rattle.std.specs.Prelude.{◌≤◌, ◌-◌};
 ghost use Rattle.std.specs.Iterator.{at_most};
 
+use super::checks::prints;
 use arrow2_buffer::Buffer;
 use arrow2_index::offset::Offset;
 use arrow2_offset::{Offsets, OffsetsBuffer};
 use arrow2_types::error::Error;
-use either::Either;
 use std::alloc::Global;
+use std::fmt::Debug;
 use std::process::Abort;
-use std::test::Fail;
 
 /// Gives 1 and then 2. Its size hint begins at `usize::MAX` and falls by one an item.
 #[derive(Drop)]
@@ -40,159 +40,277 @@ fn is_overflow<T: Drop>(answer: Result<T, Error>) -> bool {
     matches!(answer, Err(Error::Overflow))
 }
 
-/// Whether the offsets are these numbers.
-fn are<O: Offset>(offsets: &[O], numbers: &[usize]) -> bool {
+/// The offsets are these numbers.
+fn are<O: Offset>(rt: &impl Abort, offsets: &[O], numbers: &[usize]) {
+    assert!(rt; offsets.len() == numbers.len());
     for (offset, number) in offsets.iter().zip(numbers) {
-        if O::from_usize(*number) != Some(*offset) {
-            return false;
-        }
+        assert!(rt; O::from_usize(*number) == Some(*offset));
     }
-    offsets.len() == numbers.len()
 }
 
-/// Each call that makes or grows offsets, and each that reads them.
-fn check_growing<O: Offset>(rt: &impl Abort, alloc: Global) -> Result<(), Fail> {
-    assert!(rt; are(Offsets::<O>::new_zeroed(alloc, 2)?.as_slice(), &[0, 0, 0]));
-    assert!(rt; Offsets::<O>::with_capacity(alloc, 20)?.capacity() >= 20);
-    let hinted = Offsets::<O>::try_from_iter(alloc, OneAndTwo { given: 0 })?;
-    assert!(rt; are(hinted.as_slice(), &[0, 1, 3]));
-    let mut offsets = Offsets::<O>::try_from_lengths(alloc, [3usize, 0].iter().copied())?;
-    offsets.reserve(8)?;
-    offsets.try_push_usize(4)?;
-    offsets.try_push(O::zero())?;
-    offsets.extend_constant(1)?;
-    offsets.try_extend_from_lengths([2usize, 0].iter().copied())?;
-    offsets.try_extend_from_self(&hinted)?;
-    let copy = offsets.clone()?;
-    assert!(rt; copy == offsets && copy != hinted);
-    assert!(rt; offsets.pop() == O::from_usize(12));
-    assert!(rt; O::from_usize(10) == Some(*offsets.last()));
-    assert_eq!(rt; (offsets.len(), offsets.len_proxy()), (9, 8));
-    if offsets.len_proxy() == 8 {
-        assert_eq!(rt; offsets.start_end(2), (3, 7));
-    }
-    offsets.shrink_to_fit()?;
-    let items = offsets.into_inner();
-    assert!(rt; are(items.as_slice(), &[0, 3, 3, 7, 7, 7, 9, 9, 10]));
-    assert!(rt; Offsets::try_from(items).is_ok());
-    Ok(())
+/// The list is this one.
+fn is<T: PartialEq + Debug>(rt: &impl Abort, items: &[T], wanted: &[T]) {
+    assert_eq!(rt; items, wanted);
 }
 
-/// Each call on shared offsets.
-fn check_shared<O: Offset>(rt: &impl Abort, alloc: Global) -> Result<(), Fail> {
-    assert!(rt; are(OffsetsBuffer::<O>::new(alloc)?.as_slice(), &[0]));
-    let mut grown = Offsets::<O>::try_from_lengths(alloc, [5usize, 3, 0, 4].iter().copied())?;
-    let mut shared = OffsetsBuffer::try_from(grown.clone()?)?;
-    if shared.len() == 5 {
-        shared.slice(1, 4);
+/// Offsets that begin at 0.
+fn grown<O: Offset>(rt: &impl Abort, alloc: Global, lengths: &[usize]) -> Offsets<O> {
+    Offsets::try_from_lengths(alloc, lengths.iter().copied()).expect(rt, "no memory")
+}
+
+/// Offsets with these items.
+fn of(rt: &impl Abort, alloc: Global, items: &[i32]) -> Offsets<i32> {
+    let items = items.to_vec(alloc).expect(rt, "no memory");
+    Offsets::try_from(items).expect(rt, "no memory")
+}
+
+/// The same, shared.
+fn shared(rt: &impl Abort, alloc: Global, items: &[i32]) -> OffsetsBuffer<i32> {
+    OffsetsBuffer::try_from(of(rt, alloc, items)).expect(rt, "no memory")
+}
+
+/// Each call that makes offsets.
+fn makes<O: Offset>(rt: &impl Abort, alloc: Global) {
+    let zeros = Offsets::<O>::new_zeroed(alloc, 2).expect(rt, "no memory");
+    are(rt, zeros.as_slice(), &[0, 0, 0]);
+    let room = Offsets::<O>::with_capacity(alloc, 20).expect(rt, "no memory");
+    assert!(rt; room.capacity() >= 20);
+    let hinted = Offsets::<O>::try_from_iter(alloc, OneAndTwo { given: 0 });
+    are(rt, hinted.expect(rt, "no memory").as_slice(), &[0, 1, 3]);
+}
+
+/// Each call by which offsets grow by lengths.
+fn grows<O: Offset>(rt: &impl Abort, alloc: Global) {
+    let mut offsets = grown::<O>(rt, alloc, &[3, 0]);
+    offsets.reserve(8).expect(rt, "no memory");
+    offsets.try_push_usize(4).expect(rt, "no memory");
+    offsets.try_push(O::zero()).expect(rt, "no memory");
+    offsets.extend_constant(1).expect(rt, "no memory");
+    let more = [2usize, 0].iter().copied();
+    offsets
+        .try_extend_from_lengths(more)
+        .expect(rt, "no memory");
+    are(rt, offsets.as_slice(), &[0, 3, 3, 7, 7, 7, 9, 9]);
+}
+
+/// The call by which offsets grow by those of another, and each that reads, copies or takes away.
+fn reads<O: Offset>(rt: &impl Abort, alloc: Global) {
+    let mut offsets = grown::<O>(rt, alloc, &[3, 4]);
+    let other = grown::<O>(rt, alloc, &[1, 2]);
+    offsets.try_extend_from_self(&other).expect(rt, "no memory");
+    let copy = offsets.clone().expect(rt, "no memory");
+    assert!(rt; copy == offsets && copy != other);
+    assert!(rt; offsets.pop() == O::from_usize(10));
+    assert!(rt; O::from_usize(8) == Some(*offsets.last()));
+    assert!(rt; offsets.len() == 4 && offsets.len_proxy() == 3);
+    if offsets.len_proxy() == 3 {
+        assert!(rt; matches!(offsets.start_end(1), (3, 7)));
     }
-    let lengths: Vec<usize> = shared.lengths().collect(alloc)?;
-    assert_eq!(rt; lengths.as_slice(), [3, 0, 4].as_slice());
-    assert!(rt; O::from_usize(7) == Some(shared.range()));
-    assert!(rt; O::from_usize(5) == Some(*shared.first()));
-    assert!(rt; O::from_usize(12) == Some(*shared.last()));
-    assert_eq!(rt; (shared.len(), shared.len_proxy()), (4, 3));
-    if shared.len_proxy() == 3 {
-        assert_eq!(rt; shared.start_end(1), (8, 8));
-        grown.try_extend_from_slice(&shared, 1, 2)?;
+    offsets.shrink_to_fit().expect(rt, "no memory");
+    are(rt, offsets.into_inner().as_slice(), &[0, 3, 7, 8]);
+}
+
+/// Shared offsets have these lengths.
+fn gives<O: Offset>(rt: &impl Abort, alloc: Global, offsets: &OffsetsBuffer<O>, lengths: &[usize]) {
+    let given: Vec<usize> = offsets.lengths().collect(alloc).expect(rt, "no memory");
+    is(rt, given.as_slice(), lengths);
+}
+
+/// Shared offsets that begin at 0.
+fn kept<O: Offset>(rt: &impl Abort, alloc: Global, lengths: &[usize]) -> OffsetsBuffer<O> {
+    OffsetsBuffer::try_from(grown(rt, alloc, lengths)).expect(rt, "no memory")
+}
+
+/// Each call that makes or slices shared offsets.
+fn slices<O: Offset>(rt: &impl Abort, alloc: Global) {
+    let empty = OffsetsBuffer::<O>::new(alloc).expect(rt, "no memory");
+    are(rt, empty.as_slice(), &[0]);
+    let mut part = kept::<O>(rt, alloc, &[5, 3, 0, 4]);
+    if part.len() == 5 {
+        part.slice(1, 4);
     }
-    assert!(rt; are(grown.as_slice(), &[0, 5, 8, 8, 12, 12, 16]));
-    let part = OffsetsBuffer::try_from(shared.buffer().clone()?)?;
-    assert!(rt; part == shared);
-    match part.into_mut() {
-        Either::Left(part) => assert!(rt; are(part.into_inner().as_slice(), &[5, 8, 8, 12])),
-        Either::Right(_) => panic!(rt; "it is sliced"),
+    gives(rt, alloc, &part, &[3, 0, 4]);
+}
+
+/// Each call that reads shared offsets.
+fn reads_shared<O: Offset>(rt: &impl Abort, alloc: Global) {
+    let offsets = kept::<O>(rt, alloc, &[3, 0, 4]);
+    assert!(rt; offsets.len() == 4 && offsets.len_proxy() == 3);
+    assert!(rt; O::from_usize(7) == Some(offsets.range()));
+    assert!(rt; O::from_usize(0) == Some(*offsets.first()));
+    assert!(rt; O::from_usize(7) == Some(*offsets.last()));
+    if offsets.len_proxy() == 3 {
+        assert!(rt; matches!(offsets.start_end(1), (3, 3)));
     }
-    let whole = OffsetsBuffer::try_from(grown.into_inner())?;
-    match whole.into_mut() {
-        Either::Left(_) => panic!(rt; "it is whole, and no one shares it"),
-        Either::Right(own) => assert!(rt; are(own.as_slice(), &[0, 5, 8, 8, 12, 12, 16])),
+}
+
+/// Each call that shares offsets or takes them back, and the one that grows them by a shared part.
+fn shares<O: Offset>(rt: &impl Abort, alloc: Global) {
+    let mut all = grown::<O>(rt, alloc, &[5, 3, 0, 4]);
+    let items = kept::<O>(rt, alloc, &[5, 3, 0, 4]).into_inner();
+    let other = OffsetsBuffer::try_from(items).expect(rt, "no memory");
+    let buffer = other.buffer().clone().expect(rt, "no memory");
+    let again = OffsetsBuffer::try_from(buffer).expect(rt, "no memory");
+    assert!(rt; again == other);
+    if other.len() == 5 {
+        all.try_extend_from_slice(&other, 1, 2)
+            .expect(rt, "no memory");
     }
-    Ok(())
+    are(rt, all.as_slice(), &[0, 5, 8, 8, 12, 15, 15]);
+    are(rt, other.into_inner().as_slice(), &[0, 5, 8, 8, 12]);
 }
 
 #[test]
-fn each_call_at_both_types(rt: HostRuntime) -> Result<(), Fail> {
-    check_growing::<i32>(&rt, rt.alloc())?;
-    check_growing::<i64>(&rt, rt.alloc())?;
-    check_shared::<i32>(&rt, rt.alloc())?;
-    check_shared::<i64>(&rt, rt.alloc())
-}
-
-#[test]
-fn growth_refuses_by_the_exact_sum_and_changes_nothing(rt: HostRuntime) -> Result<(), Fail> {
+fn each_call_at_both_types(rt: HostRuntime) {
     let alloc = rt.alloc();
-    for (lengths, refused) in [
-        ([2147483647, 1], true),
-        ([1, usize::MAX], true),
-        ([2147483647, 0], false),
-    ] {
-        let mut offsets = Offsets::<i32>::new(alloc)?;
-        let result = offsets.try_extend_from_lengths(lengths.iter().copied());
-        assert_eq!(rt; is_overflow(result), refused);
-        assert_eq!(rt; offsets.len(), if refused { 1 } else { 3 });
+    makes::<i32>(&rt, alloc);
+    makes::<i64>(&rt, alloc);
+    grows::<i32>(&rt, alloc);
+    grows::<i64>(&rt, alloc);
+    reads::<i32>(&rt, alloc);
+    reads::<i64>(&rt, alloc);
+    slices::<i32>(&rt, alloc);
+    slices::<i64>(&rt, alloc);
+    reads_shared::<i32>(&rt, alloc);
+    reads_shared::<i64>(&rt, alloc);
+    shares::<i32>(&rt, alloc);
+    shares::<i64>(&rt, alloc);
+}
+
+#[test]
+fn shared_offsets_are_read_and_sliced(rt: HostRuntime) {
+    let alloc = rt.alloc();
+    let whole = shared(&rt, alloc, &[5, 8, 8, 12]);
+    gives(&rt, alloc, &whole, &[3, 0, 4]);
+    assert!(rt; whole.range() == 7 && *whole.first() == 5);
+    if whole.len_proxy() == 3 {
+        assert!(rt; matches!(whole.start_end(1), (8, 8)));
     }
-    let mut offsets = Offsets::try_from(vec![in alloc; 0i32, 2147483644]?)?;
-    let other = OffsetsBuffer::try_from(vec![in alloc; 0i32, 5, 7]?)?;
+}
+
+#[test]
+fn shared_offsets_are_taken_back_where_nothing_is_sliced_off(rt: HostRuntime) {
+    let alloc = rt.alloc();
+    let mut part = shared(&rt, alloc, &[5, 8, 8, 12]);
+    if part.len() == 4 {
+        part.slice(1, 2);
+    }
+    let left = part.into_mut().left().expect(&rt, "it is sliced");
+    is(&rt, left.as_slice(), &[8, 8]);
+    assert!(rt; left.len_proxy() == 1);
+    let right = shared(&rt, alloc, &[5, 8, 8, 12]).into_mut().right();
+    is(
+        &rt,
+        right
+            .expect(&rt, "it is whole, and no one shares it")
+            .as_slice(),
+        &[5, 8, 8, 12],
+    );
+}
+
+/// Offsets from [0] on grow by the lengths, or refuse them as an overflow and stay.
+fn grow_or_stay(rt: &impl Abort, alloc: Global, lengths: &[usize], refused: bool, wanted: &[i32]) {
+    let mut offsets = of(rt, alloc, &[0]);
+    let answer = offsets.try_extend_from_lengths(lengths.iter().copied());
+    assert!(rt; is_overflow(answer) == refused);
+    is(rt, offsets.as_slice(), wanted);
+}
+
+#[test]
+fn growth_refuses_by_the_exact_sum(rt: HostRuntime) {
+    let alloc = rt.alloc();
+    grow_or_stay(&rt, alloc, &[2147483647, 1], true, &[0]);
+    grow_or_stay(&rt, alloc, &[1, usize::MAX], true, &[0]);
+    grow_or_stay(&rt, alloc, &[2147483647], false, &[0, 2147483647]);
+    let mut offsets = of(&rt, alloc, &[0, 2147483644]);
+    let other = shared(&rt, alloc, &[0, 5, 7]);
     if other.len() == 3 {
-        offsets.try_extend_from_slice(&other, 1, 1)?;
+        offsets
+            .try_extend_from_slice(&other, 1, 1)
+            .expect(&rt, "no memory");
     }
-    assert_eq!(rt; offsets.as_slice(), [0, 2147483644, 2147483646].as_slice());
-    let mut offsets = Offsets::try_from(vec![in alloc; 0i32, 3]?)?;
-    offsets.try_extend_from_self(&Offsets::try_from(vec![in alloc; 5i32, 8, 8]?)?)?;
-    assert_eq!(rt; offsets.as_slice(), [0, 3, 6, 6].as_slice());
+    is(&rt, offsets.as_slice(), &[0, 2147483644, 2147483646]);
+}
+
+#[test]
+fn growth_by_others_and_by_equal_offsets(rt: HostRuntime) {
+    let alloc = rt.alloc();
+    let mut offsets = of(&rt, alloc, &[0, 3]);
+    let other = of(&rt, alloc, &[5, 8, 8]);
+    offsets
+        .try_extend_from_self(&other)
+        .expect(&rt, "no memory");
+    is(&rt, offsets.as_slice(), &[0, 3, 6, 6]);
+    let mut offsets = of(&rt, alloc, &[0, 3]);
     assert!(rt; is_overflow(offsets.extend_constant(usize::MAX)));
-    assert_eq!(rt; offsets.as_slice(), [0, 3, 6, 6].as_slice());
-    offsets.extend_constant(2)?;
-    assert_eq!(rt; offsets.as_slice(), [0, 3, 6, 6, 6, 6].as_slice());
-    let mut large = Offsets::try_from(vec![in alloc; 0i64, 9223372036854775806]?)?;
-    large.try_push(1)?;
-    assert!(rt; is_overflow(large.try_push(1)));
-    large.try_push(0)?;
-    assert_eq!(rt; *large.last(), 9223372036854775807);
-    let mut large = Offsets::<i64>::new(alloc)?;
+    is(&rt, offsets.as_slice(), &[0, 3]);
+    offsets.extend_constant(2).expect(&rt, "no memory");
+    is(&rt, offsets.as_slice(), &[0, 3, 3, 3]);
+    let mut two = of(&rt, alloc, &[0, 3]);
+    assert!(rt; matches!((two.pop(), two.pop()), (Some(3), None)));
+}
+
+#[test]
+fn large_offsets_end_at_their_greatest(rt: HostRuntime) {
+    let alloc = rt.alloc();
+    let mut large = Offsets::<i64>::new(alloc).expect(&rt, "no memory");
     assert!(rt; is_overflow(large.try_push_usize(9223372036854775808)));
-    assert_eq!(rt; large.as_slice(), [0].as_slice());
+    large.try_push(9223372036854775806).expect(&rt, "no memory");
+    large.try_push_usize(1).expect(&rt, "no memory");
+    assert!(rt; is_overflow(large.try_push(1)));
+    is(
+        &rt,
+        large.as_slice(),
+        &[0, 9223372036854775806, 9223372036854775807],
+    );
     assert!(rt; is_overflow(Offsets::<i32>::new_zeroed(alloc, usize::MAX)));
     assert!(rt; is_overflow(Offsets::<i64>::with_capacity(alloc, usize::MAX)));
-    let mut two = Offsets::try_from(vec![in alloc; 0i32, 3]?)?;
-    assert_eq!(rt; (two.pop(), two.pop()), (Some(3), None));
-    Ok(())
+}
+
+/// What is handed in is refused with the text, growing and shared.
+fn refuses(rt: &impl Abort, alloc: Global, items: &[i32], text: &str) {
+    let vector = items.to_vec(alloc).expect(rt, "no memory");
+    let refused = Offsets::try_from(vector).expect_err(rt, "accepted");
+    prints(rt, alloc, &refused, text);
+    let vector = items.to_vec(alloc).expect(rt, "no memory");
+    let buffer = Buffer::try_from(vector).expect(rt, "no memory");
+    let refused = OffsetsBuffer::try_from(buffer).expect_err(rt, "accepted");
+    prints(rt, alloc, &refused, text);
 }
 
 #[test]
-fn what_is_no_offsets_is_refused_by_the_first_rule(rt: HostRuntime) -> Result<(), Fail> {
+fn what_is_no_offsets_is_refused_by_the_first_rule(rt: HostRuntime) {
     let alloc = rt.alloc();
-    for (items, text) in [
-        (Vec::new(alloc), "offsets must have at least one element"),
-        (vec![in alloc; -1i32]?, "offsets must be larger than 0"),
-        (
-            vec![in alloc; 2i32, 1]?,
-            "offsets must be monotonically increasing",
-        ),
-    ] {
-        let buffer = Buffer::try_from(Vec::from_slice(alloc, items.as_slice())?)?;
-        let refused = OffsetsBuffer::try_from(buffer).err().ok_or("accepted")?;
-        assert_eq!(rt; refused.to_string(alloc)?.as_str(), text);
-        let refused = Offsets::try_from(items).err().ok_or("accepted")?;
-        assert_eq!(rt; refused.to_string(alloc)?.as_str(), text);
-    }
-    Ok(())
+    refuses(&rt, alloc, &[], "offsets must have at least one element");
+    refuses(&rt, alloc, &[-1], "offsets must be larger than 0");
+    refuses(
+        &rt,
+        alloc,
+        &[2, 1],
+        "offsets must be monotonically increasing",
+    );
 }
 
 #[test]
-fn offsets_widen_and_narrow(rt: HostRuntime) -> Result<(), Fail> {
+fn offsets_widen_and_narrow(rt: HostRuntime) {
     let alloc = rt.alloc();
-    let narrow = Offsets::try_from(vec![in alloc; 5i32, 8, 2147483647]?)?;
-    let wide = Offsets::<i64>::try_from(narrow.clone()?)?;
-    assert_eq!(rt; wide.as_slice(), [5, 8, 2147483647].as_slice());
-    assert!(rt; Offsets::<i32>::try_from(wide)? == narrow);
-    let shared = OffsetsBuffer::try_from(narrow)?;
-    let wide = OffsetsBuffer::<i64>::try_from(&shared)?;
-    assert!(rt; OffsetsBuffer::<i32>::try_from(&wide)? == shared);
-    let large = Offsets::try_from(vec![in alloc; 0i64, 2147483648]?)?;
-    let shared = OffsetsBuffer::try_from(large.clone()?)?;
+    let narrow = of(&rt, alloc, &[5, 8, 2147483647]);
+    let wide = Offsets::<i64>::try_from(narrow.clone().expect(&rt, "no memory"));
+    let wide = wide.expect(&rt, "no memory");
+    is(&rt, wide.as_slice(), &[5, 8, 2147483647]);
+    assert!(rt; Offsets::<i32>::try_from(wide).expect(&rt, "no memory") == narrow);
+    let large = grown::<i64>(&rt, alloc, &[2147483648]);
     assert!(rt; is_overflow(Offsets::<i32>::try_from(large)));
-    assert!(rt; is_overflow(OffsetsBuffer::<i32>::try_from(&shared)));
-    Ok(())
+}
+
+#[test]
+fn shared_offsets_widen_and_narrow(rt: HostRuntime) {
+    let alloc = rt.alloc();
+    let narrow = shared(&rt, alloc, &[5, 8, 2147483647]);
+    let wide = OffsetsBuffer::<i64>::try_from(&narrow).expect(&rt, "no memory");
+    is(&rt, wide.as_slice(), &[5, 8, 2147483647]);
+    assert!(rt; OffsetsBuffer::<i32>::try_from(&wide).expect(&rt, "no memory") == narrow);
+    let large = OffsetsBuffer::try_from(grown::<i64>(&rt, alloc, &[2147483648]));
+    let large = large.expect(&rt, "no memory");
+    assert!(rt; is_overflow(OffsetsBuffer::<i32>::try_from(&large)));
 }

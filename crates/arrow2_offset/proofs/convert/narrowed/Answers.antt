@@ -1,6 +1,6 @@
 use Rattle.std.proofs.Common.{get_or, arith}
 use Rattle.std.specs.Prelude.{pos, FitsSigned}
-use Rattle.std.specs.Int.{w32, w64}
+use Rattle.std.specs.Int.{w32 as as_i32, w64 as as_i64}
 use Rattle.std.proofs.lemmas.Int.{to_z-of_z}
 use Rattle.std.proofs.lemmas.Grind.{common_steps}
 use Rattle.arrow2_model.proofs.Ranges.{below_fits}
@@ -10,13 +10,13 @@ use Rattle.arrow2_offset.proofs.convert.narrowed.Goals as goal
 pub overflow_cast-offset : goal.overflow_cast-offset
 overflow_cast-offset c =
     let w = offset_within 2147483647 c.args.offsets.now c.loop-offset.offset-index c.requires c.loop-offset-test.true in
-    let wide : FitsSigned w64 (pos w.0) = below_fits w64 w.0 (omega (arith, w.2)) in
-    rw (w.1, to_z-of_z w64 (pos w.0) wide) (below_fits w32 w.0 (omega (arith, w.2)))
+    let wide : FitsSigned as_i64 (pos w.0) = below_fits as_i64 w.0 (omega (arith, w.2)) in
+    rw (w.1, to_z-of_z as_i64 (pos w.0) wide) (below_fits as_i32 w.0 (omega (arith, w.2)))
 
 pub loop-offset-preserved : goal.loop-offset-preserved
 loop-offset-preserved c =
     let w = offset_within 2147483647 c.args.offsets.now c.loop-offset.offset-index c.requires c.loop-offset-test.true in
     let x = get_or c.args.offsets.now c.loop-offset.offset-index (pos 0) in
-    let wide : FitsSigned w64 x = rw w.1 (below_fits w64 w.0 (omega (arith, w.2))) in
-    let narrow : FitsSigned w32 x = rw w.1 (below_fits w32 w.0 (omega (arith, w.2))) in
+    let wide : FitsSigned as_i64 x = rw w.1 (below_fits as_i64 w.0 (omega (arith, w.2))) in
+    let narrow : FitsSigned as_i32 x = rw w.1 (below_fits as_i32 w.0 (omega (arith, w.2))) in
     grind (arith, common_steps, to_z-of_z)

@@ -1,5 +1,4 @@
-use Rattle.std.proofs.Common.{◌+◌, ◌-◌, ◌<◌, inl, inr, ap, arith, rules, length, refl}
-use Rattle.std.proofs.lemmas.List.{length-map}
+use Rattle.std.proofs.Common.{◌+◌, ◌-◌, ◌<◌, inl, inr, arith, rules, length, refl}
 use Rattle.arrow2_model.specs.Buffers.{buffer_items}
 use Rattle.arrow2_offset.proofs.Growing.{slice_of}
 use Rattle.arrow2_offset.proofs.mutable.Offsets.try_extend_from_slice.Goals as goal
@@ -7,38 +6,26 @@ use Rattle.arrow2_offset.proofs.mutable.Offsets.try_extend_from_slice.Goals as g
 pub append-requires : goal.append-requires
 append-requires g c =
     let s = c.as_slice in
-    let some : c.args.start + c.args.length < c.args.other.now.len = elim c.requires [ inl e ↦ absurd (c.if-length-eq0.false e) | inr h ↦ h ] in
-    let e = ap length s.ensures.offsets in
-    let m = length-map s.result.now g.O.Number.value in
-    let within : c.args.start + c.args.length < length (buffer_items c.args.other.now) = omega (arith, some, e, m, s.ensures.len) in
+    let within : c.args.start + c.args.length < length (buffer_items c.args.other.now) = elim c.requires.inside [ inl e ↦ absurd (c.if-length-eq0.false e) | inr h ↦ h ] in
     (slice_of g.O.Number.value s.result.now _ (buffer_items c.args.other.now) c.args.start (c.args.start + c.args.length + 1 - c.args.start) c.args.length s.ensures.offsets s.ensures.valid refl (omega arith) within).0
 
 pub returns-in_err-append-clause-overflow : goal.returns-in_err-append-clause-overflow
 returns-in_err-append-clause-overflow g c =
     let s = c.as_slice in
-    let some : c.args.start + c.args.length < c.args.other.now.len = elim c.requires [ inl e ↦ absurd (c.if-length-eq0.false e) | inr h ↦ h ] in
-    let e = ap length s.ensures.offsets in
-    let m = length-map s.result.now g.O.Number.value in
-    let within : c.args.start + c.args.length < length (buffer_items c.args.other.now) = omega (arith, some, e, m, s.ensures.len) in
+    let within : c.args.start + c.args.length < length (buffer_items c.args.other.now) = elim c.requires.inside [ inl e ↦ absurd (c.if-length-eq0.false e) | inr h ↦ h ] in
     let same = (slice_of g.O.Number.value s.result.now _ (buffer_items c.args.other.now) c.args.start (c.args.start + c.args.length + 1 - c.args.start) c.args.length s.ensures.offsets s.ensures.valid refl (omega arith) within).1 in
     rw (← same) (search rules)
 
 pub returns-clause-ok : goal.returns-clause-ok
 returns-clause-ok g c =
     let s = c.as_slice in
-    let some : c.args.start + c.args.length < c.args.other.now.len = elim c.requires [ inl e ↦ absurd (c.if-length-eq0.false e) | inr h ↦ h ] in
-    let e = ap length s.ensures.offsets in
-    let m = length-map s.result.now g.O.Number.value in
-    let within : c.args.start + c.args.length < length (buffer_items c.args.other.now) = omega (arith, some, e, m, s.ensures.len) in
+    let within : c.args.start + c.args.length < length (buffer_items c.args.other.now) = elim c.requires.inside [ inl e ↦ absurd (c.if-length-eq0.false e) | inr h ↦ h ] in
     let same = (slice_of g.O.Number.value s.result.now _ (buffer_items c.args.other.now) c.args.start (c.args.start + c.args.length + 1 - c.args.start) c.args.length s.ensures.offsets s.ensures.valid refl (omega arith) within).1 in
     rw (← same) c.in_ok-append.ensures.ok
 
 pub returns-clause-overflow : goal.returns-clause-overflow
 returns-clause-overflow g c =
     let s = c.as_slice in
-    let some : c.args.start + c.args.length < c.args.other.now.len = elim c.requires [ inl e ↦ absurd (c.if-length-eq0.false e) | inr h ↦ h ] in
-    let e = ap length s.ensures.offsets in
-    let m = length-map s.result.now g.O.Number.value in
-    let within : c.args.start + c.args.length < length (buffer_items c.args.other.now) = omega (arith, some, e, m, s.ensures.len) in
+    let within : c.args.start + c.args.length < length (buffer_items c.args.other.now) = elim c.requires.inside [ inl e ↦ absurd (c.if-length-eq0.false e) | inr h ↦ h ] in
     let same = (slice_of g.O.Number.value s.result.now _ (buffer_items c.args.other.now) c.args.start (c.args.start + c.args.length + 1 - c.args.start) c.args.length s.ensures.offsets s.ensures.valid refl (omega arith) within).1 in
     rw (← same) (search rules)

@@ -1,17 +1,18 @@
-//! Why offsets do not grow, in one byte.
+//! Why a value does not grow, in one byte.
 ghost use Rattle.std.specs.Prelude.{◌≡◌};
-ghost use Rattle.arrow2_offset.specs.Refused.{error_of};
-ghost use Rattle.arrow2_offset.specs.declared.refusal.Refusal.TheVariants.{OutOfMemory};
+ghost use Rattle.arrow2_types.specs.Refusals.{error_of};
+ghost use Rattle.arrow2_types.specs.declared.refusal.Refusal.TheVariants.{OutOfMemory};
 
-use arrow2_types::error::Error;
+use crate::error::Error;
 use std::alloc::{AllocError, AllocFailed};
 
-/// Why offsets do not grow.
+/// Why a value does not grow.
 ///
-/// It is one byte, where an [`Error`] is many: what grows offsets makes no `Error`.
+/// It is one byte, where an [`Error`] is many: a call inside a loop answers it, so that no room for a wide error is
+/// written at each item. The public call makes the [`Error`] of it. Not in arrow2.
 #[derive(Drop)]
-pub(crate) enum Refusal {
-    /// The last offset would pass the greatest one of its type, or the number of offsets `usize`.
+pub enum Refusal {
+    /// A length, a count or an offset would pass the greatest number of its type.
     Overflow,
     /// A request for memory was refused.
     OutOfMemory,

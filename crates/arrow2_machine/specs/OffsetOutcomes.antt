@@ -1,0 +1,88 @@
+-- What each command on offsets does to the machine of lists.
+use Rattle.std.specs.Prelude.{ℕ, ◌+◌, ◌-◌, ◌==◌, ◌||◌, nat_lt, List, [], ◌∷◌, ◌++◌, length, map, sum, slice_set, take, codes, Result, Ok, Err, if◌then◌else◌}
+use Rattle.std.specs.List.{zip}
+use Rattle.std.specs.Fmt.{decimal}
+use Rattle.arrow2_model.specs.Parts.{part}
+use Rattle.arrow2_model.specs.Offsets.{offset_at, last_offset}
+use Rattle.arrow2_script.specs.declared.offset_command.OffsetCommand.{OffsetCommand}
+use Rattle.arrow2_script.specs.declared.offset_command.OffsetCommand.TheVariants as command
+use Rattle.arrow2_machine.specs.declared.refusal.Refusal.{Refusal}
+use Rattle.arrow2_machine.specs.declared.refusal.Refusal.TheVariants.{Range, Length, Overflow}
+use Rattle.arrow2_machine.specs.Held.{Offsets, Held, FrozenOffsets, GrowingOffsets, ◌>>=◌, at, frozen, growing_offsets, frozen_offsets, spelled_offsets, offset_list}
+use Rattle.arrow2_machine.specs.Replies.{words_text, slot_word}
+
+-- the greatest offset
+abbrev pub greatest : ℕ
+greatest = 2147483647
+
+-- what a slot holds with one offset alone
+abbrev pub begun : ℕ → Result Held Refusal
+begun first = if nat_lt greatest first then Err Range else Ok (GrowingOffsets (record { start = first; lengths = [] }))
+
+-- what a slot holds after lengths are appended to it
+abbrev pub grown : Held → List ℕ → Result Held Refusal
+grown held lengths = do
+  o ← growing_offsets held
+  if nat_lt greatest (last_offset o.start o.lengths + sum lengths) then Err Overflow else Ok (GrowingOffsets (record o { lengths = o.lengths ++ lengths }))
+
+-- the reply that tells the offset which is taken off: the last one, unless it is the only one
+abbrev pub taken_off : Offsets → List ℕ
+taken_off o = if length o.lengths == 0 then codes "none" else decimal (last_offset o.start o.lengths)
+
+-- what a slot holds after its last offset is taken off, and the reply that tells it
+abbrev pub shortened : Held → Result (Held × List ℕ) Refusal
+shortened held = do
+  o ← growing_offsets held
+  Ok (GrowingOffsets (record o { lengths = take (length o.lengths - 1) o.lengths }), taken_off o)
+
+-- the text of a slot's offsets
+abbrev pub offset_text : Held → Result (List ℕ) Refusal
+offset_text held = do
+  o ← spelled_offsets held
+  Ok (words_text (map decimal (offset_list o)))
+
+-- what a slot holds after its offsets are frozen
+abbrev pub froze_offsets : Held → Result Held Refusal
+froze_offsets held = do
+  o ← growing_offsets held
+  Ok (FrozenOffsets o)
+
+-- what a slot holds after it is cut to its n offsets from offset i on: it has one offset more than lengths
+abbrev pub sliced_offsets : Held → ℕ → ℕ → Result Held Refusal
+sliced_offsets held i n = do
+  o ← frozen_offsets held
+  if n == 0 || nat_lt (length o.lengths + 1) (i + n) then Err Range else Ok (FrozenOffsets (record { start = offset_at o.start o.lengths i; lengths = part o.lengths i (n - 1) }))
+
+-- the text of a slot's lengths by another slot's items
+abbrev pub zipped : Held → Held → Result (List ℕ) Refusal
+zipped offsets validity = do
+  o ← frozen_offsets offsets
+  items ← frozen validity
+  if length o.lengths == length items then Ok (words_text (map (λ p. slot_word p.0 p.1) (zip o.lengths items))) else Err Length
+
+-- the slots after a command on offsets, and its reply
+unfoldable pub offset_outcome : List Held → OffsetCommand → Result (List Held × List ℕ) Refusal
+offset_outcome slots (command.New s first) = do
+  held ← begun first
+  Ok (slice_set slots s held, codes "ok")
+offset_outcome slots (command.Push s n) = do
+  held ← grown (at slots s) (n ∷ [])
+  Ok (slice_set slots s held, codes "ok")
+offset_outcome slots (command.Pop s) = do
+  after ← shortened (at slots s)
+  Ok (slice_set slots s after.0, after.1)
+offset_outcome slots (command.Extend s lengths) = do
+  held ← grown (at slots s) lengths
+  Ok (slice_set slots s held, codes "ok")
+offset_outcome slots (command.Offsets s) = do
+  said ← offset_text (at slots s)
+  Ok (slots, said)
+offset_outcome slots (command.Freeze s) = do
+  held ← froze_offsets (at slots s)
+  Ok (slice_set slots s held, codes "ok")
+offset_outcome slots (command.Slice s i n) = do
+  held ← sliced_offsets (at slots s) i n
+  Ok (slice_set slots s held, codes "ok")
+offset_outcome slots (command.Zip s v) = do
+  said ← zipped (at slots s) (at slots v)
+  Ok (slots, said)

@@ -1,0 +1,234 @@
+//! The commands on offsets: what each does to its slots, and its reply.
+ghost use Rattle.std.specs.Prelude.{◌≡◌, ◌≢◌, ◌<◌, ◌≤◌, ◌+◌, ◌-◌, ◌++◌, ◌↔◌, [], ◌∷◌, ◌≤ℤ◌, pos, unsigned_abs, length as count_of, sum, ◌⊎◌, IsOk, OnOk, OnErr, IfErr, IfOk, IsOkAnd, IsErrOf};
+ghost use Rattle.arrow2_model.specs.Parts.{part};
+ghost use Rattle.arrow2_model.specs.Buffers.{buffer_items};
+ghost use Rattle.arrow2_model.specs.Offsets.{offset_at, start_of, lengths_of, last_of_growing, GrownBy, SameOffsets};
+ghost use Rattle.arrow2_machine.specs.Held.{Nothing};
+ghost use Rattle.arrow2_machine.specs.Replies.{offset_said};
+ghost use Rattle.arrow2_machine.specs.OffsetOutcomes.{begun, grown, shortened, offset_text, froze_offsets, sliced_offsets, zipped, offset_outcome};
+ghost use Rattle.arrow2_machine.specs.Outcomes.{Gives, Fails};
+
+use crate::refusal::{CommandError, Refusal};
+use crate::replies::{write_offset, write_offsets, write_slots};
+use crate::slot::{Contents, Slot};
+use arrow2_offset::{Offsets, OffsetsBuffer};
+use arrow2_script::offset_command::OffsetCommand;
+use arrow2_script::words::NumberText;
+use arrow2_types::error;
+use arrow2_types::error::Error;
+use std::alloc::Global;
+use std::convert::TryFrom;
+use std::mem;
+
+/// Carries a command on offsets out, and appends its reply.
+#[tactic(auto, unfolding(crate::specs::OffsetOutcomes::offset_outcome))]
+pub(crate) fn run(
+    slots: &mut [Slot; 16],
+    alloc: Global,
+    command: OffsetCommand<'_>,
+    reply: &mut Vec<u8>,
+) -> Result<(), CommandError>
+    ensures ok { OnOk result (IsOkAnd (offset_outcome slots.old command.entry) (λ after. (slots.new ≡ after.0) × (reply.new.items ≡ reply.old.items ++ after.1))) }
+    ensures refused { IfErr result (λ e. Fails e (offset_outcome slots.old command.entry)) }
+    ensures err { IfErr result (λ e. e ≢ CommandError.OutOfMemory → (slots.new ≡ slots.old) × (reply.new.items ≡ reply.old.items)) }
+{
+    match command {
+        OffsetCommand::New(slot, first) => slots[slot.get()] = Slot::with_offset(alloc, first)?,
+        OffsetCommand::Push(slot, length) => slots[slot.get()].push_length(length)?,
+        OffsetCommand::Pop(slot) => return write_offset(slots[slot.get()].pop_offset()?, reply),
+        OffsetCommand::Extend(slot, lengths) => slots[slot.get()].extend_lengths(lengths)?,
+        OffsetCommand::Offsets(slot) => return slots[slot.get()].write_offsets(reply),
+        OffsetCommand::Freeze(slot) => slots[slot.get()].freeze_offsets()?,
+        OffsetCommand::Slice(slot, first, count) => slots[slot.get()].slice_offsets(first, count)?,
+        OffsetCommand::Zip(offsets, validity) => {
+            let slots: &[Slot; 16] = slots;
+            return slots[offsets.get()].write_zipped(&slots[validity.get()], reply);
+        }
+    }
+    reply.extend_from_slice(b"ok")?;
+    Ok(())
+}
+
+impl Slot {
+    /// A slot with growing offsets, of which `first` is the only one.
+    ///
+    /// # Errors
+    ///
+    /// `Range` where `first` is above 2147483647, else `OutOfMemory` alone.
+    pub fn with_offset(alloc: Global, first: u64) -> Result<Slot, CommandError>
+        ensures { Gives (λ slot. slot) result (begun first) }
+    {
+        let Ok(first) = i32::try_from(first) else {
+            return Err(CommandError::Refused(Refusal::Range));
+        };
+        Ok(Slot {
+            contents: Contents::GrowingOffsets(offsets_of(alloc, first)?),
+        })
+    }
+
+    /// Appends one length to growing offsets.
+    ///
+    /// # Errors
+    ///
+    /// `Kind`, `Overflow` or `OutOfMemory`. They change nothing.
+    pub fn push_length(&mut self, length: u64) -> Result<(), CommandError>
+        ensures gives { Gives (λ _. self.new) result (grown self.old (length ∷ [])) }
+        ensures err { OnErr result (self.new ≡ self.old) }
+    {
+        match &mut self.contents {
+            Contents::GrowingOffsets(offsets) => {
+                offsets.try_push_usize(length as usize)?;
+                Ok(())
+            }
+            _ => Err(CommandError::Refused(Refusal::Kind)),
+        }
+    }
+
+    /// Appends lengths to growing offsets, all of them or none.
+    ///
+    /// # Errors
+    ///
+    /// `Kind`, `Overflow` or `OutOfMemory`. They change nothing.
+    pub fn extend_lengths(&mut self, lengths: NumberText<'_>) -> Result<(), CommandError>
+        ensures gives { Gives (λ _. self.new) result (grown self.old lengths.entry) }
+        ensures err { OnErr result (self.new ≡ self.old) }
+    {
+        match &mut self.contents {
+            Contents::GrowingOffsets(offsets) => {
+                extend(offsets, lengths)?;
+                Ok(())
+            }
+            _ => Err(CommandError::Refused(Refusal::Kind)),
+        }
+    }
+
+    /// Takes the last offset off growing offsets, and gives it back; the first one stays.
+    ///
+    /// # Errors
+    ///
+    /// `Kind` alone, which changes nothing.
+    pub fn pop_offset(&mut self) -> Result<Option<i32>, CommandError>
+        ensures gives { Gives (λ offset. (self.new, offset_said offset)) result (shortened self.old) }
+        ensures err { OnErr result (self.new ≡ self.old) }
+        ensures only { IfErr result (λ e. e ≢ CommandError.OutOfMemory) }
+    {
+        match &mut self.contents {
+            Contents::GrowingOffsets(offsets) => Ok(offsets.pop()),
+            _ => Err(CommandError::Refused(Refusal::Kind)),
+        }
+    }
+
+    /// Appends the text of offsets.
+    ///
+    /// # Errors
+    ///
+    /// `Kind`, which changes nothing, or `OutOfMemory`, after which a part of the text may be there.
+    pub fn write_offsets(&self, out: &mut Vec<u8>) -> Result<(), CommandError>
+        ensures ok { OnOk result (IsOkAnd (offset_text self.now) (λ text. out.new.items ≡ out.old.items ++ text)) }
+        ensures refused { IfErr result (λ e. Fails e (offset_text self.now)) }
+        ensures err { IfErr result (λ e. e ≢ CommandError.OutOfMemory → out.new.items ≡ out.old.items) }
+    {
+        match &self.contents {
+            Contents::FrozenOffsets(offsets) => write_offsets(offsets.as_slice(), out),
+            Contents::GrowingOffsets(offsets) => write_offsets(offsets.as_slice(), out),
+            _ => Err(CommandError::Refused(Refusal::Kind)),
+        }
+    }
+
+    /// Freezes growing offsets.
+    ///
+    /// # Errors
+    ///
+    /// `Kind`, which changes nothing, or `OutOfMemory`, which leaves nothing in the slot.
+    pub fn freeze_offsets(&mut self) -> Result<(), CommandError>
+        ensures gives { Gives (λ _. self.new) result (froze_offsets self.old) }
+        ensures err { IfErr result (λ e. e ≢ CommandError.OutOfMemory → self.new ≡ self.old) }
+        ensures memory { IsErrOf result CommandError.OutOfMemory → self.new ≡ Nothing }
+    {
+        match mem::replace(&mut self.contents, Contents::Nothing) {
+            Contents::GrowingOffsets(offsets) => {
+                self.contents = Contents::FrozenOffsets(OffsetsBuffer::try_from(offsets)?);
+                Ok(())
+            }
+            other => {
+                self.contents = other;
+                Err(CommandError::Refused(Refusal::Kind))
+            }
+        }
+    }
+
+    /// Cuts frozen offsets to `count` of them from offset `first` on. Takes no memory.
+    ///
+    /// # Errors
+    ///
+    /// `Kind`, or `Range` where `count` is 0 or they are not inside. They change nothing.
+    pub fn slice_offsets(&mut self, first: u64, count: u64) -> Result<(), CommandError>
+        ensures gives { Gives (λ _. self.new) result (sliced_offsets self.old first count) }
+        ensures err { OnErr result (self.new ≡ self.old) }
+        ensures only { IfErr result (λ e. e ≢ CommandError.OutOfMemory) }
+    {
+        match &mut self.contents {
+            Contents::FrozenOffsets(offsets) => cut(offsets, first, count),
+            _ => Err(CommandError::Refused(Refusal::Kind)),
+        }
+    }
+
+    /// Appends the lengths of frozen offsets, and `null` in place of those where a frozen bitmap is false.
+    ///
+    /// # Errors
+    ///
+    /// `Kind` or `Length`, which change nothing, or `OutOfMemory`, after which a part of the text may be there.
+    pub fn write_zipped(&self, validity: &Slot, out: &mut Vec<u8>) -> Result<(), CommandError>
+        ensures ok { OnOk result (IsOkAnd (zipped self.now validity.now) (λ text. out.new.items ≡ out.old.items ++ text)) }
+        ensures refused { IfErr result (λ e. Fails e (zipped self.now validity.now)) }
+        ensures err { IfErr result (λ e. e ≢ CommandError.OutOfMemory → out.new.items ≡ out.old.items) }
+    {
+        match (&self.contents, &validity.contents) {
+            (Contents::FrozenOffsets(offsets), Contents::Frozen(validity)) => {
+                if offsets.len_proxy() != validity.len() {
+                    return Err(CommandError::Refused(Refusal::Length));
+                }
+                write_slots(offsets.lengths(), validity.iter(), out)
+            }
+            _ => Err(CommandError::Refused(Refusal::Kind)),
+        }
+    }
+}
+
+/// Growing offsets with one offset alone. Asks that it is not negative.
+fn offsets_of(alloc: Global, first: i32) -> Result<Offsets<i32>, CommandError>
+    requires { pos 0 ≤ℤ first }
+    ensures ok { IfOk result (λ o. (o.start ≡ unsigned_abs first) × (o.lengths ≡ [])) }
+    ensures only { IfErr result (λ e. e ≡ CommandError.OutOfMemory) }
+{
+    let offsets = vec![in alloc; first]?;
+    Ok(Offsets::try_from(offsets)?)
+}
+
+/// Appends lengths to offsets, all of them or none.
+fn extend(offsets: &mut Offsets<i32>, lengths: NumberText<'_>) -> error::Result<()>
+    ensures ok { OnOk result (GrownBy lengths.entry offsets.old offsets.new) }
+    ensures fits { OnOk result (last_of_growing offsets.old + sum lengths.entry ≤ 2147483647) }
+    ensures err { OnErr result (SameOffsets offsets.old offsets.new) }
+    ensures overflow { IsErrOf result Error.Overflow → 2147483647 < last_of_growing offsets.old + sum lengths.entry }
+    ensures only { IfErr result (λ e. (e ≡ Error.Overflow) ⊎ (e ≡ Error.OutOfMemory)) }
+{
+    offsets.try_extend_from_lengths(lengths)
+}
+
+/// Cuts offsets to `count` of them from offset `first` on, where that is one or more and they are inside.
+fn cut(offsets: &mut OffsetsBuffer<i32>, first: u64, count: u64) -> Result<(), CommandError>
+    ensures inside { IsOk result ↔ ((0 < count) × (first + count ≤ count_of (lengths_of (buffer_items offsets.old)) + 1)) }
+    ensures start { OnOk result (start_of (buffer_items offsets.new) ≡ offset_at (start_of (buffer_items offsets.old)) (lengths_of (buffer_items offsets.old)) first) }
+    ensures lengths { OnOk result (lengths_of (buffer_items offsets.new) ≡ part (lengths_of (buffer_items offsets.old)) first (count - 1)) }
+    ensures err { OnErr result (offsets.new ≡ offsets.old) }
+    ensures only { IfErr result (λ e. e ≡ CommandError.Refused Refusal.Range) }
+{
+    let len = offsets.len() as u64;
+    if 0 < count && first <= len && count <= len - first {
+        offsets.slice(first as usize, count as usize);
+        Ok(())
+    } else {
+        Err(CommandError::Refused(Refusal::Range))
+    }
+}

@@ -1,0 +1,69 @@
+//! The commands on values of any kind: what each does to its slots, and its reply.
+ghost use Rattle.std.specs.Prelude.{◌≡◌, ◌≢◌, ◌++◌, OnOk, IfErr, IsOkAnd};
+ghost use Rattle.arrow2_machine.specs.ValueOutcomes.{copied, compared, value_outcome};
+ghost use Rattle.arrow2_machine.specs.Outcomes.{Gives, Fails};
+
+use crate::refusal::{CommandError, Refusal};
+use crate::replies::write_item;
+use crate::slot::{Contents, Slot};
+use arrow2_script::value_command::ValueCommand;
+
+/// Carries a command on values out, and appends its reply.
+#[tactic(auto, unfolding(crate::specs::ValueOutcomes::value_outcome))]
+pub(crate) fn run(
+    slots: &mut [Slot; 16],
+    command: ValueCommand,
+    reply: &mut Vec<u8>,
+) -> Result<(), CommandError>
+    ensures ok { OnOk result (IsOkAnd (value_outcome slots.old command) (λ after. (slots.new ≡ after.0) × (reply.new.items ≡ reply.old.items ++ after.1))) }
+    ensures refused { IfErr result (λ e. Fails e (value_outcome slots.old command)) }
+    ensures err { IfErr result (λ e. e ≢ CommandError.OutOfMemory → (slots.new ≡ slots.old) × (reply.new.items ≡ reply.old.items)) }
+{
+    match command {
+        ValueCommand::Copy(from, to) => slots[to.get()] = slots[from.get()].copy()?,
+        ValueCommand::Compare(left, right) => {
+            let slots: &[Slot; 16] = slots;
+            let same = slots[left.get()].compare(&slots[right.get()])?;
+            return write_item(Some(same), reply);
+        }
+    }
+    reply.extend_from_slice(b"ok")?;
+    Ok(())
+}
+
+impl Slot {
+    /// A slot with the same frozen value.
+    ///
+    /// # Errors
+    ///
+    /// `Kind` or `OutOfMemory`.
+    pub fn copy(&self) -> Result<Slot, CommandError>
+        ensures { Gives (λ slot. slot) result (copied self.now) }
+    {
+        let contents = match &self.contents {
+            Contents::Frozen(bitmap) => Contents::Frozen(bitmap.clone()?),
+            Contents::FrozenOffsets(offsets) => Contents::FrozenOffsets(offsets.clone()?),
+            _ => return Err(CommandError::Refused(Refusal::Kind)),
+        };
+        Ok(Slot { contents })
+    }
+
+    /// Whether two slots hold the same list.
+    ///
+    /// # Errors
+    ///
+    /// `Kind` alone, where they hold different kinds or nothing.
+    pub fn compare(&self, other: &Slot) -> Result<bool, CommandError>
+        ensures gives { Gives (λ same. same) result (compared self.now other.now) }
+        ensures only { IfErr result (λ e. e ≢ CommandError.OutOfMemory) }
+    {
+        match (&self.contents, &other.contents) {
+            (Contents::Frozen(a), Contents::Frozen(b)) => Ok(a == b),
+            (Contents::Growing(a), Contents::Growing(b)) => Ok(a == b),
+            // By the method, since its contract speaks of the starts and the lengths.
+            (Contents::FrozenOffsets(a), Contents::FrozenOffsets(b)) => Ok(a.eq(b)),
+            (Contents::GrowingOffsets(a), Contents::GrowingOffsets(b)) => Ok(a == b),
+            _ => Err(CommandError::Refused(Refusal::Kind)),
+        }
+    }
+}
