@@ -1,5 +1,7 @@
 pub mod Bits
+pub mod Collected
 pub mod Errors
+pub mod Refused
 pub use Rattle.arrow2_model.specs.Buffers
 pub use Rattle.arrow2_model.specs.Canonical
 pub use Rattle.arrow2_model.specs.Digits
@@ -14,6 +16,7 @@ pub use Rattle.arrow2_model.specs.Tables
 pub use Rattle.arrow2_model.specs.Words
 pub use Rattle.arrow2_types.specs.ErrorTexts
 pub use Rattle.arrow2_types.specs.Refusals
+pub use Rattle.arrow2_offset.specs.Made
 pub use Rattle.arrow2_datatypes.specs.Extensions
 pub use Rattle.arrow2_datatypes.specs.Kept
 pub use Rattle.arrow2_datatypes.specs.Types

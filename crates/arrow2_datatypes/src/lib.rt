@@ -141,37 +141,34 @@ impl DataType {
     pub fn to_physical_type(&self) -> PhysicalType
         ensures { result ≡ physical self.now }
     {
+        use PhysicalType::Primitive;
+
         match self {
             DataType::Null => PhysicalType::Null,
             DataType::Boolean => PhysicalType::Boolean,
-            DataType::Int8 => PhysicalType::Primitive(PrimitiveType::Int8),
-            DataType::Int16 => PhysicalType::Primitive(PrimitiveType::Int16),
-            DataType::Int32
-            | DataType::Date32
-            | DataType::Time32(_)
-            | DataType::Interval(IntervalUnit::YearMonth) => {
-                PhysicalType::Primitive(PrimitiveType::Int32)
+            DataType::Int8 => Primitive(PrimitiveType::Int8),
+            DataType::Int16 => Primitive(PrimitiveType::Int16),
+            DataType::Int32 | DataType::Date32 | DataType::Time32(_) => {
+                Primitive(PrimitiveType::Int32)
             }
-            DataType::Int64
-            | DataType::Date64
-            | DataType::Timestamp(_, _)
-            | DataType::Time64(_)
-            | DataType::Duration(_) => PhysicalType::Primitive(PrimitiveType::Int64),
-            DataType::Decimal(_, _) => PhysicalType::Primitive(PrimitiveType::Int128),
-            DataType::Decimal256(_, _) => PhysicalType::Primitive(PrimitiveType::Int256),
-            DataType::UInt8 => PhysicalType::Primitive(PrimitiveType::UInt8),
-            DataType::UInt16 => PhysicalType::Primitive(PrimitiveType::UInt16),
-            DataType::UInt32 => PhysicalType::Primitive(PrimitiveType::UInt32),
-            DataType::UInt64 => PhysicalType::Primitive(PrimitiveType::UInt64),
-            DataType::Float16 => PhysicalType::Primitive(PrimitiveType::Float16),
-            DataType::Float32 => PhysicalType::Primitive(PrimitiveType::Float32),
-            DataType::Float64 => PhysicalType::Primitive(PrimitiveType::Float64),
-            DataType::Interval(IntervalUnit::DayTime) => {
-                PhysicalType::Primitive(PrimitiveType::DaysMs)
+            DataType::Int64 | DataType::Date64 | DataType::Time64(_) => {
+                Primitive(PrimitiveType::Int64)
             }
-            DataType::Interval(IntervalUnit::MonthDayNano) => {
-                PhysicalType::Primitive(PrimitiveType::MonthDayNano)
-            }
+            DataType::UInt8 => Primitive(PrimitiveType::UInt8),
+            DataType::UInt16 => Primitive(PrimitiveType::UInt16),
+            DataType::UInt32 => Primitive(PrimitiveType::UInt32),
+            DataType::UInt64 => Primitive(PrimitiveType::UInt64),
+            DataType::Float16 => Primitive(PrimitiveType::Float16),
+            DataType::Float32 => Primitive(PrimitiveType::Float32),
+            DataType::Float64 => Primitive(PrimitiveType::Float64),
+            DataType::Timestamp(_, _) | DataType::Duration(_) => Primitive(PrimitiveType::Int64),
+            DataType::Interval(IntervalUnit::YearMonth) => Primitive(PrimitiveType::Int32),
+            DataType::Interval(IntervalUnit::DayTime) => Primitive(PrimitiveType::DaysMs),
+            DataType::Interval(IntervalUnit::MonthDayNano) => Primitive(
+                PrimitiveType::MonthDayNano,
+            ),
+            DataType::Decimal(_, _) => Primitive(PrimitiveType::Int128),
+            DataType::Decimal256(_, _) => Primitive(PrimitiveType::Int256),
             DataType::Binary => PhysicalType::Binary,
             DataType::FixedSizeBinary(_) => PhysicalType::FixedSizeBinary,
             DataType::LargeBinary => PhysicalType::LargeBinary,
