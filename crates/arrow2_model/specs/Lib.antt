@@ -6,6 +6,8 @@ pub mod Offsets
 pub mod Ones
 pub mod Parts
 pub mod Ranges
+pub mod Runs
 pub mod Shown
 pub mod Storage
 pub mod Words
+pub mod Zipped

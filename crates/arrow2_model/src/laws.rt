@@ -1,11 +1,12 @@
 //! Laws of the definitions. Each function is its law and nothing else.
-ghost use Rattle.std.specs.Prelude.{◌≡◌, ◌↔◌, ℕ, ◌+◌, ◌*◌, ◌/◌, ◌%◌, ◌<◌, ◌≤◌, ◌^◌, List, ◌∷◌, [], ◌++◌, Bool, true, length, codes, count_by, replicate, slice_get, slice_index, Some, take, IsTrue};
+ghost use Rattle.std.specs.Prelude.{◌≡◌, ◌↔◌, ℕ, ◌+◌, ◌*◌, ◌/◌, ◌%◌, ◌<◌, ◌≤◌, ◌^◌, List, ◌∷◌, [], ◌++◌, Bool, true, length, codes, count_by, false, get_or, replicate, slice_get, slice_index, slice_index_or, Some, take, IsTrue};
 ghost use Rattle.std.specs.Bool.{beq};
 ghost use Rattle.std.specs.Cmp.Lexicographic.{pointwise};
-ghost use Rattle.std.specs.List.{flat_map};
+ghost use Rattle.std.specs.List.{flat_map, sum_by};
 ghost use Rattle.arrow2_model.specs.Bits.{bit, bits, num, unnum, sum_of_powers};
 ghost use Rattle.arrow2_model.specs.Parts.{part, falses};
 ghost use Rattle.arrow2_model.specs.Storage.{BitmapStorage, items_of};
+ghost use Rattle.arrow2_model.specs.Runs.{runs, AreRuns, InRuns};
 ghost use Rattle.arrow2_model.specs.Words.{full_words, rest};
 ghost use Rattle.arrow2_model.specs.Canonical.{canonical_bytes};
 ghost use Rattle.arrow2_model.specs.Shown.{shown, items_text};
@@ -104,4 +105,29 @@ pub fn a_bitmap_is_shown_as_its_list()
 #[tactic(auto, using(crate::proofs::Same::comparing))]
 pub fn a_comparison_tells_lists_apart()
     ensures { (xs ys : List Bool) → IsTrue (pointwise beq xs ys) ↔ (xs ≡ ys) }
+{}
+
+/// The runs of a list are its maximal runs of true items, all of them, each once and rising; no other list is that.
+#[tactic(auto, using(crate::proofs::RunLaws::runs_of_a_list))]
+pub fn runs_are_the_maximal_ones()
+    ensures all { (items : List Bool) → AreRuns items (runs items) }
+    ensures only { (items : List Bool) (ps : List (ℕ × ℕ)) → AreRuns items ps → ps ≡ runs items }
+{}
+
+/// A run ends before any later one begins, with a place between them: runs are disjoint, rising and not adjacent.
+#[tactic(auto, using(crate::proofs::RunLaws::runs_of_a_list))]
+pub fn runs_lie_apart()
+    ensures { (items : List Bool) (i j : ℕ) → i < j → j < length (runs items) → (slice_index_or (runs items) i (0, 0)).0 + (slice_index_or (runs items) i (0, 0)).1 < (slice_index_or (runs items) j (0, 0)).0 }
+{}
+
+/// The places in runs are those of the true items.
+#[tactic(auto, using(crate::proofs::RunLaws::runs_of_a_list))]
+pub fn runs_cover_the_true_items()
+    ensures { (items : List Bool) (k : ℕ) → (get_or items k false ≡ true) ↔ InRuns k (runs items) }
+{}
+
+/// The lengths of the runs and the false items are all items.
+#[tactic(auto, using(crate::proofs::RunLaws::runs_of_a_list))]
+pub fn lengths_of_runs_are_the_true_items()
+    ensures { (items : List Bool) → sum_by (λ p. p.1) (runs items) + falses items ≡ length items }
 {}
