@@ -7,7 +7,9 @@ pub mod Offsets
 pub mod Ones
 pub mod Parts
 pub mod Ranges
+pub mod Runs
 pub mod Shown
 pub mod Storage
 pub mod Tables
 pub mod Words
+pub mod Zipped

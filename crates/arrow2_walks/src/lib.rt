@@ -1,0 +1,10 @@
+//! Walks over bitmaps: values beside their validity, and the runs of set items.
+#![tactic(auto)]
+
+pub mod laws;
+mod places;
+pub mod slice_iterator;
+pub mod zip_validity;
+
+pub use slice_iterator::SlicesIterator;
+pub use zip_validity::{ZipValidity, ZipValidityIter};

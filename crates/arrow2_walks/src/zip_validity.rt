@@ -1,0 +1,223 @@
+//! Values beside their validity, item by item.
+ghost use Rattle.std.specs.Prelude.{◌≡◌, ◌⊎◌, ◌<◌, Bool, true, None, Some, MatchOption, IfSome, length};
+ghost use Rattle.std.specs.Option.{ForSome};
+ghost use Rattle.std.specs.Iterator.{UpTo};
+ghost use Rattle.std.specs.Iterator.SizeHint.{IsWithinCount};
+ghost use Rattle.arrow2_model.specs.Parts.{falses};
+ghost use Rattle.arrow2_model.specs.Storage.{items_of};
+ghost use Rattle.arrow2_model.specs.Zipped.{slot};
+ghost use Rattle.arrow2_walks.specs.Zips.{values_of, validity_of, either_values, MatchZip, IsRequiredAnd, IsOptionalAnd, GivesAsMany, GiveEquallyMany, zip_validity_steps, either_steps};
+
+use arrow2_bitmap::Bitmap;
+use arrow2_bits::iterator::BitmapIter;
+
+/// A walk over values and their validity, from both ends: an item is `Some` of its value where it is valid, and `None`
+/// where it is not.
+///
+/// Differs from arrow2: `nth` is the standard library's, over `next`.
+#[derive(Debug, Clone, Drop)]
+pub struct ZipValidityIter<I, V> {
+    values: I,
+    validity: V,
+}
+
+impl<I: Iterator, V: Iterator<Item = bool>> ZipValidityIter<I, V> {
+    /// The walk over both. Asks that they have equally many items; arrow2 compares their size hints.
+    pub fn new(values: I, validity: V) -> ZipValidityIter<I, V>
+        requires same_length { GiveEquallyMany I.next_gives V.next_gives values validity }
+        ensures values { values_of result ≡ values }
+        ensures validity { validity_of result ≡ validity }
+    {
+        ZipValidityIter { values, validity }
+    }
+}
+
+/// What a value and its validity make. `None` where either walk has ended.
+fn zip<X: Drop>(value: Option<X>, is_valid: Option<bool>) -> Option<Option<X>>
+    ensures { MatchOption result ((value ≡ None) ⊎ (is_valid ≡ None)) (λ item. (x : X) × (valid : Bool) × (value ≡ Some x) × (is_valid ≡ Some valid) × (item ≡ slot x valid)) }
+{
+    let value = value?;
+    Some(is_valid?.then_some(value))
+}
+
+impl<I: Iterator, V: Iterator<Item = bool>> Iterator for ZipValidityIter<I, V>
+where
+    I::Item: Drop,
+{
+    type Item = Option<I::Item>;
+
+    ghost can_next = { λ s. I.can_next (values_of s) × V.can_next (validity_of s) };
+
+    ghost next_gives = { zip_validity_steps I.next_gives V.next_gives };
+
+    ghost remaining = { λ s. I.remaining (values_of s) };
+
+    fn next(&mut self) -> Option<Option<I::Item>> {
+        let value = self.values.next();
+        let is_valid = self.validity.next();
+        zip(value, is_valid)
+    }
+
+    /// That of the values.
+    fn size_hint(&self) -> (usize, Option<usize>) {
+        self.values.size_hint()
+    }
+}
+
+impl<I: DoubleEndedIterator, V: DoubleEndedIterator<Item = bool>> DoubleEndedIterator
+    for ZipValidityIter<I, V>
+where
+    I::Item: Drop,
+{
+    ghost can_next_back = { λ s. I.can_next_back (values_of s) × V.can_next_back (validity_of s) };
+
+    ghost next_back_gives = { zip_validity_steps I.next_back_gives V.next_back_gives };
+
+    fn next_back(&mut self) -> Option<Option<I::Item>> {
+        let value = self.values.next_back();
+        let is_valid = self.validity.next_back();
+        zip(value, is_valid)
+    }
+}
+
+impl<I: ExactSizeIterator, V: ExactSizeIterator<Item = bool>> ExactSizeIterator
+    for ZipValidityIter<I, V>
+where
+    I::Item: Drop,
+{
+    /// That of the values.
+    fn len(&self) -> usize {
+        self.values.len()
+    }
+}
+
+/// A walk over values, with their validity or without it, from both ends: without it each item is `Some` of its value.
+/// A caller may match on it, for a path of its own where no value is missing.
+#[derive(Debug, Clone, Drop)]
+pub enum ZipValidity<I, V> {
+    /// Each value is there.
+    Required(I),
+    /// A value is there where it is valid.
+    Optional(ZipValidityIter<I, V>),
+}
+
+impl<I: Iterator, V: Iterator<Item = bool>> ZipValidity<I, V> {
+    /// `Optional` exactly where a validity is given. Asks that it has equally many items.
+    pub fn new(values: I, validity: Option<V>) -> ZipValidity<I, V>
+        requires same_length { ForSome validity (λ v. GiveEquallyMany I.next_gives V.next_gives values v) }
+        ensures { MatchOption validity (IsRequiredAnd result (λ i. i ≡ values)) (λ v. IsOptionalAnd result (λ both. (values_of both ≡ values) × (validity_of both ≡ v))) }
+    {
+        match validity {
+            Some(validity) => ZipValidity::Optional(ZipValidityIter::new(values, validity)),
+            None => ZipValidity::Required(values),
+        }
+    }
+
+    /// The values. Asks that they come without validity.
+    pub fn unwrap_required(self) -> I
+    where
+        V: Drop,
+        I: Drop,
+        requires { IsRequiredAnd self (λ _. Unit {0}) }
+        ensures { IsRequiredAnd self (λ values. result ≡ values) }
+    {
+        match self {
+            ZipValidity::Required(values) => values,
+            ZipValidity::Optional(_) => unreachable!(),
+        }
+    }
+
+    /// The values and their validity. Asks that there is one.
+    pub fn unwrap_optional(self) -> ZipValidityIter<I, V>
+    where
+        V: Drop,
+        I: Drop,
+        requires { IsOptionalAnd self (λ _. Unit {0}) }
+        ensures { IsOptionalAnd self (λ both. result ≡ both) }
+    {
+        match self {
+            ZipValidity::Optional(both) => both,
+            ZipValidity::Required(_) => unreachable!(),
+        }
+    }
+}
+
+impl<'a, I: Iterator> ZipValidity<I, BitmapIter<'a>> {
+    /// `Optional` exactly where a validity is given that has an unset item. Asks that it has as many items as there are
+    /// values, also where none of them is unset.
+    pub fn new_with_validity(
+        values: I,
+        validity: Option<&'a Bitmap>,
+    ) -> ZipValidity<I, BitmapIter<'a>>
+        requires same_length { ForSome validity (λ b. GivesAsMany I.next_gives values (length (items_of b.now))) }
+        ensures none { validity.entry ≡ None → IsRequiredAnd result (λ i. i ≡ values) }
+        ensures all_set { ForSome validity.entry (λ b. falses (items_of b.now) ≡ 0 → IsRequiredAnd result (λ i. i ≡ values)) }
+        ensures some_unset { ForSome validity.entry (λ b. 0 < falses (items_of b.now) → IsOptionalAnd result (λ both. (values_of both ≡ values) × (validity_of both ≡ items_of b.now))) }
+    {
+        match validity {
+            Some(validity) if validity.unset_bits() > 0 => {
+                ZipValidity::Optional(ZipValidityIter::new(values, validity.iter()))
+            }
+            _ => ZipValidity::Required(values),
+        }
+    }
+}
+
+impl<I: Iterator, V: Iterator<Item = bool>> Iterator for ZipValidity<I, V>
+where
+    I::Item: Drop,
+{
+    type Item = Option<I::Item>;
+
+    ghost can_next = { λ s. MatchZip s I.can_next (λ both. I.can_next (values_of both) × V.can_next (validity_of both)) };
+
+    ghost next_gives = { either_steps I.next_gives V.next_gives };
+
+    ghost remaining = { λ s. I.remaining (either_values s) };
+
+    fn next(&mut self) -> Option<Option<I::Item>> {
+        match self {
+            ZipValidity::Required(values) => Some(Some(values.next()?)),
+            ZipValidity::Optional(both) => both.next(),
+        }
+    }
+
+    /// That of the values.
+    fn size_hint(&self) -> (usize, Option<usize>) {
+        match self {
+            ZipValidity::Required(values) => values.size_hint(),
+            ZipValidity::Optional(both) => both.size_hint(),
+        }
+    }
+}
+
+impl<I: DoubleEndedIterator, V: DoubleEndedIterator<Item = bool>> DoubleEndedIterator
+    for ZipValidity<I, V>
+where
+    I::Item: Drop,
+{
+    ghost can_next_back = { λ s. MatchZip s I.can_next_back (λ both. I.can_next_back (values_of both) × V.can_next_back (validity_of both)) };
+
+    ghost next_back_gives = { either_steps I.next_back_gives V.next_back_gives };
+
+    fn next_back(&mut self) -> Option<Option<I::Item>> {
+        match self {
+            ZipValidity::Required(values) => Some(Some(values.next_back()?)),
+            ZipValidity::Optional(both) => both.next_back(),
+        }
+    }
+}
+
+impl<I: ExactSizeIterator, V: ExactSizeIterator<Item = bool>> ExactSizeIterator
+    for ZipValidity<I, V>
+where
+    I::Item: Drop,
+{
+    /// That of the values.
+    fn len(&self) -> usize {
+        match self {
+            ZipValidity::Required(values) => values.len(),
+            ZipValidity::Optional(both) => both.len(),
+        }
+    }
+}
