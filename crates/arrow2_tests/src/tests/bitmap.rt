@@ -11,7 +11,6 @@ use arrow2_chunk::bit_chunk::BitChunk;
 use std::alloc::Global;
 use std::convert::TryFrom;
 use std::process::Abort;
-use std::test::Fail;
 
 /// The first `length` bits of the bytes, in memory of its own.
 fn bitmap_of(rt: &impl Abort, alloc: Global, bytes: &[u8], length: usize) -> Bitmap
@@ -310,20 +309,4 @@ fn counts_words_and_equality_go_by_items(rt: HostRuntime) {
             );
         }
     }
-}
-
-#[test]
-fn the_readme_holds(rt: HostRuntime) -> Result<(), Fail> {
-    let alloc = rt.alloc();
-    let bitmap = Bitmap::try_new(vec![in alloc; 0b00001101u8]?, 5)?;
-    assert!(rt; bitmap.len() == 5);
-    let part = bitmap.sliced(1, 4);
-    let mut grown = part.make_mut()?;
-    grown.push(true)?;
-    let items: Vec<bool> = grown.iter().collect(alloc)?;
-    assert_eq!(rt;
-        items.as_slice(),
-        [false, true, true, false, true].as_slice()
-    );
-    Ok(())
 }

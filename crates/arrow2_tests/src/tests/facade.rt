@@ -1,9 +1,10 @@
 //! Each item of the one crate that users name, at its path.
 use super::checks::prints;
-use arrow2::bitmap::utils;
+use arrow2::bitmap::{Bitmap, utils};
 use arrow2::{bitmap, buffer, datatypes, error, laws, offset, types};
 use std::fmt;
 use std::process::Abort;
+use std::test::Fail;
 
 /// Shared and growing lists.
 fn lists<T: Copy, O: offset::Offset>(
@@ -121,4 +122,20 @@ fn each_item_has_its_path(rt: HostRuntime) {
     laws::buffers::written_items_are_the_items::<u8>();
     laws::offsets::offset_is_a_sum();
     laws::datatypes::a_logical_type_is_its_own();
+}
+
+#[test]
+fn the_readme_holds(rt: HostRuntime) -> Result<(), Fail> {
+    let alloc = rt.alloc();
+    let bitmap = Bitmap::try_new(vec![in alloc; 0b00001101u8]?, 5)?;
+    assert!(rt; bitmap.len() == 5);
+    let part = bitmap.sliced(1, 4);
+    let mut grown = part.make_mut()?;
+    grown.push(true)?;
+    let items: Vec<bool> = grown.iter().collect(alloc)?;
+    assert_eq!(rt;
+        items.as_slice(),
+        [false, true, true, false, true].as_slice()
+    );
+    Ok(())
 }
