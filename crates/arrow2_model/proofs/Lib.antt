@@ -12,6 +12,7 @@ pub mod Offsets
 pub mod Ones
 pub mod Parts
 pub mod Ranges
+pub mod RowKernels
 pub mod Shown
 pub mod Tables
 pub mod Texts

@@ -7,6 +7,7 @@ pub mod Offsets
 pub mod Ones
 pub mod Parts
 pub mod Ranges
+pub mod Rows
 pub mod Shown
 pub mod Storage
 pub mod Tables
