@@ -10,7 +10,7 @@ use Rattle.arrow2_model.specs.Kernels.{word, AreWords}
 use Rattle.arrow2_model.proofs.Bits.{length-unnum}
 use Rattle.arrow2_model.proofs.Numbers.{num-unnum, num-part-lt}
 use Rattle.arrow2_model.proofs.Words.{length-rest, rest-none, rest-whole, length-full_words, get_or-full_words}
-use Rattle.arrow2_kernels.specs.Rows.{GivesRow}
+use Rattle.arrow2_model.specs.Rows.{GivesRow}
 
 -- false behind the items changes no number
 num-falses : (items : List Bool) (m : ℕ) → num (items ++ replicate m false) ≡ num items

@@ -2,7 +2,8 @@
 ghost use Rattle.std.specs.Prelude.{◌≡◌, ◌+◌, ◌-◌, ◌*◌, ◌/◌, ◌<◌, ◌≤◌, ◌^◌, ◌⊎◌, ℕ, List, ◌∷◌, false, take, length as length', slice_index_or};
 ghost use Rattle.arrow2_model.specs.Bits.{bit, bits};
 ghost use Rattle.arrow2_model.specs.Canonical.{IsCanonical};
-ghost use Rattle.arrow2_model.specs.Kernels.{word, joined, IsOwnRowFunction};
+ghost use Rattle.arrow2_model.specs.Kernels.{word, joined};
+ghost use Rattle.arrow2_model.specs.Rows.{IsOwnRowFunction};
 
 use crate::rows::WordRows;
 use arrow2_chunk::bit_chunk::BitChunk;

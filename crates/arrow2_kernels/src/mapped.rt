@@ -2,7 +2,8 @@
 ghost use Rattle.std.specs.Prelude.{◌≡◌, ◌+◌, ◌*◌, ◌<◌, ◌++◌, ℕ, List, take, length as length', IfOk, OnOk};
 ghost use Rattle.arrow2_model.specs.Bits.{bits, unnum};
 ghost use Rattle.arrow2_model.specs.Canonical.{IsCanonical};
-ghost use Rattle.arrow2_model.specs.Kernels.{joined, IsRowFunction};
+ghost use Rattle.arrow2_model.specs.Kernels.{joined};
+ghost use Rattle.arrow2_model.specs.Rows.{IsRowFunction};
 
 use crate::rows::WordRows;
 use arrow2_bits::bytes_for;

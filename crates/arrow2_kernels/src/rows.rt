@@ -2,7 +2,7 @@
 ghost use Rattle.std.specs.Prelude.{◌≡◌, ◌+◌, ◌<◌, ◌++◌, ℕ, List, [], ◌∷◌, length as length'};
 ghost use Rattle.arrow2_model.specs.Kernels.{word, AreWords};
 ghost use Rattle.arrow2_model.specs.Words.{WordWalk};
-ghost use Rattle.arrow2_kernels.specs.Rows.{GivesRow};
+ghost use Rattle.arrow2_model.specs.Rows.{GivesRow};
 
 use arrow2_bits::chunk_iterator::BitChunkIterExact;
 use arrow2_chunk::bit_chunk::BitChunk;

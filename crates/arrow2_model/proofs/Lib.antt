@@ -15,6 +15,7 @@ pub mod Parts
 pub mod Ranges
 pub mod RunLaws
 pub mod RunSteps
+pub mod RowKernels
 pub mod Shown
 pub mod Tables
 pub mod Texts

@@ -57,11 +57,3 @@ IsTernary {X} w number gives f = (x y z r : X) → number x < 2 ^ w → number y
 
 abbrev pub IsQuaternary : {X : Type 0} → ℕ → (X → ℕ) → (X → X → X → X → X → Type 0) → (ℕ → ℕ → ℕ → ℕ → ℕ) → Type 0
 IsQuaternary {X} w number gives f = (x y z v r : X) → number x < 2 ^ w → number y < 2 ^ w → number z < 2 ^ w → number v < 2 ^ w → gives x y z v r → number r ≡ f (number x) (number y) (number z) (number v)
-
--- the same of a word function of a row of words, as far as its first w bits go
-abbrev pub IsRowFunction : {R X : Type 0} → ℕ → (R → List ℕ) → (X → ℕ) → (R → X → Type 0) → (List ℕ → ℕ) → Type 0
-IsRowFunction {R} {X} w numbers number gives f = (row : R) (r : X) → AreWords w (numbers row) → gives row r → unnum w (number r) ≡ unnum w (f (numbers row))
-
--- the same of a word function of a word and of a row beside it
-abbrev pub IsOwnRowFunction : {X R : Type 0} → ℕ → (R → List ℕ) → (X → ℕ) → (X → R → X → Type 0) → (List ℕ → ℕ) → Type 0
-IsOwnRowFunction {X} {R} w numbers number gives f = (x : X) (row : R) (r : X) → number x < 2 ^ w → AreWords w (numbers row) → gives x row r → unnum w (number r) ≡ unnum w (f (number x ∷ numbers row))

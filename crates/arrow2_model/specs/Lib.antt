@@ -8,6 +8,7 @@ pub mod Ones
 pub mod Parts
 pub mod Ranges
 pub mod Runs
+pub mod Rows
 pub mod Shown
 pub mod Storage
 pub mod Tables

@@ -3,7 +3,7 @@ use Rattle.arrow2_model.specs.Bits.{bits, unnum}
 use Rattle.arrow2_model.specs.Kernels.{word}
 use Rattle.arrow2_model.specs.Parts.{part}
 use Rattle.arrow2_model.specs.Storage.{items_of}
-use Rattle.arrow2_kernels.proofs.RowKernels.{binary_is}
+use Rattle.arrow2_model.proofs.RowKernels.{binary_is}
 use Rattle.arrow2_bitmap.proofs.assign_ops.binary_assign.Goals as goal
 
 pub returns-then-offset-eq0-clause-kernel : goal.returns-then-offset-eq0-clause-kernel

@@ -4,7 +4,7 @@ use Rattle.arrow2_model.specs.Storage.{BitmapStorage, items_of}
 use Rattle.arrow2_model.specs.Canonical.{canonical_bytes}
 use Rattle.arrow2_model.proofs.Canonical.{canonical_is}
 use Rattle.arrow2_model.proofs.Kernels.{table_word}
-use Rattle.arrow2_kernels.proofs.RowKernels.{rows_kernel, rows_table, acts_rows}
+use Rattle.arrow2_model.proofs.RowKernels.{rows_kernel, rows_table, acts_rows}
 use Rattle.arrow2_bitmap.proofs.bitmap_ops.from_rows.Goals as goal
 
 pub returns-clause-kernel : goal.returns-clause-kernel

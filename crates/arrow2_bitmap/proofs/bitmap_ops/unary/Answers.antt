@@ -4,8 +4,8 @@ use Rattle.arrow2_model.specs.Bits.{bits, unnum}
 use Rattle.arrow2_model.specs.Kernels.{word}
 use Rattle.arrow2_model.specs.Parts.{part}
 use Rattle.arrow2_model.specs.Storage.{items_of}
-use Rattle.arrow2_kernels.proofs.RowKernels.{unary_is}
-use Rattle.arrow2_kernels.specs.Rows.{AreRowsOf}
+use Rattle.arrow2_model.proofs.RowKernels.{unary_is}
+use Rattle.arrow2_model.specs.Rows.{AreRowsOf}
 use Rattle.arrow2_bitmap.proofs.bitmap_ops.unary.Goals as goal
 
 -- the rows of a walk over all items

@@ -1,6 +1,7 @@
 use Rattle.std.proofs.Common.{◌≡◌, ℕ, List, ◌∷◌, ◌+◌, ◌*◌, ◌/◌, ◌%◌, ◌<◌, take, length, slice_index}
 use Rattle.arrow2_model.specs.Bits.{bits}
-use Rattle.arrow2_model.specs.Kernels.{word, IsOwnRowFunction}
+use Rattle.arrow2_model.specs.Kernels.{word}
+use Rattle.arrow2_model.specs.Rows.{IsOwnRowFunction}
 use Rattle.arrow2_kernels.proofs.AssignSteps.{Done, Kept}
 use Rattle.arrow2_kernels.proofs.assigned.assign_rows.Given as goal
 

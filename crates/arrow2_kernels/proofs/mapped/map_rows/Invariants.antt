@@ -1,5 +1,5 @@
 use Rattle.std.proofs.Common.{◌≡◌, ℕ, List, ◌+◌, ◌*◌, ◌/◌, ◌%◌, length}
-use Rattle.arrow2_model.specs.Kernels.{IsRowFunction}
+use Rattle.arrow2_model.specs.Rows.{IsRowFunction}
 use Rattle.arrow2_kernels.proofs.MapSteps.{Wrote}
 use Rattle.arrow2_kernels.proofs.mapped.map_rows.Given as goal
 

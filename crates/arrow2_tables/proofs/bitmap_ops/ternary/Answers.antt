@@ -2,7 +2,7 @@ use Rattle.std.proofs.Common.{◌∙◌, List, [], ◌∷◌, Bool, slice_index,
 use Rattle.std.proofs.lemmas.Result.{IfOk-weaker}
 use Rattle.arrow2_model.specs.Bits.{unnum}
 use Rattle.arrow2_model.specs.Storage.{items_of}
-use Rattle.arrow2_kernels.proofs.RowKernels.{ternary_is}
+use Rattle.arrow2_model.proofs.RowKernels.{ternary_is}
 use Rattle.arrow2_tables.proofs.bitmap_ops.ternary.Goals as goal
 
 pub returns-clause-kernel : goal.returns-clause-kernel

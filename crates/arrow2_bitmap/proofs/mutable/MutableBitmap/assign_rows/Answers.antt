@@ -3,8 +3,8 @@ use Rattle.arrow2_model.specs.Bits.{bits}
 use Rattle.arrow2_model.specs.Kernels.{word, words_at, kernel}
 use Rattle.arrow2_model.specs.Tables.{each}
 use Rattle.arrow2_model.proofs.Kernels.{table_word}
-use Rattle.arrow2_kernels.specs.Rows.{AreRowsOf}
-use Rattle.arrow2_kernels.proofs.RowKernels.{rows_kernel, rows_table, acts_beside}
+use Rattle.arrow2_model.specs.Rows.{AreRowsOf}
+use Rattle.arrow2_model.proofs.RowKernels.{rows_kernel, rows_table, acts_beside}
 use Rattle.arrow2_bitmap.proofs.Buffer.{length_items}
 use Rattle.arrow2_bitmap.proofs.mutable.MutableBitmap.assign_rows.Goals as goal
 

@@ -1,11 +1,11 @@
 -- Kernels of lists that are read row by row.
 use Rattle.std.proofs.Common.{◌≡◌, ℕ, ◌<◌, List, [], ◌∷◌, Bool, slice_index, ap, sym, ◌∙◌, refl}
 use Rattle.arrow2_model.specs.Bits.{unnum}
-use Rattle.arrow2_model.specs.Kernels.{joined, kernel, words_at, common_length, unary_kernel, binary_kernel, ternary_kernel, quaternary_kernel, IsRowFunction, IsOwnRowFunction}
+use Rattle.arrow2_model.specs.Kernels.{joined, kernel, words_at, common_length, unary_kernel, binary_kernel, ternary_kernel, quaternary_kernel}
 use Rattle.arrow2_model.specs.Tables.{each}
 use Rattle.arrow2_model.proofs.Joined.{same_joined}
 use Rattle.arrow2_model.proofs.Kernels.{table_word, table_answers, kernel_of_table}
-use Rattle.arrow2_kernels.specs.Rows.{AreRowsOf, ActsOnRows, ActsBesideRows}
+use Rattle.arrow2_model.specs.Rows.{AreRowsOf, ActsOnRows, ActsBesideRows, IsRowFunction, IsOwnRowFunction}
 
 -- what is joined of the rows is the kernel of the lists
 pub rows_kernel : (w n : ℕ) (f : List ℕ → ℕ) (lists : List (List Bool)) (row : ℕ → List ℕ) → 0 < w → AreRowsOf w lists row n → joined w (λ j. f (row j)) n ≡ kernel w f lists

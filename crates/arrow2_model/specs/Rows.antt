@@ -1,6 +1,6 @@
 -- Lists of one length that are read row by row: a row has the next word of each list.
 use Rattle.std.specs.Prelude.{◌≡◌, ℕ, ◌+◌, ◌<◌, ◌^◌, List, ◌∷◌, Bool, Option, MatchOption}
-use Rattle.arrow2_model.specs.Bits.{bit}
+use Rattle.arrow2_model.specs.Bits.{bit, unnum}
 use Rattle.arrow2_model.specs.Kernels.{AreWords, common_length, words_at}
 use Rattle.arrow2_model.specs.Tables.{answer, bits_at}
 
@@ -14,6 +14,14 @@ GivesRow w words left row r left' row' = MatchOption r
 -- the rows of n items are the words of these lists
 abbrev pub AreRowsOf : ℕ → List (List Bool) → (ℕ → List ℕ) → ℕ → Type 0
 AreRowsOf w lists row n = (common_length lists ≡ n) × ((j : ℕ) → row j ≡ words_at w lists j)
+
+-- which results a function of a row may give says that the first w bits of each are those of f's answer to the words
+abbrev pub IsRowFunction : {R X : Type 0} → ℕ → (R → List ℕ) → (X → ℕ) → (R → X → Type 0) → (List ℕ → ℕ) → Type 0
+IsRowFunction {R} {X} w numbers number gives f = (row : R) (r : X) → AreWords w (numbers row) → gives row r → unnum w (number r) ≡ unnum w (f (numbers row))
+
+-- the same of a function of a word and of a row beside it
+abbrev pub IsOwnRowFunction : {X R : Type 0} → ℕ → (R → List ℕ) → (X → ℕ) → (X → R → X → Type 0) → (List ℕ → ℕ) → Type 0
+IsOwnRowFunction {X} {R} w numbers number gives f = (x : X) (row : R) (r : X) → number x < 2 ^ w → AreWords w (numbers row) → gives x row r → unnum w (number r) ≡ unnum w (f (number x ∷ numbers row))
 
 -- which results a function of a row may give says that each of the first w bits is the answer of table t for the
 -- same bit of each word
