@@ -7,11 +7,16 @@ pub use Rattle.arrow2_model.specs.Offsets
 pub use Rattle.arrow2_model.specs.Ones
 pub use Rattle.arrow2_model.specs.Parts
 pub use Rattle.arrow2_model.specs.Ranges
+pub use Rattle.arrow2_model.specs.Runs
 pub use Rattle.arrow2_model.specs.Shown
 pub use Rattle.arrow2_model.specs.Storage
 pub use Rattle.arrow2_model.specs.Words
+pub use Rattle.arrow2_model.specs.Zipped
 pub use Rattle.arrow2_types.specs.ErrorTexts
 pub use Rattle.arrow2_types.specs.Refusals
 pub use Rattle.arrow2_datatypes.specs.Extensions
 pub use Rattle.arrow2_datatypes.specs.Kept
 pub use Rattle.arrow2_datatypes.specs.Types
+pub use Rattle.arrow2_walks.specs.Places
+pub use Rattle.arrow2_walks.specs.Slots
+pub use Rattle.arrow2_walks.specs.Zips

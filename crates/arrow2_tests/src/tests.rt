@@ -12,3 +12,4 @@ mod hinting;
 mod index;
 mod offset;
 mod types;
+mod walks;
