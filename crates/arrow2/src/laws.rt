@@ -4,3 +4,4 @@ pub use arrow2_buffer::laws as buffers;
 pub use arrow2_datatypes::laws as datatypes;
 pub use arrow2_model::laws as lists;
 pub use arrow2_offset::laws as offsets;
+pub use arrow2_walks::laws as walks;

@@ -13,3 +13,4 @@ mod index;
 mod kernels;
 mod offset;
 mod types;
+mod walks;
