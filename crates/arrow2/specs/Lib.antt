@@ -10,6 +10,7 @@ pub use Rattle.arrow2_model.specs.Offsets
 pub use Rattle.arrow2_model.specs.Ones
 pub use Rattle.arrow2_model.specs.Parts
 pub use Rattle.arrow2_model.specs.Ranges
+pub use Rattle.arrow2_model.specs.Rows
 pub use Rattle.arrow2_model.specs.Runs
 pub use Rattle.arrow2_model.specs.Shown
 pub use Rattle.arrow2_model.specs.Storage
