@@ -57,21 +57,23 @@ popped bytes n m canonical e = let l = length-bits bytes in rw e (take_more (bit
 -- a last item that was cleared is a spare bit
 pub cleared : (bytes after : List ℕ) (n m : ℕ) → IsCanonical after n → n ≡ m + 1 → 0 < m % 8 → take n (bits after) ≡ set (take n (bits bytes)) m false → n ≤ 8 * length bytes → IsCanonical after m × (take m (bits after) ≡ take m (bits bytes))
 cleared bytes after n m canonical e some is inside = (
-    record {
-      fits = canonical.fits;
-      exact = omega (arith, canonical.exact, e, some);
-      clear = λ k m≤k. elim (cases_eq k m) [
-        | inl same ↦ rw same last_false
-        | inr other ↦ canonical.clear k (omega (arith, e, m≤k, other))
-      ];
-    },
-    shorter (bits after) ∙ (ap (take m) is ∙ (take-set-le m (take n (bits bytes)) m false (omega arith) ∙ sym (shorter (bits bytes)))),
-  )
+  record {
+    fits = canonical.fits;
+    exact = omega (arith, canonical.exact, e, some);
+    clear = λ k m≤k. elim (cases_eq k m) [
+      | inl same ↦ rw same last_false
+      | inr other ↦ canonical.clear k (omega (arith, e, m≤k, other))
+    ];
+  },
+  shorter (bits after) ∙ (ap (take m) is ∙ (take-set-le m (take n (bits bytes)) m false (omega arith) ∙ sym (shorter (bits bytes)))),
+)
   where
     shorter : (items : List Bool) → take m items ≡ take m (take n items)
     shorter items = sym (take-take m n items (omega (arith, e)))
+
     size : length (take n (bits bytes)) ≡ n
     size = length-take-le n (bits bytes) (omega (arith, inside, length-bits bytes))
+
     last_false : get_or (bits after) m false ≡ false
     last_false = sym (get_or-take n (bits after) m false (omega (arith, e))) ∙ (ap (λ l. get_or l m false) is ∙ get_or-set_same (take n (bits bytes)) m false false (omega (arith, e, size)))
 

@@ -38,8 +38,7 @@ packed_all items padded rest bytes after word x so front wide few number was bit
     let e : bits after ≡ bits bytes ++ padded = rw (was, bits-append bytes word, w) refl in
     let n = length-append (bits bytes) rest in
     let m = length-append (bits bytes) padded in
-    let l = length-bits after in
-    (
+    let l = length-bits after in (
       omega (arith, n, m, l, ap length so, ap length e, wide, few),
       ap (take (length items)) e ∙ (ap (λ k. take k (bits bytes ++ padded)) (ap length (sym so) ∙ n) ∙ (take-append-add (bits bytes) padded (length rest) ∙ (ap (λ r. bits bytes ++ r) front ∙ so))),
     )

@@ -3,6 +3,7 @@ ghost use Rattle.std.specs.Prelude.{◌≡◌, length};
 
 use arrow2::bitmap::Bitmap;
 use arrow2::bitmap::utils::{BitmapIter, SlicesIterator, ZipValidity, ZipValidityIter};
+use arrow2::laws;
 use std::alloc::Global;
 use std::iter::Copied;
 use std::process::Abort;
@@ -35,45 +36,30 @@ fn bitmap_from(rt: &impl Abort, alloc: Global, items: &[bool]) -> Bitmap {
     Bitmap::from_bools(alloc, items).expect(rt, "no memory")
 }
 
+/// The `len` bits from bit `offset` of the bytes on have these runs.
+fn bits_have_runs(
+    rt: &impl Abort,
+    alloc: Global,
+    bits: (&[u8], usize, usize),
+    runs: &[(usize, usize)],
+    slots: usize,
+) {
+    let bitmap = bitmap_of(rt, alloc, bits.0, bits.1, bits.2);
+    has_runs(rt, alloc, &bitmap, runs, slots);
+}
+
 #[test]
 fn runs_are_maximal_wherever_they_lie(rt: HostRuntime) {
     let alloc = rt.alloc();
-    has_runs(
-        &rt,
-        alloc,
-        &bitmap_of(&rt, alloc, &[0b00101111], 0, 8),
-        &[(0, 4), (5, 1)],
-        5,
-    );
-    has_runs(
-        &rt,
-        alloc,
-        &bitmap_of(&rt, alloc, &[0xff; 3], 5, 16),
-        &[(0, 16)],
-        16,
-    );
-    has_runs(&rt, alloc, &bitmap_of(&rt, alloc, &[], 0, 0), &[], 0);
-    has_runs(
-        &rt,
-        alloc,
-        &bitmap_of(&rt, alloc, &[0xff, 0xff], 5, 9),
-        &[(0, 9)],
-        9,
-    );
-    has_runs(
-        &rt,
-        alloc,
-        &bitmap_of(&rt, alloc, &[0b11110001, 0xff, 0xff], 0, 22),
-        &[(0, 1), (4, 18)],
-        19,
-    );
-    has_runs(
-        &rt,
-        alloc,
-        &bitmap_from(&rt, alloc, &[false, true, false, true]),
-        &[(1, 1), (3, 1)],
-        2,
-    );
+    bits_have_runs(&rt, alloc, (&[0b00101111], 0, 8), &[(0, 4), (5, 1)], 5);
+    bits_have_runs(&rt, alloc, (&[0xff; 3], 5, 16), &[(0, 16)], 16);
+    bits_have_runs(&rt, alloc, (&[], 0, 0), &[], 0);
+    bits_have_runs(&rt, alloc, (&[0xff; 2], 5, 9), &[(0, 9)], 9);
+    let bytes = [0b11110001, 0xff, 0xff];
+    bits_have_runs(&rt, alloc, (&bytes, 0, 22), &[(0, 1), (4, 18)], 19);
+    bits_have_runs(&rt, alloc, (&[0xff; 20], 3, 150), &[(0, 150)], 150);
+    let items = bitmap_from(&rt, alloc, &[false, true, false, true]);
+    has_runs(&rt, alloc, &items, &[(1, 1), (3, 1)], 2);
 }
 
 /// What comes of the values beside the items of a bitmap.
@@ -117,4 +103,23 @@ fn a_zip_is_walked_from_both_ends(rt: HostRuntime) {
     assert!(rt; matches!(zip.next_back(), Some(Some(4))));
     assert!(rt; matches!(zip.next(), Some(Some(3))));
     assert!(rt; zip.next().is_none());
+}
+
+#[test]
+fn a_zip_is_made_with_validity_or_without(rt: HostRuntime) {
+    let alloc = rt.alloc();
+    let values = [1u32, 2];
+    let zip: ZipValidity<Copied<Iter<u32>>, BitmapIter> = ZipValidity::new(
+        values.iter().copied(),
+        None,
+    );
+    assert!(rt; matches!(zip.unwrap_required().next(), Some(1)));
+
+    let validity = bitmap_from(&rt, alloc, &[false, true]);
+    assert!(rt; validity.len() == 2);
+    let mut zip = ZipValidity::new(values.iter().copied(), Some(validity.iter()));
+    assert!(rt; matches!(zip.next_back(), Some(Some(2))));
+    let mut both = zip.unwrap_optional();
+    assert!(rt; both.len() == 1 && matches!(both.next(), Some(None)));
+    laws::walks::a_zip_walks_over_its_slots::<Copied<Iter<u32>>, BitmapIter, u32>();
 }
