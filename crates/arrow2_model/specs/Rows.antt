@@ -4,12 +4,12 @@ use Rattle.arrow2_model.specs.Bits.{bit, unnum}
 use Rattle.arrow2_model.specs.Kernels.{AreWords, common_length, words_at}
 use Rattle.arrow2_model.specs.Tables.{answer, bits_at}
 
--- one step, where `left` items of each list and the rows `row` were still to come: the first row comes, and the others
+-- one step, where `left` items of each list were still to come, by the rows `nth`: the first row comes, and the others
 -- stay; where fewer items are left than a word has, none comes, and all stays
 abbrev pub GivesRow : {R : Type 0} → ℕ → (R → List ℕ) → ℕ → (ℕ → List ℕ) → Option R → ℕ → (ℕ → List ℕ) → Type 0
-GivesRow w words left row r left' row' = MatchOption r
-    ((left < w) × (left' ≡ left) × ((j : ℕ) → row' j ≡ row j))
-    (λ x. (words x ≡ row 0) × AreWords w (words x) × (left ≡ w + left') × ((j : ℕ) → row' j ≡ row (j + 1)))
+GivesRow w words left nth r left' nth' = MatchOption r
+    ((left < w) × (left' ≡ left) × ((j : ℕ) → nth' j ≡ nth j))
+    (λ x. (words x ≡ nth 0) × AreWords w (words x) × (left ≡ w + left') × ((j : ℕ) → nth' j ≡ nth (j + 1)))
 
 -- the rows of n items are the words of these lists
 abbrev pub AreRowsOf : ℕ → List (List Bool) → (ℕ → List ℕ) → ℕ → Type 0

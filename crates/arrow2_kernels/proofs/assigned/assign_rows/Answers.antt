@@ -31,10 +31,10 @@ loop-row-preserved g c =
       fits = λ k. (c.type_inv.bytes k).fits;
       whole = next.0;
       left = omega (arith, before.left, step.2, end);
-      rows = λ j. step.3 j ∙ (before.rows (j + 1) ∙ ap (g.S.WordRows.row_at c.args.rows) (omega (arith, next.1)));
+      ahead = λ j. step.3 j ∙ (before.ahead (j + 1) ∙ ap (g.S.WordRows.row_at c.args.rows) (omega (arith, next.1)));
       kept = subst (Kept old after) (sym end) (kept_word old bytes after (8 * at) w before.kept same);
       done = λ f h.
-          let row : g.S.WordRows.words c.in-Some.row ≡ g.S.WordRows.row_at c.args.rows q = step.0 ∙ (before.rows 0 ∙ ap (g.S.WordRows.row_at c.args.rows) (omega arith)) in
+          let row : g.S.WordRows.words c.in-Some.row ≡ g.S.WordRows.row_at c.args.rows q = step.0 ∙ (before.ahead 0 ∙ ap (g.S.WordRows.row_at c.args.rows) (omega arith)) in
           let word_of : ℕ → ℕ = λ j. f (word w (take n (bits old)) j ∷ g.S.WordRows.row_at c.args.rows j) in
           subst (Done w word_of after) (sym end)
           (done_word w (g.T.BitChunk.number c.op-answer.result) q (8 * at) word_of bytes after (omega (arith, bounds)) pos
@@ -77,7 +77,7 @@ returns-then-len-gt0-clause-items g c f h =
     let short = c.in_default.ensures.row.0 in
     let pos : 8 * at ≡ w * q = place_now w size at wide before.whole in
     let word_of : ℕ → ℕ = λ j. f (word w (take n (bits old)) j ∷ g.S.WordRows.row_at c.args.rows j) in
-    let row : g.S.WordRows.words c.rest_row.result ≡ g.S.WordRows.row_at c.args.rows q = c.rest_row.ensures.row ∙ (c.in_default.ensures.row.2 0 ∙ (before.rows 0 ∙ ap (g.S.WordRows.row_at c.args.rows) (omega arith))) in
+    let row : g.S.WordRows.words c.rest_row.result ≡ g.S.WordRows.row_at c.args.rows q = c.rest_row.ensures.row ∙ (c.in_default.ensures.row.2 0 ∙ (before.ahead 0 ∙ ap (g.S.WordRows.row_at c.args.rows) (omega arith))) in
     let own = own_rest w (g.T.BitChunk.number c.word_at-then-len-gt0.result) (g.T.BitChunk.number c.masked-own.result) len q n (8 * at) old bytes pos (omega (arith, before.left)) (omega (arith, before.left, short)) (omega (arith, c.requires.exact))
     c.masked-own.ensures.fits c.masked-own.ensures.bits (λ i i<. c.word_at-then-len-gt0.ensures.items i (omega (arith, i<, before.left, before.size, c.requires.exact))) before.kept in
     done_all w n word_of after (omega (arith, bounds)) (omega (arith, c.put_word-then-len-gt0.auto.bytes, before.size, c.requires.exact))

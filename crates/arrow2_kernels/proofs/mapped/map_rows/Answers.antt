@@ -22,9 +22,9 @@ loop-row-preserved g c =
       alike = c.next_row.ensures.alike;
       whole = omega (arith, l, before.whole);
       left = omega (arith, l, before.left, step.2);
-      rows = λ j. step.3 j ∙ (before.rows (j + 1) ∙ ap (g.S.WordRows.row_at c.args.rows) (omega (arith, l)));
+      ahead = λ j. step.3 j ∙ (before.ahead (j + 1) ∙ ap (g.S.WordRows.row_at c.args.rows) (omega (arith, l)));
       wrote = λ f h.
-          let row = step.0 ∙ (before.rows 0 ∙ ap (g.S.WordRows.row_at c.args.rows) (omega arith)) in
+          let row = step.0 ∙ (before.ahead 0 ∙ ap (g.S.WordRows.row_at c.args.rows) (omega arith)) in
           wrote_word (λ j. f (g.S.WordRows.row_at c.args.rows j)) bytes after word m c.op.result size e c.to_ne_bytes.ensures.bits
           (h c.in-Some.row c.op.result step.1 c.op.ensures ∙ ap (λ (r : List ℕ). unnum 64 (f r)) row) (before.wrote f h);
     }
@@ -47,7 +47,7 @@ returns-clause-items g c f h =
     (λ some. elim c.if-len-gt0.branch [
       | then-len-gt0 w ↦
           let row : g.S.WordRows.words w.rest_row.result ≡ g.S.WordRows.row_at c.args.rows m =
-          w.rest_row.ensures.row ∙ (c.in_default.ensures.row.2 0 ∙ (before.rows 0 ∙ ap (g.S.WordRows.row_at c.args.rows) (omega arith))) in
+          w.rest_row.ensures.row ∙ (c.in_default.ensures.row.2 0 ∙ (before.ahead 0 ∙ ap (g.S.WordRows.row_at c.args.rows) (omega arith))) in
           ap (unnum 64) w.word-is ∙ (h w.rest_row.result w.op-word.result w.rest_row.ensures.fits w.op-word.ensures ∙ ap (λ (r : List ℕ). unnum 64 (f r)) row)
       | else-len-gt0 w ↦ absurd (omega (arith, w.if-len-gt0.false))
     ])

@@ -9,7 +9,7 @@ invariant-loop-row g l = record {
   alike : g.S.WordRows.alike l.rows;
   whole : length l.bytes.items % 8 ≡ 0;
   left : g.S.WordRows.length l.rows + 8 * length l.bytes.items ≡ l.length;
-  rows : (j : ℕ) → g.S.WordRows.row_at l.rows j ≡ g.S.WordRows.row_at l.fn.rows (length l.bytes.items / 8 + j);
+  ahead : (j : ℕ) → g.S.WordRows.row_at l.rows j ≡ g.S.WordRows.row_at l.fn.rows (length l.bytes.items / 8 + j);
   wrote : (f : List ℕ → ℕ) → IsRowFunction 64 g.S.WordRows.words (λ x. x) (goal.F-post g l.op) f → Wrote (λ j. f (g.S.WordRows.row_at l.fn.rows j)) l.bytes.items;
 }
 
