@@ -1,7 +1,7 @@
 -- Bits of words, by places of the bytes that they are loaded from.
 use Rattle.std.proofs.Common.{◌≡◌, ℕ, zero, suc, ◌+◌, ◌-◌, ◌*◌, ◌/◌, ◌%◌, ◌^◌, ◌<◌, ◌≤◌, ◌==◌, ◌++◌, inl, inr, List, Bool, true, false, not, length, get_or, take, drop, refl, sym, ap, ◌∙◌, arith}
 use Rattle.std.specs.Int.{bit_at, trailing_zeros}
-use Rattle.std.specs.Int.Width.{w64}
+use Rattle.std.specs.Int as width
 use Rattle.std.specs.Int.Count.{trailing_of_zero}
 use Rattle.std.proofs.Math.Nat.{mod-lt}
 use Rattle.std.proofs.lemmas.Bool.{cases_lt}
@@ -44,14 +44,14 @@ bit_down x n i =
     bit_is (x / 2 ^ n) i ∙ (ap (λ t. t == 1) at ∙ sym (bit_is x (n + i)))
 
 -- the first bit that is set
-pub first_set : (x p : ℕ) → x < 2 ^ 64 → p ≡ trailing_zeros w64 x → (p ≤ 64) × ((i : ℕ) → i < p → bit x i ≡ false) × (p < 64 → bit x p ≡ true)
+pub first_set : (x p : ℕ) → x < 2 ^ 64 → p ≡ trailing_zeros width.w64 x → (p ≤ 64) × ((i : ℕ) → i < p → bit x i ≡ false) × (p < 64 → bit x p ≡ true)
 first_set zero p h e =
     let all = e ∙ trailing_of_zero 64 in
     (omega (arith, all), (λ i l. bit_is 0 i ∙ ap (λ t. t == 1) (bit_at-zero i)), λ l. absurd (omega (arith, all, l)))
 first_set (suc x) p h e =
-    let b = bit_at-trailing_zeros w64 (suc x) (omega arith) h in
+    let b = bit_at-trailing_zeros width.w64 (suc x) (omega arith) h in
     let less = b.0 in
-    (omega (arith, e, less), (λ i l. bit_is (suc x) i ∙ ap (λ t. t == 1) (b.2 i (omega (arith, e, l)))), λ l. ap (bit (suc x)) e ∙ (bit_is (suc x) (trailing_zeros w64 (suc x)) ∙ ap (λ t. t == 1) b.1))
+    (omega (arith, e, less), (λ i l. bit_is (suc x) i ∙ ap (λ t. t == 1) (b.2 i (omega (arith, e, l)))), λ l. ap (bit (suc x)) e ∙ (bit_is (suc x) (trailing_zeros width.w64 (suc x)) ∙ ap (λ t. t == 1) b.1))
 
 flipped_bit : (x i : ℕ) → x < 2 ^ 64 → i < 64 → bit (2 ^ 64 - 1 - x) i ≡ not (bit x i)
 flipped_bit x i h l =
@@ -67,7 +67,7 @@ not_true true e = sym e
 not_true false e = refl
 
 -- the first bit that is not set, by the word with every bit flipped
-pub first_unset : (x p : ℕ) → x < 2 ^ 64 → p ≡ trailing_zeros w64 (2 ^ 64 - 1 - x) → (p ≤ 64) × ((i : ℕ) → i < p → bit x i ≡ true) × (p < 64 → bit x p ≡ false)
+pub first_unset : (x p : ℕ) → x < 2 ^ 64 → p ≡ trailing_zeros width.w64 (2 ^ 64 - 1 - x) → (p ≤ 64) × ((i : ℕ) → i < p → bit x i ≡ true) × (p < 64 → bit x p ≡ false)
 first_unset x p h e =
     let f = first_set (2 ^ 64 - 1 - x) p (omega arith) e in
     let most = f.0 in
