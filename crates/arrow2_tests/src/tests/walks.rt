@@ -79,6 +79,7 @@ fn values_come_beside_their_validity(rt: HostRuntime) {
     let mixed = bitmap_from(&rt, alloc, &[true, false, true]);
     let mut zip = beside(&rt, &values, &mixed);
     assert!(rt; matches!(&zip, ZipValidity::Optional(_)) && zip.len() == 3);
+    assert!(rt; matches!(zip.size_hint(), (3, Some(3))));
     assert!(rt; matches!(zip.next(), Some(Some(1))));
     assert!(rt; matches!(zip.next(), Some(None)));
     assert!(rt; matches!(zip.next(), Some(Some(3))));
@@ -87,6 +88,7 @@ fn values_come_beside_their_validity(rt: HostRuntime) {
     let full = bitmap_from(&rt, alloc, &[true; 3]);
     let mut zip = beside(&rt, &values, &full);
     assert!(rt; matches!(&zip, ZipValidity::Required(_)) && zip.len() == 3);
+    assert!(rt; matches!(zip.size_hint(), (3, Some(3))));
     assert!(rt; matches!(zip.next(), Some(Some(1))));
     assert!(rt; zip.nth(usize::MAX).is_none());
     assert!(rt; zip.next().is_none() && zip.next_back().is_none());
