@@ -1,0 +1,41 @@
+//! Bitmaps combined.
+ghost use Rattle.std.specs.Prelude.{◌≡◌, ◌+◌, ◌%◌, ◌^◌, [], ◌∷◌, length, IfOk, IfErr};
+ghost use Rattle.arrow2.specs.Kernels.{unary_kernel};
+ghost use Rattle.arrow2.specs.Storage.{items_of};
+ghost use Rattle.arrow2.specs.Tables.{each};
+
+use arrow2::bitmap::{Bitmap, MutableBitmap, binary_assign_table, binary_table, unary};
+use arrow2::error::{Error, Result};
+
+/// Where the first is true and the second is not: a truth table, whose one set bit is that of true and false.
+///
+/// # Errors
+///
+/// `OutOfMemory` alone.
+pub fn without(bitmap: &Bitmap, other: &Bitmap) -> Result<Bitmap>
+    requires same_length { length (items_of bitmap.now) ≡ length (items_of other.now) }
+    ensures items { IfOk result (λ b. items_of b ≡ each 2 (items_of bitmap.now ∷ items_of other.now ∷ [])) }
+    ensures only { IfErr result (λ e. e ≡ Error.OutOfMemory) }
+{
+    binary_table(bitmap, other, 2)
+}
+
+/// The same in place, which takes no memory.
+pub fn remove(bitmap: &mut MutableBitmap, other: &Bitmap)
+    requires same_length { length bitmap.old.items ≡ length (items_of other.now) }
+    ensures { bitmap.new.items ≡ each 2 (bitmap.old.items ∷ items_of other.now ∷ []) }
+{
+    binary_assign_table::<u64>(bitmap, other, 2);
+}
+
+/// The next number of each word of 64 items: a word function, which need not act bit by bit.
+///
+/// # Errors
+///
+/// `OutOfMemory` alone.
+pub fn next_words(bitmap: &Bitmap) -> Result<Bitmap>
+    ensures items { IfOk result (λ b. items_of b ≡ unary_kernel 64 (λ x. (x + 1) % 2 ^ 64) (items_of bitmap.now)) }
+    ensures only { IfErr result (λ e. e ≡ Error.OutOfMemory) }
+{
+    unary(bitmap, |x| x.wrapping_add(1))
+}
