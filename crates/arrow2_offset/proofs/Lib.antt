@@ -2,5 +2,6 @@ pub mod Frozen
 pub mod Growing
 pub mod Listed
 pub mod Order
+pub mod Rows
 pub mod Same
 pub mod Walk
