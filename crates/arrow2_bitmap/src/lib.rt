@@ -4,7 +4,6 @@
 pub mod assign_ops;
 pub mod bitmap_ops;
 mod check;
-mod collect;
 pub mod immutable;
 pub mod iterator;
 pub mod mutable;

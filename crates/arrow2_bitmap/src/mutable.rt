@@ -21,11 +21,11 @@ ghost use Rattle.arrow2_bitmap.specs.Refused.{too_long};
 ghost use Rattle.std.specs.declared.alloc.Global.{Global};
 
 use crate::check::check_length;
-use crate::collect::{Packing, packed};
 use arrow2_bits::iterator::BitmapIter;
 use arrow2_bits::{bytes_for, count_zeros, get_bit, set_bit};
 use arrow2_chunk::bit_chunk::BitChunk;
 use arrow2_kernels::assigned::assign_rows;
+use arrow2_kernels::packed::{Packing, packed};
 use arrow2_kernels::rows::WordRows;
 use arrow2_types::error::{Error, Result};
 use arrow2_types::refusal::Refusal;

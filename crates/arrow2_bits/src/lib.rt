@@ -5,7 +5,7 @@ ghost use Rattle.std.specs.Prelude.{◌≡◌, ◌+◌, ◌*◌, ◌/◌, ◌<�
 ghost use Rattle.arrow2_model.specs.Bits.{bit, unnum, bits};
 
 pub mod chunk_iterator;
-mod chunks;
+pub mod chunks;
 pub mod chunks_exact;
 pub mod chunks_exact_mut;
 mod counts;
@@ -14,9 +14,8 @@ pub mod iterator;
 
 pub use counts::count_zeros;
 
-/// At place i nothing, and at place 8 + i the byte whose bit i alone is set: read in place of a shift by a variable and
-/// a branch on the value.
-const BITS: [u8; 16] = [0, 0, 0, 0, 0, 0, 0, 0, 1, 2, 4, 8, 16, 32, 64, 128];
+/// At place i the byte whose bit i alone is set: read in place of a shift by a variable.
+const BITS: [u8; 8] = [1, 2, 4, 8, 16, 32, 64, 128];
 
 /// Whether bit `i` of the byte is set. Asks that `i` is below 8.
 pub fn is_set(byte: u8, i: usize) -> bool
@@ -31,7 +30,11 @@ pub fn set(byte: u8, i: usize, value: bool) -> u8
     requires { i < 8 }
     ensures { unnum 8 result ≡ slice_set (unnum 8 byte) i value }
 {
-    (byte & !BITS[8 + i]) | BITS[8 * usize::from(value) + i]
+    if value {
+        byte | BITS[i]
+    } else {
+        byte & !BITS[i]
+    }
 }
 
 /// Bit `i` of the bytes. Asks that `i` is below eight times their number.

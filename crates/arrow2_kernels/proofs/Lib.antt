@@ -1,4 +1,5 @@
 pub mod AssignSteps
 pub mod MapSteps
+pub mod Packing
 pub mod RowSteps
 pub mod TableSteps

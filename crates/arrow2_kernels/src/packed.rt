@@ -1,4 +1,4 @@
-//! Items as bytes, 64 at a time.
+//! Booleans packed into bytes, 64 at a time.
 ghost use Rattle.std.specs.Prelude.{◌≡◌, ◌-◌, ◌*◌, ◌<◌, ◌≤◌, ◌^◌, [], ◌∷◌, ◌++◌, length, map, take, OnOk, IfOk, IfErr, IsErrOf, vec_len};
 ghost use Rattle.std.specs.Int.{from_bool};
 ghost use Rattle.arrow2_model.specs.Bits.{bits, num};
@@ -12,7 +12,7 @@ use std::simd::prelude::*;
 
 /// Items that come one by one: contracts see them all. The last of them stand in a block of their own until it is full.
 #[derive(Drop)]
-pub(crate) struct Packing {
+pub struct Packing {
     bytes: Vec<u8>,
     block: [bool; 64],
     place: usize,
@@ -31,7 +31,7 @@ impl Model for Packing {
 
 impl Packing {
     /// No items. Takes no memory.
-    pub(crate) fn new(alloc: Global) -> Packing
+    pub fn new(alloc: Global) -> Packing
         ensures { result ≡ [] }
     {
         Packing {
@@ -42,7 +42,7 @@ impl Packing {
     }
 
     /// One item more. Takes memory at the last one of a block alone.
-    pub(crate) fn push(&mut self, item: bool) -> Result<(), Refusal>
+    pub fn push(&mut self, item: bool) -> Result<(), Refusal>
         ensures ok { OnOk result (self.new ≡ self.old ++ item ∷ []) }
         ensures overflow { IsErrOf result refusal.Overflow → length self.old ≡ 2 ^ 64 - 1 }
         ensures fits { OnOk result (length self.new < 2 ^ 64) }
@@ -62,7 +62,7 @@ impl Packing {
     }
 
     /// The bytes of the items, with spare bits behind them, and how many items there are.
-    pub(crate) fn finish(self) -> Result<(Vec<u8>, usize), AllocError>
+    pub fn finish(self) -> Result<(Vec<u8>, usize), AllocError>
         ensures enough { IfOk result (λ r. r.1 ≤ 8 * vec_len r.0) }
         ensures items { IfOk result (λ r. take r.1 (bits r.0.items) ≡ self) }
         ensures len { IfOk result (λ r. r.1 ≡ length self) }
@@ -79,7 +79,7 @@ impl Packing {
 }
 
 /// The bytes of the items, with spare bits behind them. Asks for memory once.
-pub(crate) fn packed(alloc: Global, items: &[bool]) -> Result<Vec<u8>, AllocError>
+pub fn packed(alloc: Global, items: &[bool]) -> Result<Vec<u8>, AllocError>
     ensures enough { IfOk result (λ bytes. length items.now ≤ 8 * vec_len bytes) }
     ensures items { IfOk result (λ bytes. take (length items.now) (bits bytes.items) ≡ items.now) }
 {
