@@ -3,7 +3,7 @@ ghost use Rattle.std.specs.Prelude.{◌≡◌, ℕ, ◌+◌, ◌*◌, ◌<◌, �
 ghost use Rattle.arrow2_model.specs.Bits.{bit, bits};
 ghost use Rattle.arrow2_walks.specs.Places.{IsFirst};
 
-use arrow2_chunk::bit_chunk::BitChunk;
+use arrow2_bits::chunks::padded_chunk_at;
 
 /// The first place from `index` on whose bit, counted from bit `offset` on, is `value`, or `end` where there is none.
 pub(crate) fn first_place(
@@ -19,9 +19,8 @@ pub(crate) fn first_place(
 {
     let mut place = index;
     while place < end {
-        let (word, held) = bits_from(bytes, offset, place);
-        let held = held.min(end - place);
-        let passed = first_bit(word, value);
+        let held = (end - place).min(64);
+        let passed = first_bit(word_from(bytes, offset, place), value);
         if passed < held {
             return place + passed;
         }
@@ -30,29 +29,15 @@ pub(crate) fn first_place(
     place
 }
 
-/// A word of the bits from bit `offset + place` on, and how many of them it holds. Asks that this bit is inside.
-fn bits_from(bytes: &[u8], offset: usize, place: usize) -> (u64, usize)
+/// The word of the bits from bit `offset + place` on, where bits past the bytes count as false. Asks that the first
+/// is inside.
+fn word_from(bytes: &[u8], offset: usize, place: usize) -> u64
     requires { offset + place < 8 * length bytes.now }
-    ensures held { (0 < result.1) × (result.1 ≤ 64) }
-    ensures bits { (i : ℕ) → i < result.1 → offset + (place + i) < 8 * length bytes.now → bit result.0 i ≡ get_or (bits bytes.now) (offset + (place + i)) false }
+    ensures { (i : ℕ) → i < 64 → bit result i ≡ get_or (bits bytes.now) (offset + (place + i)) false }
 {
     let within = offset % 8 + place % 8;
-    let word = word_at(bytes, offset / 8 + place / 8 + within / 8);
-    (word >> (within % 8), 64 - within % 8)
-}
-
-/// The word of the eight bytes from byte `at` on, with zeros for those past the last one. Asks that `at` is inside.
-fn word_at(bytes: &[u8], at: usize) -> u64
-    requires { at < length bytes.now }
-    ensures { (i : ℕ) → i < 64 → 8 * at + i < 8 * length bytes.now → bit result i ≡ get_or (bits bytes.now) (8 * at + i) false }
-{
-    let bytes = &bytes[at..];
-    if bytes.len() >= 8 {
-        return u64::from_ne_slice(&bytes[..8]);
-    }
-    let mut padded = [0; 8];
-    padded[..bytes.len()].copy_from_slice(bytes);
-    u64::from_ne_slice(&padded)
+    let first = offset / 8 + place / 8 + within / 8;
+    padded_chunk_at(&bytes[first..], within % 8)
 }
 
 /// The first place in the word at which its bit is `value`, or 64 where there is none.

@@ -1,8 +1,8 @@
 use Rattle.std.proofs.Common.{◌+◌, ◌/◌, ◌%◌, arith}
-use Rattle.arrow2_walks.proofs.WordsOfPlaces.{bit_of_moved}
-use Rattle.arrow2_walks.proofs.places.bits_from.Goals as goal
+use Rattle.arrow2_walks.proofs.WordsOfPlaces.{bit_of_part}
+use Rattle.arrow2_walks.proofs.places.word_from.Goals as goal
 
-pub returns-clause-bits : goal.returns-clause-bits
-returns-clause-bits c =
+pub returns : goal.returns
+returns c =
     let offset = c.args.offset in let place = c.args.place in
-    λ i l h. bit_of_moved c.args.bytes.now c.word_at-word.result offset place (offset / 8 + place / 8 + (offset % 8 + place % 8) / 8) ((offset % 8 + place % 8) % 8) i c.word_at-word.ensures (omega arith) l h
+    bit_of_part c.args.bytes.now c.padded_chunk_at.result (offset / 8 + place / 8 + (offset % 8 + place % 8) / 8) ((offset % 8 + place % 8) % 8) offset place c.padded_chunk_at.ensures.number (omega (arith, c.requires)) (omega arith)
