@@ -54,23 +54,26 @@ whole_written before after len e f = rw (drop_all (length after) before (omega a
 pub popped : (bytes : List ℕ) (n m : ℕ) → IsCanonical bytes n → n ≡ m + 1 → take n (bits bytes) ≡ take m (bits bytes) ++ get_or (bits bytes) m false ∷ []
 popped bytes n m canonical e = let l = length-bits bytes in rw e (take_more (bits bytes) m false (omega (arith, l, canonical.exact)))
 
--- a last item that was cleared is a spare bit
-pub cleared : (bytes after : List ℕ) (n m : ℕ) → IsCanonical after n → n ≡ m + 1 → 0 < m % 8 → take n (bits after) ≡ set (take n (bits bytes)) m false → n ≤ 8 * length bytes → IsCanonical after m × (take m (bits after) ≡ take m (bits bytes))
-cleared bytes after n m canonical e some is inside = (
-  record {
-    fits = canonical.fits;
-    exact = omega (arith, canonical.exact, e, some);
-    clear = λ k m≤k. elim (cases_eq k m) [
-      | inl same ↦ rw same last_false
-      | inr other ↦ canonical.clear k (omega (arith, e, m≤k, other))
-    ];
-  },
-  shorter (bits after) ∙ (ap (take m) is ∙ (take-set-le m (take n (bits bytes)) m false (omega arith) ∙ sym (shorter (bits bytes)))),
-)
+-- what stands before a last item that was cleared
+pub before_cleared : (bytes after : List ℕ) (n m : ℕ) → n ≡ m + 1 → take n (bits after) ≡ set (take n (bits bytes)) m false → take m (bits after) ≡ take m (bits bytes)
+before_cleared bytes after n m e is =
+    shorter (bits after) ∙ (ap (take m) is ∙ (take-set-le m (take n (bits bytes)) m false (omega arith) ∙ sym (shorter (bits bytes))))
   where
     shorter : (items : List Bool) → take m items ≡ take m (take n items)
     shorter items = sym (take-take m n items (omega (arith, e)))
 
+-- a last item that was cleared is a spare bit
+pub cleared : (bytes after : List ℕ) (n m : ℕ) → IsCanonical after n → n ≡ m + 1 → 0 < m % 8 → take n (bits after) ≡ set (take n (bits bytes)) m false → n ≤ 8 * length bytes → IsCanonical after m
+cleared bytes after n m canonical e some is inside =
+    record {
+      fits = canonical.fits;
+      exact = omega (arith, canonical.exact, e, some);
+      clear = λ k m≤k. elim (cases_eq k m) [
+        | inl same ↦ rw same last_false
+        | inr other ↦ canonical.clear k (omega (arith, e, m≤k, other))
+      ];
+    }
+  where
     size : length (take n (bits bytes)) ≡ n
     size = length-take-le n (bits bytes) (omega (arith, inside, length-bits bytes))
 

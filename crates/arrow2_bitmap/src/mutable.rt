@@ -22,7 +22,7 @@ ghost use Rattle.std.specs.declared.alloc.Global.{Global};
 
 use crate::check::check_length;
 use arrow2_bits::iterator::BitmapIter;
-use arrow2_bits::{bytes_for, count_zeros, get_bit, set_bit};
+use arrow2_bits::{bytes_for, count_zeros, get_bit, set_bit, take_bit};
 use arrow2_chunk::bit_chunk::BitChunk;
 use arrow2_kernels::assigned::assign_rows;
 use arrow2_kernels::packed::{Packing, packed};
@@ -200,9 +200,11 @@ impl MutableBitmap {
         ensures none { IfNone result (self.new.items ≡ []) }
         ensures capacity { self.new.capacity ≡ self.old.capacity }
     {
-        let last = self.length.checked_sub(1)?;
-        let item = get_bit(self.buffer.as_slice(), last);
-        drop_bit(&mut self.buffer, self.length, last);
+        if self.length == 0 {
+            return None;
+        }
+        let last = self.length - 1;
+        let item = drop_bit(&mut self.buffer, self.length, last);
         self.length = last;
         Some(item)
     }
@@ -415,20 +417,34 @@ fn cut(buffer: &mut Vec<u8>, length: usize)
     }
 }
 
-/// Drops bit `last`, the last of the first `length` bits, which are all that the bytes hold: with its byte where it is
-/// alone there.
-fn drop_bit(buffer: &mut Vec<u8>, length: usize, last: usize)
+/// Drops bit `last`, the last of the first `length` bits, which are all that the bytes hold, and gives it back. Its
+/// byte goes with it where it is alone there.
+fn drop_bit(buffer: &mut Vec<u8>, length: usize, last: usize) -> bool
     requires canonical { IsCanonical buffer.old.items length }
     requires last { last + 1 ≡ length }
+    ensures item { result ≡ slice_index_or (bits buffer.old.items) last false }
     ensures canonical { IsCanonical buffer.new.items last }
     ensures items { take last (bits buffer.new.items) ≡ take last (bits buffer.old.items) }
     ensures capacity { vec_capacity buffer.new ≡ vec_capacity buffer.old }
 {
+    let item = clear_bit(buffer, length, last);
     if last % 8 == 0 {
         buffer.truncate(last / 8);
-    } else {
-        write_bit(buffer, length, last, false);
     }
+    item
+}
+
+/// Clears bit `index` of the first `length` bits, which are all that the bytes hold, and gives back what it was.
+#[tactic(auto, using(crate::proofs::Buffer::writes))]
+fn clear_bit(buffer: &mut Vec<u8>, length: usize, index: usize) -> bool
+    requires canonical { IsCanonical buffer.old.items length }
+    requires within { index < length }
+    ensures item { result ≡ slice_index_or (bits buffer.old.items) index false }
+    ensures canonical { IsCanonical buffer.new.items length }
+    ensures items { take length (bits buffer.new.items) ≡ slice_set (take length (bits buffer.old.items)) index false }
+    ensures capacity { vec_capacity buffer.new ≡ vec_capacity buffer.old }
+{
+    take_bit(buffer.as_mut_slice(), index)
 }
 
 /// Writes bit `index` of the first `length` bits, which are all that the bytes hold.
