@@ -1,7 +1,7 @@
 -- What counts of bits read: bounds, and what pays for many cuts.
 use Rattle.std.proofs.Common.{◌≡◌, ℕ, zero, suc, ◌+◌, ◌-◌, ◌*◌, ◌/◌, ◌^◌, ◌<◌, ◌≤◌, ◌==◌, ◌↔◌, List, ◌∷◌, ◌++◌, cond, refl, ap, ◌∙◌, subst, inl, inr, arith}
 use Rattle.std.specs.Prelude.{nat_lt}
-use Rattle.std.proofs.lemmas.Bool.{cases_lt, cond_both, ltb-true, ltb-false}
+use Rattle.std.proofs.lemmas.Bool.{cases_lt, cond_both, cond-true, eq-eqb, eqb-true, ltb-true, ltb-false}
 use Rattle.std.proofs.lemmas.List.Sums.{sum_by-append, sum_by-cons}
 use Rattle.std.proofs.Math.Nat.{pow-suc, mul-le-mul_left, add-mul}
 use Rattle.arrow2_model.specs.Touched.{touched, slice_reads, cut_reads, halvings, lg, to_read, all_to_read, HoldsBit}
@@ -37,6 +37,23 @@ holds_touched o (suc n) j h =
     let s = touched-some o (suc n) (omega arith) in let low = h.1 in let high = h.2 in let at = h.3 in (omega arith, omega arith)
 
 -- ---- what one slice reads
+
+pub slice_reads-all : (o len a n : ℕ) → n ≡ len → slice_reads o len a n ≡ 0
+unfolding slice_reads
+slice_reads-all o len a n e = cond-true (n == len) 0 (cond (nat_lt n (len / 2)) (touched (o + a) n) (touched o a + touched (o + a + n) (len - a - n))) (eq-eqb n len e)
+
+pub slice_reads-short : (o len a n : ℕ) → (n ≡ len → ⊥) → n < len / 2 → slice_reads o len a n ≡ touched (o + a) n
+unfolding slice_reads
+slice_reads-short o len a n other h =
+    cond_both (n == len) 0 (cond (nat_lt n (len / 2)) (touched (o + a) n) (touched o a + touched (o + a + n) (len - a - n))) (λ k. k ≡ touched (o + a) n) (λ e. absurd (other (eqb-true n len e))) (λ e.
+    cond_both (nat_lt n (len / 2)) (touched (o + a) n) (touched o a + touched (o + a + n) (len - a - n)) (λ k. k ≡ touched (o + a) n) (λ l. refl) (λ g. let s = ltb-false n (len / 2) g in absurd (omega arith)))
+
+pub slice_reads-long : (o len a n end left : ℕ) → (n ≡ len → ⊥) → len / 2 ≤ n → end ≡ a + n → left ≡ len - end → slice_reads o len a n ≡ touched o a + touched (o + end) left
+unfolding slice_reads
+slice_reads-long o len a n end left other h is-end is-left =
+    let p : o + end ≡ o + a + n = omega arith in let q : left ≡ len - a - n = omega arith in
+    rw (p, q) (cond_both (n == len) 0 (cond (nat_lt n (len / 2)) (touched (o + a) n) (touched o a + touched (o + a + n) (len - a - n))) (λ k. k ≡ touched o a + touched (o + a + n) (len - a - n)) (λ e. absurd (other (eqb-true n len e))) (λ e.
+    cond_both (nat_lt n (len / 2)) (touched (o + a) n) (touched o a + touched (o + a + n) (len - a - n)) (λ k. k ≡ touched o a + touched (o + a + n) (len - a - n)) (λ l. let s = ltb-true n (len / 2) l in absurd (omega arith)) (λ g. refl)))
 
 pub slice_reads_le : (o len a n : ℕ) → a + n ≤ len → slice_reads o len a n ≤ len / 16 + 4
 unfolding slice_reads
