@@ -1,10 +1,9 @@
 -- What counts of bits read: bounds, and what pays for many cuts.
-use Rattle.std.proofs.Common.{◌≡◌, ℕ, zero, suc, ◌+◌, ◌-◌, ◌*◌, ◌/◌, ◌^◌, ◌<◌, ◌≤◌, ◌==◌, ◌↔◌, List, ◌∷◌, ◌++◌, cond, refl, ap, ◌∙◌, subst, inl, inr, arith}
+use Rattle.std.proofs.Common.{◌≡◌, ℕ, zero, suc, ◌+◌, ◌-◌, ◌*◌, ◌/◌, ◌^◌, ◌<◌, ◌≤◌, ◌==◌, ◌↔◌, cond, refl, ap, subst, inl, inr, arith}
 use Rattle.std.specs.Prelude.{nat_lt}
 use Rattle.std.proofs.lemmas.Bool.{cases_lt, cond_both, cond-true, eq-eqb, eqb-true, ltb-true, ltb-false}
-use Rattle.std.proofs.lemmas.List.Sums.{sum_by-append, sum_by-cons}
 use Rattle.std.proofs.Math.Nat.{pow-suc, mul-le-mul_left, add-mul}
-use Rattle.arrow2_model.specs.Touched.{touched, slice_reads, cut_reads, halvings, lg, to_read, all_to_read, HoldsBit}
+use Rattle.arrow2_model.specs.Touched.{touched, slice_reads, cut_reads, halvings, lg, to_read, HoldsBit}
 
 -- ---- the bytes that bits stand in
 
@@ -151,6 +150,10 @@ apart_le (suc k) b h =
     let sum : (a + b) * lg (a + b) ≡ a * lg (a + b) + b * lg (a + b) = add-mul a b (lg (a + b)) in
     omega arith
 
+pub cut_reads-is : (o n i : ℕ) → cut_reads o n i ≡ slice_reads o n 0 i + slice_reads o n i (n - i)
+unfolding cut_reads
+cut_reads-is o n i = refl
+
 -- a cut reads what the items have less to read afterwards, and less than four bytes
 pub cut_le : (o n i : ℕ) → i ≤ n → 8 * cut_reads o n i + to_read i + to_read (n - i) ≤ to_read n + 30
 unfolding cut_reads
@@ -166,14 +169,6 @@ cut_le o n i h = elim (cases_lt (n - i) i) [
       let less = apart_le i (n - i) g in let e : i + (n - i) ≡ n = omega arith in
       let less' : to_read i + to_read (n - i) + 2 * i ≤ to_read n = subst (λ (k : ℕ). to_read i + to_read (n - i) + 2 * i ≤ to_read k) e less in omega arith
 ]
-
--- a piece among others is cut
-pub cut_among_le : (o n i : ℕ) (xs ys : List ℕ) → i ≤ n → 8 * cut_reads o n i + all_to_read (xs ++ i ∷ (n - i) ∷ ys) ≤ all_to_read (xs ++ n ∷ ys) + 30
-cut_among_le o n i xs ys h =
-    let one = cut_le o n i h in
-    let old = sum_by-append to_read xs (n ∷ ys) ∙ ap (λ (t : ℕ). all_to_read xs + t) (sum_by-cons to_read n ys) in
-    let new = sum_by-append to_read xs (i ∷ (n - i) ∷ ys) ∙ ap (λ (t : ℕ). all_to_read xs + t) (sum_by-cons to_read i ((n - i) ∷ ys) ∙ ap (λ (t : ℕ). to_read i + t) (sum_by-cons to_read (n - i) ys)) in
-    omega (arith, one, old, new)
 
 pub touched_bytes : (o n j : ℕ) → (o / 8 ≤ j) × (j < o / 8 + touched o n) ↔ HoldsBit o n j
 touched_bytes o n j = (λ h. touched_holds o n j h.0 h.1, holds_touched o n j)
