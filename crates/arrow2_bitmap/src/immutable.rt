@@ -12,6 +12,7 @@ ghost use Rattle.arrow2_model.specs.Bits.{bits};
 ghost use Rattle.arrow2_model.specs.Parts.{part, falses};
 ghost use Rattle.arrow2_model.specs.Canonical.{canonical_bytes};
 ghost use Rattle.arrow2_model.specs.Shown.{shown};
+ghost use Rattle.arrow2_model.specs.Touched.{slice_reads};
 ghost use Rattle.arrow2_model.specs.Words.{spill};
 ghost use Rattle.arrow2_model.specs.Storage.{BitmapStorage, items_of};
 ghost use Rattle.arrow2_types.specs.Refusals.{IsInvalidArgument};
@@ -24,7 +25,7 @@ use crate::check::check_length;
 use crate::mutable::MutableBitmap;
 use arrow2_bits::chunk_iterator::BitChunks;
 use arrow2_bits::iterator::BitmapIter;
-use arrow2_bits::{bytes_for, count_zeros, get_bit};
+use arrow2_bits::{Reads, Stored, bytes_for, count_zeros, get_bit, recount};
 use arrow2_buffer::bytes::Bytes;
 use arrow2_chunk::bit_chunk::BitChunk;
 use arrow2_types::error::{Error, Result};
@@ -32,9 +33,9 @@ use arrow2_types::native::NativeType;
 use either::Either;
 use std::alloc::{AllocError, Global};
 use std::convert::TryFrom;
-use std::fmt;
 use std::marker::Model;
 use std::rc::Rc;
+use std::{fmt, mem};
 
 /// A bitmap over shared bytes: contracts see the bytes, the bit at which its items begin, and how
 /// many items it has. Slices and clones share the bytes.
@@ -294,10 +295,35 @@ impl Bitmap {
         ensures items { items_of self.new ≡ part (items_of self.old) offset length }
         ensures len { length' (items_of self.new) ≡ length }
     {
+        self.slice_counted(offset, length, &mut Reads::new());
+    }
+
+    /// The same as [`Bitmap::slice`], and adds the bytes that it reads to `reads`: at most a sixteenth of the items
+    /// that were there, and four.
+    ///
+    /// arrow2 counts no reads.
+    pub fn slice_counted(&mut self, offset: usize, length: usize, reads: &mut Reads)
+        requires inside { offset + length ≤ length' (items_of self.old) }
+        ensures storage { self.new ≡ record { bytes = self.old.bytes; offset = self.old.offset + offset; len = length } }
+        ensures items { items_of self.new ≡ part (items_of self.old) offset length }
+        ensures len { length' (items_of self.new) ≡ length }
+        ensures reads { reads.new ≡ reads.old + slice_reads self.old.offset (length' (items_of self.old)) offset length }
+        ensures bound { reads.new ≤ reads.old + length' (items_of self.old) / 16 + 4 }
+    {
         prove!(offset <= self.length && length <= self.length - offset);
+        let mut stored = Stored::new(self.bytes.as_slice(), mem::replace(reads, Reads::new()));
+        let unset_bits = recount(
+            &mut stored,
+            self.offset,
+            self.length,
+            self.unset_bits,
+            offset,
+            length,
+        );
+        *reads = stored.into_reads();
         self.offset += offset;
         self.length = length;
-        self.unset_bits = count_zeros(self.bytes.as_slice(), self.offset, length);
+        self.unset_bits = unset_bits;
     }
 
     /// The same as [`Bitmap::slice`], by value.

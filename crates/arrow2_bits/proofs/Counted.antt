@@ -1,73 +1,88 @@
--- Counts of bits that are not set, from their pieces.
-use Rattle.std.proofs.Common.{◌≡◌, ℕ, ◌+◌, ◌-◌, ◌*◌, ◌/◌, ◌%◌, ◌^◌, ◌<◌, ◌≤◌, List, [], ◌∷◌, Bool, take, drop, length, get_or, refl, ap, sym, ◌∙◌, arith}
+-- Counts of bits that are not set, from their pieces, and the bytes that they read.
+use Rattle.std.proofs.Common.{◌≡◌, ℕ, zero, suc, ◌+◌, ◌-◌, ◌*◌, ◌/◌, ◌%◌, ◌^◌, ◌<◌, ◌≤◌, List, Bool, drop, length, get_or, refl, ap, sym, ◌∙◌, arith}
 use Rattle.std.specs.Prelude.{count_ones}
-use Rattle.std.specs.Int.{div_ceil}
-use Rattle.std.proofs.lemmas.List.{length-drop, length-take, take-append-drop, take_more, get_or-drop, append-nil}
+use Rattle.std.proofs.lemmas.List.{length-take}
 use Rattle.std.proofs.lemmas.Nat.{one_shl}
 use Rattle.arrow2_model.specs.Bits.{unnum, bits}
 use Rattle.arrow2_model.specs.Parts.{part, falses}
-use Rattle.arrow2_model.proofs.Bits.{length-bits, bits-append, bits-cons, bits-nil}
-use Rattle.arrow2_model.proofs.Bytes.{part-bits, part-bits-drop}
-use Rattle.arrow2_model.proofs.Counts.{falses-append, falses-byte_part, falses-le-length, falses-part_three}
-use Rattle.arrow2_bits.proofs.Spilled.{slice_end}
+use Rattle.arrow2_model.specs.Touched.{touched}
+use Rattle.arrow2_model.proofs.Bytes.{part-bits, part-bits-part}
+use Rattle.arrow2_model.proofs.Counts.{falses-append, falses-byte_part, falses-le-length, falses-part_three, falses-unnum}
+use Rattle.arrow2_model.proofs.Parts.{length-part, part-add}
+use Rattle.arrow2_model.proofs.Touched.{touched-none, touched-some}
 
--- some bits of the first byte, shifted down and masked
-pub byte_zeros : (bytes : List ℕ) (s n y : ℕ) → 0 < length bytes → s + n ≤ 8 → y ≡ get_or bytes 0 0 → falses (part (bits bytes) s n) + count_ones (y / 2 ^ s % (1 * 2 ^ n % 4294967296)) ≡ n
-byte_zeros bytes s n y some within is =
+-- ---- counts
+
+-- some bits of a byte, shifted down and masked
+pub byte_zeros : (bytes fetched : List ℕ) (at s n y : ℕ) → at < length bytes → s + n ≤ 8 → fetched ≡ part bytes at 1 → y ≡ get_or fetched 0 0 → falses (part (bits bytes) (8 * at + s) n) + count_ones (y / 2 ^ s % (1 * 2 ^ n % 4294967296)) ≡ n
+byte_zeros bytes fetched at s n y inside within is first =
     let mask : 1 * 2 ^ n % 2 ^ 32 ≡ 2 ^ n = one_shl n 32 (omega arith) in
-    rw (mask, is) (falses-byte_part bytes s n (get_or bytes 0 0 / 2 ^ s % 2 ^ n) some within refl)
-
--- no more than eight a byte
-pub zeros-le : (bytes : List ℕ) → falses (bits bytes) ≤ 8 * length bytes
-zeros-le bytes = let l = length-bits bytes in let f = falses-le-length (bits bytes) in omega (arith, l, f)
+    let l = length-part bytes at 1 (omega arith) in
+    let here = part-bits-part bytes at 1 s n (8 * at + s) (omega arith) (omega arith) refl in
+    let one = falses-byte_part (part bytes at 1) s n (get_or fetched 0 0 / 2 ^ s % 2 ^ n) (omega (arith, l)) within (ap (λ (b : List ℕ). get_or b 0 0 / 2 ^ s % 2 ^ n) is) in
+    rw (mask, first, ← here) one
 
 -- no more than there are bits
 pub part_zeros-le : (items : List Bool) (a n : ℕ) → falses (part items a n) ≤ n
 part_zeros-le items a n = let l = length-take n (drop a items) in let f = falses-le-length (part items a n) in omega (arith, l, f)
 
--- bytes in two
-pub zeros_in_two : (bytes : List ℕ) (at a b : ℕ) → a ≡ falses (bits (take at bytes)) → b ≡ falses (bits (take (length bytes - at) (drop at bytes))) → a + b ≡ falses (bits bytes)
-zeros_in_two bytes at a b is-a is-b =
-    let s = ap bits (take-append-drop at bytes) in
-    let f = falses-append (bits (take at bytes)) (bits (drop at bytes)) in
-    let e = ap (λ t. falses (bits t)) (slice_end bytes at) in
-    omega (arith, is-a, is-b, e, f, ap falses (sym (bits-append (take at bytes) (drop at bytes))), ap falses s)
+-- k bytes more, which are a word
+pub zeros-more : (bytes fetched : List ℕ) (first n k w x before after : ℕ) → first + n + k ≤ length bytes → 8 * k ≡ w → x < 2 ^ w → fetched ≡ part bytes (first + n) k → unnum w x ≡ bits fetched → before ≡ falses (part (bits bytes) (8 * first) (8 * n)) → after ≡ before + (w - count_ones x)
+    → after ≡ falses (part (bits bytes) (8 * first) (8 * (n + k)))
+zeros-more bytes fetched first n k w x before after inside e fits got is was now =
+    let f = falses-unnum w x fits in
+    let both : 8 * (n + k) ≡ 8 * n + 8 * k = omega arith in
+    let at : 8 * first + 8 * n ≡ 8 * (first + n) = omega arith in
+    let s = part-add (bits bytes) (8 * first) (8 * n) (8 * k) in
+    let last : part (bits bytes) (8 * first + 8 * n) (8 * k) ≡ unnum w x =
+    ap (λ a. part (bits bytes) a (8 * k)) at ∙ (part-bits bytes (first + n) k inside ∙ (ap bits (sym got) ∙ sym is)) in
+    let a = ap falses s ∙ falses-append (part (bits bytes) (8 * first) (8 * n)) (part (bits bytes) (8 * first + 8 * n) (8 * k)) in
+    let b = ap falses last in
+    rw both (omega (arith, f, a, b, was, now))
 
--- the bits from an offset on, in the bytes from the one that holds the first of them
-pub behind : (bytes front : List ℕ) (offset len : ℕ) → offset / 8 ≤ length bytes → front ≡ take (length bytes - offset / 8) (drop (offset / 8) bytes) → part (bits front) (offset % 8) len ≡ part (bits bytes) offset len
-behind bytes front offset len h is =
-    let o : 8 * (offset / 8) + offset % 8 ≡ offset = omega arith in
-    ap (λ t. part (bits t) (offset % 8) len) (is ∙ slice_end bytes (offset / 8)) ∙ (part-bits-drop bytes (offset / 8) (offset % 8) len h ∙ ap (λ a. part (bits bytes) a len) o)
+-- bytes in two
+pub zeros_in_two : (bytes : List ℕ) (first count m n a b : ℕ) → count ≡ m + n → a ≡ falses (part (bits bytes) (8 * first) (8 * m)) → b ≡ falses (part (bits bytes) (8 * (first + m)) (8 * n)) → a + b ≡ falses (part (bits bytes) (8 * first) (8 * count))
+zeros_in_two bytes first count m n a b e is-a is-b =
+    let both : 8 * count ≡ 8 * m + 8 * n = omega arith in
+    let at : 8 * first + 8 * m ≡ 8 * (first + m) = omega arith in
+    let s = ap falses (part-add (bits bytes) (8 * first) (8 * m) (8 * n)) ∙ falses-append (part (bits bytes) (8 * first) (8 * m)) (part (bits bytes) (8 * first + 8 * m) (8 * n)) in
+    let second = ap (λ k. falses (part (bits bytes) k (8 * n))) at in
+    rw both (omega (arith, s, second, is-a, is-b))
 
 -- a head of bits, whole bytes, and a tail of bits
-pub zeros_in_three : (bytes : List ℕ) (start len head first end : ℕ) → start + len ≤ 8 * length bytes → 8 * first ≡ start + head → head ≤ len → end ≡ first + (len - head) / 8
-    → falses (part (bits bytes) start head) + falses (bits (take (end - first) (drop first bytes))) + falses (part (bits (take (length bytes - end) (drop end bytes))) 0 ((len - head) % 8)) ≡ falses (part (bits bytes) start len)
-zeros_in_three bytes start len head first end within at few is =
-    let whole : ℕ = (len - head) / 8 in
-    let tail : ℕ = (len - head) % 8 in
-    let count : end - first ≡ whole = omega arith in
-    let three = falses-part_three (bits bytes) start head (8 * whole) tail len (omega arith) in
-    let mid : falses (bits (take (end - first) (drop first bytes))) ≡ falses (part (bits bytes) (start + head) (8 * whole)) =
-    ap falses (ap (λ n. bits (take n (drop first bytes))) count ∙ (sym (part-bits bytes first whole (omega arith)) ∙ ap (λ a. part (bits bytes) a (8 * whole)) at)) in
-    let last : falses (part (bits (take (length bytes - end) (drop end bytes))) 0 tail) ≡ falses (part (bits bytes) (start + head + 8 * whole) tail) =
-    ap falses (ap (λ t. part (bits t) 0 tail) (slice_end bytes end) ∙ (part-bits-drop bytes end 0 tail (omega arith) ∙ ap (λ a. part (bits bytes) a tail) (omega arith))) in
-    omega (arith, three, mid, last)
+pub zeros_in_three : (bytes : List ℕ) (first start len head whole count tail a b d : ℕ) → 8 * whole ≡ 8 * first + start + head → len ≡ head + (8 * count + tail)
+    → a ≡ falses (part (bits bytes) (8 * first + start) head) → b ≡ falses (part (bits bytes) (8 * whole) (8 * count)) → d ≡ falses (part (bits bytes) (8 * (whole + count) + 0) tail) → a + b + d ≡ falses (part (bits bytes) (8 * first + start) len)
+zeros_in_three bytes first start len head whole count tail a b d at e is-a is-b is-d =
+    let three = falses-part_three (bits bytes) (8 * first + start) head (8 * count) tail len e in
+    let mid = ap (λ k. falses (part (bits bytes) k (8 * count))) (sym at) in
+    let end : 8 * first + start + head + 8 * count ≡ 8 * (whole + count) + 0 = omega arith in
+    let last = ap (λ k. falses (part (bits bytes) k tail)) end in
+    omega (arith, three, mid, last, is-a, is-b, is-d)
 
--- the bits of one of the bytes
-pub one_byte : (bytes : List ℕ) (i : ℕ) → i < length bytes → unnum 8 (get_or bytes i 0) ≡ bits (part bytes i 1)
-one_byte bytes i h = sym (ap bits (part_one bytes i h) ∙ (bits-cons (get_or bytes i 0) [] ∙ (rw bits-nil (append-nil (unnum 8 (get_or bytes i 0))))))
-  where
-    part_one : (bytes : List ℕ) (i : ℕ) → i < length bytes → part bytes i 1 ≡ get_or bytes i 0 ∷ []
-    part_one bytes i h = let l = length-drop i bytes in take_more (drop i bytes) 0 0 (omega arith) ∙ ap (λ b. b ∷ []) (get_or-drop i bytes 0 0 ∙ ap (λ k. get_or bytes k 0) (omega arith))
+-- what is left where a head and a tail are taken away
+pub zeros_between : (bytes : List ℕ) (offset len start count unset a b : ℕ) → start + count ≤ len → unset ≡ falses (part (bits bytes) offset len) → a ≡ falses (part (bits bytes) offset start) → b ≡ falses (part (bits bytes) (offset + (start + count)) (len - (start + count)))
+    → falses (part (bits bytes) (offset + start) count) + (a + b) ≡ unset
+zeros_between bytes offset len start count unset a b h is is-a is-b =
+    let three = falses-part_three (bits bytes) offset start count (len - (start + count)) len (omega arith) in
+    let at : offset + (start + count) ≡ offset + start + count = omega arith in
+    let last = ap (λ k. falses (part (bits bytes) k (len - (start + count)))) at in
+    omega (arith, three, last, is, is-a, is-b)
 
--- the whole count
-pub all_zeros : (bytes front : List ℕ) (offset len first a b d : ℕ) → front ≡ take (length bytes - offset / 8) (drop (offset / 8) bytes) → offset + len ≤ 8 * length bytes → 8 - offset % 8 < len → first ≡ div_ceil (offset % 8) 8
-    → let head = (8 - offset % 8) % 8 in let end = first + (len - head) / 8 in a ≡ falses (part (bits front) (offset % 8) head) → b ≡ falses (bits (take (end - first) (drop first front))) → d ≡ falses (part (bits (take (length front - end) (drop end front))) 0 ((len - head) % 8))
-    → (a + b + d ≡ falses (part (bits bytes) offset len)) × (a + b + d ≤ len)
-all_zeros bytes front offset len first a b d is within long at is-a is-b is-d =
-    let head : ℕ = (8 - offset % 8) % 8 in
-    let size : length front ≡ length bytes - offset / 8 = ap length (is ∙ slice_end bytes (offset / 8)) ∙ length-drop (offset / 8) bytes in
-    let three = zeros_in_three front (offset % 8) len head first (first + (len - head) / 8) (omega (arith, size)) (grind (arith, at)) (omega arith) refl in
-    let all = ap falses (behind bytes front offset len (omega arith) is) in
-    let most = part_zeros-le (bits bytes) offset len in
-    (omega (arith, is-a, is-b, is-d, three, all), omega (arith, is-a, is-b, is-d, three, all, most))
+-- ---- reads
+
+touched_up : (o n : ℕ) → (n ≡ 0 → o % 8 ≡ 0) → touched o n ≡ (o + n + 7) / 8 - o / 8
+touched_up o zero h = let z = touched-none o 0 refl in let a = h refl in omega (arith, z, a)
+touched_up o (suc n) h = let s = touched-some o (suc n) (omega arith) in omega (arith, s)
+
+-- some bits of one byte
+pub touched_one : (at s n : ℕ) → 0 < n → s + n ≤ 8 → touched (8 * at + s) n ≡ 1
+touched_one at s n some within = let t = touched-some (8 * at + s) n some in omega (arith, t)
+
+-- a head of bits, whole bytes, and a tail of bits
+pub touched_in_three : (first start len head whole count tail : ℕ) → start < 8 → head < 8 → tail < 8 → (head ≡ 0 → start ≡ 0) → 8 * whole ≡ 8 * first + start + head → len ≡ head + (8 * count + tail) → 0 < len
+    → touched (8 * first + start) len ≡ touched (8 * first + start) head + count + touched (8 * (whole + count) + 0) tail
+touched_in_three first start len head whole count tail s<8 h<8 t<8 none at e some =
+    let a = touched_up (8 * first + start) len (λ z. absurd (omega (arith, z))) in
+    let b = touched_up (8 * first + start) head (λ z. let n = none z in omega (arith, n)) in
+    let d = touched_up (8 * (whole + count) + 0) tail (λ z. omega arith) in
+    omega (arith, a, b, d)

@@ -1,8 +1,11 @@
 //! Counts of bits that are not set.
-ghost use Rattle.std.specs.Prelude.{◌≡◌, ◌+◌, ◌*◌, ◌<◌, ◌≤◌, ◌^◌, length, take};
+ghost use Rattle.std.specs.Prelude.{◌≡◌, ◌+◌, ◌*◌, ◌/◌, ◌<◌, ◌≤◌, ◌^◌, length};
 ghost use Rattle.arrow2_model.specs.Bits.{bits};
 ghost use Rattle.arrow2_model.specs.Parts.{part, falses};
+ghost use Rattle.arrow2_model.specs.Touched.{touched, slice_reads};
 
+use crate::bytes::Stored;
+use crate::counter::Reads;
 use arrow2_chunk::bit_chunk::BitChunk;
 
 /// How many of the `len` bits from bit `offset` on are not set.
@@ -11,65 +14,145 @@ pub fn count_zeros(bytes: &[u8], offset: usize, len: usize) -> usize
     requires { 0 < len → offset + len ≤ 8 * length bytes.now }
     ensures { result ≡ falses (part (bits bytes.now) offset len) }
 {
-    if len == 0 {
-        return 0;
-    }
-    let bytes = &bytes[offset / 8..];
-    let start = offset % 8;
-    if len <= 8 - start {
-        return zeros_in_byte(bytes, start, len);
-    }
-    let head = (8 - start) % 8;
-    let first = start.div_ceil(8);
-    let end = first + (len - head) / 8;
-    let zeros = zeros_in_byte(bytes, start, head);
-    let zeros = zeros + zeros_in_bytes(&bytes[first..end]);
-    zeros + zeros_in_byte(&bytes[end..], 0, (len - head) % 8)
+    count_zeros_counted(&mut Stored::new(bytes, Reads::new()), offset, len)
 }
 
-/// How many of the `len` bits from bit `start` of the first byte on are not set.
-fn zeros_in_byte(bytes: &[u8], start: usize, len: usize) -> usize
+/// The same as [`count_zeros`], of bytes whose reads are counted: it fetches each byte that holds one of the bits, once.
+/// Asks that the bits are inside the bytes, or that `len` is 0. arrow2 counts no reads.
+pub fn count_zeros_counted(stored: &mut Stored<'_>, offset: usize, len: usize) -> usize
+    requires inside { 0 < len → offset + len ≤ 8 * length stored.old.bytes }
+    ensures zeros { result ≡ falses (part (bits stored.old.bytes) offset len) }
+    ensures bytes { stored.new.bytes ≡ stored.old.bytes }
+    ensures reads { stored.new.reads ≡ stored.old.reads + touched offset len }
+{
+    zeros_from(stored, offset / 8, offset % 8, len)
+}
+
+/// How many of the `count` bits from bit `offset + start` on are not set, where `unset` is how many of the `len` bits
+/// from bit `offset` on are not: the answer of [`count_zeros_counted`], for at most `len / 16 + 4` reads.
+///
+/// It counts the bits asked for where they are less than half of all, else the head and the tail around them, which it
+/// takes away, and nothing where they are all. Asks that the `len` bits are inside the bytes, and the others among
+/// them. arrow2 has it inside the slice of a bitmap.
+pub fn recount(
+    stored: &mut Stored<'_>,
+    offset: usize,
+    len: usize,
+    unset: usize,
+    start: usize,
+    count: usize,
+) -> usize
+    requires inside { offset + len ≤ 8 * length stored.old.bytes }
+    requires among { start + count ≤ len }
+    requires unset { unset ≡ falses (part (bits stored.old.bytes) offset len) }
+    ensures zeros { result ≡ falses (part (bits stored.old.bytes) (offset + start) count) }
+    ensures bytes { stored.new.bytes ≡ stored.old.bytes }
+    ensures reads { stored.new.reads ≡ stored.old.reads + slice_reads offset len start count }
+    ensures bound { stored.new.reads ≤ stored.old.reads + len / 16 + 4 }
+{
+    prove!(start <= len && count <= len - start);
+    if count == len {
+        return unset;
+    }
+    if count < len / 2 {
+        return zeros_behind(stored, offset, start, count);
+    }
+    let end = start + count;
+    let head = count_zeros_counted(stored, offset, start);
+    let tail = zeros_behind(stored, offset, end, len - end);
+    unset - (head + tail)
+}
+
+/// How many of the `len` bits from bit `offset + start` on are not set, a sum that need not fit a `usize`.
+fn zeros_behind(stored: &mut Stored<'_>, offset: usize, start: usize, len: usize) -> usize
+    requires inside { offset + start + len ≤ 8 * length stored.old.bytes }
+    ensures zeros { result ≡ falses (part (bits stored.old.bytes) (offset + start) len) }
+    ensures bytes { stored.new.bytes ≡ stored.old.bytes }
+    ensures reads { stored.new.reads ≡ stored.old.reads + touched (offset + start) len }
+{
+    let within = offset % 8 + start % 8;
+    zeros_from(stored, offset / 8 + start / 8 + within / 8, within % 8, len)
+}
+
+/// How many of the `len` bits from bit `start` of byte `first` on are not set.
+fn zeros_from(stored: &mut Stored<'_>, first: usize, start: usize, len: usize) -> usize
+    requires place { start < 8 }
+    requires fits { first < 2 ^ 63 }
+    requires inside { 0 < len → 8 * first + start + len ≤ 8 * length stored.old.bytes }
+    ensures zeros { result ≡ falses (part (bits stored.old.bytes) (8 * first + start) len) }
+    ensures bytes { stored.new.bytes ≡ stored.old.bytes }
+    ensures reads { stored.new.reads ≡ stored.old.reads + touched (8 * first + start) len }
+{
+    if len <= 8 - start {
+        return zeros_in_byte(stored, first, start, len);
+    }
+    let head = (8 - start) % 8;
+    let whole = first + start.div_ceil(8);
+    let count = (len - head) / 8;
+    let zeros = zeros_in_byte(stored, first, start, head);
+    let zeros = zeros + zeros_in_bytes(stored, whole, count);
+    zeros + zeros_in_byte(stored, whole + count, 0, (len - head) % 8)
+}
+
+/// How many of the `len` bits from bit `start` of byte `at` on are not set, all in that byte.
+fn zeros_in_byte(stored: &mut Stored<'_>, at: usize, start: usize, len: usize) -> usize
     requires within { start + len ≤ 8 }
-    requires some { 0 < len → 0 < length bytes.now }
-    ensures { result ≡ falses (part (bits bytes.now) start len) }
+    requires some { 0 < len → at < length stored.old.bytes }
+    ensures zeros { result ≡ falses (part (bits stored.old.bytes) (8 * at + start) len) }
+    ensures bytes { stored.new.bytes ≡ stored.old.bytes }
+    ensures reads { stored.new.reads ≡ stored.old.reads + touched (8 * at + start) len }
 {
     if len == 0 {
         return 0;
     }
-    let shown = (u32::from(bytes[0]) >> start) % (1 << len);
+    let byte = stored.fetch::<1>(at)[0];
+    let shown = (u32::from(byte) >> start) % (1 << len);
     len - shown.count_ones() as usize
 }
 
-/// How many bits of the bytes are not set.
-fn zeros_in_bytes(bytes: &[u8]) -> usize
-    requires { 8 * length bytes.now < 2 ^ 64 }
-    ensures { result ≡ falses (bits bytes.now) }
+/// How many bits of the `count` bytes from byte `first` on are not set.
+fn zeros_in_bytes(stored: &mut Stored<'_>, first: usize, count: usize) -> usize
+    requires fits { first + count < 2 ^ 64 }
+    requires few { 8 * count < 2 ^ 64 }
+    requires inside { first + count ≤ length stored.old.bytes }
+    ensures zeros { result ≡ falses (part (bits stored.old.bytes) (8 * first) (8 * count)) }
+    ensures bytes { stored.new.bytes ≡ stored.old.bytes }
+    ensures reads { stored.new.reads ≡ stored.old.reads + count }
 {
-    let words = bytes.len() / 8;
-    zeros_in_words(bytes, words) + zeros_byte_by_byte(&bytes[8 * words..])
+    let words = count / 8;
+    let zeros = zeros_in_words(stored, first, words);
+    zeros + zeros_byte_by_byte(stored, first + 8 * words, count % 8)
 }
 
-/// How many bits of the first `words` words of 64 bits are not set.
-fn zeros_in_words(bytes: &[u8], words: usize) -> usize
-    requires fits { 8 * length bytes.now < 2 ^ 64 }
-    requires within { 8 * words ≤ length bytes.now }
-    ensures { result ≡ falses (bits (take (8 * words) bytes.now)) }
+/// How many bits of the `words` words of 64 bits from byte `first` on are not set.
+fn zeros_in_words(stored: &mut Stored<'_>, first: usize, words: usize) -> usize
+    requires fits { first + 8 * words < 2 ^ 64 }
+    requires few { 64 * words < 2 ^ 64 }
+    requires inside { first + 8 * words ≤ length stored.old.bytes }
+    ensures zeros { result ≡ falses (part (bits stored.old.bytes) (8 * first) (8 * (8 * words))) }
+    ensures bytes { stored.new.bytes ≡ stored.old.bytes }
+    ensures reads { stored.new.reads ≡ stored.old.reads + 8 * words }
 {
     let mut zeros = 0usize;
     for i in 0..words {
-        let word = u64::from_ne_slice(&bytes[8 * i..8 * i + 8]);
+        let word = u64::from_ne_slice(&stored.fetch::<8>(first + 8 * i));
         zeros += 64 - word.count_ones() as usize;
     }
     zeros
 }
 
-/// How many bits of the bytes are not set.
-fn zeros_byte_by_byte(bytes: &[u8]) -> usize
-    requires { 8 * length bytes.now < 2 ^ 64 }
-    ensures { result ≡ falses (bits bytes.now) }
+/// How many bits of the `count` bytes from byte `first` on are not set.
+fn zeros_byte_by_byte(stored: &mut Stored<'_>, first: usize, count: usize) -> usize
+    requires fits { first + count < 2 ^ 64 }
+    requires few { 8 * count < 2 ^ 64 }
+    requires inside { first + count ≤ length stored.old.bytes }
+    ensures zeros { result ≡ falses (part (bits stored.old.bytes) (8 * first) (8 * count)) }
+    ensures bytes { stored.new.bytes ≡ stored.old.bytes }
+    ensures reads { stored.new.reads ≡ stored.old.reads + count }
 {
     let mut zeros = 0usize;
-    for byte in bytes {
+    for i in 0..count {
+        let byte = u8::from_ne_slice(&stored.fetch::<1>(first + i));
         zeros += 8 - byte.count_ones() as usize;
     }
     zeros

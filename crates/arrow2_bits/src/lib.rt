@@ -4,15 +4,19 @@
 ghost use Rattle.std.specs.Prelude.{◌≡◌, ◌+◌, ◌*◌, ◌/◌, ◌<◌, ◌≤◌, length, false, slice_set, slice_index_or};
 ghost use Rattle.arrow2_model.specs.Bits.{bit, unnum, bits};
 
+mod bytes;
 pub mod chunk_iterator;
 pub mod chunks;
 pub mod chunks_exact;
 pub mod chunks_exact_mut;
+mod counter;
 mod counts;
 pub mod fmt;
 pub mod iterator;
 
-pub use counts::count_zeros;
+pub use bytes::Stored;
+pub use counter::Reads;
+pub use counts::{count_zeros, count_zeros_counted, recount};
 
 /// At place i the byte whose bit i alone is set: read in place of a shift by a variable.
 const BITS: [u8; 8] = [1, 2, 4, 8, 16, 32, 64, 128];

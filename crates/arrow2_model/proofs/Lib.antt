@@ -19,6 +19,7 @@ pub mod RowKernels
 pub mod Shown
 pub mod Tables
 pub mod Texts
+pub mod Touched
 pub mod UniqueRuns
 pub mod Walks
 pub mod Words

@@ -12,5 +12,6 @@ pub mod Rows
 pub mod Shown
 pub mod Storage
 pub mod Tables
+pub mod Touched
 pub mod Words
 pub mod Zipped

@@ -1,5 +1,5 @@
 //! Laws of the definitions. Each function is its law and nothing else.
-ghost use Rattle.std.specs.Prelude.{◌≡◌, ◌↔◌, ℕ, ◌+◌, ◌*◌, ◌/◌, ◌%◌, ◌<◌, ◌≤◌, ◌^◌, List, ◌∷◌, [], ◌++◌, Bool, true, length, codes, count_by, false, get_or, replicate, slice_get, slice_index, slice_index_or, Some, take, IsTrue};
+ghost use Rattle.std.specs.Prelude.{◌≡◌, ◌↔◌, ℕ, ◌+◌, ◌-◌, ◌*◌, ◌/◌, ◌%◌, ◌<◌, ◌≤◌, ◌^◌, List, ◌∷◌, [], ◌++◌, Bool, true, length, codes, count_by, false, get_or, replicate, slice_get, slice_index, slice_index_or, Some, take, IsTrue};
 ghost use Rattle.std.specs.Bool.{beq};
 ghost use Rattle.std.specs.Cmp.Lexicographic.{pointwise};
 ghost use Rattle.std.specs.Int.{div_ceil};
@@ -9,6 +9,7 @@ ghost use Rattle.arrow2_model.specs.Parts.{part, falses};
 ghost use Rattle.arrow2_model.specs.Storage.{BitmapStorage, items_of};
 ghost use Rattle.arrow2_model.specs.Words.{words, full_words, rest};
 ghost use Rattle.arrow2_model.specs.Kernels.{word, kernel};
+ghost use Rattle.arrow2_model.specs.Touched.{touched, slice_reads, cut_reads, lg, to_read, HoldsBit};
 ghost use Rattle.arrow2_model.specs.Runs.{runs, AreRuns, InRuns};
 ghost use Rattle.arrow2_model.specs.Tables.{each, Acts};
 ghost use Rattle.arrow2_model.specs.Canonical.{canonical_bytes};
@@ -169,4 +170,29 @@ pub fn runs_cover_the_true_items()
 #[tactic(auto, using(crate::proofs::RunLaws::runs_of_a_list))]
 pub fn lengths_of_runs_are_the_true_items()
     ensures { (items : List Bool) → sum_by (λ p. p.1) (runs items) + falses items ≡ length items }
+{}
+
+/// The bytes touched by some bits are those that hold one of them.
+pub fn touched_bytes_hold_one_of_the_bits()
+    ensures { (o n j : ℕ) → (o / 8 ≤ j) × (j < o / 8 + touched o n) ↔ HoldsBit o n j }
+{}
+
+/// A slice reads a sixteenth of its bitmap's items and four bytes at most.
+#[tactic(auto, using(crate::proofs::Touched::reads))]
+pub fn a_slice_reads_half_the_bytes_at_most()
+    ensures { (o len a n : ℕ) → a + n ≤ len → slice_reads o len a n ≤ len / 16 + 4 }
+{}
+
+/// The logarithm of a number is the greatest exponent whose power of 2 is at most that number, and 0 for 0.
+#[tactic(auto, using(crate::proofs::Touched::reads))]
+pub fn the_logarithm_is_the_greatest_exponent()
+    ensures power { (n : ℕ) → 0 < n → 2 ^ lg n ≤ n }
+    ensures greatest { (n e : ℕ) → 2 ^ e ≤ n → e ≤ lg n }
+    ensures none { lg 0 ≡ 0 }
+{}
+
+/// What a cut reads, in eighths of a byte, is at most what its items have less to read afterwards, and 30.
+#[tactic(auto, using(crate::proofs::Touched::reads))]
+pub fn cuts_pay_for_themselves()
+    ensures { (o n i : ℕ) → i ≤ n → 8 * cut_reads o n i + to_read i + to_read (n - i) ≤ to_read n + 30 }
 {}

@@ -1,3 +1,4 @@
+pub mod Cuts
 pub mod Slots
 pub mod TakenRuns
 pub mod WordsOfPlaces

@@ -1,3 +1,4 @@
+pub mod Cuts
 pub mod Places
 pub mod Slots
 pub mod Zips

@@ -1,7 +1,8 @@
-//! Walks over bitmaps: values beside their validity, and the runs of set items.
+//! Walks over bitmaps: values beside their validity, and the runs of set items; and bitmaps in pieces.
 #![tactic(auto)]
 
 pub mod laws;
+pub mod pieces;
 mod places;
 pub mod slice_iterator;
 pub mod zip_validity;

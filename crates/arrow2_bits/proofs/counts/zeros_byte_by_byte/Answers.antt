@@ -1,14 +1,17 @@
-use Rattle.std.proofs.Common.{sym, get_or, refl, arith}
-use Rattle.arrow2_model.proofs.Counts.{falses-bits_more, falses-bits_none}
-use Rattle.arrow2_bits.proofs.Counted.{one_byte}
+use Rattle.std.proofs.Common.{◌∙◌, ◌+◌, ℕ, List, ap, refl, arith}
+use Rattle.arrow2_model.specs.Parts.{part}
+use Rattle.arrow2_bits.proofs.Counted.{zeros-more}
 use Rattle.arrow2_bits.proofs.counts.zeros_byte_by_byte.Goals as goal
 
-pub loop-byte-init : goal.loop-byte-init
-loop-byte-init c = record { counted = sym (falses-bits_none c.args.bytes.now); small = omega arith }
-
-pub loop-byte-preserved : goal.loop-byte-preserved
-loop-byte-preserved c =
-    let bytes = c.args.bytes.now in
-    let at = c.loop-byte.byte-index in
-    let more = falses-bits_more bytes at 1 8 (get_or bytes at 0) c.loop-byte.zeros _ (omega arith) refl (c.type_inv.bytes at).fits (one_byte bytes at c.loop-byte-test.true) c.loop-byte.invariant.counted refl in
-    record { counted = more; small = omega (arith, c.loop-byte.invariant.small) }
+pub loop-i-preserved : goal.loop-i-preserved
+loop-i-preserved c =
+    let bytes = c.args.stored.now.bytes in
+    let at : ℕ = c.args.first + c.loop-i.i in
+    let fetched = c.fetch.ensures.fetched ∙ ap (λ (b : List ℕ). part b at 1) c.loop-i.invariant.bytes in
+    let more = zeros-more bytes c.fetch.result c.args.first c.loop-i.i 1 8 c.from_ne_slice-byte.result c.loop-i.zeros _ (omega arith) refl c.from_ne_slice-byte.ensures.fits fetched c.from_ne_slice-byte.ensures.bits c.loop-i.invariant.counted refl in
+    record {
+      bytes = c.fetch.ensures.bytes ∙ c.loop-i.invariant.bytes;
+      reads = omega (arith, c.fetch.ensures.reads, c.loop-i.invariant.reads);
+      counted = more;
+      small = omega (arith, c.loop-i.invariant.small);
+    }

@@ -1,10 +1,12 @@
-use Rattle.std.proofs.Common.{◌≡◌, ◌≤◌, ◌*◌, take}
+use Rattle.std.proofs.Common.{◌≡◌, ◌≤◌, ◌+◌, ◌*◌}
 use Rattle.arrow2_model.specs.Bits.{bits}
-use Rattle.arrow2_model.specs.Parts.{falses}
+use Rattle.arrow2_model.specs.Parts.{part, falses}
 use Rattle.arrow2_bits.proofs.counts.zeros_byte_by_byte.Given as goal
 
-abbrev pub invariant-loop-byte : goal.invariant-loop-byte
-invariant-loop-byte l = record {
-  counted : l.zeros ≡ falses (bits (take l.byte-index l.bytes));
-  small : l.zeros ≤ 8 * l.byte-index;
+abbrev pub invariant-loop-i : goal.invariant-loop-i
+invariant-loop-i l = record {
+  bytes : l.stored.bytes ≡ l.fn.stored.bytes;
+  reads : l.stored.reads ≡ l.fn.stored.reads + l.i;
+  counted : l.zeros ≡ falses (part (bits l.fn.stored.bytes) (8 * l.first) (8 * l.i));
+  small : l.zeros ≤ 8 * l.i;
 }

@@ -1,11 +1,11 @@
-use Rattle.std.proofs.Common.{◌*◌, ◌/◌, length, arith}
-use Rattle.arrow2_bits.proofs.Counted.{zeros_in_two, zeros-le}
+use Rattle.std.proofs.Common.{◌∙◌, ◌+◌, ◌*◌, ◌/◌, ◌%◌, ℕ, List, ap, arith}
+use Rattle.arrow2_model.specs.Bits.{bits}
+use Rattle.arrow2_model.specs.Parts.{part, falses}
+use Rattle.arrow2_bits.proofs.Counted.{zeros_in_two}
 use Rattle.arrow2_bits.proofs.counts.zeros_in_bytes.Goals as goal
 
-pub overflow_add-result : goal.overflow_add-result
-overflow_add-result c =
-    let bytes = c.args.bytes.now in
-    omega (arith, zeros_in_two bytes (8 * (length bytes / 8)) _ _ c.zeros_in_words.ensures c.zeros_byte_by_byte.ensures, zeros-le bytes)
-
-pub returns : goal.returns
-returns c = zeros_in_two c.args.bytes.now (8 * (length c.args.bytes.now / 8)) _ _ c.zeros_in_words.ensures c.zeros_byte_by_byte.ensures
+pub returns-clause-zeros : goal.returns-clause-zeros
+returns-clause-zeros c =
+    let words : ℕ = 8 * (c.args.count / 8) in
+    let behind = c.zeros_byte_by_byte.ensures.zeros ∙ ap (λ (b : List ℕ). falses (part (bits b) (8 * (c.args.first + words)) (8 * (c.args.count % 8)))) c.zeros_in_words-zeros.ensures.bytes in
+    zeros_in_two c.args.stored.now.bytes c.args.first c.args.count words (c.args.count % 8) _ _ (omega arith) c.zeros_in_words-zeros.ensures.zeros behind

@@ -1,21 +1,19 @@
-use Rattle.std.proofs.Common.{◌≡◌, ◌∙◌, ◌+◌, ◌*◌, ◌-◌, ap, sym, take, drop, refl, arith}
+use Rattle.std.proofs.Common.{◌≡◌, ◌∙◌, ◌+◌, ◌*◌, ℕ, List, ap, refl, arith}
 use Rattle.arrow2_model.specs.Bits.{bits}
-use Rattle.arrow2_model.specs.Parts.{falses}
-use Rattle.arrow2_model.proofs.Counts.{falses-bits_more, falses-bits_none}
+use Rattle.arrow2_model.specs.Parts.{part, falses}
+use Rattle.arrow2_bits.proofs.Counted.{zeros-more}
 use Rattle.arrow2_bits.proofs.counts.zeros_in_words.Goals as goal
-
-pub loop-i-init : goal.loop-i-init
-loop-i-init c = record { counted = sym (falses-bits_none c.args.bytes.now); small = omega arith }
 
 pub loop-i-preserved : goal.loop-i-preserved
 loop-i-preserved c =
-    let bytes = c.args.bytes.now in
-    let at = 8 * c.loop-i.i in
-    let eight : at + 8 - at ≡ 8 = omega arith in
-    let word = c.from_ne_slice-word.ensures.bits ∙ ap (λ n. bits (take n (drop at bytes))) eight in
-    let next : at + 8 ≡ 8 * (c.loop-i.i + 1) = omega arith in
-    let more = falses-bits_more bytes at 8 64 c.from_ne_slice-word.result c.loop-i.zeros _ (omega arith) refl c.from_ne_slice-word.ensures.fits word c.loop-i.invariant.counted refl in
+    let bytes = c.args.stored.now.bytes in
+    let at : ℕ = c.args.first + 8 * c.loop-i.i in
+    let fetched = c.fetch.ensures.fetched ∙ ap (λ (b : List ℕ). part b at 8) c.loop-i.invariant.bytes in
+    let next : 8 * c.loop-i.i + 8 ≡ 8 * (c.loop-i.i + 1) = omega arith in
+    let more = zeros-more bytes c.fetch.result c.args.first (8 * c.loop-i.i) 8 64 c.from_ne_slice-word.result c.loop-i.zeros _ (omega arith) refl c.from_ne_slice-word.ensures.fits fetched c.from_ne_slice-word.ensures.bits c.loop-i.invariant.counted refl in
     record {
-      counted = more ∙ ap (λ n. falses (bits (take n bytes))) next;
+      bytes = c.fetch.ensures.bytes ∙ c.loop-i.invariant.bytes;
+      reads = omega (arith, c.fetch.ensures.reads, c.loop-i.invariant.reads);
+      counted = more ∙ ap (λ n. falses (part (bits bytes) (8 * c.args.first) (8 * n))) next;
       small = omega (arith, c.loop-i.invariant.small);
     }

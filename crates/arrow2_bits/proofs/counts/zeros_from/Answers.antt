@@ -1,0 +1,25 @@
+use Rattle.std.proofs.Common.{◌∙◌, ◌+◌, ◌-◌, ◌*◌, ◌/◌, ◌%◌, ℕ, List, ap, arith}
+use Rattle.arrow2_model.specs.Bits.{bits}
+use Rattle.arrow2_model.specs.Parts.{part, falses}
+use Rattle.arrow2_bits.proofs.Counted.{zeros_in_three, touched_in_three}
+use Rattle.arrow2_bits.proofs.counts.zeros_from.Goals as goal
+
+pub returns-clause-zeros : goal.returns-clause-zeros
+returns-clause-zeros c =
+    let head : ℕ = (8 - c.args.start) % 8 in
+    let whole : ℕ = c.args.first + c.div_ceil.result in
+    let count : ℕ = (c.args.len - head) / 8 in
+    let tail : ℕ = (c.args.len - head) % 8 in
+    let kept = c.zeros_in_byte-zeros.ensures.bytes in
+    let middle = c.zeros_in_bytes.ensures.zeros ∙ ap (λ (b : List ℕ). falses (part (bits b) (8 * whole) (8 * count))) kept in
+    let last = c.zeros_in_byte-2.ensures.zeros ∙ ap (λ (b : List ℕ). falses (part (bits b) (8 * (whole + count) + 0) tail)) (c.zeros_in_bytes.ensures.bytes ∙ kept) in
+    zeros_in_three c.args.stored.now.bytes c.args.first c.args.start c.args.len head whole count tail _ _ _ (grind (arith, c.div_ceil.ensures)) (omega arith) c.zeros_in_byte-zeros.ensures.zeros middle last
+
+pub returns-clause-reads : goal.returns-clause-reads
+returns-clause-reads c =
+    let head : ℕ = (8 - c.args.start) % 8 in
+    let whole : ℕ = c.args.first + c.div_ceil.result in
+    let count : ℕ = (c.args.len - head) / 8 in
+    let tail : ℕ = (c.args.len - head) % 8 in
+    let t = touched_in_three c.args.first c.args.start c.args.len head whole count tail c.requires.place (omega arith) (omega arith) (λ z. omega (arith, z)) (grind (arith, c.div_ceil.ensures)) (omega arith) (omega arith) in
+    omega (arith, t, c.zeros_in_byte-zeros.ensures.reads, c.zeros_in_bytes.ensures.reads, c.zeros_in_byte-2.ensures.reads)

@@ -1,0 +1,50 @@
+-- A bitmap in pieces, and what was read to cut them.
+use Rattle.std.specs.Prelude.{ℕ, zero, suc, ◌+◌, ◌-◌, ◌*◌, ◌≤◌, ◌<◌, List, [], ◌∷◌, Bool, length, map, take, drop, slice_index_or}
+use Rattle.std.specs.List.{flat_map}
+use Rattle.arrow2_model.specs.Storage.{BitmapStorage, items_of}
+use Rattle.arrow2_model.specs.Touched.{to_read, all_to_read}
+
+-- a piece: its items, and the bit at which they are stored
+pub record Piece : Type 0 where
+  pub items : List Bool
+  pub offset : ℕ
+
+-- the pieces, and how many bytes were read to count what is false in them
+pub record CutPieces : Type 0 where
+  pub pieces : List Piece
+  pub reads : ℕ
+
+-- a bitmap as a piece
+abbrev pub piece_of : BitmapStorage → Piece
+piece_of b = record { items = items_of b; offset = b.offset }
+
+-- piece k
+abbrev pub piece_at : List Piece → ℕ → Piece
+piece_at ps k = slice_index_or ps k (record { items = []; offset = 0 })
+
+-- the items of all pieces, one piece behind the other
+abbrev pub joined : List Piece → List Bool
+joined ps = flat_map (λ p. p.items) ps
+
+-- a piece's first i items, at its bit, and the others, i bits further
+abbrev pub front : Piece → ℕ → Piece
+front p i = record { items = take i p.items; offset = p.offset }
+
+abbrev pub back : Piece → ℕ → Piece
+back p i = record { items = drop i p.items; offset = p.offset + i }
+
+-- the pieces with piece k cut in two at its item i
+abbrev pub cut_at : List Piece → ℕ → ℕ → List Piece
+cut_at [] k i = []
+cut_at (p ∷ ps) zero i = front p i ∷ back p i ∷ ps
+cut_at (p ∷ ps) (suc k) i = p ∷ cut_at ps k i
+
+-- how many items each piece has
+abbrev pub lengths : List Piece → List ℕ
+lengths ps = map (λ p. length p.items) ps
+
+-- the items that were cut into these pieces have paid for what was read, with 30 eighths of a byte a cut, and keep
+-- what the pieces can still read
+pub record IsPaid (ps : List Piece) (reads : ℕ) : Type 0 where
+  pub some : 0 < length ps
+  pub paid : 8 * reads + all_to_read (lengths ps) ≤ to_read (length (joined ps)) + 30 * (length ps - 1)

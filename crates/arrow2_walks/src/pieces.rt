@@ -1,0 +1,112 @@
+//! A bitmap that is cut again and again, and the bytes that its cuts read.
+ghost use Rattle.std.specs.Prelude.{◌≡◌, ◌+◌, ◌-◌, ◌*◌, ◌<◌, ◌≤◌, ◌∷◌, [], length, map, IfOk, IfErr, OnOk, OnErr};
+ghost use Rattle.arrow2_model.specs.Storage.{BitmapStorage, items_of};
+ghost use Rattle.arrow2_model.specs.Touched.{cut_reads, lg};
+ghost use Rattle.arrow2_types.specs.declared.error.Error.TheVariants.{OutOfMemory};
+ghost use Rattle.arrow2_walks.specs.Cuts.{piece_of, piece_at, joined, cut_at, IsPaid};
+
+use arrow2_bitmap::Bitmap;
+use arrow2_bits::Reads;
+use arrow2_types::error::{Error, Result};
+use std::alloc::Global;
+use std::marker::Model;
+
+/// A bitmap in pieces: contracts see their lists, each with the bit at which it is stored, and how many bytes their
+/// cuts have read. Cuts of `L` items into `k + 1` pieces read `(2 * L * lg L + 30 * k) / 8` bytes at most, in whatever
+/// order they come, where `lg` is the logarithm to the base 2, rounded down.
+///
+/// arrow2 has no such type: a cut is two slices of a clone.
+#[derive(Drop)]
+pub struct Pieces {
+    bitmaps: Vec<Bitmap>,
+    reads: Reads,
+}
+
+impl Model for Pieces {
+    ghost use Rattle.std.specs.Prelude.{map};
+    ghost use Rattle.arrow2_walks.specs.Cuts.{CutPieces, IsPaid, piece_of};
+
+    ghost Value = { CutPieces };
+
+    ghost view = { λ p. record { pieces = map piece_of p.bitmaps.items; reads = p.reads } };
+
+    ghost invariant = { λ p. IsPaid (map piece_of p.bitmaps.items) p.reads };
+}
+
+#[tactic(auto, using(crate::proofs::Cuts::cuts))]
+impl Pieces {
+    /// The bitmap as one piece.
+    ///
+    /// # Errors
+    ///
+    /// `OutOfMemory` alone.
+    pub fn new(alloc: Global, bitmap: Bitmap) -> Result<Pieces>
+        ensures ok { IfOk result (λ p. p ≡ record { pieces = piece_of bitmap ∷ []; reads = 0 }) }
+        ensures only { IfErr result (λ e. e ≡ Error.OutOfMemory) }
+    {
+        let mut bitmaps = Vec::new(alloc);
+        bitmaps.push(bitmap)?;
+        Ok(Pieces {
+            bitmaps,
+            reads: Reads::new(),
+        })
+    }
+
+    /// How many pieces there are: at least one.
+    pub fn len(&self) -> usize
+        ensures pieces { result ≡ length self.now.pieces }
+        ensures some { 0 < result }
+        ensures bound { let n = length (joined self.now.pieces) in 8 * self.now.reads ≤ 2 * (n * lg n) + 30 * (result - 1) }
+    {
+        let _ = &self.reads;
+        self.bitmaps.len()
+    }
+
+    /// Piece `p`. Asks that it is below the number of pieces.
+    pub fn get(&self, p: usize) -> &Bitmap
+        requires below { p < length self.now.pieces }
+        ensures { piece_of result.now ≡ piece_at self.now.pieces p }
+    {
+        &self.bitmaps[p]
+    }
+
+    /// Cuts piece `p` in two: its first `i` items and the others take its place. Asks that there are such a piece and
+    /// as many items. Takes its memory before it counts.
+    ///
+    /// # Errors
+    ///
+    /// `OutOfMemory` alone.
+    pub fn cut(&mut self, p: usize, i: usize) -> Result<()>
+        requires below { p < length self.old.pieces }
+        requires inside { i ≤ length (piece_at self.old.pieces p).items }
+        ensures ok { OnOk result (self.new.pieces ≡ cut_at self.old.pieces p i) }
+        ensures reads { OnOk result (let old = piece_at self.old.pieces p in self.new.reads ≡ self.old.reads + cut_reads old.offset (length old.items) i) }
+        ensures joined { joined self.new.pieces ≡ joined self.old.pieces }
+        ensures bound { let n = length (joined self.old.pieces) in 8 * self.new.reads ≤ 2 * (n * lg n) + 30 * (length self.new.pieces - 1) }
+        ensures err { OnErr result (self.new ≡ self.old) }
+        ensures only { IfErr result (λ e. e ≡ Error.OutOfMemory) }
+    {
+        cut_in_two(&mut self.bitmaps, p, i, &mut self.reads)
+    }
+}
+
+/// Cuts bitmap `p` in two at item `i`, and adds what both slices read.
+#[tactic(auto, using(crate::proofs::Cuts::cuts))]
+fn cut_in_two(bitmaps: &mut Vec<Bitmap>, p: usize, i: usize, reads: &mut Reads) -> Result<()>
+    requires below { p < length bitmaps.old.items }
+    requires inside { i ≤ length (piece_at (map piece_of bitmaps.old.items) p).items }
+    ensures ok { OnOk result (map piece_of bitmaps.new.items ≡ cut_at (map piece_of bitmaps.old.items) p i) }
+    ensures reads { OnOk result (let old = piece_at (map piece_of bitmaps.old.items) p in reads.new ≡ reads.old + cut_reads old.offset (length old.items) i) }
+    ensures joined { joined (map piece_of bitmaps.new.items) ≡ joined (map piece_of bitmaps.old.items) }
+    ensures paid { IsPaid (map piece_of bitmaps.old.items) reads.old → IsPaid (map piece_of bitmaps.new.items) reads.new }
+    ensures err { OnErr result (bitmaps.new.items ≡ bitmaps.old.items) }
+    ensures uncounted { OnErr result (reads.new ≡ reads.old) }
+    ensures only { IfErr result (λ e. e ≡ Error.OutOfMemory) }
+{
+    let whole = bitmaps[p].clone()?;
+    let rest = whole.len() - i;
+    bitmaps.insert(p + 1, whole)?;
+    bitmaps[p].slice_counted(0, i, reads);
+    bitmaps[p + 1].slice_counted(i, rest, reads);
+    Ok(())
+}
