@@ -1,5 +1,5 @@
 -- What counts of bits read: bounds, and what pays for many cuts.
-use Rattle.std.proofs.Common.{◌≡◌, ℕ, zero, suc, ◌+◌, ◌-◌, ◌*◌, ◌/◌, ◌^◌, ◌<◌, ◌≤◌, ◌==◌, ◌↔◌, cond, refl, ap, subst, inl, inr, arith}
+use Rattle.std.proofs.Common.{◌≡◌, ℕ, zero, suc, ◌+◌, ◌-◌, ◌*◌, ◌/◌, ◌%◌, ◌^◌, ◌<◌, ◌≤◌, ◌==◌, ◌↔◌, cond, refl, ap, sym, ◌∙◌, subst, inl, inr, arith}
 use Rattle.std.specs.Prelude.{nat_lt}
 use Rattle.std.proofs.lemmas.Bool.{cases_lt, cond_both, cond-true, eq-eqb, eqb-true, ltb-true, ltb-false}
 use Rattle.std.proofs.Math.Nat.{pow-suc, mul-le-mul_left, add-mul}
@@ -15,6 +15,11 @@ pub touched-some : (o n : ℕ) → 0 < n → touched o n ≡ (o + n - 1) / 8 - o
 unfolding touched
 touched-some o zero h = grind arith
 touched-some o (suc n) h = let e : o + suc n - 1 ≡ o + n = omega arith in rw e refl
+
+-- k bytes further on
+touched-moved : (o p k n : ℕ) → p ≡ 8 * k + o → touched p n ≡ touched o n
+touched-moved o p k zero e = touched-none p 0 refl ∙ sym (touched-none o 0 refl)
+touched-moved o p k (suc n) e = let s = touched-some o (suc n) (omega arith) in let t = touched-some p (suc n) (omega arith) in omega (arith, s, t, e)
 
 -- up to seven bits more at either end
 pub touched_le : (o n : ℕ) → 8 * touched o n ≤ n + 14
@@ -61,6 +66,17 @@ slice_reads_le o len a n h =
     cond_both (nat_lt n (len / 2)) (touched (o + a) n) (touched o a + touched (o + a + n) (len - a - n)) (λ k. k ≤ len / 16 + 4)
     (λ l. let t = touched_le (o + a) n in let s = ltb-true n (len / 2) l in omega arith)
     (λ g. let t = touched_le o a in let u = touched_le (o + a + n) (len - a - n) in let s = ltb-false n (len / 2) g in omega arith))
+
+-- it matters at which bit of a byte the items begin, and not in which byte
+pub slice_reads-in_byte : (o len a n : ℕ) → slice_reads o len a n ≡ slice_reads (o % 8) len a n
+unfolding slice_reads
+slice_reads-in_byte o len a n =
+    let own = touched-moved (o % 8 + a) (o + a) (o / 8) n (omega arith) in
+    let head = touched-moved (o % 8) o (o / 8) a (omega arith) in
+    let tail = touched-moved (o % 8 + a + n) (o + a + n) (o / 8) (len - a - n) (omega arith) in
+    ap (λ (k : ℕ). cond (n == len) 0 (cond (nat_lt n (len / 2)) k (touched o a + touched (o + a + n) (len - a - n)))) own
+    ∙ (ap (λ (k : ℕ). cond (n == len) 0 (cond (nat_lt n (len / 2)) (touched (o % 8 + a) n) (k + touched (o + a + n) (len - a - n)))) head
+    ∙ ap (λ (k : ℕ). cond (n == len) 0 (cond (nat_lt n (len / 2)) (touched (o % 8 + a) n) (touched (o % 8) a + k))) tail)
 
 front_le : (o n i m : ℕ) → i ≤ n → (i < n / 2 → i ≤ m) → (n / 2 ≤ i → n - i ≤ m) → 8 * slice_reads o n 0 i ≤ m + 14
 unfolding slice_reads
@@ -154,6 +170,12 @@ pub cut_reads-is : (o n i : ℕ) → cut_reads o n i ≡ slice_reads o n 0 i + s
 unfolding cut_reads
 cut_reads-is o n i = refl
 
+pub cut_reads-in_byte : (o n i : ℕ) → cut_reads o n i ≡ cut_reads (o % 8) n i
+cut_reads-in_byte o n i =
+    let first = slice_reads-in_byte o n 0 i in
+    let second = slice_reads-in_byte o n i (n - i) in
+    omega (arith, first, second, cut_reads-is o n i, cut_reads-is (o % 8) n i)
+
 -- a cut reads what the items have less to read afterwards, and less than four bytes
 pub cut_le : (o n i : ℕ) → i ≤ n → 8 * cut_reads o n i + to_read i + to_read (n - i) ≤ to_read n + 30
 unfolding cut_reads
@@ -173,4 +195,4 @@ cut_le o n i h = elim (cases_lt (n - i) i) [
 pub touched_bytes : (o n j : ℕ) → (o / 8 ≤ j) × (j < o / 8 + touched o n) ↔ HoldsBit o n j
 touched_bytes o n j = (λ h. touched_holds o n j h.0 h.1, holds_touched o n j)
 
-pub ruleset reads = (slice_reads_le, lg-power_le, lg-greatest, lg-none, cut_le)
+pub ruleset reads = (slice_reads_le, slice_reads-in_byte, cut_reads-in_byte, lg-power_le, lg-greatest, lg-none, cut_le)

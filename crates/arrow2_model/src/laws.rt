@@ -183,6 +183,13 @@ pub fn a_slice_reads_half_the_bytes_at_most()
     ensures { (o len a n : ℕ) → a + n ≤ len → slice_reads o len a n ≤ len / 16 + 4 }
 {}
 
+/// What slices and cuts read depends on the bit of a byte at which the items begin, and not on the byte.
+#[tactic(auto, using(crate::proofs::Touched::reads))]
+pub fn reads_depend_on_the_bit_of_a_byte()
+    ensures slice { (o len a n : ℕ) → slice_reads o len a n ≡ slice_reads (o % 8) len a n }
+    ensures cut { (o n i : ℕ) → cut_reads o n i ≡ cut_reads (o % 8) n i }
+{}
+
 /// The logarithm of a number is the greatest exponent whose power of 2 is at most that number, and 0 for 0.
 #[tactic(auto, using(crate::proofs::Touched::reads))]
 pub fn the_logarithm_is_the_greatest_exponent()
