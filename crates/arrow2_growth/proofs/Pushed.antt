@@ -3,7 +3,7 @@ use Rattle.std.proofs.Common.{◌≡◌, ◌≢◌, inl, inr, ℕ, zero, suc, �
 use lib.Lanes.{zip2}
 use Rattle.std.proofs.lemmas.Bool.{cases_lt, cases_eq}
 use Rattle.std.proofs.lemmas.Grind.{get_or_default_zero}
-use Rattle.std.proofs.lemmas.List.{length-append, length-set, length-take-le, get_or-take, get_or-drop, get_or_append_left, get_or-append_right, get_or-replicate, get_or_past, get_or-set_same, get_or-set_other, ext_get_or}
+use Rattle.std.proofs.lemmas.List.{length-append, length-set, length-take-le, get_or-take, get_or-drop, get_or_append_left, get_or-append_right, get_or-replicate, length-replicate, get_or_past, get_or-set_same, get_or-set_other, ext_get_or}
 use Rattle.arrow2_model.specs.Bits.{bit, bits, unnum}
 use Rattle.arrow2_model.specs.Canonical.{IsCanonical}
 use Rattle.arrow2_model.proofs.Bits.{length-unnum, get_or-unnum, bits-append, length-bits, get_or-bits, get_or-bits_at}
@@ -48,12 +48,8 @@ pub merged_kept : (byte p m u y i : ℕ) (low : List ℕ) → p < 8 → unnum 64
     → unnum 8 y ≡ zip2 (λ a b. a || b) (unnum 8 byte) (unnum 8 (get_or low 0 0)) → i < p → bit y i ≡ bit byte i
 merged_kept byte p m u y i low place up bits-of size is h =
     let none : bit (get_or low 0 0) i ≡ false =
-    low_bit p m u i low up bits-of size (omega arith) ∙ (get_or_append_left (replicate p false) (take (64 - p) (unnum 64 m)) false i (omega (arith, length-replicate p)) ∙ get_or-replicate p i false false h) in
+    low_bit p m u i low up bits-of size (omega arith) ∙ (get_or_append_left (replicate p false) (take (64 - p) (unnum 64 m)) false i (omega (arith, length-replicate p false)) ∙ get_or-replicate p i false false h) in
     bit-zip2 8 byte (get_or low 0 0) y i (λ a b. a || b) is (omega arith) ∙ (ap (λ b. bit byte i || b) none ∙ or_false (bit byte i))
-  where
-    length-replicate : (n : ℕ) → length (replicate n false) ≡ n
-    length-replicate zero = refl
-    length-replicate (suc n) = ap suc (length-replicate n)
 
 pub merged_written : (byte p m u y i : ℕ) (low : List ℕ) → p < 8 → ((j : ℕ) → p ≤ j → j < 8 → bit byte j ≡ false) → unnum 64 u ≡ replicate p false ++ take (64 - p) (unnum 64 m) → bits low ≡ unnum 64 u → length low ≡ 8
     → unnum 8 y ≡ zip2 (λ a b. a || b) (unnum 8 byte) (unnum 8 (get_or low 0 0)) → p + i < 8 → bit y (p + i) ≡ bit m i
@@ -61,13 +57,9 @@ merged_written byte p m u y i low place clear up bits-of size is h =
     let at : p + i - p ≡ i = omega arith in
     let some : bit (get_or low 0 0) (p + i) ≡ bit m i =
     low_bit p m u (p + i) low up bits-of size h
-    ∙ (get_or-append_right (replicate p false) (take (64 - p) (unnum 64 m)) p (p + i) false (length-replicate p) (omega arith)
+    ∙ (get_or-append_right (replicate p false) (take (64 - p) (unnum 64 m)) p (p + i) false (length-replicate p false) (omega arith)
     ∙ (ap (λ j. get_or (take (64 - p) (unnum 64 m)) j false) at ∙ (get_or-take (64 - p) (unnum 64 m) i false (omega arith) ∙ get_or-unnum 64 m i false (omega arith)))) in
     bit-zip2 8 byte (get_or low 0 0) y (p + i) (λ a b. a || b) is h ∙ (ap (λ a. a || bit (get_or low 0 0) (p + i)) (clear (p + i) (omega arith) h) ∙ some)
-  where
-    length-replicate : (n : ℕ) → length (replicate n false) ≡ n
-    length-replicate zero = refl
-    length-replicate (suc n) = ap suc (length-replicate n)
 
 -- ---- a word behind bytes
 
@@ -88,7 +80,7 @@ masked_item : (c m x i : ℕ) → unnum 64 m ≡ take c (unnum 64 x) ++ replicat
 masked_item c m x i mask = ap (λ (t : List Bool). get_or t i false) mask ∙ padded (take c (unnum 64 x)) (64 - c) i
 
 -- bits before and behind the end of bytes that grew
-before : (bytes grown more : List ℕ) (k : ℕ) → grown ≡ bytes ++ more → k < 8 * length bytes → get_or (bits grown) k false ≡ get_or (bits bytes) k false
+pub before : (bytes grown more : List ℕ) (k : ℕ) → grown ≡ bytes ++ more → k < 8 * length bytes → get_or (bits grown) k false ≡ get_or (bits bytes) k false
 before bytes grown more k e h = ap (λ (b : List Bool). get_or b k false) (ap bits e ∙ bits-append bytes more) ∙ get_or_append_left (bits bytes) (bits more) false k (omega (arith, length-bits bytes))
 
 behind : (bytes grown word : List ℕ) (c k : ℕ) → grown ≡ bytes ++ take c word → c ≤ length word → 8 * length bytes ≤ k → k < 8 * (length bytes + c) → get_or (bits grown) k false ≡ get_or (bits word) (k - 8 * length bytes) false

@@ -7,12 +7,9 @@ use Rattle.arrow2_model.specs.Bits.{bits, unnum}
 use Rattle.arrow2_model.specs.Canonical.{IsCanonical}
 use Rattle.arrow2_model.proofs.Bits.{length-unnum, get_or-unnum, bits-nil, bits-cons, bits-append, length-bits}
 use Rattle.arrow2_model.proofs.Bytes.{take-bits, drop-bits, bits-zeros}
-use Rattle.arrow2_growth.proofs.Pushed.{AreBytes, Hold, held}
+use Rattle.arrow2_growth.proofs.Pushed.{AreBytes, Hold, held, before}
 
 -- ---- whole bytes
-
-before : (bytes grown more : List ℕ) (k : ℕ) → grown ≡ bytes ++ more → k < 8 * length bytes → get_or (bits grown) k false ≡ get_or (bits bytes) k false
-before bytes grown more k e h = ap (λ (b : List Bool). get_or b k false) (ap bits e ∙ bits-append bytes more) ∙ get_or_append_left (bits bytes) (bits more) false k (omega (arith, length-bits bytes))
 
 behind : (bytes grown more : List ℕ) (k : ℕ) → grown ≡ bytes ++ more → 8 * length bytes ≤ k → get_or (bits grown) k false ≡ get_or (bits more) (k - 8 * length bytes) false
 behind bytes grown more k e h = ap (λ (b : List Bool). get_or b k false) (ap bits e ∙ bits-append bytes more) ∙ get_or-append_right (bits bytes) (bits more) (8 * length bytes) k false (length-bits bytes) h
