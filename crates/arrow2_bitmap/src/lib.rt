@@ -7,6 +7,7 @@ mod check;
 mod collect;
 pub mod immutable;
 pub mod iterator;
+pub mod laws;
 pub mod mutable;
 
 pub use immutable::Bitmap;
