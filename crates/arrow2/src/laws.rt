@@ -1,5 +1,6 @@
 //! Laws that a caller's proof calls: functions with an empty body, whose contract is the law. The original has none.
 
+pub use arrow2_bitmap::laws as bitmaps;
 pub use arrow2_buffer::laws as buffers;
 pub use arrow2_datatypes::laws as datatypes;
 pub use arrow2_model::laws as lists;

@@ -6,6 +6,7 @@ pub mod bitmap_ops;
 mod check;
 pub mod immutable;
 pub mod iterator;
+pub mod laws;
 pub mod mutable;
 
 pub use immutable::Bitmap;

@@ -1,5 +1,5 @@
 //! A bitmap that grows.
-ghost use Rattle.std.specs.Prelude.{◌≡◌, ◌+◌, ◌-◌, ◌*◌, ◌/◌, ◌<◌, ◌≤◌, ◌^◌, ◌↔◌, ◌⊎◌, [], ◌∷◌, ◌++◌, false, length, length as length', take, slice_index_or, slice_set, OnOk, OnErr, IsOk, IsErr, IfOk, IfErr, IsErrOf, IsTrue, IfNone, MatchOption, Some, codes, vec_len, vec_capacity, List, Bool, ℕ, true, replicate};
+ghost use Rattle.std.specs.Prelude.{◌≡◌, ◌+◌, ◌-◌, ◌*◌, ◌/◌, ◌<◌, ◌≤◌, ◌^◌, ◌↔◌, ◌⊎◌, [], ◌∷◌, ◌++◌, false, length, length as length', take, slice_index_or, slice_set, OnOk, OnErr, IsOk, IsErr, IfOk, IfErr, IsErrOf, IsTrue, IfNone, IfSome, IsNone, MatchOption, Some, codes, vec_len, vec_capacity, List, Bool, ℕ, true, replicate};
 ghost use Rattle.std.specs.Iterator.{IsFinite};
 ghost use Rattle.std.specs.Iterator.Runs.{WholeRun};
 ghost use Rattle.std.specs.Bool.{beq};
@@ -7,11 +7,11 @@ ghost use Rattle.std.specs.Ordering.{on};
 ghost use Rattle.std.specs.Cmp.{partial_equiv_from_equiv, bool_eq_equiv, on_equiv};
 ghost use Rattle.std.specs.Cmp.Lexicographic.{pointwise, lists_equiv};
 ghost use Rattle.arrow2_model.specs.Bits.{bits};
-ghost use Rattle.arrow2_model.specs.Parts.{falses};
+ghost use Rattle.arrow2_model.specs.Parts.{falses, part};
 ghost use Rattle.arrow2_model.specs.Canonical.{canonical_bytes, IsCanonical};
 ghost use Rattle.arrow2_model.specs.Kernels.{joined, kernel, word, words_at};
 ghost use Rattle.arrow2_model.specs.Shown.{shown};
-ghost use Rattle.arrow2_model.specs.Storage.{GrowingBitmap};
+ghost use Rattle.arrow2_model.specs.Storage.{GrowingBitmap, items_of};
 ghost use Rattle.arrow2_model.specs.Tables.{each};
 ghost use Rattle.arrow2_model.specs.Rows.{ActsBesideRows, IsOwnRowFunction};
 ghost use Rattle.arrow2_types.specs.Refusals.{IsInvalidArgument};
@@ -21,15 +21,18 @@ ghost use Rattle.arrow2_bitmap.specs.Refused.{too_long};
 ghost use Rattle.std.specs.declared.alloc.Global.{Global};
 
 use crate::check::check_length;
+use crate::immutable::Bitmap;
 use arrow2_bits::iterator::BitmapIter;
 use arrow2_bits::{bytes_for, count_zeros, get_bit, set_bit, take_bit};
 use arrow2_chunk::bit_chunk::BitChunk;
+use arrow2_growth::extended;
 use arrow2_kernels::assigned::assign_rows;
 use arrow2_kernels::packed::{Packing, packed};
 use arrow2_kernels::rows::WordRows;
 use arrow2_types::error::{Error, Result};
 use arrow2_types::refusal::Refusal;
 use std::alloc::{AllocError, Global};
+use std::convert::TryFrom;
 use std::fmt;
 use std::marker::Model;
 
@@ -192,6 +195,118 @@ impl MutableBitmap {
     {
         self.push_item(value)?;
         Ok(())
+    }
+
+    /// Appends `value` `additional` times. Within the capacity it takes no memory, else it asks for it once, before it
+    /// writes.
+    ///
+    /// # Errors
+    ///
+    /// `Overflow` exactly where the new length would pass `usize::MAX`, else `OutOfMemory` alone.
+    /// After both the bitmap holds the items that it held.
+    pub fn extend_constant(&mut self, additional: usize, value: bool) -> Result<()>
+        ensures ok { OnOk result (self.new.items ≡ self.old.items ++ replicate additional value) }
+        ensures err { OnErr result (self.new.items ≡ self.old.items) }
+        ensures overflow { IsErrOf result Error.Overflow ↔ (2 ^ 64 ≤ length self.old.items + additional) }
+        ensures only { IfErr result (λ e. (e ≡ Error.Overflow) ⊎ (e ≡ Error.OutOfMemory)) }
+        ensures room { length self.old.items + additional ≤ self.old.capacity → IsOk result }
+        ensures capacity { self.old.capacity ≤ self.new.capacity }
+    {
+        self.length = extended::extend_constant(&mut self.buffer, self.length, additional, value)?;
+        Ok(())
+    }
+
+    /// Appends the `length` bits from bit `offset` of `slice` on, by words of 64 bits. Asks that they are inside.
+    /// Within the capacity it takes no memory, else it asks for it once, before it writes.
+    ///
+    /// # Errors
+    ///
+    /// `Overflow` exactly where the new length would pass `usize::MAX`, else `OutOfMemory` alone.
+    /// After both the bitmap holds the items that it held.
+    pub fn extend_from_slice(&mut self, slice: &[u8], offset: usize, length: usize) -> Result<()>
+        requires inside { offset + length ≤ 8 * length' slice.now }
+        ensures ok { OnOk result (self.new.items ≡ self.old.items ++ part (bits slice.now) offset length) }
+        ensures err { OnErr result (self.new.items ≡ self.old.items) }
+        ensures overflow { IsErrOf result Error.Overflow ↔ (2 ^ 64 ≤ length' self.old.items + length) }
+        ensures only { IfErr result (λ e. (e ≡ Error.Overflow) ⊎ (e ≡ Error.OutOfMemory)) }
+        ensures room { length' self.old.items + length ≤ self.old.capacity → IsOk result }
+        ensures capacity { self.old.capacity ≤ self.new.capacity }
+    {
+        self.length = extended::extend_from_slice(
+            &mut self.buffer,
+            self.length,
+            slice,
+            offset,
+            length,
+        )?;
+        Ok(())
+    }
+
+    /// Appends the items of a bitmap, as [`MutableBitmap::extend_from_slice`] does.
+    ///
+    /// # Errors
+    ///
+    /// `Overflow` exactly where the new length would pass `usize::MAX`, else `OutOfMemory` alone.
+    /// After both the bitmap holds the items that it held.
+    pub fn extend_from_bitmap(&mut self, bitmap: &Bitmap) -> Result<()>
+        ensures ok { OnOk result (self.new.items ≡ self.old.items ++ items_of bitmap.now) }
+        ensures err { OnErr result (self.new.items ≡ self.old.items) }
+        ensures overflow { IsErrOf result Error.Overflow ↔ (2 ^ 64 ≤ length self.old.items + length (items_of bitmap.now)) }
+        ensures only { IfErr result (λ e. (e ≡ Error.Overflow) ⊎ (e ≡ Error.OutOfMemory)) }
+        ensures room { length self.old.items + length (items_of bitmap.now) ≤ self.old.capacity → IsOk result }
+        ensures capacity { self.old.capacity ≤ self.new.capacity }
+    {
+        let (slice, offset, _) = bitmap.as_slice();
+        self.extend_from_slice(slice, offset, bitmap.len())
+    }
+
+    /// Makes room for `additional` items more.
+    ///
+    /// # Errors
+    ///
+    /// `Overflow` exactly where the length and `additional` pass `usize::MAX` together, else `OutOfMemory` alone.
+    pub fn reserve(&mut self, additional: usize) -> Result<()>
+        ensures items { self.new.items ≡ self.old.items }
+        ensures ok { OnOk result (length self.old.items + additional ≤ self.new.capacity) }
+        ensures overflow { IsErrOf result Error.Overflow ↔ (2 ^ 64 ≤ length self.old.items + additional) }
+        ensures only { IfErr result (λ e. (e ≡ Error.Overflow) ⊎ (e ≡ Error.OutOfMemory)) }
+        ensures room { length self.old.items + additional ≤ self.old.capacity → IsOk result }
+        ensures capacity { self.old.capacity ≤ self.new.capacity }
+    {
+        extended::reserve(&mut self.buffer, self.length, additional)?;
+        Ok(())
+    }
+
+    /// Gives back room that is not used, where the allocator takes it.
+    ///
+    /// It is never refused: where a smaller block finds no memory, the items stay where they are.
+    pub fn shrink_to_fit(&mut self) -> Result<()>
+        ensures ok { IsOk result }
+        ensures items { self.new.items ≡ self.old.items }
+        ensures capacity { self.new.capacity ≤ self.old.capacity }
+    {
+        self.buffer.shrink_to_fit();
+        Ok(())
+    }
+
+    /// The items as a validity: a bitmap that keeps the bytes, or `None` where no item is false.
+    ///
+    /// Stands for arrow2's `From<MutableBitmap>` for `Option<Bitmap>`.
+    ///
+    /// # Errors
+    ///
+    /// `OutOfMemory` alone, and only where an item is false.
+    pub fn into_validity(self) -> Result<Option<Bitmap>>
+        ensures none { IfOk result (λ validity. IsNone validity ↔ (falses self.items ≡ 0)) }
+        ensures items { IfOk result (λ validity. IfSome validity (λ b. items_of b ≡ self.items)) }
+        ensures storage { IfOk result (λ validity. IfSome validity (λ b. b ≡ record { bytes = canonical_bytes self.items; offset = 0; len = length self.items })) }
+        ensures only { IfErr result (λ e. e ≡ Error.OutOfMemory) }
+        ensures room { falses self.items ≡ 0 → IsOk result }
+    {
+        if self.unset_bits() == 0 {
+            return Ok(None);
+        }
+        Ok(Some(Bitmap::try_from(self)?))
     }
 
     /// Takes the last item off and gives it back, or `None` where there is none.
