@@ -6,8 +6,8 @@ ghost use Rattle.arrow2_script.specs.Words.{bit_byte as byte_of, bits_text};
 ghost use Rattle.arrow2_machine.specs.Replies.{item_said, offset_said, slot_word, words_text};
 
 use crate::refusal::CommandError;
-use arrow2_bits::iterator::BitmapIter;
-use arrow2_offset::Lengths;
+use arrow2::bitmap::utils::BitmapIter;
+use arrow2::offset::Lengths;
 use std::alloc::AllocError;
 
 /// The byte of a bit in a text of bits.
