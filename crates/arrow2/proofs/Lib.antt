@@ -1,1 +1,2 @@
 pub mod Rulesets
+pub mod Words

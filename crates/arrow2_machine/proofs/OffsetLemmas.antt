@@ -5,8 +5,8 @@ use Rattle.std.specs.Fmt.{decimal}
 use Rattle.std.specs.Iterator.{YieldsFirst, Yields}
 use Rattle.std.specs.Iterator.Runs.{WholeRun, YieldsRun}
 use Rattle.std.proofs.lemmas.List.Sums.{sum_by-append, sum_by-cons}
-use Rattle.arrow2_model.specs.Offsets.{GrowingOffsets, GrownBy, last_of_growing, lengths_of, lengths_behind}
-use Rattle.arrow2_offset.specs.Collected.{GivesPast}
+use Rattle.arrow2.specs.Offsets.{GrowingOffsets, GrownBy, last_of_growing, lengths_of, lengths_behind}
+use Rattle.arrow2.specs.Collected.{GivesPast}
 
 -- ---- lengths that an iterator over a list gave
 

@@ -1,6 +1,6 @@
 -- What a slot of the machine holds.
 use Rattle.std.specs.Prelude.{ℕ, Bool, List, slice_index_or, Result, Ok, Err}
-use Rattle.arrow2_model.specs.Offsets.{offsets_list}
+use Rattle.arrow2.specs.Offsets.{offsets_list}
 use Rattle.arrow2_machine.specs.declared.refusal.Refusal.{Refusal}
 use Rattle.arrow2_machine.specs.declared.refusal.Refusal.TheVariants.{Kind}
 

@@ -1,8 +1,10 @@
 pub mod BitmapOutcomes
 pub mod Held
+pub mod KernelOutcomes
 pub mod Machine
 pub mod OffsetOutcomes
 pub mod Outcomes
 pub mod Replies
 pub mod Slots
+pub mod StorageOutcomes
 pub mod ValueOutcomes

@@ -2,8 +2,8 @@
 use Rattle.std.specs.Prelude.{ℕ, ◌+◌, ◌-◌, ◌==◌, ◌||◌, nat_lt, List, [], ◌∷◌, ◌++◌, length, map, sum, slice_set, take, codes, Result, Ok, Err, if◌then◌else◌}
 use Rattle.std.specs.List.{zip}
 use Rattle.std.specs.Fmt.{decimal}
-use Rattle.arrow2_model.specs.Parts.{part}
-use Rattle.arrow2_model.specs.Offsets.{offset_at, last_offset}
+use Rattle.arrow2.specs.Parts.{part}
+use Rattle.arrow2.specs.Offsets.{offset_at, last_offset}
 use Rattle.arrow2_script.specs.declared.offset_command.OffsetCommand.{OffsetCommand}
 use Rattle.arrow2_script.specs.declared.offset_command.OffsetCommand.TheVariants as command
 use Rattle.arrow2_machine.specs.declared.refusal.Refusal.{Refusal}

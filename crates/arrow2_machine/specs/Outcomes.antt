@@ -1,14 +1,13 @@
 -- What the program's steps answer, against the machine of lists.
 use Rattle.std.specs.Prelude.{◌≡◌, Result, Ok, Err}
-use Rattle.arrow2_types.specs.declared.error.Error as layer
-use Rattle.arrow2_types.specs.declared.error.Error.TheVariants as errors
+use Rattle.arrow2.specs.Errors as errors
 use Rattle.arrow2_machine.specs.declared.refusal.Refusal.{Refusal}
 use Rattle.arrow2_machine.specs.declared.refusal.Refusal.TheVariants.{Range, Overflow}
 use Rattle.arrow2_machine.specs.declared.refusal.CommandError.{CommandError}
 use Rattle.arrow2_machine.specs.declared.refusal.CommandError.TheVariants.{Refused, OutOfMemory}
 
 -- the error of a command, by the error of the call that it made
-abbrev pub command_error : layer.Error → CommandError
+abbrev pub command_error : errors.Error → CommandError
 command_error errors.Overflow = Refused Overflow
 command_error (errors.InvalidArgumentError t) = Refused Range
 command_error (errors.OutOfSpec t) = Refused Range

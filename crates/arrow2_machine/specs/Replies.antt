@@ -1,5 +1,5 @@
 -- What the machine replies.
-use Rattle.std.specs.Prelude.{ℕ, ℤ, unsigned_abs, Bool, true, false, List, [], ◌∷◌, codes, Option, Some, None}
+use Rattle.std.specs.Prelude.{ℕ, ℤ, unsigned_abs, Bool, true, false, List, [], ◌∷◌, codes, Option, Some, None, if◌then◌else◌}
 use Rattle.std.specs.List.{join_with_byte}
 use Rattle.std.specs.Fmt.{decimal}
 use Rattle.arrow2_script.specs.Words.{bit_byte}
@@ -23,6 +23,10 @@ item_said (Some item) = bit_byte item ∷ []
 unfoldable pub words_text : List (List ℕ) → List ℕ
 words_text [] = codes "-"
 words_text (word ∷ words) = join_with_byte 32 (word ∷ words)
+
+-- a word of such a list, with the space before it
+abbrev pub listed_word : Bool → List ℕ → List ℕ
+listed_word first word = if first then word else 32 ∷ word
 
 -- the word that tells the length of a slot, or `null` where the slot is not valid
 abbrev pub slot_word : ℕ → Bool → List ℕ

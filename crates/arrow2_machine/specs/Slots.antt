@@ -1,7 +1,7 @@
 -- What a slot of the program holds, as the machine of lists sees it.
-use Rattle.arrow2_model.specs.Buffers.{buffer_items}
-use Rattle.arrow2_model.specs.Offsets.{start_of, lengths_of}
-use Rattle.arrow2_model.specs.Storage.{items_of}
+use Rattle.arrow2.specs.Buffers.{buffer_items}
+use Rattle.arrow2.specs.Offsets.{start_of, lengths_of}
+use Rattle.arrow2.specs.Storage.{items_of}
 use Rattle.arrow2_machine.specs.Held.{Held}
 use Rattle.arrow2_machine.specs.Held as machine
 use Rattle.arrow2_machine.specs.declared.slot.Contents.{Contents}

@@ -1,7 +1,7 @@
 //! The commands on bitmaps: what each does to its slots, and its reply.
 ghost use Rattle.std.specs.Prelude.{◌≡◌, ◌≢◌, ◌++◌, ◌+◌, ◌≤◌, ◌↔◌, slice_get, length as count_of, IsOk, OnOk, OnErr, IfErr, IfOk, IsOkAnd, IsErrOf};
-ghost use Rattle.arrow2_model.specs.Parts.{part};
-ghost use Rattle.arrow2_model.specs.Storage.{items_of};
+ghost use Rattle.arrow2.specs.Parts.{part};
+ghost use Rattle.arrow2.specs.Storage.{items_of};
 ghost use Rattle.arrow2_machine.specs.Held.{Nothing, Growing};
 ghost use Rattle.arrow2_machine.specs.Replies.{item_said};
 ghost use Rattle.arrow2_machine.specs.BitmapOutcomes.{pushed, popped, got, froze, thawed, sliced, counted, item_text, bitmap_outcome};
@@ -10,8 +10,7 @@ ghost use Rattle.arrow2_machine.specs.Outcomes.{Gives, Fails};
 use crate::refusal::{CommandError, Refusal};
 use crate::replies::{write_item, write_items, write_number};
 use crate::slot::{Contents, Slot};
-use arrow2_bitmap::immutable::Bitmap;
-use arrow2_bitmap::mutable::MutableBitmap;
+use arrow2::bitmap::{Bitmap, MutableBitmap};
 use arrow2_script::bitmap_command::BitmapCommand;
 use arrow2_script::words::BitText;
 use std::alloc::Global;

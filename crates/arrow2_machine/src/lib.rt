@@ -2,10 +2,12 @@
 #![tactic(auto)]
 
 mod bitmaps;
+mod kernels;
 pub mod machine;
 mod offsets;
 pub mod refusal;
 pub mod replay;
 mod replies;
 pub mod slot;
+mod storage;
 mod values;

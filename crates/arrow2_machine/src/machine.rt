@@ -7,7 +7,7 @@ ghost use Rattle.arrow2_machine.specs.Outcomes.{Fails};
 
 use crate::refusal::{CommandError, Refusal};
 use crate::slot::Slot;
-use crate::{bitmaps, offsets, values};
+use crate::{bitmaps, kernels, offsets, storage, values};
 use arrow2_script::command::{Command, parse};
 use std::alloc::{AllocError, Global};
 use std::array;
@@ -54,6 +54,8 @@ impl Machine {
             Command::Bitmap(command) => bitmaps::run(&mut self.slots, alloc, command, reply),
             Command::Offset(command) => offsets::run(&mut self.slots, alloc, command, reply),
             Command::Value(command) => values::run(&mut self.slots, command, reply),
+            Command::Storage(command) => storage::run(&mut self.slots, alloc, command, reply),
+            Command::Kernel(command) => kernels::run(&mut self.slots, command, reply),
         }
     }
 

@@ -1,8 +1,8 @@
 //! The commands on offsets: what each does to its slots, and its reply.
 ghost use Rattle.std.specs.Prelude.{◌≡◌, ◌≢◌, ◌<◌, ◌≤◌, ◌+◌, ◌-◌, ◌++◌, ◌↔◌, [], ◌∷◌, ◌≤ℤ◌, pos, unsigned_abs, length as count_of, sum, ◌⊎◌, IsOk, OnOk, OnErr, IfErr, IfOk, IsOkAnd, IsErrOf};
-ghost use Rattle.arrow2_model.specs.Parts.{part};
-ghost use Rattle.arrow2_model.specs.Buffers.{buffer_items};
-ghost use Rattle.arrow2_model.specs.Offsets.{offset_at, start_of, lengths_of, last_of_growing, GrownBy, SameOffsets};
+ghost use Rattle.arrow2.specs.Parts.{part};
+ghost use Rattle.arrow2.specs.Buffers.{buffer_items};
+ghost use Rattle.arrow2.specs.Offsets.{offset_at, start_of, lengths_of, last_of_growing, GrownBy, SameOffsets};
 ghost use Rattle.arrow2_machine.specs.Held.{Nothing};
 ghost use Rattle.arrow2_machine.specs.Replies.{offset_said};
 ghost use Rattle.arrow2_machine.specs.OffsetOutcomes.{begun, grown, shortened, offset_text, froze_offsets, sliced_offsets, zipped, offset_outcome};
@@ -11,11 +11,11 @@ ghost use Rattle.arrow2_machine.specs.Outcomes.{Gives, Fails};
 use crate::refusal::{CommandError, Refusal};
 use crate::replies::{write_offset, write_offsets, write_slots};
 use crate::slot::{Contents, Slot};
-use arrow2_offset::{Offsets, OffsetsBuffer};
+use arrow2::error;
+use arrow2::error::Error;
+use arrow2::offset::{Offsets, OffsetsBuffer};
 use arrow2_script::offset_command::OffsetCommand;
 use arrow2_script::words::NumberText;
-use arrow2_types::error;
-use arrow2_types::error::Error;
 use std::alloc::Global;
 use std::convert::TryFrom;
 use std::mem;

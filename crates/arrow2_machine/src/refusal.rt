@@ -2,7 +2,7 @@
 ghost use Rattle.std.specs.Prelude.{◌≡◌};
 ghost use Rattle.arrow2_machine.specs.Replies.{refused_text};
 
-use arrow2_types::error::Error;
+use arrow2::error::Error;
 use std::alloc::{AllocError, AllocFailed};
 
 /// Why a line is refused. It changes nothing then.

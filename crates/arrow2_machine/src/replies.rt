@@ -1,13 +1,14 @@
 //! The parts of replies.
-ghost use Rattle.std.specs.Prelude.{◌≡◌, ◌++◌, length, map, unsigned_abs, OnOk, IfErr};
+ghost use Rattle.std.specs.Prelude.{◌≡◌, ◌++◌, ℕ, length, map, unsigned_abs, OnOk, IfErr};
 ghost use Rattle.std.specs.Fmt.{decimal};
 ghost use Rattle.std.specs.List.{zip};
+ghost use Rattle.arrow2.specs.Words.{words};
 ghost use Rattle.arrow2_script.specs.Words.{bit_byte as byte_of, bits_text};
-ghost use Rattle.arrow2_machine.specs.Replies.{item_said, offset_said, slot_word, words_text};
+ghost use Rattle.arrow2_machine.specs.Replies.{item_said, listed_word, offset_said, slot_word, words_text};
 
 use crate::refusal::CommandError;
-use arrow2_bits::iterator::BitmapIter;
-use arrow2_offset::Lengths;
+use arrow2::bitmap::utils::{BitChunk, BitChunks, BitmapIter};
+use arrow2::offset::Lengths;
 use std::alloc::AllocError;
 
 /// The byte of a bit in a text of bits.
@@ -124,6 +125,44 @@ pub(crate) fn write_slots(
     for (length, valid) in slots {
         out.push(b' ')?;
         write_slot(length, valid, out)?;
+    }
+    Ok(())
+}
+
+/// Appends a number's digits, behind a space unless it is the first one of a list.
+fn write_listed(number: usize, first: bool, out: &mut Vec<u8>) -> Result<(), CommandError>
+    ensures ok { OnOk result (out.new.items ≡ out.old.items ++ listed_word first (decimal number)) }
+    ensures only { IfErr result (λ e. e ≡ CommandError.OutOfMemory) }
+{
+    if !first {
+        out.push(b' ')?;
+    }
+    write_number(number, out)
+}
+
+/// Appends the text of the words of a list of items, the last one filled with false.
+pub(crate) fn write_words<T: BitChunk, F: Fn(T) -> usize>(
+    chunks: BitChunks<'_, T>,
+    number: F,
+    out: &mut Vec<u8>,
+) -> Result<(), CommandError>
+    requires callable { F.IsAlwaysCallable number }
+    requires number { (x : T) (n : ℕ) → F.post number x n → n ≡ T.BitChunk.number x }
+    ensures ok { OnOk result (out.new.items ≡ out.old.items ++ words_text (map decimal (words T.BitChunk.WIDTH chunks.entry.items))) }
+    ensures only { IfErr result (λ e. e ≡ CommandError.OutOfMemory) }
+{
+    let mut chunks = chunks;
+    let mut first = true;
+    while let Some(word) = chunks.next() {
+        write_listed(number(word), first, out)?;
+        first = false;
+    }
+    let rest = chunks.remainder_len();
+    if rest > 0 {
+        let last = chunks.remainder().masked(rest);
+        write_listed(number(last), first, out)?;
+    } else if first {
+        out.extend_from_slice(b"-")?;
     }
     Ok(())
 }

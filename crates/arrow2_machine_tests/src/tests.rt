@@ -111,7 +111,7 @@ fn scripts(rt: HostRuntime) -> Result<(), Fail> {
         ),
         (
             b" new 0 1\nnew  0 1\nnew 0 1 \nnew 0\nnew 0 1 1\nset 0 0 1\ncount +1\n\nbits 0\n",
-            b"error syntax\nerror syntax\nerror syntax\nerror syntax\nerror syntax\nerror syntax\nerror syntax\nerror syntax\nerror kind\n",
+            b"error syntax\nerror syntax\nerror syntax\nerror syntax\nerror syntax\nerror kind\nerror syntax\nerror syntax\nerror kind\n",
         ),
     ];
     for (script, replies) in rows {
@@ -156,6 +156,54 @@ fn scripts_of_offsets(rt: HostRuntime) -> Result<(), Fail> {
         (
             b"onew 0 1\nonew 1 1\ncopy 0 1\neq 0 1\nopush 1 2\neq 0 1\nofreeze 1\neq 0 1\nofreeze 0\neq 0 1\noslice 1 0 1\neq 1 0\nnew 2 -\nfreeze 2\neq 0 2\ncopy 2 0\nbits 0\n",
             b"ok\nok\nerror kind\n1\nok\n0\nok\nerror kind\nok\n0\nok\n1\nok\nok\nerror kind\nok\n-\n",
+        ),
+    ];
+    for (script, replies) in rows {
+        let (out, result) = told(rt.alloc(), script, Vec::new(rt.alloc()));
+        assert_eq!(&rt; result, Ok(()));
+        assert_eq!(&rt; out.as_slice(), replies);
+    }
+    Ok(())
+}
+
+#[test]
+fn scripts_of_kernels(rt: HostRuntime) -> Result<(), Fail> {
+    let rows: [(&[u8], &[u8]); 9] = [
+        (
+            b"raw 0 b65b 3 10\nbits 0\nwords 0 8\nraw 1 ff 4 5\nraw 1 f 0 1\n",
+            b"ok\n0110111011\n118 3\nerror range\nerror syntax\n",
+        ),
+        (
+            b"new 0 1100\nfreeze 0\nfreeze 0\nnew 1 1010\nfreeze 1\ntable2 2 2 0 1\nbits 2\nnew 3 1100\ninplace2 3 6 16 1\nbits 3\nand 4 0 5\nnew 5 1\nfreeze 5\nand 4 0 5\n",
+            b"ok\nok\nerror kind\nok\nok\nok\n0100\nok\nok\n0110\nerror kind\nok\nok\nerror length\n",
+        ),
+        (
+            b"new 0 1100\nfreeze 0\nnew 1 1010\nfreeze 1\nnew 2 0110\nfreeze 2\ntable3 3 232 0 1 2\nbits 3\ntable4 3 27030 0 1 2 0\nbits 3\ntable1 4 1 0\nbits 4\ntable1 4 4 0\nnot 0 0\nbits 0\neq 0 4\nwords 0 8\nwords 0 7\n",
+            b"ok\nok\nok\nok\nok\nok\nok\n1110\nok\n1100\nok\n0011\nerror syntax\nok\n0011\n1\n12\nerror syntax\n",
+        ),
+        (
+            b"raw 0 f8 0 3\nnew 1 000\nfreeze 1\neq 0 1\ntable1 2 1 0\nbits 2\nwords 0 8\n",
+            b"ok\nok\nok\n1\nok\n111\n0\n",
+        ),
+        (
+            b"raw 0 ff 0 2\nnew 5 10\nset 5 1 1\nbits 5\nset 5 2 1\neq 0 5\n",
+            b"ok\nok\nok\n11\nerror range\nerror kind\n",
+        ),
+        (
+            b"raw 0 - 0 0\nwords 0 64\nbits 0\nraw 0 - 0 1\nraw 0 ff 18446744073709551615 1\nraw 0 fF 0 1\nraw 16 ff 0 1\nraw 0 ff 0\nraw 0 ffffffffffffffffff 3 69\nwords 0 64\nwords 0 32\nset 0 0 1\nwords 1 8\n",
+            b"ok\n-\n-\nerror range\nerror range\nerror syntax\nerror syntax\nerror syntax\nok\n18446744073709551615 31\n4294967295 4294967295 31\nerror kind\nerror kind\n",
+        ),
+        (
+            b"new 0 1100\nfreeze 0\nnew 1 1010\nfreeze 1\nor 2 0 1\nbits 2\nxor 0 0 1\nbits 0\nand 0 0 0\nbits 0\nnew 3 110\ninplace1 3 1 64\nbits 3\ninplace2 3 6 8 1\ninplace2 3 6 8 3\ninplace1 0 1 8\ninplace1 3 4 8\ninplace2 3 16 8 1\ninplace1 3 1 128\nbits 3\n",
+            b"ok\nok\nok\nok\nok\n1110\nok\n0110\nok\n0110\nok\nok\n001\nerror length\nerror kind\nerror kind\nerror syntax\nerror syntax\nerror syntax\n001\n",
+        ),
+        (
+            b"new 0 11\nfreeze 0\nnew 1 1\nfreeze 1\ntable3 2 255 0 1 3\ntable3 2 255 0 1 0\ntable3 2 256 0 0 0\ntable4 2 65535 0 0 0 0\nbits 2\ntable4 2 65536 0 0 0 0\ntable4 2 1 0 0 0 1\ntable2 2 16 0 0\nnot 3 3\nand 0 0\nand 0 0 0 0\nbits 2\n",
+            b"ok\nok\nok\nok\nerror kind\nerror length\nerror syntax\nok\n11\nerror syntax\nerror length\nerror syntax\nerror kind\nerror syntax\nerror syntax\n11\n",
+        ),
+        (
+            b"raw 0 b65b 3 10\ncopy 0 1\nslice 1 1 8\nnot 1 1\nbits 1\nwords 1 16\nthaw 0\nset 0 0 1\nset 0 9 0\nbits 0\n",
+            b"ok\nok\nok\nok\n00100010\n68\nok\nok\nok\n1110111010\n",
         ),
     ];
     for (script, replies) in rows {

@@ -8,18 +8,27 @@ use Rattle.arrow2_script.specs.Lines.{parts_of, words_of, is_blank}
 use Rattle.arrow2_script.specs.BitmapCommands.{bitmap_named, bitmap_words}
 use Rattle.arrow2_script.specs.OffsetCommands.{offset_named, offset_words}
 use Rattle.arrow2_script.specs.ValueCommands.{value_named, value_words}
+use Rattle.arrow2_script.specs.StorageCommands.{storage_named, storage_words}
+use Rattle.arrow2_script.specs.KernelCommands.{kernel_named, kernel_words}
+use Rattle.arrow2_script.specs.declared.storage_command.StorageCommand.{StorageCommand}
+use Rattle.arrow2_script.specs.declared.storage_command.StorageCommand.TheVariants.{Raw, Set, Words}
+use Rattle.arrow2_script.specs.declared.kernel_command.KernelCommand.{KernelCommand}
+use Rattle.arrow2_script.specs.declared.kernel_command.KernelCommand.TheVariants.{Make, AssignUnary, AssignBinary}
+use Rattle.arrow2_script.specs.declared.kernel_command.Kernel.TheVariants.{And, Or, Xor, Not, Unary, Binary, Ternary, Quaternary}
 use Rattle.arrow2_script.specs.declared.offset_command.OffsetCommand.{OffsetCommand}
 use Rattle.arrow2_script.specs.declared.offset_command.OffsetCommand.TheVariants.{New, Push, Pop, Extend, Offsets, Freeze, Slice, Zip}
 use Rattle.arrow2_script.specs.declared.value_command.ValueCommand.{ValueCommand}
 use Rattle.arrow2_script.specs.declared.value_command.ValueCommand.TheVariants.{Copy, Compare}
 use Rattle.arrow2_script.specs.Commands.{named, command_of, command_in, command_words, Fits}
 use Rattle.arrow2_script.specs.declared.command.Command.{Command}
-use Rattle.arrow2_script.specs.declared.command.Command.TheVariants.{Bitmap, Offset, Value}
+use Rattle.arrow2_script.specs.declared.command.Command.TheVariants.{Bitmap, Offset, Value, Storage, Kernel}
 use Rattle.arrow2_script.proofs.WordLemmas.{some_or_none}
 use Rattle.arrow2_script.proofs.SpellingLemmas.{is_word, words_there}
 use Rattle.arrow2_script.proofs.BitmapCommandLemmas.{bitmap_says, bitmap_of, bitmap_of-words, bitmap_words_pass, some_bitmap_words}
 use Rattle.arrow2_script.proofs.OffsetCommandLemmas.{offset_says, offset_of, offset_of-words, offset_words_pass, some_offset_words}
 use Rattle.arrow2_script.proofs.ValueCommandLemmas.{value_says, value_of, value_of-words, value_words_pass, some_value_words}
+use Rattle.arrow2_script.proofs.StorageCommandLemmas.{storage_says, storage_of, storage_of-words, storage_words_pass, some_storage_words}
+use Rattle.arrow2_script.proofs.KernelCommandLemmas.{kernel_says, kernel_of, kernel_of-words, kernel_words_pass, some_kernel_words}
 use Rattle.arrow2_script.proofs.KindLemmas.{same_says}
 
 -- what a value was mapped from
@@ -38,19 +47,23 @@ Says name words command = Fits command × (name ∷ words ≡ command_words comm
 
 named_says : (name : List ℕ) (words : List (List ℕ)) (command : Command) → named name words ≡ Some command → Says name words command
 unfolding named
-named_says name words command e = elim (either_way (option_map Bitmap (bitmap_named name words)) _ command e) [
-  | inl q ↦
-      let p = mapped Bitmap (bitmap_named name words) command q in
-      same_says (λ c. Says name words c) (Bitmap p.0) command p.2 (bitmap_says name words p.0 p.1)
-  | inr e ↦ elim (either_way (option_map Offset (offset_named name words)) _ command e) [
-    | inl q ↦
-        let p = mapped Offset (offset_named name words) command q in
-        same_says (λ c. Says name words c) (Offset p.0) command p.2 (offset_says name words p.0 p.1)
-    | inr q ↦
-        let p = mapped Value (value_named name words) command q in
-        same_says (λ c. Says name words c) (Value p.0) command p.2 (value_says name words p.0 p.1)
-  ]
-]
+named_says name words command =
+    of_kind Bitmap (bitmap_named name words) (bitmap_says name words) _ (
+    of_kind Offset (offset_named name words) (offset_says name words) _ (
+    of_kind Value (value_named name words) (value_says name words) _ (
+    of_kind Storage (storage_named name words) (storage_says name words) _ (
+    only_kind Kernel (kernel_named name words) (kernel_says name words)))))
+  where
+    only_kind : {K : Type 0} (kind : K → Command) (read : Option K) → ((c : K) → read ≡ Some c → Says name words (kind c)) → option_map kind read ≡ Some command → Says name words command
+    only_kind kind read says e =
+        let p = mapped kind read command e in
+        same_says (λ c. Says name words c) (kind p.0) command p.2 (says p.0 p.1)
+
+    of_kind : {K : Type 0} (kind : K → Command) (read : Option K) → ((c : K) → read ≡ Some c → Says name words (kind c)) → (next : Option Command) → (next ≡ Some command → Says name words command) → option_or (option_map kind read) next ≡ Some command → Says name words command
+    of_kind kind read says next others e = elim (either_way (option_map kind read) next command e) [
+      | inl q ↦ only_kind kind read says q
+      | inr q ↦ others q
+    ]
 
 pub command_says : (words : List (List ℕ)) (command : Command) → command_of words ≡ Some command → Fits command × (words ≡ command_words command)
 unfolding command_of
@@ -79,8 +92,31 @@ unfolding offset_named
 value_no_offset (Copy from to) = refl
 value_no_offset (Compare left right) = refl
 
+storage_no_other : (command : StorageCommand) → (bitmap_of (storage_words command) ≡ None) × (offset_of (storage_words command) ≡ None) × (value_of (storage_words command) ≡ None)
+unfolding bitmap_named offset_named value_named
+storage_no_other (Raw slot bytes offset length) = (refl, refl, refl)
+storage_no_other (Set slot index bit) = (refl, refl, refl)
+storage_no_other (Words slot width) = (refl, refl, refl)
+
+-- words that say a command of none of the kinds before the last one
+abbrev NoOther : List (List ℕ) → Type 0
+NoOther words = (bitmap_of words ≡ None) × (offset_of words ≡ None) × (value_of words ≡ None) × (storage_of words ≡ None)
+
+kernel_no_other : (command : KernelCommand) → NoOther (kernel_words command)
+unfolding bitmap_named offset_named value_named storage_named
+kernel_no_other (Make to (And left right)) = (refl, refl, refl, refl)
+kernel_no_other (Make to (Or left right)) = (refl, refl, refl, refl)
+kernel_no_other (Make to (Xor left right)) = (refl, refl, refl, refl)
+kernel_no_other (Make to (Not from)) = (refl, refl, refl, refl)
+kernel_no_other (Make to (Unary table from)) = (refl, refl, refl, refl)
+kernel_no_other (Make to (Binary table first second)) = (refl, refl, refl, refl)
+kernel_no_other (Make to (Ternary table first second third)) = (refl, refl, refl, refl)
+kernel_no_other (Make to (Quaternary table first second third fourth)) = (refl, refl, refl, refl)
+kernel_no_other (AssignUnary slot table width) = (refl, refl, refl, refl)
+kernel_no_other (AssignBinary slot table width other) = (refl, refl, refl, refl)
+
 -- words that are there, read by kind
-by_kind : (words : List (List ℕ)) → 0 < length words → command_of words ≡ option_or (option_map Bitmap (bitmap_of words)) (option_or (option_map Offset (offset_of words)) (option_map Value (value_of words)))
+by_kind : (words : List (List ℕ)) → 0 < length words → command_of words ≡ option_or (option_map Bitmap (bitmap_of words)) (option_or (option_map Offset (offset_of words)) (option_or (option_map Value (value_of words)) (option_or (option_map Storage (storage_of words)) (option_map Kernel (kernel_of words)))))
 unfolding command_of named
 by_kind [] some = absurd (omega arith)
 by_kind (name ∷ words) some = refl
@@ -90,18 +126,28 @@ pub some_words : (command : Command) → 0 < length (command_words command)
 some_words (Bitmap command) = some_bitmap_words command
 some_words (Offset command) = some_offset_words command
 some_words (Value command) = some_value_words command
+some_words (Storage command) = some_storage_words command
+some_words (Kernel command) = some_kernel_words command
 
 -- the words of a command say it
 pub command_of-words : (command : Command) → Fits command → command_of (command_words command) ≡ Some command
 command_of-words (Bitmap command) fits = rw (by_kind (bitmap_words command) (some_bitmap_words command), bitmap_of-words command fits) refl
 command_of-words (Offset command) fits = rw (by_kind (offset_words command) (some_offset_words command), offset_no_bitmap command, offset_of-words command fits) refl
 command_of-words (Value command) fits = rw (by_kind (value_words command) (some_value_words command), value_no_bitmap command, value_no_offset command, value_of-words command fits) refl
+command_of-words (Storage command) fits =
+    let no = storage_no_other command in
+    rw (by_kind (storage_words command) (some_storage_words command), no.0, no.1, no.2, storage_of-words command fits) refl
+command_of-words (Kernel command) fits =
+    let no = kernel_no_other command in
+    rw (by_kind (kernel_words command) (some_kernel_words command), no.0, no.1, no.2, no.3, kernel_of-words command fits) refl
 
 -- they are words
 pub command_words_pass : (command : Command) → Fits command → list_all is_word (command_words command) ≡ true
 command_words_pass (Bitmap command) fits = bitmap_words_pass command fits
 command_words_pass (Offset command) fits = offset_words_pass command fits
 command_words_pass (Value command) fits = value_words_pass command fits
+command_words_pass (Storage command) fits = storage_words_pass command fits
+command_words_pass (Kernel command) fits = kernel_words_pass command fits
 
 -- parts of which one is blank say no command
 blank_says_none : (parts : List (List ℕ)) → list_any is_blank parts ≡ true → command_of parts ≡ None

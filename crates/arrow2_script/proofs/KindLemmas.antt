@@ -1,16 +1,95 @@
 -- Commands of one kind: the words that say each, and the names by which they are told apart.
-use Rattle.std.proofs.Common.{◌≡◌, subst, ◌<◌, ◌^◌, ℕ, List, [], ◌∷◌, cond, inl, inr}
+use Rattle.std.proofs.Common.{◌≡◌, subst, sym, ◌<◌, ◌^◌, ℕ, List, [], ◌∷◌, Bool, cond, inl, inr}
 use Rattle.std.specs.Prelude.{Option, Some}
+use Rattle.std.specs.List.{All}
 use Rattle.std.specs.Str.{bytes_eq}
 use Rattle.std.specs.Fmt.{decimal}
 use Rattle.std.proofs.lemmas.Option.{same_Some}
 use Rattle.std.proofs.lemmas.Slice.Eq.{bytes_eq-Decides}
-use Rattle.arrow2_script.specs.Arguments.{◌>>=◌, one_of, two_of, three_of}
-use Rattle.arrow2_script.specs.Words.{number_of, slot_of}
-use Rattle.arrow2_script.proofs.ArgumentLemmas.{bound, one_says, two_says, three_says}
-use Rattle.arrow2_script.proofs.WordLemmas.{choice, decimal-number_of, decimal-slot_of}
+use Rattle.arrow2_script.specs.Arguments.{◌>>=◌, one_of, two_of, three_of, four_of, five_of, six_of}
+use Rattle.arrow2_script.specs.declared.words.Width.{Width}
+use Rattle.arrow2_script.specs.Words.{number_of, slot_of, below_of, bit_of, bit_byte, width_of, width_word, bytes_of, hex_text}
+use Rattle.arrow2_script.proofs.ArgumentLemmas.{bound, one_says, two_says, three_says, four_says, five_says, six_says}
+use Rattle.arrow2_script.proofs.HexLemmas.{text-bytes_of}
+use Rattle.arrow2_script.proofs.WordLemmas.{choice, decimal-number_of, decimal-slot_of, decimal-below_of, byte-bit_of, word-width_of}
+
+-- how a word is read, and the one word by which each value is spelled
+pub record Reader (A : Type 0) : Type 1 where
+  pub read : List ℕ → Option A
+  pub spell : A → List ℕ
+  pub Fits : A → Type 0
+  pub spelled : (word : List ℕ) (x : A) → read word ≡ Some x → Fits x × (spell x ≡ word)
+
+abbrev pub slots : Reader ℕ
+slots = record { read = slot_of; spell = decimal; Fits = λ n. n < 16; spelled = decimal-slot_of }
+
+abbrev pub numbers : Reader ℕ
+numbers = record { read = number_of; spell = decimal; Fits = λ n. n < 2 ^ 64; spelled = decimal-number_of }
+
+abbrev pub tables : ℕ → Reader ℕ
+tables bound = record { read = below_of bound; spell = decimal; Fits = λ n. n < bound; spelled = decimal-below_of bound }
+
+abbrev pub bits : Reader Bool
+bits = record { read = bit_of; spell = λ bit. bit_byte bit ∷ []; Fits = λ bit. Unit {0}; spelled = λ word bit e. (tt, byte-bit_of word bit e) }
+
+abbrev pub widths : Reader Width
+widths = record { read = width_of; spell = width_word; Fits = λ width. Unit {0}; spelled = λ word width e. (tt, word-width_of word width e) }
+
+abbrev pub hex_bytes : Reader (List ℕ)
+hex_bytes = record { read = bytes_of; spell = hex_text; Fits = λ bytes. All (λ b. b < 256) bytes; spelled = text-bytes_of }
 
 module _ {C : Type 0} where
+  -- what is known of a value's word, where it is known of the word that spells the value
+  value_then : {A : Type 0} (f : Reader A) (word : List ℕ) (next : A → Option C) (command : C) (Said : List ℕ → Type 0) → ((x : A) → f.Fits x → next x ≡ Some command → Said (f.spell x)) → (f.read word >>= next) ≡ Some command → Said word
+  value_then f word next command Said says e =
+      let p = bound (f.read word) next command e in
+      let q = f.spelled word p.0 p.1 in
+      subst Said q.1 (says p.0 q.0 p.2)
+
+  -- what is known of commands of so many words, where it is known of the words that spell their values
+  one_read : {A : Type 0} (f : Reader A) (made : A → C) (Says : List (List ℕ) → C → Type 0) → ((x : A) → f.Fits x → Says (f.spell x ∷ []) (made x)) → (w0 : List ℕ) (command : C) → (f.read w0 >>= λ x. Some (made x)) ≡ Some command → Says (w0 ∷ []) command
+  one_read f made Says says w0 command = value_then f w0 (λ x. Some (made x)) command (λ t. Says (t ∷ []) command) (λ x fits e. subst (λ c. Says (f.spell x ∷ []) c) (same_Some (made x) command e) (says x fits))
+
+  two_read : {A B : Type 0} (f : Reader A) (g : Reader B) (made : A → B → C) (Says : List (List ℕ) → C → Type 0) → ((x : A) (y : B) → f.Fits x → g.Fits y → Says (f.spell x ∷ g.spell y ∷ []) (made x y)) → (w0 w1 : List ℕ) (command : C) → (f.read w0 >>= λ x. g.read w1 >>= λ y. Some (made x y)) ≡ Some command → Says (w0 ∷ w1 ∷ []) command
+  two_read f g made Says says w0 w1 command = value_then f w0 (λ x. g.read w1 >>= λ y. Some (made x y)) command (λ t. Says (t ∷ w1 ∷ []) command) (λ x fits e. one_read g (made x) (λ t c. Says (f.spell x ∷ t) c) (λ y fy. says x y fits fy) w1 command e)
+
+  three_read : {A B D : Type 0} (f : Reader A) (g : Reader B) (h : Reader D) (made : A → B → D → C) (Says : List (List ℕ) → C → Type 0) → ((x : A) (y : B) (z : D) → f.Fits x → g.Fits y → h.Fits z → Says (f.spell x ∷ g.spell y ∷ h.spell z ∷ []) (made x y z)) → (w0 w1 w2 : List ℕ) (command : C) → (f.read w0 >>= λ x. g.read w1 >>= λ y. h.read w2 >>= λ z. Some (made x y z)) ≡ Some command → Says (w0 ∷ w1 ∷ w2 ∷ []) command
+  three_read f g h made Says says w0 w1 w2 command = value_then f w0 (λ x. g.read w1 >>= λ y. h.read w2 >>= λ z. Some (made x y z)) command (λ t. Says (t ∷ w1 ∷ w2 ∷ []) command) (λ x fits e. two_read g h (made x) (λ t c. Says (f.spell x ∷ t) c) (λ y z fy fz. says x y z fits fy fz) w1 w2 command e)
+
+  four_read : {A B D E : Type 0} (f : Reader A) (g : Reader B) (h : Reader D) (i : Reader E) (made : A → B → D → E → C) (Says : List (List ℕ) → C → Type 0) → ((x : A) (y : B) (z : D) (u : E) → f.Fits x → g.Fits y → h.Fits z → i.Fits u → Says (f.spell x ∷ g.spell y ∷ h.spell z ∷ i.spell u ∷ []) (made x y z u)) → (w0 w1 w2 w3 : List ℕ) (command : C) → (f.read w0 >>= λ x. g.read w1 >>= λ y. h.read w2 >>= λ z. i.read w3 >>= λ u. Some (made x y z u)) ≡ Some command → Says (w0 ∷ w1 ∷ w2 ∷ w3 ∷ []) command
+  four_read f g h i made Says says w0 w1 w2 w3 command = value_then f w0 (λ x. g.read w1 >>= λ y. h.read w2 >>= λ z. i.read w3 >>= λ u. Some (made x y z u)) command (λ t. Says (t ∷ w1 ∷ w2 ∷ w3 ∷ []) command) (λ x fits e. three_read g h i (made x) (λ t c. Says (f.spell x ∷ t) c) (λ y z u fy fz fu. says x y z u fits fy fz fu) w1 w2 w3 command e)
+
+  five_read : {A B D E G : Type 0} (f : Reader A) (g : Reader B) (h : Reader D) (i : Reader E) (j : Reader G) (made : A → B → D → E → G → C) (Says : List (List ℕ) → C → Type 0) → ((x : A) (y : B) (z : D) (u : E) (v : G) → f.Fits x → g.Fits y → h.Fits z → i.Fits u → j.Fits v → Says (f.spell x ∷ g.spell y ∷ h.spell z ∷ i.spell u ∷ j.spell v ∷ []) (made x y z u v)) → (w0 w1 w2 w3 w4 : List ℕ) (command : C) → (f.read w0 >>= λ x. g.read w1 >>= λ y. h.read w2 >>= λ z. i.read w3 >>= λ u. j.read w4 >>= λ v. Some (made x y z u v)) ≡ Some command → Says (w0 ∷ w1 ∷ w2 ∷ w3 ∷ w4 ∷ []) command
+  five_read f g h i j made Says says w0 w1 w2 w3 w4 command = value_then f w0 (λ x. g.read w1 >>= λ y. h.read w2 >>= λ z. i.read w3 >>= λ u. j.read w4 >>= λ v. Some (made x y z u v)) command (λ t. Says (t ∷ w1 ∷ w2 ∷ w3 ∷ w4 ∷ []) command) (λ x fits e. four_read g h i j (made x) (λ t c. Says (f.spell x ∷ t) c) (λ y z u v fy fz fu fv. says x y z u v fits fy fz fu fv) w1 w2 w3 w4 command e)
+
+  six_read : {A B D E G H : Type 0} (f : Reader A) (g : Reader B) (h : Reader D) (i : Reader E) (j : Reader G) (k : Reader H) (made : A → B → D → E → G → H → C) (Says : List (List ℕ) → C → Type 0) → ((x : A) (y : B) (z : D) (u : E) (v : G) (w : H) → f.Fits x → g.Fits y → h.Fits z → i.Fits u → j.Fits v → k.Fits w → Says (f.spell x ∷ g.spell y ∷ h.spell z ∷ i.spell u ∷ j.spell v ∷ k.spell w ∷ []) (made x y z u v w)) → (w0 w1 w2 w3 w4 w5 : List ℕ) (command : C) → (f.read w0 >>= λ x. g.read w1 >>= λ y. h.read w2 >>= λ z. i.read w3 >>= λ u. j.read w4 >>= λ v. k.read w5 >>= λ w. Some (made x y z u v w)) ≡ Some command → Says (w0 ∷ w1 ∷ w2 ∷ w3 ∷ w4 ∷ w5 ∷ []) command
+  six_read f g h i j k made Says says w0 w1 w2 w3 w4 w5 command = value_then f w0 (λ x. g.read w1 >>= λ y. h.read w2 >>= λ z. i.read w3 >>= λ u. j.read w4 >>= λ v. k.read w5 >>= λ w. Some (made x y z u v w)) command (λ t. Says (t ∷ w1 ∷ w2 ∷ w3 ∷ w4 ∷ w5 ∷ []) command) (λ x fits e. five_read g h i j k (made x) (λ t c. Says (f.spell x ∷ t) c) (λ y z u v w fy fz fu fv fw. says x y z u v w fits fy fz fu fv fw) w1 w2 w3 w4 w5 command e)
+
+  pub two_then : {A B : Type 0} (f : Reader A) (g : Reader B) (made : A → B → C) (Says : List (List ℕ) → C → Type 0) → ((x : A) (y : B) → f.Fits x → g.Fits y → Says (f.spell x ∷ g.spell y ∷ []) (made x y)) → (words : List (List ℕ)) (command : C) → (two_of words >>= λ said. f.read said.0 >>= λ x. g.read said.1 >>= λ y. Some (made x y)) ≡ Some command → Says words command
+  two_then f g made Says says words command e =
+      let p = bound (two_of words) (λ said. f.read said.0 >>= λ x. g.read said.1 >>= λ y. Some (made x y)) command e in
+      subst (λ t. Says t command) (sym (two_says words p.0 p.1)) (two_read f g made Says says p.0.0 p.0.1 command p.2)
+
+  pub three_then : {A B D : Type 0} (f : Reader A) (g : Reader B) (h : Reader D) (made : A → B → D → C) (Says : List (List ℕ) → C → Type 0) → ((x : A) (y : B) (z : D) → f.Fits x → g.Fits y → h.Fits z → Says (f.spell x ∷ g.spell y ∷ h.spell z ∷ []) (made x y z)) → (words : List (List ℕ)) (command : C) → (three_of words >>= λ said. f.read said.0 >>= λ x. g.read said.1 >>= λ y. h.read said.2 >>= λ z. Some (made x y z)) ≡ Some command → Says words command
+  three_then f g h made Says says words command e =
+      let p = bound (three_of words) (λ said. f.read said.0 >>= λ x. g.read said.1 >>= λ y. h.read said.2 >>= λ z. Some (made x y z)) command e in
+      subst (λ t. Says t command) (sym (three_says words p.0 p.1)) (three_read f g h made Says says p.0.0 p.0.1 p.0.2 command p.2)
+
+  pub four_then : {A B D E : Type 0} (f : Reader A) (g : Reader B) (h : Reader D) (i : Reader E) (made : A → B → D → E → C) (Says : List (List ℕ) → C → Type 0) → ((x : A) (y : B) (z : D) (u : E) → f.Fits x → g.Fits y → h.Fits z → i.Fits u → Says (f.spell x ∷ g.spell y ∷ h.spell z ∷ i.spell u ∷ []) (made x y z u)) → (words : List (List ℕ)) (command : C) → (four_of words >>= λ said. f.read said.0 >>= λ x. g.read said.1 >>= λ y. h.read said.2 >>= λ z. i.read said.3 >>= λ u. Some (made x y z u)) ≡ Some command → Says words command
+  four_then f g h i made Says says words command e =
+      let p = bound (four_of words) (λ said. f.read said.0 >>= λ x. g.read said.1 >>= λ y. h.read said.2 >>= λ z. i.read said.3 >>= λ u. Some (made x y z u)) command e in
+      subst (λ t. Says t command) (sym (four_says words p.0 p.1)) (four_read f g h i made Says says p.0.0 p.0.1 p.0.2 p.0.3 command p.2)
+
+  pub five_then : {A B D E G : Type 0} (f : Reader A) (g : Reader B) (h : Reader D) (i : Reader E) (j : Reader G) (made : A → B → D → E → G → C) (Says : List (List ℕ) → C → Type 0) → ((x : A) (y : B) (z : D) (u : E) (v : G) → f.Fits x → g.Fits y → h.Fits z → i.Fits u → j.Fits v → Says (f.spell x ∷ g.spell y ∷ h.spell z ∷ i.spell u ∷ j.spell v ∷ []) (made x y z u v)) → (words : List (List ℕ)) (command : C) → (five_of words >>= λ said. f.read said.0 >>= λ x. g.read said.1 >>= λ y. h.read said.2 >>= λ z. i.read said.3 >>= λ u. j.read said.4 >>= λ v. Some (made x y z u v)) ≡ Some command → Says words command
+  five_then f g h i j made Says says words command e =
+      let p = bound (five_of words) (λ said. f.read said.0 >>= λ x. g.read said.1 >>= λ y. h.read said.2 >>= λ z. i.read said.3 >>= λ u. j.read said.4 >>= λ v. Some (made x y z u v)) command e in
+      subst (λ t. Says t command) (sym (five_says words p.0 p.1)) (five_read f g h i j made Says says p.0.0 p.0.1 p.0.2 p.0.3 p.0.4 command p.2)
+
+  pub six_then : {A B D E G H : Type 0} (f : Reader A) (g : Reader B) (h : Reader D) (i : Reader E) (j : Reader G) (k : Reader H) (made : A → B → D → E → G → H → C) (Says : List (List ℕ) → C → Type 0) → ((x : A) (y : B) (z : D) (u : E) (v : G) (w : H) → f.Fits x → g.Fits y → h.Fits z → i.Fits u → j.Fits v → k.Fits w → Says (f.spell x ∷ g.spell y ∷ h.spell z ∷ i.spell u ∷ j.spell v ∷ k.spell w ∷ []) (made x y z u v w)) → (words : List (List ℕ)) (command : C) → (six_of words >>= λ said. f.read said.0 >>= λ x. g.read said.1 >>= λ y. h.read said.2 >>= λ z. i.read said.3 >>= λ u. j.read said.4 >>= λ v. k.read said.5 >>= λ w. Some (made x y z u v w)) ≡ Some command → Says words command
+  six_then f g h i j k made Says says words command e =
+      let p = bound (six_of words) (λ said. f.read said.0 >>= λ x. g.read said.1 >>= λ y. h.read said.2 >>= λ z. i.read said.3 >>= λ u. j.read said.4 >>= λ v. k.read said.5 >>= λ w. Some (made x y z u v w)) command e in
+      subst (λ t. Says t command) (sym (six_says words p.0 p.1)) (six_read f g h i j k made Says says p.0.0 p.0.1 p.0.2 p.0.3 p.0.4 p.0.5 command p.2)
+
   -- a command of a slot alone
   pub slot_alone : (made : ℕ → C) (words : List (List ℕ)) (command : C) → (one_of words >>= λ said. slot_of said >>= λ slot. Some (made slot)) ≡ Some command → (slot : ℕ) × (slot < 16) × (words ≡ decimal slot ∷ []) × (made slot ≡ command)
   slot_alone made words command e =

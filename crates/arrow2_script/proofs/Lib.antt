@@ -1,11 +1,14 @@
 pub mod ArgumentLemmas
 pub mod BitmapCommandLemmas
 pub mod CommandLemmas
+pub mod HexLemmas
+pub mod KernelCommandLemmas
 pub mod KindLemmas
 pub mod LawLemmas
 pub mod LineLemmas
 pub mod NumberListLemmas
 pub mod OffsetCommandLemmas
 pub mod SpellingLemmas
+pub mod StorageCommandLemmas
 pub mod ValueCommandLemmas
 pub mod WordLemmas

@@ -94,7 +94,8 @@ not_dash n ns all e =
     let same : map decimal (n ∷ ns) ≡ codes "-" ∷ [] = sym (numbers_parts n ns all) ∙ ap (parts_between 44) e ∙ dash in
     no_dash n (front n ns all).0 (first_word (decimal n) (codes "-") (map decimal ns) [] same)
 
-other_than : (a b : List ℕ) → (a ≡ b → ⊥) → bytes_eq a b ≡ false
+-- words that differ
+pub other_than : (a b : List ℕ) → (a ≡ b → ⊥) → bytes_eq a b ≡ false
 other_than a b never = elim (choice (bytes_eq a b) true false (bytes_eq a b) (cond_same (bytes_eq a b))) [
   | inl p ↦ absurd (never ((bytes_eq-Decides a b).0 p.0))
   | inr p ↦ p.0

@@ -1,13 +1,15 @@
 -- Words that spell numbers, slots, bits and texts of bits.
-use Rattle.std.proofs.Common.{◌≡◌, refl, ◌<◌, ◌^◌, ℕ, suc, List, [], ◌∷◌, length, Bool, true, false, ◌&&◌, not, arith, eqb, map, length-append}
-use Rattle.std.specs.List.{All, list_any, list_all, join_with_byte}
+use Rattle.std.proofs.Common.{◌≡◌, refl, ◌/◌, ◌%◌, ◌<◌, ◌≤◌, ◌^◌, ℕ, suc, List, [], ◌∷◌, length, Bool, true, false, ◌&&◌, not, arith, eqb, map, length-append}
+use Rattle.std.specs.List.{All, list_any, list_all, join_with_byte, flat_map}
 use Rattle.std.proofs.lemmas.List.Folds.{list_all-append}
 use Rattle.std.specs.Str.Parse.{AllDigits}
 use Rattle.std.specs.Fmt.{decimal}
 use Rattle.std.proofs.lemmas.Str.Parse.{digit_from_value}
 use Rattle.std.proofs.lemmas.Fmt.{decimal_is_IsNumeral}
 use Rattle.arrow2_script.specs.Lines.{is_blank}
-use Rattle.arrow2_script.specs.Words.{bit_byte, bits_text, numbers_text}
+use Rattle.arrow2_script.specs.Words.{bit_byte, bits_text, numbers_text, width_word, hex_digit, hex_digits, hex_text}
+use Rattle.arrow2_script.specs.declared.words.Width.{Width}
+use Rattle.arrow2_script.specs.declared.words.Width.TheVariants.{Bits8, Bits16, Bits32, Bits64}
 
 -- one byte or more, none of them 32
 unfoldable pub is_word : List ℕ → Bool
@@ -71,6 +73,28 @@ pub numbers_word : (ns : List ℕ) → All (λ m. m < 2 ^ 64) ns → is_word (nu
 unfolding is_word
 numbers_word [] all = refl
 numbers_word (n ∷ ns) all = rw (filled (join_with_byte 44 (map decimal (n ∷ ns))) (some_numbers n ns (all 0 0 (omega arith))), numbers_spaceless n ns all) refl
+
+pub below_word : (bound n : ℕ) → bound ≤ 2 ^ 64 → n < bound → is_word (decimal n) ≡ true
+below_word bound n most h = number_word n (omega (arith, most, h))
+
+pub width_is_word : (width : Width) → is_word (width_word width) ≡ true
+unfolding is_word
+width_is_word Bits8 = refl
+width_is_word Bits16 = refl
+width_is_word Bits32 = refl
+width_is_word Bits64 = refl
+
+hex_spaceless : (bytes : List ℕ) → All (λ b. b < 256) bytes → list_all (λ b. not (eqb b 32)) (flat_map hex_digits bytes) ≡ true
+hex_spaceless [] all = refl
+hex_spaceless (b ∷ bytes) all =
+    let high : eqb (hex_digit (b / 16)) 32 ≡ false = grind arith in
+    let low : eqb (hex_digit (b % 16)) 32 ≡ false = grind arith in
+    rw (high, low, hex_spaceless bytes (λ k d h. all (suc k) d (omega arith))) refl
+
+pub hex_word : (bytes : List ℕ) → All (λ b. b < 256) bytes → is_word (hex_text bytes) ≡ true
+unfolding is_word
+hex_word [] all = refl
+hex_word (b ∷ bytes) all = rw (filled (hex_text (b ∷ bytes)) (omega arith), hex_spaceless (b ∷ bytes) all) refl
 
 -- words are not blank
 pub words_there : (words : List (List ℕ)) → list_all is_word words ≡ true → list_any is_blank words ≡ false

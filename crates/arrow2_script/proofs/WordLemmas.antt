@@ -1,5 +1,5 @@
 -- What a word says, and the one word that says it.
-use Rattle.std.proofs.Common.{map, codes, eqb, ◌≡◌, ◌∙◌, sym, ap, refl, ◌<◌, ◌^◌, ℕ, zero, suc, List, [], ◌∷◌, length, get_or, Bool, true, false, cond, ◌&&◌, ◌⊎◌, inl, inr, arith, lit<}
+use Rattle.std.proofs.Common.{map, codes, eqb, ◌≡◌, ◌∙◌, sym, ap, refl, ◌<◌, ◌≤◌, ◌^◌, ℕ, zero, suc, List, [], ◌∷◌, length, get_or, Bool, true, false, cond, ◌&&◌, ◌⊎◌, inl, inr, arith, lit<}
 use Rattle.std.specs.Prelude.{Option, Some, None, Result, Ok, Err, nat_lt}
 use Rattle.std.specs.Result.{result_ok}
 use Rattle.std.specs.Str.{bytes_eq, IsUtf8}
@@ -11,7 +11,9 @@ use Rattle.std.proofs.lemmas.Str.Parse.{numerals_by_value, tells_digits, parse_p
 use Rattle.std.proofs.lemmas.Slice.Eq.{bytes_eq-Decides}
 use Rattle.std.specs.List.{list_all}
 use Rattle.std.proofs.lemmas.Option.{option_and_then_some, cond_some, same_Some, none-some}
-use Rattle.arrow2_script.specs.Words.{number_of, slot_of, bit_of, bits_of, bit_byte, bits_text, is_bit_byte, items_said}
+use Rattle.arrow2_script.specs.declared.words.Width.{Width}
+use Rattle.arrow2_script.specs.declared.words.Width.TheVariants.{Bits8, Bits16, Bits32, Bits64}
+use Rattle.arrow2_script.specs.Words.{number_of, below_of, slot_of, width_word, width_of, bit_of, bits_of, bit_byte, bits_text, is_bit_byte, items_said}
 
 -- a number's own word says it
 pub number_of-decimal : (n : ℕ) → n < 2 ^ 64 → number_of (decimal n) ≡ Some n
@@ -85,19 +87,34 @@ number_of-parsed {E} word (Err d) plain parsed =
     let is = decimal_is_IsNumeral n h in
     refused (rw e at is.0.1, rw e at is.0.0, let v : digits_value 10 word ≡ n = ap (digits_value 10) (sym e) ∙ is.1 in omega (arith, v, h))))
 
--- a slot's word
-pub slot_of-decimal : (n : ℕ) → n < 16 → slot_of (decimal n) ≡ Some n
-slot_of-decimal n h =
-    let wide : n < 2 ^ 64 = omega arith in
-    let fits : nat_lt n 16 ≡ true = grind (arith, h) in
+-- the word of a number below a bound
+pub below_of-decimal : (bound n : ℕ) → bound ≤ 2 ^ 64 → n < bound → below_of bound (decimal n) ≡ Some n
+below_of-decimal bound n most h =
+    let wide : n < 2 ^ 64 = omega (arith, most, h) in
+    let fits : nat_lt n bound ≡ true = grind (arith, h) in
     rw (number_of-decimal n wide, fits) refl
 
-pub decimal-slot_of : (word : List ℕ) (n : ℕ) → slot_of word ≡ Some n → (n < 16) × (decimal n ≡ word)
-decimal-slot_of word n e = option_and_then_some {P = (n < 16) × (decimal n ≡ word)} (λ x. cond (nat_lt x 16) (Some x) None) (number_of word) n e
+pub decimal-below_of : (bound : ℕ) (word : List ℕ) (n : ℕ) → below_of bound word ≡ Some n → (n < bound) × (decimal n ≡ word)
+decimal-below_of bound word n e = option_and_then_some {P = (n < bound) × (decimal n ≡ word)} (λ x. cond (nat_lt x bound) (Some x) None) (number_of word) n e
     (λ x said kept.
-    let p = cond_some (nat_lt x 16) x n kept in
-    let fits : x < 16 = grind (arith, p.0) in
+    let p = cond_some (nat_lt x bound) x n kept in
+    let fits : x < bound = grind (arith, p.0) in
     (rw (← p.1) fits, rw (← p.1) (decimal-number_of word x said).1))
+
+-- a slot's word
+pub slot_of-decimal : (n : ℕ) → n < 16 → slot_of (decimal n) ≡ Some n
+slot_of-decimal n h = below_of-decimal 16 n (omega arith) h
+
+pub decimal-slot_of : (word : List ℕ) (n : ℕ) → slot_of word ≡ Some n → (n < 16) × (decimal n ≡ word)
+decimal-slot_of word n e = decimal-below_of 16 word n e
+
+-- a width's word
+pub width_of-word : (width : Width) → width_of (width_word width) ≡ Some width
+unfolding width_of
+width_of-word Bits8 = refl
+width_of-word Bits16 = refl
+width_of-word Bits32 = refl
+width_of-word Bits64 = refl
 
 -- a bit's word
 pub bit_of-byte : (bit : Bool) → bit_of (bit_byte bit ∷ []) ≡ Some bit
@@ -109,6 +126,18 @@ bit_of-byte false = refl
 pub choice : {X : Type 0} (b : Bool) (x y z : X) → cond b x y ≡ z → ((b ≡ true) × (x ≡ z)) ⊎ ((b ≡ false) × (y ≡ z))
 choice true x y z e = inl (refl, e)
 choice false x y z e = inr (refl, e)
+
+pub word-width_of : (word : List ℕ) (width : Width) → width_of word ≡ Some width → width_word width ≡ word
+unfolding width_of
+word-width_of word width e =
+    let at = at_word word width in
+    at (codes "8") Bits8 refl _ e (λ e. at (codes "16") Bits16 refl _ e (λ e. at (codes "32") Bits32 refl _ e (λ e. at (codes "64") Bits64 refl _ e (λ e. absurd (none-some width e)))))
+  where
+    at_word : (word : List ℕ) (width : Width) (known : List ℕ) (one : Width) → width_word one ≡ known → (next : Option Width) → cond (bytes_eq word known) (Some one) next ≡ Some width → (next ≡ Some width → width_word width ≡ word) → width_word width ≡ word
+    at_word word width known one spelled next e others = elim (choice (bytes_eq word known) (Some one) next _ e) [
+      | inl p ↦ let is = (bytes_eq-Decides word known).0 p.0 in ap width_word (sym (same_Some one width p.1)) ∙ spelled ∙ sym is
+      | inr p ↦ others p.1
+    ]
 
 pub byte-bit_of : (word : List ℕ) (bit : Bool) → bit_of word ≡ Some bit → bit_byte bit ∷ [] ≡ word
 unfolding bit_of

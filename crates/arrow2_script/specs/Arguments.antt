@@ -26,3 +26,24 @@ three_of [] = None
 three_of (a ∷ words) = do
   others ← two_of words
   Some (a, others.0, others.1)
+
+-- just four words
+abbrev pub four_of : List (List ℕ) → Option (List ℕ × List ℕ × List ℕ × List ℕ)
+four_of [] = None
+four_of (a ∷ words) = do
+  others ← three_of words
+  Some (a, others.0, others.1, others.2)
+
+-- just five words
+abbrev pub five_of : List (List ℕ) → Option (List ℕ × List ℕ × List ℕ × List ℕ × List ℕ)
+five_of [] = None
+five_of (a ∷ words) = do
+  others ← four_of words
+  Some (a, others.0, others.1, others.2, others.3)
+
+-- just six words
+abbrev pub six_of : List (List ℕ) → Option (List ℕ × List ℕ × List ℕ × List ℕ × List ℕ × List ℕ)
+six_of [] = None
+six_of (a ∷ words) = do
+  others ← five_of words
+  Some (a, others.0, others.1, others.2, others.3, others.4)

@@ -6,12 +6,19 @@ use Rattle.arrow2_script.specs.Lines.{words_of}
 use Rattle.arrow2_script.specs.BitmapCommands.{bitmap_named, bitmap_words, BitmapFits}
 use Rattle.arrow2_script.specs.OffsetCommands.{offset_named, offset_words, OffsetFits}
 use Rattle.arrow2_script.specs.ValueCommands.{value_named, value_words, ValueFits}
+use Rattle.arrow2_script.specs.StorageCommands.{storage_named, storage_words, StorageFits}
+use Rattle.arrow2_script.specs.KernelCommands.{kernel_named, kernel_words, KernelFits}
 use Rattle.arrow2_script.specs.declared.command.Command.{Command}
-use Rattle.arrow2_script.specs.declared.command.Command.TheVariants.{Bitmap, Offset, Value}
+use Rattle.arrow2_script.specs.declared.command.Command.TheVariants.{Bitmap, Offset, Value, Storage, Kernel}
 
 -- the command that the words after a name say, of whichever kind
 unfoldable pub named : List ℕ → List (List ℕ) → Option Command
-named name words = option_or (option_map Bitmap (bitmap_named name words)) (option_or (option_map Offset (offset_named name words)) (option_map Value (value_named name words)))
+named name words =
+    option_or (option_map Bitmap (bitmap_named name words)) (
+    option_or (option_map Offset (offset_named name words)) (
+    option_or (option_map Value (value_named name words)) (
+    option_or (option_map Storage (storage_named name words)) (
+    option_map Kernel (kernel_named name words)))))
 
 -- the command that words say
 unfoldable pub command_of : List (List ℕ) → Option Command
@@ -27,12 +34,16 @@ abbrev pub command_words : Command → List (List ℕ)
 command_words (Bitmap command) = bitmap_words command
 command_words (Offset command) = offset_words command
 command_words (Value command) = value_words command
+command_words (Storage command) = storage_words command
+command_words (Kernel command) = kernel_words command
 
 -- slots are below 16, and numbers fit 64 bits
 abbrev pub Fits : Command → Type 0
 Fits (Bitmap command) = BitmapFits command
 Fits (Offset command) = OffsetFits command
 Fits (Value command) = ValueFits command
+Fits (Storage command) = StorageFits command
+Fits (Kernel command) = KernelFits command
 
 -- the line is the command: its words, joined by one byte 32
 abbrev pub IsSpelling : List ℕ → Command → Type 0

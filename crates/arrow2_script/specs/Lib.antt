@@ -1,7 +1,9 @@
 pub mod Arguments
 pub mod BitmapCommands
 pub mod Commands
+pub mod KernelCommands
 pub mod Lines
 pub mod OffsetCommands
+pub mod StorageCommands
 pub mod ValueCommands
 pub mod Words

@@ -1,18 +1,47 @@
 -- What a word says, and the word that says it.
-use Rattle.std.specs.Prelude.{ℕ, ◌^◌, ◌==◌, ◌&&◌, ◌||◌, nat_lt, Bool, true, false, List, [], ◌∷◌, length, map, codes, Option, Some, None, option_and_then, is_some, if◌then◌else◌}
-use Rattle.std.specs.List.{list_all, join_with_byte}
+use Rattle.std.specs.Prelude.{ℕ, ◌+◌, ◌-◌, ◌*◌, ◌/◌, ◌%◌, ◌^◌, ◌==◌, ◌&&◌, ◌||◌, nat_lt, Bool, true, false, List, [], ◌∷◌, length, map, codes, Option, Some, None, option_and_then, is_some, if◌then◌else◌}
+use Rattle.std.specs.List.{list_all, join_with_byte, flat_map}
 use Rattle.std.specs.Str.{bytes_eq}
 use Rattle.std.specs.Str.Parse.{digits_value}
 use Rattle.std.specs.Fmt.{decimal}
 use Rattle.arrow2_script.specs.Lines.{parts_between}
+use Rattle.arrow2_script.specs.declared.words.Width.{Width}
+use Rattle.arrow2_script.specs.declared.words.Width.TheVariants.{Bits8, Bits16, Bits32, Bits64}
 
 -- a number below 2 ^ 64, whose decimal digits are the word
 unfoldable pub number_of : List ℕ → Option ℕ
 number_of word = let n = digits_value 10 word in if nat_lt n (2 ^ 64) && bytes_eq (decimal n) word then Some n else None
 
+-- a number below a bound
+abbrev pub below_of : ℕ → List ℕ → Option ℕ
+below_of bound word = option_and_then (λ n. if nat_lt n bound then Some n else None) (number_of word)
+
 -- a slot: a number below 16
 abbrev pub slot_of : List ℕ → Option ℕ
-slot_of word = option_and_then (λ n. if nat_lt n 16 then Some n else None) (number_of word)
+slot_of word = below_of 16 word
+
+-- how many bits a width is
+abbrev pub width_bits : Width → ℕ
+width_bits Bits8 = 8
+width_bits Bits16 = 16
+width_bits Bits32 = 32
+width_bits Bits64 = 64
+
+-- the word of a width
+abbrev pub width_word : Width → List ℕ
+width_word Bits8 = codes "8"
+width_word Bits16 = codes "16"
+width_word Bits32 = codes "32"
+width_word Bits64 = codes "64"
+
+-- a width: one of the words `8`, `16`, `32` and `64`
+unfoldable pub width_of : List ℕ → Option Width
+width_of word =
+    if bytes_eq word (codes "8") then Some Bits8
+    else if bytes_eq word (codes "16") then Some Bits16
+    else if bytes_eq word (codes "32") then Some Bits32
+    else if bytes_eq word (codes "64") then Some Bits64
+    else None
 
 -- the byte of a bit: `1` for true, `0` for false
 abbrev pub bit_byte : Bool → ℕ
@@ -61,4 +90,39 @@ unfoldable pub numbers_of : List ℕ → Option (List ℕ)
 numbers_of word =
     if bytes_eq word (codes "-") then Some []
     else if list_all is_number (parts_between 44 word) then Some (numbers_said (parts_between 44 word))
+    else None
+
+-- whether a byte is a hexadecimal digit: `0` to `9` or `a` to `f`
+abbrev pub is_hex_digit : ℕ → Bool
+is_hex_digit byte = (nat_lt 47 byte && nat_lt byte 58) || (nat_lt 96 byte && nat_lt byte 103)
+
+-- what a hexadecimal digit stands for
+abbrev pub hex_value : ℕ → ℕ
+hex_value byte = if nat_lt byte 58 then byte - 48 else byte - 87
+
+-- the hexadecimal digit of a number below 16
+abbrev pub hex_digit : ℕ → ℕ
+hex_digit n = if nat_lt n 10 then n + 48 else n + 87
+
+-- the bytes that hexadecimal digits say, two digits each, that of the higher half first
+unfoldable pub bytes_said : List ℕ → List ℕ
+bytes_said [] = []
+bytes_said (high ∷ []) = []
+bytes_said (high ∷ low ∷ digits) = (16 * hex_value high + hex_value low) ∷ bytes_said digits
+
+-- the two digits of a byte
+abbrev pub hex_digits : ℕ → List ℕ
+hex_digits byte = hex_digit (byte / 16) ∷ hex_digit (byte % 16) ∷ []
+
+-- the text of bytes in hexadecimal: `-` where there is none, else the two digits of each
+abbrev pub hex_text : List ℕ → List ℕ
+hex_text [] = codes "-"
+hex_text (byte ∷ bytes) = flat_map hex_digits (byte ∷ bytes)
+
+-- bytes in hexadecimal
+unfoldable pub bytes_of : List ℕ → Option (List ℕ)
+bytes_of word =
+    if bytes_eq word (codes "-") then Some []
+    else if length word == 0 then None
+    else if length word % 2 == 0 && list_all is_hex_digit word then Some (bytes_said word)
     else None

@@ -1,6 +1,6 @@
 //! The words behind a command's name.
 ghost use Rattle.std.specs.Prelude.{◌≡◌, option_map};
-ghost use Rattle.arrow2_script.specs.Arguments.{one_of, two_of, three_of};
+ghost use Rattle.arrow2_script.specs.Arguments.{one_of, two_of, three_of, four_of, five_of, six_of};
 
 use crate::lines::Parts;
 
@@ -34,4 +34,38 @@ pub(crate) fn three<'a>(parts: Parts<'a>) -> Option<(&'a [u8], &'a [u8], &'a [u8
     let first = parts.next()?;
     let (second, third) = two(parts)?;
     Some((first, second, third))
+}
+
+/// The words that are left, if they are four.
+pub(crate) fn four<'a>(parts: Parts<'a>) -> Option<(&'a [u8], &'a [u8], &'a [u8], &'a [u8])>
+    ensures { option_map (λ words. (words.0.now, words.1.now, words.2.now, words.3.now)) result ≡ four_of parts.entry }
+{
+    let mut parts = parts;
+    let first = parts.next()?;
+    let (second, third, fourth) = three(parts)?;
+    Some((first, second, third, fourth))
+}
+
+/// The words that are left, if they are five.
+pub(crate) fn five<'a>(
+    parts: Parts<'a>,
+) -> Option<(&'a [u8], &'a [u8], &'a [u8], &'a [u8], &'a [u8])>
+    ensures { option_map (λ words. (words.0.now, words.1.now, words.2.now, words.3.now, words.4.now)) result ≡ five_of parts.entry }
+{
+    let mut parts = parts;
+    let first = parts.next()?;
+    let (second, third, fourth, fifth) = four(parts)?;
+    Some((first, second, third, fourth, fifth))
+}
+
+/// The words that are left, if they are six.
+pub(crate) fn six<'a>(
+    parts: Parts<'a>,
+) -> Option<(&'a [u8], &'a [u8], &'a [u8], &'a [u8], &'a [u8], &'a [u8])>
+    ensures { option_map (λ words. (words.0.now, words.1.now, words.2.now, words.3.now, words.4.now, words.5.now)) result ≡ six_of parts.entry }
+{
+    let mut parts = parts;
+    let first = parts.next()?;
+    let (second, third, fourth, fifth, sixth) = five(parts)?;
+    Some((first, second, third, fourth, fifth, sixth))
 }

@@ -3,8 +3,10 @@ ghost use Rattle.std.specs.Prelude.{◌≡◌};
 ghost use Rattle.arrow2_script.specs.Commands.{named, command_in};
 
 use crate::bitmap_command::BitmapCommand;
+use crate::kernel_command::KernelCommand;
 use crate::lines::Parts;
 use crate::offset_command::OffsetCommand;
+use crate::storage_command::StorageCommand;
 use crate::value_command::ValueCommand;
 
 /// A command of a script.
@@ -16,6 +18,10 @@ pub enum Command<'a> {
     Offset(OffsetCommand<'a>),
     /// A command on values of any kind.
     Value(ValueCommand),
+    /// A command on the bits in which bitmaps stand.
+    Storage(StorageCommand<'a>),
+    /// A command that combines bitmaps.
+    Kernel(KernelCommand),
 }
 
 /// The command of this name, with these words behind it.
@@ -29,8 +35,14 @@ fn read_named<'a>(name: &[u8], parts: Parts<'a>) -> Option<Command<'a>>
     if let Some(command) = OffsetCommand::read(name, parts.again()) {
         return Some(Command::Offset(command));
     }
-    let command = ValueCommand::read(name, parts)?;
-    Some(Command::Value(command))
+    if let Some(command) = ValueCommand::read(name, parts.again()) {
+        return Some(Command::Value(command));
+    }
+    if let Some(command) = StorageCommand::read(name, parts.again()) {
+        return Some(Command::Storage(command));
+    }
+    let command = KernelCommand::read(name, parts)?;
+    Some(Command::Kernel(command))
 }
 
 /// The command that a line says, if it says one.

@@ -1,11 +1,12 @@
 //! Laws of the script's grammar. Each function is its law and nothing else.
-ghost use Rattle.std.specs.Prelude.{◌≡◌, ◌<◌, ◌^◌, ◌∷◌, [], ◌↔◌, ℕ, List, Bool, Some, length};
+ghost use Rattle.std.specs.Prelude.{◌≡◌, ◌<◌, ◌≤◌, ◌^◌, ◌∷◌, [], ◌↔◌, ℕ, List, Bool, Some, length};
 ghost use Rattle.std.specs.Fmt.{decimal};
 ghost use Rattle.std.specs.List.{All};
 ghost use Rattle.arrow2_script.specs.Lines.{lines_of, words_of, AreLines, AreWords};
-ghost use Rattle.arrow2_script.specs.Words.{number_of, slot_of, bit_of, bits_of, bit_byte, bits_text, numbers_of, numbers_text};
+ghost use Rattle.arrow2_script.specs.Words.{number_of, slot_of, bit_of, bits_of, bit_byte, bits_text, numbers_of, numbers_text, below_of, bytes_of, hex_text, width_of, width_word};
 ghost use Rattle.arrow2_script.specs.Commands.{command_in, IsSpelling};
 ghost use Rattle.arrow2_script.specs.declared.command.Command.{Command};
+ghost use Rattle.arrow2_script.specs.declared.words.Width.{Width};
 
 /// A script's lines hold no line end, and each followed by one they are the script; no other lines are.
 pub fn lines_of_a_script()
@@ -18,14 +19,17 @@ pub fn words_of_a_line()
     ensures { (line : List ℕ) (words : List (List ℕ)) → 0 < length words → (words_of line ≡ words) ↔ AreWords line words }
 {}
 
-/// A word says a number, a slot, a bit, a text of bits or a list of numbers exactly where it is the one word that
-/// spells it.
+/// A word says a number, a slot, a table, a bit, a text of bits, a list of numbers, bytes or a width exactly where it is
+/// the one word that spells it.
 pub fn one_word_of_a_value()
     ensures number { (word : List ℕ) (n : ℕ) → (number_of word ≡ Some n) ↔ ((n < 2 ^ 64) × (decimal n ≡ word)) }
     ensures slot { (word : List ℕ) (n : ℕ) → (slot_of word ≡ Some n) ↔ ((n < 16) × (decimal n ≡ word)) }
+    ensures table { (bound : ℕ) (word : List ℕ) (n : ℕ) → bound ≤ 2 ^ 64 → (below_of bound word ≡ Some n) ↔ ((n < bound) × (decimal n ≡ word)) }
     ensures bit { (word : List ℕ) (bit : Bool) → (bit_of word ≡ Some bit) ↔ (bit_byte bit ∷ [] ≡ word) }
     ensures bits { (word : List ℕ) (items : List Bool) → (bits_of word ≡ Some items) ↔ (bits_text items ≡ word) }
     ensures numbers { (word ns : List ℕ) → (numbers_of word ≡ Some ns) ↔ (All (λ n. n < 2 ^ 64) ns × (numbers_text ns ≡ word)) }
+    ensures bytes { (word bytes : List ℕ) → (bytes_of word ≡ Some bytes) ↔ (All (λ b. b < 256) bytes × (hex_text bytes ≡ word)) }
+    ensures width { (word : List ℕ) (width : Width) → (width_of word ≡ Some width) ↔ (width_word width ≡ word) }
 {}
 
 /// A line says a command exactly where it is that command's words, joined by one space.

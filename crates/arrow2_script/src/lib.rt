@@ -4,8 +4,10 @@
 mod arguments;
 pub mod bitmap_command;
 pub mod command;
+pub mod kernel_command;
 pub mod laws;
 pub mod lines;
 pub mod offset_command;
+pub mod storage_command;
 pub mod value_command;
 pub mod words;

@@ -1,6 +1,6 @@
 //! What a word of a line says.
 ghost use Rattle.std.specs.Prelude.{◌≡◌, ◌<◌, ◌↔◌, ◌⊎◌, List, Bool, ℕ, length, slice_index, IsTrue};
-ghost use Rattle.arrow2_script.specs.Words.{number_of, slot_of, bit_of, bits_of, is_bit_byte, items_said, is_number, numbers_of};
+ghost use Rattle.arrow2_script.specs.Words.{number_of, below_of, width_of, bit_of, bits_of, is_bit_byte, items_said, is_number, numbers_of, is_hex_digit, hex_value, bytes_said, bytes_of};
 ghost use Rattle.std.specs.Iterator.{YieldsFirst, item_count};
 ghost use Rattle.std.specs.List.{list_all};
 
@@ -42,43 +42,73 @@ pub fn bit(word: &[u8]) -> Option<bool>
     }
 }
 
-/// The place of a slot: a number below 16.
+/// A number below a bound.
 #[derive(Clone, Copy, Debug)]
-pub struct SlotIndex {
-    index: usize,
+pub struct Below<const BOUND: usize> {
+    number: usize,
 }
 
-impl Model for SlotIndex {
+impl<const BOUND: usize> Model for Below<BOUND> {
     ghost Value = { ℕ };
 
-    ghost view = { λ s. s.index };
+    ghost view = { λ b. b.number };
 
-    ghost invariant = { λ s. s.index < 16 };
+    ghost invariant = { λ b. b.number < BOUND };
 
-    ghost inverse = { λ n. record { index = n } };
+    ghost inverse = { λ n. record { number = n } };
 }
 
-impl SlotIndex {
-    /// The slot that a word says: a number from 0 to 15.
-    pub fn read(word: &[u8]) -> Option<SlotIndex>
-        ensures { result ≡ slot_of word.now }
+impl<const BOUND: usize> Below<BOUND> {
+    /// The number that a word says, where it is below the bound.
+    pub fn read(word: &[u8]) -> Option<Below<BOUND>>
+        ensures { result ≡ below_of BOUND word.now }
     {
-        let index = number(word)?;
-        if index < 16 {
-            Some(SlotIndex {
-                index: index as usize,
-            })
+        let number = number(word)? as usize;
+        if number < BOUND {
+            Some(Below { number })
         } else {
             None
         }
     }
 
-    /// The place among the slots, the first one 0.
+    /// The number.
     pub fn get(self) -> usize
-        ensures value { result ≡ self }
-        ensures in_range { result < 16 }
+        ensures value { result ≡ self.entry }
+        ensures in_range { result < BOUND }
     {
-        self.index
+        self.number
+    }
+}
+
+/// The place of a slot among the sixteen, the first one 0.
+pub type SlotIndex = Below<16>;
+
+/// How many bits a word has, as a script says it.
+#[derive(Clone, Copy, Debug, PartialEq, Eq)]
+pub enum Width {
+    Bits8,
+    Bits16,
+    Bits32,
+    Bits64,
+}
+
+impl Width {
+    /// The width that a word says: `8`, `16`, `32` or `64`.
+    #[tactic(auto, unfolding(crate::specs::Words::width_of))]
+    pub fn read(word: &[u8]) -> Option<Width>
+        ensures { result ≡ width_of word.now }
+    {
+        if word == b"8".as_slice() {
+            Some(Width::Bits8)
+        } else if word == b"16".as_slice() {
+            Some(Width::Bits16)
+        } else if word == b"32".as_slice() {
+            Some(Width::Bits32)
+        } else if word == b"64".as_slice() {
+            Some(Width::Bits64)
+        } else {
+            None
+        }
     }
 }
 
@@ -125,6 +155,89 @@ impl<'a> BitText<'a> {
         ensures { items_said result.now ≡ self.now }
     {
         self.digits
+    }
+}
+
+/// Whether each byte is a hexadecimal digit, `0` to `9` or `a` to `f`.
+fn are_hex_digits(bytes: &[u8]) -> bool
+    ensures { result ≡ list_all is_hex_digit bytes.now }
+{
+    bytes.iter().all(|byte| (b'0' <= *byte && *byte <= b'9') || (b'a' <= *byte && *byte <= b'f'))
+}
+
+/// What a hexadecimal digit stands for.
+fn hex_digit_value(digit: u8) -> u8
+    requires { IsTrue (is_hex_digit digit) }
+    ensures value { result ≡ hex_value digit }
+    ensures fits { result < 16 }
+{
+    if digit <= b'9' {
+        digit - b'0'
+    } else {
+        digit - b'a' + 10
+    }
+}
+
+/// Bytes in hexadecimal: the walk over the bytes that are still to come.
+#[derive(Drop)]
+pub struct HexText<'a> {
+    digits: &'a [u8],
+}
+
+impl<'a> Model for HexText<'a> {
+    ghost use Rattle.std.specs.Prelude.{◌≡◌, true, ℕ, List};
+    ghost use Rattle.std.specs.List.{list_all};
+    ghost use Rattle.arrow2_script.specs.Words.{is_hex_digit, bytes_said};
+
+    ghost Value = { List ℕ };
+
+    ghost view = { λ t. bytes_said t.digits.now };
+
+    ghost invariant = { λ t. list_all is_hex_digit t.digits.now ≡ true };
+}
+
+impl<'a> HexText<'a> {
+    /// The bytes that a word says: `-` for none, or two digits `0` to `9` and `a` to `f` for each.
+    #[tactic(auto, unfolding(crate::specs::Words::bytes_of, crate::specs::Words::bytes_said))]
+    pub fn read(word: &'a [u8]) -> Option<HexText<'a>>
+        ensures { result ≡ bytes_of word.entry.now }
+    {
+        if word == b"-".as_slice() {
+            return Some(HexText { digits: &[] });
+        }
+        if word.is_empty() || word.len() % 2 != 0 {
+            return None;
+        }
+        if are_hex_digits(word) {
+            Some(HexText { digits: word })
+        } else {
+            None
+        }
+    }
+
+    /// How many bytes there are.
+    #[tactic(auto, using(crate::proofs::HexLemmas::hex_bytes))]
+    pub fn len(&self) -> usize
+        ensures { result ≡ length self.now }
+    {
+        self.digits.len() / 2
+    }
+}
+
+impl Iterator for HexText<'_> {
+    type Item = u8;
+
+    ghost next_gives = { YieldsFirst (λ bytes. bytes) };
+
+    ghost remaining = { item_count (λ bytes. bytes) };
+
+    #[tactic(auto, using(crate::proofs::HexLemmas::hex_bytes))]
+    fn next(&mut self) -> Option<u8> {
+        let (high, rest) = self.digits.split_first()?;
+        let (low, rest) = rest.split_first()?;
+        let byte = 16 * hex_digit_value(*high) + hex_digit_value(*low);
+        self.digits = rest;
+        Some(byte)
     }
 }
 

@@ -1,4 +1,4 @@
-use Rattle.arrow2_model.specs.Offsets.{last_of_growing}
+use Rattle.arrow2.specs.Offsets.{last_of_growing}
 use Rattle.arrow2_machine.proofs.OffsetLemmas.{past_all, all_grown, grown_within, on_ok, on_ok_both}
 use Rattle.arrow2_machine.proofs.offsets.extend.Goals as goal
 

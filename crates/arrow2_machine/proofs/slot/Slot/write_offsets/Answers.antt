@@ -1,6 +1,6 @@
 use Rattle.std.proofs.Common.{◌∙◌}
-use Rattle.arrow2_model.specs.Buffers.{buffer_items}
-use Rattle.arrow2_model.specs.Offsets.{offsets_of, offsets_list, start_of, lengths_of}
+use Rattle.arrow2.specs.Buffers.{buffer_items}
+use Rattle.arrow2.specs.Offsets.{offsets_of, offsets_list, start_of, lengths_of}
 use Rattle.arrow2_machine.proofs.OffsetLemmas.{offsets_said}
 use Rattle.arrow2_machine.proofs.slot.Slot.write_offsets.Goals as goal
 

@@ -1,0 +1,86 @@
+-- What each command that combines bitmaps does to the machine of lists.
+use Rattle.std.specs.Prelude.{ℕ, ◌==◌, ◌&&◌, Bool, List, [], ◌∷◌, length, slice_set, codes, Result, Ok, Err, if◌then◌else◌}
+use Rattle.arrow2.specs.Tables.{each}
+use Rattle.arrow2_script.specs.declared.kernel_command.KernelCommand.{KernelCommand}
+use Rattle.arrow2_script.specs.declared.kernel_command.KernelCommand.TheVariants.{Make, AssignUnary, AssignBinary}
+use Rattle.arrow2_script.specs.declared.kernel_command.Kernel.{Kernel}
+use Rattle.arrow2_script.specs.declared.kernel_command.Kernel.TheVariants as kernel
+use Rattle.arrow2_machine.specs.declared.refusal.Refusal.{Refusal}
+use Rattle.arrow2_machine.specs.declared.refusal.Refusal.TheVariants.{Length}
+use Rattle.arrow2_machine.specs.Held.{Held, Frozen, Growing, ◌>>=◌, at, growing, frozen}
+
+-- two frozen lists of one length
+abbrev pub two_lists : Held → Held → Result (List Bool × List Bool) Refusal
+two_lists a b = do
+  x ← frozen a
+  y ← frozen b
+  if length x == length y then Ok (x, y) else Err Length
+
+-- three of them
+abbrev pub three_lists : Held → Held → Held → Result (List Bool × List Bool × List Bool) Refusal
+three_lists a b c = do
+  x ← frozen a
+  y ← frozen b
+  z ← frozen c
+  if length x == length y && length x == length z then Ok (x, y, z) else Err Length
+
+-- four of them
+abbrev pub four_lists : Held → Held → Held → Held → Result (List Bool × List Bool × List Bool × List Bool) Refusal
+four_lists a b c e = do
+  x ← frozen a
+  y ← frozen b
+  z ← frozen c
+  v ← frozen e
+  if length x == length y && length x == length z && length x == length v then Ok (x, y, z, v) else Err Length
+
+-- the answers of a table for the items of one slot, and for those of two
+abbrev pub one_answered : ℕ → Held → Result (List Bool) Refusal
+one_answered t a = do
+  items ← frozen a
+  Ok (each t (items ∷ []))
+
+abbrev pub two_answered : ℕ → Held → Held → Result (List Bool) Refusal
+two_answered t a b = do
+  lists ← two_lists a b
+  Ok (each t (lists.0 ∷ lists.1 ∷ []))
+
+-- what a kernel makes of the slots: the operators are tables too, as `and` is the one whose only set bit is that of two
+-- trues
+unfoldable pub made : List Held → Kernel → Result (List Bool) Refusal
+made slots (kernel.And a b) = two_answered 8 (at slots a) (at slots b)
+made slots (kernel.Or a b) = two_answered 14 (at slots a) (at slots b)
+made slots (kernel.Xor a b) = two_answered 6 (at slots a) (at slots b)
+made slots (kernel.Not a) = one_answered 1 (at slots a)
+made slots (kernel.Unary t a) = one_answered t (at slots a)
+made slots (kernel.Binary t a b) = two_answered t (at slots a) (at slots b)
+made slots (kernel.Ternary t a b c) = do
+  lists ← three_lists (at slots a) (at slots b) (at slots c)
+  Ok (each t (lists.0 ∷ lists.1 ∷ lists.2 ∷ []))
+made slots (kernel.Quaternary t a b c e) = do
+  lists ← four_lists (at slots a) (at slots b) (at slots c) (at slots e)
+  Ok (each t (lists.0 ∷ lists.1 ∷ lists.2 ∷ lists.3 ∷ []))
+
+-- what a slot holds after its items become the answers of a table for them
+abbrev pub assigned : Held → ℕ → Result Held Refusal
+assigned held t = do
+  items ← growing held
+  Ok (Growing (each t (items ∷ [])))
+
+-- and for them and other items
+abbrev pub assigned_beside : Held → ℕ → List Bool → Result Held Refusal
+assigned_beside held t others = do
+  items ← growing held
+  if length items == length others then Ok (Growing (each t (items ∷ others ∷ []))) else Err Length
+
+-- the slots after a command that combines bitmaps, and its reply
+unfoldable pub kernel_outcome : List Held → KernelCommand → Result (List Held × List ℕ) Refusal
+kernel_outcome slots (Make d kernel) = do
+  items ← made slots kernel
+  Ok (slice_set slots d (Frozen items), codes "ok")
+kernel_outcome slots (AssignUnary s t width) = do
+  held ← assigned (at slots s) t
+  Ok (slice_set slots s held, codes "ok")
+kernel_outcome slots (AssignBinary s t width a) = do
+  others ← frozen (at slots a)
+  held ← assigned_beside (at slots s) t others
+  Ok (slice_set slots s held, codes "ok")

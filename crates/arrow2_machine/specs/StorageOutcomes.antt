@@ -1,0 +1,42 @@
+-- What each command on stored bits does to the machine of lists.
+use Rattle.std.specs.Prelude.{ℕ, ◌+◌, ◌-◌, ◌*◌, ◌^◌, ◌||◌, nat_lt, Bool, List, length, map, slice_set, codes, Result, Ok, Err, if◌then◌else◌}
+use Rattle.std.specs.Fmt.{decimal}
+use Rattle.arrow2.specs.Bits.{bits}
+use Rattle.arrow2.specs.Parts.{part}
+use Rattle.arrow2.specs.Words.{words}
+use Rattle.arrow2_script.specs.Words.{width_bits}
+use Rattle.arrow2_script.specs.declared.words.Width.{Width}
+use Rattle.arrow2_script.specs.declared.storage_command.StorageCommand.{StorageCommand}
+use Rattle.arrow2_script.specs.declared.storage_command.StorageCommand.TheVariants.{Raw, Set, Words}
+use Rattle.arrow2_machine.specs.declared.refusal.Refusal.{Refusal}
+use Rattle.arrow2_machine.specs.declared.refusal.Refusal.TheVariants.{Range}
+use Rattle.arrow2_machine.specs.Held.{Held, Frozen, Growing, ◌>>=◌, at, growing, frozen}
+use Rattle.arrow2_machine.specs.Replies.{words_text}
+
+-- what a slot holds with the n bits of some bytes from bit o on: they are inside, and o + n is below 2 ^ 64
+abbrev pub stored : List ℕ → ℕ → ℕ → Result Held Refusal
+stored bytes o n = if nat_lt (8 * length bytes) (o + n) || nat_lt (2 ^ 64 - 1) (o + n) then Err Range else Ok (Frozen (part (bits bytes) o n))
+
+-- what a slot holds after its item i becomes a bit
+abbrev pub item_set : Held → ℕ → Bool → Result Held Refusal
+item_set held i bit = do
+  items ← growing held
+  if nat_lt i (length items) then Ok (Growing (slice_set items i bit)) else Err Range
+
+-- the text of a slot's words, the last one filled with false
+abbrev pub word_text : Held → Width → Result (List ℕ) Refusal
+word_text held width = do
+  items ← frozen held
+  Ok (words_text (map decimal (words (width_bits width) items)))
+
+-- the slots after a command on stored bits, and its reply
+unfoldable pub storage_outcome : List Held → StorageCommand → Result (List Held × List ℕ) Refusal
+storage_outcome slots (Raw s bytes o n) = do
+  held ← stored bytes o n
+  Ok (slice_set slots s held, codes "ok")
+storage_outcome slots (Set s i bit) = do
+  held ← item_set (at slots s) i bit
+  Ok (slice_set slots s held, codes "ok")
+storage_outcome slots (Words s width) = do
+  said ← word_text (at slots s) width
+  Ok (slots, said)

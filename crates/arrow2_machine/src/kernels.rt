@@ -1,0 +1,258 @@
+//! The commands that combine bitmaps: what each does to its slots, and its reply.
+ghost use Rattle.std.specs.Prelude.{◌≡◌, ◌≢◌, ◌++◌, ◌↔◌, [], ◌∷◌, length, IsOk, OnOk, OnErr, IfErr, IfOk, IsOkAnd};
+ghost use Rattle.arrow2.specs.Storage.{items_of};
+ghost use Rattle.arrow2.specs.Tables.{each};
+ghost use Rattle.arrow2_machine.specs.Held.{at, frozen as frozen_in};
+ghost use Rattle.arrow2_machine.specs.KernelOutcomes.{two_lists, three_lists, four_lists, made as made_of, assigned, assigned_beside, kernel_outcome};
+ghost use Rattle.arrow2_machine.specs.Outcomes.{Gives, Fails};
+
+use crate::refusal::{CommandError, Refusal};
+use crate::slot::{Contents, Slot};
+use arrow2::bitmap::{
+    Bitmap, MutableBitmap, and, binary_assign_table, binary_table, or, quaternary_table,
+    ternary_table, unary_assign_table, unary_table, xor,
+};
+use arrow2_script::kernel_command::{Kernel, KernelCommand};
+use arrow2_script::words::{Below, SlotIndex, Width};
+
+/// Carries a command that combines bitmaps out, and appends its reply.
+#[tactic(auto, unfolding(crate::specs::KernelOutcomes::kernel_outcome))]
+pub(crate) fn run(
+    slots: &mut [Slot; 16],
+    command: KernelCommand,
+    reply: &mut Vec<u8>,
+) -> Result<(), CommandError>
+    ensures ok { OnOk result (IsOkAnd (kernel_outcome slots.old command) (λ after. (slots.new ≡ after.0) × (reply.new.items ≡ reply.old.items ++ after.1))) }
+    ensures refused { IfErr result (λ e. Fails e (kernel_outcome slots.old command)) }
+    ensures err { IfErr result (λ e. e ≢ CommandError.OutOfMemory → (slots.new ≡ slots.old) × (reply.new.items ≡ reply.old.items)) }
+{
+    match command {
+        KernelCommand::Make(to, kernel) => {
+            let bitmap = made(slots, kernel)?;
+            slots[to.get()] = Slot {
+                contents: Contents::Frozen(bitmap),
+            };
+        }
+        KernelCommand::AssignUnary(slot, table, width) => {
+            slots[slot.get()].assign(table, width)?;
+        }
+        KernelCommand::AssignBinary(slot, table, width, other) => {
+            let other = slots[other.get()].frozen()?.clone()?;
+            slots[slot.get()].assign_beside(table, width, &other)?;
+        }
+    }
+    reply.extend_from_slice(b"ok")?;
+    Ok(())
+}
+
+/// What a kernel makes of frozen bitmaps.
+///
+/// # Errors
+///
+/// `Kind`, `Length` or `OutOfMemory`.
+#[tactic(auto, unfolding(crate::specs::KernelOutcomes::made))]
+fn made(slots: &[Slot; 16], kernel: Kernel) -> Result<Bitmap, CommandError>
+    ensures { Gives (λ bitmap. items_of bitmap) result (made_of slots.now kernel) }
+{
+    let bitmap = match kernel {
+        Kernel::And(left, right) => {
+            let (left, right) = two(slots, left, right)?;
+            and(left, right)?
+        }
+        Kernel::Or(left, right) => {
+            let (left, right) = two(slots, left, right)?;
+            or(left, right)?
+        }
+        Kernel::Xor(left, right) => {
+            let (left, right) = two(slots, left, right)?;
+            xor(left, right)?
+        }
+        Kernel::Not(from) => unary_table(slots[from.get()].frozen()?, 1)?,
+        Kernel::Unary(table, from) => {
+            unary_table(slots[from.get()].frozen()?, table.get() as u8)?
+        }
+        Kernel::Binary(table, first, second) => {
+            let (first, second) = two(slots, first, second)?;
+            binary_table(first, second, table.get() as u8)?
+        }
+        Kernel::Ternary(table, first, second, third) => {
+            let (first, second, third) = three(slots, first, second, third)?;
+            ternary_table(first, second, third, table.get() as u8)?
+        }
+        Kernel::Quaternary(table, first, second, third, fourth) => {
+            let (first, second, third, fourth) = four(slots, first, second, third, fourth)?;
+            quaternary_table(first, second, third, fourth, table.get() as u16)?
+        }
+    };
+    Ok(bitmap)
+}
+
+/// Two frozen bitmaps of one length.
+///
+/// # Errors
+///
+/// `Kind`, or else `Length`.
+fn two(
+    slots: &[Slot; 16],
+    first: SlotIndex,
+    second: SlotIndex,
+) -> Result<(&Bitmap, &Bitmap), CommandError>
+    ensures gives { Gives (λ b. (items_of b.0.now, items_of b.1.now)) result (two_lists (at slots.now first) (at slots.now second)) }
+    ensures same_length { IfOk result (λ b. length (items_of b.0.now) ≡ length (items_of b.1.now)) }
+    ensures only { IfErr result (λ e. e ≢ CommandError.OutOfMemory) }
+{
+    let first = slots[first.get()].frozen()?;
+    let second = slots[second.get()].frozen()?;
+    if first.len() == second.len() {
+        Ok((first, second))
+    } else {
+        Err(CommandError::Refused(Refusal::Length))
+    }
+}
+
+/// Three frozen bitmaps of one length.
+///
+/// # Errors
+///
+/// `Kind`, or else `Length`.
+fn three(
+    slots: &[Slot; 16],
+    first: SlotIndex,
+    second: SlotIndex,
+    third: SlotIndex,
+) -> Result<(&Bitmap, &Bitmap, &Bitmap), CommandError>
+    ensures gives { Gives (λ b. (items_of b.0.now, items_of b.1.now, items_of b.2.now)) result (three_lists (at slots.now first) (at slots.now second) (at slots.now third)) }
+    ensures same_length2 { IfOk result (λ b. length (items_of b.0.now) ≡ length (items_of b.1.now)) }
+    ensures same_length3 { IfOk result (λ b. length (items_of b.0.now) ≡ length (items_of b.2.now)) }
+    ensures only { IfErr result (λ e. e ≢ CommandError.OutOfMemory) }
+{
+    let first = slots[first.get()].frozen()?;
+    let second = slots[second.get()].frozen()?;
+    let third = slots[third.get()].frozen()?;
+    if first.len() == second.len() && first.len() == third.len() {
+        Ok((first, second, third))
+    } else {
+        Err(CommandError::Refused(Refusal::Length))
+    }
+}
+
+/// Four frozen bitmaps of one length.
+///
+/// # Errors
+///
+/// `Kind`, or else `Length`.
+fn four(
+    slots: &[Slot; 16],
+    first: SlotIndex,
+    second: SlotIndex,
+    third: SlotIndex,
+    fourth: SlotIndex,
+) -> Result<(&Bitmap, &Bitmap, &Bitmap, &Bitmap), CommandError>
+    ensures gives { Gives (λ b. (items_of b.0.now, items_of b.1.now, items_of b.2.now, items_of b.3.now)) result (four_lists (at slots.now first) (at slots.now second) (at slots.now third) (at slots.now fourth)) }
+    ensures same_length2 { IfOk result (λ b. length (items_of b.0.now) ≡ length (items_of b.1.now)) }
+    ensures same_length3 { IfOk result (λ b. length (items_of b.0.now) ≡ length (items_of b.2.now)) }
+    ensures same_length4 { IfOk result (λ b. length (items_of b.0.now) ≡ length (items_of b.3.now)) }
+    ensures only { IfErr result (λ e. e ≢ CommandError.OutOfMemory) }
+{
+    let first = slots[first.get()].frozen()?;
+    let second = slots[second.get()].frozen()?;
+    let third = slots[third.get()].frozen()?;
+    let fourth = slots[fourth.get()].frozen()?;
+    if first.len() == second.len() && first.len() == third.len() && first.len() == fourth.len() {
+        Ok((first, second, third, fourth))
+    } else {
+        Err(CommandError::Refused(Refusal::Length))
+    }
+}
+
+impl Slot {
+    /// The frozen bitmap of a slot.
+    ///
+    /// # Errors
+    ///
+    /// `Kind` alone.
+    fn frozen(&self) -> Result<&Bitmap, CommandError>
+        ensures gives { Gives (λ bitmap. items_of bitmap.now) result (frozen_in self.now) }
+        ensures only { IfErr result (λ e. e ≢ CommandError.OutOfMemory) }
+    {
+        match &self.contents {
+            Contents::Frozen(bitmap) => Ok(bitmap),
+            _ => Err(CommandError::Refused(Refusal::Kind)),
+        }
+    }
+
+    /// Makes each item of a growing bitmap the answer of a table for it, by words of some width. Takes no memory.
+    ///
+    /// # Errors
+    ///
+    /// `Kind` alone, which changes nothing.
+    pub fn assign(&mut self, table: Below<4>, width: Width) -> Result<(), CommandError>
+        ensures gives { Gives (λ _. self.new) result (assigned self.old table) }
+        ensures err { OnErr result (self.new ≡ self.old) }
+        ensures only { IfErr result (λ e. e ≢ CommandError.OutOfMemory) }
+    {
+        match &mut self.contents {
+            Contents::Growing(bitmap) => {
+                assign_table(bitmap, table, width);
+                Ok(())
+            }
+            _ => Err(CommandError::Refused(Refusal::Kind)),
+        }
+    }
+
+    /// Makes each item of a growing bitmap the answer of a table for it and the item of another bitmap, by words of some
+    /// width. Takes no memory.
+    ///
+    /// # Errors
+    ///
+    /// `Kind`, or else `Length`. They change nothing.
+    pub fn assign_beside(
+        &mut self,
+        table: Below<16>,
+        width: Width,
+        other: &Bitmap,
+    ) -> Result<(), CommandError>
+        ensures gives { Gives (λ _. self.new) result (assigned_beside self.old table (items_of other.now)) }
+        ensures err { OnErr result (self.new ≡ self.old) }
+        ensures only { IfErr result (λ e. e ≢ CommandError.OutOfMemory) }
+    {
+        match &mut self.contents {
+            Contents::Growing(bitmap) => {
+                if bitmap.len() == other.len() {
+                    assign_table_beside(bitmap, table, width, other);
+                    Ok(())
+                } else {
+                    Err(CommandError::Refused(Refusal::Length))
+                }
+            }
+            _ => Err(CommandError::Refused(Refusal::Kind)),
+        }
+    }
+}
+
+/// Makes each item the answer of a table for it.
+fn assign_table(bitmap: &mut MutableBitmap, table: Below<4>, width: Width)
+    ensures { bitmap.new.items ≡ each table (bitmap.old.items ∷ []) }
+{
+    let table = table.get() as u8;
+    match width {
+        Width::Bits8 => unary_assign_table::<u8>(bitmap, table),
+        Width::Bits16 => unary_assign_table::<u16>(bitmap, table),
+        Width::Bits32 => unary_assign_table::<u32>(bitmap, table),
+        Width::Bits64 => unary_assign_table::<u64>(bitmap, table),
+    }
+}
+
+/// Makes each item the answer of a table for it and the other item at its place. Asks that both have one length.
+fn assign_table_beside(bitmap: &mut MutableBitmap, table: Below<16>, width: Width, other: &Bitmap)
+    requires same_length { length bitmap.old.items ≡ length (items_of other.now) }
+    ensures { bitmap.new.items ≡ each table (bitmap.old.items ∷ items_of other.now ∷ []) }
+{
+    let table = table.get() as u8;
+    match width {
+        Width::Bits8 => binary_assign_table::<u8>(bitmap, other, table),
+        Width::Bits16 => binary_assign_table::<u16>(bitmap, other, table),
+        Width::Bits32 => binary_assign_table::<u32>(bitmap, other, table),
+        Width::Bits64 => binary_assign_table::<u64>(bitmap, other, table),
+    }
+}

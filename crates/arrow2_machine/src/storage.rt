@@ -1,0 +1,116 @@
+//! The commands on the bits in which bitmaps stand: what each does to its slots, and its reply.
+ghost use Rattle.std.specs.Prelude.{◌≡◌, ◌≢◌, ◌++◌, OnOk, OnErr, IfErr, IfOk, IsOkAnd};
+ghost use Rattle.arrow2_machine.specs.StorageOutcomes.{stored, item_set, word_text, storage_outcome};
+ghost use Rattle.arrow2_machine.specs.Outcomes.{Gives, Fails};
+
+use crate::refusal::{CommandError, Refusal};
+use crate::replies::write_words;
+use crate::slot::{Contents, Slot};
+use arrow2::bitmap::Bitmap;
+use arrow2_script::storage_command::StorageCommand;
+use arrow2_script::words::{HexText, Width};
+use std::alloc::Global;
+
+/// Carries a command on stored bits out, and appends its reply.
+#[tactic(auto, unfolding(crate::specs::StorageOutcomes::storage_outcome))]
+pub(crate) fn run(
+    slots: &mut [Slot; 16],
+    alloc: Global,
+    command: StorageCommand<'_>,
+    reply: &mut Vec<u8>,
+) -> Result<(), CommandError>
+    ensures ok { OnOk result (IsOkAnd (storage_outcome slots.old command.entry) (λ after. (slots.new ≡ after.0) × (reply.new.items ≡ reply.old.items ++ after.1))) }
+    ensures refused { IfErr result (λ e. Fails e (storage_outcome slots.old command.entry)) }
+    ensures err { IfErr result (λ e. e ≢ CommandError.OutOfMemory → (slots.new ≡ slots.old) × (reply.new.items ≡ reply.old.items)) }
+{
+    match command {
+        StorageCommand::Raw(slot, bytes, offset, length) => {
+            slots[slot.get()] = Slot::with_stored(alloc, bytes, offset, length)?;
+        }
+        StorageCommand::Set(slot, index, bit) => slots[slot.get()].set(index, bit)?,
+        StorageCommand::Words(slot, width) => return slots[slot.get()].write_words(width, reply),
+    }
+    reply.extend_from_slice(b"ok")?;
+    Ok(())
+}
+
+impl Slot {
+    /// A slot with the frozen bitmap of the `length` bits of these bytes from bit `offset` on.
+    ///
+    /// # Errors
+    ///
+    /// `Range` or `OutOfMemory`.
+    pub fn with_stored(
+        alloc: Global,
+        bytes: HexText<'_>,
+        offset: u64,
+        length: u64,
+    ) -> Result<Slot, CommandError>
+        ensures { Gives (λ slot. slot) result (stored bytes.entry offset length) }
+    {
+        let Some(end) = offset.checked_add(length) else {
+            return Err(CommandError::Refused(Refusal::Range));
+        };
+        let mut bitmap = Bitmap::try_new(gather(alloc, bytes)?, end as usize)?;
+        bitmap.slice(offset as usize, length as usize);
+        Ok(Slot {
+            contents: Contents::Frozen(bitmap),
+        })
+    }
+
+    /// Sets item `index` of a growing bitmap.
+    ///
+    /// # Errors
+    ///
+    /// `Kind` or `Range`. They change nothing.
+    pub fn set(&mut self, index: u64, bit: bool) -> Result<(), CommandError>
+        ensures gives { Gives (λ _. self.new) result (item_set self.old index bit) }
+        ensures err { OnErr result (self.new ≡ self.old) }
+        ensures only { IfErr result (λ e. e ≢ CommandError.OutOfMemory) }
+    {
+        match &mut self.contents {
+            Contents::Growing(bitmap) => {
+                if index < bitmap.len() as u64 {
+                    bitmap.set(index as usize, bit);
+                    Ok(())
+                } else {
+                    Err(CommandError::Refused(Refusal::Range))
+                }
+            }
+            _ => Err(CommandError::Refused(Refusal::Kind)),
+        }
+    }
+
+    /// Appends the words of a frozen bitmap, the last one filled with false.
+    ///
+    /// # Errors
+    ///
+    /// `Kind`, which changes nothing, or `OutOfMemory`, after which a part of the text may be there.
+    pub fn write_words(&self, width: Width, out: &mut Vec<u8>) -> Result<(), CommandError>
+        ensures ok { OnOk result (IsOkAnd (word_text self.now width) (λ text. out.new.items ≡ out.old.items ++ text)) }
+        ensures refused { IfErr result (λ e. Fails e (word_text self.now width)) }
+        ensures err { IfErr result (λ e. e ≢ CommandError.OutOfMemory → out.new.items ≡ out.old.items) }
+    {
+        let Contents::Frozen(bitmap) = &self.contents else {
+            return Err(CommandError::Refused(Refusal::Kind));
+        };
+        match width {
+            Width::Bits8 => write_words(bitmap.chunks::<u8>(), |word| word as usize, out),
+            Width::Bits16 => write_words(bitmap.chunks::<u16>(), |word| word as usize, out),
+            Width::Bits32 => write_words(bitmap.chunks::<u32>(), |word| word as usize, out),
+            Width::Bits64 => write_words(bitmap.chunks::<u64>(), |word| word as usize, out),
+        }
+    }
+}
+
+/// The bytes that a text of hexadecimal digits says.
+fn gather(alloc: Global, bytes: HexText<'_>) -> Result<Vec<u8>, CommandError>
+    ensures ok { IfOk result (λ vec. vec.items ≡ bytes.entry) }
+    ensures only { IfErr result (λ e. e ≡ CommandError.OutOfMemory) }
+{
+    let mut gathered = Vec::with_capacity(alloc, bytes.len())?;
+    for byte in bytes {
+        gathered.push(byte)?;
+    }
+    Ok(gathered)
+}

@@ -1,0 +1,135 @@
+-- Words that say bytes in hexadecimal, and the one word that says each.
+use Rattle.std.proofs.Common.{codes, ◌≡◌, ◌∙◌, sym, ap, refl, ◌+◌, ◌*◌, ◌/◌, ◌%◌, ◌<◌, ℕ, suc, List, [], ◌∷◌, length, true, false, ◌&&◌, inl, inr, arith, eqb}
+use Rattle.std.specs.Prelude.{Some}
+use Rattle.std.specs.List.{All, list_all, flat_map}
+use Rattle.std.specs.Str.{bytes_eq}
+use Rattle.std.proofs.lemmas.List.Elements.{All-cons, All-nil}
+use Rattle.std.proofs.lemmas.Option.{cond_some, none-some, same_Some}
+use Rattle.std.proofs.lemmas.Slice.Eq.{bytes_eq-Decides}
+use Rattle.arrow2_script.specs.Words.{is_hex_digit, hex_value, hex_digit, bytes_said, hex_digits, hex_text, bytes_of}
+use Rattle.arrow2_script.proofs.NumberListLemmas.{other_than}
+use Rattle.arrow2_script.proofs.WordLemmas.{choice, both, some_bytes}
+
+-- two digits say the first byte, and those behind them the others
+pub first_byte : (digits behind rest : List ℕ) (high low h l : ℕ) → digits ≡ high ∷ behind → behind ≡ low ∷ rest → h ≡ hex_value high → l ≡ hex_value low → bytes_said digits ≡ (16 * h + l) ∷ bytes_said rest
+unfolding bytes_said
+first_byte digits behind rest high low h l e f is_high is_low = rw (e, f, is_high, is_low) refl
+
+-- fewer digits say none
+pub no_byte : (digits : List ℕ) → length digits ≡ 0 → bytes_said digits ≡ []
+unfolding bytes_said
+no_byte [] e = refl
+no_byte (high ∷ digits) e = cc
+
+pub half_byte : (digits behind : List ℕ) (high : ℕ) → digits ≡ high ∷ behind → length behind ≡ 0 → bytes_said digits ≡ []
+unfolding bytes_said
+half_byte digits [] high e f = rw e refl
+half_byte digits (low ∷ behind) high e f = cc
+
+-- as many as half the digits
+pub length-bytes_said : (digits : List ℕ) → length (bytes_said digits) ≡ length digits / 2
+unfolding bytes_said
+length-bytes_said [] = refl
+length-bytes_said (high ∷ []) = refl
+length-bytes_said (high ∷ low ∷ digits) = omega (arith, length-bytes_said digits)
+
+pub ruleset hex_bytes = (first_byte, no_byte, half_byte, length-bytes_said)
+
+-- ---- from bytes to their word
+
+value_digit : (n : ℕ) → n < 16 → hex_value (hex_digit n) ≡ n
+value_digit n h = grind (arith, h)
+
+is_digit : (n : ℕ) → n < 16 → is_hex_digit (hex_digit n) ≡ true
+is_digit n h = grind (arith, h)
+
+front : (b : ℕ) (bs : List ℕ) → All (λ m. m < 256) (b ∷ bs) → (b < 256) × All (λ m. m < 256) bs
+front b bs all = (all 0 0 (omega arith), λ k d h. all (suc k) d (omega arith))
+
+halves : (b : ℕ) → b < 256 → (b / 16 < 16) × (b % 16 < 16) × (16 * (b / 16) + b % 16 ≡ b)
+halves b h = (omega (arith, h), omega arith, omega arith)
+
+are_digits : (bs : List ℕ) → All (λ m. m < 256) bs → list_all is_hex_digit (flat_map hex_digits bs) ≡ true
+are_digits [] all = refl
+are_digits (b ∷ bs) all =
+    let p = front b bs all in
+    let h = halves b p.0 in
+    rw (is_digit (b / 16) h.0, is_digit (b % 16) h.1, are_digits bs p.1) refl
+
+are_even : (bs : List ℕ) → length (flat_map hex_digits bs) % 2 ≡ 0
+are_even [] = refl
+are_even (b ∷ bs) = omega (arith, are_even bs)
+
+said_again : (bs : List ℕ) → All (λ m. m < 256) bs → bytes_said (flat_map hex_digits bs) ≡ bs
+unfolding bytes_said
+said_again [] all = refl
+said_again (b ∷ bs) all =
+    let p = front b bs all in
+    let h = halves b p.0 in
+    rw (value_digit (b / 16) h.0, value_digit (b % 16) h.1, h.2, said_again bs p.1) refl
+
+not_dash : (b : ℕ) (bs : List ℕ) → hex_text (b ∷ bs) ≡ codes "-" → ⊥
+not_dash b bs e = let n = ap length e in omega (arith, n)
+
+pub bytes_of-text : (bs : List ℕ) → All (λ m. m < 256) bs → bytes_of (hex_text bs) ≡ Some bs
+unfolding bytes_of
+bytes_of-text [] all = refl
+bytes_of-text (b ∷ bs) all =
+    let text = other_than (hex_text (b ∷ bs)) (codes "-") (not_dash b bs) in
+    let some = some_bytes (hex_digit (b / 16)) (hex_digit (b % 16) ∷ flat_map hex_digits bs) in
+    rw (text, some, are_even (b ∷ bs), are_digits (b ∷ bs) all, said_again (b ∷ bs) all) refl
+
+-- ---- and back
+
+digit_again : (byte : ℕ) → is_hex_digit byte ≡ true → (hex_value byte < 16) × (hex_digit (hex_value byte) ≡ byte)
+digit_again byte e = (grind (arith, e), grind (arith, e))
+
+joined : (h l : ℕ) → l < 16 → ((16 * h + l) / 16 ≡ h) × ((16 * h + l) % 16 ≡ l)
+joined h l fits = (omega (arith, fits), omega (arith, fits))
+
+text_again : (word : List ℕ) → length word % 2 ≡ 0 → list_all is_hex_digit word ≡ true → flat_map hex_digits (bytes_said word) ≡ word
+unfolding bytes_said
+text_again [] even e = refl
+text_again (high ∷ []) even e = absurd (omega (arith, even))
+text_again (high ∷ low ∷ digits) even e =
+    let p = both (is_hex_digit high) (list_all is_hex_digit (low ∷ digits)) e in
+    let q = both (is_hex_digit low) (list_all is_hex_digit digits) p.1 in
+    let h = digit_again high p.0 in
+    let l = digit_again low q.0 in
+    let j = joined (hex_value high) (hex_value low) l.0 in
+    rw (j.0, j.1, h.1, l.1, text_again digits (omega (arith, even)) q.1) refl
+
+said_fit : (word : List ℕ) → list_all is_hex_digit word ≡ true → All (λ m. m < 256) (bytes_said word)
+unfolding bytes_said
+said_fit [] e = All-nil (λ m. m < 256)
+said_fit (high ∷ []) e = All-nil (λ m. m < 256)
+said_fit (high ∷ low ∷ digits) e =
+    let p = both (is_hex_digit high) (list_all is_hex_digit (low ∷ digits)) e in
+    let q = both (is_hex_digit low) (list_all is_hex_digit digits) p.1 in
+    let h = digit_again high p.0 in
+    let l = digit_again low q.0 in
+    All-cons (λ m. m < 256) (16 * hex_value high + hex_value low) (bytes_said digits) (omega (arith, h.0, l.0)) (said_fit digits q.1)
+
+-- digits that are there say bytes that are there
+whole_text : (word : List ℕ) → eqb (length word) 0 ≡ false → length word % 2 ≡ 0 → hex_text (bytes_said word) ≡ flat_map hex_digits (bytes_said word)
+unfolding bytes_said
+whole_text [] some even = cc
+whole_text (high ∷ []) some even = absurd (omega (arith, even))
+whole_text (high ∷ low ∷ digits) some even = refl
+
+pub text-bytes_of : (word : List ℕ) (bs : List ℕ) → bytes_of word ≡ Some bs → All (λ m. m < 256) bs × (hex_text bs ≡ word)
+unfolding bytes_of
+text-bytes_of word bs e = elim (choice (bytes_eq word (codes "-")) _ _ _ e) [
+  | inl p ↦
+      let is = (bytes_eq-Decides word (codes "-")).0 p.0 in
+      let none = same_Some [] bs p.1 in
+      rw (← none) (All-nil (λ m. m < 256), sym is)
+  | inr q ↦ elim (choice (eqb (length word) 0) _ _ _ q.1) [
+    | inl p ↦ absurd (none-some bs p.1)
+    | inr r ↦
+        let p = cond_some (eqb (length word % 2) 0 && list_all is_hex_digit word) (bytes_said word) bs r.1 in
+        let d = both (eqb (length word % 2) 0) (list_all is_hex_digit word) p.0 in
+        let even : length word % 2 ≡ 0 = grind (arith, d.0) in
+        rw (← p.1) (said_fit word d.1, whole_text word r.0 even ∙ text_again word even d.1)
+  ]
+]
