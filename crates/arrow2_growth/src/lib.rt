@@ -1,5 +1,6 @@
-//! Bits that are appended to bytes by words of 64, at any bit place: what knows bytes and words alone.
+//! Booleans that become bytes, by words of 64: appended at any bit place, and packed. What knows bytes and words alone.
 #![tactic(auto)]
 
 pub mod extended;
+pub mod packed;
 pub mod words;

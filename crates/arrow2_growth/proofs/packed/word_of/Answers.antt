@@ -5,8 +5,8 @@ use Rattle.std.proofs.lemmas.Simd.{bitmask_splat}
 use Rattle.std.proofs.lemmas.List.{length-map}
 use Rattle.std.specs.Int.{from_bool}
 use Rattle.arrow2_model.specs.Bits.{num}
-use Rattle.arrow2_kernels.proofs.Packing.{flags}
-use Rattle.arrow2_kernels.proofs.packed.word_of.Goals as goal
+use Rattle.arrow2_growth.proofs.Packing.{flags}
+use Rattle.arrow2_growth.proofs.packed.word_of.Goals as goal
 
 pub returns : goal.returns
 returns c =

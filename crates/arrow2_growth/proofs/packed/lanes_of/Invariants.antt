@@ -1,6 +1,6 @@
 use Rattle.std.proofs.Common.{◌≡◌, ℕ, ◌<◌, false, length, get_or}
 use Rattle.std.specs.Int.{from_bool}
-use Rattle.arrow2_kernels.proofs.packed.lanes_of.Given as goal
+use Rattle.arrow2_growth.proofs.packed.lanes_of.Given as goal
 
 abbrev pub invariant-loop-i : goal.invariant-loop-i
 invariant-loop-i l = record {

@@ -1,7 +1,7 @@
 use Rattle.std.proofs.Common.{◌∙◌, ◌+◌, ap, sym, length, set, arith}
 use Rattle.std.proofs.lemmas.List.{length-set}
-use Rattle.arrow2_kernels.proofs.Packing.{length-packing, block_full}
-use Rattle.arrow2_kernels.proofs.packed.Packing.push.Goals as goal
+use Rattle.arrow2_growth.proofs.Packing.{length-packing, block_full}
+use Rattle.arrow2_growth.proofs.packed.Packing.push.Goals as goal
 
 pub returns-then-self-lt63-clause-fits : goal.returns-then-self-lt63-clause-fits
 returns-then-self-lt63-clause-fits c = omega (arith, length-packing c.self.inside.bytes.items (set c.self.inside.block c.self.inside.place c.args.item) (c.self.inside.place + 1) (omega (arith, c.self.told, length-set c.self.inside.block c.self.inside.place c.args.item, c.self.invariant.0)), c.if-self-lt63.true, c.self.invariant.2, c.self.invariant.3)

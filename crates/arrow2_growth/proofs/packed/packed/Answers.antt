@@ -1,8 +1,8 @@
 use Rattle.std.proofs.Common.{◌≡◌, ◌∙◌, ◌*◌, ◌≤◌, ◌++◌, List, Bool, ap, drop, take, length, get_or, [], ◌/◌, refl, sym, subst, arith}
 use Rattle.arrow2_model.specs.Bits.{bits}
 use Rattle.arrow2_model.proofs.Bits.{bits-nil}
-use Rattle.arrow2_kernels.proofs.Packing.{block_at, packed_on, packed_all}
-use Rattle.arrow2_kernels.proofs.packed.packed.Goals as goal
+use Rattle.arrow2_growth.proofs.Packing.{block_at, packed_on, packed_all}
+use Rattle.arrow2_growth.proofs.packed.packed.Goals as goal
 
 pub loop-block-init : goal.loop-block-init
 loop-block-init c = rw (c.in_ok-bytes.ensures.items, bits-nil) refl
