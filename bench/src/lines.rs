@@ -187,6 +187,37 @@ fn growing(inputs: &Inputs) -> Vec<Line<'_>> {
         line!("push of random items", some, push(items), runs(1)),
         line!("push of trues", some, push(trues), runs(1)),
         line!("pop", some, pop(bytes), runs(1)),
+        line!(
+            "extend_from_slice",
+            (16 * LONG, "bits"),
+            extend_from_slice(bytes, &[0]),
+            again(0, LONG, 16)
+        ),
+        line!(
+            "extend_from_slice, from bit 3",
+            (LONG, "bits"),
+            extend_from_slice(bytes, &[0]),
+            again(3, LONG, 1)
+        ),
+        line!(
+            "extend_from_slice, within a byte",
+            (LONG, "bits"),
+            extend_from_slice(bytes, &[5]),
+            again(0, LONG, 1)
+        ),
+        line!(
+            "extend_from_slice, within a byte from bit 3",
+            (LONG, "bits"),
+            extend_from_slice(bytes, &[5]),
+            again(3, LONG, 1)
+        ),
+        line!(
+            "extend_from_slice of 200 bits",
+            (10_000, "parts"),
+            extend_from_slice(bytes, &[5]),
+            near_parts(200, 10_000)
+        ),
+        line!("extend_constant", (16 * LONG, "bits"), extend_constant(&[5]), vec![LONG; 16]),
         line!("set of random items", some, set(bytes, items), runs(1)),
         line!("set of trues", some, set(bytes, trues), runs(1)),
         line!("from_bools", (4 * MANY, "items"), from_bools(items), runs(4)),

@@ -288,6 +288,41 @@ fn popped(mut bitmap: MutableBitmap) -> usize {
     ones
 }
 
+pub fn extend_from_slice(bytes: &[u8], own: &[usize], parts: &[Part]) -> usize {
+    let mut sum = 0usize;
+    for part in parts {
+        if part.is_within(bytes.len().saturating_mul(8)) {
+            let mut bitmap = begun(own[0]);
+            bitmap.extend_from_slice(bytes, part.offset, part.length);
+            sum = sum.wrapping_add(last_item(bitmap));
+        }
+    }
+    sum
+}
+
+pub fn extend_constant(own: &[usize], lengths: &[usize]) -> usize {
+    let mut sum = 0usize;
+    for length in lengths {
+        let mut bitmap = begun(own[0]);
+        bitmap.extend_constant(*length, true);
+        sum = sum.wrapping_add(last_item(bitmap));
+    }
+    sum
+}
+
+/// A growing bitmap of so many bits, with no byte behind them: arrow2 would append behind such a byte.
+fn begun(length: usize) -> MutableBitmap {
+    MutableBitmap::from_vec(vec![85; length.div_ceil(8)], length)
+}
+
+/// The last item as a number, or 0 where there is none.
+fn last_item(bitmap: MutableBitmap) -> usize {
+    match bitmap.len().checked_sub(1) {
+        Some(last) => usize::from(bitmap.get(last)),
+        None => 0,
+    }
+}
+
 /// The answers on slices of one buffer, added up.
 fn answers_on_slices(
     items: &[u64],

@@ -39,6 +39,8 @@ exports! {
     fn try_from_comparisons = bench_try_from_comparisons(numbers: u64, lengths: usize);
     fn set = bench_set(bytes: u8, items: bool, lengths: usize);
     fn pop = bench_pop(bytes: u8, lengths: usize);
+    fn extend_from_slice = bench_extend_from_slice(bytes: u8, own: usize, parts: Part);
+    fn extend_constant = bench_extend_constant(own: usize, lengths: usize);
 
     fn buffer_sliced = bench_buffer_sliced(items: u64, parts: Part);
     fn buffer_into_iter = bench_buffer_into_iter(items: u64, parts: Part);

@@ -1,6 +1,7 @@
 //! Bitmaps that grow, and bitmaps that are collected.
+ghost use Rattle.std.specs.Prelude.{◌+◌, ◌*◌, ◌≤◌, length};
 
-use crate::part::answers_on_firsts;
+use crate::part::{Part, answers_on_firsts};
 use arrow2_bitmap::immutable::Bitmap;
 use arrow2_bitmap::mutable::MutableBitmap;
 use arrow2_types::error::Result;
@@ -114,4 +115,64 @@ fn popped(bitmap: MutableBitmap) -> usize {
         }
     }
     ones
+}
+
+/// Parts of bits, each appended to as many items as one number says, at most 8.
+#[unsafe(no_mangle)]
+pub extern "C" fn bench_extend_from_slice(
+    alloc: Global,
+    bytes: &[u8],
+    own: &[usize],
+    parts: &[Part],
+) -> usize {
+    let Some(own) = own.first() else {
+        return 0;
+    };
+    let mut sum = 0usize;
+    for part in parts {
+        if part.is_within(bytes.len().saturating_mul(8)) {
+            sum = sum.wrapping_add(last_item(extended(alloc, bytes, *own, part)));
+        }
+    }
+    sum
+}
+
+/// The bits of a part behind the first items.
+fn extended(alloc: Global, bytes: &[u8], own: usize, part: &Part) -> Result<MutableBitmap>
+    requires inside { part.now.offset + part.now.length ≤ 8 * length bytes.now }
+{
+    let mut bitmap = growing(alloc, &[85], own)?;
+    bitmap.extend_from_slice(bytes, part.offset, part.length)?;
+    Ok(bitmap)
+}
+
+/// Trues, as many as each run says, appended to as many items as one number says, at most 8.
+#[unsafe(no_mangle)]
+pub extern "C" fn bench_extend_constant(alloc: Global, own: &[usize], lengths: &[usize]) -> usize {
+    let Some(own) = own.first() else {
+        return 0;
+    };
+    let mut sum = 0usize;
+    for length in lengths {
+        sum = sum.wrapping_add(last_item(filled(alloc, *own, *length)));
+    }
+    sum
+}
+
+/// Trues behind the first items.
+fn filled(alloc: Global, own: usize, length: usize) -> Result<MutableBitmap> {
+    let mut bitmap = growing(alloc, &[85], own)?;
+    bitmap.extend_constant(length, true)?;
+    Ok(bitmap)
+}
+
+/// The last item as a number, or 0 where there is none, or where memory ran out.
+fn last_item(bitmap: Result<MutableBitmap>) -> usize {
+    let Ok(bitmap) = bitmap else {
+        return 0;
+    };
+    match bitmap.len().checked_sub(1) {
+        Some(last) => usize::from(bitmap.get(last)),
+        None => 0,
+    }
 }

@@ -1,5 +1,5 @@
 //! The items of a word behind those that bytes hold.
-ghost use Rattle.std.specs.Prelude.{◌≡◌, ◌+◌, ◌*◌, ◌/◌, ◌<◌, ◌≤◌, ◌++◌, ℕ, false, take, OnOk, OnErr, IsOk, vec_capacity};
+ghost use Rattle.std.specs.Prelude.{◌≡◌, ◌+◌, ◌*◌, ◌/◌, ◌<◌, ◌≤◌, ◌++◌, ℕ, false, take, OnOk, OnErr, IsOk, vec_capacity, vec_len};
 ghost use Rattle.arrow2_model.specs.Bits.{bit, bits, unnum};
 ghost use Rattle.arrow2_model.specs.Canonical.{IsCanonical};
 
@@ -31,13 +31,28 @@ pub fn push_word(
     let word = BitChunk::masked(word, count);
     let place = length % 8;
     if place == 0 {
-        bytes.extend_from_slice(&BitChunk::to_ne_bytes(word)[..bytes_for(count)])?;
+        push_first(bytes, &BitChunk::to_ne_bytes(word), bytes_for(count))?;
     } else {
         let behind = BitChunk::to_ne_bytes(BitChunk::down(word, 8 - place));
-        bytes.extend_from_slice(&behind[..bytes_for(place + count) - 1])?;
+        push_first(bytes, &behind, bytes_for(place + count) - 1)?;
         bytes[length / 8] = merged(bytes[length / 8], word, place);
     }
     Ok(())
+}
+
+/// Appends the first `count` of eight bytes. All of them, as most often, are one store. Asks that `count` is at most 8.
+fn push_first(bytes: &mut Vec<u8>, eight: &[u8; 8], count: usize) -> Result<(), AllocError>
+    requires { count ≤ 8 }
+    ensures ok { OnOk result (bytes.new.items ≡ bytes.old.items ++ take count eight.now) }
+    ensures err { OnErr result (bytes.new.items ≡ bytes.old.items) }
+    ensures room { vec_len bytes.old + count ≤ vec_capacity bytes.old → IsOk result }
+    ensures capacity { vec_capacity bytes.old ≤ vec_capacity bytes.new }
+{
+    if count == 8 {
+        bytes.extend_from_slice(eight)
+    } else {
+        bytes.extend_from_slice(&eight[..count])
+    }
 }
 
 /// The byte with the first items of `word` from bit `place` on. Asks that none of its bits is set there.
