@@ -15,6 +15,7 @@ pub use Rattle.arrow2_model.specs.Runs
 pub use Rattle.arrow2_model.specs.Shown
 pub use Rattle.arrow2_model.specs.Storage
 pub use Rattle.arrow2_model.specs.Tables
+pub use Rattle.arrow2_model.specs.Touched
 pub use Rattle.arrow2_model.specs.Words
 pub use Rattle.arrow2_model.specs.Zipped
 pub use Rattle.arrow2_types.specs.ErrorTexts
@@ -23,6 +24,7 @@ pub use Rattle.arrow2_offset.specs.Made
 pub use Rattle.arrow2_datatypes.specs.Extensions
 pub use Rattle.arrow2_datatypes.specs.Kept
 pub use Rattle.arrow2_datatypes.specs.Types
+pub use Rattle.arrow2_walks.specs.Cuts
 pub use Rattle.arrow2_walks.specs.Places
 pub use Rattle.arrow2_walks.specs.Slots
 pub use Rattle.arrow2_walks.specs.Zips

@@ -1,4 +1,5 @@
-//! Lists of booleans kept as bits: shared ones, and ones that grow; functions of their words, in new memory and in place.
+//! Lists of booleans kept as bits: shared ones, and ones that grow; functions of their words, in new memory and in place; and bitmaps in
+//! pieces.
 
 pub mod utils;
 
@@ -9,3 +10,4 @@ pub use arrow2_tables::assign_ops::{binary_assign_table, unary_assign_table};
 pub use arrow2_tables::bitmap_ops::{
     binary_table, quaternary, quaternary_table, ternary, ternary_table, unary_table,
 };
+pub use arrow2_walks::pieces::Pieces;

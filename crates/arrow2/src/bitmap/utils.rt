@@ -1,11 +1,14 @@
-//! Bits of bytes: reading, writing, counting, printing and walking them, also by words; walks over runs, and over values
-//! beside their validity.
+//! Bits of bytes: reading, writing, counting, printing and walking them, also by words, and counts of the bytes read;
+//! walks over runs, and over values beside their validity.
 
 pub use arrow2_bits::chunk_iterator::{BitChunkIterExact, BitChunks};
 pub use arrow2_bits::chunks_exact::BitChunksExact;
 pub use arrow2_bits::chunks_exact_mut::BitChunksExactMut;
 pub use arrow2_bits::fmt::fmt;
 pub use arrow2_bits::iterator::BitmapIter;
-pub use arrow2_bits::{bytes_for, count_zeros, get_bit, get_bit_from, is_set, set, set_bit};
+pub use arrow2_bits::{
+    Reads, Stored, bytes_for, count_zeros, count_zeros_counted, get_bit, get_bit_from, is_set,
+    recount, set, set_bit,
+};
 pub use arrow2_chunk::BitChunk;
 pub use arrow2_walks::{SlicesIterator, ZipValidity, ZipValidityIter};
