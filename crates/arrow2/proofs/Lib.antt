@@ -1,2 +1,3 @@
 pub mod Rulesets
 pub mod Words
+pub mod Zips

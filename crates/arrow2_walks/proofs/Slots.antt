@@ -1,7 +1,9 @@
 -- A validity zip walks over its slots where its parts walk over lists of one length.
 use Rattle.std.proofs.Common.{◌≡◌, ◌⊎◌, inl, inr, suc, List, [], ◌∷◌, ◌++◌, Bool, true, false, map, length, refl, sym, ap, ◌∙◌, subst, arith, add-one}
 use Rattle.std.specs.Prelude.{Option, Some, None, MatchOption, option_map}
-use Rattle.std.specs.Iterator.{YieldsFirst, YieldsLast, YieldsFirstBy, YieldsLastBy}
+use Rattle.std.proofs.iter.runs.Made.{took}
+use Rattle.std.specs.Iterator.Runs.{Run}
+use Rattle.std.specs.Iterator.{Yields, YieldsFirst, YieldsLast, YieldsFirstBy, YieldsLastBy}
 use Rattle.std.proofs.lemmas.List.{length-append}
 use Rattle.arrow2_model.specs.Zipped.{slot, zipped}
 use Rattle.arrow2_walks.specs.declared.zip_validity.ZipValidityIter.{ZipValidityIter}
@@ -93,5 +95,26 @@ module _ {S T A B : Type 0} (view : A → B) (rest : S → List B) (valid : T �
   last_of_either_by (Required a) (Optional b) r e h = absurd h
   last_of_either_by (Optional a) (Required b) r e h = absurd h
   last_of_either_by (Optional a) (Optional b) r e h = last_slot_by a b r e h
+
+  -- what the steps of a zip gave in all are its slots
+  pub drained_slots : (s t u : ZipValidityIter S T) (xs : List (Option A)) → HasEqualLengths rest valid s → Yields (zip_validity_steps (YieldsFirstBy view rest) (YieldsFirst valid)) s xs t
+      → zip_validity_steps (YieldsFirstBy view rest) (YieldsFirst valid) t None u → map (option_map view) xs ≡ slots_of_both rest valid s
+  drained_slots s t u [] e y n = sym (ap (slots_of_both rest valid) y ∙ (first_slot_by t u None (subst (HasEqualLengths rest valid) y e) n).0.0)
+  drained_slots s t u (x ∷ xs) e y n =
+      let f = first_slot_by s y.0 (Some x) e y.1 in
+      ap (λ l. option_map view x ∷ l) (drained_slots y.0 t u xs f.1 y.2 n) ∙ sym f.0
+
+module _ {S T A : Type 0} (rest : S → List A) (valid : T → List Bool) where
+  plain : (xs : List (Option A)) → map (option_map (λ x. x)) xs ≡ xs
+  plain [] = refl
+  plain (None ∷ xs) = ap (λ l. None ∷ l) (plain xs)
+  plain (Some x ∷ xs) = ap (λ l. Some x ∷ l) (plain xs)
+
+  -- the same of a run, as `collect` tells it
+  pub collected_slots : (p : Run (zip_validity_steps (YieldsFirst rest) (YieldsFirst valid))) (s : ZipValidityIter S T) → p.from ≡ s → p.whole ≡ true → HasEqualLengths rest valid s → p.items ≡ slots_of_both rest valid s
+  collected_slots p s is whole e =
+      let t = took p in
+      let end = t.2 whole in
+      sym (plain p.items) ∙ (drained_slots (λ x. x) rest valid p.from t.0 end.0 p.items (subst (HasEqualLengths rest valid) (sym is) e) t.1 end.1 ∙ ap (slots_of_both rest valid) is)
 
 pub ruleset slots = (first_slot_by, last_slot_by, first_of_either_by, last_of_either_by)
