@@ -82,6 +82,7 @@ pub fn all(inputs: &Inputs) -> impl Iterator<Item = (&'static str, Line<'_>)> {
         ("arrow2_bitmap", bitmaps(inputs)),
         ("arrow2_bitmap", walks(inputs)),
         ("arrow2_bitmap", growing(inputs)),
+        ("arrow2_kernels", kernels(inputs)),
         ("arrow2_buffer", buffers(inputs)),
         ("arrow2_offset", offsets(inputs)),
     ];
@@ -227,6 +228,28 @@ fn growing(inputs: &Inputs) -> Vec<Line<'_>> {
             (8 * NUMBERS, "items"),
             try_from_comparisons(numbers),
             vec![NUMBERS; 8]
+        ),
+    ]
+}
+
+fn kernels(inputs: &Inputs) -> Vec<Line<'_>> {
+    let Inputs { bytes, bytes_from_3, bytes_from_5, .. } = inputs;
+    let own = &bytes_from_5[..LONG / 8];
+    let all = (16 * LONG, "bits");
+    let runs = || vec![0; 16];
+    vec![
+        line!("and", all, and(bytes, &FROM_0, bytes_from_5, &FROM_0), runs()),
+        line!("and, from bits 3 and 5", all, and(bytes_from_3, &FROM_3, bytes, &FROM_5), runs()),
+        line!("unary", all, unary(bytes, &FROM_0), runs()),
+        line!("unary, from bit 3", all, unary(bytes, &FROM_3), runs()),
+        line!("binary_assign", all, xor_assign(own, bytes, &FROM_0), runs()),
+        line!("binary_assign, from bit 3", all, xor_assign(own, bytes, &FROM_3), runs()),
+        line!("binary_assign of u8", all, xor_assign_by_bytes(own, bytes, &FROM_0), runs()),
+        line!(
+            "binary_assign of u8, from bit 3",
+            all,
+            xor_assign_by_bytes(own, bytes, &FROM_3),
+            runs()
         ),
     ]
 }

@@ -1,7 +1,7 @@
 //! The original's side: what the exports of crate `arrow2_bench` do, over the calls of arrow2.
 use crate::inputs::Part;
 use arrow2::bitmap::utils::{self, BitChunks};
-use arrow2::bitmap::{Bitmap, MutableBitmap};
+use arrow2::bitmap::{self, Bitmap, MutableBitmap};
 use arrow2::buffer::Buffer;
 use arrow2::offset::Offsets;
 use arrow2::types::{BitChunkOnes, Index};
@@ -147,6 +147,60 @@ pub fn equal(
         }
     }
     same
+}
+
+pub fn and(
+    left: &[u8],
+    left_parts: &[Part],
+    right: &[u8],
+    right_parts: &[Part],
+    runs: &[usize],
+) -> usize {
+    let (left, right) = (bitmaps(left, left_parts), bitmaps(right, right_parts));
+    let mut zeros = 0usize;
+    for run in runs {
+        if let (Some(left), Some(right)) = (left.get(*run), right.get(*run)) {
+            if left.len() == right.len() {
+                zeros = zeros.wrapping_add(bitmap::and(left, right).unset_bits());
+            }
+        }
+    }
+    zeros
+}
+
+pub fn unary(bytes: &[u8], parts: &[Part], runs: &[usize]) -> usize {
+    answers(bytes, parts, runs, |bitmap| {
+        bitmap::unary(bitmap, |word| word.rotate_left(1)).unset_bits()
+    })
+}
+
+pub fn xor_assign(own: &[u8], bytes: &[u8], parts: &[Part], runs: &[usize]) -> usize {
+    assigned(own, bytes, parts, runs, |own, other| bitmap::binary_assign(own, other, |x: u64, y| x ^ y))
+}
+
+pub fn xor_assign_by_bytes(own: &[u8], bytes: &[u8], parts: &[Part], runs: &[usize]) -> usize {
+    assigned(own, bytes, parts, runs, |own, other| bitmap::binary_assign(own, other, |x: u8, y| x ^ y))
+}
+
+/// How many items of a growing bitmap are not set once the bitmaps that the runs choose have changed it in
+/// turn.
+fn assigned(
+    own: &[u8],
+    bytes: &[u8],
+    parts: &[Part],
+    runs: &[usize],
+    change: impl Fn(&mut MutableBitmap, &Bitmap),
+) -> usize {
+    let others = bitmaps(bytes, parts);
+    let mut bitmap = MutableBitmap::from_vec(own.to_vec(), own.len() * 8);
+    for run in runs {
+        if let Some(other) = others.get(*run) {
+            if bitmap.len() == other.len() {
+                change(&mut bitmap, other);
+            }
+        }
+    }
+    bitmap.unset_bits()
 }
 
 pub fn make_mut(bytes: &[u8], parts: &[Part], runs: &[usize]) -> usize {

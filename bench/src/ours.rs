@@ -42,6 +42,11 @@ exports! {
     fn extend_from_slice = bench_extend_from_slice(bytes: u8, own: usize, parts: Part);
     fn extend_constant = bench_extend_constant(own: usize, lengths: usize);
 
+    fn and = bench_and(left: u8, left_parts: Part, right: u8, right_parts: Part, runs: usize);
+    fn unary = bench_unary(bytes: u8, parts: Part, runs: usize);
+    fn xor_assign = bench_xor_assign(own: u8, bytes: u8, parts: Part, runs: usize);
+    fn xor_assign_by_bytes = bench_xor_assign_by_bytes(own: u8, bytes: u8, parts: Part, runs: usize);
+
     fn buffer_sliced = bench_buffer_sliced(items: u64, parts: Part);
     fn buffer_into_iter = bench_buffer_into_iter(items: u64, parts: Part);
     fn buffer_as_slice = bench_buffer_as_slice(items: u64, parts: Part);

@@ -59,7 +59,7 @@ pub extern "C" fn bench_sliced(alloc: Global, bytes: &[u8], parts: &[Part]) -> u
 }
 
 /// A bitmap for each part of the bytes, all over the same storage.
-fn bitmaps(alloc: Global, bytes: &[u8], parts: &[Part]) -> Result<Vec<Bitmap>> {
+pub fn bitmaps(alloc: Global, bytes: &[u8], parts: &[Part]) -> Result<Vec<Bitmap>> {
     let whole = whole(alloc, bytes)?;
     let mut bitmaps = Vec::new(alloc);
     for part in parts {
@@ -71,7 +71,7 @@ fn bitmaps(alloc: Global, bytes: &[u8], parts: &[Part]) -> Result<Vec<Bitmap>> {
 }
 
 /// The answers of the bitmaps that the runs choose, added up.
-fn answers<F: Fn(&Bitmap) -> usize>(
+pub fn answers<F: Fn(&Bitmap) -> usize>(
     alloc: Global,
     bytes: &[u8],
     parts: &[Part],

@@ -64,7 +64,7 @@ fn zeros(bitmap: Result<Bitmap>) -> usize {
 }
 
 /// A growing bitmap of the first bits of the bytes.
-fn growing(alloc: Global, bytes: &[u8], length: usize) -> Result<MutableBitmap> {
+pub fn growing(alloc: Global, bytes: &[u8], length: usize) -> Result<MutableBitmap> {
     MutableBitmap::try_new(Vec::from_slice(alloc, bytes)?, length)
 }
 

@@ -13,6 +13,7 @@ mod bitmaps;
 mod bits;
 mod buffers;
 mod growing;
+mod kernels;
 mod numbers;
 mod offsets;
 mod part;

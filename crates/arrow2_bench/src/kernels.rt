@@ -1,0 +1,123 @@
+//! Functions of words over bitmaps, in new memory and in place.
+
+use crate::bitmaps::{answers, bitmaps};
+use crate::growing::growing;
+use crate::part::Part;
+use arrow2_bitmap::assign_ops::binary_assign;
+use arrow2_bitmap::bitmap_ops::{and, unary};
+use arrow2_bitmap::immutable::Bitmap;
+use arrow2_bitmap::mutable::MutableBitmap;
+use arrow2_chunk::bit_chunk::BitChunk;
+use std::alloc::Global;
+
+/// New bitmaps of what is set in both bitmaps at the same place, each with its count.
+#[unsafe(no_mangle)]
+pub extern "C" fn bench_and(
+    alloc: Global,
+    left: &[u8],
+    left_parts: &[Part],
+    right: &[u8],
+    right_parts: &[Part],
+    runs: &[usize],
+) -> usize {
+    let Ok(left) = bitmaps(alloc, left, left_parts) else {
+        return 0;
+    };
+    let Ok(right) = bitmaps(alloc, right, right_parts) else {
+        return 0;
+    };
+    let mut zeros = 0usize;
+    for run in runs {
+        if let (Some(left), Some(right)) = (left.get(*run), right.get(*run)) {
+            zeros = zeros.wrapping_add(zeros_of_and(left, right));
+        }
+    }
+    zeros
+}
+
+/// How many items are not set in both. 0 where the bitmaps differ in length.
+fn zeros_of_and(left: &Bitmap, right: &Bitmap) -> usize {
+    if left.len() != right.len() {
+        return 0;
+    }
+    match and(left, right) {
+        Ok(both) => both.unset_bits(),
+        Err(_) => 0,
+    }
+}
+
+/// New bitmaps of a function of words that is not one of bits, each with its count.
+#[unsafe(no_mangle)]
+pub extern "C" fn bench_unary(
+    alloc: Global,
+    bytes: &[u8],
+    parts: &[Part],
+    runs: &[usize],
+) -> usize {
+    answers(alloc, bytes, parts, runs, zeros_of_rotated)
+}
+
+/// How many items are not set once each word is rotated.
+fn zeros_of_rotated(bitmap: &Bitmap) -> usize {
+    match unary(bitmap, |word| word.rotate_left(1)) {
+        Ok(rotated) => rotated.unset_bits(),
+        Err(_) => 0,
+    }
+}
+
+/// A growing bitmap that is changed in place by each of the bitmaps, in words of 64 bits.
+#[unsafe(no_mangle)]
+pub extern "C" fn bench_xor_assign(
+    alloc: Global,
+    own: &[u8],
+    bytes: &[u8],
+    parts: &[Part],
+    runs: &[usize],
+) -> usize {
+    assigned(alloc, own, bytes, parts, runs, xor_in_place::<u64>)
+}
+
+/// The same in words of 8 bits.
+#[unsafe(no_mangle)]
+pub extern "C" fn bench_xor_assign_by_bytes(
+    alloc: Global,
+    own: &[u8],
+    bytes: &[u8],
+    parts: &[Part],
+    runs: &[usize],
+) -> usize {
+    assigned(alloc, own, bytes, parts, runs, xor_in_place::<u8>)
+}
+
+/// Turns the items that are set in the other bitmap. Leaves the first where they differ in length.
+fn xor_in_place<T: BitChunk>(own: &mut MutableBitmap, other: &Bitmap) {
+    if own.len() == other.len() {
+        binary_assign::<T, _>(own, other, |x, y| x.bit_xor(y));
+    }
+}
+
+/// How many items of a growing bitmap are not set once the bitmaps that the runs choose have changed it in turn.
+fn assigned<F: Fn(&mut MutableBitmap, &Bitmap)>(
+    alloc: Global,
+    own: &[u8],
+    bytes: &[u8],
+    parts: &[Part],
+    runs: &[usize],
+    change: F,
+) -> usize
+    requires { F.IsAlwaysCallable change }
+{
+    let Ok(others) = bitmaps(alloc, bytes, parts) else {
+        return 0;
+    };
+    let Ok(made) = growing(alloc, own, own.len().saturating_mul(8)) else {
+        return 0;
+    };
+    let mut bitmap = made;
+    for run in runs {
+        if let Some(other) = others.get(*run) {
+            change(&mut bitmap, other);
+        }
+    }
+    bitmap.unset_bits()
+}
