@@ -1,16 +1,14 @@
 -- Words say one command on bitmaps at most, and each is spelled in one way.
-use Rattle.std.proofs.Common.{◌≡◌, ◌∙◌, sym, ap, refl, ◌<◌, ℕ, List, [], ◌∷◌, length, true, arith, codes}
+use Rattle.std.proofs.Common.{◌≡◌, refl, ◌<◌, ℕ, List, [], ◌∷◌, length, true, arith, codes}
 use Rattle.std.specs.Prelude.{Option, Some, None}
-use Rattle.std.specs.Fmt.{decimal}
 use Rattle.std.specs.List.{list_all}
 use Rattle.std.proofs.lemmas.Option.{none-some}
-use Rattle.arrow2_script.specs.Words.{number_of, bit_of, bits_of}
 use Rattle.arrow2_script.specs.BitmapCommands.{new_of, push_of, pop_of, get_of, freeze_of, thaw_of, slice_of, count_of, bits_of_slot, bitmap_named, bitmap_words, BitmapFits}
 use Rattle.arrow2_script.specs.declared.bitmap_command.BitmapCommand.{BitmapCommand}
 use Rattle.arrow2_script.specs.declared.bitmap_command.BitmapCommand.TheVariants.{New, Push, Pop, Get, Freeze, Thaw, Slice, Count, Bits}
-use Rattle.arrow2_script.proofs.KindLemmas.{slot_alone, slot_then, slot_then_two, same_says, at_name}
+use Rattle.arrow2_script.proofs.KindLemmas.{slots, numbers, bits, bit_texts, one_then, two_then, three_then, at_name}
 use Rattle.arrow2_script.proofs.SpellingLemmas.{is_word, number_word, slot_word, bits_word, bit_word}
-use Rattle.arrow2_script.proofs.WordLemmas.{number_of-decimal, decimal-number_of, slot_of-decimal, bit_of-byte, byte-bit_of, bits_of-text, text-bits_of}
+use Rattle.arrow2_script.proofs.WordLemmas.{number_of-decimal, slot_of-decimal, bit_of-byte, bits_of-text}
 
 -- the words of a command on bitmaps, behind this name
 abbrev Says : List ℕ → List (List ℕ) → BitmapCommand → Type 0
@@ -18,60 +16,39 @@ Says name words command = BitmapFits command × (name ∷ words ≡ bitmap_words
 
 new_says : (words : List (List ℕ)) (command : BitmapCommand) → new_of words ≡ Some command → Says (codes "new") words command
 unfolding new_of
-new_says words command e =
-    let p = slot_then bits_of New words command e in
-    let text = text-bits_of p.2 p.1 p.4 in
-    same_says (λ c. Says (codes "new") words c) (New p.0 p.1) command p.6 (p.3, ap (λ t. codes "new" ∷ t) (p.5 ∙ ap (λ v. decimal p.0 ∷ v ∷ []) (sym text)))
+new_says = two_then slots bit_texts New (Says (codes "new")) (λ slot bits s b. (s, refl))
 
 push_says : (words : List (List ℕ)) (command : BitmapCommand) → push_of words ≡ Some command → Says (codes "push") words command
 unfolding push_of
-push_says words command e =
-    let p = slot_then bit_of Push words command e in
-    let text = byte-bit_of p.2 p.1 p.4 in
-    same_says (λ c. Says (codes "push") words c) (Push p.0 p.1) command p.6 (p.3, ap (λ t. codes "push" ∷ t) (p.5 ∙ ap (λ v. decimal p.0 ∷ v ∷ []) (sym text)))
+push_says = two_then slots bits Push (Says (codes "push")) (λ slot bit s b. (s, refl))
 
 freeze_says : (words : List (List ℕ)) (command : BitmapCommand) → freeze_of words ≡ Some command → Says (codes "freeze") words command
 unfolding freeze_of
-freeze_says words command e =
-    let p = slot_alone Freeze words command e in
-    same_says (λ c. Says (codes "freeze") words c) (Freeze p.0) command p.3 (p.1, ap (λ t. codes "freeze" ∷ t) p.2)
+freeze_says = one_then slots Freeze (Says (codes "freeze")) (λ slot s. (s, refl))
 
 count_says : (words : List (List ℕ)) (command : BitmapCommand) → count_of words ≡ Some command → Says (codes "count") words command
 unfolding count_of
-count_says words command e =
-    let p = slot_alone Count words command e in
-    same_says (λ c. Says (codes "count") words c) (Count p.0) command p.3 (p.1, ap (λ t. codes "count" ∷ t) p.2)
+count_says = one_then slots Count (Says (codes "count")) (λ slot s. (s, refl))
 
 bits_says : (words : List (List ℕ)) (command : BitmapCommand) → bits_of_slot words ≡ Some command → Says (codes "bits") words command
 unfolding bits_of_slot
-bits_says words command e =
-    let p = slot_alone Bits words command e in
-    same_says (λ c. Says (codes "bits") words c) (Bits p.0) command p.3 (p.1, ap (λ t. codes "bits" ∷ t) p.2)
+bits_says = one_then slots Bits (Says (codes "bits")) (λ slot s. (s, refl))
 
 pop_says : (words : List (List ℕ)) (command : BitmapCommand) → pop_of words ≡ Some command → Says (codes "pop") words command
 unfolding pop_of
-pop_says words command e =
-    let p = slot_alone Pop words command e in
-    same_says (λ c. Says (codes "pop") words c) (Pop p.0) command p.3 (p.1, ap (λ t. codes "pop" ∷ t) p.2)
+pop_says = one_then slots Pop (Says (codes "pop")) (λ slot s. (s, refl))
 
 thaw_says : (words : List (List ℕ)) (command : BitmapCommand) → thaw_of words ≡ Some command → Says (codes "thaw") words command
 unfolding thaw_of
-thaw_says words command e =
-    let p = slot_alone Thaw words command e in
-    same_says (λ c. Says (codes "thaw") words c) (Thaw p.0) command p.3 (p.1, ap (λ t. codes "thaw" ∷ t) p.2)
+thaw_says = one_then slots Thaw (Says (codes "thaw")) (λ slot s. (s, refl))
 
 get_says : (words : List (List ℕ)) (command : BitmapCommand) → get_of words ≡ Some command → Says (codes "get") words command
 unfolding get_of
-get_says words command e =
-    let p = slot_then number_of Get words command e in
-    let index = decimal-number_of p.2 p.1 p.4 in
-    same_says (λ c. Says (codes "get") words c) (Get p.0 p.1) command p.6 ((p.3, index.0), ap (λ t. codes "get" ∷ t) (p.5 ∙ ap (λ v. decimal p.0 ∷ v ∷ []) (sym index.1)))
+get_says = two_then slots numbers Get (Says (codes "get")) (λ slot index s i. ((s, i), refl))
 
 slice_says : (words : List (List ℕ)) (command : BitmapCommand) → slice_of words ≡ Some command → Says (codes "slice") words command
 unfolding slice_of
-slice_says words command e =
-    let p = slot_then_two Slice words command e in
-    same_says (λ c. Says (codes "slice") words c) (Slice p.0 p.1 p.2) command p.7 ((p.3, p.4, p.5), ap (λ t. codes "slice" ∷ t) p.6)
+slice_says = three_then slots numbers numbers Slice (Says (codes "slice")) (λ slot offset length s o n. ((s, o, n), refl))
 
 -- words that say a command on bitmaps are its words
 pub bitmap_says : (name : List ℕ) (words : List (List ℕ)) (command : BitmapCommand) → bitmap_named name words ≡ Some command → Says name words command

@@ -8,10 +8,11 @@ use Rattle.std.proofs.lemmas.Option.{same_Some}
 use Rattle.std.proofs.lemmas.Slice.Eq.{bytes_eq-Decides}
 use Rattle.arrow2_script.specs.Arguments.{◌>>=◌, one_of, two_of, three_of, four_of, five_of, six_of}
 use Rattle.arrow2_script.specs.declared.words.Width.{Width}
-use Rattle.arrow2_script.specs.Words.{number_of, slot_of, below_of, bit_of, bit_byte, width_of, width_word, bytes_of, hex_text}
+use Rattle.arrow2_script.specs.Words.{number_of, slot_of, below_of, bit_of, bit_byte, bits_of, bits_text, numbers_of, numbers_text, width_of, width_word, bytes_of, hex_text}
 use Rattle.arrow2_script.proofs.ArgumentLemmas.{bound, one_says, two_says, three_says, four_says, five_says, six_says}
 use Rattle.arrow2_script.proofs.HexLemmas.{text-bytes_of}
-use Rattle.arrow2_script.proofs.WordLemmas.{choice, decimal-number_of, decimal-slot_of, decimal-below_of, byte-bit_of, word-width_of}
+use Rattle.arrow2_script.proofs.NumberListLemmas.{text-numbers_of}
+use Rattle.arrow2_script.proofs.WordLemmas.{choice, decimal-number_of, decimal-slot_of, decimal-below_of, byte-bit_of, word-width_of, text-bits_of}
 
 -- how a word is read, and the one word by which each value is spelled
 pub record Reader (A : Type 0) : Type 1 where
@@ -31,6 +32,12 @@ tables bound = record { read = below_of bound; spell = decimal; Fits = λ n. n <
 
 abbrev pub bits : Reader Bool
 bits = record { read = bit_of; spell = λ bit. bit_byte bit ∷ []; Fits = λ bit. Unit {0}; spelled = λ word bit e. (tt, byte-bit_of word bit e) }
+
+abbrev pub bit_texts : Reader (List Bool)
+bit_texts = record { read = bits_of; spell = bits_text; Fits = λ items. Unit {0}; spelled = λ word items e. (tt, text-bits_of word items e) }
+
+abbrev pub number_lists : Reader (List ℕ)
+number_lists = record { read = numbers_of; spell = numbers_text; Fits = λ ns. All (λ n. n < 2 ^ 64) ns; spelled = text-numbers_of }
 
 abbrev pub widths : Reader Width
 widths = record { read = width_of; spell = width_word; Fits = λ width. Unit {0}; spelled = λ word width e. (tt, word-width_of word width e) }
@@ -65,6 +72,11 @@ module _ {C : Type 0} where
   six_read : {A B D E G H : Type 0} (f : Reader A) (g : Reader B) (h : Reader D) (i : Reader E) (j : Reader G) (k : Reader H) (made : A → B → D → E → G → H → C) (Says : List (List ℕ) → C → Type 0) → ((x : A) (y : B) (z : D) (u : E) (v : G) (w : H) → f.Fits x → g.Fits y → h.Fits z → i.Fits u → j.Fits v → k.Fits w → Says (f.spell x ∷ g.spell y ∷ h.spell z ∷ i.spell u ∷ j.spell v ∷ k.spell w ∷ []) (made x y z u v w)) → (w0 w1 w2 w3 w4 w5 : List ℕ) (command : C) → (f.read w0 >>= λ x. g.read w1 >>= λ y. h.read w2 >>= λ z. i.read w3 >>= λ u. j.read w4 >>= λ v. k.read w5 >>= λ w. Some (made x y z u v w)) ≡ Some command → Says (w0 ∷ w1 ∷ w2 ∷ w3 ∷ w4 ∷ w5 ∷ []) command
   six_read f g h i j k made Says says w0 w1 w2 w3 w4 w5 command = value_then f w0 (λ x. g.read w1 >>= λ y. h.read w2 >>= λ z. i.read w3 >>= λ u. j.read w4 >>= λ v. k.read w5 >>= λ w. Some (made x y z u v w)) command (λ t. Says (t ∷ w1 ∷ w2 ∷ w3 ∷ w4 ∷ w5 ∷ []) command) (λ x fits e. five_read g h i j k (made x) (λ t c. Says (f.spell x ∷ t) c) (λ y z u v w fy fz fu fv fw. says x y z u v w fits fy fz fu fv fw) w1 w2 w3 w4 w5 command e)
 
+  pub one_then : {A : Type 0} (f : Reader A) (made : A → C) (Says : List (List ℕ) → C → Type 0) → ((x : A) → f.Fits x → Says (f.spell x ∷ []) (made x)) → (words : List (List ℕ)) (command : C) → (one_of words >>= λ said. f.read said >>= λ x. Some (made x)) ≡ Some command → Says words command
+  one_then f made Says says words command e =
+      let p = bound (one_of words) (λ said. f.read said >>= λ x. Some (made x)) command e in
+      subst (λ t. Says t command) (sym (one_says words p.0 p.1)) (one_read f made Says says p.0 command p.2)
+
   pub two_then : {A B : Type 0} (f : Reader A) (g : Reader B) (made : A → B → C) (Says : List (List ℕ) → C → Type 0) → ((x : A) (y : B) → f.Fits x → g.Fits y → Says (f.spell x ∷ g.spell y ∷ []) (made x y)) → (words : List (List ℕ)) (command : C) → (two_of words >>= λ said. f.read said.0 >>= λ x. g.read said.1 >>= λ y. Some (made x y)) ≡ Some command → Says words command
   two_then f g made Says says words command e =
       let p = bound (two_of words) (λ said. f.read said.0 >>= λ x. g.read said.1 >>= λ y. Some (made x y)) command e in
@@ -89,35 +101,6 @@ module _ {C : Type 0} where
   six_then f g h i j k made Says says words command e =
       let p = bound (six_of words) (λ said. f.read said.0 >>= λ x. g.read said.1 >>= λ y. h.read said.2 >>= λ z. i.read said.3 >>= λ u. j.read said.4 >>= λ v. k.read said.5 >>= λ w. Some (made x y z u v w)) command e in
       subst (λ t. Says t command) (sym (six_says words p.0 p.1)) (six_read f g h i j k made Says says p.0.0 p.0.1 p.0.2 p.0.3 p.0.4 p.0.5 command p.2)
-
-  -- a command of a slot alone
-  pub slot_alone : (made : ℕ → C) (words : List (List ℕ)) (command : C) → (one_of words >>= λ said. slot_of said >>= λ slot. Some (made slot)) ≡ Some command → (slot : ℕ) × (slot < 16) × (words ≡ decimal slot ∷ []) × (made slot ≡ command)
-  slot_alone made words command e =
-      let p = bound (one_of words) (λ said. slot_of said >>= λ slot. Some (made slot)) command e in
-      let q = bound (slot_of p.0) (λ slot. Some (made slot)) command p.2 in
-      let s = decimal-slot_of p.0 q.0 q.1 in
-      (q.0, s.0, rw s.1 (one_says words p.0 p.1), same_Some (made q.0) command q.2)
-
-  -- a command of a slot and a value
-  pub slot_then : {X : Type 0} (read : List ℕ → Option X) (made : ℕ → X → C) (words : List (List ℕ)) (command : C) → (two_of words >>= λ said. slot_of said.0 >>= λ slot. read said.1 >>= λ x. Some (made slot x)) ≡ Some command → (slot : ℕ) × (x : X) × (value : List ℕ) × (slot < 16) × (read value ≡ Some x) × (words ≡ decimal slot ∷ value ∷ []) × (made slot x ≡ command)
-  slot_then read made words command e =
-      let p = bound (two_of words) (λ said. slot_of said.0 >>= λ slot. read said.1 >>= λ x. Some (made slot x)) command e in
-      let q = bound (slot_of p.0.0) (λ slot. read p.0.1 >>= λ x. Some (made slot x)) command p.2 in
-      let r = bound (read p.0.1) (λ x. Some (made q.0 x)) command q.2 in
-      let s = decimal-slot_of p.0.0 q.0 q.1 in
-      (q.0, r.0, p.0.1, s.0, r.1, rw s.1 (two_says words p.0 p.1), same_Some (made q.0 r.0) command r.2)
-
-  -- a command of a slot and two numbers
-  pub slot_then_two : (made : ℕ → ℕ → ℕ → C) (words : List (List ℕ)) (command : C) → (three_of words >>= λ said. slot_of said.0 >>= λ slot. number_of said.1 >>= λ i. number_of said.2 >>= λ n. Some (made slot i n)) ≡ Some command → (slot : ℕ) × (i : ℕ) × (n : ℕ) × (slot < 16) × (i < 2 ^ 64) × (n < 2 ^ 64) × (words ≡ decimal slot ∷ decimal i ∷ decimal n ∷ []) × (made slot i n ≡ command)
-  slot_then_two made words command e =
-      let p = bound (three_of words) (λ said. slot_of said.0 >>= λ slot. number_of said.1 >>= λ i. number_of said.2 >>= λ n. Some (made slot i n)) command e in
-      let q = bound (slot_of p.0.0) (λ slot. number_of p.0.1 >>= λ i. number_of p.0.2 >>= λ n. Some (made slot i n)) command p.2 in
-      let r = bound (number_of p.0.1) (λ i. number_of p.0.2 >>= λ n. Some (made q.0 i n)) command q.2 in
-      let s = bound (number_of p.0.2) (λ n. Some (made q.0 r.0 n)) command r.2 in
-      let slot = decimal-slot_of p.0.0 q.0 q.1 in
-      let i = decimal-number_of p.0.1 r.0 r.1 in
-      let n = decimal-number_of p.0.2 s.0 s.1 in
-      (q.0, r.0, s.0, slot.0, i.0, n.0, rw (slot.1, i.1, n.1) (three_says words p.0 p.1), same_Some (made q.0 r.0 s.0) command s.2)
 
   -- what is known of a command, of an equal one
   pub same_says : (Says : C → Type 0) (made command : C) → made ≡ command → Says made → Says command

@@ -1,17 +1,15 @@
 -- Words say one command on offsets at most, and each is spelled in one way.
-use Rattle.std.proofs.Common.{◌≡◌, ◌∙◌, sym, ap, refl, ◌<◌, ℕ, List, [], ◌∷◌, length, true, arith, codes}
+use Rattle.std.proofs.Common.{◌≡◌, refl, ◌<◌, ℕ, List, [], ◌∷◌, length, true, arith, codes}
 use Rattle.std.specs.Prelude.{Option, Some, None}
-use Rattle.std.specs.Fmt.{decimal}
 use Rattle.std.specs.List.{list_all}
 use Rattle.std.proofs.lemmas.Option.{none-some}
-use Rattle.arrow2_script.specs.Words.{number_of, slot_of, numbers_of}
 use Rattle.arrow2_script.specs.OffsetCommands.{onew_of, opush_of, opop_of, oext_of, olist_of, ofreeze_of, oslice_of, zip_of, offset_named, offset_words, OffsetFits}
 use Rattle.arrow2_script.specs.declared.offset_command.OffsetCommand.{OffsetCommand}
 use Rattle.arrow2_script.specs.declared.offset_command.OffsetCommand.TheVariants.{New, Push, Pop, Extend, Offsets, Freeze, Slice, Zip}
-use Rattle.arrow2_script.proofs.KindLemmas.{slot_alone, slot_then, slot_then_two, same_says, at_name}
-use Rattle.arrow2_script.proofs.NumberListLemmas.{numbers_of-text, text-numbers_of}
+use Rattle.arrow2_script.proofs.KindLemmas.{slots, numbers, number_lists, one_then, two_then, three_then, at_name}
+use Rattle.arrow2_script.proofs.NumberListLemmas.{numbers_of-text}
 use Rattle.arrow2_script.proofs.SpellingLemmas.{is_word, number_word, slot_word, numbers_word}
-use Rattle.arrow2_script.proofs.WordLemmas.{number_of-decimal, decimal-number_of, slot_of-decimal, decimal-slot_of}
+use Rattle.arrow2_script.proofs.WordLemmas.{number_of-decimal, slot_of-decimal}
 
 -- the words of a command on offsets, behind this name
 abbrev Says : List ℕ → List (List ℕ) → OffsetCommand → Type 0
@@ -19,55 +17,35 @@ Says name words command = OffsetFits command × (name ∷ words ≡ offset_words
 
 onew_says : (words : List (List ℕ)) (command : OffsetCommand) → onew_of words ≡ Some command → Says (codes "onew") words command
 unfolding onew_of
-onew_says words command e =
-    let p = slot_then number_of New words command e in
-    let first = decimal-number_of p.2 p.1 p.4 in
-    same_says (λ c. Says (codes "onew") words c) (New p.0 p.1) command p.6 ((p.3, first.0), ap (λ t. codes "onew" ∷ t) (p.5 ∙ ap (λ v. decimal p.0 ∷ v ∷ []) (sym first.1)))
+onew_says = two_then slots numbers New (Says (codes "onew")) (λ slot first s x. ((s, x), refl))
 
 opush_says : (words : List (List ℕ)) (command : OffsetCommand) → opush_of words ≡ Some command → Says (codes "opush") words command
 unfolding opush_of
-opush_says words command e =
-    let p = slot_then number_of Push words command e in
-    let len = decimal-number_of p.2 p.1 p.4 in
-    same_says (λ c. Says (codes "opush") words c) (Push p.0 p.1) command p.6 ((p.3, len.0), ap (λ t. codes "opush" ∷ t) (p.5 ∙ ap (λ v. decimal p.0 ∷ v ∷ []) (sym len.1)))
+opush_says = two_then slots numbers Push (Says (codes "opush")) (λ slot length s n. ((s, n), refl))
 
 opop_says : (words : List (List ℕ)) (command : OffsetCommand) → opop_of words ≡ Some command → Says (codes "opop") words command
 unfolding opop_of
-opop_says words command e =
-    let p = slot_alone Pop words command e in
-    same_says (λ c. Says (codes "opop") words c) (Pop p.0) command p.3 (p.1, ap (λ t. codes "opop" ∷ t) p.2)
+opop_says = one_then slots Pop (Says (codes "opop")) (λ slot s. (s, refl))
 
 oext_says : (words : List (List ℕ)) (command : OffsetCommand) → oext_of words ≡ Some command → Says (codes "oext") words command
 unfolding oext_of
-oext_says words command e =
-    let p = slot_then numbers_of Extend words command e in
-    let text = text-numbers_of p.2 p.1 p.4 in
-    same_says (λ c. Says (codes "oext") words c) (Extend p.0 p.1) command p.6 ((p.3, text.0), ap (λ t. codes "oext" ∷ t) (p.5 ∙ ap (λ v. decimal p.0 ∷ v ∷ []) (sym text.1)))
+oext_says = two_then slots number_lists Extend (Says (codes "oext")) (λ slot lengths s l. ((s, l), refl))
 
 olist_says : (words : List (List ℕ)) (command : OffsetCommand) → olist_of words ≡ Some command → Says (codes "olist") words command
 unfolding olist_of
-olist_says words command e =
-    let p = slot_alone Offsets words command e in
-    same_says (λ c. Says (codes "olist") words c) (Offsets p.0) command p.3 (p.1, ap (λ t. codes "olist" ∷ t) p.2)
+olist_says = one_then slots Offsets (Says (codes "olist")) (λ slot s. (s, refl))
 
 ofreeze_says : (words : List (List ℕ)) (command : OffsetCommand) → ofreeze_of words ≡ Some command → Says (codes "ofreeze") words command
 unfolding ofreeze_of
-ofreeze_says words command e =
-    let p = slot_alone Freeze words command e in
-    same_says (λ c. Says (codes "ofreeze") words c) (Freeze p.0) command p.3 (p.1, ap (λ t. codes "ofreeze" ∷ t) p.2)
+ofreeze_says = one_then slots Freeze (Says (codes "ofreeze")) (λ slot s. (s, refl))
 
 oslice_says : (words : List (List ℕ)) (command : OffsetCommand) → oslice_of words ≡ Some command → Says (codes "oslice") words command
 unfolding oslice_of
-oslice_says words command e =
-    let p = slot_then_two Slice words command e in
-    same_says (λ c. Says (codes "oslice") words c) (Slice p.0 p.1 p.2) command p.7 ((p.3, p.4, p.5), ap (λ t. codes "oslice" ∷ t) p.6)
+oslice_says = three_then slots numbers numbers Slice (Says (codes "oslice")) (λ slot first count s i n. ((s, i, n), refl))
 
 zip_says : (words : List (List ℕ)) (command : OffsetCommand) → zip_of words ≡ Some command → Says (codes "zip") words command
 unfolding zip_of
-zip_says words command e =
-    let p = slot_then slot_of Zip words command e in
-    let validity = decimal-slot_of p.2 p.1 p.4 in
-    same_says (λ c. Says (codes "zip") words c) (Zip p.0 p.1) command p.6 ((p.3, validity.0), ap (λ t. codes "zip" ∷ t) (p.5 ∙ ap (λ v. decimal p.0 ∷ v ∷ []) (sym validity.1)))
+zip_says = two_then slots slots Zip (Says (codes "zip")) (λ offsets validity o v. ((o, v), refl))
 
 -- words that say a command on offsets are its words
 pub offset_says : (name : List ℕ) (words : List (List ℕ)) (command : OffsetCommand) → offset_named name words ≡ Some command → Says name words command

@@ -1,16 +1,14 @@
 -- Words say one command on values at most, and each is spelled in one way.
-use Rattle.std.proofs.Common.{◌≡◌, ◌∙◌, sym, ap, refl, ◌<◌, ℕ, List, [], ◌∷◌, length, true, arith, codes}
+use Rattle.std.proofs.Common.{◌≡◌, refl, ◌<◌, ℕ, List, [], ◌∷◌, length, true, arith, codes}
 use Rattle.std.specs.Prelude.{Option, Some, None}
-use Rattle.std.specs.Fmt.{decimal}
 use Rattle.std.specs.List.{list_all}
 use Rattle.std.proofs.lemmas.Option.{none-some}
-use Rattle.arrow2_script.specs.Words.{slot_of}
 use Rattle.arrow2_script.specs.ValueCommands.{copy_of, eq_of, value_named, value_words, ValueFits}
 use Rattle.arrow2_script.specs.declared.value_command.ValueCommand.{ValueCommand}
 use Rattle.arrow2_script.specs.declared.value_command.ValueCommand.TheVariants.{Copy, Compare}
-use Rattle.arrow2_script.proofs.KindLemmas.{slot_then, same_says, at_name}
+use Rattle.arrow2_script.proofs.KindLemmas.{slots, two_then, at_name}
 use Rattle.arrow2_script.proofs.SpellingLemmas.{is_word, slot_word}
-use Rattle.arrow2_script.proofs.WordLemmas.{slot_of-decimal, decimal-slot_of}
+use Rattle.arrow2_script.proofs.WordLemmas.{slot_of-decimal}
 
 -- the words of a command on values, behind this name
 abbrev Says : List ℕ → List (List ℕ) → ValueCommand → Type 0
@@ -18,17 +16,11 @@ Says name words command = ValueFits command × (name ∷ words ≡ value_words c
 
 copy_says : (words : List (List ℕ)) (command : ValueCommand) → copy_of words ≡ Some command → Says (codes "copy") words command
 unfolding copy_of
-copy_says words command e =
-    let p = slot_then slot_of Copy words command e in
-    let to = decimal-slot_of p.2 p.1 p.4 in
-    same_says (λ c. Says (codes "copy") words c) (Copy p.0 p.1) command p.6 ((p.3, to.0), ap (λ t. codes "copy" ∷ t) (p.5 ∙ ap (λ v. decimal p.0 ∷ v ∷ []) (sym to.1)))
+copy_says = two_then slots slots Copy (Says (codes "copy")) (λ from to f t. ((f, t), refl))
 
 eq_says : (words : List (List ℕ)) (command : ValueCommand) → eq_of words ≡ Some command → Says (codes "eq") words command
 unfolding eq_of
-eq_says words command e =
-    let p = slot_then slot_of Compare words command e in
-    let right = decimal-slot_of p.2 p.1 p.4 in
-    same_says (λ c. Says (codes "eq") words c) (Compare p.0 p.1) command p.6 ((p.3, right.0), ap (λ t. codes "eq" ∷ t) (p.5 ∙ ap (λ v. decimal p.0 ∷ v ∷ []) (sym right.1)))
+eq_says = two_then slots slots Compare (Says (codes "eq")) (λ left right l r. ((l, r), refl))
 
 -- words that say a command on values are its words
 pub value_says : (name : List ℕ) (words : List (List ℕ)) (command : ValueCommand) → value_named name words ≡ Some command → Says name words command
