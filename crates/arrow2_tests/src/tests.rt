@@ -8,6 +8,7 @@ mod chunks_mut;
 mod composite;
 mod datatypes;
 mod facade;
+mod growing;
 mod hinting;
 mod index;
 mod kernels;
