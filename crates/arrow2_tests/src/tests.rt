@@ -6,6 +6,7 @@ mod checks;
 mod chunk;
 mod chunks_mut;
 mod composite;
+mod counted;
 mod datatypes;
 mod facade;
 mod growing;

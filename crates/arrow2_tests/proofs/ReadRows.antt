@@ -1,0 +1,67 @@
+-- How many bytes slices and cuts read, as numbers.
+use Rattle.std.proofs.Common.{◌≡◌, ◌+◌, ◌%◌, ℕ, length, refl, ap, sym, ◌∙◌, arith}
+use Rattle.arrow2_model.specs.Storage.{BitmapStorage, items_of}
+use Rattle.arrow2_model.specs.Touched.{touched, slice_reads, cut_reads}
+use Rattle.arrow2_model.proofs.Touched.{cut_reads-in_byte}
+use Rattle.arrow2_walks.specs.Cuts.{Piece, piece_of}
+
+pub middle : slice_reads 0 1600 400 799 ≡ 100
+unfolding slice_reads touched
+middle = refl
+
+pub all_but_one : slice_reads 0 1600 1 1599 ≡ 1
+unfolding slice_reads touched
+all_but_one = refl
+
+pub half : slice_reads 0 1600 400 800 ≡ 100
+unfolding slice_reads touched
+half = refl
+
+pub all : slice_reads 0 1600 0 1600 ≡ 0
+unfolding slice_reads touched
+all = refl
+
+pub none : slice_reads 0 1600 800 0 ≡ 0
+unfolding slice_reads touched
+none = refl
+
+pub none_of_one : slice_reads 0 1 0 0 ≡ 1
+unfolding slice_reads touched
+none_of_one = refl
+
+pub first_seven : slice_reads 3 16 0 7 ≡ 2
+unfolding slice_reads touched
+first_seven = refl
+
+pub eight_from_one : slice_reads 3 16 1 8 ≡ 3
+unfolding slice_reads touched
+eight_from_one = refl
+
+pub eight_from_four : slice_reads 3 16 4 8 ≡ 3
+unfolding slice_reads touched
+eight_from_four = refl
+
+pub ruleset slices = (middle, all_but_one, half, all, none, none_of_one, first_seven, eight_from_one, eight_from_four)
+
+pub first_cut : cut_reads 0 1600 800 ≡ 200
+unfolding cut_reads slice_reads touched
+first_cut = refl
+
+pub second_cut : cut_reads 0 800 400 ≡ 100
+unfolding cut_reads slice_reads touched
+second_cut = refl
+
+pub third_cut : cut_reads 0 800 1 ≡ 2
+unfolding cut_reads slice_reads touched
+third_cut = refl
+
+-- a cut of a piece that begins with a byte
+pub cut_from_byte : (q : Piece) (b : BitmapStorage) (w n i r s : ℕ) → piece_of b ≡ q → w ≡ b.offset % 8 → w ≡ 0 → n ≡ length (items_of b) → s ≡ r + cut_reads q.offset (length q.items) i → s ≡ r + cut_reads 0 n i
+cut_from_byte q b w n i r s e within none size is =
+    let here = ap (λ (p : Piece). cut_reads p.offset (length p.items) i) e in
+    let byte = cut_reads-in_byte b.offset (length (items_of b)) i in
+    let first = ap (λ (o : ℕ). cut_reads o (length (items_of b)) i) (sym within ∙ none) in
+    let all = ap (λ (k : ℕ). cut_reads 0 k i) size in
+    omega (arith, here, byte, first, all, is)
+
+pub ruleset cuts = (first_cut, second_cut, third_cut)

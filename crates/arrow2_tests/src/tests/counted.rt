@@ -1,0 +1,95 @@
+//! What slices and cuts read: facts, since a counter has no value when a test runs.
+ghost use Rattle.std.specs.Prelude.{◌≡◌, ◌+◌, ◌<◌, ◌≤◌, ◌^◌};
+ghost use Rattle.arrow2_model.specs.Touched.{slice_reads, cut_reads};
+
+use arrow2_bitmap::Bitmap;
+use arrow2_bits::{Reads, Stored};
+use arrow2_walks::pieces::Pieces;
+use std::alloc::Global;
+use std::process::Abort;
+
+/// What a slice of `length` bits from bit `offset` on reads.
+fn read_by_slice(
+    rt: &impl Abort,
+    alloc: Global,
+    offset: usize,
+    length: usize,
+    start: usize,
+    count: usize,
+) -> Reads
+    requires small { offset + length < 2 ^ 16 }
+    requires inside { start + count ≤ length }
+    ensures { result ≡ slice_reads offset length start count }
+{
+    let zeros = Bitmap::new_zeroed(alloc, offset + length).expect(rt, "no memory");
+    let mut bitmap = zeros.sliced(offset, length);
+    let mut reads = Reads::new();
+    bitmap.slice_counted(start, count, &mut reads);
+    assert!(rt; bitmap.unset_bits() == count);
+    reads
+}
+
+/// Asks that so many bytes were read.
+fn is_read(reads: Reads, bytes: u64)
+    requires { reads ≡ bytes }
+{
+    let _ = reads;
+}
+
+#[tactic(auto, using(crate::proofs::ReadRows::slices))]
+#[test]
+fn slices_read_no_more_than_half(rt: HostRuntime) {
+    let alloc = rt.alloc();
+    is_read(read_by_slice(&rt, alloc, 0, 1600, 400, 799), 100);
+    is_read(read_by_slice(&rt, alloc, 0, 1600, 1, 1599), 1);
+    is_read(read_by_slice(&rt, alloc, 0, 1600, 400, 800), 100);
+    is_read(read_by_slice(&rt, alloc, 0, 1600, 0, 1600), 0);
+    is_read(read_by_slice(&rt, alloc, 0, 1600, 800, 0), 0);
+    is_read(read_by_slice(&rt, alloc, 0, 1, 0, 0), 1);
+    is_read(read_by_slice(&rt, alloc, 3, 16, 0, 7), 2);
+    is_read(read_by_slice(&rt, alloc, 3, 16, 1, 8), 3);
+    is_read(read_by_slice(&rt, alloc, 3, 16, 4, 8), 3);
+}
+
+/// Cuts piece `p`, which has `length` items and begins with a byte.
+fn cut(rt: &impl Abort, pieces: &mut Pieces, p: usize, length: usize, i: usize)
+    requires { i ≤ length }
+    ensures { pieces.new.reads ≡ pieces.old.reads + cut_reads 0 length i }
+{
+    assert!(rt; p < pieces.len());
+    let piece = pieces.get(p);
+    let (_, within, _) = piece.as_slice();
+    assert!(rt; within == 0);
+    assert!(rt; piece.len() == length);
+    pieces.cut(p, i).expect(rt, "no memory");
+}
+
+/// Asks that the cuts have read so many bytes.
+fn have_read(pieces: &Pieces, bytes: u64)
+    requires { pieces.now.reads ≡ bytes }
+{}
+
+#[tactic(auto, using(crate::proofs::ReadRows::cuts))]
+#[test]
+fn cuts_read_what_they_count(rt: HostRuntime) {
+    let zeros = Bitmap::new_zeroed(rt.alloc(), 1600).expect(&rt, "no memory");
+    let mut pieces = Pieces::new(rt.alloc(), zeros).expect(&rt, "no memory");
+    cut(&rt, &mut pieces, 0, 1600, 800);
+    have_read(&pieces, 200);
+    cut(&rt, &mut pieces, 0, 800, 400);
+    have_read(&pieces, 300);
+    cut(&rt, &mut pieces, 2, 800, 1);
+    have_read(&pieces, 302);
+    assert!(rt; pieces.len() == 4);
+    for (p, length) in [(0, 400), (1, 400), (2, 1), (3, 799)] {
+        assert!(rt; pieces.len() == 4 && pieces.get(p).unset_bits() == length);
+    }
+}
+
+#[test]
+fn stored_bytes_are_fetched(rt: HostRuntime) {
+    let mut stored = Stored::new(&[1, 2, 3, 4], Reads::new());
+    let [second, third] = stored.fetch::<2>(1);
+    assert!(rt; stored.len() == 4 && second == 2 && third == 3);
+    is_read(stored.into_reads(), 2);
+}
