@@ -4,7 +4,7 @@ use Rattle.std.specs.Prelude.{Result, Ok, Err, OnOk, ℤ, pos, unsigned_abs}
 use Rattle.std.specs.Fmt.{decimal}
 use Rattle.std.specs.Iterator.{YieldsFirst, Yields}
 use Rattle.std.specs.Iterator.Runs.{WholeRun, YieldsRun}
-use Rattle.std.proofs.lemmas.List.Sums.{sum_by-append, sum_by-cons}
+use Rattle.std.proofs.lemmas.List.Sums.{sum_by-append}
 use Rattle.arrow2.specs.Offsets.{GrowingOffsets, GrownBy, last_of_growing, lengths_of, lengths_behind}
 use Rattle.arrow2.specs.Collected.{GivesPast}
 
@@ -28,10 +28,8 @@ all_given s P run =
 -- lengths by which an offset passes the greatest one
 pub past_all : (max last : ℕ) (s : List ℕ) → GivesPast max last (YieldsFirst (λ l. l)) s → max < last + sum s
 past_all max last s past =
-    let calls = past.3 in
-    let front = given s past.0 calls.0 calls.1 in
-    let all : s ≡ past.0 ++ past.1 ∷ past.2 = front ∙ ap (λ l. past.0 ++ l) calls.2 in
-    omega (arith, past.4, ap sum all, sum_by-append (λ n. n) past.0 (past.1 ∷ past.2), sum_by-cons (λ n. n) past.1 past.2)
+    let all : s ≡ past.0 ++ past.1 = given s past.0 past.1 past.2 in
+    omega (arith, past.3, ap sum all, sum_by-append (λ n. n) past.0 past.1)
 
 -- what follows from what holds where there is a value
 pub on_ok : {X E : Type 0} (r : Result X E) (P Q : Type 0) → (P → Q) → OnOk r P → OnOk r Q

@@ -4,7 +4,11 @@ ghost use Rattle.std.specs.List.{flat_map};
 ghost use Rattle.arrow2.specs.Buffers.{buffer_items};
 ghost use Rattle.arrow2.specs.Offsets.{offset_at, start_of, lengths_of, last_of};
 ghost use Rattle.arrow2.specs.Parts.{part};
+ghost use Rattle.arrow2.specs.Storage.{items_of};
+ghost use Rattle.arrow2.specs.Zipped.{zipped};
 
+use arrow2::bitmap::Bitmap;
+use arrow2::bitmap::utils::ZipValidityIter;
 use arrow2::buffer::Buffer;
 use arrow2::error::{Error, Result};
 use arrow2::offset::{Offsets, OffsetsBuffer};
@@ -39,4 +43,22 @@ pub fn text_at<'a>(offsets: &OffsetsBuffer<i32>, bytes: &'a Buffer<u8>, index: u
 {
     let (start, end) = offsets.start_end(index);
     &bytes.as_slice()[start..end]
+}
+
+/// The length of each text, or `None` where it is null. Asks for a validity of as many items as there are texts.
+///
+/// # Errors
+///
+/// `OutOfMemory` alone.
+pub fn valid_lengths(
+    alloc: Global,
+    offsets: &OffsetsBuffer<i32>,
+    validity: &Bitmap,
+) -> Result<Vec<Option<usize>>>
+    requires same_length { length (lengths_of (buffer_items offsets.now)) ≡ length (items_of validity.now) }
+    ensures lengths { IfOk result (λ v. v.items ≡ zipped (lengths_of (buffer_items offsets.now)) (items_of validity.now)) }
+    ensures only { IfErr result (λ e. e ≡ Error.OutOfMemory) }
+{
+    let slots = ZipValidityIter::new(offsets.lengths(), validity.iter());
+    Ok(slots.collect(alloc)?)
 }
