@@ -26,10 +26,10 @@ byte_zeros bytes fetched at s n y inside within is first =
 pub part_zeros-le : (items : List Bool) (a n : ℕ) → falses (part items a n) ≤ n
 part_zeros-le items a n = let l = length-take n (drop a items) in let f = falses-le-length (part items a n) in omega (arith, l, f)
 
--- k bytes more, which are a word
-pub zeros-more : (bytes fetched : List ℕ) (first n k w x before after : ℕ) → first + n + k ≤ length bytes → 8 * k ≡ w → x < 2 ^ w → fetched ≡ part bytes (first + n) k → unnum w x ≡ bits fetched → before ≡ falses (part (bits bytes) (8 * first) (8 * n)) → after ≡ before + (w - count_ones x)
-    → after ≡ falses (part (bits bytes) (8 * first) (8 * (n + k)))
-zeros-more bytes fetched first n k w x before after inside e fits got is was now =
+-- k bytes more, which are a word: their true and their false items are all
+pub ones-more : (bytes fetched : List ℕ) (first n k w x before after : ℕ) → first + n + k ≤ length bytes → 8 * k ≡ w → x < 2 ^ w → fetched ≡ part bytes (first + n) k → unnum w x ≡ bits fetched → before + falses (part (bits bytes) (8 * first) (8 * n)) ≡ 8 * n → after ≡ before + count_ones x
+    → after + falses (part (bits bytes) (8 * first) (8 * (n + k))) ≡ 8 * (n + k)
+ones-more bytes fetched first n k w x before after inside e fits got is was now =
     let f = falses-unnum w x fits in
     let both : 8 * (n + k) ≡ 8 * n + 8 * k = omega arith in
     let at : 8 * first + 8 * n ≡ 8 * (first + n) = omega arith in
@@ -38,7 +38,7 @@ zeros-more bytes fetched first n k w x before after inside e fits got is was now
     ap (λ a. part (bits bytes) a (8 * k)) at ∙ (part-bits bytes (first + n) k inside ∙ (ap bits (sym got) ∙ sym is)) in
     let a = ap falses s ∙ falses-append (part (bits bytes) (8 * first) (8 * n)) (part (bits bytes) (8 * first + 8 * n) (8 * k)) in
     let b = ap falses last in
-    rw both (omega (arith, f, a, b, was, now))
+    rw both (omega (arith, f, a, b, was, now, e))
 
 -- bytes in two
 pub zeros_in_two : (bytes : List ℕ) (first count m n a b : ℕ) → count ≡ m + n → a ≡ falses (part (bits bytes) (8 * first) (8 * m)) → b ≡ falses (part (bits bytes) (8 * (first + m)) (8 * n)) → a + b ≡ falses (part (bits bytes) (8 * first) (8 * count))

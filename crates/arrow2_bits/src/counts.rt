@@ -133,12 +133,12 @@ fn zeros_in_words(stored: &mut Stored<'_>, first: usize, words: usize) -> usize
     ensures bytes { stored.new.bytes ≡ stored.old.bytes }
     ensures reads { stored.new.reads ≡ stored.old.reads + 8 * words }
 {
-    let mut zeros = 0usize;
+    let mut ones = 0usize;
     for i in 0..words {
         let word = u64::from_ne_slice(&stored.fetch::<8>(first + 8 * i));
-        zeros += 64 - word.count_ones() as usize;
+        ones += word.count_ones() as usize;
     }
-    zeros
+    64 * words - ones
 }
 
 /// How many bits of the `count` bytes from byte `first` on are not set.
@@ -150,10 +150,10 @@ fn zeros_byte_by_byte(stored: &mut Stored<'_>, first: usize, count: usize) -> us
     ensures bytes { stored.new.bytes ≡ stored.old.bytes }
     ensures reads { stored.new.reads ≡ stored.old.reads + count }
 {
-    let mut zeros = 0usize;
+    let mut ones = 0usize;
     for i in 0..count {
         let byte = u8::from_ne_slice(&stored.fetch::<1>(first + i));
-        zeros += 8 - byte.count_ones() as usize;
+        ones += byte.count_ones() as usize;
     }
-    zeros
+    8 * count - ones
 }

@@ -1,4 +1,4 @@
-use Rattle.std.proofs.Common.{◌≡◌, ◌≤◌, ◌+◌, ◌*◌}
+use Rattle.std.proofs.Common.{◌≡◌, ◌+◌, ◌*◌}
 use Rattle.arrow2_model.specs.Bits.{bits}
 use Rattle.arrow2_model.specs.Parts.{part, falses}
 use Rattle.arrow2_bits.proofs.counts.zeros_in_words.Given as goal
@@ -7,6 +7,5 @@ abbrev pub invariant-loop-i : goal.invariant-loop-i
 invariant-loop-i l = record {
   bytes : l.stored.bytes ≡ l.fn.stored.bytes;
   reads : l.stored.reads ≡ l.fn.stored.reads + (8 * l.i);
-  counted : l.zeros ≡ falses (part (bits l.fn.stored.bytes) (8 * l.first) (8 * (8 * l.i)));
-  small : l.zeros ≤ 64 * l.i;
+  counted : l.ones + falses (part (bits l.fn.stored.bytes) (8 * l.first) (8 * (8 * l.i))) ≡ 64 * l.i;
 }
