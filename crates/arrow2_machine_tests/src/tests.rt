@@ -215,6 +215,30 @@ fn scripts_of_kernels(rt: HostRuntime) -> Result<(), Fail> {
 }
 
 #[test]
+fn scripts_of_growth(rt: HostRuntime) -> Result<(), Fail> {
+    let rows: [(&[u8], &[u8]); 3] = [
+        (
+            b"new 0 1\nfill 0 18446744073709551615 1\nbits 0\nslice 0 0 1\n\n",
+            b"ok\nerror overflow\n1\nerror kind\nerror syntax\n",
+        ),
+        (
+            b"new 0 10\nfill 0 3 0\nfill 0 2 1\nbits 0\nraw 1 b65b 3 10\nappend 0 1\nbits 0\nbits 1\n",
+            b"ok\nok\nok\n1000011\nok\nok\n10000110110111011\n0110111011\n",
+        ),
+        (
+            b"fill 0 1 1\nnew 0 1\nappend 0 0\nappend 0 1\nnew 1 0\nfreeze 1\nappend 1 1\nfill 1 1 1\nappend 0 1\nfill 0 0 1\nbits 0\nfill 0 1\nfill 0 1 2\nfill 0 01 1\nappend 0\nappend 0 16\nappend 0 1 1\n",
+            b"error kind\nok\nerror kind\nerror kind\nok\nok\nerror kind\nerror kind\nok\nok\n10\nerror syntax\nerror syntax\nerror syntax\nerror syntax\nerror syntax\nerror syntax\n",
+        ),
+    ];
+    for (script, replies) in rows {
+        let (out, result) = told(rt.alloc(), script, Vec::new(rt.alloc()));
+        assert_eq!(&rt; result, Ok(()));
+        assert_eq!(&rt; out.as_slice(), replies);
+    }
+    Ok(())
+}
+
+#[test]
 fn long_line(rt: HostRuntime) -> Result<(), Fail> {
     let script = repeated(rt.alloc(), b'x', 1_000_000)?;
     let (out, result) = told(rt.alloc(), script.as_slice(), Vec::new(rt.alloc()));
