@@ -170,8 +170,8 @@ fn scripts_of_offsets(rt: HostRuntime) -> Result<(), Fail> {
 fn scripts_of_kernels(rt: HostRuntime) -> Result<(), Fail> {
     let rows: [(&[u8], &[u8]); 9] = [
         (
-            b"raw 0 b65b 3 10\nbits 0\nwords 0 8\nraw 1 ff 4 5\nraw 1 f 0 1\n",
-            b"ok\n0110111011\n118 3\nerror range\nerror syntax\n",
+            b"raw 0 b65b 3 10\nbits 0\nwords 0 8\nruns 0\nraw 1 ff 4 5\nraw 1 f 0 1\n",
+            b"ok\n0110111011\n118 3\n1:2 4:3 8:2\nerror range\nerror syntax\n",
         ),
         (
             b"new 0 1100\nfreeze 0\nfreeze 0\nnew 1 1010\nfreeze 1\ntable2 2 2 0 1\nbits 2\nnew 3 1100\ninplace2 3 6 16 1\nbits 3\nand 4 0 5\nnew 5 1\nfreeze 5\nand 4 0 5\n",
@@ -216,7 +216,15 @@ fn scripts_of_kernels(rt: HostRuntime) -> Result<(), Fail> {
 
 #[test]
 fn scripts_of_growth(rt: HostRuntime) -> Result<(), Fail> {
-    let rows: [(&[u8], &[u8]); 3] = [
+    let rows: [(&[u8], &[u8]); 5] = [
+        (
+            b"new 0 -\nfreeze 0\nruns 0\nraw 1 ffff 5 9\nruns 1\nnew 2 1\nfill 2 3 0\nfill 2 9 1\nappend 2 1\nappend 2 0\nfreeze 2\nruns 2\ncount 2\n",
+            b"ok\nok\n-\nok\n0:9\nok\nok\nok\nok\nok\nok\n0:1 4:18\n3\n",
+        ),
+        (
+            b"runs 0\nnew 0 1\nruns 0\nruns 16\nruns\nruns 0 0\nnew 0 000\nfreeze 0\nruns 0\n",
+            b"error kind\nok\nerror kind\nerror syntax\nerror syntax\nerror syntax\nok\nok\n-\n",
+        ),
         (
             b"new 0 1\nfill 0 18446744073709551615 1\nbits 0\nslice 0 0 1\n\n",
             b"ok\nerror overflow\n1\nerror kind\nerror syntax\n",

@@ -14,7 +14,7 @@ use Rattle.arrow2_script.specs.GrowthCommands.{growth_named, growth_words}
 use Rattle.arrow2_script.specs.declared.growth_command.GrowthCommand.{GrowthCommand}
 use Rattle.arrow2_script.specs.declared.growth_command.GrowthCommand.TheVariants.{Fill, Append}
 use Rattle.arrow2_script.specs.declared.storage_command.StorageCommand.{StorageCommand}
-use Rattle.arrow2_script.specs.declared.storage_command.StorageCommand.TheVariants.{Raw, Set, Words}
+use Rattle.arrow2_script.specs.declared.storage_command.StorageCommand.TheVariants.{Raw, Set, Words, Runs}
 use Rattle.arrow2_script.specs.declared.kernel_command.KernelCommand.{KernelCommand}
 use Rattle.arrow2_script.specs.declared.kernel_command.KernelCommand.TheVariants.{Make, AssignUnary, AssignBinary}
 use Rattle.arrow2_script.specs.declared.kernel_command.Kernel.TheVariants.{And, Or, Xor, Not, Unary, Binary, Ternary, Quaternary}
@@ -102,6 +102,7 @@ unfolding bitmap_named offset_named value_named
 storage_no_other (Raw slot bytes offset length) = (refl, refl, refl)
 storage_no_other (Set slot index bit) = (refl, refl, refl)
 storage_no_other (Words slot width) = (refl, refl, refl)
+storage_no_other (Runs slot) = (refl, refl, refl)
 
 -- words that say a command of none of the kinds before the kernels
 abbrev NoOther : List (List ℕ) → Type 0

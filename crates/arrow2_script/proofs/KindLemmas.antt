@@ -65,6 +65,11 @@ module _ {C : Type 0} where
   six_read : {A B D E G H : Type 0} (f : Reader A) (g : Reader B) (h : Reader D) (i : Reader E) (j : Reader G) (k : Reader H) (made : A → B → D → E → G → H → C) (Says : List (List ℕ) → C → Type 0) → ((x : A) (y : B) (z : D) (u : E) (v : G) (w : H) → f.Fits x → g.Fits y → h.Fits z → i.Fits u → j.Fits v → k.Fits w → Says (f.spell x ∷ g.spell y ∷ h.spell z ∷ i.spell u ∷ j.spell v ∷ k.spell w ∷ []) (made x y z u v w)) → (w0 w1 w2 w3 w4 w5 : List ℕ) (command : C) → (f.read w0 >>= λ x. g.read w1 >>= λ y. h.read w2 >>= λ z. i.read w3 >>= λ u. j.read w4 >>= λ v. k.read w5 >>= λ w. Some (made x y z u v w)) ≡ Some command → Says (w0 ∷ w1 ∷ w2 ∷ w3 ∷ w4 ∷ w5 ∷ []) command
   six_read f g h i j k made Says says w0 w1 w2 w3 w4 w5 command = value_then f w0 (λ x. g.read w1 >>= λ y. h.read w2 >>= λ z. i.read w3 >>= λ u. j.read w4 >>= λ v. k.read w5 >>= λ w. Some (made x y z u v w)) command (λ t. Says (t ∷ w1 ∷ w2 ∷ w3 ∷ w4 ∷ w5 ∷ []) command) (λ x fits e. five_read g h i j k (made x) (λ t c. Says (f.spell x ∷ t) c) (λ y z u v w fy fz fu fv fw. says x y z u v w fits fy fz fu fv fw) w1 w2 w3 w4 w5 command e)
 
+  pub one_then : {A : Type 0} (f : Reader A) (made : A → C) (Says : List (List ℕ) → C → Type 0) → ((x : A) → f.Fits x → Says (f.spell x ∷ []) (made x)) → (words : List (List ℕ)) (command : C) → (one_of words >>= λ said. f.read said >>= λ x. Some (made x)) ≡ Some command → Says words command
+  one_then f made Says says words command e =
+      let p = bound (one_of words) (λ said. f.read said >>= λ x. Some (made x)) command e in
+      subst (λ t. Says t command) (sym (one_says words p.0 p.1)) (one_read f made Says says p.0 command p.2)
+
   pub two_then : {A B : Type 0} (f : Reader A) (g : Reader B) (made : A → B → C) (Says : List (List ℕ) → C → Type 0) → ((x : A) (y : B) → f.Fits x → g.Fits y → Says (f.spell x ∷ g.spell y ∷ []) (made x y)) → (words : List (List ℕ)) (command : C) → (two_of words >>= λ said. f.read said.0 >>= λ x. g.read said.1 >>= λ y. Some (made x y)) ≡ Some command → Says words command
   two_then f g made Says says words command e =
       let p = bound (two_of words) (λ said. f.read said.0 >>= λ x. g.read said.1 >>= λ y. Some (made x y)) command e in
