@@ -1,4 +1,5 @@
 pub mod BitmapOutcomes
+pub mod GrowthOutcomes
 pub mod Held
 pub mod KernelOutcomes
 pub mod Machine

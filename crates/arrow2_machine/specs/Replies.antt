@@ -1,5 +1,5 @@
 -- What the machine replies.
-use Rattle.std.specs.Prelude.{ℕ, ℤ, unsigned_abs, Bool, true, false, List, [], ◌∷◌, codes, Option, Some, None, if◌then◌else◌}
+use Rattle.std.specs.Prelude.{ℕ, ℤ, unsigned_abs, Bool, true, false, List, [], ◌∷◌, ◌++◌, codes, Option, Some, None, if◌then◌else◌}
 use Rattle.std.specs.List.{join_with_byte}
 use Rattle.std.specs.Fmt.{decimal}
 use Rattle.arrow2_script.specs.Words.{bit_byte}
@@ -32,6 +32,10 @@ listed_word first word = if first then word else 32 ∷ word
 abbrev pub slot_word : ℕ → Bool → List ℕ
 slot_word length true = decimal length
 slot_word length false = codes "null"
+
+-- the word that tells a run: its first place and its length, with byte 58 between
+abbrev pub run_word : ℕ × ℕ → List ℕ
+run_word run = decimal run.0 ++ 58 ∷ decimal run.1
 
 -- the reply that tells an offset, or that there is none
 abbrev pub offset_said : Option ℤ → List ℕ

@@ -3,15 +3,16 @@ use Rattle.std.specs.Prelude.{ℕ, ◌+◌, ◌-◌, ◌*◌, ◌^◌, ◌||◌,
 use Rattle.std.specs.Fmt.{decimal}
 use Rattle.arrow2.specs.Bits.{bits}
 use Rattle.arrow2.specs.Parts.{part}
+use Rattle.arrow2.specs.Runs.{runs}
 use Rattle.arrow2.specs.Words.{words}
 use Rattle.arrow2_script.specs.Words.{width_bits}
 use Rattle.arrow2_script.specs.declared.words.Width.{Width}
 use Rattle.arrow2_script.specs.declared.storage_command.StorageCommand.{StorageCommand}
-use Rattle.arrow2_script.specs.declared.storage_command.StorageCommand.TheVariants.{Raw, Set, Words}
+use Rattle.arrow2_script.specs.declared.storage_command.StorageCommand.TheVariants.{Raw, Set, Words, Runs}
 use Rattle.arrow2_machine.specs.declared.refusal.Refusal.{Refusal}
 use Rattle.arrow2_machine.specs.declared.refusal.Refusal.TheVariants.{Range}
 use Rattle.arrow2_machine.specs.Held.{Held, Frozen, Growing, ◌>>=◌, at, growing, frozen}
-use Rattle.arrow2_machine.specs.Replies.{words_text}
+use Rattle.arrow2_machine.specs.Replies.{run_word, words_text}
 
 -- what a slot holds with the n bits of some bytes from bit o on: they are inside, and o + n is below 2 ^ 64
 abbrev pub stored : List ℕ → ℕ → ℕ → Result Held Refusal
@@ -29,6 +30,12 @@ word_text held width = do
   items ← frozen held
   Ok (words_text (map decimal (words (width_bits width) items)))
 
+-- the text of the runs of a slot's true items, rising
+abbrev pub run_text : Held → Result (List ℕ) Refusal
+run_text held = do
+  items ← frozen held
+  Ok (words_text (map run_word (runs items)))
+
 -- the slots after a command on stored bits, and its reply
 unfoldable pub storage_outcome : List Held → StorageCommand → Result (List Held × List ℕ) Refusal
 storage_outcome slots (Raw s bytes o n) = do
@@ -39,4 +46,7 @@ storage_outcome slots (Set s i bit) = do
   Ok (slice_set slots s held, codes "ok")
 storage_outcome slots (Words s width) = do
   said ← word_text (at slots s) width
+  Ok (slots, said)
+storage_outcome slots (Runs s) = do
+  said ← run_text (at slots s)
   Ok (slots, said)

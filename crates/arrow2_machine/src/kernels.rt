@@ -171,7 +171,7 @@ impl Slot {
     /// # Errors
     ///
     /// `Kind` alone.
-    fn frozen(&self) -> Result<&Bitmap, CommandError>
+    pub(crate) fn frozen(&self) -> Result<&Bitmap, CommandError>
         ensures gives { Gives (λ bitmap. items_of bitmap.now) result (frozen_in self.now) }
         ensures only { IfErr result (λ e. e ≢ CommandError.OutOfMemory) }
     {

@@ -2,6 +2,7 @@
 #![tactic(auto)]
 
 mod bitmaps;
+mod growth;
 mod kernels;
 pub mod machine;
 mod offsets;

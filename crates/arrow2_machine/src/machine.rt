@@ -7,7 +7,7 @@ ghost use Rattle.arrow2_machine.specs.Outcomes.{Fails};
 
 use crate::refusal::{CommandError, Refusal};
 use crate::slot::Slot;
-use crate::{bitmaps, kernels, offsets, storage, values};
+use crate::{bitmaps, growth, kernels, offsets, storage, values};
 use arrow2_script::command::{Command, parse};
 use std::alloc::{AllocError, Global};
 use std::array;
@@ -56,6 +56,7 @@ impl Machine {
             Command::Value(command) => values::run(&mut self.slots, command, reply),
             Command::Storage(command) => storage::run(&mut self.slots, alloc, command, reply),
             Command::Kernel(command) => kernels::run(&mut self.slots, command, reply),
+            Command::Growth(command) => growth::run(&mut self.slots, command, reply),
         }
     }
 

@@ -1,12 +1,13 @@
 //! The commands on the bits in which bitmaps stand: what each does to its slots, and its reply.
 ghost use Rattle.std.specs.Prelude.{◌≡◌, ◌≢◌, ◌++◌, OnOk, OnErr, IfErr, IfOk, IsOkAnd};
-ghost use Rattle.arrow2_machine.specs.StorageOutcomes.{stored, item_set, word_text, storage_outcome};
+ghost use Rattle.arrow2_machine.specs.StorageOutcomes.{stored, item_set, word_text, run_text, storage_outcome};
 ghost use Rattle.arrow2_machine.specs.Outcomes.{Gives, Fails};
 
 use crate::refusal::{CommandError, Refusal};
-use crate::replies::write_words;
+use crate::replies::{write_runs, write_words};
 use crate::slot::{Contents, Slot};
 use arrow2::bitmap::Bitmap;
+use arrow2::bitmap::utils::SlicesIterator;
 use arrow2_script::storage_command::StorageCommand;
 use arrow2_script::words::{HexText, Width};
 use std::alloc::Global;
@@ -29,6 +30,7 @@ pub(crate) fn run(
         }
         StorageCommand::Set(slot, index, bit) => slots[slot.get()].set(index, bit)?,
         StorageCommand::Words(slot, width) => return slots[slot.get()].write_words(width, reply),
+        StorageCommand::Runs(slot) => return slots[slot.get()].write_runs(reply),
     }
     reply.extend_from_slice(b"ok")?;
     Ok(())
@@ -100,6 +102,19 @@ impl Slot {
             Width::Bits32 => write_words(bitmap.chunks::<u32>(), |word| word as usize, out),
             Width::Bits64 => write_words(bitmap.chunks::<u64>(), |word| word as usize, out),
         }
+    }
+
+    /// Appends the runs of set items of a frozen bitmap, each as its first place and its length.
+    ///
+    /// # Errors
+    ///
+    /// `Kind`, which changes nothing, or `OutOfMemory`, after which a part of the text may be there.
+    pub fn write_runs(&self, out: &mut Vec<u8>) -> Result<(), CommandError>
+        ensures ok { OnOk result (IsOkAnd (run_text self.now) (λ text. out.new.items ≡ out.old.items ++ text)) }
+        ensures refused { IfErr result (λ e. Fails e (run_text self.now)) }
+        ensures err { IfErr result (λ e. e ≢ CommandError.OutOfMemory → out.new.items ≡ out.old.items) }
+    {
+        write_runs(SlicesIterator::new(self.frozen()?), out)
     }
 }
 

@@ -170,8 +170,8 @@ fn scripts_of_offsets(rt: HostRuntime) -> Result<(), Fail> {
 fn scripts_of_kernels(rt: HostRuntime) -> Result<(), Fail> {
     let rows: [(&[u8], &[u8]); 9] = [
         (
-            b"raw 0 b65b 3 10\nbits 0\nwords 0 8\nraw 1 ff 4 5\nraw 1 f 0 1\n",
-            b"ok\n0110111011\n118 3\nerror range\nerror syntax\n",
+            b"raw 0 b65b 3 10\nbits 0\nwords 0 8\nruns 0\nraw 1 ff 4 5\nraw 1 f 0 1\n",
+            b"ok\n0110111011\n118 3\n1:2 4:3 8:2\nerror range\nerror syntax\n",
         ),
         (
             b"new 0 1100\nfreeze 0\nfreeze 0\nnew 1 1010\nfreeze 1\ntable2 2 2 0 1\nbits 2\nnew 3 1100\ninplace2 3 6 16 1\nbits 3\nand 4 0 5\nnew 5 1\nfreeze 5\nand 4 0 5\n",
@@ -204,6 +204,38 @@ fn scripts_of_kernels(rt: HostRuntime) -> Result<(), Fail> {
         (
             b"raw 0 b65b 3 10\ncopy 0 1\nslice 1 1 8\nnot 1 1\nbits 1\nwords 1 16\nthaw 0\nset 0 0 1\nset 0 9 0\nbits 0\n",
             b"ok\nok\nok\nok\n00100010\n68\nok\nok\nok\n1110111010\n",
+        ),
+    ];
+    for (script, replies) in rows {
+        let (out, result) = told(rt.alloc(), script, Vec::new(rt.alloc()));
+        assert_eq!(&rt; result, Ok(()));
+        assert_eq!(&rt; out.as_slice(), replies);
+    }
+    Ok(())
+}
+
+#[test]
+fn scripts_of_growth(rt: HostRuntime) -> Result<(), Fail> {
+    let rows: [(&[u8], &[u8]); 5] = [
+        (
+            b"new 0 -\nfreeze 0\nruns 0\nraw 1 ffff 5 9\nruns 1\nnew 2 1\nfill 2 3 0\nfill 2 9 1\nappend 2 1\nappend 2 0\nfreeze 2\nruns 2\ncount 2\n",
+            b"ok\nok\n-\nok\n0:9\nok\nok\nok\nok\nok\nok\n0:1 4:18\n3\n",
+        ),
+        (
+            b"runs 0\nnew 0 1\nruns 0\nruns 16\nruns\nruns 0 0\nnew 0 000\nfreeze 0\nruns 0\n",
+            b"error kind\nok\nerror kind\nerror syntax\nerror syntax\nerror syntax\nok\nok\n-\n",
+        ),
+        (
+            b"new 0 1\nfill 0 18446744073709551615 1\nbits 0\nslice 0 0 1\n\n",
+            b"ok\nerror overflow\n1\nerror kind\nerror syntax\n",
+        ),
+        (
+            b"new 0 10\nfill 0 3 0\nfill 0 2 1\nbits 0\nraw 1 b65b 3 10\nappend 0 1\nbits 0\nbits 1\n",
+            b"ok\nok\nok\n1000011\nok\nok\n10000110110111011\n0110111011\n",
+        ),
+        (
+            b"fill 0 1 1\nnew 0 1\nappend 0 0\nappend 0 1\nnew 1 0\nfreeze 1\nappend 1 1\nfill 1 1 1\nappend 0 1\nfill 0 0 1\nbits 0\nfill 0 1\nfill 0 1 2\nfill 0 01 1\nappend 0\nappend 0 16\nappend 0 1 1\n",
+            b"error kind\nok\nerror kind\nerror kind\nok\nok\nerror kind\nerror kind\nok\nok\n10\nerror syntax\nerror syntax\nerror syntax\nerror syntax\nerror syntax\nerror syntax\n",
         ),
     ];
     for (script, replies) in rows {

@@ -10,8 +10,11 @@ use Rattle.arrow2_script.specs.OffsetCommands.{offset_named, offset_words}
 use Rattle.arrow2_script.specs.ValueCommands.{value_named, value_words}
 use Rattle.arrow2_script.specs.StorageCommands.{storage_named, storage_words}
 use Rattle.arrow2_script.specs.KernelCommands.{kernel_named, kernel_words}
+use Rattle.arrow2_script.specs.GrowthCommands.{growth_named, growth_words}
+use Rattle.arrow2_script.specs.declared.growth_command.GrowthCommand.{GrowthCommand}
+use Rattle.arrow2_script.specs.declared.growth_command.GrowthCommand.TheVariants.{Fill, Append}
 use Rattle.arrow2_script.specs.declared.storage_command.StorageCommand.{StorageCommand}
-use Rattle.arrow2_script.specs.declared.storage_command.StorageCommand.TheVariants.{Raw, Set, Words}
+use Rattle.arrow2_script.specs.declared.storage_command.StorageCommand.TheVariants.{Raw, Set, Words, Runs}
 use Rattle.arrow2_script.specs.declared.kernel_command.KernelCommand.{KernelCommand}
 use Rattle.arrow2_script.specs.declared.kernel_command.KernelCommand.TheVariants.{Make, AssignUnary, AssignBinary}
 use Rattle.arrow2_script.specs.declared.kernel_command.Kernel.TheVariants.{And, Or, Xor, Not, Unary, Binary, Ternary, Quaternary}
@@ -21,7 +24,7 @@ use Rattle.arrow2_script.specs.declared.value_command.ValueCommand.{ValueCommand
 use Rattle.arrow2_script.specs.declared.value_command.ValueCommand.TheVariants.{Copy, Compare}
 use Rattle.arrow2_script.specs.Commands.{named, command_of, command_in, command_words, Fits}
 use Rattle.arrow2_script.specs.declared.command.Command.{Command}
-use Rattle.arrow2_script.specs.declared.command.Command.TheVariants.{Bitmap, Offset, Value, Storage, Kernel}
+use Rattle.arrow2_script.specs.declared.command.Command.TheVariants.{Bitmap, Offset, Value, Storage, Kernel, Growth}
 use Rattle.arrow2_script.proofs.WordLemmas.{some_or_none}
 use Rattle.arrow2_script.proofs.SpellingLemmas.{is_word, words_there}
 use Rattle.arrow2_script.proofs.BitmapCommandLemmas.{bitmap_says, bitmap_of, bitmap_of-words, bitmap_words_pass, some_bitmap_words}
@@ -29,6 +32,7 @@ use Rattle.arrow2_script.proofs.OffsetCommandLemmas.{offset_says, offset_of, off
 use Rattle.arrow2_script.proofs.ValueCommandLemmas.{value_says, value_of, value_of-words, value_words_pass, some_value_words}
 use Rattle.arrow2_script.proofs.StorageCommandLemmas.{storage_says, storage_of, storage_of-words, storage_words_pass, some_storage_words}
 use Rattle.arrow2_script.proofs.KernelCommandLemmas.{kernel_says, kernel_of, kernel_of-words, kernel_words_pass, some_kernel_words}
+use Rattle.arrow2_script.proofs.GrowthCommandLemmas.{growth_says, growth_of, growth_of-words, growth_words_pass, some_growth_words}
 use Rattle.arrow2_script.proofs.KindLemmas.{same_says}
 
 -- what a value was mapped from
@@ -52,7 +56,8 @@ named_says name words command =
     of_kind Offset (offset_named name words) (offset_says name words) _ (
     of_kind Value (value_named name words) (value_says name words) _ (
     of_kind Storage (storage_named name words) (storage_says name words) _ (
-    only_kind Kernel (kernel_named name words) (kernel_says name words)))))
+    of_kind Kernel (kernel_named name words) (kernel_says name words) _ (
+    only_kind Growth (growth_named name words) (growth_says name words))))))
   where
     only_kind : {K : Type 0} (kind : K → Command) (read : Option K) → ((c : K) → read ≡ Some c → Says name words (kind c)) → option_map kind read ≡ Some command → Says name words command
     only_kind kind read says e =
@@ -97,8 +102,9 @@ unfolding bitmap_named offset_named value_named
 storage_no_other (Raw slot bytes offset length) = (refl, refl, refl)
 storage_no_other (Set slot index bit) = (refl, refl, refl)
 storage_no_other (Words slot width) = (refl, refl, refl)
+storage_no_other (Runs slot) = (refl, refl, refl)
 
--- words that say a command of none of the kinds before the last one
+-- words that say a command of none of the kinds before the kernels
 abbrev NoOther : List (List ℕ) → Type 0
 NoOther words = (bitmap_of words ≡ None) × (offset_of words ≡ None) × (value_of words ≡ None) × (storage_of words ≡ None)
 
@@ -115,8 +121,13 @@ kernel_no_other (Make to (Quaternary table first second third fourth)) = (refl, 
 kernel_no_other (AssignUnary slot table width) = (refl, refl, refl, refl)
 kernel_no_other (AssignBinary slot table width other) = (refl, refl, refl, refl)
 
+growth_no_other : (command : GrowthCommand) → NoOther (growth_words command) × (kernel_of (growth_words command) ≡ None)
+unfolding bitmap_named offset_named value_named storage_named kernel_named
+growth_no_other (Fill slot additional bit) = ((refl, refl, refl, refl), refl)
+growth_no_other (Append to from) = ((refl, refl, refl, refl), refl)
+
 -- words that are there, read by kind
-by_kind : (words : List (List ℕ)) → 0 < length words → command_of words ≡ option_or (option_map Bitmap (bitmap_of words)) (option_or (option_map Offset (offset_of words)) (option_or (option_map Value (value_of words)) (option_or (option_map Storage (storage_of words)) (option_map Kernel (kernel_of words)))))
+by_kind : (words : List (List ℕ)) → 0 < length words → command_of words ≡ option_or (option_map Bitmap (bitmap_of words)) (option_or (option_map Offset (offset_of words)) (option_or (option_map Value (value_of words)) (option_or (option_map Storage (storage_of words)) (option_or (option_map Kernel (kernel_of words)) (option_map Growth (growth_of words))))))
 unfolding command_of named
 by_kind [] some = absurd (omega arith)
 by_kind (name ∷ words) some = refl
@@ -128,6 +139,7 @@ some_words (Offset command) = some_offset_words command
 some_words (Value command) = some_value_words command
 some_words (Storage command) = some_storage_words command
 some_words (Kernel command) = some_kernel_words command
+some_words (Growth command) = some_growth_words command
 
 -- the words of a command say it
 pub command_of-words : (command : Command) → Fits command → command_of (command_words command) ≡ Some command
@@ -140,6 +152,9 @@ command_of-words (Storage command) fits =
 command_of-words (Kernel command) fits =
     let no = kernel_no_other command in
     rw (by_kind (kernel_words command) (some_kernel_words command), no.0, no.1, no.2, no.3, kernel_of-words command fits) refl
+command_of-words (Growth command) fits =
+    let no = growth_no_other command in
+    rw (by_kind (growth_words command) (some_growth_words command), no.0.0, no.0.1, no.0.2, no.0.3, no.1, growth_of-words command fits) refl
 
 -- they are words
 pub command_words_pass : (command : Command) → Fits command → list_all is_word (command_words command) ≡ true
@@ -148,6 +163,7 @@ command_words_pass (Offset command) fits = offset_words_pass command fits
 command_words_pass (Value command) fits = value_words_pass command fits
 command_words_pass (Storage command) fits = storage_words_pass command fits
 command_words_pass (Kernel command) fits = kernel_words_pass command fits
+command_words_pass (Growth command) fits = growth_words_pass command fits
 
 -- parts of which one is blank say no command
 blank_says_none : (parts : List (List ℕ)) → list_any is_blank parts ≡ true → command_of parts ≡ None

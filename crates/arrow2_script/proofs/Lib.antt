@@ -1,6 +1,7 @@
 pub mod ArgumentLemmas
 pub mod BitmapCommandLemmas
 pub mod CommandLemmas
+pub mod GrowthCommandLemmas
 pub mod HexLemmas
 pub mod KernelCommandLemmas
 pub mod KindLemmas

@@ -3,11 +3,11 @@ use Rattle.std.proofs.Common.{◌≡◌, refl, ◌<◌, ℕ, List, [], ◌∷◌
 use Rattle.std.specs.Prelude.{Option, Some, None}
 use Rattle.std.specs.List.{list_all}
 use Rattle.std.proofs.lemmas.Option.{none-some}
-use Rattle.arrow2_script.specs.StorageCommands.{raw_of, set_of, words_of_slot, storage_named, storage_words, StorageFits}
+use Rattle.arrow2_script.specs.StorageCommands.{raw_of, set_of, words_of_slot, runs_of_slot, storage_named, storage_words, StorageFits}
 use Rattle.arrow2_script.specs.declared.storage_command.StorageCommand.{StorageCommand}
-use Rattle.arrow2_script.specs.declared.storage_command.StorageCommand.TheVariants.{Raw, Set, Words}
+use Rattle.arrow2_script.specs.declared.storage_command.StorageCommand.TheVariants.{Raw, Set, Words, Runs}
 use Rattle.arrow2_script.proofs.HexLemmas.{bytes_of-text}
-use Rattle.arrow2_script.proofs.KindLemmas.{slots, numbers, bits, widths, hex_bytes, two_then, three_then, four_then, at_name}
+use Rattle.arrow2_script.proofs.KindLemmas.{slots, numbers, bits, widths, hex_bytes, one_then, two_then, three_then, four_then, at_name}
 use Rattle.arrow2_script.proofs.SpellingLemmas.{is_word, number_word, slot_word, bit_word, width_is_word, hex_word}
 use Rattle.arrow2_script.proofs.WordLemmas.{number_of-decimal, slot_of-decimal, bit_of-byte, width_of-word}
 
@@ -27,6 +27,10 @@ words_says : (words : List (List ℕ)) (command : StorageCommand) → words_of_s
 unfolding words_of_slot
 words_says = two_then slots widths Words (Says (codes "words")) (λ slot width s w. (s, refl))
 
+runs_says : (words : List (List ℕ)) (command : StorageCommand) → runs_of_slot words ≡ Some command → Says (codes "runs") words command
+unfolding runs_of_slot
+runs_says = one_then slots Runs (Says (codes "runs")) (λ slot s. (s, refl))
+
 -- words that say a command on stored bits are its words
 pub storage_says : (name : List ℕ) (words : List (List ℕ)) (command : StorageCommand) → storage_named name words ≡ Some command → Says name words command
 unfolding storage_named
@@ -34,8 +38,9 @@ storage_says name words command =
     let at = at_name (λ known c. Says known words c) in
     at (codes "raw") (raw_of words) name command (raw_says words command) _ (
     at (codes "set") (set_of words) name command (set_says words command) _ (
-    at (codes "words") (words_of_slot words) name command (words_says words command) None (
-    λ e. absurd (none-some command e))))
+    at (codes "words") (words_of_slot words) name command (words_says words command) _ (
+    at (codes "runs") (runs_of_slot words) name command (runs_says words command) None (
+    λ e. absurd (none-some command e)))))
 
 -- the command on stored bits that words say
 abbrev pub storage_of : List (List ℕ) → Option StorageCommand
@@ -44,10 +49,11 @@ storage_of (name ∷ words) = storage_named name words
 
 -- the words of a command on stored bits say it
 pub storage_of-words : (command : StorageCommand) → StorageFits command → storage_of (storage_words command) ≡ Some command
-unfolding storage_named raw_of set_of words_of_slot
+unfolding storage_named raw_of set_of words_of_slot runs_of_slot
 storage_of-words (Raw slot bytes offset length) fits = rw (slot_of-decimal slot fits.0, bytes_of-text bytes fits.1, number_of-decimal offset fits.2, number_of-decimal length fits.3) refl
 storage_of-words (Set slot index bit) fits = rw (slot_of-decimal slot fits.0, number_of-decimal index fits.1, bit_of-byte bit) refl
 storage_of-words (Words slot width) fits = rw (slot_of-decimal slot fits, width_of-word width) refl
+storage_of-words (Runs slot) fits = rw (slot_of-decimal slot fits) refl
 
 -- they are words
 pub storage_words_pass : (command : StorageCommand) → StorageFits command → list_all is_word (storage_words command) ≡ true
@@ -55,9 +61,11 @@ unfolding is_word
 storage_words_pass (Raw slot bytes offset length) fits = rw (slot_word slot fits.0, hex_word bytes fits.1, number_word offset fits.2, number_word length fits.3) refl
 storage_words_pass (Set slot index bit) fits = rw (slot_word slot fits.0, number_word index fits.1, bit_word bit) refl
 storage_words_pass (Words slot width) fits = rw (slot_word slot fits, width_is_word width) refl
+storage_words_pass (Runs slot) fits = rw (slot_word slot fits) refl
 
 -- and there are some
 pub some_storage_words : (command : StorageCommand) → 0 < length (storage_words command)
 some_storage_words (Raw slot bytes offset length) = omega arith
 some_storage_words (Set slot index bit) = omega arith
 some_storage_words (Words slot width) = omega arith
+some_storage_words (Runs slot) = omega arith

@@ -8,8 +8,9 @@ use Rattle.arrow2_script.specs.OffsetCommands.{offset_named, offset_words, Offse
 use Rattle.arrow2_script.specs.ValueCommands.{value_named, value_words, ValueFits}
 use Rattle.arrow2_script.specs.StorageCommands.{storage_named, storage_words, StorageFits}
 use Rattle.arrow2_script.specs.KernelCommands.{kernel_named, kernel_words, KernelFits}
+use Rattle.arrow2_script.specs.GrowthCommands.{growth_named, growth_words, GrowthFits}
 use Rattle.arrow2_script.specs.declared.command.Command.{Command}
-use Rattle.arrow2_script.specs.declared.command.Command.TheVariants.{Bitmap, Offset, Value, Storage, Kernel}
+use Rattle.arrow2_script.specs.declared.command.Command.TheVariants.{Bitmap, Offset, Value, Storage, Kernel, Growth}
 
 -- the command that the words after a name say, of whichever kind
 unfoldable pub named : List ℕ → List (List ℕ) → Option Command
@@ -18,7 +19,8 @@ named name words =
     option_or (option_map Offset (offset_named name words)) (
     option_or (option_map Value (value_named name words)) (
     option_or (option_map Storage (storage_named name words)) (
-    option_map Kernel (kernel_named name words)))))
+    option_or (option_map Kernel (kernel_named name words)) (
+    option_map Growth (growth_named name words))))))
 
 -- the command that words say
 unfoldable pub command_of : List (List ℕ) → Option Command
@@ -36,6 +38,7 @@ command_words (Offset command) = offset_words command
 command_words (Value command) = value_words command
 command_words (Storage command) = storage_words command
 command_words (Kernel command) = kernel_words command
+command_words (Growth command) = growth_words command
 
 -- slots are below 16, and numbers fit 64 bits
 abbrev pub Fits : Command → Type 0
@@ -44,6 +47,7 @@ Fits (Offset command) = OffsetFits command
 Fits (Value command) = ValueFits command
 Fits (Storage command) = StorageFits command
 Fits (Kernel command) = KernelFits command
+Fits (Growth command) = GrowthFits command
 
 -- the line is the command: its words, joined by one byte 32
 abbrev pub IsSpelling : List ℕ → Command → Type 0

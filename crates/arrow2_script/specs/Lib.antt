@@ -1,6 +1,7 @@
 pub mod Arguments
 pub mod BitmapCommands
 pub mod Commands
+pub mod GrowthCommands
 pub mod KernelCommands
 pub mod Lines
 pub mod OffsetCommands

@@ -3,6 +3,7 @@ ghost use Rattle.std.specs.Prelude.{◌≡◌};
 ghost use Rattle.arrow2_script.specs.Commands.{named, command_in};
 
 use crate::bitmap_command::BitmapCommand;
+use crate::growth_command::GrowthCommand;
 use crate::kernel_command::KernelCommand;
 use crate::lines::Parts;
 use crate::offset_command::OffsetCommand;
@@ -22,6 +23,8 @@ pub enum Command<'a> {
     Storage(StorageCommand<'a>),
     /// A command that combines bitmaps.
     Kernel(KernelCommand),
+    /// A command by which a bitmap grows by many items.
+    Growth(GrowthCommand),
 }
 
 /// The command of this name, with these words behind it.
@@ -41,8 +44,11 @@ fn read_named<'a>(name: &[u8], parts: Parts<'a>) -> Option<Command<'a>>
     if let Some(command) = StorageCommand::read(name, parts.again()) {
         return Some(Command::Storage(command));
     }
-    let command = KernelCommand::read(name, parts)?;
-    Some(Command::Kernel(command))
+    if let Some(command) = KernelCommand::read(name, parts.again()) {
+        return Some(Command::Kernel(command));
+    }
+    let command = GrowthCommand::read(name, parts)?;
+    Some(Command::Growth(command))
 }
 
 /// The command that a line says, if it says one.

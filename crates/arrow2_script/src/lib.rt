@@ -4,6 +4,7 @@
 mod arguments;
 pub mod bitmap_command;
 pub mod command;
+pub mod growth_command;
 pub mod kernel_command;
 pub mod laws;
 pub mod lines;

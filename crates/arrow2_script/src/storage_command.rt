@@ -1,8 +1,8 @@
 //! The commands on the bits in which bitmaps stand, and which one the words of a line say.
 ghost use Rattle.std.specs.Prelude.{◌≡◌};
-ghost use Rattle.arrow2_script.specs.StorageCommands.{raw_of, set_of, words_of_slot, storage_named};
+ghost use Rattle.arrow2_script.specs.StorageCommands.{raw_of, set_of, words_of_slot, runs_of_slot, storage_named};
 
-use crate::arguments::{four, three, two};
+use crate::arguments::{four, one, three, two};
 use crate::lines::Parts;
 use crate::words::{HexText, SlotIndex, Width, bit, number};
 
@@ -15,6 +15,8 @@ pub enum StorageCommand<'a> {
     Set(SlotIndex, u64, bool),
     /// `words s w`: the words of w bits of the frozen bitmap of slot s.
     Words(SlotIndex, Width),
+    /// `runs s`: the runs of set items of the frozen bitmap of slot s.
+    Runs(SlotIndex),
 }
 
 #[tactic(auto, unfolding(crate::specs::StorageCommands::raw_of))]
@@ -50,6 +52,14 @@ fn read_words<'a>(parts: Parts<'a>) -> Option<StorageCommand<'a>>
     Some(StorageCommand::Words(slot, width))
 }
 
+#[tactic(auto, unfolding(crate::specs::StorageCommands::runs_of_slot))]
+fn read_runs<'a>(parts: Parts<'a>) -> Option<StorageCommand<'a>>
+    ensures { result ≡ runs_of_slot parts.entry }
+{
+    let slot = SlotIndex::read(one(parts)?)?;
+    Some(StorageCommand::Runs(slot))
+}
+
 impl<'a> StorageCommand<'a> {
     /// The command of this name, with these words behind it.
     #[tactic(auto, unfolding(crate::specs::StorageCommands::storage_named))]
@@ -62,6 +72,8 @@ impl<'a> StorageCommand<'a> {
             read_set(parts)
         } else if name == b"words".as_slice() {
             read_words(parts)
+        } else if name == b"runs".as_slice() {
+            read_runs(parts)
         } else {
             None
         }

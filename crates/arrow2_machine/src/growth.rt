@@ -1,0 +1,70 @@
+//! The commands by which bitmaps grow by many items: what each does to its slots, and its reply.
+ghost use Rattle.std.specs.Prelude.{◌≡◌, ◌≢◌, ◌++◌, OnOk, OnErr, IfErr, IsOkAnd};
+ghost use Rattle.arrow2.specs.Storage.{items_of};
+ghost use Rattle.arrow2_machine.specs.GrowthOutcomes.{filled, appended, growth_outcome};
+ghost use Rattle.arrow2_machine.specs.Outcomes.{Gives, Fails};
+
+use crate::refusal::{CommandError, Refusal};
+use crate::slot::{Contents, Slot};
+use arrow2::bitmap::Bitmap;
+use arrow2_script::growth_command::GrowthCommand;
+
+/// Carries a command by which a bitmap grows out, and appends its reply.
+#[tactic(auto, unfolding(crate::specs::GrowthOutcomes::growth_outcome))]
+pub(crate) fn run(
+    slots: &mut [Slot; 16],
+    command: GrowthCommand,
+    reply: &mut Vec<u8>,
+) -> Result<(), CommandError>
+    ensures ok { OnOk result (IsOkAnd (growth_outcome slots.old command) (λ after. (slots.new ≡ after.0) × (reply.new.items ≡ reply.old.items ++ after.1))) }
+    ensures refused { IfErr result (λ e. Fails e (growth_outcome slots.old command)) }
+    ensures err { IfErr result (λ e. e ≢ CommandError.OutOfMemory → (slots.new ≡ slots.old) × (reply.new.items ≡ reply.old.items)) }
+{
+    match command {
+        GrowthCommand::Fill(slot, additional, bit) => slots[slot.get()].fill(additional, bit)?,
+        GrowthCommand::Append(to, from) => {
+            let other = slots[from.get()].frozen()?.clone()?;
+            slots[to.get()].append(&other)?;
+        }
+    }
+    reply.extend_from_slice(b"ok")?;
+    Ok(())
+}
+
+impl Slot {
+    /// Appends a bit to a growing bitmap `additional` times.
+    ///
+    /// # Errors
+    ///
+    /// `Kind`, `Overflow` or `OutOfMemory`. They change nothing.
+    pub fn fill(&mut self, additional: u64, bit: bool) -> Result<(), CommandError>
+        ensures gives { Gives (λ _. self.new) result (filled self.old additional bit) }
+        ensures err { OnErr result (self.new ≡ self.old) }
+    {
+        match &mut self.contents {
+            Contents::Growing(bitmap) => {
+                bitmap.extend_constant(additional as usize, bit)?;
+                Ok(())
+            }
+            _ => Err(CommandError::Refused(Refusal::Kind)),
+        }
+    }
+
+    /// Appends the items of another bitmap to a growing one.
+    ///
+    /// # Errors
+    ///
+    /// `Kind`, `Overflow` or `OutOfMemory`. They change nothing.
+    pub fn append(&mut self, other: &Bitmap) -> Result<(), CommandError>
+        ensures gives { Gives (λ _. self.new) result (appended self.old (items_of other.now)) }
+        ensures err { OnErr result (self.new ≡ self.old) }
+    {
+        match &mut self.contents {
+            Contents::Growing(bitmap) => {
+                bitmap.extend_from_bitmap(other)?;
+                Ok(())
+            }
+            _ => Err(CommandError::Refused(Refusal::Kind)),
+        }
+    }
+}
