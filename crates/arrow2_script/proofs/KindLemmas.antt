@@ -54,23 +54,23 @@ module _ {C : Type 0} where
       subst Said q.1 (says p.0 q.0 p.2)
 
   -- what is known of commands of so many words, where it is known of the words that spell their values
-  one_read : {A : Type 0} (f : Reader A) (made : A → C) (Says : List (List ℕ) → C → Type 0) → ((x : A) → f.Fits x → Says (f.spell x ∷ []) (made x)) → (w0 : List ℕ) (command : C) → (f.read w0 >>= λ x. Some (made x)) ≡ Some command → Says (w0 ∷ []) command
-  one_read f made Says says w0 command = value_then f w0 (λ x. Some (made x)) command (λ t. Says (t ∷ []) command) (λ x fits e. subst (λ c. Says (f.spell x ∷ []) c) (same_Some (made x) command e) (says x fits))
+  one_read : {A : Type 0} (f : Reader A) (made : A → C) (Says : List (List ℕ) → C → Type 0) → ((x : A) → f.Fits x → Says (f.spell x ∷ []) (made x)) → (word0 : List ℕ) (command : C) → (f.read word0 >>= λ x. Some (made x)) ≡ Some command → Says (word0 ∷ []) command
+  one_read f made Says says word0 command = value_then f word0 (λ x. Some (made x)) command (λ t. Says (t ∷ []) command) (λ x fits e. subst (λ c. Says (f.spell x ∷ []) c) (same_Some (made x) command e) (says x fits))
 
-  two_read : {A B : Type 0} (f : Reader A) (g : Reader B) (made : A → B → C) (Says : List (List ℕ) → C → Type 0) → ((x : A) (y : B) → f.Fits x → g.Fits y → Says (f.spell x ∷ g.spell y ∷ []) (made x y)) → (w0 w1 : List ℕ) (command : C) → (f.read w0 >>= λ x. g.read w1 >>= λ y. Some (made x y)) ≡ Some command → Says (w0 ∷ w1 ∷ []) command
-  two_read f g made Says says w0 w1 command = value_then f w0 (λ x. g.read w1 >>= λ y. Some (made x y)) command (λ t. Says (t ∷ w1 ∷ []) command) (λ x fits e. one_read g (made x) (λ t c. Says (f.spell x ∷ t) c) (λ y fy. says x y fits fy) w1 command e)
+  two_read : {A B : Type 0} (f : Reader A) (g : Reader B) (made : A → B → C) (Says : List (List ℕ) → C → Type 0) → ((x : A) (y : B) → f.Fits x → g.Fits y → Says (f.spell x ∷ g.spell y ∷ []) (made x y)) → (word0 word1 : List ℕ) (command : C) → (f.read word0 >>= λ x. g.read word1 >>= λ y. Some (made x y)) ≡ Some command → Says (word0 ∷ word1 ∷ []) command
+  two_read f g made Says says word0 word1 command = value_then f word0 (λ x. g.read word1 >>= λ y. Some (made x y)) command (λ t. Says (t ∷ word1 ∷ []) command) (λ x fits e. one_read g (made x) (λ t c. Says (f.spell x ∷ t) c) (λ y fy. says x y fits fy) word1 command e)
 
-  three_read : {A B D : Type 0} (f : Reader A) (g : Reader B) (h : Reader D) (made : A → B → D → C) (Says : List (List ℕ) → C → Type 0) → ((x : A) (y : B) (z : D) → f.Fits x → g.Fits y → h.Fits z → Says (f.spell x ∷ g.spell y ∷ h.spell z ∷ []) (made x y z)) → (w0 w1 w2 : List ℕ) (command : C) → (f.read w0 >>= λ x. g.read w1 >>= λ y. h.read w2 >>= λ z. Some (made x y z)) ≡ Some command → Says (w0 ∷ w1 ∷ w2 ∷ []) command
-  three_read f g h made Says says w0 w1 w2 command = value_then f w0 (λ x. g.read w1 >>= λ y. h.read w2 >>= λ z. Some (made x y z)) command (λ t. Says (t ∷ w1 ∷ w2 ∷ []) command) (λ x fits e. two_read g h (made x) (λ t c. Says (f.spell x ∷ t) c) (λ y z fy fz. says x y z fits fy fz) w1 w2 command e)
+  three_read : {A B D : Type 0} (f : Reader A) (g : Reader B) (h : Reader D) (made : A → B → D → C) (Says : List (List ℕ) → C → Type 0) → ((x : A) (y : B) (z : D) → f.Fits x → g.Fits y → h.Fits z → Says (f.spell x ∷ g.spell y ∷ h.spell z ∷ []) (made x y z)) → (word0 word1 word2 : List ℕ) (command : C) → (f.read word0 >>= λ x. g.read word1 >>= λ y. h.read word2 >>= λ z. Some (made x y z)) ≡ Some command → Says (word0 ∷ word1 ∷ word2 ∷ []) command
+  three_read f g h made Says says word0 word1 word2 command = value_then f word0 (λ x. g.read word1 >>= λ y. h.read word2 >>= λ z. Some (made x y z)) command (λ t. Says (t ∷ word1 ∷ word2 ∷ []) command) (λ x fits e. two_read g h (made x) (λ t c. Says (f.spell x ∷ t) c) (λ y z fy fz. says x y z fits fy fz) word1 word2 command e)
 
-  four_read : {A B D E : Type 0} (f : Reader A) (g : Reader B) (h : Reader D) (i : Reader E) (made : A → B → D → E → C) (Says : List (List ℕ) → C → Type 0) → ((x : A) (y : B) (z : D) (u : E) → f.Fits x → g.Fits y → h.Fits z → i.Fits u → Says (f.spell x ∷ g.spell y ∷ h.spell z ∷ i.spell u ∷ []) (made x y z u)) → (w0 w1 w2 w3 : List ℕ) (command : C) → (f.read w0 >>= λ x. g.read w1 >>= λ y. h.read w2 >>= λ z. i.read w3 >>= λ u. Some (made x y z u)) ≡ Some command → Says (w0 ∷ w1 ∷ w2 ∷ w3 ∷ []) command
-  four_read f g h i made Says says w0 w1 w2 w3 command = value_then f w0 (λ x. g.read w1 >>= λ y. h.read w2 >>= λ z. i.read w3 >>= λ u. Some (made x y z u)) command (λ t. Says (t ∷ w1 ∷ w2 ∷ w3 ∷ []) command) (λ x fits e. three_read g h i (made x) (λ t c. Says (f.spell x ∷ t) c) (λ y z u fy fz fu. says x y z u fits fy fz fu) w1 w2 w3 command e)
+  four_read : {A B D E : Type 0} (f : Reader A) (g : Reader B) (h : Reader D) (i : Reader E) (made : A → B → D → E → C) (Says : List (List ℕ) → C → Type 0) → ((x : A) (y : B) (z : D) (u : E) → f.Fits x → g.Fits y → h.Fits z → i.Fits u → Says (f.spell x ∷ g.spell y ∷ h.spell z ∷ i.spell u ∷ []) (made x y z u)) → (word0 word1 word2 word3 : List ℕ) (command : C) → (f.read word0 >>= λ x. g.read word1 >>= λ y. h.read word2 >>= λ z. i.read word3 >>= λ u. Some (made x y z u)) ≡ Some command → Says (word0 ∷ word1 ∷ word2 ∷ word3 ∷ []) command
+  four_read f g h i made Says says word0 word1 word2 word3 command = value_then f word0 (λ x. g.read word1 >>= λ y. h.read word2 >>= λ z. i.read word3 >>= λ u. Some (made x y z u)) command (λ t. Says (t ∷ word1 ∷ word2 ∷ word3 ∷ []) command) (λ x fits e. three_read g h i (made x) (λ t c. Says (f.spell x ∷ t) c) (λ y z u fy fz fu. says x y z u fits fy fz fu) word1 word2 word3 command e)
 
-  five_read : {A B D E G : Type 0} (f : Reader A) (g : Reader B) (h : Reader D) (i : Reader E) (j : Reader G) (made : A → B → D → E → G → C) (Says : List (List ℕ) → C → Type 0) → ((x : A) (y : B) (z : D) (u : E) (v : G) → f.Fits x → g.Fits y → h.Fits z → i.Fits u → j.Fits v → Says (f.spell x ∷ g.spell y ∷ h.spell z ∷ i.spell u ∷ j.spell v ∷ []) (made x y z u v)) → (w0 w1 w2 w3 w4 : List ℕ) (command : C) → (f.read w0 >>= λ x. g.read w1 >>= λ y. h.read w2 >>= λ z. i.read w3 >>= λ u. j.read w4 >>= λ v. Some (made x y z u v)) ≡ Some command → Says (w0 ∷ w1 ∷ w2 ∷ w3 ∷ w4 ∷ []) command
-  five_read f g h i j made Says says w0 w1 w2 w3 w4 command = value_then f w0 (λ x. g.read w1 >>= λ y. h.read w2 >>= λ z. i.read w3 >>= λ u. j.read w4 >>= λ v. Some (made x y z u v)) command (λ t. Says (t ∷ w1 ∷ w2 ∷ w3 ∷ w4 ∷ []) command) (λ x fits e. four_read g h i j (made x) (λ t c. Says (f.spell x ∷ t) c) (λ y z u v fy fz fu fv. says x y z u v fits fy fz fu fv) w1 w2 w3 w4 command e)
+  five_read : {A B D E G : Type 0} (f : Reader A) (g : Reader B) (h : Reader D) (i : Reader E) (j : Reader G) (made : A → B → D → E → G → C) (Says : List (List ℕ) → C → Type 0) → ((x : A) (y : B) (z : D) (u : E) (v : G) → f.Fits x → g.Fits y → h.Fits z → i.Fits u → j.Fits v → Says (f.spell x ∷ g.spell y ∷ h.spell z ∷ i.spell u ∷ j.spell v ∷ []) (made x y z u v)) → (word0 word1 word2 word3 word4 : List ℕ) (command : C) → (f.read word0 >>= λ x. g.read word1 >>= λ y. h.read word2 >>= λ z. i.read word3 >>= λ u. j.read word4 >>= λ v. Some (made x y z u v)) ≡ Some command → Says (word0 ∷ word1 ∷ word2 ∷ word3 ∷ word4 ∷ []) command
+  five_read f g h i j made Says says word0 word1 word2 word3 word4 command = value_then f word0 (λ x. g.read word1 >>= λ y. h.read word2 >>= λ z. i.read word3 >>= λ u. j.read word4 >>= λ v. Some (made x y z u v)) command (λ t. Says (t ∷ word1 ∷ word2 ∷ word3 ∷ word4 ∷ []) command) (λ x fits e. four_read g h i j (made x) (λ t c. Says (f.spell x ∷ t) c) (λ y z u v fy fz fu fv. says x y z u v fits fy fz fu fv) word1 word2 word3 word4 command e)
 
-  six_read : {A B D E G H : Type 0} (f : Reader A) (g : Reader B) (h : Reader D) (i : Reader E) (j : Reader G) (k : Reader H) (made : A → B → D → E → G → H → C) (Says : List (List ℕ) → C → Type 0) → ((x : A) (y : B) (z : D) (u : E) (v : G) (w : H) → f.Fits x → g.Fits y → h.Fits z → i.Fits u → j.Fits v → k.Fits w → Says (f.spell x ∷ g.spell y ∷ h.spell z ∷ i.spell u ∷ j.spell v ∷ k.spell w ∷ []) (made x y z u v w)) → (w0 w1 w2 w3 w4 w5 : List ℕ) (command : C) → (f.read w0 >>= λ x. g.read w1 >>= λ y. h.read w2 >>= λ z. i.read w3 >>= λ u. j.read w4 >>= λ v. k.read w5 >>= λ w. Some (made x y z u v w)) ≡ Some command → Says (w0 ∷ w1 ∷ w2 ∷ w3 ∷ w4 ∷ w5 ∷ []) command
-  six_read f g h i j k made Says says w0 w1 w2 w3 w4 w5 command = value_then f w0 (λ x. g.read w1 >>= λ y. h.read w2 >>= λ z. i.read w3 >>= λ u. j.read w4 >>= λ v. k.read w5 >>= λ w. Some (made x y z u v w)) command (λ t. Says (t ∷ w1 ∷ w2 ∷ w3 ∷ w4 ∷ w5 ∷ []) command) (λ x fits e. five_read g h i j k (made x) (λ t c. Says (f.spell x ∷ t) c) (λ y z u v w fy fz fu fv fw. says x y z u v w fits fy fz fu fv fw) w1 w2 w3 w4 w5 command e)
+  six_read : {A B D E G H : Type 0} (f : Reader A) (g : Reader B) (h : Reader D) (i : Reader E) (j : Reader G) (k : Reader H) (made : A → B → D → E → G → H → C) (Says : List (List ℕ) → C → Type 0) → ((x : A) (y : B) (z : D) (u : E) (v : G) (w : H) → f.Fits x → g.Fits y → h.Fits z → i.Fits u → j.Fits v → k.Fits w → Says (f.spell x ∷ g.spell y ∷ h.spell z ∷ i.spell u ∷ j.spell v ∷ k.spell w ∷ []) (made x y z u v w)) → (word0 word1 word2 word3 word4 word5 : List ℕ) (command : C) → (f.read word0 >>= λ x. g.read word1 >>= λ y. h.read word2 >>= λ z. i.read word3 >>= λ u. j.read word4 >>= λ v. k.read word5 >>= λ w. Some (made x y z u v w)) ≡ Some command → Says (word0 ∷ word1 ∷ word2 ∷ word3 ∷ word4 ∷ word5 ∷ []) command
+  six_read f g h i j k made Says says word0 word1 word2 word3 word4 word5 command = value_then f word0 (λ x. g.read word1 >>= λ y. h.read word2 >>= λ z. i.read word3 >>= λ u. j.read word4 >>= λ v. k.read word5 >>= λ w. Some (made x y z u v w)) command (λ t. Says (t ∷ word1 ∷ word2 ∷ word3 ∷ word4 ∷ word5 ∷ []) command) (λ x fits e. five_read g h i j k (made x) (λ t c. Says (f.spell x ∷ t) c) (λ y z u v w fy fz fu fv fw. says x y z u v w fits fy fz fu fv fw) word1 word2 word3 word4 word5 command e)
 
   pub one_then : {A : Type 0} (f : Reader A) (made : A → C) (Says : List (List ℕ) → C → Type 0) → ((x : A) → f.Fits x → Says (f.spell x ∷ []) (made x)) → (words : List (List ℕ)) (command : C) → (one_of words >>= λ said. f.read said >>= λ x. Some (made x)) ≡ Some command → Says words command
   one_then f made Says says words command e =
