@@ -62,5 +62,18 @@ fn put_word<T: BitChunk>(bytes: &mut [u8], at: usize, count: usize, word: T)
     ensures kept { (k : ℕ) → (k < 8 * at) ⊎ (8 * (at + count) ≤ k) → slice_index_or (bits bytes.new) k false ≡ slice_index_or (bits bytes.old) k false }
 {
     let word = word.to_ne_bytes();
-    bytes[at..at + count].copy_from_slice(&word.as_slice()[..count]);
+    write_over(&mut bytes[at..at + count], &word.as_slice()[..count]);
+}
+
+/// Writes the bytes of `word` in place of `bytes`. Asks for as many. A single byte is stored by itself: as a copy, it
+/// keeps LLVM from making a loop over bytes wide.
+fn write_over(bytes: &mut [u8], word: &[u8])
+    requires size { length' word.now ≡ length' bytes.old }
+    ensures { bytes.new ≡ word.now }
+{
+    if word.len() == 1 {
+        bytes[0] = word[0];
+    } else {
+        bytes.copy_from_slice(word);
+    }
 }
