@@ -1,26 +1,23 @@
--- The table of the bytes with one bit set.
-use Rattle.std.proofs.Common.{◌≡◌, ◌∙◌, ℕ, zero, suc, ◌-◌, ◌*◌, ◌%◌, ◌^◌, ◌<◌, ◌==◌, List, [], ◌∷◌, not, get_or, ap, sym, refl, arith}
+-- The table of the bytes with one bit set, and the two halves of a byte.
+use Rattle.std.proofs.Common.{◌≡◌, ◌∙◌, ℕ, zero, suc, ◌*◌, ◌%◌, ◌^◌, ◌<◌, ◌==◌, List, [], ◌∷◌, ◌++◌, false, not, get_or, ap, sym, refl, arith}
 use Rattle.std.specs.Prelude.{bit_and}
 use Rattle.std.specs.Int.{bit_at}
+use Rattle.std.specs.Prelude.{codes, ◌/◌}
+use Rattle.std.proofs.lemmas.List.FromFn.{get_or-map-range_with_len}
+use Rattle.arrow2_model.specs.Shown.{shown_byte}
+use Rattle.arrow2_bits.specs.Digits.{four_digits}
 use Rattle.std.proofs.lemmas.Bool.{ne_eqb}
 use Rattle.std.proofs.lemmas.Nat.{one_shl, pow_pos}
 use Rattle.std.proofs.lemmas.Nat.Bits.{and_pow, bit_at-lt}
-use Rattle.arrow2_model.specs.Bits.{bit}
+use Rattle.arrow2_model.specs.Bits.{bit, bits}
 use Rattle.arrow2_model.proofs.Bits.{bit_is}
+use Rattle.arrow2_model.proofs.Shown.{bit_alone}
 
 abbrev pub table : List ℕ
 table = 1 ∷ 2 ∷ 4 ∷ 8 ∷ 16 ∷ 32 ∷ 64 ∷ 128 ∷ []
 
 pub one_at : (i : ℕ) → i < 8 → get_or table i 0 ≡ 1 * 2 ^ i % 2 ^ 8
-one_at zero h = refl
-one_at (suc zero) h = refl
-one_at (suc (suc zero)) h = refl
-one_at (suc (suc (suc zero))) h = refl
-one_at (suc (suc (suc (suc zero)))) h = refl
-one_at (suc (suc (suc (suc (suc zero))))) h = refl
-one_at (suc (suc (suc (suc (suc (suc zero)))))) h = refl
-one_at (suc (suc (suc (suc (suc (suc (suc zero))))))) h = refl
-one_at (suc (suc (suc (suc (suc (suc (suc (suc i)))))))) h = absurd (omega (arith, h))
+one_at i h = get_or-map-range_with_len (λ i. 1 * 2 ^ i % 2 ^ 8) 0 8 i i 0 h (omega arith)
 
 -- the test `x & table[i] != 0`
 pub tested : (x i : ℕ) → i < 8 → not (bit_and x (get_or table i 0) == 0) ≡ bit x i
@@ -32,3 +29,19 @@ tested x i h =
     one_or_none zero k l = let e : 0 * 2 ^ k ≡ 0 = omega arith in ap (λ n. not (n == 0)) e
     one_or_none (suc zero) k l = let p = pow_pos k in ap not (ne_eqb (1 * 2 ^ k) 0 (omega (arith, p)))
     one_or_none (suc (suc b)) k l = absurd (omega (arith, l))
+
+-- a byte is shown by its two halves
+pub halves : (x : ℕ) → codes "0b" ++ (four_digits (x / 16) ++ four_digits (x % 16)) ≡ shown_byte (x ∷ []) 0 8 0
+unfolding shown_byte bit
+halves x = rw (alone 7 (omega arith), alone 6 (omega arith), alone 5 (omega arith), alone 4 (omega arith), alone 3 (omega arith), alone 2 (omega arith), alone 1 (omega arith), alone 0 (omega arith)) (
+    rw (high 3, high 2, high 1, high 0, low.0, low.1, low.2, low.3) refl
+    )
+  where
+    alone : (i : ℕ) → i < 8 → get_or (bits (x ∷ [])) i false ≡ bit x i
+    alone i h = bit_alone x i h
+
+    high : (i : ℕ) → bit (x / 16) i ≡ bit x (suc (suc (suc (suc i))))
+    high i = ap (λ y. bit y i) (omega arith)
+
+    low : (bit (x % 16) 3 ≡ bit x 3) × (bit (x % 16) 2 ≡ bit x 2) × (bit (x % 16) 1 ≡ bit x 1) × (bit (x % 16) 0 ≡ bit x 0)
+    low = (ap (λ y. y == 1) (omega arith), ap (λ y. y == 1) (omega arith), ap (λ y. y == 1) (omega arith), ap (λ y. y == 1) (omega arith))

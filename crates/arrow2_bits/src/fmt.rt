@@ -3,6 +3,7 @@ ghost use Rattle.std.specs.Prelude.{◌≡◌, ◌+◌, ◌*◌, ◌<◌, ◌≤
 ghost use Rattle.std.specs.Fmt.{WritesOnOk, WritesStyledOnOk};
 ghost use Rattle.arrow2_model.specs.Bits.{bit};
 ghost use Rattle.arrow2_model.specs.Shown.{is_shown, bit_character, shown_byte, shown};
+ghost use Rattle.arrow2_bits.specs.Digits.{four_digits};
 
 use crate::is_set;
 use std::fmt;
@@ -46,6 +47,41 @@ pub fn fmt<W: fmt::Write>(
     f.write_str("]")
 }
 
+/// The digits of four bits, from the highest to the lowest. Asks that the number is below 16.
+#[tactic(auto, unfolding(arrow2_model::specs::Bits::bit))]
+fn digits(half: u8) -> &'static str
+    requires { half < 16 }
+    ensures { result.now ≡ four_digits half }
+{
+    match half {
+        0 => "0000",
+        1 => "0001",
+        2 => "0010",
+        3 => "0011",
+        4 => "0100",
+        5 => "0101",
+        6 => "0110",
+        7 => "0111",
+        8 => "1000",
+        9 => "1001",
+        10 => "1010",
+        11 => "1011",
+        12 => "1100",
+        13 => "1101",
+        14 => "1110",
+        _ => "1111",
+    }
+}
+
+/// Writes one byte, all bits of which are shown.
+fn write_whole_byte<W: fmt::Write>(byte: u8, f: &mut fmt::Formatter<W>) -> fmt::Result
+    ensures { WritesStyledOnOk W.write_str_gives f.old result (shown_byte (byte ∷ []) 0 8 0) f.new }
+{
+    f.write_str("0b")?;
+    f.write_str(digits(byte >> 4))?;
+    f.write_str(digits(byte % 16))
+}
+
 /// Writes one byte, of which the `length` bits from bit `start` on are shown.
 fn write_byte<W: fmt::Write>(
     byte: u8,
@@ -56,6 +92,9 @@ fn write_byte<W: fmt::Write>(
     requires { start + length ≤ 8 }
     ensures { WritesStyledOnOk W.write_str_gives f.old result (shown_byte (byte ∷ []) start length 0) f.new }
 {
+    if length == 8 {
+        return write_whole_byte(byte, f);
+    }
     f.write_str("0b")?;
     for i in (0..8).rev() {
         f.write_char(character(byte, i, start, length))?;

@@ -50,6 +50,8 @@ impl<'a> BitmapIter<'a> {
 impl<'a> Clone for BitmapIter<'a> {
     ghost is_clone = { λ i copy. copy ≡ i };
 
+    ghost is_infallible = { λ i. Unit {0} };
+
     fn clone(&self) -> Result<BitmapIter<'a>, AllocError> {
         Ok(BitmapIter { ..*self })
     }
