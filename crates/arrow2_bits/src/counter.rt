@@ -1,38 +1,14 @@
 //! A count of the bytes that were read, for contracts alone.
-ghost use Rattle.std.specs.Prelude.{◌≡◌, ◌+◌, ℕ};
-ghost use Rattle.std.specs.Borrow.{ftrue};
+ghost use Rattle.std.specs.Prelude.{◌≡◌, ◌+◌};
 
+use arrow2_counter::Counter;
 use std::marker::Model;
-
-/// A number that contracts alone see. It takes no bytes when the program runs.
-#[derive(Drop)]
-struct Tally {
-    ghost total: { ℕ },
-}
-
-impl Model for Tally {
-    ghost also_owns = { λ _. ftrue };
-}
-
-impl Tally {
-    fn new() -> Tally
-        ensures { result.total ≡ 0 }
-    {
-        Tally {}
-    }
-
-    fn plus(before: &Tally, amount: &usize) -> Tally
-        ensures { result.total ≡ before.now.total + amount.now }
-    {
-        Tally {}
-    }
-}
 
 /// How many bytes were read: contracts see the number. It takes no bytes when the program runs, and none is made of
 /// another, so that no read is counted twice or left out.
 #[derive(Drop)]
 pub struct Reads {
-    tally: Tally,
+    counter: Counter,
 }
 
 impl Model for Reads {
@@ -40,7 +16,7 @@ impl Model for Reads {
 
     ghost Value = { ℕ };
 
-    ghost view = { λ r. r.tally.total };
+    ghost view = { λ r. r.counter };
 }
 
 impl Reads {
@@ -49,7 +25,7 @@ impl Reads {
         ensures { result ≡ 0 }
     {
         Reads {
-            tally: Tally::new(),
+            counter: Counter::new(),
         }
     }
 
@@ -57,6 +33,6 @@ impl Reads {
     pub(crate) fn add(&mut self, count: usize)
         ensures { self.new ≡ self.old + count }
     {
-        self.tally = Tally::plus(&self.tally, &count);
+        self.counter.add(count);
     }
 }

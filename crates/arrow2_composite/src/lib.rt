@@ -2,4 +2,5 @@
 #![tactic(auto)]
 
 pub mod interval;
+pub mod laws;
 pub mod wide;

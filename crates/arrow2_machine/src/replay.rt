@@ -10,7 +10,6 @@ use arrow2_streams::streams::{read_all, write_all};
 use arrow2_streams::watched::Watched;
 use std::alloc::{AllocError, Global};
 use std::io::{Read, Write};
-use std::sync::ledger::{Blank, Ledger};
 
 /// The replies to a script.
 #[tactic(auto, using(crate::proofs::MachineLemmas::running))]
@@ -35,10 +34,10 @@ fn answer(alloc: Global, script: &[u8]) -> Result<Vec<u8>, AllocError>
 /// `Read` exactly where a call of the reader failed, `Write` exactly where a call of the writer
 /// did, and `Memory` where a request for memory was refused. After `Read` and `Memory` nothing was
 /// written; after `Write` what was written is a beginning of the replies.
-pub fn replay<R: Read, W: Write, L: Ledger, M: Ledger>(
+pub fn replay<R: Read, W: Write>(
     alloc: Global,
-    reader: &mut Watched<R, L>,
-    writer: &mut Watched<W, M>,
+    reader: &mut Watched<R>,
+    writer: &mut Watched<W>,
 ) -> Result<(), ReplayFault>
     ensures ok { OnOk result (IfSome (R.remaining reader.old.inner) (λ script. Appends (W.contents writer.old.inner) (W.contents writer.new.inner) (text script))) }
     ensures end { OnOk result (IsAtEnd (R.remaining reader.new.inner)) }
@@ -51,31 +50,4 @@ pub fn replay<R: Read, W: Write, L: Ledger, M: Ledger>(
     let script = read_all(alloc, reader)?;
     let reply = answer(alloc, script.as_slice())?;
     write_all(writer, reply.as_slice())
-}
-
-/// Replays over a reader and a writer that no one watches, and gives both back.
-///
-/// One call of [`replay`], with counts of its own, which its caller does not see.
-pub fn watch_and_replay<R: Read, W: Write, L: Ledger, M: Ledger>(
-    alloc: Global,
-    reader: R,
-    writer: W,
-    reads: Blank,
-    writes: Blank,
-) -> (R, W, Result<(), ReplayFault>)
-    requires read_name { reads.name ≡ L.name }
-    requires read_parts { reads.parts ≡ L.parts }
-    requires read_three { 2 < L.parts }
-    requires write_name { writes.name ≡ M.name }
-    requires write_parts { writes.parts ≡ M.parts }
-    requires write_three { 2 < M.parts }
-    ensures ok { OnOk result.2 (IfSome (R.remaining reader) (λ script. Appends (W.contents writer) (W.contents result.1) (text script))) }
-    ensures end { OnOk result.2 (IsAtEnd (R.remaining result.0)) }
-    ensures begins { IfSome (R.remaining reader) (λ script. (n : ℕ) × Appends (W.contents writer) (W.contents result.1) (take n (text script))) }
-    ensures untouched { IfErr result.2 (λ e. e ≢ ReplayFault.Write → result.1 ≡ writer) }
-{
-    let mut reader = Watched::<R, L>::new(reader, reads);
-    let mut writer = Watched::<W, M>::new(writer, writes);
-    let result = replay(alloc, &mut reader, &mut writer);
-    (reader.into_inner(), writer.into_inner(), result)
 }

@@ -1,14 +1,13 @@
 //! Scripts and their replies, and readers and writers that fail.
 ghost use Rattle.std.specs.Prelude.{◌≤◌, length};
 
-use arrow2_machine::replay::watch_and_replay;
+use arrow2_machine::replay::replay;
 use arrow2_streams::fault::{ReplayFault, exit_code};
+use arrow2_streams::watched::Watched;
 use std::alloc::{AllocError, Global};
 use std::io;
 use std::io::{ErrorKind, Read, Write};
-use std::marker::Brand;
 use std::process::ExitCode;
-use std::sync::ledger::Blank;
 use std::test::Fail;
 
 /// A reader that gives a few bytes a call, and fails at one call.
@@ -69,14 +68,10 @@ fn told<R: Read + Drop, W: Write>(
     reader: R,
     writer: W,
 ) -> (W, Result<(), ReplayFault>) {
-    let (_, writer, result) = watch_and_replay::<R, W, Brand, Brand>(
-        alloc,
-        reader,
-        writer,
-        Blank::new(3),
-        Blank::new(3),
-    );
-    (writer, result)
+    let mut reader = Watched::new(reader);
+    let mut writer = Watched::new(writer);
+    let result = replay(alloc, &mut reader, &mut writer);
+    (writer.into_inner(), result)
 }
 
 /// The same byte some times.

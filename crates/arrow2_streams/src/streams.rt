@@ -6,7 +6,6 @@ use crate::fault::ReplayFault;
 use crate::watched::Watched;
 use std::alloc::{AllocError, Global};
 use std::io::{Read, Write};
-use std::sync::ledger::Ledger;
 
 /// How many bytes a read may give at most.
 const PIECE: usize = 65536;
@@ -23,10 +22,7 @@ fn zeros(alloc: Global, len: usize) -> Result<Vec<u8>, AllocError>
 /// # Errors
 ///
 /// `Read` exactly where a call of the reader failed, else `Memory`.
-pub fn read_all<R: Read, L: Ledger>(
-    alloc: Global,
-    reader: &mut Watched<R, L>,
-) -> Result<Vec<u8>, ReplayFault>
+pub fn read_all<R: Read>(alloc: Global, reader: &mut Watched<R>) -> Result<Vec<u8>, ReplayFault>
     ensures bytes { IfOk result (λ v. Consumes (R.remaining reader.old.inner) (R.remaining reader.new.inner) v.items) }
     ensures end { OnOk result (IsAtEnd (R.remaining reader.new.inner)) }
     ensures fault { IsErrOf result ReplayFault.Read ↔ reader.old.failed < reader.new.failed }
@@ -37,9 +33,9 @@ pub fn read_all<R: Read, L: Ledger>(
 }
 
 /// All the bytes that the reader has left, read through `buffer`.
-fn read_through<R: Read, L: Ledger>(
+fn read_through<R: Read>(
     alloc: Global,
-    reader: &mut Watched<R, L>,
+    reader: &mut Watched<R>,
     buffer: &mut [u8],
 ) -> Result<Vec<u8>, ReplayFault>
     requires { 0 < length buffer.old }
@@ -65,10 +61,7 @@ fn read_through<R: Read, L: Ledger>(
 /// # Errors
 ///
 /// `Write` exactly where a call of the writer failed. What was written is a beginning of the bytes then.
-pub fn write_all<W: Write, L: Ledger>(
-    writer: &mut Watched<W, L>,
-    bytes: &[u8],
-) -> Result<(), ReplayFault>
+pub fn write_all<W: Write>(writer: &mut Watched<W>, bytes: &[u8]) -> Result<(), ReplayFault>
     ensures ok { OnOk result (Appends (W.contents writer.old.inner) (W.contents writer.new.inner) bytes.now) }
     ensures begins { (n : ℕ) × Appends (W.contents writer.old.inner) (W.contents writer.new.inner) (take n bytes.now) }
     ensures flushed { OnOk result (writer.new.unflushed ≡ 0) }

@@ -1,5 +1,5 @@
 //! Truth tables over bitmaps that grow, in place. None of these calls takes memory.
-ghost use Rattle.std.specs.Prelude.{◌≡◌, ◌<◌, [], ◌∷◌, length};
+ghost use Rattle.std.specs.Prelude.{◌≡◌, [], ◌∷◌, length};
 ghost use Rattle.arrow2_model.specs.Storage.{BitmapStorage, GrowingBitmap, items_of};
 ghost use Rattle.arrow2_model.specs.Tables.{each};
 
@@ -10,11 +10,10 @@ use arrow2_chunk::bit_chunk::BitChunk;
 use arrow2_kernels::tables::{binary_answers, unary_answers};
 
 /// Makes each item the answer of table `t` for it: bit `a1` of `t`. Goes by words of `W`, and gives the same list
-/// whatever `W` is. Takes no memory. Asks that `t` is below 4.
+/// whatever `W` is. Takes no memory. Of `t` the two lowest bits are read.
 ///
 /// In arrow2 it has no name.
 pub fn unary_assign_table<W: BitChunk>(bitmap: &mut MutableBitmap, t: u8)
-    requires table { t < 4 }
     ensures items { bitmap.new.items ≡ each t (bitmap.old.items ∷ []) }
     ensures capacity { bitmap.new.capacity ≡ bitmap.old.capacity }
 {
@@ -22,11 +21,11 @@ pub fn unary_assign_table<W: BitChunk>(bitmap: &mut MutableBitmap, t: u8)
 }
 
 /// Makes each item the answer of table `t` for it and the item of `rhs`: bit `a1 + 2 * a2` of `t`. Goes by words of `W`,
-/// and gives the same list whatever `W` is. Takes no memory. Asks that `t` is below 16, and that both have one length.
+/// and gives the same list whatever `W` is. Takes no memory. Of `t` the four lowest bits are read. Asks that both have one
+/// length.
 ///
 /// In arrow2 it has no name.
 pub fn binary_assign_table<W: BitChunk>(lhs: &mut MutableBitmap, rhs: &Bitmap, t: u8)
-    requires table { t < 16 }
     requires same_length { length lhs.old.items ≡ length (items_of rhs.now) }
     ensures items { lhs.new.items ≡ each t (lhs.old.items ∷ items_of rhs.now ∷ []) }
     ensures capacity { lhs.new.capacity ≡ lhs.old.capacity }

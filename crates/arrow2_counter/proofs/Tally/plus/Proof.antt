@@ -29,11 +29,11 @@ use denote.Triple.Entry.{on_entry, alive, Args}
 use denote.Triple.Spec.{Meets, triple_of}
 use denote.Triple.Table.{entered}
 use denote.Triple.Walked.{says, stay_none_ref, Stays, walk_of, Walks, ends_at, walked, Goes-none_ref, walk_Meets}
-use Rattle.arrow2_bits.specs.contracts.counter.Tally.plus.Key.{name as key}
-use Rattle.arrow2_bits.specs.contracts.counter.Tally.plus as f
-use Rattle.arrow2_bits.proofs.counter.Tally.plus.Statement as stated
-use Rattle.arrow2_bits.proofs.counter.Tally.plus.Code as code
-use Rattle.arrow2_bits.specs.contracts.counter.Tally as tally
+use Rattle.arrow2_counter.specs.contracts.Tally.plus.Key.{name as key}
+use Rattle.arrow2_counter.specs.contracts.Tally.plus as f
+use Rattle.arrow2_counter.proofs.Tally.plus.Statement as stated
+use Rattle.arrow2_counter.proofs.Tally.plus.Code as code
+use Rattle.arrow2_counter.specs.contracts.Tally as tally
 
 abbrev stayed : Stays (f.ended).signature.params (f.ended).kept
 stayed = (stay_none_ref (0 ∷ []) tt (plain (λ _. tally.the_row)) yes, (stay_none_ref (1 ∷ []) tt (plain (λ _. usize)) yes, tt))

@@ -21,11 +21,11 @@ use denote.Triple.Entry.{on_entry, alive}
 use denote.Triple.Spec.{Meets, triple_of}
 use denote.Triple.Table.{entered}
 use denote.Triple.Walked.{says, Stays, walk_of, Walks, ends_at, walked, walk_Meets}
-use Rattle.arrow2_bits.specs.contracts.counter.Tally.new.Key.{name as key}
-use Rattle.arrow2_bits.specs.contracts.counter.Tally.new as f
-use Rattle.arrow2_bits.proofs.counter.Tally.new.Statement as stated
-use Rattle.arrow2_bits.proofs.counter.Tally.new.Code as code
-use Rattle.arrow2_bits.specs.contracts.counter.Tally as made
+use Rattle.arrow2_counter.specs.contracts.Tally.new.Key.{name as key}
+use Rattle.arrow2_counter.specs.contracts.Tally.new as f
+use Rattle.arrow2_counter.proofs.Tally.new.Statement as stated
+use Rattle.arrow2_counter.proofs.Tally.new.Code as code
+use Rattle.arrow2_counter.specs.contracts.Tally as made
 
 abbrev stayed : Stays (f.ended).signature.params (f.ended).kept
 stayed = tt

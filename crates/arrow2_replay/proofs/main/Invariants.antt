@@ -1,7 +1,0 @@
-use Rattle.arrow2_replay.proofs.main.Given as goal
-
-abbrev pub ghosts-watch_and_replay-L-Ledger : goal.ghosts-watch_and_replay-L-Ledger
-ghosts-watch_and_replay-L-Ledger a = record { name = a.reads.name; parts = a.reads.parts }
-
-abbrev pub ghosts-watch_and_replay-M-Ledger : goal.ghosts-watch_and_replay-M-Ledger
-ghosts-watch_and_replay-M-Ledger a = record { name = a.writes.name; parts = a.writes.parts }
