@@ -18,6 +18,7 @@ pub(crate) fn check_length(subject: &str, length: usize, bytes: &Vec<u8>) -> Res
     Ok(())
 }
 
+/// The text of the refusal of so many bits of so many bytes.
 #[tactic(auto, unfolding(crate::specs::Refused::too_long))]
 fn refusal(
     alloc: Global,

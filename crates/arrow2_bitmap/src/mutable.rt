@@ -405,7 +405,7 @@ impl MutableBitmap {
     }
 
     /// The bytes of its items: as many as they need, with spare bits false.
-    /// In arrow2 spare bits show; spare bytes do there neither.
+    /// In arrow2 spare bits show. Spare bytes don't show there either.
     pub fn as_slice(&self) -> &[u8]
         ensures bytes { result.now ≡ canonical_bytes self.now.items }
         ensures items { take (length self.now.items) (bits result.now) ≡ self.now.items }

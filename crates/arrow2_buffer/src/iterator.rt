@@ -62,6 +62,7 @@ impl<T: Copy> Iterator for IntoIter<T> {
         Some(item)
     }
 
+    /// Both bounds are the number of items still to come.
     fn size_hint(&self) -> (usize, Option<usize>)
         ensures exact { (result.0 ≡ length self.now) × (result.1 ≡ Some (length self.now)) }
         ensures lower { IsWithinCount result.0 (item_count (λ s. s) self.now) }

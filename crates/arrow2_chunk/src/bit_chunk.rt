@@ -9,6 +9,7 @@ ghost use Rattle.arrow2_model.specs.Ones.{ones};
 ghost use Rattle.arrow2_model.specs.Parts.{falses};
 ghost use Rattle.arrow2_model.specs.Digits.{digits, natural_from};
 
+use arrow2_types::arrays::array_of;
 use arrow2_types::native::NativeType;
 use num_traits::PrimInt;
 
@@ -167,9 +168,7 @@ impl BitChunk for u8 {
     }
 
     fn from_ne_slice(bytes: &[u8]) -> u8 {
-        let mut array = [0; 1];
-        array.copy_from_slice(bytes);
-        u8::from_le_bytes(array)
+        u8::from_le_bytes(array_of(bytes))
     }
 
     fn bit(self, i: usize) -> bool {
@@ -252,9 +251,7 @@ impl BitChunk for u16 {
     }
 
     fn from_ne_slice(bytes: &[u8]) -> u16 {
-        let mut array = [0; 2];
-        array.copy_from_slice(bytes);
-        u16::from_le_bytes(array)
+        u16::from_le_bytes(array_of(bytes))
     }
 
     fn bit(self, i: usize) -> bool {
@@ -337,9 +334,7 @@ impl BitChunk for u32 {
     }
 
     fn from_ne_slice(bytes: &[u8]) -> u32 {
-        let mut array = [0; 4];
-        array.copy_from_slice(bytes);
-        u32::from_le_bytes(array)
+        u32::from_le_bytes(array_of(bytes))
     }
 
     fn bit(self, i: usize) -> bool {
@@ -422,9 +417,7 @@ impl BitChunk for u64 {
     }
 
     fn from_ne_slice(bytes: &[u8]) -> u64 {
-        let mut array = [0; 8];
-        array.copy_from_slice(bytes);
-        u64::from_le_bytes(array)
+        u64::from_le_bytes(array_of(bytes))
     }
 
     fn bit(self, i: usize) -> bool {

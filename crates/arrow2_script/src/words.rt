@@ -86,9 +86,13 @@ pub type SlotIndex = Below<16>;
 /// How many bits a word has, as a script says it.
 #[derive(Clone, Copy, Debug, PartialEq, Eq)]
 pub enum Width {
+    /// 8 bits.
     Bits8,
+    /// 16 bits.
     Bits16,
+    /// 32 bits.
     Bits32,
+    /// 64 bits.
     Bits64,
 }
 
