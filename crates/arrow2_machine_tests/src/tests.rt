@@ -181,8 +181,8 @@ fn scripts_of_kernels(rt: HostRuntime) -> Result<(), Fail> {
             b"ok\nok\nok\n1\nok\n111\n0\n",
         ),
         (
-            b"raw 0 ff 0 2\nnew 5 10\nset 5 1 1\nbits 5\nset 5 2 1\neq 0 5\n",
-            b"ok\nok\nok\n11\nerror range\nerror kind\n",
+            b"raw 0 ff 0 2\nnew 5 10\nset 5 1 1\nbits 5\nset 5 2 1\neq 0 5\nnew 6 1\nset 6 5 1\n",
+            b"ok\nok\nok\n11\nerror range\nerror kind\nok\nerror range\n",
         ),
         (
             b"raw 0 - 0 0\nwords 0 64\nbits 0\nraw 0 - 0 1\nraw 0 ff 18446744073709551615 1\nraw 0 fF 0 1\nraw 16 ff 0 1\nraw 0 ff 0\nraw 0 ffffffffffffffffff 3 69\nwords 0 64\nwords 0 32\nset 0 0 1\nwords 1 8\n",
