@@ -78,15 +78,23 @@ fn appended<O: Offset, I: Iterator<Item = usize> + Drop>(
     (offsets, Ok(()))
 }
 
-/// The items in a vector with room for twice as many lengths, unless memory was refused: one item less than that is
-/// added, since offsets are one more than lengths. So a power of two lengths leaves no room over.
-#[cold]
-#[inline(never)]
+/// The offsets in a vector with room for more, unless memory was refused.
 fn with_room<O>(mut offsets: Vec<O>) -> (Vec<O>, Result<(), AllocError>)
     ensures same { result.0.items ≡ offsets.items }
     ensures ok { OnOk result.1 (vec_len result.0 < vec_capacity result.0) }
 {
-    let lengths = offsets.len().saturating_sub(1);
-    let room = offsets.reserve_exact(lengths.max(LEAST_ROOM));
+    let room = double(&mut offsets);
     (offsets, room)
+}
+
+/// Makes room for twice as many lengths: one item less than are there is added, since offsets are one more than
+/// lengths. So a power of two lengths leaves no room over.
+#[cold]
+#[inline(never)]
+fn double<O>(offsets: &mut Vec<O>) -> Result<(), AllocError>
+    ensures same { offsets.new.items ≡ offsets.old.items }
+    ensures ok { OnOk result (vec_len offsets.new < vec_capacity offsets.new) }
+{
+    let lengths = offsets.len().saturating_sub(1);
+    offsets.reserve_exact(lengths.max(LEAST_ROOM))
 }
