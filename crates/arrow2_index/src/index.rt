@@ -286,7 +286,7 @@ impl<I: Index> Iterator for IndexRange<I> {
     ghost remaining = { item_count (λ s. s) };
 
     fn next(&mut self) -> Option<I> {
-        if self.start.distance_to(self.end) == 0 {
+        if self.start == self.end {
             return None;
         }
         let item = self.start;

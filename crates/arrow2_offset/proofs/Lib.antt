@@ -2,6 +2,5 @@ pub mod Frozen
 pub mod Growing
 pub mod Listed
 pub mod Order
-pub mod Rows
 pub mod Same
 pub mod Walk

@@ -18,13 +18,11 @@ use crate::check::try_check_offsets;
 use crate::immutable::OffsetsBuffer;
 use crate::iterator::Lengths;
 use arrow2_index::offset::Offset;
+use arrow2_lengths::appended::append_lengths;
 use arrow2_types::error::{Error, Result};
 use arrow2_types::refusal::Refusal;
 use std::alloc::{AllocError, Global};
 use std::marker::Model;
-
-/// How many lengths of an iterator are read before they are tested and appended.
-const ROW: usize = 64;
 
 /// Offsets that grow: contracts see their start, their lengths, and for how many lengths there is room.
 ///
@@ -446,57 +444,7 @@ impl<O: Offset> Offsets<O> {
         ensures err { OnErr result (SameOffsets self.old self.new) }
         ensures overflow { IsErrOf result refusal.Overflow → GivesPast O.MAX (last_of_growing self.old) I.next_gives lengths }
     {
-        let slots = self.offsets.len() - 1;
-        let extended = self.extend_by_rows(lengths);
-        if extended.is_err() {
-            self.truncate(slots);
-        }
-        extended
-    }
-
-    /// Appends the lengths of an iterator that ends, row by row. The rows before one that is refused stay.
-    fn extend_by_rows<I: Iterator<Item = usize> + Drop>(
-        &mut self,
-        lengths: I,
-    ) -> std::result::Result<(), Refusal>
-        requires can { I.can_next lengths }
-        requires ends { IsFinite (I.remaining lengths) }
-        ensures start { self.new.start ≡ self.old.start }
-        ensures front { take (slots self.old) self.new.lengths ≡ self.old.lengths }
-        ensures more { slots self.old ≤ slots self.new }
-        ensures ok { OnOk result (WholeRun I.next_gives lengths (λ p. GrownBy p.items self.old self.new)) }
-        ensures fits { last_of_growing self.new ≤ O.MAX }
-        ensures overflow { IsErrOf result refusal.Overflow → GivesPast O.MAX (last_of_growing self.old) I.next_gives lengths }
-    {
-        let mut row = [0; ROW];
-        let mut count = 0;
-        for length in lengths {
-            row[count] = length;
-            count += 1;
-            if count == ROW {
-                self.append_lengths(&row)?;
-                count = 0;
-            }
-        }
-        self.append_lengths(&row[..count])?;
-        Ok(())
-    }
-
-    /// Appends the lengths. Tests their sum before it asks for memory.
-    fn append_lengths(&mut self, lengths: &[usize]) -> std::result::Result<(), Refusal>
-        ensures ok { OnOk result (GrownBy lengths.now self.old self.new) }
-        ensures fits { last_of_growing self.new ≤ O.MAX }
-        ensures err { OnErr result (SameOffsets self.old self.new) }
-        ensures overflow { IsErrOf result refusal.Overflow ↔ (O.MAX < last_of_growing self.old + sum lengths.now) }
-    {
-        if !sum_is_at_most(lengths, O::MAX - self.last().to_usize()) {
-            return Err(Refusal::Overflow);
-        }
-        self.reserve_room(lengths.len())?;
-        for length in lengths {
-            self.push_within(*length);
-        }
-        Ok(())
+        append_lengths(&mut self.offsets, lengths)
     }
 
     /// Appends the lengths between the offsets. Tests their sum before it asks for memory.
@@ -517,20 +465,6 @@ impl<O: Offset> Offsets<O> {
         }
         Ok(())
     }
-}
-
-/// Whether the sum of the lengths is at most `most`.
-fn sum_is_at_most(lengths: &[usize], most: usize) -> bool
-    ensures { IsTrue result ↔ (sum lengths.now ≤ most) }
-{
-    let mut left = most;
-    for length in lengths {
-        if *length > left {
-            return false;
-        }
-        left -= *length;
-    }
-    true
 }
 
 /// The vector itself, which is moved and not copied.

@@ -1,0 +1,47 @@
+-- Vectors of offsets that grow.
+use Rattle.std.proofs.Common.{◌≡◌, ℕ, ◌+◌, ◌-◌, ◌≤◌, List, [], ◌∷◌, ◌++◌, map, length, sum, take, get_or, ap, sym, ◌∙◌, arith}
+use Rattle.std.specs.Prelude.{ℤ, pos, ◌≤ℤ◌, unsigned_abs}
+use Rattle.std.proofs.lemmas.Int.{ints}
+use Rattle.std.proofs.lemmas.List.{length-map, map-append, get_or-map, take-append-le}
+use Rattle.std.proofs.lemmas.List.Sums.{sum_by-append}
+use Rattle.arrow2_model.specs.Offsets.{AreOffsets, start_of, lengths_of, last_of}
+use Rattle.arrow2_model.proofs.Offsets.{Spells, get_or-last, push_spells}
+
+pub same_naturals : (a b : ℕ) (x : ℤ) → pos a ≡ x → x ≡ pos b → a ≡ b
+same_naturals a b x e h = ap unsigned_abs (e ∙ h)
+
+pub natural_as_whole : (n : ℕ) (x : ℤ) → x ≡ pos n → pos 0 ≤ℤ x
+natural_as_whole n x e = rw e (omega (arith, ints))
+
+sum-push : (ns : List ℕ) (n : ℕ) → sum (ns ++ n ∷ []) ≡ sum ns + n
+sum-push ns n = let e = sum_by-append (λ x. x) ns (n ∷ []) in omega (arith, e)
+
+module _ {X : Type 0} (value : X → ℤ) where
+  -- the last offset
+  pub value_last : (items : List X) (x : X) (n : ℕ) → AreOffsets (map value items) → n ≡ length items → x ≡ get_or items (n - 1) x → value x ≡ pos (last_of (map value items))
+  value_last items x n h l e =
+      let m = length-map items value in
+      let some = h.some in
+      ap value e ∙ (sym (get_or-map value items (n - 1) x (pos 0) (omega arith)) ∙ get_or-last (map value items) n h (omega arith))
+
+  -- one more length
+  pub pushed : (items grown : List X) (x : X) (last n : ℕ) → AreOffsets (map value items) → last ≡ last_of (map value items) → grown ≡ items ++ x ∷ [] → value x ≡ pos (last + n) → AreOffsets (map value grown) × (start_of (map value grown) ≡ start_of (map value items)) × (lengths_of (map value grown) ≡ lengths_of (map value items) ++ n ∷ []) × (last_of (map value grown) ≡ last + n)
+  pushed items grown x last n h is-last e is =
+      let xs = map value items in
+      let m : map value grown ≡ xs ++ value x ∷ [] = ap (map value) e ∙ map-append value items (x ∷ []) in
+      let p = push_spells xs (value x) n h (is ∙ ap (λ k. pos (k + n)) is-last) in
+      let s : Spells (map value grown) (start_of xs) (lengths_of xs ++ n ∷ []) = rw m p in
+      let t = sum-push (lengths_of xs) n in
+      let u : last_of (map value grown) ≡ start_of xs + sum (lengths_of xs ++ n ∷ []) = ap (λ k. k + sum (lengths_of (map value grown))) s.from ∙ ap (λ ms. start_of xs + sum ms) s.by in
+      (s.are, s.from, s.by, omega arith)
+
+-- what stands in front stays there
+pub front_stays : {X : Type 0} (old items grown : List X) (x : X) → take (length old) items ≡ old → length old ≤ length items → grown ≡ items ++ x ∷ [] → take (length old) grown ≡ old
+front_stays old items grown x e l is = ap (take (length old)) is ∙ (take-append-le (length old) items (x ∷ []) l ∙ e)
+
+-- the last offset of a list that has grown by some lengths, and one length more
+pub last_grown : (xs ys : List ℤ) (ns : List ℕ) (n : ℕ) → start_of ys ≡ start_of xs → lengths_of ys ≡ lengths_of xs ++ ns → last_of xs + sum (ns ++ n ∷ []) ≡ last_of ys + n
+last_grown xs ys ns n start grown =
+    let e : sum (lengths_of ys) ≡ sum (lengths_of xs) + sum ns = ap sum grown ∙ sum_by-append (λ x. x) (lengths_of xs) ns in
+    let f = sum-push ns n in
+    omega (arith, start, e, f)

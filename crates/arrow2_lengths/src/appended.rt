@@ -1,0 +1,100 @@
+//! Lengths appended to a vector of offsets.
+ghost use Rattle.std.specs.Prelude.{◌≡◌, ◌<◌, ◌≤◌, length, map, take, OnOk, OnErr, IsErrOf, vec_len, vec_capacity};
+ghost use Rattle.std.specs.Iterator.{IsFinite};
+ghost use Rattle.std.specs.Iterator.Runs.{WholeRun};
+ghost use Rattle.arrow2_model.specs.Offsets.{AreOffsetsUpTo, last_of};
+ghost use Rattle.arrow2_lengths.specs.Collected.{GivesPast};
+ghost use Rattle.arrow2_lengths.specs.Lengthened.{LengthenedBy};
+ghost use Rattle.arrow2_types.specs.declared.refusal.Refusal.TheVariants as refusal;
+
+use arrow2_index::offset::Offset;
+use arrow2_types::refusal::Refusal;
+use std::alloc::AllocError;
+use std::mem;
+
+/// For how many lengths room is asked at least.
+const LEAST_ROOM: usize = 4;
+
+/// Appends the lengths of an iterator that ends, and takes them off again where it refuses. Asks that the items
+/// are offsets. The iterator's size hint is not read.
+///
+/// # Errors
+///
+/// `Overflow` only where the last offset and the sum of the lengths that came pass `O::MAX`, else `OutOfMemory`.
+pub fn append_lengths<O: Offset, I: Iterator<Item = usize> + Drop>(
+    offsets: &mut Vec<O>,
+    lengths: I,
+) -> Result<(), Refusal>
+    requires are { AreOffsetsUpTo O.MAX (map O.value offsets.old.items) }
+    requires can { I.can_next lengths }
+    requires ends { IsFinite (I.remaining lengths) }
+    ensures are { AreOffsetsUpTo O.MAX (map O.value offsets.new.items) }
+    ensures ok { OnOk result (WholeRun I.next_gives lengths (λ p. LengthenedBy p.items (map O.value offsets.old.items) (map O.value offsets.new.items))) }
+    ensures err { OnErr result (offsets.new.items ≡ offsets.old.items) }
+    ensures overflow { IsErrOf result refusal.Overflow → GivesPast O.MAX (last_of (map O.value offsets.old.items)) I.next_gives lengths }
+{
+    let count = offsets.len();
+    let empty = Vec::new(*offsets.allocator());
+    let (grown, all) = appended(mem::replace(offsets, empty), lengths);
+    *offsets = grown;
+    if all.is_err() {
+        offsets.truncate(count);
+    }
+    all
+}
+
+/// The offsets with the lengths of an iterator appended, up to one that is refused.
+///
+/// The vector is passed by value, so that how many items it has stays in a register from item to item.
+fn appended<O: Offset, I: Iterator<Item = usize> + Drop>(
+    mut offsets: Vec<O>,
+    lengths: I,
+) -> (Vec<O>, Result<(), Refusal>)
+    requires are { AreOffsetsUpTo O.MAX (map O.value offsets.items) }
+    requires can { I.can_next lengths }
+    requires ends { IsFinite (I.remaining lengths) }
+    ensures are { AreOffsetsUpTo O.MAX (map O.value result.0.items) }
+    ensures front { take (length offsets.items) result.0.items ≡ offsets.items }
+    ensures ok { OnOk result.1 (WholeRun I.next_gives lengths (λ p. LengthenedBy p.items (map O.value offsets.items) (map O.value result.0.items))) }
+    ensures overflow { IsErrOf result.1 refusal.Overflow → GivesPast O.MAX (last_of (map O.value offsets.items)) I.next_gives lengths }
+{
+    let mut last = offsets[offsets.len() - 1].to_usize();
+    let mut left = O::MAX - last;
+    for length in lengths {
+        if length > left {
+            return (offsets, Err(Refusal::Overflow));
+        }
+        if offsets.len() == offsets.capacity() {
+            let (roomy, room) = with_room(offsets);
+            offsets = roomy;
+            if room.is_err() {
+                return (offsets, Err(Refusal::OutOfMemory));
+            }
+        }
+        left -= length;
+        last += length;
+        offsets.push_reserved(O::from_as_usize(last));
+    }
+    (offsets, Ok(()))
+}
+
+/// The offsets in a vector with room for more, unless memory was refused.
+fn with_room<O>(mut offsets: Vec<O>) -> (Vec<O>, Result<(), AllocError>)
+    ensures same { result.0.items ≡ offsets.items }
+    ensures ok { OnOk result.1 (vec_len result.0 < vec_capacity result.0) }
+{
+    let room = double(&mut offsets);
+    (offsets, room)
+}
+
+/// Makes room for twice as many lengths: one item less than are there is added, since offsets are one more than
+/// lengths. So a power of two lengths leaves no room over.
+#[cold]
+#[inline(never)]
+fn double<O>(offsets: &mut Vec<O>) -> Result<(), AllocError>
+    ensures same { offsets.new.items ≡ offsets.old.items }
+    ensures ok { OnOk result (vec_len offsets.new < vec_capacity offsets.new) }
+{
+    let lengths = offsets.len().saturating_sub(1);
+    offsets.reserve_exact(lengths.max(LEAST_ROOM))
+}

@@ -1,0 +1,4 @@
+//! Vectors of offsets that grow by lengths. What knows vectors and slices of offset numbers alone.
+#![tactic(auto)]
+
+pub mod appended;
