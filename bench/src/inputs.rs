@@ -40,6 +40,8 @@ pub struct Inputs {
     /// The same bits from bit 3 and from bit 5 on.
     pub bytes_from_3: Vec<u8>,
     pub bytes_from_5: Vec<u8>,
+    /// As many bytes, whose bits are set and not set in turn for some thousand bits.
+    pub bytes_of_runs: Vec<u8>,
     pub items: Vec<bool>,
     pub trues: Vec<bool>,
     pub numbers: Vec<u64>,
@@ -67,6 +69,7 @@ impl Inputs {
         Inputs {
             bytes_from_3: moved(&bytes, 3),
             bytes_from_5: moved(&bytes, 5),
+            bytes_of_runs: long_runs(bytes.len()),
             bytes,
             trues: vec![true; items.len()],
             items,
@@ -88,6 +91,21 @@ fn moved(bytes: &[u8], offset: usize) -> Vec<u8> {
         (pair >> (8 - offset)) as u8
     });
     shifted.collect()
+}
+
+/// Bytes whose bits are set and not set in turn, for 1,000 to 5,000 bits each.
+fn long_runs(length: usize) -> Vec<u8> {
+    let mut random = Random(17);
+    let mut bytes = vec![0; length];
+    let (mut place, mut set) = (0, false);
+    while place < 8 * length {
+        let end = (place + 1_000 + random.below(4_001)).min(8 * length);
+        if set {
+            (place..end).for_each(|bit| bytes[bit / 8] |= 1 << (bit % 8));
+        }
+        (place, set) = (end, !set);
+    }
+    bytes
 }
 
 /// The same part a number of times.

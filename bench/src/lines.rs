@@ -82,6 +82,7 @@ pub fn all(inputs: &Inputs) -> impl Iterator<Item = (&'static str, Line<'_>)> {
         ("arrow2_bitmap", bitmaps(inputs)),
         ("arrow2_bitmap", walks(inputs)),
         ("arrow2_bitmap", growing(inputs)),
+        ("arrow2_walks", runs(inputs)),
         ("arrow2_kernels", kernels(inputs)),
         ("arrow2_buffer", buffers(inputs)),
         ("arrow2_offset", offsets(inputs)),
@@ -229,6 +230,19 @@ fn growing(inputs: &Inputs) -> Vec<Line<'_>> {
             try_from_comparisons(numbers),
             vec![NUMBERS; 8]
         ),
+    ]
+}
+
+fn runs(inputs: &Inputs) -> Vec<Line<'_>> {
+    let Inputs { bytes, bytes_of_runs, .. } = inputs;
+    let some = (MANY, "bits");
+    let all = (LONG, "bits");
+    let run = || vec![0];
+    vec![
+        line!("SlicesIterator", some, runs(bytes, &SOME_FROM_0), run()),
+        line!("SlicesIterator, from bit 3", some, runs(bytes, &SOME_FROM_3), run()),
+        line!("SlicesIterator of long runs", all, runs(bytes_of_runs, &FROM_0), run()),
+        line!("SlicesIterator of long runs, from bit 3", all, runs(bytes_of_runs, &FROM_3), run()),
     ]
 }
 

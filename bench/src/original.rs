@@ -1,6 +1,6 @@
 //! The original's side: what the exports of crate `arrow2_bench` do, over the calls of arrow2.
 use crate::inputs::Part;
-use arrow2::bitmap::utils::{self, BitChunks};
+use arrow2::bitmap::utils::{self, BitChunks, SlicesIterator};
 use arrow2::bitmap::{self, Bitmap, MutableBitmap};
 use arrow2::buffer::Buffer;
 use arrow2::offset::Offsets;
@@ -275,6 +275,16 @@ fn ones_by_steps(bitmap: &Bitmap, step: usize) -> usize {
         }
     }
     ones
+}
+
+pub fn runs(bytes: &[u8], parts: &[Part], runs: &[usize]) -> usize {
+    answers(bytes, parts, runs, |bitmap| {
+        let mut sum = 0usize;
+        for (start, length) in SlicesIterator::new(bitmap) {
+            sum = sum.rotate_left(1) ^ start.wrapping_add(length.wrapping_mul(3));
+        }
+        sum
+    })
 }
 
 pub fn debug(bytes: &[u8], parts: &[Part], runs: &[usize]) -> usize {

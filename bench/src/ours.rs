@@ -42,6 +42,8 @@ exports! {
     fn extend_from_slice = bench_extend_from_slice(bytes: u8, own: usize, parts: Part);
     fn extend_constant = bench_extend_constant(own: usize, lengths: usize);
 
+    fn runs = bench_runs(bytes: u8, parts: Part, runs: usize);
+
     fn and = bench_and(left: u8, left_parts: Part, right: u8, right_parts: Part, runs: usize);
     fn unary = bench_unary(bytes: u8, parts: Part, runs: usize);
     fn xor_assign = bench_xor_assign(own: u8, bytes: u8, parts: Part, runs: usize);

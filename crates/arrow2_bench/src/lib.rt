@@ -17,3 +17,4 @@ mod kernels;
 mod numbers;
 mod offsets;
 mod part;
+mod walks;

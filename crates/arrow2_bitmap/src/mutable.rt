@@ -26,7 +26,7 @@ use arrow2_bits::iterator::BitmapIter;
 use arrow2_bits::{bytes_for, count_zeros, get_bit, set_bit, take_bit};
 use arrow2_chunk::bit_chunk::BitChunk;
 use arrow2_growth::extended;
-use arrow2_growth::packed::{Packing, packed};
+use arrow2_growth::packed::{collected, packed};
 use arrow2_kernels::assigned::assign_rows;
 use arrow2_kernels::rows::WordRows;
 use arrow2_types::error::{Error, Result};
@@ -144,7 +144,8 @@ impl MutableBitmap {
 
     /// The bitmap of the items of an iterator that ends, in its order.
     ///
-    /// Stands for arrow2's `FromIterator`, which takes memory by the size hint. Here it is not read.
+    /// Stands for arrow2's `FromIterator`, which takes memory by the size hint. Here it is not read, and where no item
+    /// comes no memory is asked for.
     ///
     /// # Errors
     ///
@@ -159,11 +160,7 @@ impl MutableBitmap {
         ensures overflow { IsErrOf result Error.Overflow → (it : I.IntoIter) × I.into_iter_gives iter it × GivesTooMany I.IntoIter.next_gives it }
         ensures only { IfErr result (λ e. (e ≡ Error.Overflow) ⊎ (e ≡ Error.OutOfMemory)) }
     {
-        let mut packing = Packing::new(alloc);
-        for item in iter {
-            packing.push(item)?;
-        }
-        let (bytes, length) = packing.finish()?;
+        let (bytes, length) = collected(alloc, iter.into_iter())?;
         Ok(MutableBitmap::from_vec(bytes, length))
     }
 

@@ -1,12 +1,14 @@
 -- Items as bytes, 64 at a time.
-use Rattle.std.proofs.Common.{◌≡◌, ◌∙◌, ℕ, zero, suc, ◌+◌, ◌*◌, ◌<◌, ◌≤◌, List, [], ◌∷◌, ◌++◌, Bool, true, false, map, take, drop, length, get_or, set, not, refl, ap, sym, subst, arith}
+use Rattle.std.proofs.Common.{◌≡◌, ◌∙◌, ℕ, zero, suc, ◌+◌, ◌-◌, ◌*◌, ◌/◌, ◌^◌, ◌<◌, ◌≤◌, Option, Some, List, [], ◌∷◌, ◌++◌, Bool, true, false, map, take, drop, length, get_or, not, refl, ap, sym, subst, arith}
 use Rattle.std.proofs.Math.Dec.{eqb}
 use Rattle.std.specs.Int.{from_bool}
+use Rattle.std.specs.Iterator.{Yields, YieldsThen}
 use Rattle.std.specs.Simd.{first_chunks}
-use Rattle.std.proofs.lemmas.List.{take-append-drop, append_assoc, drop-drop, length-append, length-drop, length-take-le, length-set, append-nil, take_all, take_more_set}
+use Rattle.std.proofs.lemmas.List.{take-append-drop, append_assoc, drop-drop, take-take, length-append, length-drop, length-take-le, take_all, take_more}
 use Rattle.std.proofs.Math.Seq.{take-append-add}
 use Rattle.arrow2_model.specs.Bits.{bits, num, unnum}
-use Rattle.arrow2_model.proofs.Bits.{bits-nil, bits-append, length-bits}
+use Rattle.arrow2_model.proofs.Bits.{bits-append, length-bits}
+use Rattle.arrow2_model.proofs.Bytes.{take-bits}
 use Rattle.arrow2_model.proofs.Numbers.{unnum-num}
 
 -- whether a lane is not 0 says its item
@@ -43,29 +45,41 @@ packed_all items padded rest bytes after word x so front wide few number was bit
       ap (take (length items)) e ∙ (ap (λ k. take k (bits bytes ++ padded)) (ap length (sym so) ∙ n) ∙ (take-append-add (bits bytes) padded (length rest) ∙ (ap (λ r. bits bytes ++ r) front ∙ so))),
     )
 
--- how many items stand in bytes and in the front of a block
-pub length-packing : (bytes : List ℕ) (block : List Bool) (place : ℕ) → place ≤ length block → length (bits bytes ++ take place block) ≡ 8 * length bytes + place
-length-packing bytes block place h = omega (arith, length-append (bits bytes) (take place block), length-bits bytes, length-take-le place block h)
-
 -- the word of a block holds it
 pub block_word : (block : List Bool) (word : List ℕ) (x : ℕ) → length block ≡ 64 → x ≡ num block → bits word ≡ unnum 64 x → bits word ≡ block
 block_word block word x wide number bits-of = bits-of ∙ (ap (unnum 64) number ∙ subst (λ (n : ℕ). unnum n (num block) ≡ block) wide (unnum-num block))
 
--- a block whose last item comes is full
-pub block_full : (bytes after word : List ℕ) (block items : List Bool) (place x : ℕ) (item : Bool) → bits bytes ++ take place block ≡ items → place ≡ 63 → length block ≡ 64 → x ≡ num (set block place item) → after ≡ bytes ++ word → bits word ≡ unnum 64 x → bits after ++ [] ≡ items ++ item ∷ []
-block_full bytes after word block items place x item so last wide number was bits-of =
-    let size : length (set block place item) ≡ 64 = length-set block place item ∙ wide in
-    let w : bits word ≡ set block place item = block_word (set block place item) word x size number bits-of in
-    let whole : set block place item ≡ take place block ++ item ∷ [] = sym (take_all (place + 1) (set block place item) (omega (arith, last, size))) ∙ take_more_set block place item (omega (arith, last, wide)) in
-    append-nil (bits after) ∙ rw (was, bits-append bytes word, w, whole) (sym (append_assoc (bits bytes) (take place block) (item ∷ [])) ∙ ap (λ l. l ++ item ∷ []) so)
+-- a whole block behind bytes
+pub block_behind : (bytes after word : List ℕ) (block : List Bool) (x : ℕ) → length block ≡ 64 → x ≡ num block → bits word ≡ unnum 64 x → after ≡ bytes ++ word → bits after ≡ bits bytes ++ block
+block_behind bytes after word block x wide number bits-of was = rw (was, bits-append bytes word, block_word block word x wide number bits-of) refl
 
--- the items that have come are the front of the bytes with the word of the block behind them
-pub packing_ended : (bytes after word : List ℕ) (block items : List Bool) (place len x : ℕ) → bits bytes ++ take place block ≡ items → place < 64 → length block ≡ 64 → len ≡ length bytes → x ≡ num block → after ≡ bytes ++ word → bits word ≡ unnum 64 x → take (8 * len + place) (bits after) ≡ items
-packing_ended bytes after word block items place len x so few wide size number was bits-of =
-    let e : bits after ≡ bits bytes ++ block = rw (was, bits-append bytes word, block_word block word x wide number bits-of) refl in
-    let n : 8 * len + place ≡ length (bits bytes) + place = omega (arith, size, length-bits bytes) in
-    ap (take (8 * len + place)) e ∙ (ap (λ k. take k (bits bytes ++ block)) n ∙ (take-append-add (bits bytes) block place ∙ so))
+-- the front of a block behind bytes, by as many bytes as hold it
+pub front_behind : (bytes after word : List ℕ) (block : List Bool) (count k len x : ℕ) → count < 64 → k ≡ (count + 7) / 8 → len ≡ length bytes → length block ≡ 64 → x ≡ num block → bits word ≡ unnum 64 x → after ≡ bytes ++ take k word → take (8 * len + count) (bits after) ≡ bits bytes ++ take count block
+front_behind bytes after word block count k len x few enough size wide number bits-of was =
+    let held = block_word block word x wide number bits-of in
+    let long : length word ≡ 8 = omega (arith, length-bits word, ap length held, wide) in
+    let front : bits (take k word) ≡ take (8 * k) block = sym (take-bits word k (omega (arith, long))) ∙ ap (take (8 * k)) held in
+    let e : bits after ≡ bits bytes ++ take (8 * k) block = rw (was, bits-append bytes (take k word), front) refl in
+    let n : 8 * len + count ≡ length (bits bytes) + count = omega (arith, size, length-bits bytes) in
+    ap (take (8 * len + count)) e ∙ (ap (λ m. take m (bits bytes ++ take (8 * k) block)) n ∙ (take-append-add (bits bytes) (take (8 * k) block) count ∙ ap (λ r. bits bytes ++ r) (take-take count (8 * k) block (omega arith))))
 
--- no items
-pub packing_nil : (bytes : List ℕ) (block : List Bool) → bytes ≡ [] → bits bytes ++ take 0 block ≡ []
-packing_nil bytes block e = append-nil (bits bytes) ∙ (ap bits e ∙ bits-nil)
+module _ {S A : Type 0} (steps : S → Option A → S → Type 0) where
+  -- what came, and what came behind it
+  pub Yields-append : (s t u : S) (xs ys : List A) → Yields steps s xs t → Yields steps t ys u → Yields steps s (xs ++ ys) u
+  Yields-append s t u [] ys e y = subst (λ k. Yields steps k ys u) (sym e) y
+  Yields-append s t u (x ∷ xs) ys p y = (p.0, p.1, Yields-append p.0 t u xs ys p.2 y)
+
+  -- the last item of what came
+  pub last_came : (s u : S) (xs : List A) (x : A) → Yields steps s (xs ++ x ∷ []) u → YieldsThen steps s xs (Some x) u
+  last_came s u [] x y = (s, refl, subst (steps s (Some x)) y.2 y.1)
+  last_came s u (z ∷ xs) x y = let rest = last_came y.0 u xs x y.2 in (rest.0, (y.0, y.1, rest.1), rest.2)
+
+-- a full block behind as many items as leave room for no other is one item too many
+pub too_many : {S : Type 0} (steps : S → Option Bool → S → Type 0) (s t u : S) (xs block : List Bool) → Yields steps s xs t → Yields steps t block u → length block ≡ 64 → length xs ≡ 2 ^ 64 - 64
+    → (ys : List Bool) × (y : Bool) × (v : S) × YieldsThen steps s ys (Some y) v × (length ys ≡ 2 ^ 64 - 1)
+too_many steps s t u xs block before came wide size =
+    let last : Bool = get_or block 63 false in
+    let split : block ≡ take 63 block ++ last ∷ [] = sym (take_all 64 block (omega (arith, wide))) ∙ take_more block 63 false (omega (arith, wide)) in
+    let whole : xs ++ block ≡ (xs ++ take 63 block) ++ last ∷ [] = ap (λ (r : List Bool). xs ++ r) split ∙ sym (append_assoc xs (take 63 block) (last ∷ [])) in
+    let all = subst (λ (r : List Bool). Yields steps s r u) whole (Yields-append steps s t u xs block before came) in
+    (xs ++ take 63 block, last, u, last_came steps s u (xs ++ take 63 block) last all, omega (arith, length-append xs (take 63 block), length-take-le 63 block (omega (arith, wide)), size))

@@ -1,12 +1,16 @@
 -- Many items behind those that bytes hold.
 use Rattle.std.proofs.Common.{◌≡◌, inl, inr, ℕ, zero, suc, ◌+◌, ◌-◌, ◌*◌, ◌/◌, ◌%◌, ◌<◌, ◌≤◌, List, ◌++◌, Bool, true, false, take, drop, replicate, length, get_or, refl, ap, sym, ◌∙◌, arith}
 use Rattle.std.proofs.lemmas.Bool.{cases_lt}
-use Rattle.std.proofs.lemmas.List.{length-append, length-take-le, get_or-take, get_or_append_left, get_or-append_right, get_or_past, ext_get_or, take_all, take-append-le, drop_more, append_assoc, take-replicate, replicate-append-replicate}
+use Rattle.std.proofs.lemmas.List.{length-append, length-take-le, length-drop, get_or-take, get_or_append_left, get_or-append_right, get_or_past, ext_get_or, take_all, take-append-le, drop_more, append_assoc, take-replicate, replicate-append-replicate}
+use Rattle.std.proofs.lemmas.Slice.{take-put_mid}
 use Rattle.std.proofs.Math.Seq.{take-add}
+use borrow.Rule.Slice.PartMut.{put_mid}
 use Rattle.arrow2_model.specs.Bits.{bits, unnum}
 use Rattle.arrow2_model.specs.Canonical.{IsCanonical}
+use Rattle.arrow2_model.specs.Parts.{part}
 use Rattle.arrow2_model.proofs.Bits.{length-unnum, get_or-unnum, bits-nil, bits-cons, bits-append, length-bits}
-use Rattle.arrow2_model.proofs.Bytes.{take-bits, drop-bits, bits-zeros}
+use Rattle.arrow2_model.proofs.Bytes.{take-bits, drop-bits, bits-zeros, part-bits-drop}
+use Rattle.arrow2_model.proofs.Parts.{part-add}
 use Rattle.arrow2_growth.proofs.Pushed.{AreBytes, Hold, held, before}
 
 -- ---- whole bytes
@@ -150,3 +154,48 @@ word_pushed bytes after n x items left all so first pushed =
 -- how many items a first word leaves
 pub length-word : (x : ℕ) (items left : List Bool) → items ≡ unnum 64 x ++ left → length items ≡ 64 + length left
 length-word x items left e = ap length e ∙ (length-append (unnum 64 x) left ∙ omega (arith, length-unnum 64 x))
+
+-- one word more in a block
+pub word_in_block : (block after word : List ℕ) (i k x : ℕ) (items left all : List Bool) → all ≡ bits (take (8 * i) block) ++ items → items ≡ unnum 64 x ++ left → after ≡ put_mid (8 * i) k block word → bits word ≡ unnum 64 x → 8 * i ≤ length block → all ≡ bits (take (8 * (i + 1)) after) ++ left
+word_in_block block after word i k x items left all so first was of inside =
+    let size : length word ≡ 8 = omega (arith, length-bits word, length-unnum 64 x, ap length of) in
+    let put : take (8 * (i + 1)) after ≡ take (8 * i) block ++ word = ap (take (8 * (i + 1))) was ∙ take-put_mid (8 * i) k block word (8 * (i + 1)) (omega (arith, size)) inside in
+    so
+    ∙ (ap (λ (t : List Bool). bits (take (8 * i) block) ++ t) (first ∙ ap (λ (t : List Bool). t ++ left) (sym of))
+    ∙ (sym (append_assoc (bits (take (8 * i) block)) (bits word) left) ∙ ap (λ (t : List Bool). t ++ left) (sym (ap bits put ∙ bits-append (take (8 * i) block) word))))
+
+-- how long a block stays
+pub length-word_in_block : (block after word : List ℕ) (i k x : ℕ) → after ≡ put_mid (8 * i) k block word → bits word ≡ unnum 64 x → 8 * i + 8 ≤ length block → k ≡ 8 → length after ≡ length block
+length-word_in_block block after word i k x was of inside is =
+    let size : length word ≡ 8 = omega (arith, length-bits word, length-unnum 64 x, ap length of) in
+    let rest : List ℕ = drop k (drop (8 * i) block) in
+    omega (arith, ap length was, length-append (take (8 * i) block) (word ++ rest), length-append word rest, length-take-le (8 * i) block (omega arith), length-drop k (drop (8 * i) block), length-drop (8 * i) block, size, is)
+
+-- eight words more
+pub block_pushed : (bytes after block : List ℕ) (n : ℕ) (items left all : List Bool) → take n (bits bytes) ++ items ≡ all → items ≡ bits block ++ left → length block ≡ 64 → take (n + 8 * length block) (bits after) ≡ take n (bits bytes) ++ bits block → take (n + 512) (bits after) ++ left ≡ all
+block_pushed bytes after block n items left all so first size pushed =
+    let at : n + 512 ≡ n + 8 * length block = omega (arith, size) in
+    ap (λ k. take k (bits after) ++ left) at
+    ∙ (ap (λ (t : List Bool). t ++ left) pushed
+    ∙ (append_assoc (take n (bits bytes)) (bits block) left ∙ (ap (λ (t : List Bool). take n (bits bytes) ++ t) (sym first) ∙ so)))
+
+-- how many items eight words leave
+pub length-block : (block : List ℕ) (items left : List Bool) → items ≡ bits block ++ left → length block ≡ 64 → length items ≡ 512 + length left
+length-block block items left e size = ap length e ∙ (length-append (bits block) left ∙ omega (arith, length-bits block, size))
+
+-- a part of bits behind items, its head first
+pub pushed_in_two : (slice first second : List ℕ) (own items : List Bool) (n offset count head j k : ℕ) → head ≤ count → j ≤ length slice → 8 * j + k ≡ offset + head → items ≡ part (bits slice) offset head → length items ≡ head
+    → take (n + length items) (bits first) ≡ own ++ items → take (n + head + (count - head)) (bits second) ≡ take (n + head) (bits first) ++ part (bits (take (length slice - j) (drop j slice))) k (count - head)
+    → take (n + count) (bits second) ≡ own ++ part (bits slice) offset count
+pushed_in_two slice first second own items n offset count head j k few inside at is size one two =
+    let all : take (length slice - j) (drop j slice) ≡ drop j slice = take_all (length slice - j) (drop j slice) (omega (arith, length-drop j slice)) in
+    let end : n + count ≡ n + head + (count - head) = omega arith in
+    let same : n + head ≡ n + length items = omega (arith, size) in
+    let whole : head + (count - head) ≡ count = omega arith in
+    let rest : part (bits (take (length slice - j) (drop j slice))) k (count - head) ≡ part (bits slice) (offset + head) (count - head) =
+    ap (λ (s : List ℕ). part (bits s) k (count - head)) all ∙ (part-bits-drop slice j k (count - head) inside ∙ ap (λ a. part (bits slice) a (count - head)) at) in
+    ap (λ m. take m (bits second)) end
+    ∙ (two ∙ (ap (λ m. take m (bits first) ++ part (bits (take (length slice - j) (drop j slice))) k (count - head)) same
+    ∙ (ap (λ (t : List Bool). t ++ part (bits (take (length slice - j) (drop j slice))) k (count - head)) (one ∙ ap (λ (t : List Bool). own ++ t) is)
+    ∙ (append_assoc own (part (bits slice) offset head) (part (bits (take (length slice - j) (drop j slice))) k (count - head))
+    ∙ ap (λ (t : List Bool). own ++ t) (ap (λ (t : List Bool). part (bits slice) offset head ++ t) rest ∙ (sym (part-add (bits slice) offset head (count - head)) ∙ ap (part (bits slice) offset) whole))))))

@@ -1,81 +1,68 @@
 //! Booleans packed into bytes, 64 at a time.
-ghost use Rattle.std.specs.Prelude.{◌≡◌, ◌-◌, ◌*◌, ◌<◌, ◌≤◌, ◌^◌, [], ◌∷◌, ◌++◌, length, map, take, OnOk, IfOk, IfErr, IsErrOf, vec_len};
+ghost use Rattle.std.specs.Prelude.{◌≡◌, ◌-◌, ◌*◌, ◌<◌, ◌≤◌, ◌^◌, List, Bool, Some, None, length, map, take, IfOk, IsErrOf, vec_len};
+ghost use Rattle.std.specs.Iterator.{IsFinite, IsNearerEnd, Yields, YieldsThen};
+ghost use Rattle.std.specs.Iterator.Runs.{WholeRun};
 ghost use Rattle.std.specs.Int.{from_bool};
 ghost use Rattle.arrow2_model.specs.Bits.{bits, num};
 ghost use Rattle.arrow2_types.specs.declared.refusal.Refusal.TheVariants as refusal;
 
+use arrow2_bits::bytes_for;
 use arrow2_chunk::bit_chunk::BitChunk;
 use arrow2_types::refusal::Refusal;
 use std::alloc::{AllocError, Global};
-use std::marker::Model;
 use std::simd::prelude::*;
 
-/// Items that come one by one: contracts see them all. The last of them stand in a block of their own until it is full.
-#[derive(Drop)]
-pub struct Packing {
-    bytes: Vec<u8>,
-    block: [bool; 64],
-    place: usize,
-}
-
-impl Model for Packing {
-    ghost use Rattle.std.specs.Prelude.{◌≡◌, ◌*◌, ◌%◌, ◌<◌, ◌^◌, ◌++◌, length, take, List, Bool};
-    ghost use Rattle.arrow2_model.specs.Bits.{bits};
-
-    ghost Value = { List Bool };
-
-    ghost view = { λ p. bits p.bytes.items ++ take p.place p.block };
-
-    ghost invariant = { λ p. (p.place < 64) × (length p.block ≡ 64) × (length p.bytes.items % 8 ≡ 0) × (8 * length p.bytes.items < 2 ^ 64) };
-}
-
-impl Packing {
-    /// No items. Takes no memory.
-    pub fn new(alloc: Global) -> Packing
-        ensures { result ≡ [] }
-    {
-        Packing {
-            bytes: Vec::new(alloc),
-            block: [false; 64],
-            place: 0,
+/// The bytes of the items of an iterator that ends, with spare bits behind them, and how many items there are. Its
+/// size hint is not read. Takes memory once an item has come, and no sooner.
+///
+/// # Errors
+///
+/// `Overflow` only after `usize::MAX` items and one more, else `OutOfMemory` alone.
+pub fn collected<I: Iterator<Item = bool> + Drop>(
+    alloc: Global,
+    items: I,
+) -> Result<(Vec<u8>, usize), Refusal>
+    requires can { I.can_next items }
+    requires ends { IsFinite (I.remaining items) }
+    ensures enough { IfOk result (λ r. r.1 ≤ 8 * vec_len r.0) }
+    ensures items { IfOk result (λ r. WholeRun I.next_gives items (λ p. take r.1 (bits r.0.items) ≡ p.items)) }
+    ensures overflow { IsErrOf result refusal.Overflow → (xs : List Bool) × (x : Bool) × (t : I) × YieldsThen I.next_gives items xs (Some x) t × (length xs ≡ 2 ^ 64 - 1) }
+{
+    let mut items = items;
+    let mut bytes = Vec::new(alloc);
+    let mut block = [false; 64];
+    'words: loop {
+        let count = fill(&mut items, &mut block);
+        let word = BitChunk::to_ne_bytes(word_of(&block));
+        if count < 64 {
+            let length = 8 * bytes.len() + count;
+            bytes.extend_from_slice(&word[..bytes_for(count)])?;
+            return Ok((bytes, length));
         }
-    }
-
-    /// One item more. Takes memory at the last one of a block alone.
-    pub fn push(&mut self, item: bool) -> Result<(), Refusal>
-        ensures ok { OnOk result (self.new ≡ self.old ++ item ∷ []) }
-        ensures overflow { IsErrOf result refusal.Overflow → length self.old ≡ 2 ^ 64 - 1 }
-        ensures fits { OnOk result (length self.new < 2 ^ 64) }
-    {
-        self.block[self.place] = item;
-        if self.place < 63 {
-            self.place += 1;
-            return Ok(());
-        }
-        if self.bytes.len() == usize::MAX / 8 - 7 {
+        if bytes.len() == usize::MAX / 8 - 7 {
             return Err(Refusal::Overflow);
         }
-        let word = BitChunk::to_ne_bytes(word_of(&self.block));
-        self.bytes.extend_from_slice(&word)?;
-        self.place = 0;
-        Ok(())
+        bytes.extend_from_slice(&word)?;
     }
+}
 
-    /// The bytes of the items, with spare bits behind them, and how many items there are.
-    pub fn finish(self) -> Result<(Vec<u8>, usize), AllocError>
-        ensures enough { IfOk result (λ r. r.1 ≤ 8 * vec_len r.0) }
-        ensures items { IfOk result (λ r. take r.1 (bits r.0.items) ≡ self) }
-        ensures len { IfOk result (λ r. r.1 ≡ length self) }
-    {
-        let Packing {
-            mut bytes,
-            block,
-            place,
-        } = self;
-        let length = 8 * bytes.len() + place;
-        bytes.extend_from_slice(&BitChunk::to_ne_bytes(word_of(&block)))?;
-        Ok((bytes, length))
+/// Puts the next items into a block, from its front, until it is full or no item is left, and answers how many came.
+fn fill<I: Iterator<Item = bool>>(items: &mut I, block: &mut [bool; 64]) -> usize
+    requires can { I.can_next items.old }
+    requires ends { IsFinite (I.remaining items.old) }
+    ensures size { length block.new ≡ 64 }
+    ensures few { result ≤ 64 }
+    ensures full { result ≡ 64 → Yields I.next_gives items.old block.new items.new }
+    ensures goes { result ≡ 64 → IsNearerEnd I.can_next I.remaining items.old items.new }
+    ensures ended { result < 64 → YieldsThen I.next_gives items.old (take result block.new) None items.new }
+{
+    for k in 0..64 {
+        let Some(item) = items.next() else {
+            return k;
+        };
+        block[k] = item;
     }
+    64
 }
 
 /// The bytes of the items, with spare bits behind them. Asks for memory once.

@@ -2,6 +2,7 @@
 #![tactic(auto)]
 
 pub mod kernels;
+pub mod runs;
 pub mod schemas;
 pub mod texts;
 pub mod validity;

@@ -1,4 +1,5 @@
 pub mod Cuts
+pub mod InnerRuns
 pub mod Slots
 pub mod TakenRuns
 pub mod WordsOfPlaces

@@ -1,8 +1,9 @@
 -- Bits of words, by places of the bytes that they are read from.
-use Rattle.std.proofs.Common.{◌≡◌, ℕ, zero, suc, ◌+◌, ◌-◌, ◌*◌, ◌^◌, ◌<◌, ◌≤◌, ◌==◌, inl, inr, List, Bool, true, false, not, length, get_or, take, drop, refl, sym, ap, ◌∙◌, arith}
+use Rattle.std.proofs.Common.{◌≡◌, ℕ, zero, suc, ◌+◌, ◌-◌, ◌*◌, ◌/◌, ◌^◌, ◌<◌, ◌≤◌, ◌==◌, inl, inr, List, Bool, true, false, not, length, get_or, take, drop, refl, sym, ap, ◌∙◌, arith}
 use Rattle.std.specs.Int.{trailing_zeros}
 use Rattle.std.specs.Int as width
 use Rattle.std.specs.Int.Count.{trailing_of_zero}
+use Rattle.std.proofs.Math.Nat.{div-div-eq-div-mul, div-one, pow-succ', zero-add}
 use Rattle.std.proofs.lemmas.Bool.{cases_lt}
 use Rattle.std.proofs.lemmas.Nat.Bits.{bit_at-trailing_zeros, bit_at-zero}
 use Rattle.std.proofs.lemmas.List.{get_or-map, length-drop, take_all}
@@ -13,7 +14,7 @@ use Rattle.arrow2_model.proofs.Bytes.{part-bits-drop}
 use Rattle.arrow2_model.proofs.Chunks.{unnum-not}
 use Rattle.arrow2_model.proofs.Numbers.{bit-num}
 use Rattle.arrow2_model.proofs.Parts.{get_or-part}
-use Rattle.arrow2_walks.specs.Places.{IsFirst}
+use Rattle.arrow2_walks.specs.Places.{IsFirst, IsRead}
 
 -- a bit of the word of a part of the bytes from one on
 pub bit_of_part : (bytes : List ℕ) (w first shift offset place : ℕ) → w ≡ num (part (bits (take (length bytes - first) (drop first bytes))) shift 64) → first ≤ length bytes → 8 * first + shift ≡ offset + place
@@ -55,34 +56,57 @@ first_unset x p h e =
     let most = f.0 in
     (most, (λ i l. not_false (bit x i) (sym (flipped_bit x i h (omega (arith, most, l))) ∙ f.1 i l)), λ l. not_true (bit x p) (sym (flipped_bit x p h l) ∙ f.2 l))
 
-module _ (bytes : List ℕ) (offset at end place w held : ℕ) (value : Bool) where
-  -- a bit of a word, by its place
-  held_bit : ((i : ℕ) → i < 64 → bit w i ≡ get_or (bits bytes) (offset + (place + i)) false)
-      → held ≤ 64 → (k : ℕ) → place ≤ k → k < place + held → get_or (bits bytes) (offset + k) false ≡ bit w (k - place)
-  held_bit word small k l h =
+-- a bit of a shifted number
+pub bit_behind : (n x i : ℕ) → bit (x / 2 ^ n) i ≡ bit x (n + i)
+unfolding bit
+bit_behind zero x i = ap (λ t. bit t i) (div-one x) ∙ ap (bit x) (sym (zero-add i))
+bit_behind (suc n) x i =
+    let d : x / 2 ^ suc n ≡ x / 2 / 2 ^ n = sym (div-div-eq-div-mul x 2 (2 ^ n) ∙ ap (λ (p : ℕ). x / p) (sym (pow-succ' 2 n))) in
+    let e : suc n + i ≡ suc (n + i) = omega arith in
+    ap (λ t. bit t i) d ∙ (bit_behind n (x / 2) i ∙ sym (ap (bit x) e))
+
+module _ (items : List Bool) (offset at end place w held : ℕ) (value : Bool) (read : IsRead items offset end place w held) where
+  -- a bit that was read, by its place
+  held_bit : (k : ℕ) → place ≤ k → k < place + held → get_or items (offset + k) false ≡ bit w (k - place)
+  held_bit k l h =
       let e : place + (k - place) ≡ k = omega arith in
-      sym (word (k - place) (omega arith) ∙ ap (λ t. get_or (bits bytes) (offset + t) false) e)
+      sym (read.same (k - place) (omega arith) ∙ ap (λ t. get_or items (offset + t) false) e)
 
   -- bits of the word that are passed
-  pub passed_bits : ((k : ℕ) → at ≤ k → k < place → get_or (bits bytes) (offset + k) false ≡ not value)
-      → ((i : ℕ) → i < 64 → bit w i ≡ get_or (bits bytes) (offset + (place + i)) false)
-      → held ≤ 64 → (passed : ℕ) → passed ≤ held → ((i : ℕ) → i < passed → bit w i ≡ not value)
-      → (k : ℕ) → at ≤ k → k < place + passed → get_or (bits bytes) (offset + k) false ≡ not value
-  passed_bits before word small passed most others k l h = elim (cases_lt k place) [
+  pub passed_bits : ((k : ℕ) → at ≤ k → k < place → get_or items (offset + k) false ≡ not value)
+      → (passed : ℕ) → passed ≤ held → ((i : ℕ) → i < passed → bit w i ≡ not value)
+      → (k : ℕ) → at ≤ k → k < place + passed → get_or items (offset + k) false ≡ not value
+  passed_bits before passed most others k l h = elim (cases_lt k place) [
     | inl b ↦ before k l b
-    | inr b ↦ held_bit word small k (omega arith) (omega arith) ∙ others (k - place) (omega arith)
+    | inr b ↦ held_bit k (omega arith) (omega arith) ∙ others (k - place) (omega arith)
   ]
 
   -- the place is in this word
-  pub found_place : at ≤ place → ((k : ℕ) → at ≤ k → k < place → get_or (bits bytes) (offset + k) false ≡ not value)
-      → ((i : ℕ) → i < 64 → bit w i ≡ get_or (bits bytes) (offset + (place + i)) false)
-      → held ≤ 64 → held ≤ end - place → (passed : ℕ) → passed < held → ((i : ℕ) → i < passed → bit w i ≡ not value) → bit w passed ≡ value
-      → IsFirst (bits bytes) offset at end value (place + passed)
-  found_place from before word small less passed most others there =
+  pub found_place : at ≤ place → ((k : ℕ) → at ≤ k → k < place → get_or items (offset + k) false ≡ not value)
+      → (passed : ℕ) → passed < held → ((i : ℕ) → i < passed → bit w i ≡ not value) → bit w passed ≡ value
+      → IsFirst items offset at end value (place + passed)
+  found_place from before passed most others there =
       let e : place + passed - place ≡ passed = omega arith in
+      let within = read.within in
       record {
         from = omega arith;
         within = omega arith;
-        others = passed_bits before word small passed (omega arith) others;
-        there = λ l. held_bit word small (place + passed) (omega arith) (omega arith) ∙ (ap (bit w) e ∙ there);
+        others = passed_bits before passed (omega arith) others;
+        there = λ l. held_bit (place + passed) (omega arith) (omega arith) ∙ (ap (bit w) e ∙ there);
       }
+
+  -- what is left of it behind that place
+  pub read_behind : (passed : ℕ) → passed < held → IsRead items offset end (place + passed) (w / 2 ^ passed) (held - passed)
+  read_behind passed most =
+      let few = read.few in let within = read.within in
+      record {
+        few = omega arith;
+        within = omega arith;
+        same = λ i l.
+            let e : place + (passed + i) ≡ place + passed + i = omega arith in
+            bit_behind passed w i ∙ (read.same (passed + i) (omega arith) ∙ ap (λ t. get_or items (offset + t) false) e);
+      }
+
+-- nothing was read
+pub none_read : (items : List Bool) (offset end at w held : ℕ) → held ≡ 0 → at ≤ end → IsRead items offset end at w held
+none_read items offset end at w held none within = record { few = omega arith; within = omega arith; same = λ i l. absurd (omega arith) }

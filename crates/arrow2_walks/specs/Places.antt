@@ -1,5 +1,6 @@
 -- Places of bits, and the runs that a walk has left.
 use Rattle.std.specs.Prelude.{◌≡◌, ℕ, ◌+◌, ◌<◌, ◌≤◌, List, Bool, not, get_or, false}
+use Rattle.arrow2_model.specs.Bits.{bit}
 
 -- p is the first place from `at` up to `end` whose bit, counted from bit `offset` on, is `value`: `end` where none is
 pub record IsFirst (items : List Bool) (offset at end : ℕ) (value : Bool) (p : ℕ) : Type 0 where
@@ -7,6 +8,12 @@ pub record IsFirst (items : List Bool) (offset at end : ℕ) (value : Bool) (p :
   pub within : p ≤ end
   pub others : (k : ℕ) → at ≤ k → k < p → get_or items (offset + k) false ≡ not value
   pub there : p < end → get_or items (offset + p) false ≡ value
+
+-- the lowest `held` bits of a word are those from place `at` on, counted from bit `offset` on, and none is past `end`
+pub record IsRead (items : List Bool) (offset end at word held : ℕ) : Type 0 where
+  pub few : held ≤ 64
+  pub within : at + held ≤ end
+  pub same : (i : ℕ) → i < held → bit word i ≡ get_or items (offset + (at + i)) false
 
 -- the runs still to come, each by its first place and its length, and how many items are true in all
 pub record RunsLeft : Type 0 where

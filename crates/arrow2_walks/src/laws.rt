@@ -1,5 +1,6 @@
 //! Laws of the walks. Each function is its law and nothing else.
-ghost use Rattle.std.specs.Prelude.{Bool, List, Option, option_map};
+ghost use Rattle.std.specs.Prelude.{◌+◌, ◌≤◌, All, Bool, List, Option, length, option_map};
+ghost use Rattle.arrow2_model.specs.Runs.{runs};
 ghost use Rattle.std.specs.Iterator.{YieldsFirst, YieldsLast, YieldsFirstBy, YieldsLastBy};
 ghost use Rattle.arrow2_walks.specs.declared.zip_validity.ZipValidityIter.{ZipValidityIter};
 ghost use Rattle.arrow2_walks.specs.declared.zip_validity.ZipValidity.{ZipValidity};
@@ -23,4 +24,10 @@ pub fn a_zip_with_or_without_validity_walks_over_its_slots<
 >()
     ensures first { (view : I.Item → X) (rest : I → List X) (valid : V → List Bool) (s t : ZipValidity I V) (r : Option (Option I.Item)) → MatchZip s (λ _. Unit {0}) (HasEqualLengths rest valid) → either_steps (YieldsFirstBy view rest) (YieldsFirst valid) s r t → YieldsFirstBy (option_map view) (slots_of rest valid) s r t × MatchZip t (λ _. Unit {0}) (HasEqualLengths rest valid) }
     ensures last { (view : I.Item → X) (rest : I → List X) (valid : V → List Bool) (s t : ZipValidity I V) (r : Option (Option I.Item)) → MatchZip s (λ _. Unit {0}) (HasEqualLengths rest valid) → either_steps (YieldsLastBy view rest) (YieldsLast valid) s r t → YieldsLastBy (option_map view) (slots_of rest valid) s r t × MatchZip t (λ _. Unit {0}) (HasEqualLengths rest valid) }
+{}
+
+/// Each run of a list ends inside it.
+#[tactic(auto, using(crate::proofs::InnerRuns::runs_inside))]
+pub fn runs_lie_inside()
+    ensures { (items : List Bool) → All (λ run. run.0 + run.1 ≤ length items) (runs items) }
 {}

@@ -1,32 +1,47 @@
 //! The next place of a bit that is set, or of one that is not, by words.
 ghost use Rattle.std.specs.Prelude.{◌≡◌, ℕ, ◌+◌, ◌*◌, ◌<◌, ◌≤◌, not, get_or, false, length};
 ghost use Rattle.arrow2_model.specs.Bits.{bit, bits};
-ghost use Rattle.arrow2_walks.specs.Places.{IsFirst};
+ghost use Rattle.arrow2_walks.specs.Places.{IsFirst, IsRead};
 
 use arrow2_bits::chunks::padded_chunk_at;
 
-/// The first place from `index` on whose bit, counted from bit `offset` on, is `value`, or `end` where there is none.
-pub(crate) fn first_place(
-    bytes: &[u8],
-    offset: usize,
-    index: usize,
-    end: usize,
-    value: bool,
-) -> usize
-    requires order { index ≤ end }
+/// A place, and the bits from it on that were read already, as the lowest ones of a word.
+#[derive(Clone, Copy, Debug)]
+pub(crate) struct Place {
+    pub(crate) index: usize,
+    pub(crate) word: u64,
+    pub(crate) held: usize,
+}
+
+/// The first place from `at` on whose bit, counted from bit `offset` on, is `value`, or `end` where there is none. Each
+/// word is read once, and shifted as it is passed.
+pub(crate) fn first_place(bytes: &[u8], offset: usize, end: usize, at: Place, value: bool) -> Place
     requires inside { offset + end ≤ 8 * length bytes.now }
-    ensures { IsFirst (bits bytes.now) offset index end value result }
+    requires read { IsRead (bits bytes.now) offset end at.index at.word at.held }
+    ensures first { IsFirst (bits bytes.now) offset at.index end value result.index }
+    ensures read { IsRead (bits bytes.now) offset end result.index result.word result.held }
 {
-    let mut place = index;
-    while place < end {
-        let held = (end - place).min(64);
-        let passed = first_bit(word_from(bytes, offset, place), value);
+    let Place {
+        mut index,
+        mut word,
+        mut held,
+    } = at;
+    'words: loop {
+        let passed = first_bit(word, value);
         if passed < held {
-            return place + passed;
+            return Place {
+                index: index + passed,
+                word: word >> passed,
+                held: held - passed,
+            };
         }
-        place += held;
+        index += held;
+        held = (end - index).min(64);
+        if held == 0 {
+            return Place { index, word, held };
+        }
+        word = word_from(bytes, offset, index);
     }
-    place
 }
 
 /// The word of the bits from bit `offset + place` on, where bits past the bytes count as false. Asks that the first

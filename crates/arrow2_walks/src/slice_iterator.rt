@@ -1,12 +1,12 @@
 //! The runs of set items of a bitmap.
-ghost use Rattle.std.specs.Prelude.{◌≡◌, ◌+◌, length, ⊤};
-ghost use Rattle.std.specs.Iterator.{YieldsFirst, item_count, MakesProgress};
+ghost use Rattle.std.specs.Prelude.{◌≡◌, ◌+◌, length};
+ghost use Rattle.std.specs.Iterator.{YieldsFirst, item_count};
 ghost use Rattle.arrow2_model.specs.Parts.{falses};
 ghost use Rattle.arrow2_model.specs.Runs.{runs};
 ghost use Rattle.arrow2_model.specs.Storage.{items_of};
 ghost use Rattle.arrow2_walks.specs.Places.{RunsLeft};
 
-use crate::places::first_place;
+use crate::places::{Place, first_place};
 use arrow2_bitmap::Bitmap;
 use std::alloc::AllocError;
 use std::marker::Model;
@@ -17,8 +17,8 @@ use std::marker::Model;
 pub struct SlicesIterator<'a> {
     bytes: &'a [u8],
     offset: usize,
-    index: usize,
     end: usize,
+    place: Place,
     slots: usize,
 }
 
@@ -27,13 +27,13 @@ impl<'a> Model for SlicesIterator<'a> {
     ghost use Rattle.arrow2_model.specs.Bits.{bits};
     ghost use Rattle.arrow2_model.specs.Parts.{part};
     ghost use Rattle.arrow2_model.specs.Runs.{runs_from};
-    ghost use Rattle.arrow2_walks.specs.Places.{RunsLeft};
+    ghost use Rattle.arrow2_walks.specs.Places.{IsRead, RunsLeft};
 
     ghost Value = { RunsLeft };
 
-    ghost view = { λ i. record { runs = runs_from (part (bits i.bytes.now) i.offset i.end) i.index; slots = i.slots } };
+    ghost view = { λ i. record { runs = runs_from (part (bits i.bytes.now) i.offset i.end) i.place.index; slots = i.slots } };
 
-    ghost invariant = { λ i. (i.index ≤ i.end) × (i.offset + i.end ≤ 8 * length i.bytes.now) };
+    ghost invariant = { λ i. IsRead (bits i.bytes.now) i.offset i.end i.place.index i.place.word i.place.held × (i.offset + i.end ≤ 8 * length i.bytes.now) };
 }
 
 #[tactic(auto, using(crate::proofs::TakenRuns::taking_runs))]
@@ -47,8 +47,12 @@ impl<'a> SlicesIterator<'a> {
         SlicesIterator {
             bytes,
             offset,
-            index: 0,
             end,
+            place: Place {
+                index: 0,
+                word: 0,
+                held: 0,
+            },
             slots: values.len() - values.unset_bits(),
         }
     }
@@ -58,6 +62,22 @@ impl<'a> SlicesIterator<'a> {
         ensures { result ≡ self.now.slots }
     {
         self.slots
+    }
+
+    /// The next run, as the iterator gives it. What [`SlicesIterator::slots`] answers stays the same.
+    ///
+    /// arrow2 has the iterator alone.
+    pub fn next_run(&mut self) -> Option<(usize, usize)>
+        ensures steps { YieldsFirst (λ i. i.runs) self.old result self.new }
+        ensures slots { self.new.slots ≡ self.old.slots }
+    {
+        self.place = first_place(self.bytes, self.offset, self.end, self.place, true);
+        let start = self.place.index;
+        if start == self.end {
+            return None;
+        }
+        self.place = first_place(self.bytes, self.offset, self.end, self.place, false);
+        Some((start, self.place.index - start))
     }
 }
 
@@ -70,7 +90,6 @@ impl<'a> Clone for SlicesIterator<'a> {
     }
 }
 
-#[tactic(auto, using(crate::proofs::TakenRuns::taking_runs))]
 impl<'a> Iterator for SlicesIterator<'a> {
     type Item = (usize, usize);
 
@@ -78,18 +97,7 @@ impl<'a> Iterator for SlicesIterator<'a> {
 
     ghost remaining = { item_count (λ i. i.runs) };
 
-    /// The next run. What [`SlicesIterator::slots`] answers stays the same.
-    fn next(&mut self) -> Option<(usize, usize)>
-        ensures steps { YieldsFirst (λ i. i.runs) self.old result self.new }
-        ensures goes { MakesProgress (λ _. ⊤) (item_count (λ i. i.runs)) self.old result self.new }
-        ensures slots { self.new.slots ≡ self.old.slots }
-    {
-        let start = first_place(self.bytes, self.offset, self.index, self.end, true);
-        if start == self.end {
-            self.index = start;
-            return None;
-        }
-        self.index = first_place(self.bytes, self.offset, start, self.end, false);
-        Some((start, self.index - start))
+    fn next(&mut self) -> Option<(usize, usize)> {
+        self.next_run()
     }
 }

@@ -1,17 +1,13 @@
-use Rattle.std.proofs.Common.{◌∙◌, ◌++◌, ◌*◌, ◌/◌, ◌+◌, ◌≡◌, ◌-◌, List, Bool, ℕ, length, take, drop, ap, arith}
-use Rattle.std.proofs.lemmas.List.{take_all, length-drop}
+use Rattle.std.proofs.Common.{◌∙◌, ◌++◌, ◌/◌, ◌%◌, ◌+◌, List, ℕ, take, ap, arith}
 use Rattle.arrow2_model.specs.Bits.{bits}
-use Rattle.arrow2_model.specs.Parts.{part}
-use Rattle.arrow2_model.proofs.Bytes.{part-bits-drop}
+use Rattle.arrow2_growth.proofs.Whole.{pushed_in_two}
 use Rattle.arrow2_growth.proofs.extended.extend_from_slice.Goals as goal
 
-pub returns-in_ok-push_bytes-clause-items : goal.returns-in_ok-push_bytes-clause-items
-returns-in_ok-push_bytes-clause-items c =
-    let slice = c.args.slice.now in
+pub returns-clause-items : goal.returns-clause-items
+returns-clause-items c =
     let n : ℕ = c.args.length in
-    let start : 8 * (c.args.offset / 8) + 0 ≡ c.args.offset = omega (arith, c.if-offset-eq0.true) in
-    let behind : take (length slice - c.args.offset / 8) (drop (c.args.offset / 8) slice) ≡ drop (c.args.offset / 8) slice = take_all (length slice - c.args.offset / 8) (drop (c.args.offset / 8) slice) (omega (arith, length-drop (c.args.offset / 8) slice)) in
-    c.in_ok-push_bytes.ensures.items
-    ∙ (ap (λ (s : List ℕ). take n (bits c.reserve.new.bytes.items) ++ take c.args.count (bits s)) behind
-    ∙ (ap (λ (b : List ℕ). take n (bits b) ++ take c.args.count (bits (drop (c.args.offset / 8) slice))) c.reserve.ensures.items
-    ∙ ap (λ (t : List Bool). take n (bits c.args.bytes.now.items) ++ t) (part-bits-drop slice (c.args.offset / 8) 0 c.args.count (omega (arith, c.requires.inside)) ∙ ap (λ a. part (bits slice) a c.args.count) start)))
+    let offset : ℕ = c.args.offset in
+    let head : ℕ = c.min-head.result in
+    let one = c.in_ok-push_words.ensures.items ∙ ap (λ (b : List ℕ). take n (bits b) ++ c.new.result.items) c.reserve.ensures.items in
+    pushed_in_two c.args.slice.now c.push_words.new.bytes.items c.push_part.new.bytes.items _ c.new.result.items n offset c.args.count head (offset / 8) (offset % 8 + head)
+    (omega (arith, c.min-head.ensures)) (omega (arith, c.requires.inside)) (omega arith) c.new.ensures.items c.new.ensures.count one c.in_ok-push_part.ensures.items

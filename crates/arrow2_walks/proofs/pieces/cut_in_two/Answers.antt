@@ -1,8 +1,7 @@
-use Rattle.std.proofs.Common.{◌≡◌, ◌∙◌, ◌+◌, ◌-◌, List, length, map, get_or, set, ap, arith}
+use Rattle.std.proofs.Common.{◌∙◌, ◌+◌, List, length, map, get_or, set, ap, arith}
 use Rattle.std.proofs.lemmas.List.{length-map}
 use Rattle.arrow2_model.specs.Storage.{BitmapStorage, items_of}
-use Rattle.arrow2_model.specs.Touched.{cut_reads}
-use Rattle.arrow2_walks.specs.Cuts.{Piece, piece_of, piece_at, joined, IsPaid, cut_at}
+use Rattle.arrow2_walks.specs.Cuts.{Piece, piece_of, piece_at, joined}
 use Rattle.arrow2_walks.proofs.Cuts.{piece_is, same_before, put_behind, front_is, back_is, pieces_cut, cut_counted, joined-cut, paid-cut}
 use Rattle.arrow2_walks.proofs.pieces.cut_in_two.Goals as goal
 

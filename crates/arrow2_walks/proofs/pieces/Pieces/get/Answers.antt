@@ -1,4 +1,4 @@
-use Rattle.std.proofs.Common.{◌∙◌, List, length, ap, sym, arith}
+use Rattle.std.proofs.Common.{◌∙◌, length, ap, sym, arith}
 use Rattle.std.proofs.lemmas.List.{length-map}
 use Rattle.arrow2_walks.specs.Cuts.{CutPieces, piece_of, piece_at}
 use Rattle.arrow2_walks.proofs.Cuts.{piece_is}

@@ -1,0 +1,30 @@
+//! Values by the runs of those that are valid.
+ghost use Rattle.std.specs.Prelude.{◌≡◌, length, IfOk, IfErr};
+ghost use Rattle.std.specs.List.{flat_map};
+ghost use Rattle.arrow2.specs.Parts.{part};
+ghost use Rattle.arrow2.specs.Runs.{runs};
+ghost use Rattle.arrow2.specs.Storage.{items_of};
+
+use arrow2::bitmap::Bitmap;
+use arrow2::bitmap::utils::SlicesIterator;
+use arrow2::error::{Error, Result};
+use arrow2::laws;
+use std::alloc::Global;
+
+/// The valid values in their order, copied run by run. Asks for the validity of each value.
+///
+/// # Errors
+///
+/// `OutOfMemory` alone.
+pub fn valid_values(alloc: Global, values: &[i64], validity: &Bitmap) -> Result<Vec<i64>>
+    requires same_length { length (items_of validity.now) ≡ length values.now }
+    ensures ok { IfOk result (λ valid. valid.items ≡ flat_map (λ run. part values.now run.0 run.1) (runs (items_of validity.now))) }
+    ensures only { IfErr result (λ e. e ≡ Error.OutOfMemory) }
+{
+    laws::walks::runs_lie_inside();
+    let mut valid = Vec::new(alloc);
+    for (start, length) in SlicesIterator::new(validity) {
+        valid.extend_from_slice(&values[start..start + length])?;
+    }
+    Ok(valid)
+}
