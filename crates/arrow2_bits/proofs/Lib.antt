@@ -1,3 +1,4 @@
+pub mod Ahead
 pub mod Tables
 pub mod Counted
 pub mod Lending

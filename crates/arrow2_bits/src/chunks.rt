@@ -1,6 +1,6 @@
 //! Words read from bytes at a bit offset.
-ghost use Rattle.std.specs.Prelude.{◌≡◌, ◌+◌, ◌*◌, ◌<◌, ◌≤◌, ◌^◌, length};
-ghost use Rattle.arrow2_model.specs.Bits.{bits, unnum, num};
+ghost use Rattle.std.specs.Prelude.{◌≡◌, ℕ, ◌+◌, ◌*◌, ◌<◌, ◌≤◌, ◌^◌, get_or, false, length};
+ghost use Rattle.arrow2_model.specs.Bits.{bit, bits, unnum, num};
 ghost use Rattle.arrow2_model.specs.Parts.{part};
 
 use arrow2_chunk::bit_chunk::BitChunk;
@@ -35,4 +35,15 @@ pub fn padded_chunk_at<T: BitChunk>(bytes: &[u8], shift: usize) -> T
     let mut padded = [0u8; 16];
     padded[..bytes.len()].copy_from_slice(bytes);
     chunk_at(&padded, shift)
+}
+
+/// The word of the bits from bit `offset + place` on, a sum that need not fit a `usize`, where bits past the bytes count
+/// as false. Asks that the first is inside.
+pub fn word_from(bytes: &[u8], offset: usize, place: usize) -> u64
+    requires { offset + place < 8 * length bytes.now }
+    ensures { (i : ℕ) → i < 64 → bit result i ≡ get_or (bits bytes.now) (offset + (place + i)) false }
+{
+    let within = offset % 8 + place % 8;
+    let first = offset / 8 + place / 8 + within / 8;
+    padded_chunk_at(&bytes[first..], within % 8)
 }
