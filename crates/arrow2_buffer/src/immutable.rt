@@ -1,5 +1,5 @@
 //! A list that is shared, cloned and sliced in constant time.
-ghost use Rattle.std.specs.Prelude.{◌≡◌, ◌≢◌, ◌+◌, ◌-◌, ◌^◌, ◌<◌, ◌≤◌, ◌↔◌, List, [], length, length as length', IsTrue, IfOk, IfErr, IfSome, MatchResult, ⊤};
+ghost use Rattle.std.specs.Prelude.{◌≡◌, ◌≢◌, ◌+◌, ◌-◌, ◌^◌, ◌<◌, ◌≤◌, ◌↔◌, List, [], length, length as length', IsTrue, IfOk, IfErr, IfSome, MatchResult, ⊤, vec_len, vec_capacity};
 ghost use Rattle.std.specs.Bool.{OnTrue, OnFalse};
 ghost use Rattle.std.specs.Borrow.{sem};
 ghost use Rattle.std.specs.Fmt.{debug_list};
@@ -259,10 +259,23 @@ impl<T: Drop> Buffer<T> {
     {
         let mut items = Vec::new(alloc);
         for item in iter {
-            items.push(item)?;
+            if items.len() == items.capacity() {
+                items = with_room(items)?;
+            }
+            items.push_reserved(item);
         }
         Buffer::try_from(items)
     }
+}
+
+/// The items in a vector with room for one more. The vector is passed by value, so that how many items it has stays
+/// in a register from item to item.
+fn with_room<T: Drop>(mut items: Vec<T>) -> std::result::Result<Vec<T>, AllocError>
+    ensures same { IfOk result (λ roomy. roomy.items ≡ items.items) }
+    ensures room { IfOk result (λ roomy. vec_len roomy < vec_capacity roomy) }
+{
+    items.reserve(1)?;
+    Ok(items)
 }
 
 /// The whole vector, which is moved and not copied.

@@ -1,11 +1,11 @@
 -- Vectors of offsets that grow.
-use Rattle.std.proofs.Common.{◌≡◌, ℕ, ◌+◌, ◌-◌, ◌≤◌, List, [], ◌∷◌, ◌++◌, map, length, sum, take, get_or, ap, sym, ◌∙◌, arith}
+use Rattle.std.proofs.Common.{◌≡◌, ℕ, ◌+◌, ◌-◌, ◌<◌, ◌≤◌, List, [], ◌∷◌, ◌++◌, map, length, sum, take, get_or, ap, sym, ◌∙◌, arith}
 use Rattle.std.specs.Prelude.{ℤ, pos, ◌≤ℤ◌, unsigned_abs}
 use Rattle.std.proofs.lemmas.Int.{ints}
 use Rattle.std.proofs.lemmas.List.{length-map, map-append, get_or-map, take-append-le}
 use Rattle.std.proofs.lemmas.List.Sums.{sum_by-append}
-use Rattle.arrow2_model.specs.Offsets.{AreOffsets, start_of, lengths_of, last_of}
-use Rattle.arrow2_model.proofs.Offsets.{Spells, get_or-last, push_spells}
+use Rattle.arrow2_model.specs.Offsets.{AreOffsets, start_of, lengths_of, last_of, offset_at}
+use Rattle.arrow2_model.proofs.Offsets.{Spells, get_or-last, get_or-offsets, push_spells}
 
 pub same_naturals : (a b : ℕ) (x : ℤ) → pos a ≡ x → x ≡ pos b → a ≡ b
 same_naturals a b x e h = ap unsigned_abs (e ∙ h)
@@ -13,10 +13,20 @@ same_naturals a b x e h = ap unsigned_abs (e ∙ h)
 pub natural_as_whole : (n : ℕ) (x : ℤ) → x ≡ pos n → pos 0 ≤ℤ x
 natural_as_whole n x e = rw e (omega (arith, ints))
 
-sum-push : (ns : List ℕ) (n : ℕ) → sum (ns ++ n ∷ []) ≡ sum ns + n
+pub sum-push : (ns : List ℕ) (n : ℕ) → sum (ns ++ n ∷ []) ≡ sum ns + n
 sum-push ns n = let e = sum_by-append (λ x. x) ns (n ∷ []) in omega (arith, e)
 
 module _ {X : Type 0} (value : X → ℤ) where
+  -- offset k
+  pub value_at : (items : List X) (x : X) (k : ℕ) → AreOffsets (map value items) → k < length items → x ≡ get_or items k x → value x ≡ pos (offset_at (start_of (map value items)) (lengths_of (map value items)) k)
+  value_at items x k h l e =
+      let m = length-map items value in
+      ap value e ∙ (sym (get_or-map value items k x (pos 0) l) ∙ get_or-offsets (map value items) k h (omega arith))
+
+  -- an offset is a natural number
+  pub value_natural : (items : List X) (x : X) (k : ℕ) → AreOffsets (map value items) → k < length items → x ≡ get_or items k x → pos 0 ≤ℤ value x
+  value_natural items x k h l e = natural_as_whole _ (value x) (value_at items x k h l e)
+
   -- the last offset
   pub value_last : (items : List X) (x : X) (n : ℕ) → AreOffsets (map value items) → n ≡ length items → x ≡ get_or items (n - 1) x → value x ≡ pos (last_of (map value items))
   value_last items x n h l e =

@@ -2,3 +2,4 @@
 #![tactic(auto)]
 
 pub mod appended;
+pub mod check;

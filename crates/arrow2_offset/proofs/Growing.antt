@@ -13,13 +13,7 @@ use Rattle.arrow2_model.specs.Buffers.{BufferStorage, buffer_items, whole_buffer
 use Rattle.arrow2_model.specs.Offsets.{running_sums, offsets_list, numbers_of, AreOffsets, AreOffsetsUpTo, start_of, lengths_of, offset_at, last_of}
 use Rattle.arrow2_model.proofs.Offsets.{Spells, spells, spelled, length-lengths_of, get_or-offsets, get_or-last, push_spells, repeat_spells, take_spells, part_spells, part-map, map-replicate}
 
--- ---- naturals as whole numbers
-
-pub same_naturals : (a b : ℕ) (x : ℤ) → pos a ≡ x → x ≡ pos b → a ≡ b
-same_naturals a b x e h = ap unsigned_abs (e ∙ h)
-
-pub natural_as_whole : (n : ℕ) (x : ℤ) → x ≡ pos n → pos 0 ≤ℤ x
-natural_as_whole n x e = rw e (omega (arith, ints))
+pub use Rattle.arrow2_lengths.proofs.Growing.{same_naturals, natural_as_whole, sum-push, value_at, value_last, value_natural}
 
 -- ---- fronts
 
@@ -30,9 +24,6 @@ take_front xs ys n e = take-append-le n xs ys (omega arith) ∙ take_all n xs (o
 
 pub sum-append : (ns ms : List ℕ) → sum (ns ++ ms) ≡ sum ns + sum ms
 sum-append ns ms = sum_by-append (λ x. x) ns ms
-
-pub sum-push : (ns : List ℕ) (n : ℕ) → sum (ns ++ n ∷ []) ≡ sum ns + n
-sum-push ns n = let e = sum-append ns (n ∷ []) in omega (arith, e)
 
 pub sum-take-le : (ns : List ℕ) (k : ℕ) → sum (take k ns) ≤ sum ns
 sum-take-le ns zero = omega arith
@@ -100,19 +91,6 @@ offset_within max xs k h l =
     (offset_at (start_of xs) (lengths_of xs) k, get_or-offsets xs k h.0 l, omega (arith, h.1))
 
 module _ {X : Type 0} (value : X → ℤ) where
-  -- offset k
-  pub value_at : (items : List X) (x : X) (k : ℕ) → AreOffsets (map value items) → k < length items → x ≡ get_or items k x → value x ≡ pos (offset_at (start_of (map value items)) (lengths_of (map value items)) k)
-  value_at items x k h l e =
-      let m = length-map items value in
-      ap value e ∙ (sym (get_or-map value items k x (pos 0) l) ∙ get_or-offsets (map value items) k h (omega arith))
-
-  -- the last offset
-  pub value_last : (items : List X) (x : X) (n : ℕ) → AreOffsets (map value items) → n ≡ length items → x ≡ get_or items (n - 1) x → value x ≡ pos (last_of (map value items))
-  value_last items x n h l e =
-      let m = length-map items value in
-      let some = h.some in
-      ap value e ∙ (sym (get_or-map value items (n - 1) x (pos 0) (omega arith)) ∙ get_or-last (map value items) n h (omega arith))
-
   -- how many slots
   pub length_slots : (items : List X) (n : ℕ) → AreOffsets (map value items) → n ≡ length items → length (lengths_of (map value items)) + 1 ≡ n
   length_slots items n h e =
@@ -120,25 +98,21 @@ module _ {X : Type 0} (value : X → ℤ) where
       let l = length-lengths_of (map value items) h in
       omega arith
 
-  -- an offset is a natural number
-  pub value_natural : (items : List X) (x : X) (k : ℕ) → AreOffsets (map value items) → k < length items → x ≡ get_or items k x → pos 0 ≤ℤ value x
-  value_natural items x k h l e = natural_as_whole _ (value x) (value_at items x k h l e)
-
   -- where slot k starts and ends, from the two offsets that were read
   pub slot_read : (max : ℕ) (items : List X) (x y : X) (k m n : ℕ) → AreOffsetsUpTo max (map value items) → k < length (lengths_of (map value items)) → x ≡ get_or items k x → y ≡ get_or items (k + 1) y → pos m ≡ value x → pos n ≡ value y → (m ≡ offset_at (start_of (map value items)) (lengths_of (map value items)) k) × (n ≡ m + get_or (lengths_of (map value items)) k 0) × (n ≤ last_of (map value items))
   slot_read max items x y k m n h l is-x is-y e f =
       let xs = map value items in
       let ns = lengths_of xs in
       let len = length_slots items (length items) h.0 refl in
-      let p : m ≡ offset_at (start_of xs) ns k = same_naturals m _ (value x) e (value_at items x k h.0 (omega arith) is-x) in
-      let q : n ≡ offset_at (start_of xs) ns (k + 1) = same_naturals n _ (value y) f (value_at items y (k + 1) h.0 (omega arith) is-y) in
+      let p : m ≡ offset_at (start_of xs) ns k = same_naturals m _ (value x) e (value_at value items x k h.0 (omega arith) is-x) in
+      let q : n ≡ offset_at (start_of xs) ns (k + 1) = same_naturals n _ (value y) f (value_at value items y (k + 1) h.0 (omega arith) is-y) in
       let s : sum (take (k + 1) ns) ≡ sum (take k ns) + get_or ns k 0 = rw add-one (sum-take-next ns k) in
       let t = sum-take-le ns (k + 1) in
       (p, omega arith, omega arith)
 
   -- in the words of a buffer that the offsets were read from
   pub value_last_of : (items : List X) (xs : List ℤ) (x : X) → map value items ≡ xs → AreOffsets xs → x ≡ get_or items (length items - 1) x → value x ≡ pos (last_of xs)
-  value_last_of items xs x e h is = rw (← e) (value_last items x (length items) (rw e h) refl is)
+  value_last_of items xs x e h is = rw (← e) (value_last value items x (length items) (rw e h) refl is)
 
   pub slot_read_of : (max : ℕ) (items : List X) (xs : List ℤ) (x y : X) (k m n : ℕ) → map value items ≡ xs → AreOffsetsUpTo max xs → k < length (lengths_of xs) → x ≡ get_or items k x → y ≡ get_or items (k + 1) y → pos m ≡ value x → pos n ≡ value y → (m ≡ offset_at (start_of xs) (lengths_of xs) k) × (n ≡ m + get_or (lengths_of xs) k 0) × (n ≤ last_of xs)
   slot_read_of max items xs x y k m n e h l is-x is-y f g = rw (← e) (slot_read max items x y k m n (rw e h) (rw e l) is-x is-y f g)
@@ -148,7 +122,7 @@ module _ {X : Type 0} (value : X → ℤ) where
   ends_in_order items a b h is-a is-b =
       let m = length-map items value in
       let some = h.some in
-      rw (value_at items a 0 h (omega arith) is-a, value_last items b (length items) h refl is-b) (omega (arith, ints))
+      rw (value_at value items a 0 h (omega arith) is-a, value_last value items b (length items) h refl is-b) (omega (arith, ints))
 
   -- how far they are apart
   pub spread : (items : List X) (a b : X) (total : ℕ) → AreOffsets (map value items) → a ≡ get_or items 0 a → b ≡ get_or items (length items - 1) b → pos total ≡ value b -ℤ value a → total ≡ sum (lengths_of (map value items))
@@ -156,8 +130,8 @@ module _ {X : Type 0} (value : X → ℤ) where
       let m = length-map items value in
       let some = h.some in
       let xs = map value items in
-      let first : value a ≡ pos (start_of xs) = value_at items a 0 h (omega arith) is-a ∙ ap pos (omega arith) in
-      let t : pos total ≡ pos (last_of xs) -ℤ pos (start_of xs) = e ∙ (ap (λ z. z -ℤ value a) (value_last items b (length items) h refl is-b) ∙ ap (λ z. pos (last_of xs) -ℤ z) first) in
+      let first : value a ≡ pos (start_of xs) = value_at value items a 0 h (omega arith) is-a ∙ ap pos (omega arith) in
+      let t : pos total ≡ pos (last_of xs) -ℤ pos (start_of xs) = e ∙ (ap (λ z. z -ℤ value a) (value_last value items b (length items) h refl is-b) ∙ ap (λ z. pos (last_of xs) -ℤ z) first) in
       let u : total + start_of xs ≡ last_of xs = omega (arith, ints, t) in
       omega arith
 

@@ -1,6 +1,5 @@
 pub mod Frozen
 pub mod Growing
 pub mod Listed
-pub mod Order
 pub mod Same
 pub mod Walk
