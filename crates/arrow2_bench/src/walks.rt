@@ -8,12 +8,7 @@ use std::alloc::Global;
 
 /// Walks over all runs of set items.
 #[unsafe(no_mangle)]
-pub extern "C" fn bench_runs(
-    alloc: Global,
-    bytes: &[u8],
-    parts: &[Part],
-    runs: &[usize],
-) -> usize {
+pub extern "C" fn bench_runs(alloc: Global, bytes: &[u8], parts: &[Part], runs: &[usize]) -> usize {
     answers(alloc, bytes, parts, runs, mixed)
 }
 

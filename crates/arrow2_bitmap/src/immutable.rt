@@ -106,8 +106,20 @@ impl Bitmap {
         ensures only { IfErr result (λ e. e ≡ Error.OutOfMemory) }
     {
         prove!(length / 8 + usize::from(length % 8 != 0) <= bytes.len());
-        let alloc = *bytes.allocator();
         let unset_bits = count_zeros(bytes.as_slice(), 0, length);
+        Bitmap::from_counted(bytes, length, unset_bits)
+    }
+
+    /// The same, of which it is known how many bits are not set.
+    pub(crate) fn from_counted(bytes: Vec<u8>, length: usize, unset_bits: usize) -> Result<Bitmap>
+        requires fits { length ≤ 8 * vec_len bytes }
+        requires counted { unset_bits ≡ falses (take length (bits bytes.items)) }
+        ensures ok { IfOk result (λ b. b ≡ record { bytes = bytes.items; offset = 0; len = length }) }
+        ensures items { IfOk result (λ b. items_of b ≡ take length (bits bytes.items)) }
+        ensures len { IfOk result (λ b. length' (items_of b) ≡ length) }
+        ensures only { IfErr result (λ e. e ≡ Error.OutOfMemory) }
+    {
+        let alloc = *bytes.allocator();
         let bytes = Rc::new(alloc, Bytes::from(bytes))?;
         Ok(Bitmap {
             bytes,
@@ -143,13 +155,7 @@ impl Bitmap {
         ensures only { IfErr result (λ e. e ≡ Error.OutOfMemory) }
     {
         let zeros = vec![in alloc; 0u8; bytes_for(length)]?;
-        let bytes = Rc::new(alloc, Bytes::from(zeros))?;
-        Ok(Bitmap {
-            bytes,
-            offset: 0,
-            length,
-            unset_bits: length,
-        })
+        Bitmap::from_counted(zeros, length, length)
     }
 
     /// The bitmap of the items.

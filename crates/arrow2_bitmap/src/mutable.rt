@@ -300,10 +300,12 @@ impl MutableBitmap {
         ensures only { IfErr result (λ e. e ≡ Error.OutOfMemory) }
         ensures room { falses self.items ≡ 0 → IsOk result }
     {
-        if self.unset_bits() == 0 {
+        let unset_bits = self.unset_bits();
+        if unset_bits == 0 {
             return Ok(None);
         }
-        Ok(Some(Bitmap::try_from(self)?))
+        let (bytes, length) = self.into_parts();
+        Ok(Some(Bitmap::from_counted(bytes, length, unset_bits)?))
     }
 
     /// Takes the last item off and gives it back, or `None` where there is none.

@@ -2,9 +2,9 @@ use Rattle.std.proofs.Common.{◌≡◌, ap, length, arith, rules}
 use Rattle.arrow2_model.specs.Bits.{bits}
 use Rattle.arrow2_model.proofs.Bits.{length-bits}
 use Rattle.arrow2_model.proofs.Parts.{length-part}
-use Rattle.arrow2_bitmap.proofs.immutable.Bitmap.from_u8_vec.Goals as goal
+use Rattle.arrow2_bitmap.proofs.immutable.Bitmap.from_counted.Goals as goal
 
 pub returns-clause-len : goal.returns-clause-len
 returns-clause-len c =
     let kept : c.in_ok-bytes.bytes.value ≡ c.args.bytes.items = search rules in
-    length-part (bits c.in_ok-bytes.bytes.value) 0 c.args.length (omega (arith, length-bits c.in_ok-bytes.bytes.value, ap length kept, c.requires))
+    length-part (bits c.in_ok-bytes.bytes.value) 0 c.args.length (omega (arith, length-bits c.in_ok-bytes.bytes.value, ap length kept, c.requires.fits))
