@@ -20,6 +20,11 @@ pub use Rattle.arrow2_model.specs.Words
 pub use Rattle.arrow2_model.specs.Zipped
 pub use Rattle.arrow2_types.specs.ErrorTexts
 pub use Rattle.arrow2_types.specs.Refusals
+pub use Rattle.arrow2_bits.specs.ChunksMut
+pub use Rattle.arrow2_bits.specs.Counted
+pub use Rattle.arrow2_bits.specs.LentChunk
+pub use Rattle.arrow2_buffer.specs.Lent
+pub use Rattle.arrow2_buffer.specs.LentItems
 pub use Rattle.arrow2_offset.specs.Made
 pub use Rattle.arrow2_datatypes.specs.Extensions
 pub use Rattle.arrow2_datatypes.specs.Kept

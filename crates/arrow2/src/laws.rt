@@ -2,6 +2,7 @@
 
 pub use arrow2_bitmap::laws as bitmaps;
 pub use arrow2_buffer::laws as buffers;
+pub use arrow2_composite::laws as types;
 pub use arrow2_datatypes::laws as datatypes;
 pub use arrow2_model::laws as lists;
 pub use arrow2_offset::laws as offsets;

@@ -1,30 +1,16 @@
 -- Bits of words, by places of the bytes that they are read from.
-use Rattle.std.proofs.Common.{◌≡◌, ℕ, zero, suc, ◌+◌, ◌-◌, ◌*◌, ◌/◌, ◌^◌, ◌<◌, ◌≤◌, ◌==◌, inl, inr, List, Bool, true, false, not, length, get_or, take, drop, refl, sym, ap, ◌∙◌, arith}
+use Rattle.std.proofs.Common.{◌≡◌, ℕ, zero, suc, ◌+◌, ◌-◌, ◌/◌, ◌^◌, ◌<◌, ◌≤◌, ◌==◌, inl, inr, List, Bool, true, false, not, get_or, refl, sym, ap, ◌∙◌, arith}
 use Rattle.std.specs.Int.{trailing_zeros}
 use Rattle.std.specs.Int as width
 use Rattle.std.specs.Int.Count.{trailing_of_zero}
 use Rattle.std.proofs.Math.Nat.{div-div-eq-div-mul, div-one, pow-succ', zero-add}
 use Rattle.std.proofs.lemmas.Bool.{cases_lt}
 use Rattle.std.proofs.lemmas.Nat.Bits.{bit_at-trailing_zeros, bit_at-zero}
-use Rattle.std.proofs.lemmas.List.{get_or-map, length-drop, take_all}
-use Rattle.arrow2_model.specs.Bits.{bit, num, unnum, bits}
-use Rattle.arrow2_model.specs.Parts.{part}
+use Rattle.std.proofs.lemmas.List.{get_or-map}
+use Rattle.arrow2_model.specs.Bits.{bit, unnum}
 use Rattle.arrow2_model.proofs.Bits.{bit_is, get_or-unnum, length-unnum}
-use Rattle.arrow2_model.proofs.Bytes.{part-bits-drop}
 use Rattle.arrow2_model.proofs.Chunks.{unnum-not}
-use Rattle.arrow2_model.proofs.Numbers.{bit-num}
-use Rattle.arrow2_model.proofs.Parts.{get_or-part}
 use Rattle.arrow2_walks.specs.Places.{IsFirst, IsRead}
-
--- a bit of the word of a part of the bytes from one on
-pub bit_of_part : (bytes : List ℕ) (w first shift offset place : ℕ) → w ≡ num (part (bits (take (length bytes - first) (drop first bytes))) shift 64) → first ≤ length bytes → 8 * first + shift ≡ offset + place
-    → (i : ℕ) → i < 64 → bit w i ≡ get_or (bits bytes) (offset + (place + i)) false
-bit_of_part bytes w first shift offset place is inside at i l =
-    let n = length-drop first bytes in
-    let all : take (length bytes - first) (drop first bytes) ≡ drop first bytes = take_all (length bytes - first) (drop first bytes) (omega (arith, n)) in
-    let e : 8 * first + shift + i ≡ offset + (place + i) = omega (arith, at) in
-    ap (λ x. bit x i) (is ∙ (ap (λ xs. num (part (bits xs) shift 64)) all ∙ ap num (part-bits-drop bytes first shift 64 inside))) ∙ (bit-num (part (bits bytes) (8 * first + shift) 64) i
-    ∙ (get_or-part (bits bytes) (8 * first + shift) 64 i false l ∙ ap (λ t. get_or (bits bytes) t false) e))
 
 -- the first bit that is set
 pub first_set : (x p : ℕ) → x < 2 ^ 64 → p ≡ trailing_zeros width.w64 x → (p ≤ 64) × ((i : ℕ) → i < p → bit x i ≡ false) × (p < 64 → bit x p ≡ true)

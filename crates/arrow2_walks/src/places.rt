@@ -3,7 +3,7 @@ ghost use Rattle.std.specs.Prelude.{◌≡◌, ℕ, ◌+◌, ◌*◌, ◌<◌, �
 ghost use Rattle.arrow2_model.specs.Bits.{bit, bits};
 ghost use Rattle.arrow2_walks.specs.Places.{IsFirst, IsRead};
 
-use arrow2_bits::chunks::padded_chunk_at;
+use arrow2_bits::chunks::word_from;
 
 /// A place, and the bits from it on that were read already, as the lowest ones of a word.
 #[derive(Clone, Copy, Debug)]
@@ -42,17 +42,6 @@ pub(crate) fn first_place(bytes: &[u8], offset: usize, end: usize, at: Place, va
         }
         word = word_from(bytes, offset, index);
     }
-}
-
-/// The word of the bits from bit `offset + place` on, where bits past the bytes count as false. Asks that the first
-/// is inside.
-fn word_from(bytes: &[u8], offset: usize, place: usize) -> u64
-    requires { offset + place < 8 * length bytes.now }
-    ensures { (i : ℕ) → i < 64 → bit result i ≡ get_or (bits bytes.now) (offset + (place + i)) false }
-{
-    let within = offset % 8 + place % 8;
-    let first = offset / 8 + place / 8 + within / 8;
-    padded_chunk_at(&bytes[first..], within % 8)
 }
 
 /// The first place in the word at which its bit is `value`, or 64 where there is none.
