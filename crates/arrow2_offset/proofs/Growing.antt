@@ -1,6 +1,6 @@
 -- Vectors of offsets as their numbers: what growing and cutting leaves.
 use Rattle.std.proofs.Common.{◌≡◌, ℕ, zero, suc, ◌+◌, ◌-◌, ◌<◌, ◌≤◌, List, [], ◌∷◌, ◌++◌, map, length, sum, take, drop, get_or, replicate, Bool, false, ap, sym, ◌∙◌, refl, arith, add-one}
-use Rattle.std.specs.Prelude.{ℤ, pos, ◌≤ℤ◌, ◌-ℤ◌, unsigned_abs}
+use Rattle.std.specs.Prelude.{ℤ, pos, ◌≤ℤ◌, ◌-ℤ◌}
 use Rattle.std.specs.Int as integers
 use Rattle.std.specs.Int.Signed.{lt_z}
 use Rattle.std.proofs.Common.{to_z, of_z}
@@ -12,8 +12,8 @@ use Rattle.arrow2_model.specs.Parts.{part}
 use Rattle.arrow2_model.specs.Buffers.{BufferStorage, buffer_items, whole_buffer}
 use Rattle.arrow2_model.specs.Offsets.{running_sums, offsets_list, numbers_of, AreOffsets, AreOffsetsUpTo, start_of, lengths_of, offset_at, last_of}
 use Rattle.arrow2_model.proofs.Offsets.{Spells, spells, spelled, length-lengths_of, get_or-offsets, get_or-last, push_spells, repeat_spells, take_spells, part_spells, part-map, map-replicate}
-
-pub use Rattle.arrow2_lengths.proofs.Growing.{same_naturals, natural_as_whole, sum-push, value_at, value_last, value_natural}
+use Rattle.arrow2_lengths.proofs.Growing.{pushed as pushed_one}
+pub use Rattle.arrow2_lengths.proofs.Growing.{same_naturals, natural_as_whole, value_at, value_last, value_natural}
 
 -- ---- fronts
 
@@ -183,12 +183,8 @@ module _ {X : Type 0} (value : X → ℤ) where
   -- one more length
   pub pushed : (max : ℕ) (items grown : List X) (x : X) (last n : ℕ) → AreOffsets (map value items) → last ≡ last_of (map value items) → grown ≡ items ++ x ∷ [] → value x ≡ pos (last + n) → last + n ≤ max → AreOffsetsUpTo max (map value grown) × (start_of (map value grown) ≡ start_of (map value items)) × (lengths_of (map value grown) ≡ lengths_of (map value items) ++ n ∷ [])
   pushed max items grown x last n h is-last e is within =
-      let xs = map value items in
-      let m : map value grown ≡ xs ++ value x ∷ [] = ap (map value) e ∙ map-append value items (x ∷ []) in
-      let p = push_spells xs (value x) n h (is ∙ ap (λ k. pos (k + n)) is-last) in
-      let s : Spells (map value grown) (start_of xs) (lengths_of xs ++ n ∷ []) = rw m p in
-      let t = sum-push (lengths_of xs) n in
-      (up_to max (map value grown) (start_of xs) (lengths_of xs ++ n ∷ []) s (omega arith), s.from, s.by)
+      let p = pushed_one value items grown x last n h is-last e is in
+      ((p.0, omega (arith, p.3)), p.1, p.2)
 
   -- some more lengths of 0
   pub repeated : (max : ℕ) (items grown : List X) (x : X) (len count k : ℕ) → AreOffsetsUpTo max (map value items) → len ≡ length items → count ≡ len + k → grown ≡ take count items ++ replicate (count - len) x → value x ≡ pos (last_of (map value items)) → AreOffsetsUpTo max (map value grown) × (start_of (map value grown) ≡ start_of (map value items)) × (lengths_of (map value grown) ≡ lengths_of (map value items) ++ replicate k 0)
