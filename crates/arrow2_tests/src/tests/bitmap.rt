@@ -142,6 +142,8 @@ fn bytes_of_a_growing_bitmap_are_canonical(rt: HostRuntime) {
     has(&rt, three.as_slice(), &[7]);
     shows(&rt, alloc, &three, "[0b_____111]");
     has(&rt, popped(&rt, three).as_slice(), &[3]);
+    let zeros = MutableBitmap::from_len_zeroed(alloc, 3).expect(&rt, "no memory");
+    has(&rt, (!zeros).as_slice(), &[7]);
 }
 
 #[test]

@@ -3,7 +3,7 @@ ghost use Rattle.std.specs.Prelude.{◌≡◌, ◌+◌, ◌<◌, ◌≤◌, ◌^
 ghost use Rattle.arrow2_model.specs.Touched.{slice_reads, cut_reads};
 
 use arrow2_bitmap::Bitmap;
-use arrow2_bits::{Reads, Stored};
+use arrow2_bits::{Reads, Stored, count_zeros_counted, recount};
 use arrow2_walks::pieces::Pieces;
 use std::alloc::Global;
 use std::process::Abort;
@@ -84,6 +84,15 @@ fn cuts_read_what_they_count(rt: HostRuntime) {
     for (p, length) in [(0, 400), (1, 400), (2, 1), (3, 799)] {
         assert!(rt; pieces.len() == 4 && pieces.get(p).unset_bits() == length);
     }
+}
+
+#[test]
+fn bits_are_counted_through_stored_bytes(rt: HostRuntime) {
+    let mut stored = Stored::new(&[0xf0, 0xff, 0x0f, 0xff], Reads::new());
+    assert!(rt; count_zeros_counted(&mut stored, 0, 32) == 8);
+    assert!(rt; count_zeros_counted(&mut stored, 3, 5) == 1);
+    assert!(rt; recount(&mut stored, 0, 32, 8, 2, 28) == 6);
+    assert!(rt; recount(&mut stored, 0, 32, 8, 20, 4) == 4);
 }
 
 #[test]

@@ -29,6 +29,16 @@ fn walks<B: utils::BitChunk, W: utils::BitChunkIterExact<B>>(
     ),
 ) {}
 
+/// What is read and walked of bitmaps.
+fn parts<V: Iterator<Item = bool>>(
+    _pieces: (&bitmap::Pieces, &utils::SlicesIterator),
+    _reads: (&utils::Reads, &utils::Stored),
+    _zips: (
+        &utils::ZipValidityIter<types::IndexRange<u32>, V>,
+        &utils::ZipValidity<types::IndexRange<u32>, V>,
+    ),
+) {}
+
 /// What stands in buffers.
 fn natives<N: types::NativeType, B: types::BitChunk, I: types::Index, O: types::Offset>(
     _values: (&N, &B, &I, &O),

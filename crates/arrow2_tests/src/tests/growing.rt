@@ -78,8 +78,10 @@ fn room_is_made_and_given_back(rt: HostRuntime) {
 #[test]
 fn a_validity_is_there_where_an_item_is_false(rt: HostRuntime) {
     let alloc = rt.alloc();
-    let all = bitmap_from(&rt, alloc, &[true; 9]).into_validity();
-    assert!(rt; all.expect(&rt, "no memory").is_none());
+    for items in [[].as_slice(), &[true], &[true; 9]] {
+        let all = bitmap_from(&rt, alloc, items).into_validity();
+        assert!(rt; all.expect(&rt, "no memory").is_none());
+    }
     let some = bitmap_from(&rt, alloc, &[true, false]).into_validity();
     let validity = some
         .expect(&rt, "no memory")

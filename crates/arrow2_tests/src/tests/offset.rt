@@ -152,6 +152,8 @@ fn shares<O: Offset>(rt: &impl Abort, alloc: Global) {
     let buffer = other.buffer().clone().expect(rt, "no memory");
     let again = OffsetsBuffer::try_from(buffer).expect(rt, "no memory");
     assert!(rt; again == other);
+    let vector = all.clone().expect(rt, "no memory").into_inner();
+    assert!(rt; OffsetsBuffer::try_from(vector).expect(rt, "no memory") == other);
     if other.len() == 5 {
         all.try_extend_from_slice(&other, 1, 2)
             .expect(rt, "no memory");
@@ -258,10 +260,12 @@ fn large_offsets_end_at_their_greatest(rt: HostRuntime) {
     large.try_push(9223372036854775806).expect(&rt, "no memory");
     large.try_push_usize(1).expect(&rt, "no memory");
     assert!(rt; is_overflow(large.try_push(1)));
+    large.try_push(0).expect(&rt, "no memory");
+    let greatest = 9223372036854775807;
     is(
         &rt,
         large.as_slice(),
-        &[0, 9223372036854775806, 9223372036854775807],
+        &[0, greatest - 1, greatest, greatest],
     );
     assert!(rt; is_overflow(Offsets::<i32>::new_zeroed(alloc, usize::MAX)));
     assert!(rt; is_overflow(Offsets::<i64>::with_capacity(alloc, usize::MAX)));
@@ -275,6 +279,9 @@ fn refuses(rt: &impl Abort, alloc: Global, items: &[i32], text: &str) {
     let vector = items.to_vec(alloc).expect(rt, "no memory");
     let buffer = Buffer::try_from(vector).expect(rt, "no memory");
     let refused = OffsetsBuffer::try_from(buffer).expect_err(rt, "accepted");
+    prints(rt, alloc, &refused, text);
+    let vector = items.to_vec(alloc).expect(rt, "no memory");
+    let refused = OffsetsBuffer::try_from(vector).expect_err(rt, "accepted");
     prints(rt, alloc, &refused, text);
 }
 
