@@ -173,8 +173,7 @@ impl Bitmap {
 
     /// The bitmap of the items of an iterator that ends, in its order.
     ///
-    /// Stands for arrow2's `FromIterator`, which takes memory by the size hint. Here it is not read, and where no item
-    /// comes no memory is asked for.
+    /// Stands for arrow2's `FromIterator`, which takes memory by the size hint. Here it is not read.
     ///
     /// # Errors
     ///

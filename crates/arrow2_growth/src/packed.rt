@@ -13,7 +13,7 @@ use std::alloc::{AllocError, Global};
 use std::simd::prelude::*;
 
 /// The bytes of the items of an iterator that ends, with spare bits behind them, and how many items there are. Its
-/// size hint is not read. Takes memory once an item has come, and no sooner.
+/// size hint is not read.
 ///
 /// # Errors
 ///

@@ -1,7 +1,6 @@
 //! The parts of replies.
 ghost use Rattle.std.specs.Prelude.{◌≡◌, ◌++◌, ℕ, length, map, unsigned_abs, OnOk, IfErr};
 ghost use Rattle.std.specs.Fmt.{decimal};
-ghost use Rattle.std.specs.Iterator.{YieldsFirst};
 ghost use Rattle.std.specs.List.{zip};
 ghost use Rattle.arrow2.specs.Words.{words};
 ghost use Rattle.arrow2_script.specs.Words.{bit_byte as byte_of, bits_text};
@@ -178,25 +177,18 @@ fn write_run(start: usize, length: usize, out: &mut Vec<u8>) -> Result<(), Comma
     write_number(length, out)
 }
 
-/// The next run of a walk. Says of the walk's step just what a loop over the runs needs.
-fn next_run(runs: &mut SlicesIterator<'_>) -> Option<(usize, usize)>
-    ensures { YieldsFirst (λ walk. walk.runs) runs.old result runs.new }
-{
-    runs.next()
-}
-
 /// Appends the text of the runs that a walk still has.
 pub(crate) fn write_runs(runs: SlicesIterator<'_>, out: &mut Vec<u8>) -> Result<(), CommandError>
     ensures ok { OnOk result (out.new.items ≡ out.old.items ++ words_text (map run_word runs.entry.runs)) }
     ensures only { IfErr result (λ e. e ≡ CommandError.OutOfMemory) }
 {
     let mut runs = runs;
-    let Some((start, length)) = next_run(&mut runs) else {
+    let Some((start, length)) = runs.next_run() else {
         out.extend_from_slice(b"-")?;
         return Ok(());
     };
     write_run(start, length, out)?;
-    while let Some((start, length)) = next_run(&mut runs) {
+    while let Some((start, length)) = runs.next_run() {
         out.push(b' ')?;
         write_run(start, length, out)?;
     }
