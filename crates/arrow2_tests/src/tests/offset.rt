@@ -40,11 +40,16 @@ fn is_overflow<T: Drop>(answer: Result<T, Error>) -> bool {
     matches!(answer, Err(Error::Overflow))
 }
 
+/// The offset is this number.
+fn is_number<O: Offset>(rt: &impl Abort, offset: O, number: usize) {
+    assert!(rt; O::from_usize(number) == Some(offset));
+}
+
 /// The offsets are these numbers.
 fn are<O: Offset>(rt: &impl Abort, offsets: &[O], numbers: &[usize]) {
     assert!(rt; offsets.len() == numbers.len());
     for (offset, number) in offsets.iter().zip(numbers) {
-        assert!(rt; O::from_usize(*number) == Some(*offset));
+        is_number(rt, *offset, *number);
     }
 }
 
@@ -101,7 +106,7 @@ fn reads<O: Offset>(rt: &impl Abort, alloc: Global) {
     let copy = offsets.clone().expect(rt, "no memory");
     assert!(rt; copy == offsets && copy != other);
     assert!(rt; offsets.pop() == O::from_usize(10));
-    assert!(rt; O::from_usize(8) == Some(*offsets.last()));
+    is_number(rt, *offsets.last(), 8);
     assert!(rt; offsets.len() == 4 && offsets.len_proxy() == 3);
     if offsets.len_proxy() == 3 {
         assert!(rt; matches!(offsets.start_end(1), (3, 7)));
@@ -136,9 +141,9 @@ fn slices<O: Offset>(rt: &impl Abort, alloc: Global) {
 fn reads_shared<O: Offset>(rt: &impl Abort, alloc: Global) {
     let offsets = kept::<O>(rt, alloc, &[3, 0, 4]);
     assert!(rt; offsets.len() == 4 && offsets.len_proxy() == 3);
-    assert!(rt; O::from_usize(7) == Some(offsets.range()));
-    assert!(rt; O::from_usize(0) == Some(*offsets.first()));
-    assert!(rt; O::from_usize(7) == Some(*offsets.last()));
+    is_number(rt, offsets.range(), 7);
+    is_number(rt, *offsets.first(), 0);
+    is_number(rt, *offsets.last(), 7);
     if offsets.len_proxy() == 3 {
         assert!(rt; matches!(offsets.start_end(1), (3, 3)));
     }
