@@ -3,12 +3,13 @@ use Rattle.std.proofs.Common.{◌≡◌, ◌∙◌, ℕ, ◌+◌, ◌*◌, ◌/�
 use Rattle.std.specs.Prelude.{bit_or}
 use Rattle.std.proofs.lemmas.Bool.{cases_eq}
 use Rattle.std.specs.Int.{from_bool}
-use Rattle.std.proofs.lemmas.List.{length-take-le, take_more, take_all, take-set-le, take-take, drop_all, append-nil, get_or-take, get_or-set_same}
+use Rattle.std.proofs.lemmas.List.{length-take-le, take_more, take-set-le, take-take, get_or-take, get_or-set_same}
 use Rattle.std.proofs.lemmas.Grind.{get_or_default_zero}
 use Rattle.std.proofs.lemmas.Nat.{one_shl}
 use Rattle.arrow2_model.specs.Bits.{bits}
 use Rattle.arrow2_model.specs.Canonical.{IsCanonical}
 use Rattle.arrow2_model.proofs.Bits.{length-bits}
+use Rattle.arrow2_kernels.proofs.Written.{whole_written}
 use Rattle.arrow2_model.proofs.Canonical.{canonical-nil, bytes_fit, pushed_byte, pushed_bit, cut_whole, cut_within}
 
 -- as many items as the length says
@@ -45,10 +46,6 @@ push_place bytes after n x y v canonical some is value was fits =
 pub push_byte : (bytes after : List ℕ) (n b : ℕ) (v : Bool) → IsCanonical bytes n → n % 8 ≡ 0 → after ≡ bytes ++ b ∷ [] → b ≡ from_bool v → AreBytes after → IsCanonical after (n + 1) × (take (n + 1) (bits after) ≡ take n (bits bytes) ++ v ∷ [])
 push_byte bytes after n b v canonical whole e is fits =
     rw e (pushed_byte bytes n b v canonical whole is (subst (λ (f : List ℕ). (k : ℕ) → get_or f k 0 < 256) e (bytes_fit after fits)))
-
--- what the slice of a whole vector leaves in the vector
-pub whole_written : (before after : List ℕ) (len : ℕ) → len ≡ length before → length after ≡ length before → take len (after ++ drop (length after) before) ≡ after
-whole_written before after len e f = rw (drop_all (length after) before (omega arith), append-nil after) (take_all len after (omega arith))
 
 -- all but the last item, and the last
 pub popped : (bytes : List ℕ) (n m : ℕ) → IsCanonical bytes n → n ≡ m + 1 → take n (bits bytes) ≡ take m (bits bytes) ++ get_or (bits bytes) m false ∷ []

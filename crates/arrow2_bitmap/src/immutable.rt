@@ -218,7 +218,7 @@ impl Bitmap {
         ensures items { result ≡ items_of self.now }
         ensures fits { length (items_of self.now) < 2 ^ 64 }
     {
-        BitmapIter::new(self.bytes.as_slice(), self.offset, self.length)
+        BitmapIter::within(self.bytes.as_slice(), self.offset, self.length)
     }
 
     /// Item `index`, or `None` past the length.

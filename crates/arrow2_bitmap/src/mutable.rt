@@ -355,7 +355,7 @@ impl MutableBitmap {
         ensures items { result ≡ self.now.items }
         ensures fits { length self.now.items < 2 ^ 64 }
     {
-        BitmapIter::new(self.buffer.as_slice(), 0, self.length)
+        BitmapIter::within(self.buffer.as_slice(), 0, self.length)
     }
 
     /// How many items it can hold before it asks for memory, at most `usize::MAX`.

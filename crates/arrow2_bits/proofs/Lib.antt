@@ -1,4 +1,3 @@
-pub mod Ahead
 pub mod Tables
 pub mod Counted
 pub mod Lending

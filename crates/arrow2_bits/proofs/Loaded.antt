@@ -1,13 +1,14 @@
 -- Words loaded from bytes.
-use Rattle.std.proofs.Common.{◌≡◌, ℕ, ◌+◌, ◌-◌, ◌*◌, ◌^◌, ◌<◌, ◌≤◌, ◌||◌, List, ◌++◌, Bool, false, take, drop, replicate, length, ap, sym, ◌∙◌, arith}
+use Rattle.std.proofs.Common.{◌≡◌, ℕ, ◌+◌, ◌-◌, ◌*◌, ◌^◌, ◌<◌, ◌≤◌, ◌||◌, List, ◌++◌, Bool, false, take, drop, replicate, length, get_or, ap, sym, ◌∙◌, arith}
 use lib.Lanes.{zip2}
-use Rattle.std.proofs.lemmas.List.{drop-replicate}
-use Rattle.arrow2_model.specs.Bits.{unnum, bits, num}
+use Rattle.std.proofs.lemmas.List.{drop-replicate, length-drop, take_all}
+use Rattle.arrow2_model.specs.Bits.{bit, unnum, bits, num}
 use Rattle.arrow2_model.specs.Parts.{part}
 use Rattle.arrow2_model.proofs.Bits.{length-bits}
-use Rattle.arrow2_model.proofs.Bytes.{take-bits, part-bits}
+use Rattle.arrow2_model.proofs.Bytes.{take-bits, part-bits, part-bits-drop}
 use Rattle.arrow2_model.proofs.Merged.{merged, num-zeros}
-use Rattle.arrow2_model.proofs.Numbers.{num-unnum}
+use Rattle.arrow2_model.proofs.Numbers.{bit-num, num-unnum}
+use Rattle.arrow2_model.proofs.Parts.{get_or-part}
 
 -- the first word
 pub low_word : (bytes : List ℕ) (k w : ℕ) (xs : List Bool) → 8 * k ≡ w → k ≤ length bytes → xs ≡ bits (take k bytes) → xs ≡ part (bits bytes) 0 w
@@ -39,3 +40,13 @@ pub padded_number : (bytes copied : List ℕ) (w x s : ℕ) → x < 2 ^ w → co
 padded_number bytes copied w x s fits e is =
     loaded_number w x (part (bits (copied ++ drop (length bytes) (replicate 16 0))) s w) fits is
     ∙ (rw (e, drop-replicate {X = ℕ} (length bytes) 16 0) (num-zeros bytes (16 - length bytes) s w))
+
+-- a bit of the word of a part of the bytes from one on
+pub bit_of_part : (bytes : List ℕ) (w first shift offset place : ℕ) → w ≡ num (part (bits (take (length bytes - first) (drop first bytes))) shift 64) → first ≤ length bytes → 8 * first + shift ≡ offset + place
+    → (i : ℕ) → i < 64 → bit w i ≡ get_or (bits bytes) (offset + (place + i)) false
+bit_of_part bytes w first shift offset place is inside at i l =
+    let n = length-drop first bytes in
+    let all : take (length bytes - first) (drop first bytes) ≡ drop first bytes = take_all (length bytes - first) (drop first bytes) (omega (arith, n)) in
+    let e : 8 * first + shift + i ≡ offset + (place + i) = omega (arith, at) in
+    ap (λ x. bit x i) (is ∙ (ap (λ xs. num (part (bits xs) shift 64)) all ∙ ap num (part-bits-drop bytes first shift 64 inside))) ∙ (bit-num (part (bits bytes) (8 * first + shift) 64) i
+    ∙ (get_or-part (bits bytes) (8 * first + shift) 64 i false l ∙ ap (λ t. get_or (bits bytes) t false) e))

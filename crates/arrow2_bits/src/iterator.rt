@@ -1,39 +1,33 @@
 //! A walk over the bits of bytes, from both ends.
-ghost use Rattle.std.specs.Prelude.{◌≡◌, ℕ, ◌+◌, ◌*◌, ◌%◌, ◌<◌, ◌≤◌, get_or, false, length, Some, IfSome};
+ghost use Rattle.std.specs.Prelude.{◌≡◌, ◌+◌, ◌*◌, ◌^◌, ◌<◌, ◌≤◌, length, Some, IfSome};
 ghost use Rattle.std.specs.Iterator.{YieldsFirst, YieldsLast, item_count, UpTo};
 ghost use Rattle.std.specs.Iterator.SizeHint.{IsWithinCount};
-ghost use Rattle.arrow2_model.specs.Bits.{bit, bits};
+ghost use Rattle.arrow2_model.specs.Bits.{bits};
 ghost use Rattle.arrow2_model.specs.Parts.{part};
-ghost use Rattle.arrow2_bits.specs.Ahead.{IsAhead};
 
-use crate::chunks::word_from;
 use crate::get_bit_from;
 use std::alloc::AllocError;
 use std::marker::Model;
 
 /// A walk over bits: contracts see it as the list of the items still to come.
-///
-/// From the front it reads a word at each place that 64 divides, and shifts it as it goes.
 #[derive(Debug, Drop)]
 pub struct BitmapIter<'a> {
     bytes: &'a [u8],
     offset: usize,
     index: usize,
     end: usize,
-    ahead: u64,
 }
 
 impl<'a> Model for BitmapIter<'a> {
     ghost use Rattle.std.specs.Prelude.{◌+◌, ◌-◌, ◌*◌, ◌≤◌, length, List, Bool};
     ghost use Rattle.arrow2_model.specs.Bits.{bits};
     ghost use Rattle.arrow2_model.specs.Parts.{part};
-    ghost use Rattle.arrow2_bits.specs.Ahead.{IsAhead};
 
     ghost Value = { List Bool };
 
     ghost view = { λ i. part (bits i.bytes.now) (i.offset + i.index) (i.end - i.index) };
 
-    ghost invariant = { λ i. (i.index ≤ i.end) × (i.offset + i.end ≤ 8 * length i.bytes.now) × IsAhead (bits i.bytes.now) i.offset i.index i.ahead };
+    ghost invariant = { λ i. (i.index ≤ i.end) × (i.offset + i.end ≤ 8 * length i.bytes.now) };
 }
 
 #[tactic(auto, using(arrow2_model::proofs::Walks::walking))]
@@ -48,7 +42,21 @@ impl<'a> BitmapIter<'a> {
             offset,
             index: 0,
             end: len,
-            ahead: 0,
+        }
+    }
+
+    /// The same walk, whose places are told by one number each, so that the compiler adds nothing at an item. Asks
+    /// also that the place behind the last bit fits a `usize`.
+    pub fn within(bytes: &'a [u8], offset: usize, len: usize) -> BitmapIter<'a>
+        requires inside { offset + len ≤ 8 * length bytes.now }
+        requires fits { offset + len < 2 ^ 64 }
+        ensures { result ≡ part (bits bytes.entry.now) offset len }
+    {
+        BitmapIter {
+            bytes,
+            offset: 0,
+            index: offset,
+            end: offset + len,
         }
     }
 }
@@ -76,10 +84,9 @@ impl<'a> Iterator for BitmapIter<'a> {
         if self.index == self.end {
             return None;
         }
-        let ahead = read_on(self.bytes, self.offset, self.index, self.ahead);
-        self.ahead = ahead / 2;
+        let value = get_bit_from(self.bytes, self.offset, self.index);
         self.index += 1;
-        Some(ahead % 2 == 1)
+        Some(value)
     }
 
     /// Both bounds are the number of items still to come.
@@ -111,17 +118,4 @@ impl<'a> ExactSizeIterator for BitmapIter<'a> {
     fn len(&self) -> usize {
         self.end - self.index
     }
-}
-
-/// The bits from place `index` on, up to the next one that 64 divides: those that were read ahead, or the word that
-/// begins there.
-fn read_on(bytes: &[u8], offset: usize, index: usize, ahead: u64) -> u64
-    requires inside { offset + index < 8 * length bytes.now }
-    requires ahead { IsAhead (bits bytes.now) offset index ahead }
-    ensures { (i : ℕ) → index % 64 + i < 64 → bit result i ≡ get_or (bits bytes.now) (offset + (index + i)) false }
-{
-    if index % 64 == 0 {
-        return word_from(bytes, offset, index);
-    }
-    ahead
 }

@@ -1,4 +1,4 @@
 pub mod AssignSteps
-pub mod MapSteps
 pub mod RowSteps
 pub mod TableSteps
+pub mod Written

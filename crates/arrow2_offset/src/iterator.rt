@@ -41,6 +41,8 @@ impl<'a, O: Offset> Lengths<'a, O> {
 impl<'a, O: Offset> Clone for Lengths<'a, O> {
     ghost is_clone = { λ walk copy. copy ≡ walk };
 
+    ghost is_infallible = { λ walk. Unit {0} };
+
     fn clone(&self) -> Result<Lengths<'a, O>, AllocError> {
         Ok(Lengths {
             offsets: self.offsets,

@@ -85,6 +85,8 @@ impl<'a> SlicesIterator<'a> {
 impl<'a> Clone for SlicesIterator<'a> {
     ghost is_clone = { λ i copy. copy ≡ i };
 
+    ghost is_infallible = { λ i. Unit {0} };
+
     fn clone(&self) -> Result<SlicesIterator<'a>, AllocError> {
         Ok(SlicesIterator { ..*self })
     }

@@ -70,7 +70,7 @@ fn bits_are_walked_from_both_ends(rt: HostRuntime) {
     let mut walk = BitmapIter::new(&[0b01011011], 2, 4);
     let ends = (walk.next(), walk.next_back(), walk.len());
     assert!(rt; matches!(ends, (Some(false), Some(false), 2)));
-    let text = "BitmapIter { bytes: [91], offset: 2, index: 1, end: 3, ahead: 11 }";
+    let text = "BitmapIter { bytes: [91], offset: 2, index: 1, end: 3 }";
     shows(&rt, alloc, &walk, text);
     gives(
         &rt,

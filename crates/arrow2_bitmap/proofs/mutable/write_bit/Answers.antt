@@ -1,7 +1,7 @@
 use Rattle.std.proofs.Common.{◌∙◌, ap, take, set, arith, rules}
 use Rattle.std.proofs.Math.Seq.{take-set-lt}
 use Rattle.arrow2_model.specs.Bits.{bits}
-use Rattle.arrow2_bitmap.proofs.Buffer.{whole_written}
+use Rattle.arrow2_kernels.proofs.Written.{whole_written}
 use Rattle.arrow2_bitmap.proofs.mutable.write_bit.Goals as goal
 
 pub returns-clause-items : goal.returns-clause-items

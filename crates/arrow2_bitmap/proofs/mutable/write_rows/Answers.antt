@@ -1,7 +1,7 @@
 use Rattle.std.proofs.Common.{◌∙◌, ℕ, List, ◌∷◌, ap, take, arith, rules}
 use Rattle.arrow2_model.specs.Bits.{bits}
 use Rattle.arrow2_model.specs.Kernels.{joined, word}
-use Rattle.arrow2_bitmap.proofs.Buffer.{whole_written}
+use Rattle.arrow2_kernels.proofs.Written.{whole_written}
 use Rattle.arrow2_bitmap.proofs.mutable.write_rows.Goals as goal
 
 pub returns-clause-items : goal.returns-clause-items

@@ -1,4 +1,4 @@
--- Bytes that are all written.
+-- What the slice of a whole vector leaves in the vector.
 use Rattle.std.proofs.Common.{◌≡◌, ℕ, List, ◌++◌, take, drop, length, arith}
 use Rattle.std.proofs.lemmas.List.{take_all, drop_all, append-nil}
 
