@@ -3,11 +3,11 @@ use Rattle.std.proofs.Common.{◌≡◌, ℕ, zero, suc, ◌+◌, ◌-◌, ◌*�
 use Rattle.std.specs.Prelude.{count_ones}
 use Rattle.std.proofs.lemmas.List.{length-take}
 use Rattle.std.proofs.lemmas.Nat.{one_shl}
-use Rattle.arrow2_model.specs.Bits.{unnum, bits}
+use Rattle.arrow2_model.specs.Bits.{bits}
 use Rattle.arrow2_model.specs.Parts.{part, falses}
 use Rattle.arrow2_model.specs.Touched.{touched}
 use Rattle.arrow2_model.proofs.Bytes.{part-bits, part-bits-part}
-use Rattle.arrow2_model.proofs.Counts.{falses-append, falses-byte_part, falses-le-length, falses-part_three, falses-unnum}
+use Rattle.arrow2_model.proofs.Counts.{falses-append, falses-byte_part, falses-le-length, falses-part_three}
 use Rattle.arrow2_model.proofs.Parts.{length-part, part-add}
 use Rattle.arrow2_model.proofs.Touched.{touched-none, touched-some}
 
@@ -26,28 +26,22 @@ byte_zeros bytes fetched at s n y inside within is first =
 pub part_zeros-le : (items : List Bool) (a n : ℕ) → falses (part items a n) ≤ n
 part_zeros-le items a n = let l = length-take n (drop a items) in let f = falses-le-length (part items a n) in omega (arith, l, f)
 
--- k bytes more, which are a word: their true and their false items are all
-pub ones-more : (bytes fetched : List ℕ) (first n k w x before after : ℕ) → first + n + k ≤ length bytes → 8 * k ≡ w → x < 2 ^ w → fetched ≡ part bytes (first + n) k → unnum w x ≡ bits fetched → before + falses (part (bits bytes) (8 * first) (8 * n)) ≡ 8 * n → after ≡ before + count_ones x
-    → after + falses (part (bits bytes) (8 * first) (8 * (n + k))) ≡ 8 * (n + k)
-ones-more bytes fetched first n k w x before after inside e fits got is was now =
-    let f = falses-unnum w x fits in
-    let both : 8 * (n + k) ≡ 8 * n + 8 * k = omega arith in
-    let at : 8 * first + 8 * n ≡ 8 * (first + n) = omega arith in
-    let s = part-add (bits bytes) (8 * first) (8 * n) (8 * k) in
-    let last : part (bits bytes) (8 * first + 8 * n) (8 * k) ≡ unnum w x =
-    ap (λ a. part (bits bytes) a (8 * k)) at ∙ (part-bits bytes (first + n) k inside ∙ (ap bits (sym got) ∙ sym is)) in
-    let a = ap falses s ∙ falses-append (part (bits bytes) (8 * first) (8 * n)) (part (bits bytes) (8 * first + 8 * n) (8 * k)) in
-    let b = ap falses last in
-    rw both (omega (arith, f, a, b, was, now, e))
+-- a word that was fetched
+pub ones_fetched : (bytes fetched : List ℕ) (at k ones : ℕ) → at + k ≤ length bytes → fetched ≡ part bytes at k → ones + falses (bits fetched) ≡ 8 * k → ones + falses (part (bits bytes) (8 * at) (8 * k)) ≡ 8 * k
+ones_fetched bytes fetched at k ones inside got counted =
+    let same = ap falses (part-bits bytes at k inside ∙ ap bits (sym got)) in
+    omega (arith, same, counted)
 
--- bytes in two
-pub zeros_in_two : (bytes : List ℕ) (first count m n a b : ℕ) → count ≡ m + n → a ≡ falses (part (bits bytes) (8 * first) (8 * m)) → b ≡ falses (part (bits bytes) (8 * (first + m)) (8 * n)) → a + b ≡ falses (part (bits bytes) (8 * first) (8 * count))
-zeros_in_two bytes first count m n a b e is-a is-b =
-    let both : 8 * count ≡ 8 * m + 8 * n = omega arith in
+-- bytes in two, of which the second are read later
+pub ones_in_two : (bytes later : List ℕ) (first m n count a b : ℕ) → later ≡ bytes → count ≡ m + n → a + falses (part (bits bytes) (8 * first) (8 * m)) ≡ 8 * m → b + falses (part (bits later) (8 * (first + m)) (8 * n)) ≡ 8 * n
+    → a + b + falses (part (bits bytes) (8 * first) (8 * count)) ≡ 8 * count
+ones_in_two bytes later first m n count a b same e is-a is-b =
+    let both : 8 * count ≡ 8 * m + 8 * n = omega (arith, e) in
     let at : 8 * first + 8 * m ≡ 8 * (first + m) = omega arith in
-    let s = ap falses (part-add (bits bytes) (8 * first) (8 * m) (8 * n)) ∙ falses-append (part (bits bytes) (8 * first) (8 * m)) (part (bits bytes) (8 * first + 8 * m) (8 * n)) in
+    let joined = ap falses (part-add (bits bytes) (8 * first) (8 * m) (8 * n)) ∙ falses-append (part (bits bytes) (8 * first) (8 * m)) (part (bits bytes) (8 * first + 8 * m) (8 * n)) in
     let second = ap (λ k. falses (part (bits bytes) k (8 * n))) at in
-    rw both (omega (arith, s, second, is-a, is-b))
+    let still = ap (λ (l : List ℕ). falses (part (bits l) (8 * (first + m)) (8 * n))) same in
+    rw both (omega (arith, joined, second, still, is-a, is-b))
 
 -- a head of bits, whole bytes, and a tail of bits
 pub zeros_in_three : (bytes : List ℕ) (first start len head whole count tail a b d : ℕ) → 8 * whole ≡ 8 * first + start + head → len ≡ head + (8 * count + tail)

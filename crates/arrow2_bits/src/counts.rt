@@ -110,7 +110,7 @@ fn zeros_in_byte(stored: &mut Stored<'_>, at: usize, start: usize, len: usize) -
     len - shown.count_ones() as usize
 }
 
-/// How many bits of the `count` bytes from byte `first` on are not set.
+/// How many bits of the `count` bytes from byte `first` on are not set: by words, the widest first.
 fn zeros_in_bytes(stored: &mut Stored<'_>, first: usize, count: usize) -> usize
     requires fits { first + count < 2 ^ 64 }
     requires few { 8 * count < 2 ^ 64 }
@@ -119,41 +119,30 @@ fn zeros_in_bytes(stored: &mut Stored<'_>, first: usize, count: usize) -> usize
     ensures bytes { stored.new.bytes ≡ stored.old.bytes }
     ensures reads { stored.new.reads ≡ stored.old.reads + count }
 {
-    let words = count / 8;
-    let zeros = zeros_in_words(stored, first, words);
-    zeros + zeros_byte_by_byte(stored, first + 8 * words, count % 8)
+    let ones = ones_in_words::<u64, 8>(stored, first, count / 8);
+    let ones = ones + ones_in_words::<u32, 4>(stored, first + 8 * (count / 8), count % 8 / 4);
+    let ones = ones + ones_in_words::<u16, 2>(stored, first + 4 * (count / 4), count % 4 / 2);
+    let ones = ones + ones_in_words::<u8, 1>(stored, first + 2 * (count / 2), count % 2);
+    8 * count - ones
 }
 
-/// How many bits of the `words` words of 64 bits from byte `first` on are not set.
-fn zeros_in_words(stored: &mut Stored<'_>, first: usize, words: usize) -> usize
-    requires fits { first + 8 * words < 2 ^ 64 }
-    requires few { 64 * words < 2 ^ 64 }
-    requires inside { first + 8 * words ≤ length stored.old.bytes }
-    ensures zeros { result ≡ falses (part (bits stored.old.bytes) (8 * first) (8 * (8 * words))) }
+/// How many bits of the `words` words of `N` bytes from byte `first` on are set.
+fn ones_in_words<T: BitChunk, const N: usize>(
+    stored: &mut Stored<'_>,
+    first: usize,
+    words: usize,
+) -> usize
+    requires width { T.BitChunk.WIDTH ≡ 8 * N }
+    requires fits { first + N * words < 2 ^ 64 }
+    requires few { 8 * (N * words) < 2 ^ 64 }
+    requires inside { first + N * words ≤ length stored.old.bytes }
+    ensures ones { result + falses (part (bits stored.old.bytes) (8 * first) (8 * (N * words))) ≡ 8 * (N * words) }
     ensures bytes { stored.new.bytes ≡ stored.old.bytes }
-    ensures reads { stored.new.reads ≡ stored.old.reads + 8 * words }
+    ensures reads { stored.new.reads ≡ stored.old.reads + N * words }
 {
     let mut ones = 0usize;
     for i in 0..words {
-        let word = u64::from_ne_slice(&stored.fetch::<8>(first + 8 * i));
-        ones += word.count_ones() as usize;
+        ones += T::from_ne_slice(&stored.fetch::<N>(first + N * i)).ones_count();
     }
-    64 * words - ones
-}
-
-/// How many bits of the `count` bytes from byte `first` on are not set.
-fn zeros_byte_by_byte(stored: &mut Stored<'_>, first: usize, count: usize) -> usize
-    requires fits { first + count < 2 ^ 64 }
-    requires few { 8 * count < 2 ^ 64 }
-    requires inside { first + count ≤ length stored.old.bytes }
-    ensures zeros { result ≡ falses (part (bits stored.old.bytes) (8 * first) (8 * count)) }
-    ensures bytes { stored.new.bytes ≡ stored.old.bytes }
-    ensures reads { stored.new.reads ≡ stored.old.reads + count }
-{
-    let mut ones = 0usize;
-    for i in 0..count {
-        let byte = u8::from_ne_slice(&stored.fetch::<1>(first + i));
-        ones += byte.count_ones() as usize;
-    }
-    8 * count - ones
+    ones
 }
