@@ -7,6 +7,7 @@ ghost use Rattle.arrow2_machine.specs.Replies.{item_said};
 ghost use Rattle.arrow2_machine.specs.BitmapOutcomes.{pushed, popped, got, froze, thawed, sliced, counted, item_text, bitmap_outcome};
 ghost use Rattle.arrow2_machine.specs.Outcomes.{Gives, Fails};
 
+use crate::refusal::CommandError::Refused;
 use crate::refusal::{CommandError, Refusal};
 use crate::replies::{write_item, write_items, write_number};
 use crate::slot::{Contents, Slot};
@@ -73,7 +74,7 @@ impl Slot {
                 bitmap.push(bit)?;
                 Ok(())
             }
-            _ => Err(CommandError::Refused(Refusal::Kind)),
+            _ => Err(Refused(Refusal::Kind)),
         }
     }
 
@@ -90,7 +91,7 @@ impl Slot {
     {
         match &mut self.contents {
             Contents::Growing(bitmap) => Ok(bitmap.pop()),
-            _ => Err(CommandError::Refused(Refusal::Kind)),
+            _ => Err(Refused(Refusal::Kind)),
         }
     }
 
@@ -106,7 +107,7 @@ impl Slot {
         match &self.contents {
             Contents::Frozen(bitmap) => Ok(bitmap.get(index as usize)),
             Contents::Growing(bitmap) => Ok(item_at(bitmap, index)),
-            _ => Err(CommandError::Refused(Refusal::Kind)),
+            _ => Err(Refused(Refusal::Kind)),
         }
     }
 
@@ -127,7 +128,7 @@ impl Slot {
             }
             other => {
                 self.contents = other;
-                Err(CommandError::Refused(Refusal::Kind))
+                Err(Refused(Refusal::Kind))
             }
         }
     }
@@ -149,7 +150,7 @@ impl Slot {
             }
             other => {
                 self.contents = other;
-                Err(CommandError::Refused(Refusal::Kind))
+                Err(Refused(Refusal::Kind))
             }
         }
     }
@@ -166,7 +167,7 @@ impl Slot {
     {
         match &mut self.contents {
             Contents::Frozen(bitmap) => cut(bitmap, offset, length),
-            _ => Err(CommandError::Refused(Refusal::Kind)),
+            _ => Err(Refused(Refusal::Kind)),
         }
     }
 
@@ -182,7 +183,7 @@ impl Slot {
         match &self.contents {
             Contents::Frozen(bitmap) => Ok(bitmap.unset_bits()),
             Contents::Growing(bitmap) => Ok(bitmap.unset_bits()),
-            _ => Err(CommandError::Refused(Refusal::Kind)),
+            _ => Err(Refused(Refusal::Kind)),
         }
     }
 
@@ -199,7 +200,7 @@ impl Slot {
         match &self.contents {
             Contents::Frozen(bitmap) => write_items(bitmap.iter(), out)?,
             Contents::Growing(bitmap) => write_items(bitmap.iter(), out)?,
-            _ => return Err(CommandError::Refused(Refusal::Kind)),
+            _ => return Err(Refused(Refusal::Kind)),
         }
         Ok(())
     }
@@ -230,7 +231,7 @@ fn cut(bitmap: &mut Bitmap, offset: u64, length: u64) -> Result<(), CommandError
         bitmap.slice(offset as usize, length as usize);
         Ok(())
     } else {
-        Err(CommandError::Refused(Refusal::Range))
+        Err(Refused(Refusal::Range))
     }
 }
 

@@ -4,6 +4,7 @@ ghost use Rattle.arrow2.specs.Storage.{items_of};
 ghost use Rattle.arrow2_machine.specs.GrowthOutcomes.{filled, appended, growth_outcome};
 ghost use Rattle.arrow2_machine.specs.Outcomes.{Gives, Fails};
 
+use crate::refusal::CommandError::Refused;
 use crate::refusal::{CommandError, Refusal};
 use crate::slot::{Contents, Slot};
 use arrow2::bitmap::Bitmap;
@@ -46,7 +47,7 @@ impl Slot {
                 bitmap.extend_constant(additional as usize, bit)?;
                 Ok(())
             }
-            _ => Err(CommandError::Refused(Refusal::Kind)),
+            _ => Err(Refused(Refusal::Kind)),
         }
     }
 
@@ -64,7 +65,7 @@ impl Slot {
                 bitmap.extend_from_bitmap(other)?;
                 Ok(())
             }
-            _ => Err(CommandError::Refused(Refusal::Kind)),
+            _ => Err(Refused(Refusal::Kind)),
         }
     }
 }

@@ -6,6 +6,7 @@ ghost use Rattle.arrow2_machine.specs.Held.{at, frozen as frozen_in};
 ghost use Rattle.arrow2_machine.specs.KernelOutcomes.{two_lists, three_lists, four_lists, made as made_of, assigned, assigned_beside, kernel_outcome};
 ghost use Rattle.arrow2_machine.specs.Outcomes.{Gives, Fails};
 
+use crate::refusal::CommandError::Refused;
 use crate::refusal::{CommandError, Refusal};
 use crate::slot::{Contents, Slot};
 use arrow2::bitmap::{
@@ -106,7 +107,7 @@ fn two(
     if first.len() == second.len() {
         Ok((first, second))
     } else {
-        Err(CommandError::Refused(Refusal::Length))
+        Err(Refused(Refusal::Length))
     }
 }
 
@@ -132,7 +133,7 @@ fn three(
     if first.len() == second.len() && first.len() == third.len() {
         Ok((first, second, third))
     } else {
-        Err(CommandError::Refused(Refusal::Length))
+        Err(Refused(Refusal::Length))
     }
 }
 
@@ -161,7 +162,7 @@ fn four(
     if first.len() == second.len() && first.len() == third.len() && first.len() == fourth.len() {
         Ok((first, second, third, fourth))
     } else {
-        Err(CommandError::Refused(Refusal::Length))
+        Err(Refused(Refusal::Length))
     }
 }
 
@@ -177,7 +178,7 @@ impl Slot {
     {
         match &self.contents {
             Contents::Frozen(bitmap) => Ok(bitmap),
-            _ => Err(CommandError::Refused(Refusal::Kind)),
+            _ => Err(Refused(Refusal::Kind)),
         }
     }
 
@@ -196,7 +197,7 @@ impl Slot {
                 assign_table(bitmap, table, width);
                 Ok(())
             }
-            _ => Err(CommandError::Refused(Refusal::Kind)),
+            _ => Err(Refused(Refusal::Kind)),
         }
     }
 
@@ -222,10 +223,10 @@ impl Slot {
                     assign_table_beside(bitmap, table, width, other);
                     Ok(())
                 } else {
-                    Err(CommandError::Refused(Refusal::Length))
+                    Err(Refused(Refusal::Length))
                 }
             }
-            _ => Err(CommandError::Refused(Refusal::Kind)),
+            _ => Err(Refused(Refusal::Kind)),
         }
     }
 }

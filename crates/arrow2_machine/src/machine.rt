@@ -5,6 +5,7 @@ ghost use Rattle.arrow2_machine.specs.Held.{Nothing};
 ghost use Rattle.arrow2_machine.specs.Machine.{outcome, step};
 ghost use Rattle.arrow2_machine.specs.Outcomes.{Fails};
 
+use crate::refusal::CommandError::Refused;
 use crate::refusal::{CommandError, Refusal};
 use crate::slot::Slot;
 use crate::{bitmaps, growth, kernels, offsets, storage, values};
@@ -77,11 +78,11 @@ impl Machine {
     {
         let outcome = match parse(line) {
             Some(command) => self.run(alloc, command, reply),
-            None => Err(CommandError::Refused(Refusal::Syntax)),
+            None => Err(Refused(Refusal::Syntax)),
         };
         match outcome {
             Ok(()) => {}
-            Err(CommandError::Refused(refusal)) => reply.extend_from_slice(refusal.text())?,
+            Err(Refused(refusal)) => reply.extend_from_slice(refusal.text())?,
             Err(CommandError::OutOfMemory) => return Err(AllocError),
         }
         reply.push(b'\n')?;

@@ -8,6 +8,7 @@ ghost use Rattle.arrow2_machine.specs.Replies.{offset_said};
 ghost use Rattle.arrow2_machine.specs.OffsetOutcomes.{begun, grown, shortened, offset_text, froze_offsets, sliced_offsets, zipped, offset_outcome};
 ghost use Rattle.arrow2_machine.specs.Outcomes.{Gives, Fails};
 
+use crate::refusal::CommandError::Refused;
 use crate::refusal::{CommandError, Refusal};
 use crate::replies::{write_offset, write_offsets, write_slots};
 use crate::slot::{Contents, Slot};
@@ -59,7 +60,7 @@ impl Slot {
         ensures { Gives (λ slot. slot) result (begun first) }
     {
         let Ok(first) = i32::try_from(first) else {
-            return Err(CommandError::Refused(Refusal::Range));
+            return Err(Refused(Refusal::Range));
         };
         Ok(Slot {
             contents: Contents::GrowingOffsets(offsets_of(alloc, first)?),
@@ -80,7 +81,7 @@ impl Slot {
                 offsets.try_push_usize(length as usize)?;
                 Ok(())
             }
-            _ => Err(CommandError::Refused(Refusal::Kind)),
+            _ => Err(Refused(Refusal::Kind)),
         }
     }
 
@@ -98,7 +99,7 @@ impl Slot {
                 extend(offsets, lengths)?;
                 Ok(())
             }
-            _ => Err(CommandError::Refused(Refusal::Kind)),
+            _ => Err(Refused(Refusal::Kind)),
         }
     }
 
@@ -114,7 +115,7 @@ impl Slot {
     {
         match &mut self.contents {
             Contents::GrowingOffsets(offsets) => Ok(offsets.pop()),
-            _ => Err(CommandError::Refused(Refusal::Kind)),
+            _ => Err(Refused(Refusal::Kind)),
         }
     }
 
@@ -131,7 +132,7 @@ impl Slot {
         match &self.contents {
             Contents::FrozenOffsets(offsets) => write_offsets(offsets.as_slice(), out),
             Contents::GrowingOffsets(offsets) => write_offsets(offsets.as_slice(), out),
-            _ => Err(CommandError::Refused(Refusal::Kind)),
+            _ => Err(Refused(Refusal::Kind)),
         }
     }
 
@@ -152,7 +153,7 @@ impl Slot {
             }
             other => {
                 self.contents = other;
-                Err(CommandError::Refused(Refusal::Kind))
+                Err(Refused(Refusal::Kind))
             }
         }
     }
@@ -169,7 +170,7 @@ impl Slot {
     {
         match &mut self.contents {
             Contents::FrozenOffsets(offsets) => cut(offsets, first, count),
-            _ => Err(CommandError::Refused(Refusal::Kind)),
+            _ => Err(Refused(Refusal::Kind)),
         }
     }
 
@@ -186,11 +187,11 @@ impl Slot {
         match (&self.contents, &validity.contents) {
             (Contents::FrozenOffsets(offsets), Contents::Frozen(validity)) => {
                 if offsets.len_proxy() != validity.len() {
-                    return Err(CommandError::Refused(Refusal::Length));
+                    return Err(Refused(Refusal::Length));
                 }
                 write_slots(offsets.lengths(), validity.iter(), out)
             }
-            _ => Err(CommandError::Refused(Refusal::Kind)),
+            _ => Err(Refused(Refusal::Kind)),
         }
     }
 }
@@ -229,6 +230,6 @@ fn cut(offsets: &mut OffsetsBuffer<i32>, first: u64, count: u64) -> Result<(), C
         offsets.slice(first as usize, count as usize);
         Ok(())
     } else {
-        Err(CommandError::Refused(Refusal::Range))
+        Err(Refused(Refusal::Range))
     }
 }

@@ -9,10 +9,15 @@ use std::marker::Model;
 /// What a slot holds.
 #[derive(Drop)]
 pub(crate) enum Contents {
+    /// No value.
     Nothing,
+    /// A bitmap that is shared and sliced.
     Frozen(Bitmap),
+    /// A bitmap that grows.
     Growing(MutableBitmap),
+    /// Offsets that are shared and sliced.
     FrozenOffsets(OffsetsBuffer<i32>),
+    /// Offsets that grow.
     GrowingOffsets(Offsets<i32>),
 }
 

@@ -3,6 +3,7 @@ ghost use Rattle.std.specs.Prelude.{◌≡◌, ◌≢◌, ◌++◌, OnOk, OnErr,
 ghost use Rattle.arrow2_machine.specs.StorageOutcomes.{stored, item_set, word_text, run_text, storage_outcome};
 ghost use Rattle.arrow2_machine.specs.Outcomes.{Gives, Fails};
 
+use crate::refusal::CommandError::Refused;
 use crate::refusal::{CommandError, Refusal};
 use crate::replies::{write_runs, write_words};
 use crate::slot::{Contents, Slot};
@@ -51,7 +52,7 @@ impl Slot {
         ensures { Gives (λ slot. slot) result (stored bytes.entry offset length) }
     {
         let Some(end) = offset.checked_add(length) else {
-            return Err(CommandError::Refused(Refusal::Range));
+            return Err(Refused(Refusal::Range));
         };
         let mut bitmap = Bitmap::try_new(gather(alloc, bytes)?, end as usize)?;
         bitmap.slice(offset as usize, length as usize);
@@ -76,10 +77,10 @@ impl Slot {
                     bitmap.set(index as usize, bit);
                     Ok(())
                 } else {
-                    Err(CommandError::Refused(Refusal::Range))
+                    Err(Refused(Refusal::Range))
                 }
             }
-            _ => Err(CommandError::Refused(Refusal::Kind)),
+            _ => Err(Refused(Refusal::Kind)),
         }
     }
 
@@ -94,7 +95,7 @@ impl Slot {
         ensures err { IfErr result (λ e. e ≢ CommandError.OutOfMemory → out.new.items ≡ out.old.items) }
     {
         let Contents::Frozen(bitmap) = &self.contents else {
-            return Err(CommandError::Refused(Refusal::Kind));
+            return Err(Refused(Refusal::Kind));
         };
         match width {
             Width::Bits8 => write_words(bitmap.chunks::<u8>(), |word| word as usize, out),

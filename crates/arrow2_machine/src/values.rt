@@ -3,6 +3,7 @@ ghost use Rattle.std.specs.Prelude.{◌≡◌, ◌≢◌, ◌++◌, OnOk, IfErr,
 ghost use Rattle.arrow2_machine.specs.ValueOutcomes.{copied, compared, value_outcome};
 ghost use Rattle.arrow2_machine.specs.Outcomes.{Gives, Fails};
 
+use crate::refusal::CommandError::Refused;
 use crate::refusal::{CommandError, Refusal};
 use crate::replies::write_item;
 use crate::slot::{Contents, Slot};
@@ -43,7 +44,7 @@ impl Slot {
         let contents = match &self.contents {
             Contents::Frozen(bitmap) => Contents::Frozen(bitmap.clone()?),
             Contents::FrozenOffsets(offsets) => Contents::FrozenOffsets(offsets.clone()?),
-            _ => return Err(CommandError::Refused(Refusal::Kind)),
+            _ => return Err(Refused(Refusal::Kind)),
         };
         Ok(Slot { contents })
     }
@@ -63,7 +64,7 @@ impl Slot {
             // By the method, since its contract speaks of the starts and the lengths.
             (Contents::FrozenOffsets(a), Contents::FrozenOffsets(b)) => Ok(a.eq(b)),
             (Contents::GrowingOffsets(a), Contents::GrowingOffsets(b)) => Ok(a == b),
-            _ => Err(CommandError::Refused(Refusal::Kind)),
+            _ => Err(Refused(Refusal::Kind)),
         }
     }
 }
