@@ -9,8 +9,8 @@ use Rattle.std.proofs.lemmas.Nat.{one_shl}
 use Rattle.arrow2_model.specs.Bits.{bits}
 use Rattle.arrow2_model.specs.Canonical.{IsCanonical}
 use Rattle.arrow2_model.proofs.Bits.{length-bits}
-use Rattle.arrow2_kernels.proofs.Written.{whole_written}
 use Rattle.arrow2_model.proofs.Canonical.{canonical-nil, bytes_fit, pushed_byte, pushed_bit, cut_whole, cut_within}
+use Rattle.arrow2_kernels.proofs.Written.{whole_written}
 
 -- as many items as the length says
 pub length_items : (bytes : List ℕ) (n : ℕ) → IsCanonical bytes n → length (take n (bits bytes)) ≡ n
