@@ -1,5 +1,5 @@
 //! The numbers that offsets are made of.
-ghost use Rattle.std.specs.Prelude.{◌≤◌, ◌<◌, ◌^◌, ◌↔◌, ℕ, pos, Bool, true, false};
+ghost use Rattle.std.specs.Prelude.{◌≡◌, ◌≤◌, ◌<◌, ◌^◌, ◌↔◌, ℕ, pos, Bool, true, false};
 ghost use Rattle.std.proofs.Common.{arith};
 ghost use Rattle.std.specs.Int as width;
 ghost use Rattle.arrow2_model.proofs.Ranges.{fits_below, below_fits};
@@ -21,6 +21,11 @@ pub trait Offset: Index {
     /// The greatest offset.
     const MAX: usize;
 
+    /// The number of the low bits of `index`: that number itself where it is an offset. Asks nothing, so that a loop
+    /// over lengths may test the last of its sums alone.
+    fn from_low_bits(index: usize) -> Self
+        ensures { index ≤ Self.MAX → Self.value result ≡ pos index };
+
     // A natural number is an offset exactly if it is at most the greatest one.
     ghost max_law: { (n : ℕ) → Self.fits (pos n) ↔ (n ≤ MAX) };
 
@@ -40,6 +45,10 @@ impl Offset for i32 {
     const IS_LARGE: bool = false;
 
     const MAX: usize = 2147483647;
+
+    fn from_low_bits(index: usize) -> i32 {
+        ((index % 0x1_0000_0000) as u32).cast_signed()
+    }
 }
 
 impl Offset for i64 {
@@ -54,4 +63,8 @@ impl Offset for i64 {
     const IS_LARGE: bool = true;
 
     const MAX: usize = 9223372036854775807;
+
+    fn from_low_bits(index: usize) -> i64 {
+        (index as u64).cast_signed()
+    }
 }

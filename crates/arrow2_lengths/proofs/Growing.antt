@@ -2,10 +2,11 @@
 use Rattle.std.proofs.Common.{◌≡◌, ℕ, ◌+◌, ◌-◌, ◌<◌, ◌≤◌, List, [], ◌∷◌, ◌++◌, map, length, sum, take, get_or, ap, sym, ◌∙◌, arith}
 use Rattle.std.specs.Prelude.{ℤ, pos, ◌≤ℤ◌, unsigned_abs}
 use Rattle.std.proofs.lemmas.Int.{ints}
-use Rattle.std.proofs.lemmas.List.{length-map, map-append, get_or-map, take-append-le}
+use Rattle.std.proofs.lemmas.List.{length-map, map-append, append_assoc, get_or-map, take-append-le}
 use Rattle.std.proofs.lemmas.List.Sums.{sum_by-append}
 use Rattle.arrow2_model.specs.Offsets.{AreOffsets, start_of, lengths_of, last_of, offset_at}
 use Rattle.arrow2_model.proofs.Offsets.{Spells, get_or-last, get_or-offsets, push_spells}
+use Rattle.arrow2_lengths.specs.Lengthened.{LengthenedBy}
 
 pub same_naturals : (a b : ℕ) (x : ℤ) → pos a ≡ x → x ≡ pos b → a ≡ b
 same_naturals a b x e h = ap unsigned_abs (e ∙ h)
@@ -15,6 +16,17 @@ natural_as_whole n x e = rw e (omega (arith, ints))
 
 pub sum-push : (ns : List ℕ) (n : ℕ) → sum (ns ++ n ∷ []) ≡ sum ns + n
 sum-push ns n = let e = sum_by-append (λ x. x) ns (n ∷ []) in omega (arith, e)
+
+-- offsets that have grown by some lengths are offsets
+abbrev pub AreLengthened : List ℕ → List ℤ → List ℤ → Type 0
+AreLengthened ns old new = AreOffsets new × LengthenedBy ns old new
+
+-- the last offset of a list that has grown by some lengths
+pub last_grown : (ns : List ℕ) (old new : List ℤ) → LengthenedBy ns old new → last_of new ≡ last_of old + sum ns
+last_grown ns old new by =
+    let start = by.0 in
+    let e : sum (lengths_of new) ≡ sum (lengths_of old) + sum ns = ap sum by.1 ∙ sum_by-append (λ x. x) (lengths_of old) ns in
+    omega (arith, start, e)
 
 module _ {X : Type 0} (value : X → ℤ) where
   -- offset k
@@ -34,24 +46,15 @@ module _ {X : Type 0} (value : X → ℤ) where
       let some = h.some in
       ap value e ∙ (sym (get_or-map value items (n - 1) x (pos 0) (omega arith)) ∙ get_or-last (map value items) n h (omega arith))
 
-  -- one more length
-  pub pushed : (items grown : List X) (x : X) (last n : ℕ) → AreOffsets (map value items) → last ≡ last_of (map value items) → grown ≡ items ++ x ∷ [] → value x ≡ pos (last + n) → AreOffsets (map value grown) × (start_of (map value grown) ≡ start_of (map value items)) × (lengths_of (map value grown) ≡ lengths_of (map value items) ++ n ∷ []) × (last_of (map value grown) ≡ last + n)
-  pushed items grown x last n h is-last e is =
+  -- one length more
+  pub pushed : (old : List ℤ) (ns : List ℕ) (n : ℕ) (items grown : List X) (x : X) → AreLengthened ns old (map value items) → grown ≡ items ++ x ∷ [] → value x ≡ pos (last_of old + sum ns + n) → AreLengthened (ns ++ n ∷ []) old (map value grown)
+  pushed old ns n items grown x so_far e is =
       let xs = map value items in
       let m : map value grown ≡ xs ++ value x ∷ [] = ap (map value) e ∙ map-append value items (x ∷ []) in
-      let p = push_spells xs (value x) n h (is ∙ ap (λ k. pos (k + n)) is-last) in
-      let s : Spells (map value grown) (start_of xs) (lengths_of xs ++ n ∷ []) = rw m p in
-      let t = sum-push (lengths_of xs) n in
-      let u : last_of (map value grown) ≡ start_of xs + sum (lengths_of xs ++ n ∷ []) = ap (λ k. k + sum (lengths_of (map value grown))) s.from ∙ ap (λ ms. start_of xs + sum ms) s.by in
-      (s.are, s.from, s.by, omega arith)
+      let last = last_grown ns old xs so_far.1 in
+      let s : Spells (map value grown) (start_of xs) (lengths_of xs ++ n ∷ []) = rw m (push_spells xs (value x) n so_far.0 (is ∙ ap (λ k. pos (k + n)) (sym last))) in
+      (s.are, (s.from ∙ so_far.1.0, s.by ∙ (ap (λ t. t ++ n ∷ []) so_far.1.1 ∙ append_assoc (lengths_of old) ns (n ∷ []))))
 
 -- what stands in front stays there
 pub front_stays : {X : Type 0} (old items grown : List X) (x : X) → take (length old) items ≡ old → length old ≤ length items → grown ≡ items ++ x ∷ [] → take (length old) grown ≡ old
 front_stays old items grown x e l is = ap (take (length old)) is ∙ (take-append-le (length old) items (x ∷ []) l ∙ e)
-
--- the last offset of a list that has grown by some lengths, and one length more
-pub last_grown : (xs ys : List ℤ) (ns : List ℕ) (n : ℕ) → start_of ys ≡ start_of xs → lengths_of ys ≡ lengths_of xs ++ ns → last_of xs + sum (ns ++ n ∷ []) ≡ last_of ys + n
-last_grown xs ys ns n start grown =
-    let e : sum (lengths_of ys) ≡ sum (lengths_of xs) + sum ns = ap sum grown ∙ sum_by-append (λ x. x) (lengths_of xs) ns in
-    let f = sum-push ns n in
-    omega (arith, start, e, f)

@@ -43,9 +43,11 @@ pub fn append_lengths<O: Offset, I: Iterator<Item = usize> + Drop>(
     all
 }
 
-/// The offsets with the lengths of an iterator appended, up to one that is refused.
+/// The offsets with the lengths of an iterator appended. Where it refuses, what stands behind the old offsets is of
+/// no use.
 ///
-/// The vector is passed by value, so that how many items it has stays in a register from item to item.
+/// The vector is passed by value, so that how many items it has stays in a register from item to item. The sums rise,
+/// so it is enough to test where room is asked and at the end that they are offsets.
 fn appended<O: Offset, I: Iterator<Item = usize> + Drop>(
     mut offsets: Vec<O>,
     lengths: I,
@@ -53,27 +55,31 @@ fn appended<O: Offset, I: Iterator<Item = usize> + Drop>(
     requires are { AreOffsetsUpTo O.MAX (map O.value offsets.items) }
     requires can { I.can_next lengths }
     requires ends { IsFinite (I.remaining lengths) }
-    ensures are { AreOffsetsUpTo O.MAX (map O.value result.0.items) }
+    ensures are { OnOk result.1 (AreOffsetsUpTo O.MAX (map O.value result.0.items)) }
     ensures front { take (length offsets.items) result.0.items ≡ offsets.items }
     ensures ok { OnOk result.1 (WholeRun I.next_gives lengths (λ p. LengthenedBy p.items (map O.value offsets.items) (map O.value result.0.items))) }
     ensures overflow { IsErrOf result.1 refusal.Overflow → GivesPast O.MAX (last_of (map O.value offsets.items)) I.next_gives lengths }
 {
     let mut last = offsets[offsets.len() - 1].to_usize();
-    let mut left = O::MAX - last;
     for length in lengths {
-        if length > left {
+        let Some(end) = last.checked_add(length) else {
             return (offsets, Err(Refusal::Overflow));
-        }
+        };
         if offsets.len() == offsets.capacity() {
+            if end > O::MAX {
+                return (offsets, Err(Refusal::Overflow));
+            }
             let (roomy, room) = with_room(offsets);
             offsets = roomy;
             if room.is_err() {
                 return (offsets, Err(Refusal::OutOfMemory));
             }
         }
-        left -= length;
-        last += length;
-        offsets.push_reserved(O::from_as_usize(last));
+        last = end;
+        offsets.push_reserved(O::from_low_bits(last));
+    }
+    if last > O::MAX {
+        return (offsets, Err(Refusal::Overflow));
     }
     (offsets, Ok(()))
 }
