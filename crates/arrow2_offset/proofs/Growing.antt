@@ -5,14 +5,14 @@ use Rattle.std.specs.Int as integers
 use Rattle.std.specs.Int.Signed.{lt_z}
 use Rattle.std.proofs.Common.{to_z, of_z}
 use Rattle.std.proofs.lemmas.Int.{ints}
-use Rattle.std.proofs.lemmas.List.{length-map, map-append, get_or-map, take-map, take_all, take-append-le}
+use Rattle.std.proofs.lemmas.List.{append-nil, length-map, map-append, get_or-map, take-map, take_all, take-append-le}
 use Rattle.std.proofs.lemmas.List.Sums.{sum_by-append, sum_by-cons}
 use Rattle.std.proofs.Math.Seq.{take-add}
 use Rattle.arrow2_model.specs.Parts.{part}
 use Rattle.arrow2_model.specs.Buffers.{BufferStorage, buffer_items, whole_buffer}
 use Rattle.arrow2_model.specs.Offsets.{running_sums, offsets_list, numbers_of, AreOffsets, AreOffsetsUpTo, start_of, lengths_of, offset_at, last_of}
 use Rattle.arrow2_model.proofs.Offsets.{Spells, spells, spelled, length-lengths_of, get_or-offsets, get_or-last, push_spells, repeat_spells, take_spells, part_spells, part-map, map-replicate}
-use Rattle.arrow2_lengths.proofs.Growing.{pushed as pushed_one}
+use Rattle.arrow2_lengths.proofs.Growing.{pushed as pushed_one, last_grown}
 pub use Rattle.arrow2_lengths.proofs.Growing.{same_naturals, natural_as_whole, value_at, value_last, value_natural}
 
 -- ---- fronts
@@ -183,8 +183,10 @@ module _ {X : Type 0} (value : X → ℤ) where
   -- one more length
   pub pushed : (max : ℕ) (items grown : List X) (x : X) (last n : ℕ) → AreOffsets (map value items) → last ≡ last_of (map value items) → grown ≡ items ++ x ∷ [] → value x ≡ pos (last + n) → last + n ≤ max → AreOffsetsUpTo max (map value grown) × (start_of (map value grown) ≡ start_of (map value items)) × (lengths_of (map value grown) ≡ lengths_of (map value items) ++ n ∷ [])
   pushed max items grown x last n h is-last e is within =
-      let p = pushed_one value items grown x last n h is-last e is in
-      ((p.0, omega (arith, p.3)), p.1, p.2)
+      let xs = map value items in
+      let p = pushed_one value xs [] n items grown x (h, (refl {a = start_of xs}, sym (append-nil (lengths_of xs)))) e (is ∙ ap pos (omega (arith, is-last))) in
+      let now = last_grown (n ∷ []) xs (map value grown) p.1 in
+      ((p.0, omega (arith, now, is-last)), p.1.0, p.1.1)
 
   -- some more lengths of 0
   pub repeated : (max : ℕ) (items grown : List X) (x : X) (len count k : ℕ) → AreOffsetsUpTo max (map value items) → len ≡ length items → count ≡ len + k → grown ≡ take count items ++ replicate (count - len) x → value x ≡ pos (last_of (map value items)) → AreOffsetsUpTo max (map value grown) × (start_of (map value grown) ≡ start_of (map value items)) × (lengths_of (map value grown) ≡ lengths_of (map value items) ++ replicate k 0)
