@@ -21,10 +21,10 @@ pub trait Offset: Index {
     /// The greatest offset.
     const MAX: usize;
 
-    /// The number of the low bits of `index`: that number itself where it is an offset. Asks nothing, so that a loop
-    /// over lengths may test the last of its sums alone.
-    fn from_low_bits(index: usize) -> Self
-        ensures { index ≤ Self.MAX → Self.value result ≡ pos index };
+    /// The offset of the low bits of `sum`: that number itself where it is an offset. Asks nothing, so that a loop over
+    /// lengths may test the last of its sums alone.
+    fn from_low_bits(sum: u128) -> Self
+        ensures { sum ≤ Self.MAX → Self.value result ≡ pos sum };
 
     // A natural number is an offset exactly if it is at most the greatest one.
     ghost max_law: { (n : ℕ) → Self.fits (pos n) ↔ (n ≤ MAX) };
@@ -46,8 +46,8 @@ impl Offset for i32 {
 
     const MAX: usize = 2147483647;
 
-    fn from_low_bits(index: usize) -> i32 {
-        ((index % 0x1_0000_0000) as u32).cast_signed()
+    fn from_low_bits(sum: u128) -> i32 {
+        ((sum % 0x1_0000_0000) as u32).cast_signed()
     }
 }
 
@@ -64,7 +64,7 @@ impl Offset for i64 {
 
     const MAX: usize = 9223372036854775807;
 
-    fn from_low_bits(index: usize) -> i64 {
-        (index as u64).cast_signed()
+    fn from_low_bits(sum: u128) -> i64 {
+        ((sum % 0x1_0000_0000_0000_0000) as u64).cast_signed()
     }
 }

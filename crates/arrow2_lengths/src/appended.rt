@@ -46,8 +46,9 @@ pub fn append_lengths<O: Offset, I: Iterator<Item = usize> + Drop>(
 /// The offsets with the lengths of an iterator appended. Where it refuses, what stands behind the old offsets is of
 /// no use.
 ///
-/// The vector is passed by value, so that how many items it has stays in a register from item to item. The sums rise,
-/// so it is enough to test where room is asked and at the end that they are offsets.
+/// The vector is passed by value, so that how many items it has stays in a register from item to item. The sums are
+/// exact and rise, so it is enough to test where room is asked and at the end that they are offsets.
+#[inline(never)]
 fn appended<O: Offset, I: Iterator<Item = usize> + Drop>(
     mut offsets: Vec<O>,
     lengths: I,
@@ -60,13 +61,12 @@ fn appended<O: Offset, I: Iterator<Item = usize> + Drop>(
     ensures ok { OnOk result.1 (WholeRun I.next_gives lengths (λ p. LengthenedBy p.items (map O.value offsets.items) (map O.value result.0.items))) }
     ensures overflow { IsErrOf result.1 refusal.Overflow → GivesPast O.MAX (last_of (map O.value offsets.items)) I.next_gives lengths }
 {
-    let mut last = offsets[offsets.len() - 1].to_usize();
+    let greatest = O::MAX as u128;
+    let mut last = offsets[offsets.len() - 1].to_usize() as u128;
     for length in lengths {
-        let Some(end) = last.checked_add(length) else {
-            return (offsets, Err(Refusal::Overflow));
-        };
+        last += length as u128;
         if offsets.len() == offsets.capacity() {
-            if end > O::MAX {
+            if last > greatest {
                 return (offsets, Err(Refusal::Overflow));
             }
             let (roomy, room) = with_room(offsets);
@@ -75,10 +75,9 @@ fn appended<O: Offset, I: Iterator<Item = usize> + Drop>(
                 return (offsets, Err(Refusal::OutOfMemory));
             }
         }
-        last = end;
         offsets.push_reserved(O::from_low_bits(last));
     }
-    if last > O::MAX {
+    if last > greatest {
         return (offsets, Err(Refusal::Overflow));
     }
     (offsets, Ok(()))

@@ -1,4 +1,4 @@
-use Rattle.std.proofs.Common.{◌≡◌, ◌+◌, ◌≤◌, length, map, sum, take}
+use Rattle.std.proofs.Common.{◌≡◌, ◌+◌, ◌*◌, ◌^◌, ◌<◌, ◌≤◌, length, map, sum, take}
 use Rattle.arrow2_model.specs.Offsets.{last_of}
 use Rattle.arrow2_lengths.proofs.Growing.{AreLengthened}
 use Rattle.arrow2_lengths.proofs.appended.appended.Given as goal
@@ -9,4 +9,5 @@ invariant-loop-length g l = record {
   grown : l.last ≤ g.O.Offset.MAX → AreLengthened l.yielded (map g.O.Number.value l.fn.offsets.items) (map g.O.Number.value l.offsets.items);
   front : take (length l.fn.offsets.items) l.offsets.items ≡ l.fn.offsets.items;
   more : length l.fn.offsets.items ≤ length l.offsets.items;
+  small : l.last < length l.offsets.items * 2 ^ 64;
 }
