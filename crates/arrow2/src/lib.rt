@@ -4,6 +4,7 @@
 //! What contracts cite is passed on too: a caller's clauses name `Rattle.arrow2.specs.Parts` and the others.
 #![tactic(auto)]
 
+pub mod array;
 pub mod bitmap;
 pub mod buffer;
 pub mod datatypes;

@@ -1,0 +1,3 @@
+//! Arrays: values beside their validity.
+
+pub use arrow2_array::{BooleanArray, BooleanIter};

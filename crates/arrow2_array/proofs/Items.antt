@@ -1,0 +1,132 @@
+-- The items of a boolean array, place by place, in parts, and counted.
+use Rattle.std.proofs.Common.{◌≡◌, ℕ, zero, suc, ◌<◌, List, [], ◌∷◌, Bool, true, false, not, cond, map, length, take, drop, get_or, replicate, refl, ap, sym, ◌∙◌, arith}
+use Rattle.std.specs.Prelude.{Option, Some, None}
+use Rattle.std.specs.Bool.{then_some}
+use Rattle.std.specs.Option.{ForSome, is_none}
+use Rattle.std.proofs.lemmas.List.{length-replicate}
+use Rattle.std.proofs.lemmas.List.Sums.{sum_by-cons}
+use Rattle.arrow2_model.specs.Parts.{part, falses}
+use Rattle.arrow2_model.specs.Storage.{BitmapStorage, items_of}
+use Rattle.arrow2_model.specs.Zipped.{slot, zipped}
+use Rattle.arrow2_array.specs.Items.{array_items, validity_items, nulls}
+
+-- ---- values beside their validity
+
+pub length-zipped : (xs vs : List Bool) → length vs ≡ length xs → length (zipped xs vs) ≡ length xs
+length-zipped [] vs e = refl
+length-zipped (x ∷ xs) [] e = absurd (omega (arith, e))
+length-zipped (x ∷ xs) (v ∷ vs) e = ap suc (length-zipped xs vs (omega (arith, e)))
+
+pub get_or-zipped : (xs vs : List Bool) (k : ℕ) → length vs ≡ length xs → k < length xs → get_or (zipped xs vs) k None ≡ slot (get_or xs k false) (get_or vs k false)
+get_or-zipped [] vs k e h = absurd (omega (arith, h))
+get_or-zipped (x ∷ xs) [] k e h = absurd (omega (arith, e))
+get_or-zipped (x ∷ xs) (v ∷ vs) zero e h = refl
+get_or-zipped (x ∷ xs) (v ∷ vs) (suc k) e h = get_or-zipped xs vs k (omega (arith, e)) (omega (arith, h))
+
+take-zipped : (xs vs : List Bool) (n : ℕ) → take n (zipped xs vs) ≡ zipped (take n xs) (take n vs)
+take-zipped xs vs zero = refl
+take-zipped [] vs (suc n) = refl
+take-zipped (x ∷ xs) [] (suc n) = refl
+take-zipped (x ∷ xs) (v ∷ vs) (suc n) = ap (λ l. slot x v ∷ l) (take-zipped xs vs n)
+
+drop-zipped : (xs vs : List Bool) (n : ℕ) → length vs ≡ length xs → drop n (zipped xs vs) ≡ zipped (drop n xs) (drop n vs)
+drop-zipped xs vs zero e = refl
+drop-zipped [] vs (suc n) e = refl
+drop-zipped (x ∷ xs) [] (suc n) e = absurd (omega (arith, e))
+drop-zipped (x ∷ xs) (v ∷ vs) (suc n) e = drop-zipped xs vs n (omega (arith, e))
+
+part-zipped : (xs vs : List Bool) (a n : ℕ) → length vs ≡ length xs → part (zipped xs vs) a n ≡ zipped (part xs a n) (part vs a n)
+part-zipped xs vs a n e = ap (take n) (drop-zipped xs vs a e) ∙ take-zipped (drop a xs) (drop a vs) n
+
+take-some : (xs : List Bool) (n : ℕ) → take n (map (λ x. Some x) xs) ≡ map (λ x. Some x) (take n xs)
+take-some xs zero = refl
+take-some [] (suc n) = refl
+take-some (x ∷ xs) (suc n) = ap (λ l. Some x ∷ l) (take-some xs n)
+
+drop-some : (xs : List Bool) (n : ℕ) → drop n (map (λ x. Some x) xs) ≡ map (λ x. Some x) (drop n xs)
+drop-some xs zero = refl
+drop-some [] (suc n) = refl
+drop-some (x ∷ xs) (suc n) = drop-some xs n
+
+-- where all are valid none is null
+pub zipped-set : (xs : List Bool) → zipped xs (replicate (length xs) true) ≡ map (λ x. Some x) xs
+zipped-set [] = refl
+zipped-set (x ∷ xs) = ap (λ l. Some x ∷ l) (zipped-set xs)
+
+-- and none is false
+pub all_set : (vs : List Bool) → falses vs ≡ 0 → vs ≡ replicate (length vs) true
+all_set [] e = refl
+all_set (true ∷ vs) e = let s = sum_by-cons (λ v. cond (not v) 1 0) true vs in ap (λ l. true ∷ l) (all_set vs (omega (arith, s, e)))
+all_set (false ∷ vs) e = let s = sum_by-cons (λ v. cond (not v) 1 0) false vs in absurd (omega (arith, s, e))
+
+nulls-zipped : (xs vs : List Bool) → length vs ≡ length xs → nulls (zipped xs vs) ≡ falses vs
+nulls-zipped [] [] e = refl
+nulls-zipped [] (v ∷ vs) e = absurd (omega (arith, e))
+nulls-zipped (x ∷ xs) [] e = absurd (omega (arith, e))
+nulls-zipped (x ∷ xs) (true ∷ vs) e =
+    let a = sum_by-cons (λ o. cond (is_none o) 1 0) (Some x) (zipped xs vs) in
+    let b = sum_by-cons (λ v. cond (not v) 1 0) true vs in
+    let c = nulls-zipped xs vs (omega (arith, e)) in
+    omega (arith, a, b, c)
+nulls-zipped (x ∷ xs) (false ∷ vs) e =
+    let a = sum_by-cons (λ o. cond (is_none o) 1 0) (slot x false) (zipped xs vs) in
+    let b = sum_by-cons (λ v. cond (not v) 1 0) false vs in
+    let c = nulls-zipped xs vs (omega (arith, e)) in
+    omega (arith, a, b, c)
+
+nulls-some : (xs : List Bool) → nulls (map (λ x. Some x) xs) ≡ 0
+nulls-some [] = refl
+nulls-some (x ∷ xs) =
+    let a = sum_by-cons (λ o. cond (is_none o) 1 0) (Some x) (map (λ x. Some x) xs) in
+    let b = nulls-some xs in
+    omega (arith, a, b)
+
+-- ---- arrays
+
+-- a validity is as long as the values
+abbrev pub Fits : BitmapStorage → Option BitmapStorage → Type 0
+Fits values validity = ForSome validity (λ v. length (items_of v) ≡ length (items_of values))
+
+pub length-validity : (values : BitmapStorage) (validity : Option BitmapStorage) → Fits values validity → length (validity_items (items_of values) validity) ≡ length (items_of values)
+length-validity values None h = length-replicate (length (items_of values)) true
+length-validity values (Some validity) h = h validity refl
+
+-- an array is its values beside its validity, all set where it has none
+pub as_zipped : (values : BitmapStorage) (validity : Option BitmapStorage) → array_items values validity ≡ zipped (items_of values) (validity_items (items_of values) validity)
+as_zipped values None = sym (zipped-set (items_of values))
+as_zipped values (Some validity) = refl
+
+pub length-array : (values : BitmapStorage) (validity : Option BitmapStorage) → Fits values validity → length (array_items values validity) ≡ length (items_of values)
+length-array values validity h = ap length (as_zipped values validity) ∙ length-zipped (items_of values) _ (length-validity values validity h)
+
+pub get_or-array : (values : BitmapStorage) (validity : Option BitmapStorage) (k : ℕ) → Fits values validity → k < length (items_of values) → get_or (array_items values validity) k None ≡ slot (get_or (items_of values) k false) (get_or (validity_items (items_of values) validity) k false)
+get_or-array values validity k h below = ap (λ (l : List (Option Bool)). get_or l k None) (as_zipped values validity) ∙ get_or-zipped (items_of values) _ k (length-validity values validity h) below
+
+-- an item by its value and whether it is valid
+pub valid_item : (values validity : BitmapStorage) (k : ℕ) (value valid : Bool) → length (items_of validity) ≡ length (items_of values) → k < length (items_of values) → value ≡ get_or (items_of values) k false → valid ≡ get_or (items_of validity) k false
+    → then_some valid value ≡ get_or (array_items values (Some validity)) k None
+valid_item values validity k value valid e h is-value is-valid =
+    as_slot value valid ∙ (ap (λ b. slot b valid) is-value ∙ (ap (slot (get_or (items_of values) k false)) is-valid ∙ sym (get_or-zipped (items_of values) (items_of validity) k e h)))
+  where
+    as_slot : (value valid : Bool) → then_some valid value ≡ slot value valid
+    as_slot value true = refl
+    as_slot value false = refl
+
+-- a part of an array is its parts, side by side
+pub part-plain : (values values' : BitmapStorage) (a n : ℕ) → items_of values' ≡ part (items_of values) a n → array_items values' None ≡ part (array_items values None) a n
+part-plain values values' a n e = ap (map (λ x. Some x)) e ∙ sym (ap (take n) (drop-some (items_of values) a) ∙ take-some (drop a (items_of values)) n)
+
+pub part-valid : (values values' v v' : BitmapStorage) (a n : ℕ) → length (items_of v) ≡ length (items_of values) → items_of values' ≡ part (items_of values) a n → items_of v' ≡ part (items_of v) a n → array_items values' (Some v') ≡ part (array_items values (Some v)) a n
+part-valid values values' v v' a n h e f = ap (λ l. zipped l (items_of v')) e ∙ (ap (zipped (part (items_of values) a n)) f ∙ sym (part-zipped (items_of values) (items_of v) a n h))
+
+pub nulls-array : (values : BitmapStorage) (validity : BitmapStorage) → length (items_of validity) ≡ length (items_of values) → nulls (array_items values (Some validity)) ≡ falses (items_of validity)
+nulls-array values validity h = nulls-zipped (items_of values) (items_of validity) h
+
+pub no_nulls : (values : BitmapStorage) → nulls (array_items values None) ≡ 0
+no_nulls values = nulls-some (items_of values)
+
+-- arrays of one length have values of one length
+pub same_lengths : (left right : BitmapStorage) (left_validity right_validity : Option BitmapStorage) (xs ys : List (Option Bool)) → Fits left left_validity → Fits right right_validity
+    → array_items left left_validity ≡ xs → array_items right right_validity ≡ ys → length xs ≡ length ys → length (items_of left) ≡ length (items_of right)
+same_lengths left right left_validity right_validity xs ys l r is-left is-right e =
+    sym (length-array left left_validity l) ∙ (ap length is-left ∙ (e ∙ (sym (ap length is-right) ∙ length-array right right_validity r)))

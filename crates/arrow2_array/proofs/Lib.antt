@@ -1,0 +1,3 @@
+pub mod Items
+pub mod Tables
+pub mod Walks

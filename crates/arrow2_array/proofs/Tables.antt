@@ -1,0 +1,156 @@
+-- Kleene's logic by truth tables over values and validities.
+use Rattle.std.proofs.Common.{◌≡◌, ℕ, zero, suc, ◌<◌, List, [], ◌∷◌, Bool, true, false, length, get_or, replicate, refl, ap, sym, ◌∙◌, arith}
+use Rattle.std.specs.Prelude.{Option, Some, None}
+use Rattle.std.specs.Option.{is_some}
+use Rattle.std.proofs.lemmas.List.{ext_get_or, length-replicate, get_or-replicate}
+use Rattle.arrow2_model.specs.Bits.{bit}
+use Rattle.arrow2_model.specs.Storage.{BitmapStorage, items_of}
+use Rattle.arrow2_model.specs.Tables.{answer, each}
+use Rattle.arrow2_model.specs.Zipped.{slot, zipped}
+use Rattle.arrow2_model.proofs.Kernels.{length-each, get_or-each, each_from}
+use Rattle.arrow2_array.specs.Items.{array_items, validity_items}
+use Rattle.arrow2_array.specs.Kleene.{kleene_and, kleene_or, by_items}
+use Rattle.arrow2_array.proofs.Items.{Fits, length-zipped, get_or-zipped, length-validity, as_zipped}
+
+-- ---- one item
+
+pub and_known : (a b : Bool) → answer 53060 (a ∷ true ∷ b ∷ true ∷ []) ≡ true
+unfolding bit
+and_known true true = refl
+and_known true false = refl
+and_known false true = refl
+and_known false false = refl
+
+pub or_known : (a b : Bool) → answer 64648 (a ∷ true ∷ b ∷ true ∷ []) ≡ true
+unfolding bit
+or_known true true = refl
+or_known true false = refl
+or_known false true = refl
+or_known false false = refl
+
+-- table v gives the value and table t the validity of what f makes of two items
+abbrev Spells : ℕ → ℕ → (Option Bool → Option Bool → Option Bool) → Type 0
+Spells v t f = (a n b m : Bool) → slot (answer v (a ∷ b ∷ [])) (answer t (a ∷ n ∷ b ∷ m ∷ [])) ≡ f (slot a n) (slot b m)
+
+and_spelled : Spells 8 53060 kleene_and
+unfolding bit
+and_spelled true true true true = refl
+and_spelled true true true false = refl
+and_spelled true true false true = refl
+and_spelled true true false false = refl
+and_spelled true false true true = refl
+and_spelled true false true false = refl
+and_spelled true false false true = refl
+and_spelled true false false false = refl
+and_spelled false true true true = refl
+and_spelled false true true false = refl
+and_spelled false true false true = refl
+and_spelled false true false false = refl
+and_spelled false false true true = refl
+and_spelled false false true false = refl
+and_spelled false false false true = refl
+and_spelled false false false false = refl
+
+or_spelled : Spells 14 64648 kleene_or
+unfolding bit
+or_spelled true true true true = refl
+or_spelled true true true false = refl
+or_spelled true true false true = refl
+or_spelled true true false false = refl
+or_spelled true false true true = refl
+or_spelled true false true false = refl
+or_spelled true false false true = refl
+or_spelled true false false false = refl
+or_spelled false true true true = refl
+or_spelled false true true false = refl
+or_spelled false true false true = refl
+or_spelled false true false false = refl
+or_spelled false false true true = refl
+or_spelled false false true false = refl
+or_spelled false false false true = refl
+or_spelled false false false false = refl
+
+-- ---- item by item
+
+-- where all are valid, a table that answers true there gives no more than all set
+all_known : (t : ℕ) (xs ys : List Bool) → ((a b : Bool) → answer t (a ∷ true ∷ b ∷ true ∷ []) ≡ true) → length xs ≡ length ys
+    → replicate (length xs) true ≡ each t (xs ∷ replicate (length xs) true ∷ ys ∷ replicate (length ys) true ∷ [])
+all_known t xs ys known e =
+    each_from t (xs ∷ replicate (length xs) true ∷ ys ∷ replicate (length ys) true ∷ []) (replicate (length xs) true) (length-replicate (length xs) true)
+    (λ k k<.
+    let left : get_or (replicate (length xs) true) k false ≡ true = get_or-replicate (length xs) k true false k< in
+    let right : get_or (replicate (length ys) true) k false ≡ true = get_or-replicate (length ys) k true false (omega (arith, e)) in
+    left ∙ rw (left, right) (sym (known (get_or xs k false) (get_or ys k false))))
+
+pub none_known : (t : ℕ) (left right : BitmapStorage) (left_validity right_validity : Option BitmapStorage) → ((a b : Bool) → answer t (a ∷ true ∷ b ∷ true ∷ []) ≡ true)
+    → length (items_of left) ≡ length (items_of right) → is_some left_validity ≡ false → is_some right_validity ≡ false
+    → replicate (length (items_of left)) true ≡ each t (items_of left ∷ validity_items (items_of left) left_validity ∷ items_of right ∷ validity_items (items_of right) right_validity ∷ [])
+none_known t left right None None known e l r = all_known t (items_of left) (items_of right) known e
+none_known t left right None (Some v) known e l r = let no : ⊥ = cc in absurd no
+none_known t left right (Some v) o known e l r = let no : ⊥ = cc in absurd no
+
+length-by_items : (f : Option Bool → Option Bool → Option Bool) (xs ys : List (Option Bool)) → length xs ≡ length ys → length (by_items f xs ys) ≡ length xs
+length-by_items f [] ys e = refl
+length-by_items f (x ∷ xs) [] e = absurd (omega (arith, e))
+length-by_items f (x ∷ xs) (y ∷ ys) e = ap suc (length-by_items f xs ys (omega (arith, e)))
+
+get_or-by_items : (f : Option Bool → Option Bool → Option Bool) (xs ys : List (Option Bool)) (k : ℕ) → length xs ≡ length ys → k < length xs → get_or (by_items f xs ys) k None ≡ f (get_or xs k None) (get_or ys k None)
+get_or-by_items f [] ys k e h = absurd (omega (arith, h))
+get_or-by_items f (x ∷ xs) [] k e h = absurd (omega (arith, e))
+get_or-by_items f (x ∷ xs) (y ∷ ys) zero e h = refl
+get_or-by_items f (x ∷ xs) (y ∷ ys) (suc k) e h = get_or-by_items f xs ys k (omega (arith, e)) (omega (arith, h))
+
+by_tables : (v t : ℕ) (f : Option Bool → Option Bool → Option Bool) (xs ns ys ms : List Bool) → Spells v t f → length ns ≡ length xs → length ys ≡ length xs → length ms ≡ length xs
+    → zipped (each v (xs ∷ ys ∷ [])) (each t (xs ∷ ns ∷ ys ∷ ms ∷ [])) ≡ by_items f (zipped xs ns) (zipped ys ms)
+by_tables v t f xs ns ys ms spelled n y m =
+    let values : List Bool = each v (xs ∷ ys ∷ []) in
+    let validity : List Bool = each t (xs ∷ ns ∷ ys ∷ ms ∷ []) in
+    let lv : length values ≡ length xs = length-each v (xs ∷ ys ∷ []) in
+    let lt : length validity ≡ length xs = length-each t (xs ∷ ns ∷ ys ∷ ms ∷ []) in
+    let la = length-zipped values validity (lt ∙ sym lv) in
+    let lx = length-zipped xs ns n in
+    let ly = length-zipped ys ms (m ∙ sym y) in
+    let lb = length-by_items f (zipped xs ns) (zipped ys ms) (lx ∙ sym (ly ∙ y)) in
+    ext_get_or None (zipped values validity) (by_items f (zipped xs ns) (zipped ys ms)) (la ∙ (lv ∙ sym (lb ∙ lx)))
+    (λ k k<.
+    let h : k < length xs = omega (arith, la, lv) in
+    get_or-zipped values validity k (lt ∙ sym lv) (omega (arith, lv, h))
+    ∙ (ap (λ b. slot b (get_or validity k false)) (get_or-each v (xs ∷ ys ∷ []) k h)
+    ∙ (ap (slot (answer v (get_or xs k false ∷ get_or ys k false ∷ []))) (get_or-each t (xs ∷ ns ∷ ys ∷ ms ∷ []) k h)
+    ∙ (spelled (get_or xs k false) (get_or ns k false) (get_or ys k false) (get_or ms k false)
+    ∙ sym (get_or-by_items f (zipped xs ns) (zipped ys ms) k (lx ∙ sym (ly ∙ y)) (omega (arith, lx, h))
+    ∙ (ap (λ o. f o (get_or (zipped ys ms) k None)) (get_or-zipped xs ns k n h) ∙ ap (f (slot (get_or xs k false) (get_or ns k false))) (get_or-zipped ys ms k (m ∙ sym y) (omega (arith, y, h)))))))))
+
+-- ---- arrays
+
+-- an array whose values and validity are answers of the two tables is what f makes of two arrays
+by_arrays : (v t : ℕ) (f : Option Bool → Option Bool → Option Bool) (left right values : BitmapStorage) (left_validity right_validity validity : Option BitmapStorage) → Spells v t f
+    → length (items_of left) ≡ length (items_of right) → Fits left left_validity → Fits right right_validity → items_of values ≡ each v (items_of left ∷ items_of right ∷ [])
+    → validity_items (items_of left) validity ≡ each t (items_of left ∷ validity_items (items_of left) left_validity ∷ items_of right ∷ validity_items (items_of right) right_validity ∷ [])
+    → array_items values validity ≡ by_items f (array_items left left_validity) (array_items right right_validity)
+by_arrays v t f left right values left_validity right_validity validity spelled e l r is is-validity =
+    let xs = items_of left in
+    let ys = items_of right in
+    let ns = validity_items xs left_validity in
+    let ms = validity_items ys right_validity in
+    as_zipped values validity
+    ∙ (ap (λ l. zipped l (validity_items (items_of values) validity)) is
+    ∙ (ap (zipped (each v (xs ∷ ys ∷ []))) (same_validity xs (items_of values) validity (sym (ap length is ∙ length-each v (xs ∷ ys ∷ []))) ∙ is-validity)
+    ∙ (by_tables v t f xs ns ys ms spelled (length-validity left left_validity l) (sym e) (length-validity right right_validity r ∙ sym e)
+    ∙ (ap (λ l. by_items f l (zipped ys ms)) (sym (as_zipped left left_validity)) ∙ ap (by_items f (array_items left left_validity)) (sym (as_zipped right right_validity))))))
+  where
+    same_validity : (xs ys : List Bool) (o : Option BitmapStorage) → length xs ≡ length ys → validity_items ys o ≡ validity_items xs o
+    same_validity xs ys None e = ap (λ n. replicate n true) (sym e)
+    same_validity xs ys (Some b) e = refl
+
+pub and_arrays : (left right values : BitmapStorage) (left_validity right_validity validity : Option BitmapStorage)
+    → length (items_of left) ≡ length (items_of right) → Fits left left_validity → Fits right right_validity → items_of values ≡ each 8 (items_of left ∷ items_of right ∷ [])
+    → validity_items (items_of left) validity ≡ each 53060 (items_of left ∷ validity_items (items_of left) left_validity ∷ items_of right ∷ validity_items (items_of right) right_validity ∷ [])
+    → array_items values validity ≡ by_items kleene_and (array_items left left_validity) (array_items right right_validity)
+and_arrays left right values left_validity right_validity validity = by_arrays 8 53060 kleene_and left right values left_validity right_validity validity and_spelled
+
+pub or_arrays : (left right values : BitmapStorage) (left_validity right_validity validity : Option BitmapStorage)
+    → length (items_of left) ≡ length (items_of right) → Fits left left_validity → Fits right right_validity → items_of values ≡ each 14 (items_of left ∷ items_of right ∷ [])
+    → validity_items (items_of left) validity ≡ each 64648 (items_of left ∷ validity_items (items_of left) left_validity ∷ items_of right ∷ validity_items (items_of right) right_validity ∷ [])
+    → array_items values validity ≡ by_items kleene_or (array_items left left_validity) (array_items right right_validity)
+or_arrays left right values left_validity right_validity validity = by_arrays 14 64648 kleene_or left right values left_validity right_validity validity or_spelled

@@ -1,0 +1,60 @@
+//! Which answers of Kleene's logic are known, by truth tables.
+ghost use Rattle.std.specs.Prelude.{◌≡◌, Bool, true, [], ◌∷◌, length as length', IfOk, IfErr};
+ghost use Rattle.std.specs.Option.{ForSome};
+ghost use Rattle.arrow2_model.specs.Storage.{items_of};
+ghost use Rattle.arrow2_model.specs.Tables.{answer, each};
+ghost use Rattle.arrow2_array.specs.Items.{validity_items};
+
+use arrow2_bitmap::{Bitmap, MutableBitmap};
+use arrow2_tables::bitmap_ops::quaternary_table;
+use arrow2_types::error::{Error, Result};
+use std::convert::TryFrom;
+
+/// For which values and validities it is known whether both are true: bit
+/// `left + 2 * left_validity + 4 * right + 8 * right_validity`.
+pub(crate) const AND_VALIDITY: u16 = 53060;
+
+/// And for which it is known whether one is true, or both.
+pub(crate) const OR_VALIDITY: u16 = 64648;
+
+/// The answers of table `t` for the values and validities of two arrays, where a missing validity is all set. Where both
+/// are missing there is none to be had: the table has to answer true there.
+pub(crate) fn validity_by(
+    left: &Bitmap,
+    left_validity: &Option<Bitmap>,
+    right: &Bitmap,
+    right_validity: &Option<Bitmap>,
+    t: u16,
+) -> Result<Option<Bitmap>>
+    requires known { (a b : Bool) → answer t (a ∷ true ∷ b ∷ true ∷ []) ≡ true }
+    requires same_length { length' (items_of left.now) ≡ length' (items_of right.now) }
+    requires left_fits { ForSome left_validity.now (λ v. length' (items_of v) ≡ length' (items_of left.now)) }
+    requires right_fits { ForSome right_validity.now (λ v. length' (items_of v) ≡ length' (items_of right.now)) }
+    ensures items { IfOk result (λ v. validity_items (items_of left.now) v ≡ each t (items_of left.now ∷ validity_items (items_of left.now) left_validity.now ∷ items_of right.now ∷ validity_items (items_of right.now) right_validity.now ∷ [])) }
+    ensures len { IfOk result (λ v. ForSome v (λ b. length' (items_of b) ≡ length' (items_of left.now))) }
+    ensures only { IfErr result (λ e. e ≡ Error.OutOfMemory) }
+{
+    if left_validity.is_none() && right_validity.is_none() {
+        return Ok(None);
+    }
+    let left_known = known(left, left_validity)?;
+    let right_known = known(right, right_validity)?;
+    let validity = quaternary_table(left, &left_known, right, &right_known, t)?;
+    Ok(Some(validity))
+}
+
+/// The validity of these values: all set where it is missing.
+fn known(values: &Bitmap, validity: &Option<Bitmap>) -> Result<Bitmap>
+    requires fits { ForSome validity.now (λ v. length' (items_of v) ≡ length' (items_of values.now)) }
+    ensures items { IfOk result (λ b. items_of b ≡ validity_items (items_of values.now) validity.now) }
+    ensures len { IfOk result (λ b. length' (items_of b) ≡ length' (items_of values.now)) }
+    ensures only { IfErr result (λ e. e ≡ Error.OutOfMemory) }
+{
+    match validity {
+        Some(validity) => Ok(validity.clone()?),
+        None => {
+            let set = MutableBitmap::from_len_set(values.allocator(), values.len())?;
+            Bitmap::try_from(set)
+        }
+    }
+}

@@ -1,0 +1,9 @@
+//! Boolean arrays: bitmaps of values beside a bitmap that tells which of them are null.
+#![tactic(auto)]
+
+pub mod boolean;
+pub mod iterator;
+mod kleene;
+
+pub use boolean::BooleanArray;
+pub use iterator::BooleanIter;
