@@ -1,4 +1,5 @@
 //! Worked rows, printed texts, and each call once with ample memory: a module a library.
+mod array;
 mod bitmap;
 mod bits;
 mod buffer;
