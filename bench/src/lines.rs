@@ -287,6 +287,7 @@ fn offsets(inputs: &Inputs) -> Vec<Line<'_>> {
     let runs = || vec![NUMBERS; 8];
     vec![
         line!("try_from_lengths", all, try_from_lengths(slots), runs()),
+        line!("try_extend_from_lengths, with room", all, extend_from_lengths(slots), runs()),
         line!("try_push", all, try_push(slots_of_64), runs()),
         line!("a vector, checked", all, check_offsets(offsets), runs()),
     ]

@@ -441,6 +441,14 @@ pub fn try_from_lengths(slots: &[usize], lengths: &[usize]) -> usize {
     })
 }
 
+pub fn extend_from_lengths(slots: &[usize], lengths: &[usize]) -> usize {
+    answers_on_firsts(slots, lengths, |slots| {
+        let mut offsets = Offsets::<i64>::with_capacity(slots.len());
+        let extended = offsets.try_extend_from_lengths(slots.iter().copied());
+        extended.map_or(0, |()| *offsets.last() as usize)
+    })
+}
+
 pub fn try_push(slots: &[i64], lengths: &[usize]) -> usize {
     answers_on_firsts(slots, lengths, |slots| {
         let mut offsets = Offsets::<i64>::new();

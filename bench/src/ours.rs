@@ -55,6 +55,7 @@ exports! {
     fn buffer_try_from_iter = bench_buffer_try_from_iter(items: u64, lengths: usize);
 
     fn try_from_lengths = bench_try_from_lengths(slots: usize, lengths: usize);
+    fn extend_from_lengths = bench_extend_from_lengths(slots: usize, lengths: usize);
     fn try_push = bench_try_push(slots: i64, lengths: usize);
     fn check_offsets = bench_check_offsets(items: i64, lengths: usize);
 }

@@ -18,6 +18,23 @@ pub extern "C" fn bench_try_from_lengths(
     })
 }
 
+/// Lengths appended where there is room for them.
+#[unsafe(no_mangle)]
+pub extern "C" fn bench_extend_from_lengths(
+    alloc: Global,
+    slots: &[usize],
+    lengths: &[usize],
+) -> usize {
+    answers_on_firsts(slots, lengths, |slots| last(extended(alloc, slots)))
+}
+
+/// The offsets of the lengths, with room for all of them beforehand.
+fn extended(alloc: Global, slots: &[usize]) -> Result<Offsets<i64>> {
+    let mut offsets = Offsets::with_capacity(alloc, slots.len())?;
+    offsets.try_extend_from_lengths(slots.iter().copied())?;
+    Ok(offsets)
+}
+
 /// Offsets of pushed lengths.
 #[unsafe(no_mangle)]
 pub extern "C" fn bench_try_push(alloc: Global, slots: &[i64], lengths: &[usize]) -> usize {
