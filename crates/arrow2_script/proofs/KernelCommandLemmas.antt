@@ -1,17 +1,14 @@
 -- Words say one command that combines bitmaps at most, and each is spelled in one way.
-use Rattle.std.proofs.Common.{◌≡◌, ◌∙◌, ap, refl, ◌<◌, ℕ, List, [], ◌∷◌, length, true, arith, codes}
+use Rattle.std.proofs.Common.{◌≡◌, refl, ◌<◌, ℕ, List, [], ◌∷◌, length, true, arith, codes}
 use Rattle.std.specs.Prelude.{Option, Some, None}
-use Rattle.std.specs.Fmt.{decimal}
 use Rattle.std.specs.List.{list_all}
-use Rattle.std.proofs.lemmas.Option.{none-some, same_Some}
-use Rattle.arrow2_script.specs.KernelCommands.{slots_of, and_of, or_of, xor_of, not_of, table1_of, table2_of, table3_of, table4_of, inplace1_of, inplace2_of, kernel_named, made_words, kernel_words, MadeFits, KernelFits}
+use Rattle.std.proofs.lemmas.Option.{none-some}
+use Rattle.arrow2_script.specs.KernelCommands.{and_of, or_of, xor_of, not_of, table1_of, table2_of, table3_of, table4_of, inplace1_of, inplace2_of, kernel_named, kernel_words, KernelFits}
 use Rattle.arrow2_script.specs.declared.kernel_command.KernelCommand.{KernelCommand}
 use Rattle.arrow2_script.specs.declared.kernel_command.KernelCommand.TheVariants.{Make, AssignUnary, AssignBinary}
-use Rattle.arrow2_script.specs.declared.kernel_command.Kernel.{Kernel}
 use Rattle.arrow2_script.specs.declared.kernel_command.Kernel.TheVariants.{And, Or, Xor, Not, Unary, Binary, Ternary, Quaternary}
-use Rattle.arrow2_script.specs.Arguments.{◌>>=◌}
-use Rattle.arrow2_script.proofs.ArgumentLemmas.{bound}
-use Rattle.arrow2_script.proofs.KindLemmas.{slots, tables, widths, two_then, three_then, four_then, five_then, six_then, same_says, at_name}
+use Rattle.arrow2_script.specs.Arguments.{slots_of}
+use Rattle.arrow2_script.proofs.KindLemmas.{slots, tables, widths, two_then, three_then, four_then, five_then, six_then, slots_then, at_name}
 use Rattle.arrow2_script.proofs.SpellingLemmas.{is_word, slot_word, below_word, width_is_word}
 use Rattle.arrow2_script.proofs.WordLemmas.{slot_of-decimal, below_of-decimal, width_of-word}
 
@@ -19,33 +16,17 @@ use Rattle.arrow2_script.proofs.WordLemmas.{slot_of-decimal, below_of-decimal, w
 abbrev Says : List ℕ → List (List ℕ) → KernelCommand → Type 0
 Says name words command = KernelFits command × (name ∷ words ≡ kernel_words command)
 
--- three slots are spelled by their words
-abbrev AreSlots : List (List ℕ) → ℕ × ℕ × ℕ → Type 0
-AreSlots words s = ((s.0 < 16) × (s.1 < 16) × (s.2 < 16)) × (words ≡ decimal s.0 ∷ decimal s.1 ∷ decimal s.2 ∷ [])
-
-slots_say : (words : List (List ℕ)) (s : ℕ × ℕ × ℕ) → slots_of words ≡ Some s → AreSlots words s
-unfolding slots_of
-slots_say = three_then slots slots slots (λ to left right. (to, left, right)) AreSlots (λ to left right t l r. ((t, l, r), refl))
-
--- a command of three slots
-of_slots : (name : List ℕ) (made : ℕ → ℕ → Kernel) → ((to left right : ℕ) → left < 16 → right < 16 → MadeFits (made left right) × (name ∷ decimal to ∷ decimal left ∷ decimal right ∷ [] ≡ made_words to (made left right))) → (words : List (List ℕ)) (command : KernelCommand) → (slots_of words >>= λ s. Some (Make s.0 (made s.1 s.2))) ≡ Some command → Says name words command
-of_slots name made says words command e =
-    let p = bound (slots_of words) (λ s. Some (Make s.0 (made s.1 s.2))) command e in
-    let s = slots_say words p.0 p.1 in
-    let known = says p.0.0 p.0.1 p.0.2 s.0.1 s.0.2 in
-    same_says (λ c. Says name words c) (Make p.0.0 (made p.0.1 p.0.2)) command (same_Some _ command p.2) ((s.0.0, known.0), ap (λ t. name ∷ t) s.1 ∙ known.1)
-
 and_says : (words : List (List ℕ)) (command : KernelCommand) → and_of words ≡ Some command → Says (codes "and") words command
 unfolding and_of
-and_says = of_slots (codes "and") And (λ to left right l r. ((l, r), refl))
+and_says = slots_then (λ to left right. Make to (And left right)) (Says (codes "and")) (λ to left right d a b. ((d, (a, b)), refl))
 
 or_says : (words : List (List ℕ)) (command : KernelCommand) → or_of words ≡ Some command → Says (codes "or") words command
 unfolding or_of
-or_says = of_slots (codes "or") Or (λ to left right l r. ((l, r), refl))
+or_says = slots_then (λ to left right. Make to (Or left right)) (Says (codes "or")) (λ to left right d a b. ((d, (a, b)), refl))
 
 xor_says : (words : List (List ℕ)) (command : KernelCommand) → xor_of words ≡ Some command → Says (codes "xor") words command
 unfolding xor_of
-xor_says = of_slots (codes "xor") Xor (λ to left right l r. ((l, r), refl))
+xor_says = slots_then (λ to left right. Make to (Xor left right)) (Says (codes "xor")) (λ to left right d a b. ((d, (a, b)), refl))
 
 not_says : (words : List (List ℕ)) (command : KernelCommand) → not_of words ≡ Some command → Says (codes "not") words command
 unfolding not_of

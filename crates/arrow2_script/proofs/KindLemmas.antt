@@ -1,12 +1,12 @@
 -- Commands of one kind: the words that say each, and the names by which they are told apart.
-use Rattle.std.proofs.Common.{◌≡◌, subst, sym, ◌<◌, ◌^◌, ℕ, List, [], ◌∷◌, Bool, cond, inl, inr}
+use Rattle.std.proofs.Common.{◌≡◌, subst, sym, refl, ◌<◌, ◌^◌, ℕ, List, [], ◌∷◌, Bool, cond, inl, inr}
 use Rattle.std.specs.Prelude.{Option, Some}
 use Rattle.std.specs.List.{All}
 use Rattle.std.specs.Str.{bytes_eq}
 use Rattle.std.specs.Fmt.{decimal}
 use Rattle.std.proofs.lemmas.Option.{same_Some}
 use Rattle.std.proofs.lemmas.Slice.Eq.{bytes_eq-Decides}
-use Rattle.arrow2_script.specs.Arguments.{◌>>=◌, one_of, two_of, three_of, four_of, five_of, six_of}
+use Rattle.arrow2_script.specs.Arguments.{◌>>=◌, one_of, two_of, three_of, four_of, five_of, six_of, slots_of}
 use Rattle.arrow2_script.specs.declared.words.Width.{Width}
 use Rattle.arrow2_script.specs.Words.{number_of, slot_of, below_of, bit_of, bit_byte, bits_of, bits_text, numbers_of, numbers_text, width_of, width_word, bytes_of, hex_text}
 use Rattle.arrow2_script.proofs.ArgumentLemmas.{bound, one_says, two_says, three_says, four_says, five_says, six_says}
@@ -114,3 +114,19 @@ module _ {C : Type 0} where
         rw is (says p.1)
     | inr p ↦ others p.1
   ]
+
+-- three slots are spelled by their words
+abbrev AreSlots : List (List ℕ) → ℕ × ℕ × ℕ → Type 0
+AreSlots words s = ((s.0 < 16) × (s.1 < 16) × (s.2 < 16)) × (words ≡ decimal s.0 ∷ decimal s.1 ∷ decimal s.2 ∷ [])
+
+slots_say : (words : List (List ℕ)) (s : ℕ × ℕ × ℕ) → slots_of words ≡ Some s → AreSlots words s
+unfolding slots_of
+slots_say = three_then slots slots slots (λ to left right. (to, left, right)) AreSlots (λ to left right t l r. ((t, l, r), refl))
+
+-- what is known of a command of three slots, where it is known of the words that spell them
+pub slots_then : {C : Type 0} (made : ℕ → ℕ → ℕ → C) (Says : List (List ℕ) → C → Type 0) → ((to left right : ℕ) → to < 16 → left < 16 → right < 16 → Says (decimal to ∷ decimal left ∷ decimal right ∷ []) (made to left right)) → (words : List (List ℕ)) (command : C) → (slots_of words >>= λ s. Some (made s.0 s.1 s.2)) ≡ Some command → Says words command
+slots_then made Says says words command e =
+    let p = bound (slots_of words) (λ s. Some (made s.0 s.1 s.2)) command e in
+    let s = slots_say words p.0 p.1 in
+    let known = subst (λ t. Says t (made p.0.0 p.0.1 p.0.2)) (sym s.1) (says p.0.0 p.0.1 p.0.2 s.0.0 s.0.1 s.0.2) in
+    same_says (λ c. Says words c) (made p.0.0 p.0.1 p.0.2) command (same_Some _ command p.2) known

@@ -1,5 +1,6 @@
 -- The words behind a command's name.
 use Rattle.std.specs.Prelude.{ℕ, List, [], ◌∷◌, Option, Some, None}
+use Rattle.arrow2_script.specs.Words.{slot_of}
 
 infixl 10 ◌>>=◌
 -- what a value says, where there is one
@@ -47,3 +48,12 @@ six_of [] = None
 six_of (a ∷ words) = do
   others ← five_of words
   Some (a, others.0, others.1, others.2, others.3, others.4)
+
+-- just three slots
+unfoldable pub slots_of : List (List ℕ) → Option (ℕ × ℕ × ℕ)
+slots_of words = do
+  said ← three_of words
+  to ← slot_of said.0
+  left ← slot_of said.1
+  right ← slot_of said.2
+  Some (to, left, right)

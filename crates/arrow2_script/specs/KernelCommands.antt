@@ -2,21 +2,12 @@
 use Rattle.std.specs.Prelude.{◌<◌, ℕ, List, [], ◌∷◌, codes, Option, Some, None, if◌then◌else◌}
 use Rattle.std.specs.Str.{bytes_eq}
 use Rattle.std.specs.Fmt.{decimal}
-use Rattle.arrow2_script.specs.Arguments.{◌>>=◌, two_of, three_of, four_of, five_of, six_of}
+use Rattle.arrow2_script.specs.Arguments.{◌>>=◌, two_of, three_of, four_of, five_of, six_of, slots_of}
 use Rattle.arrow2_script.specs.Words.{slot_of, below_of, width_of, width_word}
 use Rattle.arrow2_script.specs.declared.kernel_command.KernelCommand.{KernelCommand}
 use Rattle.arrow2_script.specs.declared.kernel_command.KernelCommand.TheVariants.{Make, AssignUnary, AssignBinary}
 use Rattle.arrow2_script.specs.declared.kernel_command.Kernel.{Kernel}
 use Rattle.arrow2_script.specs.declared.kernel_command.Kernel.TheVariants.{And, Or, Xor, Not, Unary, Binary, Ternary, Quaternary}
-
--- just three slots
-unfoldable pub slots_of : List (List ℕ) → Option (ℕ × ℕ × ℕ)
-slots_of words = do
-  said ← three_of words
-  to ← slot_of said.0
-  left ← slot_of said.1
-  right ← slot_of said.2
-  Some (to, left, right)
 
 -- `and d a b`, after its name
 unfoldable pub and_of : List (List ℕ) → Option KernelCommand

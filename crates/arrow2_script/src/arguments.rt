@@ -1,8 +1,9 @@
 //! The words behind a command's name.
 ghost use Rattle.std.specs.Prelude.{◌≡◌, option_map};
-ghost use Rattle.arrow2_script.specs.Arguments.{one_of, two_of, three_of, four_of, five_of, six_of};
+ghost use Rattle.arrow2_script.specs.Arguments.{one_of, two_of, three_of, four_of, five_of, six_of, slots_of};
 
 use crate::lines::Parts;
+use crate::words::SlotIndex;
 
 /// The word that is left, if it is the only one.
 pub(crate) fn one<'a>(parts: Parts<'a>) -> Option<&'a [u8]>
@@ -68,4 +69,16 @@ pub(crate) fn six<'a>(
     let first = parts.next()?;
     let (second, third, fourth, fifth, sixth) = five(parts)?;
     Some((first, second, third, fourth, fifth, sixth))
+}
+
+/// The slots that are left, if they are three.
+#[tactic(auto, unfolding(crate::specs::Arguments::slots_of))]
+pub(crate) fn slots<'a>(parts: Parts<'a>) -> Option<(SlotIndex, SlotIndex, SlotIndex)>
+    ensures { result ≡ slots_of parts.entry }
+{
+    let (to, left, right) = three(parts)?;
+    let to = SlotIndex::read(to)?;
+    let left = SlotIndex::read(left)?;
+    let right = SlotIndex::read(right)?;
+    Some((to, left, right))
 }

@@ -1,8 +1,8 @@
 //! The commands that combine bitmaps by truth tables, and which one the words of a line say.
 ghost use Rattle.std.specs.Prelude.{◌≡◌};
-ghost use Rattle.arrow2_script.specs.KernelCommands.{slots_of, and_of, or_of, xor_of, not_of, table1_of, table2_of, table3_of, table4_of, inplace1_of, inplace2_of, kernel_named};
+ghost use Rattle.arrow2_script.specs.KernelCommands.{and_of, or_of, xor_of, not_of, table1_of, table2_of, table3_of, table4_of, inplace1_of, inplace2_of, kernel_named};
 
-use crate::arguments::{five, four, six, three, two};
+use crate::arguments::{five, four, six, slots, three, two};
 use crate::lines::Parts;
 use crate::words::{Below, SlotIndex, Width};
 
@@ -37,18 +37,6 @@ pub enum Kernel {
     Ternary(Below<256>, SlotIndex, SlotIndex, SlotIndex),
     /// The answers of a table of four inputs.
     Quaternary(Below<65536>, SlotIndex, SlotIndex, SlotIndex, SlotIndex),
-}
-
-/// The slots that are left, if they are three.
-#[tactic(auto, unfolding(crate::specs::KernelCommands::slots_of))]
-fn slots<'a>(parts: Parts<'a>) -> Option<(SlotIndex, SlotIndex, SlotIndex)>
-    ensures { result ≡ slots_of parts.entry }
-{
-    let (to, left, right) = three(parts)?;
-    let to = SlotIndex::read(to)?;
-    let left = SlotIndex::read(left)?;
-    let right = SlotIndex::read(right)?;
-    Some((to, left, right))
 }
 
 #[tactic(auto, unfolding(crate::specs::KernelCommands::and_of))]
