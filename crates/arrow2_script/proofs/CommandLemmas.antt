@@ -3,7 +3,7 @@ use Rattle.std.proofs.Common.{◌≡◌, ◌∙◌, sym, ap, refl, ◌<◌, ℕ,
 use Rattle.std.specs.Prelude.{Option, Some, None, option_map}
 use Rattle.std.specs.Option.{option_or}
 use Rattle.std.specs.List.{list_any, list_all}
-use Rattle.std.proofs.lemmas.Option.{same_Some, none-some}
+use Rattle.std.proofs.lemmas.Option.{none-some}
 use Rattle.arrow2_script.specs.Lines.{parts_of, words_of, is_blank}
 use Rattle.arrow2_script.specs.BitmapCommands.{bitmap_named, bitmap_words}
 use Rattle.arrow2_script.specs.OffsetCommands.{offset_named, offset_words}
@@ -25,7 +25,7 @@ use Rattle.arrow2_script.specs.declared.value_command.ValueCommand.TheVariants.{
 use Rattle.arrow2_script.specs.Commands.{named, command_of, command_in, command_words, Fits}
 use Rattle.arrow2_script.specs.declared.command.Command.{Command}
 use Rattle.arrow2_script.specs.declared.command.Command.TheVariants.{Bitmap, Offset, Value, Storage, Kernel, Growth}
-use Rattle.arrow2_script.proofs.WordLemmas.{some_or_none}
+use Rattle.arrow2_script.proofs.WordLemmas.{mapped, some_or_none}
 use Rattle.arrow2_script.proofs.SpellingLemmas.{is_word, words_there}
 use Rattle.arrow2_script.proofs.BitmapCommandLemmas.{bitmap_says, bitmap_of, bitmap_of-words, bitmap_words_pass, some_bitmap_words}
 use Rattle.arrow2_script.proofs.OffsetCommandLemmas.{offset_says, offset_of, offset_of-words, offset_words_pass, some_offset_words}
@@ -34,11 +34,6 @@ use Rattle.arrow2_script.proofs.StorageCommandLemmas.{storage_says, storage_of, 
 use Rattle.arrow2_script.proofs.KernelCommandLemmas.{kernel_says, kernel_of, kernel_of-words, kernel_words_pass, some_kernel_words}
 use Rattle.arrow2_script.proofs.GrowthCommandLemmas.{growth_says, growth_of, growth_of-words, growth_words_pass, some_growth_words}
 use Rattle.arrow2_script.proofs.KindLemmas.{same_says}
-
--- what a value was mapped from
-mapped : {A B : Type 0} (f : A → B) (o : Option A) (y : B) → option_map f o ≡ Some y → (x : A) × (o ≡ Some x) × (f x ≡ y)
-mapped f None y e = absurd (none-some y e)
-mapped f (Some x) y e = (x, refl, same_Some (f x) y e)
 
 -- a value that is one of two
 either_way : {A : Type 0} (a b : Option A) (y : A) → option_or a b ≡ Some y → (a ≡ Some y) ⊎ (b ≡ Some y)

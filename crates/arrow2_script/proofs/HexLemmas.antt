@@ -7,8 +7,7 @@ use Rattle.std.proofs.lemmas.List.Elements.{All-cons, All-nil}
 use Rattle.std.proofs.lemmas.Option.{cond_some, none-some, same_Some}
 use Rattle.std.proofs.lemmas.Slice.Eq.{bytes_eq-Decides}
 use Rattle.arrow2_script.specs.Words.{is_hex_digit, hex_value, hex_digit, bytes_said, hex_digits, hex_text, bytes_of}
-use Rattle.arrow2_script.proofs.NumberListLemmas.{other_than}
-use Rattle.arrow2_script.proofs.WordLemmas.{choice, both, some_bytes}
+use Rattle.arrow2_script.proofs.WordLemmas.{choice, both, some_bytes, other_than}
 
 -- two digits say the first byte, and those behind them the others
 pub first_byte : (digits behind rest : List ℕ) (high low h l : ℕ) → digits ≡ high ∷ behind → behind ≡ low ∷ rest → h ≡ hex_value high → l ≡ hex_value low → bytes_said digits ≡ (16 * h + l) ∷ bytes_said rest

@@ -1,6 +1,6 @@
 -- Commands of one kind: the words that say each, and the names by which they are told apart.
 use Rattle.std.proofs.Common.{◌≡◌, subst, sym, refl, ◌<◌, ◌^◌, ℕ, List, [], ◌∷◌, Bool, cond, inl, inr}
-use Rattle.std.specs.Prelude.{Option, Some}
+use Rattle.std.specs.Prelude.{Option, Some, IfSome}
 use Rattle.std.specs.List.{All}
 use Rattle.std.specs.Str.{bytes_eq}
 use Rattle.std.specs.Fmt.{decimal}
@@ -8,11 +8,11 @@ use Rattle.std.proofs.lemmas.Option.{same_Some}
 use Rattle.std.proofs.lemmas.Slice.Eq.{bytes_eq-Decides}
 use Rattle.arrow2_script.specs.Arguments.{◌>>=◌, one_of, two_of, three_of, four_of, five_of, six_of, slots_of}
 use Rattle.arrow2_script.specs.declared.words.Width.{Width}
-use Rattle.arrow2_script.specs.Words.{number_of, slot_of, below_of, bit_of, bit_byte, bits_of, bits_text, numbers_of, numbers_text, width_of, width_word, bytes_of, hex_text}
+use Rattle.arrow2_script.specs.Words.{number_of, slot_of, optional_slot_of, optional_slot_word, below_of, bit_of, bit_byte, bits_of, bits_text, numbers_of, numbers_text, width_of, width_word, bytes_of, hex_text}
 use Rattle.arrow2_script.proofs.ArgumentLemmas.{bound, one_says, two_says, three_says, four_says, five_says, six_says}
 use Rattle.arrow2_script.proofs.HexLemmas.{text-bytes_of}
 use Rattle.arrow2_script.proofs.NumberListLemmas.{text-numbers_of}
-use Rattle.arrow2_script.proofs.WordLemmas.{choice, decimal-number_of, decimal-slot_of, decimal-below_of, byte-bit_of, word-width_of, text-bits_of}
+use Rattle.arrow2_script.proofs.WordLemmas.{choice, decimal-number_of, decimal-slot_of, word-optional_slot_of, decimal-below_of, byte-bit_of, word-width_of, text-bits_of}
 
 -- how a word is read, and the one word by which each value is spelled
 pub record Reader (A : Type 0) : Type 1 where
@@ -23,6 +23,9 @@ pub record Reader (A : Type 0) : Type 1 where
 
 abbrev pub slots : Reader ℕ
 slots = record { read = slot_of; spell = decimal; Fits = λ n. n < 16; spelled = decimal-slot_of }
+
+abbrev pub optional_slots : Reader (Option ℕ)
+optional_slots = record { read = optional_slot_of; spell = optional_slot_word; Fits = λ slot. IfSome slot (λ n. n < 16); spelled = word-optional_slot_of }
 
 abbrev pub numbers : Reader ℕ
 numbers = record { read = number_of; spell = decimal; Fits = λ n. n < 2 ^ 64; spelled = decimal-number_of }

@@ -1,5 +1,5 @@
 -- Words that say lists of numbers, and the one word that says each.
-use Rattle.std.proofs.Common.{map, codes, ◌≡◌, ◌≢◌, ◌∙◌, sym, ap, refl, ◌<◌, ◌^◌, ℕ, suc, List, [], ◌∷◌, length, Bool, true, false, cond, inl, inr, arith, eqb}
+use Rattle.std.proofs.Common.{map, codes, ◌≡◌, ◌≢◌, ◌∙◌, sym, ap, refl, ◌<◌, ◌^◌, ℕ, suc, List, [], ◌∷◌, length, true, inl, inr, arith, eqb}
 use Rattle.std.specs.Prelude.{Some, None}
 use Rattle.std.specs.List.{All, list_all, join_with_byte}
 use Rattle.std.specs.Str.{bytes_eq}
@@ -14,7 +14,7 @@ use Rattle.std.proofs.lemmas.List.Splits.{join_with_byte-slice_split, length-sli
 use Rattle.arrow2_script.specs.Lines.{parts_between}
 use Rattle.arrow2_script.specs.Words.{number_of, is_number, numbers_said, numbers_text, numbers_of}
 use Rattle.arrow2_script.proofs.LineLemmas.{parts-joined, parts-last}
-use Rattle.arrow2_script.proofs.WordLemmas.{number_of-decimal, decimal-number_of, some_or_none, choice, both}
+use Rattle.arrow2_script.proofs.WordLemmas.{number_of-decimal, decimal-number_of, some_or_none, both, choice, other_than, no_dash}
 
 -- a word that is a number says the number of its digits
 pub number-said : (word : List ℕ) → is_number word ≡ true → (number_of word ≡ Some (digits_value 10 word)) × (digits_value 10 word < 2 ^ 64) × (decimal (digits_value 10 word) ≡ word)
@@ -78,13 +78,6 @@ words_free (n ∷ ns) all =
 numbers_parts : (n : ℕ) (ns : List ℕ) → All (λ m. m < 2 ^ 64) (n ∷ ns) → parts_between 44 (join_with_byte 44 (map decimal (n ∷ ns))) ≡ map decimal (n ∷ ns)
 numbers_parts n ns all = parts-joined 44 (map decimal (n ∷ ns)) (omega arith) (words_free (n ∷ ns) all)
 
--- `-` is no number's word
-no_dash : (n : ℕ) → n < 2 ^ 64 → decimal n ≡ codes "-" → ⊥
-no_dash n h e =
-    let digits : AllDigits 10 (codes "-") = rw e at (decimal_is_IsNumeral n h).0.1 in
-    let range = digit_from_value 45 digits.0 in
-    omega (arith, range.0)
-
 first_word : (a b : List ℕ) (rest others : List (List ℕ)) → a ∷ rest ≡ b ∷ others → a ≡ b
 first_word a b rest others e = cc
 
@@ -93,17 +86,6 @@ not_dash n ns all e =
     let dash : parts_between 44 (codes "-") ≡ codes "-" ∷ [] = parts-last 44 (codes "-") (All-cons (λ b. b ≢ 44) 45 [] (omega arith) (All-nil (λ b. b ≢ 44))) in
     let same : map decimal (n ∷ ns) ≡ codes "-" ∷ [] = sym (numbers_parts n ns all) ∙ ap (parts_between 44) e ∙ dash in
     no_dash n (front n ns all).0 (first_word (decimal n) (codes "-") (map decimal ns) [] same)
-
--- words that differ
-pub other_than : (a b : List ℕ) → (a ≡ b → ⊥) → bytes_eq a b ≡ false
-other_than a b never = elim (choice (bytes_eq a b) true false (bytes_eq a b) (cond_same (bytes_eq a b))) [
-  | inl p ↦ absurd (never ((bytes_eq-Decides a b).0 p.0))
-  | inr p ↦ p.0
-]
-  where
-    cond_same : (b : Bool) → cond b true false ≡ b
-    cond_same true = refl
-    cond_same false = refl
 
 pub numbers_of-text : (ns : List ℕ) → All (λ m. m < 2 ^ 64) ns → numbers_of (numbers_text ns) ≡ Some ns
 unfolding numbers_of

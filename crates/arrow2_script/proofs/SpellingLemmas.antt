@@ -1,5 +1,6 @@
 -- Words that spell numbers, slots, bits and texts of bits.
 use Rattle.std.proofs.Common.{◌≡◌, refl, ◌/◌, ◌%◌, ◌<◌, ◌≤◌, ◌^◌, ℕ, suc, List, [], ◌∷◌, length, Bool, true, false, ◌&&◌, not, arith, eqb, map, length-append}
+use Rattle.std.specs.Prelude.{Option, Some, None, IfSome}
 use Rattle.std.specs.List.{All, list_any, list_all, join_with_byte, flat_map}
 use Rattle.std.proofs.lemmas.List.Folds.{list_all-append}
 use Rattle.std.specs.Str.Parse.{AllDigits}
@@ -7,7 +8,7 @@ use Rattle.std.specs.Fmt.{decimal}
 use Rattle.std.proofs.lemmas.Str.Parse.{digit_from_value}
 use Rattle.std.proofs.lemmas.Fmt.{decimal_is_IsNumeral}
 use Rattle.arrow2_script.specs.Lines.{is_blank}
-use Rattle.arrow2_script.specs.Words.{bit_byte, bits_text, numbers_text, width_word, hex_digit, hex_digits, hex_text}
+use Rattle.arrow2_script.specs.Words.{bit_byte, bits_text, optional_slot_word, numbers_text, width_word, hex_digit, hex_digits, hex_text}
 use Rattle.arrow2_script.specs.declared.words.Width.{Width}
 use Rattle.arrow2_script.specs.declared.words.Width.TheVariants.{Bits8, Bits16, Bits32, Bits64}
 
@@ -42,6 +43,11 @@ number_word n h =
 
 pub slot_word : (n : ℕ) → n < 16 → is_word (decimal n) ≡ true
 slot_word n h = number_word n (omega arith)
+
+pub optional_slot_is_word : (slot : Option ℕ) → IfSome slot (λ n. n < 16) → is_word (optional_slot_word slot) ≡ true
+unfolding is_word
+optional_slot_is_word None fits = refl
+optional_slot_is_word (Some n) fits = slot_word n fits
 
 bits_spaceless : (items : List Bool) → list_all (λ b. not (eqb b 32)) (map bit_byte items) ≡ true
 bits_spaceless [] = refl

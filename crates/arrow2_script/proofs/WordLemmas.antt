@@ -1,19 +1,19 @@
 -- What a word says, and the one word that says it.
 use Rattle.std.proofs.Common.{map, codes, eqb, ◌≡◌, ◌∙◌, sym, ap, refl, ◌<◌, ◌≤◌, ◌^◌, ℕ, zero, suc, List, [], ◌∷◌, length, get_or, Bool, true, false, cond, ◌&&◌, ◌⊎◌, inl, inr, arith, lit<}
-use Rattle.std.specs.Prelude.{Option, Some, None, Result, Ok, Err, nat_lt}
+use Rattle.std.specs.Prelude.{Option, Some, None, option_map, IfSome, Result, Ok, Err, nat_lt}
 use Rattle.std.specs.Result.{result_ok}
 use Rattle.std.specs.Str.{bytes_eq, IsUtf8}
 use Rattle.std.specs.Str.Parse.{digits_value, AllDigits, ParsesUnsigned}
 use Rattle.std.specs.Fmt.{decimal}
 use Rattle.std.proofs.lemmas.Fmt.{decimal_is_IsNumeral, decimal-digits_value, first_decimal, decimal_digit, IsAscii-decimal}
 use Rattle.std.proofs.lemmas.Str.{IsUtf8-from_ascii}
-use Rattle.std.proofs.lemmas.Str.Parse.{numerals_by_value, tells_digits, parse_plain, IsNumeralModel}
+use Rattle.std.proofs.lemmas.Str.Parse.{numerals_by_value, tells_digits, parse_plain, IsNumeralModel, digit_from_value}
 use Rattle.std.proofs.lemmas.Slice.Eq.{bytes_eq-Decides}
 use Rattle.std.specs.List.{list_all}
 use Rattle.std.proofs.lemmas.Option.{option_and_then_some, cond_some, same_Some, none-some}
 use Rattle.arrow2_script.specs.declared.words.Width.{Width}
 use Rattle.arrow2_script.specs.declared.words.Width.TheVariants.{Bits8, Bits16, Bits32, Bits64}
-use Rattle.arrow2_script.specs.Words.{number_of, below_of, slot_of, width_word, width_of, bit_of, bits_of, bit_byte, bits_text, is_bit_byte, items_said}
+use Rattle.arrow2_script.specs.Words.{number_of, below_of, slot_of, optional_slot_word, optional_slot_of, width_word, width_of, bit_of, bits_of, bit_byte, bits_text, is_bit_byte, items_said}
 
 -- a number's own word says it
 pub number_of-decimal : (n : ℕ) → n < 2 ^ 64 → number_of (decimal n) ≡ Some n
@@ -39,6 +39,11 @@ decimal-number_of word n e =
     let fits : v < 2 ^ 64 = grind (arith, p.0) in
     let same = (bytes_eq-Decides (decimal v) word).0 p.1 in
     (rw (← p.2) fits, rw (← p.2) same)
+
+-- what a value was mapped from
+pub mapped : {A B : Type 0} (f : A → B) (o : Option A) (y : B) → option_map f o ≡ Some y → (x : A) × (o ≡ Some x) × (f x ≡ y)
+mapped f None y e = absurd (none-some y e)
+mapped f (Some x) y e = (x, refl, same_Some (f x) y e)
 
 -- a value is there, or not
 pub some_or_none : {X : Type 0} (o : Option X) → ((x : X) × (o ≡ Some x)) ⊎ (o ≡ None)
@@ -108,6 +113,47 @@ slot_of-decimal n h = below_of-decimal 16 n (omega arith) h
 pub decimal-slot_of : (word : List ℕ) (n : ℕ) → slot_of word ≡ Some n → (n < 16) × (decimal n ≡ word)
 decimal-slot_of word n e = decimal-below_of 16 word n e
 
+-- a choice between two values
+pub choice : {X : Type 0} (b : Bool) (x y z : X) → cond b x y ≡ z → ((b ≡ true) × (x ≡ z)) ⊎ ((b ≡ false) × (y ≡ z))
+choice true x y z e = inl (refl, e)
+choice false x y z e = inr (refl, e)
+
+-- words that differ
+pub other_than : (a b : List ℕ) → (a ≡ b → ⊥) → bytes_eq a b ≡ false
+other_than a b never = elim (choice (bytes_eq a b) true false (bytes_eq a b) (cond_same (bytes_eq a b))) [
+  | inl p ↦ absurd (never ((bytes_eq-Decides a b).0 p.0))
+  | inr p ↦ p.0
+]
+  where
+    cond_same : (b : Bool) → cond b true false ≡ b
+    cond_same true = refl
+    cond_same false = refl
+
+-- `-` is no number's word
+pub no_dash : (n : ℕ) → n < 2 ^ 64 → decimal n ≡ codes "-" → ⊥
+no_dash n h e =
+    let digits : AllDigits 10 (codes "-") = rw e at (decimal_is_IsNumeral n h).0.1 in
+    let range = digit_from_value 45 digits.0 in
+    omega (arith, range.0)
+
+-- the word of a slot that may be left out
+pub optional_slot_of-word : (slot : Option ℕ) → IfSome slot (λ n. n < 16) → optional_slot_of (optional_slot_word slot) ≡ Some slot
+unfolding optional_slot_of
+optional_slot_of-word None fits = refl
+optional_slot_of-word (Some n) fits = rw (other_than (decimal n) (codes "-") (no_dash n (omega (arith, fits))), slot_of-decimal n fits) refl
+
+pub word-optional_slot_of : (word : List ℕ) (slot : Option ℕ) → optional_slot_of word ≡ Some slot → IfSome slot (λ n. n < 16) × (optional_slot_word slot ≡ word)
+unfolding optional_slot_of
+word-optional_slot_of word slot e = elim (choice (bytes_eq word (codes "-")) _ _ _ e) [
+  | inl p ↦
+      let is = (bytes_eq-Decides word (codes "-")).0 p.0 in
+      let none = same_Some None slot p.1 in
+      rw (← none) (tt, sym is)
+  | inr q ↦
+      let p = mapped Some (slot_of word) slot q.1 in
+      rw (← p.2) (decimal-slot_of word p.0 p.1)
+]
+
 -- a width's word
 pub width_of-word : (width : Width) → width_of (width_word width) ≡ Some width
 unfolding width_of
@@ -121,11 +167,6 @@ pub bit_of-byte : (bit : Bool) → bit_of (bit_byte bit ∷ []) ≡ Some bit
 unfolding bit_of
 bit_of-byte true = refl
 bit_of-byte false = refl
-
--- a choice between two values
-pub choice : {X : Type 0} (b : Bool) (x y z : X) → cond b x y ≡ z → ((b ≡ true) × (x ≡ z)) ⊎ ((b ≡ false) × (y ≡ z))
-choice true x y z e = inl (refl, e)
-choice false x y z e = inr (refl, e)
 
 pub word-width_of : (word : List ℕ) (width : Width) → width_of word ≡ Some width → width_word width ≡ word
 unfolding width_of

@@ -1,5 +1,5 @@
 -- What a word says, and the word that says it.
-use Rattle.std.specs.Prelude.{ℕ, ◌+◌, ◌-◌, ◌*◌, ◌/◌, ◌%◌, ◌^◌, ◌==◌, ◌&&◌, ◌||◌, nat_lt, Bool, true, false, List, [], ◌∷◌, length, map, codes, Option, Some, None, option_and_then, is_some, if◌then◌else◌}
+use Rattle.std.specs.Prelude.{ℕ, ◌+◌, ◌-◌, ◌*◌, ◌/◌, ◌%◌, ◌^◌, ◌==◌, ◌&&◌, ◌||◌, nat_lt, Bool, true, false, List, [], ◌∷◌, length, map, codes, Option, Some, None, option_and_then, option_map, is_some, if◌then◌else◌}
 use Rattle.std.specs.List.{list_all, join_with_byte, flat_map}
 use Rattle.std.specs.Str.{bytes_eq}
 use Rattle.std.specs.Str.Parse.{digits_value}
@@ -19,6 +19,15 @@ below_of bound word = option_and_then (λ n. if nat_lt n bound then Some n else 
 -- a slot: a number below 16
 abbrev pub slot_of : List ℕ → Option ℕ
 slot_of word = below_of 16 word
+
+-- the word of a slot that may be left out: `-` for none
+abbrev pub optional_slot_word : Option ℕ → List ℕ
+optional_slot_word None = codes "-"
+optional_slot_word (Some slot) = decimal slot
+
+-- a slot, or none
+unfoldable pub optional_slot_of : List ℕ → Option (Option ℕ)
+optional_slot_of word = if bytes_eq word (codes "-") then Some None else option_map Some (slot_of word)
 
 -- how many bits a width is
 abbrev pub width_bits : Width → ℕ

@@ -1,9 +1,9 @@
 //! Laws of the script's grammar. Each function is its law and nothing else.
-ghost use Rattle.std.specs.Prelude.{◌≡◌, ◌<◌, ◌≤◌, ◌^◌, ◌∷◌, [], ◌↔◌, ℕ, List, Bool, Some, length};
+ghost use Rattle.std.specs.Prelude.{◌≡◌, ◌<◌, ◌≤◌, ◌^◌, ◌∷◌, [], ◌↔◌, ℕ, List, Bool, Option, Some, IfSome, length};
 ghost use Rattle.std.specs.Fmt.{decimal};
 ghost use Rattle.std.specs.List.{All};
 ghost use Rattle.arrow2_script.specs.Lines.{lines_of, words_of, AreLines, AreWords};
-ghost use Rattle.arrow2_script.specs.Words.{number_of, slot_of, bit_of, bits_of, bit_byte, bits_text, numbers_of, numbers_text, below_of, bytes_of, hex_text, width_of, width_word};
+ghost use Rattle.arrow2_script.specs.Words.{number_of, slot_of, optional_slot_of, optional_slot_word, bit_of, bits_of, bit_byte, bits_text, numbers_of, numbers_text, below_of, bytes_of, hex_text, width_of, width_word};
 ghost use Rattle.arrow2_script.specs.Commands.{command_in, IsSpelling};
 ghost use Rattle.arrow2_script.specs.declared.command.Command.{Command};
 ghost use Rattle.arrow2_script.specs.declared.words.Width.{Width};
@@ -19,11 +19,12 @@ pub fn words_of_a_line()
     ensures { (line : List ℕ) (words : List (List ℕ)) → 0 < length words → (words_of line ≡ words) ↔ AreWords line words }
 {}
 
-/// A word says a number, a slot, a table, a bit, a text of bits, a list of numbers, bytes or a width exactly where it is
-/// the one word that spells it.
+/// A word says a number, a slot, a slot or none, a table, a bit, a text of bits, a list of numbers, bytes or a width
+/// exactly where it is the one word that spells it.
 pub fn one_word_of_a_value()
     ensures number { (word : List ℕ) (n : ℕ) → (number_of word ≡ Some n) ↔ ((n < 2 ^ 64) × (decimal n ≡ word)) }
     ensures slot { (word : List ℕ) (n : ℕ) → (slot_of word ≡ Some n) ↔ ((n < 16) × (decimal n ≡ word)) }
+    ensures optional_slot { (word : List ℕ) (slot : Option ℕ) → (optional_slot_of word ≡ Some slot) ↔ (IfSome slot (λ n. n < 16) × (optional_slot_word slot ≡ word)) }
     ensures table { (bound : ℕ) (word : List ℕ) (n : ℕ) → bound ≤ 2 ^ 64 → (below_of bound word ≡ Some n) ↔ ((n < bound) × (decimal n ≡ word)) }
     ensures bit { (word : List ℕ) (bit : Bool) → (bit_of word ≡ Some bit) ↔ (bit_byte bit ∷ [] ≡ word) }
     ensures bits { (word : List ℕ) (items : List Bool) → (bits_of word ≡ Some items) ↔ (bits_text items ≡ word) }

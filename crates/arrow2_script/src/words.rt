@@ -1,6 +1,6 @@
 //! What a word of a line says.
 ghost use Rattle.std.specs.Prelude.{◌≡◌, ◌<◌, ◌↔◌, ◌⊎◌, List, Bool, ℕ, length, slice_index, IsTrue};
-ghost use Rattle.arrow2_script.specs.Words.{number_of, below_of, width_of, bit_of, bits_of, is_bit_byte, items_said, is_number, numbers_of, is_hex_digit, hex_value, bytes_said, bytes_of};
+ghost use Rattle.arrow2_script.specs.Words.{number_of, below_of, width_of, optional_slot_of, bit_of, bits_of, is_bit_byte, items_said, is_number, numbers_of, is_hex_digit, hex_value, bytes_said, bytes_of};
 ghost use Rattle.std.specs.Iterator.{YieldsFirst, item_count};
 ghost use Rattle.std.specs.List.{list_all};
 
@@ -82,6 +82,18 @@ impl<const BOUND: usize> Below<BOUND> {
 
 /// The place of a slot among the sixteen, the first one 0.
 pub type SlotIndex = Below<16>;
+
+/// The slot that a word says, where one may be left out: `-` for none, or the slot's place.
+#[tactic(auto, unfolding(crate::specs::Words::optional_slot_of))]
+pub fn optional_slot(word: &[u8]) -> Option<Option<SlotIndex>>
+    ensures { result ≡ optional_slot_of word.now }
+{
+    if word == b"-".as_slice() {
+        return Some(None);
+    }
+    let slot = SlotIndex::read(word)?;
+    Some(Some(slot))
+}
 
 /// How many bits a word has, as a script says it.
 #[derive(Clone, Copy, Debug, PartialEq, Eq)]
