@@ -1,5 +1,5 @@
 -- What a slot of the machine holds.
-use Rattle.std.specs.Prelude.{ℕ, Bool, List, slice_index_or, Result, Ok, Err}
+use Rattle.std.specs.Prelude.{ℕ, Bool, List, Option, slice_index_or, Result, Ok, Err}
 use Rattle.arrow2.specs.Offsets.{offsets_list}
 use Rattle.arrow2_machine.specs.declared.refusal.Refusal.{Refusal}
 use Rattle.arrow2_machine.specs.declared.refusal.Refusal.TheVariants.{Kind}
@@ -9,13 +9,15 @@ pub record Offsets : Type 0 where
   pub start : ℕ
   pub lengths : List ℕ
 
--- what a slot holds: nothing, or a list of booleans or offsets, frozen or growing
+-- what a slot holds: nothing, a list of booleans or offsets, frozen or growing, or a boolean array: its items, `None` where
+-- one is null
 pub data Held : Type 0 where
   Nothing : Held
   Frozen : List Bool → Held
   Growing : List Bool → Held
   FrozenOffsets : Offsets → Held
   GrowingOffsets : Offsets → Held
+  Array : List (Option Bool) → Held
 
 infixl 10 ◌>>=◌
 -- what a value leads to, unless it is refused
@@ -62,3 +64,8 @@ spelled_offsets _ = Err Kind
 -- the list of offsets
 abbrev pub offset_list : Offsets → List ℕ
 offset_list o = offsets_list o.start o.lengths
+
+-- the items of a boolean array
+abbrev pub array : Held → Result (List (Option Bool)) Refusal
+array (Array items) = Ok items
+array _ = Err Kind

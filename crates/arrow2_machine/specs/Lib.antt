@@ -1,3 +1,4 @@
+pub mod ArrayOutcomes
 pub mod BitmapOutcomes
 pub mod GrowthOutcomes
 pub mod Held

@@ -3,7 +3,7 @@ use Rattle.std.specs.Prelude.{ℕ, List, [], ◌∷◌, ◌++◌, replicate, Opt
 use Rattle.arrow2_script.specs.Lines.{lines_of, ended}
 use Rattle.arrow2_script.specs.Commands.{command_in}
 use Rattle.arrow2_script.specs.declared.command.Command.{Command}
-use Rattle.arrow2_script.specs.declared.command.Command.TheVariants.{Bitmap, Offset, Value, Storage, Kernel, Growth}
+use Rattle.arrow2_script.specs.declared.command.Command.TheVariants.{Bitmap, Offset, Value, Storage, Kernel, Growth, Array}
 use Rattle.arrow2_machine.specs.declared.refusal.Refusal.{Refusal}
 use Rattle.arrow2_machine.specs.declared.refusal.Refusal.TheVariants.{Syntax}
 use Rattle.arrow2_machine.specs.Held.{Held, Nothing}
@@ -14,6 +14,7 @@ use Rattle.arrow2_machine.specs.ValueOutcomes.{value_outcome}
 use Rattle.arrow2_machine.specs.StorageOutcomes.{storage_outcome}
 use Rattle.arrow2_machine.specs.KernelOutcomes.{kernel_outcome}
 use Rattle.arrow2_machine.specs.GrowthOutcomes.{growth_outcome}
+use Rattle.arrow2_machine.specs.ArrayOutcomes.{array_outcome}
 
 -- the slots after a command, and its reply, by the command's kind
 unfoldable pub outcome : List Held → Command → Result (List Held × List ℕ) Refusal
@@ -23,6 +24,7 @@ outcome slots (Value command) = value_outcome slots command
 outcome slots (Storage command) = storage_outcome slots command
 outcome slots (Kernel command) = kernel_outcome slots command
 outcome slots (Growth command) = growth_outcome slots command
+outcome slots (Array command) = array_outcome slots command
 
 -- a line that is refused changes nothing
 abbrev pub settled : List Held → Result (List Held × List ℕ) Refusal → List Held × List ℕ

@@ -1,5 +1,5 @@
 -- What the machine replies.
-use Rattle.std.specs.Prelude.{ℕ, ℤ, unsigned_abs, Bool, true, false, List, [], ◌∷◌, ◌++◌, codes, Option, Some, None, if◌then◌else◌}
+use Rattle.std.specs.Prelude.{ℕ, ℤ, unsigned_abs, Bool, true, false, List, [], ◌∷◌, ◌++◌, map, codes, Option, Some, None, if◌then◌else◌}
 use Rattle.std.specs.List.{join_with_byte}
 use Rattle.std.specs.Fmt.{decimal}
 use Rattle.arrow2_script.specs.Words.{bit_byte}
@@ -41,3 +41,13 @@ run_word run = decimal run.0 ++ 58 ∷ decimal run.1
 abbrev pub offset_said : Option ℤ → List ℕ
 offset_said None = codes "none"
 offset_said (Some offset) = decimal (unsigned_abs offset)
+
+-- the byte of an item of a boolean array: `n` where it is null
+abbrev pub array_byte : Option Bool → ℕ
+array_byte None = 110
+array_byte (Some item) = bit_byte item
+
+-- the text of a boolean array: `-` where it is empty, else a byte for each item, the first item first
+abbrev pub array_items_text : List (Option Bool) → List ℕ
+array_items_text [] = codes "-"
+array_items_text (item ∷ items) = map array_byte (item ∷ items)

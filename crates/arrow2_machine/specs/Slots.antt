@@ -5,12 +5,13 @@ use Rattle.arrow2.specs.Storage.{items_of}
 use Rattle.arrow2_machine.specs.Held.{Held}
 use Rattle.arrow2_machine.specs.Held as machine
 use Rattle.arrow2_machine.specs.declared.slot.Contents.{Contents}
-use Rattle.arrow2_machine.specs.declared.slot.Contents.TheVariants.{Nothing, Frozen, Growing, FrozenOffsets, GrowingOffsets}
+use Rattle.arrow2_machine.specs.declared.slot.Contents.TheVariants.{Nothing, Frozen, Growing, FrozenOffsets, GrowingOffsets, Array}
 
--- a bitmap is its list, and offsets are their first one and their lengths
+-- a bitmap and a boolean array are their lists, and offsets are their first one and their lengths
 abbrev pub held_in : Contents → Held
 held_in Nothing = machine.Nothing
 held_in (Frozen bitmap) = machine.Frozen (items_of bitmap)
 held_in (Growing bitmap) = machine.Growing bitmap.items
 held_in (FrozenOffsets offsets) = machine.FrozenOffsets (record { start = start_of (buffer_items offsets); lengths = lengths_of (buffer_items offsets) })
 held_in (GrowingOffsets offsets) = machine.GrowingOffsets (record { start = offsets.start; lengths = offsets.lengths })
+held_in (Array array) = machine.Array array

@@ -7,15 +7,16 @@ use Rattle.arrow2_script.specs.declared.value_command.ValueCommand.{ValueCommand
 use Rattle.arrow2_script.specs.declared.value_command.ValueCommand.TheVariants.{Copy, Compare}
 use Rattle.arrow2_machine.specs.declared.refusal.Refusal.{Refusal}
 use Rattle.arrow2_machine.specs.declared.refusal.Refusal.TheVariants.{Kind}
-use Rattle.arrow2_machine.specs.Held.{Held, Frozen, Growing, FrozenOffsets, GrowingOffsets, ◌>>=◌, at, offset_list}
+use Rattle.arrow2_machine.specs.Held.{Held, Frozen, Growing, FrozenOffsets, GrowingOffsets, Array, ◌>>=◌, at, offset_list}
 
--- what a copy of a slot holds: the same, where it is frozen
+-- what a copy of a slot holds: the same, where it is frozen or a boolean array
 abbrev pub copied : Held → Result Held Refusal
 copied (Frozen items) = Ok (Frozen items)
 copied (FrozenOffsets o) = Ok (FrozenOffsets o)
+copied (Array items) = Ok (Array items)
 copied _ = Err Kind
 
--- whether two slots that hold one kind hold the same list
+-- whether two slots that hold one kind hold the same list: boolean arrays are not compared
 abbrev pub compared : Held → Held → Result Bool Refusal
 compared (Frozen a) (Frozen b) = Ok (pointwise beq a b)
 compared (Growing a) (Growing b) = Ok (pointwise beq a b)

@@ -93,7 +93,7 @@ fn made(slots: &[Slot; 16], kernel: Kernel) -> Result<Bitmap, CommandError>
 /// # Errors
 ///
 /// `Kind`, or else `Length`.
-fn two(
+pub(crate) fn two(
     slots: &[Slot; 16],
     first: SlotIndex,
     second: SlotIndex,

@@ -1,6 +1,7 @@
 //! The machine of a script: sixteen slots, what each line does to them, and a whole replay.
 #![tactic(auto)]
 
+mod arrays;
 mod bitmaps;
 mod growth;
 mod kernels;

@@ -8,7 +8,7 @@ ghost use Rattle.arrow2_machine.specs.Outcomes.{Fails};
 use crate::refusal::CommandError::Refused;
 use crate::refusal::{CommandError, Refusal};
 use crate::slot::Slot;
-use crate::{bitmaps, growth, kernels, offsets, storage, values};
+use crate::{arrays, bitmaps, growth, kernels, offsets, storage, values};
 use arrow2_script::command::{Command, parse};
 use std::alloc::{AllocError, Global};
 use std::array;
@@ -58,6 +58,7 @@ impl Machine {
             Command::Storage(command) => storage::run(&mut self.slots, alloc, command, reply),
             Command::Kernel(command) => kernels::run(&mut self.slots, command, reply),
             Command::Growth(command) => growth::run(&mut self.slots, command, reply),
+            Command::Array(command) => arrays::run(&mut self.slots, command, reply),
         }
     }
 

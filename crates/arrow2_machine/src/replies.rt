@@ -4,9 +4,10 @@ ghost use Rattle.std.specs.Fmt.{decimal};
 ghost use Rattle.std.specs.List.{zip};
 ghost use Rattle.arrow2.specs.Words.{words};
 ghost use Rattle.arrow2_script.specs.Words.{bit_byte as byte_of, bits_text};
-ghost use Rattle.arrow2_machine.specs.Replies.{item_said, listed_word, offset_said, run_word, slot_word, words_text};
+ghost use Rattle.arrow2_machine.specs.Replies.{array_byte as array_byte_of, array_items_text, item_said, listed_word, offset_said, run_word, slot_word, words_text};
 
 use crate::refusal::CommandError;
+use arrow2::array::BooleanIter;
 use arrow2::bitmap::utils::{BitChunk, BitChunks, BitmapIter, SlicesIterator};
 use arrow2::offset::Lengths;
 use std::alloc::AllocError;
@@ -191,6 +192,31 @@ pub(crate) fn write_runs(runs: SlicesIterator<'_>, out: &mut Vec<u8>) -> Result<
     while let Some((start, length)) = runs.next_run() {
         out.push(b' ')?;
         write_run(start, length, out)?;
+    }
+    Ok(())
+}
+
+/// The byte of an item in the text of a boolean array.
+fn array_byte(item: Option<bool>) -> u8
+    ensures { result ≡ array_byte_of item }
+{
+    match item {
+        Some(item) => bit_byte(item),
+        None => b'n',
+    }
+}
+
+/// Appends the text of a boolean array's items.
+pub(crate) fn write_array_items(items: BooleanIter<'_>, out: &mut Vec<u8>) -> Result<(), AllocError>
+    ensures { OnOk result (out.new.items ≡ out.old.items ++ array_items_text items.entry) }
+{
+    let mut items = items;
+    let Some(first) = items.next() else {
+        return out.extend_from_slice(b"-");
+    };
+    out.push(array_byte(first))?;
+    for item in items {
+        out.push(array_byte(item))?;
     }
     Ok(())
 }

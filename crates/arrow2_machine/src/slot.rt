@@ -2,6 +2,7 @@
 ghost use Rattle.std.specs.Prelude.{◌≡◌};
 ghost use Rattle.arrow2_machine.specs.Held.{Nothing};
 
+use arrow2::array::BooleanArray;
 use arrow2::bitmap::{Bitmap, MutableBitmap};
 use arrow2::offset::{Offsets, OffsetsBuffer};
 use std::marker::Model;
@@ -19,6 +20,8 @@ pub(crate) enum Contents {
     FrozenOffsets(OffsetsBuffer<i32>),
     /// Offsets that grow.
     GrowingOffsets(Offsets<i32>),
+    /// A boolean array, which is shared and sliced.
+    Array(BooleanArray),
 }
 
 /// A slot, which contracts see as what it holds in the machine of lists.

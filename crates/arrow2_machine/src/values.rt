@@ -33,7 +33,7 @@ pub(crate) fn run(
 }
 
 impl Slot {
-    /// A slot with the same frozen value.
+    /// A slot with the same frozen bitmap, frozen offsets or boolean array.
     ///
     /// # Errors
     ///
@@ -44,6 +44,7 @@ impl Slot {
         let contents = match &self.contents {
             Contents::Frozen(bitmap) => Contents::Frozen(bitmap.clone()?),
             Contents::FrozenOffsets(offsets) => Contents::FrozenOffsets(offsets.clone()?),
+            Contents::Array(array) => Contents::Array(array.clone()?),
             _ => return Err(Refused(Refusal::Kind)),
         };
         Ok(Slot { contents })
@@ -53,7 +54,7 @@ impl Slot {
     ///
     /// # Errors
     ///
-    /// `Kind` alone, where they hold different kinds or nothing.
+    /// `Kind` alone, where they hold different kinds, boolean arrays or nothing.
     pub fn compare(&self, other: &Slot) -> Result<bool, CommandError>
         ensures gives { Gives (λ same. same) result (compared self.now other.now) }
         ensures only { IfErr result (λ e. e ≢ CommandError.OutOfMemory) }

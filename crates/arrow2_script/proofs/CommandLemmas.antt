@@ -11,6 +11,9 @@ use Rattle.arrow2_script.specs.ValueCommands.{value_named, value_words}
 use Rattle.arrow2_script.specs.StorageCommands.{storage_named, storage_words}
 use Rattle.arrow2_script.specs.KernelCommands.{kernel_named, kernel_words}
 use Rattle.arrow2_script.specs.GrowthCommands.{growth_named, growth_words}
+use Rattle.arrow2_script.specs.ArrayCommands.{array_named, array_words}
+use Rattle.arrow2_script.specs.declared.array_command.ArrayCommand.{ArrayCommand}
+use Rattle.arrow2_script.specs.declared.array_command.ArrayCommand.TheVariants as Arrays
 use Rattle.arrow2_script.specs.declared.growth_command.GrowthCommand.{GrowthCommand}
 use Rattle.arrow2_script.specs.declared.growth_command.GrowthCommand.TheVariants.{Fill, Append}
 use Rattle.arrow2_script.specs.declared.storage_command.StorageCommand.{StorageCommand}
@@ -24,7 +27,7 @@ use Rattle.arrow2_script.specs.declared.value_command.ValueCommand.{ValueCommand
 use Rattle.arrow2_script.specs.declared.value_command.ValueCommand.TheVariants.{Copy, Compare}
 use Rattle.arrow2_script.specs.Commands.{named, command_of, command_in, command_words, Fits}
 use Rattle.arrow2_script.specs.declared.command.Command.{Command}
-use Rattle.arrow2_script.specs.declared.command.Command.TheVariants.{Bitmap, Offset, Value, Storage, Kernel, Growth}
+use Rattle.arrow2_script.specs.declared.command.Command.TheVariants.{Bitmap, Offset, Value, Storage, Kernel, Growth, Array}
 use Rattle.arrow2_script.proofs.WordLemmas.{mapped, some_or_none}
 use Rattle.arrow2_script.proofs.SpellingLemmas.{is_word, words_there}
 use Rattle.arrow2_script.proofs.BitmapCommandLemmas.{bitmap_says, bitmap_of, bitmap_of-words, bitmap_words_pass, some_bitmap_words}
@@ -33,6 +36,7 @@ use Rattle.arrow2_script.proofs.ValueCommandLemmas.{value_says, value_of, value_
 use Rattle.arrow2_script.proofs.StorageCommandLemmas.{storage_says, storage_of, storage_of-words, storage_words_pass, some_storage_words}
 use Rattle.arrow2_script.proofs.KernelCommandLemmas.{kernel_says, kernel_of, kernel_of-words, kernel_words_pass, some_kernel_words}
 use Rattle.arrow2_script.proofs.GrowthCommandLemmas.{growth_says, growth_of, growth_of-words, growth_words_pass, some_growth_words}
+use Rattle.arrow2_script.proofs.ArrayCommandLemmas.{array_says, array_of, array_of-words, array_words_pass, some_array_words}
 use Rattle.arrow2_script.proofs.KindLemmas.{same_says}
 
 -- a value that is one of two
@@ -52,7 +56,8 @@ named_says name words command =
     of_kind Value (value_named name words) (value_says name words) _ (
     of_kind Storage (storage_named name words) (storage_says name words) _ (
     of_kind Kernel (kernel_named name words) (kernel_says name words) _ (
-    only_kind Growth (growth_named name words) (growth_says name words))))))
+    of_kind Growth (growth_named name words) (growth_says name words) _ (
+    only_kind Array (array_named name words) (array_says name words)))))))
   where
     only_kind : {K : Type 0} (kind : K → Command) (read : Option K) → ((c : K) → read ≡ Some c → Says name words (kind c)) → option_map kind read ≡ Some command → Says name words command
     only_kind kind read says e =
@@ -121,8 +126,17 @@ unfolding bitmap_named offset_named value_named storage_named kernel_named
 growth_no_other (Fill slot additional bit) = ((refl, refl, refl, refl), refl)
 growth_no_other (Append to from) = ((refl, refl, refl, refl), refl)
 
+array_no_other : (command : ArrayCommand) → NoOther (array_words command) × (kernel_of (array_words command) ≡ None) × (growth_of (array_words command) ≡ None)
+unfolding bitmap_named offset_named value_named storage_named kernel_named growth_named
+array_no_other (Arrays.New to values validity) = ((refl, refl, refl, refl), refl, refl)
+array_no_other (Arrays.List slot) = ((refl, refl, refl, refl), refl, refl)
+array_no_other (Arrays.Nulls slot) = ((refl, refl, refl, refl), refl, refl)
+array_no_other (Arrays.Slice slot offset length) = ((refl, refl, refl, refl), refl, refl)
+array_no_other (Arrays.And to left right) = ((refl, refl, refl, refl), refl, refl)
+array_no_other (Arrays.Or to left right) = ((refl, refl, refl, refl), refl, refl)
+
 -- words that are there, read by kind
-by_kind : (words : List (List ℕ)) → 0 < length words → command_of words ≡ option_or (option_map Bitmap (bitmap_of words)) (option_or (option_map Offset (offset_of words)) (option_or (option_map Value (value_of words)) (option_or (option_map Storage (storage_of words)) (option_or (option_map Kernel (kernel_of words)) (option_map Growth (growth_of words))))))
+by_kind : (words : List (List ℕ)) → 0 < length words → command_of words ≡ option_or (option_map Bitmap (bitmap_of words)) (option_or (option_map Offset (offset_of words)) (option_or (option_map Value (value_of words)) (option_or (option_map Storage (storage_of words)) (option_or (option_map Kernel (kernel_of words)) (option_or (option_map Growth (growth_of words)) (option_map Array (array_of words)))))))
 unfolding command_of named
 by_kind [] some = absurd (omega arith)
 by_kind (name ∷ words) some = refl
@@ -135,6 +149,7 @@ some_words (Value command) = some_value_words command
 some_words (Storage command) = some_storage_words command
 some_words (Kernel command) = some_kernel_words command
 some_words (Growth command) = some_growth_words command
+some_words (Array command) = some_array_words command
 
 -- the words of a command say it
 pub command_of-words : (command : Command) → Fits command → command_of (command_words command) ≡ Some command
@@ -150,6 +165,9 @@ command_of-words (Kernel command) fits =
 command_of-words (Growth command) fits =
     let no = growth_no_other command in
     rw (by_kind (growth_words command) (some_growth_words command), no.0.0, no.0.1, no.0.2, no.0.3, no.1, growth_of-words command fits) refl
+command_of-words (Array command) fits =
+    let no = array_no_other command in
+    rw (by_kind (array_words command) (some_array_words command), no.0.0, no.0.1, no.0.2, no.0.3, no.1, no.2, array_of-words command fits) refl
 
 -- they are words
 pub command_words_pass : (command : Command) → Fits command → list_all is_word (command_words command) ≡ true
@@ -159,6 +177,7 @@ command_words_pass (Value command) fits = value_words_pass command fits
 command_words_pass (Storage command) fits = storage_words_pass command fits
 command_words_pass (Kernel command) fits = kernel_words_pass command fits
 command_words_pass (Growth command) fits = growth_words_pass command fits
+command_words_pass (Array command) fits = array_words_pass command fits
 
 -- parts of which one is blank say no command
 blank_says_none : (parts : List (List ℕ)) → list_any is_blank parts ≡ true → command_of parts ≡ None

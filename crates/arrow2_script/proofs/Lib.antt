@@ -1,4 +1,5 @@
 pub mod ArgumentLemmas
+pub mod ArrayCommandLemmas
 pub mod BitmapCommandLemmas
 pub mod CommandLemmas
 pub mod GrowthCommandLemmas

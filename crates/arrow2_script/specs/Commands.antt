@@ -9,8 +9,9 @@ use Rattle.arrow2_script.specs.ValueCommands.{value_named, value_words, ValueFit
 use Rattle.arrow2_script.specs.StorageCommands.{storage_named, storage_words, StorageFits}
 use Rattle.arrow2_script.specs.KernelCommands.{kernel_named, kernel_words, KernelFits}
 use Rattle.arrow2_script.specs.GrowthCommands.{growth_named, growth_words, GrowthFits}
+use Rattle.arrow2_script.specs.ArrayCommands.{array_named, array_words, ArrayFits}
 use Rattle.arrow2_script.specs.declared.command.Command.{Command}
-use Rattle.arrow2_script.specs.declared.command.Command.TheVariants.{Bitmap, Offset, Value, Storage, Kernel, Growth}
+use Rattle.arrow2_script.specs.declared.command.Command.TheVariants.{Bitmap, Offset, Value, Storage, Kernel, Growth, Array}
 
 -- the command that the words after a name say, of whichever kind
 unfoldable pub named : List ℕ → List (List ℕ) → Option Command
@@ -20,7 +21,8 @@ named name words =
     option_or (option_map Value (value_named name words)) (
     option_or (option_map Storage (storage_named name words)) (
     option_or (option_map Kernel (kernel_named name words)) (
-    option_map Growth (growth_named name words))))))
+    option_or (option_map Growth (growth_named name words)) (
+    option_map Array (array_named name words)))))))
 
 -- the command that words say
 unfoldable pub command_of : List (List ℕ) → Option Command
@@ -39,6 +41,7 @@ command_words (Value command) = value_words command
 command_words (Storage command) = storage_words command
 command_words (Kernel command) = kernel_words command
 command_words (Growth command) = growth_words command
+command_words (Array command) = array_words command
 
 -- slots are below 16, and numbers fit 64 bits
 abbrev pub Fits : Command → Type 0
@@ -48,6 +51,7 @@ Fits (Value command) = ValueFits command
 Fits (Storage command) = StorageFits command
 Fits (Kernel command) = KernelFits command
 Fits (Growth command) = GrowthFits command
+Fits (Array command) = ArrayFits command
 
 -- the line is the command: its words, joined by one byte 32
 abbrev pub IsSpelling : List ℕ → Command → Type 0

@@ -1,4 +1,5 @@
 pub mod Arguments
+pub mod ArrayCommands
 pub mod BitmapCommands
 pub mod Commands
 pub mod GrowthCommands

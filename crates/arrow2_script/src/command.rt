@@ -2,6 +2,7 @@
 ghost use Rattle.std.specs.Prelude.{◌≡◌};
 ghost use Rattle.arrow2_script.specs.Commands.{named, command_in};
 
+use crate::array_command::ArrayCommand;
 use crate::bitmap_command::BitmapCommand;
 use crate::growth_command::GrowthCommand;
 use crate::kernel_command::KernelCommand;
@@ -25,6 +26,8 @@ pub enum Command<'a> {
     Kernel(KernelCommand),
     /// A command by which a bitmap grows by many items.
     Growth(GrowthCommand),
+    /// A command on boolean arrays.
+    Array(ArrayCommand),
 }
 
 /// The command of this name, with these words behind it.
@@ -47,8 +50,11 @@ fn read_named<'a>(name: &[u8], parts: Parts<'a>) -> Option<Command<'a>>
     if let Some(command) = KernelCommand::read(name, parts.again()) {
         return Some(Command::Kernel(command));
     }
-    let command = GrowthCommand::read(name, parts)?;
-    Some(Command::Growth(command))
+    if let Some(command) = GrowthCommand::read(name, parts.again()) {
+        return Some(Command::Growth(command));
+    }
+    let command = ArrayCommand::read(name, parts)?;
+    Some(Command::Array(command))
 }
 
 /// The command that a line says, if it says one.

@@ -2,6 +2,7 @@
 #![tactic(auto)]
 
 mod arguments;
+pub mod array_command;
 pub mod bitmap_command;
 pub mod command;
 pub mod growth_command;

@@ -9,7 +9,7 @@ use crate::words::SlotIndex;
 /// A command on values of any kind.
 #[derive(Drop)]
 pub enum ValueCommand {
-    /// `copy s d`: slot d holds the same frozen value as slot s.
+    /// `copy s d`: slot d holds the same frozen bitmap, frozen offsets or boolean array as slot s.
     Copy(SlotIndex, SlotIndex),
     /// `eq a b`: whether slots a and b hold the same list.
     Compare(SlotIndex, SlotIndex),
