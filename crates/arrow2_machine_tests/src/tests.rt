@@ -242,6 +242,38 @@ fn scripts_of_growth(rt: HostRuntime) -> Result<(), Fail> {
 }
 
 #[test]
+fn scripts_of_arrays(rt: HostRuntime) -> Result<(), Fail> {
+    let rows: [(&[u8], &[u8]); 5] = [
+        (
+            b"new 0 0011\nfreeze 0\nnew 1 0101\nfreeze 1\nanew 2 0 1\nalist 2\nanew 3 0 -\naand 4 2 3\nalist 4\naor 5 2 3\nalist 5\nanulls 2\naslice 2 1 2\nalist 2\naand 6 2 3\naslice 2 1 2\nbits 2\ncopy 2 7\nalist 7\neq 2 7\n",
+            b"ok\nok\nok\nok\nok\nn0n1\nok\nok\n00n1\nok\nn011\n2\nok\n0n\nerror length\nerror range\nerror kind\nok\n0n\nerror kind\n",
+        ),
+        (
+            b"new 0 0000111100001111\nnew 1 1111111100000000\nnew 2 0101010101010101\nnew 3 1100110011001100\nfreeze 0\nfreeze 1\nfreeze 2\nfreeze 3\nanew 4 0 1\nanew 5 2 3\naand 6 4 5\naor 7 4 5\nalist 6\nalist 7\nanulls 6\nanulls 7\n",
+            b"ok\nok\nok\nok\nok\nok\nok\nok\nok\nok\nok\nok\n000001nn0nnn0nnn\n01nn1111n1nnn1nn\n8\n8\n",
+        ),
+        (
+            b"raw 0 b65b 3 10\nraw 1 aa55 4 10\nanew 2 0 1\nalist 2\nanulls 2\ncopy 2 3\naslice 2 3 5\nalist 2\nanulls 2\naslice 2 4 1\nalist 2\nalist 3\nbits 0\nanew 0 0 1\nalist 0\naand 3 3 0\nalist 3\n",
+            b"ok\nok\nok\nn1n01n1n1n\n5\nok\nok\n01n1n\n2\nok\nn\nn1n01n1n1n\n0110111011\nok\nn1n01n1n1n\nok\nn1n01n1n1n\n",
+        ),
+        (
+            b"alist 0\nanulls 0\naslice 0 9 9\nanew 0 0 -\naand 0 0 0\nnew 0 01\nanew 1 0 -\nfreeze 0\nnew 1 1\nanew 2 0 1\nfreeze 1\nanew 2 0 1\nalist 2\nanew 0 0 0\nalist 0\nbits 0\nanew 2 0 -\naor 2 0 1\nfreeze 0\nthaw 0\neq 0 0\nanew 2 1 -\naor 3 0 2\nalist 3\naslice 0 0 3\naslice 0 18446744073709551615 18446744073709551615\naslice 0 2 0\nalist 0\nanulls 0\naor 0 0 0\nalist 0\n",
+            b"error kind\nerror kind\nerror kind\nerror kind\nerror kind\nok\nerror kind\nok\nok\nerror kind\nok\nerror length\nerror kind\nok\nn1\nerror kind\nerror kind\nerror kind\nerror kind\nerror kind\nerror kind\nok\nerror length\nerror kind\nerror range\nerror range\nok\n-\n0\nok\n-\n",
+        ),
+        (
+            b"anew 0 0\nanew 0 0 16\nanew 0 - 0\nanew - 0 0\nanew 0 0 --\nanew 0 0 - -\nalist\nalist 16\nalist 0 0\nanulls -\nanulls 0 0\naslice 0 1\naslice 0 -1 1\naslice 0 0 01\naand 0 1\naand 0 0 -\naor 0 0 16\naor 0 0 0 0\naxor 0 0 0\nalist 0\n",
+            b"error syntax\nerror syntax\nerror syntax\nerror syntax\nerror syntax\nerror syntax\nerror syntax\nerror syntax\nerror syntax\nerror syntax\nerror syntax\nerror syntax\nerror syntax\nerror syntax\nerror syntax\nerror syntax\nerror syntax\nerror syntax\nerror syntax\nerror kind\n",
+        ),
+    ];
+    for (script, replies) in rows {
+        let (out, result) = told(rt.alloc(), script, Vec::new(rt.alloc()));
+        assert_eq!(&rt; result, Ok(()));
+        assert_eq!(&rt; out.as_slice(), replies);
+    }
+    Ok(())
+}
+
+#[test]
 fn long_line(rt: HostRuntime) -> Result<(), Fail> {
     let script = repeated(rt.alloc(), b'x', 1_000_000)?;
     let (out, result) = told(rt.alloc(), script.as_slice(), Vec::new(rt.alloc()));
