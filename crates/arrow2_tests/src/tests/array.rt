@@ -43,9 +43,19 @@ fn nulls_are_booleans_that_are_not_known(rt: HostRuntime) {
     let left = array_of(&rt, alloc, [0b10101010; 2], [0b11001100; 2]);
     let right = array_of(&rt, alloc, [0b11110000; 2], [0, 0b11111111]);
     let both = left.and_kleene(&right).expect(&rt, "no memory");
-    has_items(&rt, alloc, &both, &[n, n, f, n, n, n, f, n, f, f, f, f, n, n, f, t]);
+    has_items(
+        &rt,
+        alloc,
+        &both,
+        &[n, n, f, n, n, n, f, n, f, f, f, f, n, n, f, t],
+    );
     let one = left.or_kleene(&right).expect(&rt, "no memory");
-    has_items(&rt, alloc, &one, &[n, n, n, t, n, n, n, t, n, n, f, t, t, t, t, t]);
+    has_items(
+        &rt,
+        alloc,
+        &one,
+        &[n, n, n, t, n, n, n, t, n, n, f, t, t, t, t, t],
+    );
 }
 
 #[test]
