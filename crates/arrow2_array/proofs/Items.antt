@@ -8,6 +8,7 @@ use Rattle.std.proofs.lemmas.List.Sums.{sum_by-cons}
 use Rattle.arrow2_model.specs.Parts.{part, falses}
 use Rattle.arrow2_model.specs.Storage.{BitmapStorage, items_of}
 use Rattle.arrow2_model.specs.Zipped.{slot, zipped}
+use Rattle.arrow2_model.proofs.Offsets.{part-map}
 use Rattle.arrow2_array.specs.Items.{array_items, validity_items, nulls}
 
 -- ---- values beside their validity
@@ -38,26 +39,10 @@ drop-zipped (x ∷ xs) (v ∷ vs) (suc n) e = drop-zipped xs vs n (omega (arith,
 part-zipped : (xs vs : List Bool) (a n : ℕ) → length vs ≡ length xs → part (zipped xs vs) a n ≡ zipped (part xs a n) (part vs a n)
 part-zipped xs vs a n e = ap (take n) (drop-zipped xs vs a e) ∙ take-zipped (drop a xs) (drop a vs) n
 
-take-some : (xs : List Bool) (n : ℕ) → take n (map (λ x. Some x) xs) ≡ map (λ x. Some x) (take n xs)
-take-some xs zero = refl
-take-some [] (suc n) = refl
-take-some (x ∷ xs) (suc n) = ap (λ l. Some x ∷ l) (take-some xs n)
-
-drop-some : (xs : List Bool) (n : ℕ) → drop n (map (λ x. Some x) xs) ≡ map (λ x. Some x) (drop n xs)
-drop-some xs zero = refl
-drop-some [] (suc n) = refl
-drop-some (x ∷ xs) (suc n) = drop-some xs n
-
 -- where all are valid none is null
 pub zipped-set : (xs : List Bool) → zipped xs (replicate (length xs) true) ≡ map (λ x. Some x) xs
 zipped-set [] = refl
 zipped-set (x ∷ xs) = ap (λ l. Some x ∷ l) (zipped-set xs)
-
--- and none is false
-pub all_set : (vs : List Bool) → falses vs ≡ 0 → vs ≡ replicate (length vs) true
-all_set [] e = refl
-all_set (true ∷ vs) e = let s = sum_by-cons (λ v. cond (not v) 1 0) true vs in ap (λ l. true ∷ l) (all_set vs (omega (arith, s, e)))
-all_set (false ∷ vs) e = let s = sum_by-cons (λ v. cond (not v) 1 0) false vs in absurd (omega (arith, s, e))
 
 nulls-zipped : (xs vs : List Bool) → length vs ≡ length xs → nulls (zipped xs vs) ≡ falses vs
 nulls-zipped [] [] e = refl
@@ -99,9 +84,6 @@ as_zipped values (Some validity) = refl
 pub length-array : (values : BitmapStorage) (validity : Option BitmapStorage) → Fits values validity → length (array_items values validity) ≡ length (items_of values)
 length-array values validity h = ap length (as_zipped values validity) ∙ length-zipped (items_of values) _ (length-validity values validity h)
 
-pub get_or-array : (values : BitmapStorage) (validity : Option BitmapStorage) (k : ℕ) → Fits values validity → k < length (items_of values) → get_or (array_items values validity) k None ≡ slot (get_or (items_of values) k false) (get_or (validity_items (items_of values) validity) k false)
-get_or-array values validity k h below = ap (λ (l : List (Option Bool)). get_or l k None) (as_zipped values validity) ∙ get_or-zipped (items_of values) _ k (length-validity values validity h) below
-
 -- an item by its value and whether it is valid
 pub valid_item : (values validity : BitmapStorage) (k : ℕ) (value valid : Bool) → length (items_of validity) ≡ length (items_of values) → k < length (items_of values) → value ≡ get_or (items_of values) k false → valid ≡ get_or (items_of validity) k false
     → then_some valid value ≡ get_or (array_items values (Some validity)) k None
@@ -114,7 +96,7 @@ valid_item values validity k value valid e h is-value is-valid =
 
 -- a part of an array is its parts, side by side
 pub part-plain : (values values' : BitmapStorage) (a n : ℕ) → items_of values' ≡ part (items_of values) a n → array_items values' None ≡ part (array_items values None) a n
-part-plain values values' a n e = ap (map (λ x. Some x)) e ∙ sym (ap (take n) (drop-some (items_of values) a) ∙ take-some (drop a (items_of values)) n)
+part-plain values values' a n e = ap (map (λ x. Some x)) e ∙ sym (part-map (λ x. Some x) (items_of values) a n)
 
 pub part-valid : (values values' v v' : BitmapStorage) (a n : ℕ) → length (items_of v) ≡ length (items_of values) → items_of values' ≡ part (items_of values) a n → items_of v' ≡ part (items_of v) a n → array_items values' (Some v') ≡ part (array_items values (Some v)) a n
 part-valid values values' v v' a n h e f = ap (λ l. zipped l (items_of v')) e ∙ (ap (zipped (part (items_of values) a n)) f ∙ sym (part-zipped (items_of values) (items_of v) a n h))

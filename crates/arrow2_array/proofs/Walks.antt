@@ -10,8 +10,9 @@ use Rattle.arrow2_walks.specs.declared.zip_validity.ZipValidity.{ZipValidity}
 use Rattle.arrow2_walks.specs.declared.zip_validity.ZipValidity.TheVariants.{Required, Optional}
 use Rattle.arrow2_walks.specs.Zips.{values_of, validity_of, MatchZip, IsRequiredAnd, IsOptionalAnd, HasEqualLengths, either_values}
 use Rattle.arrow2_walks.specs.Slots.{slots_of}
+use Rattle.arrow2_model.proofs.Counts.{falses-none}
 use Rattle.arrow2_array.specs.Items.{array_items}
-use Rattle.arrow2_array.proofs.Items.{length-zipped, all_set, zipped-set}
+use Rattle.arrow2_array.proofs.Items.{length-zipped, zipped-set}
 
 -- the two lists that are walked have one length, and their slots are these items
 abbrev pub Walks : ZipValidity (List Bool) (List Bool) → List (Option Bool) → Type 0
@@ -33,7 +34,7 @@ by_count : (values validity : BitmapStorage) (walk : ZipValidity (List Bool) (Li
     → Walks walk (zipped (items_of values) (items_of validity))
 by_count values validity walk zero is e all some =
     let w = without values walk (all is) in
-    let set = all_set (items_of validity) is in
+    let set = falses-none (items_of validity) is in
     (w.0, w.1 ∙ (sym (zipped-set (items_of values)) ∙ ap (zipped (items_of values)) (sym (set ∙ ap (λ n. replicate n true) e))))
 by_count values validity walk (suc n) is e all some = with_some values validity walk e (some (omega (arith, is)))
 
