@@ -1,5 +1,6 @@
 pub mod Tables
 pub mod Counted
+pub mod LaneCounts
 pub mod Lending
 pub mod Loaded
 pub mod NextChunk

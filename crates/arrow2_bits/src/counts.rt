@@ -6,7 +6,9 @@ ghost use Rattle.arrow2_model.specs.Touched.{touched, slice_reads};
 
 use crate::bytes::Stored;
 use crate::counter::Reads;
+use crate::lanes::ones_of;
 use arrow2_chunk::bit_chunk::BitChunk;
+use std::simd::prelude::*;
 
 /// How many of the `len` bits from bit `offset` on are not set.
 /// Asks that they are inside the bytes, or that `len` is 0.
@@ -110,7 +112,8 @@ fn zeros_in_byte(stored: &mut Stored<'_>, at: usize, start: usize, len: usize) -
     len - shown.count_ones() as usize
 }
 
-/// How many bits of the `count` bytes from byte `first` on are not set: by words, the widest first.
+/// How many bits of the `count` bytes from byte `first` on are not set: 64 bytes at a step, and then by words, the widest
+/// first.
 fn zeros_in_bytes(stored: &mut Stored<'_>, first: usize, count: usize) -> usize
     requires fits { first + count < 2 ^ 64 }
     requires few { 8 * count < 2 ^ 64 }
@@ -119,11 +122,43 @@ fn zeros_in_bytes(stored: &mut Stored<'_>, first: usize, count: usize) -> usize
     ensures bytes { stored.new.bytes ≡ stored.old.bytes }
     ensures reads { stored.new.reads ≡ stored.old.reads + count }
 {
-    let ones = ones_in_words::<u64, 8>(stored, first, count / 8);
+    let ones = ones_in_blocks(stored, first, count / 64);
+    let ones = ones + ones_in_words::<u64, 8>(stored, first + 64 * (count / 64), count % 64 / 8);
     let ones = ones + ones_in_words::<u32, 4>(stored, first + 8 * (count / 8), count % 8 / 4);
     let ones = ones + ones_in_words::<u16, 2>(stored, first + 4 * (count / 4), count % 4 / 2);
     let ones = ones + ones_in_words::<u8, 1>(stored, first + 2 * (count / 2), count % 2);
     8 * count - ones
+}
+
+/// How many bits of the `pairs` pairs of 32 bytes from byte `first` on are set. One block at a step takes longer than a
+/// word at a step does.
+fn ones_in_blocks(stored: &mut Stored<'_>, first: usize, pairs: usize) -> usize
+    requires fits { first + 64 * pairs < 2 ^ 64 }
+    requires few { 8 * (64 * pairs) < 2 ^ 64 }
+    requires inside { first + 64 * pairs ≤ length stored.old.bytes }
+    ensures ones { result + falses (part (bits stored.old.bytes) (8 * first) (8 * (64 * pairs))) ≡ 8 * (64 * pairs) }
+    ensures bytes { stored.new.bytes ≡ stored.old.bytes }
+    ensures reads { stored.new.reads ≡ stored.old.reads + 64 * pairs }
+{
+    let mut ones = 0usize;
+    for i in 0..pairs {
+        let at = first + 64 * i;
+        let front = ones_in_block(stored, at);
+        let back = ones_in_block(stored, at + 32);
+        ones += front + back;
+    }
+    ones
+}
+
+/// How many bits of the 32 bytes from byte `at` on are set.
+#[inline(always)]
+fn ones_in_block(stored: &mut Stored<'_>, at: usize) -> usize
+    requires inside { at + 32 ≤ length stored.old.bytes }
+    ensures ones { result + falses (part (bits stored.old.bytes) (8 * at) (8 * 32)) ≡ 8 * 32 }
+    ensures bytes { stored.new.bytes ≡ stored.old.bytes }
+    ensures reads { stored.new.reads ≡ stored.old.reads + 32 }
+{
+    ones_of(u8x32::from_array(stored.fetch::<32>(at)))
 }
 
 /// How many bits of the `words` words of `N` bytes from byte `first` on are set.

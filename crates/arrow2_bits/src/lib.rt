@@ -13,6 +13,7 @@ mod counter;
 mod counts;
 pub mod fmt;
 pub mod iterator;
+mod lanes;
 
 pub use bytes::Stored;
 pub use counter::Reads;
