@@ -1,4 +1,5 @@
 pub mod AssignSteps
+pub mod LaneSteps
 pub mod RowSteps
 pub mod TableSteps
 pub mod Written

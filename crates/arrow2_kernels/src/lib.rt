@@ -2,6 +2,9 @@
 #![tactic(auto)]
 
 pub mod assigned;
+pub mod lane_assigned;
+pub mod lane_mapped;
+pub mod lanes;
 pub mod mapped;
 pub mod rows;
 pub mod tables;

@@ -1,0 +1,328 @@
+-- Lanes of bytes bit by bit, and loops that write bytes in place of others.
+use Rattle.std.proofs.Common.{◌≡◌, ℕ, zero, suc, ◌+◌, ◌-◌, ◌*◌, ◌/◌, ◌%◌, ◌^◌, ◌<◌, ◌≤◌, ◌&&◌, List, [], ◌∷◌, ◌++◌, Bool, true, false, cond, length, get_or, take, drop, set, replicate, refl, ap, sym, subst, ◌∙◌, inl, inr, arith}
+use Rattle.std.specs.Prelude.{bit_and, bit_xor}
+use mathlib.Core.Bool.{xor}
+use mir.Syntax.{w8}
+use mir.Val.{Fits}
+use lib.Lanes.{zip2, put_chunk, chunk}
+use Rattle.std.proofs.lemmas.Bool.{cases_lt, cases_eq}
+use Rattle.std.proofs.Math.Seq.{take-add}
+use borrow.Rule.Slice.PartMut.{put_mid}
+use Rattle.arrow2_kernels.proofs.Written.{whole_written}
+use Rattle.std.proofs.lemmas.List.{take_at, drop_at, drop_all, append-nil, length-append, length-drop, get_or_append_left, get_or-append_right, take-take, length-set, get_or-set_same, get_or-set_other, get_or-take, length-take-le, get_or-replicate, get_or_past, take_all}
+use Rattle.std.proofs.lemmas.Simd.{length-put_chunk, get_or-zip2, get_or-chunk, get_or-put_chunk_below, get_or-put_chunk_at, get_or-put_chunk_above}
+use Rattle.arrow2_model.specs.Bits.{bit, bits, unnum}
+use Rattle.arrow2_model.specs.Canonical.{IsCanonical}
+use Rattle.arrow2_model.specs.Tables.{answer, each}
+use Rattle.arrow2_model.proofs.Bytes.{take-bits}
+use Rattle.arrow2_model.proofs.Bits.{bits-append, get_or-unnum, length-bits, get_or-bits_at}
+use Rattle.arrow2_model.proofs.Canonical.{cut_within}
+use Rattle.arrow2_model.proofs.Chunks.{unnum-mod, unnum-and, unnum-xor}
+use Rattle.arrow2_model.proofs.Kernels.{each_from, length-each, get_or-each}
+use Rattle.arrow2_model.proofs.Tables.{bit-zip2}
+
+-- ---- lanes
+
+xor_bit : (x y i : ℕ) → bit (bit_xor x y) i ≡ xor (bit x i) (bit y i)
+xor_bit x y i = bit-zip2 (suc i) x y (bit_xor x y) i xor (unnum-xor (suc i) x y) (omega arith)
+
+and_bit : (x y i : ℕ) → bit (bit_and x y) i ≡ (bit x i && bit y i)
+and_bit x y i = bit-zip2 (suc i) x y (bit_and x y) i (λ a b. a && b) (unnum-and (suc i) x y) (omega arith)
+
+lane : (f : ℕ → ℕ → ℕ) (a b : List ℕ) (k : ℕ) → k < length a → k < length b → get_or (zip2 f a b) k 0 ≡ f (get_or a k 0) (get_or b k 0)
+lane f a b k p q = get_or-zip2 f a b k 0 0 0 p q
+
+picked : (w y n : Bool) → xor n (w && xor y n) ≡ cond w y n
+unfolding xor
+picked true true true = refl
+picked true true false = refl
+picked true false true = refl
+picked true false false = refl
+picked false true true = refl
+picked false true false = refl
+picked false false true = refl
+picked false false false = refl
+
+-- a choice, lane by lane and bit by bit
+pub chosen_lane : (which on off : List ℕ) (n k i : ℕ) → length which ≡ n → length on ≡ n → length off ≡ n → length (zip2 bit_xor on off) ≡ n → length (zip2 bit_and which (zip2 bit_xor on off)) ≡ n → k < n
+    → bit (get_or (zip2 bit_xor off (zip2 bit_and which (zip2 bit_xor on off))) k 0) i ≡ cond (bit (get_or which k 0) i) (bit (get_or on k 0) i) (bit (get_or off k 0) i)
+chosen_lane which on off n k i lw ly ln ld lm h =
+    let w : ℕ = get_or which k 0 in
+    let y : ℕ = get_or on k 0 in
+    let o : ℕ = get_or off k 0 in
+    let d : get_or (zip2 bit_xor on off) k 0 ≡ bit_xor y o = lane bit_xor on off k (omega arith) (omega arith) in
+    let m : get_or (zip2 bit_and which (zip2 bit_xor on off)) k 0 ≡ bit_and w (bit_xor y o) = lane bit_and which (zip2 bit_xor on off) k (omega arith) (omega arith) ∙ ap (bit_and w) d in
+    let r : get_or (zip2 bit_xor off (zip2 bit_and which (zip2 bit_xor on off))) k 0 ≡ bit_xor o (bit_and w (bit_xor y o)) = lane bit_xor off (zip2 bit_and which (zip2 bit_xor on off)) k (omega arith) (omega arith) ∙ ap (bit_xor o) m in
+    ap (λ v. bit v i) r
+    ∙ (xor_bit o (bit_and w (bit_xor y o)) i
+    ∙ (ap (xor (bit o i)) (and_bit w (bit_xor y o) i ∙ ap (λ b. bit w i && b) (xor_bit y o i)) ∙ picked (bit w i) (bit y i) (bit o i)))
+
+all_set : unnum 8 255 ≡ replicate 8 true
+unfolding unnum
+all_set = refl
+
+none_set : unnum 8 0 ≡ replicate 8 false
+unfolding unnum
+none_set = refl
+
+pub filled_true : (n k i : ℕ) → k < n → i < 8 → bit (get_or (replicate n 255) k 0) i ≡ true
+filled_true n k i h g = ap (λ v. bit v i) (get_or-replicate n k 255 0 h) ∙ (sym (get_or-unnum 8 255 i false g) ∙ (ap (λ (b : List Bool). get_or b i false) all_set ∙ get_or-replicate 8 i true false g))
+
+pub filled_false : (n k i : ℕ) → k < n → i < 8 → bit (get_or (replicate n 0) k 0) i ≡ false
+filled_false n k i h g = ap (λ v. bit v i) (get_or-replicate n k 0 0 h) ∙ (sym (get_or-unnum 8 0 i false g) ∙ (ap (λ (b : List Bool). get_or b i false) none_set ∙ get_or-replicate 8 i false false g))
+
+-- ---- a loop that writes byte by byte, or lane by lane
+
+-- byte j of the answers acts by table t on byte j of both lists
+abbrev pub Acts2 : ℕ → List ℕ → List ℕ → List ℕ → ℕ → Type 0
+Acts2 t old other bytes j = (i : ℕ) → i < 8 → bit (get_or bytes j 0) i ≡ answer t (bit (get_or old j 0) i ∷ bit (get_or other j 0) i ∷ [])
+
+abbrev pub Acts1 : ℕ → List ℕ → List ℕ → ℕ → Type 0
+Acts1 t old bytes j = (i : ℕ) → i < 8 → bit (get_or bytes j 0) i ≡ answer t (bit (get_or old j 0) i ∷ [])
+
+-- the first p bytes are written, and the others are as they were
+pub record Written (P : List ℕ → ℕ → Type 0) (old bytes : List ℕ) (p : ℕ) : Type 0 where
+  pub size : length bytes ≡ length old
+  pub done : (j : ℕ) → j < p → P bytes j
+  pub kept : (j : ℕ) → p ≤ j → get_or bytes j 0 ≡ get_or old j 0
+
+pub none_written : (P : List ℕ → ℕ → Type 0) (old : List ℕ) (p : ℕ) → p ≡ 0 → Written P old old p
+none_written P old p e = record { size = refl; done = λ j h. absurd (omega arith); kept = λ j h. refl }
+
+-- 32 bytes more
+pub lanes_written2 : (t t' p q : ℕ) (old other bytes v : List ℕ) → t' ≡ t → q ≡ p + 32 → q ≤ length old → length old ≤ length other → length v ≡ 32
+    → ((k i : ℕ) → k < 32 → i < 8 → bit (get_or v k 0) i ≡ answer t' (bit (get_or (chunk p 32 bytes) k 0) i ∷ bit (get_or (chunk p 32 other) k 0) i ∷ []))
+    → Written (Acts2 t old other) old bytes p → Written (Acts2 t old other) old (put_chunk p bytes v) q
+lanes_written2 t t' p q old other bytes v same e inside beside lv acts w =
+    let s = w.size in
+    record {
+      size = length-put_chunk p bytes v ∙ s;
+      done = λ j h i g. elim (cases_lt j p) [
+        | inl lt ↦ ap (λ x. bit x i) (get_or-put_chunk_below p bytes v j 0 lt) ∙ w.done j lt i g
+        | inr ge ↦
+            let k : ℕ = j - p in
+            let k< : k < 32 = omega arith in
+            let at : p + k ≡ j = omega arith in
+            let x : get_or (put_chunk p bytes v) j 0 ≡ get_or v k 0 = ap (λ z. get_or (put_chunk p bytes v) z 0) (sym at) ∙ get_or-put_chunk_at p bytes v k 0 (omega arith) (omega arith) in
+            let a : get_or (chunk p 32 bytes) k 0 ≡ get_or old j 0 = get_or-chunk p 32 bytes k 0 k< ∙ (ap (λ z. get_or bytes z 0) at ∙ w.kept j ge) in
+            let b : get_or (chunk p 32 other) k 0 ≡ get_or other j 0 = get_or-chunk p 32 other k 0 k< ∙ ap (λ z. get_or other z 0) at in
+            ap (λ z. bit z i) x ∙ (acts k i k< g ∙ (ap (λ z. answer z (bit (get_or (chunk p 32 bytes) k 0) i ∷ bit (get_or (chunk p 32 other) k 0) i ∷ [])) same ∙ (ap (λ z. answer t (bit z i ∷ bit (get_or (chunk p 32 other) k 0) i ∷ [])) a ∙ ap (λ z. answer t (bit (get_or old j 0) i ∷ bit z i ∷ [])) b)))
+      ];
+      kept = λ j h. get_or-put_chunk_above p bytes v j 0 (omega arith) ∙ w.kept j (omega arith);
+    }
+
+pub lanes_written1 : (t t' p q : ℕ) (old bytes v : List ℕ) → t' ≡ t → q ≡ p + 32 → q ≤ length old → length v ≡ 32
+    → ((k i : ℕ) → k < 32 → i < 8 → bit (get_or v k 0) i ≡ answer t' (bit (get_or (chunk p 32 bytes) k 0) i ∷ []))
+    → Written (Acts1 t old) old bytes p → Written (Acts1 t old) old (put_chunk p bytes v) q
+lanes_written1 t t' p q old bytes v same e inside lv acts w =
+    let s = w.size in
+    record {
+      size = length-put_chunk p bytes v ∙ s;
+      done = λ j h i g. elim (cases_lt j p) [
+        | inl lt ↦ ap (λ x. bit x i) (get_or-put_chunk_below p bytes v j 0 lt) ∙ w.done j lt i g
+        | inr ge ↦
+            let k : ℕ = j - p in
+            let k< : k < 32 = omega arith in
+            let at : p + k ≡ j = omega arith in
+            let x : get_or (put_chunk p bytes v) j 0 ≡ get_or v k 0 = ap (λ z. get_or (put_chunk p bytes v) z 0) (sym at) ∙ get_or-put_chunk_at p bytes v k 0 (omega arith) (omega arith) in
+            let a : get_or (chunk p 32 bytes) k 0 ≡ get_or old j 0 = get_or-chunk p 32 bytes k 0 k< ∙ (ap (λ z. get_or bytes z 0) at ∙ w.kept j ge) in
+            ap (λ z. bit z i) x ∙ (acts k i k< g ∙ (ap (λ z. answer z (bit (get_or (chunk p 32 bytes) k 0) i ∷ [])) same ∙ ap (λ z. answer t (bit z i ∷ [])) a))
+      ];
+      kept = λ j h. get_or-put_chunk_above p bytes v j 0 (omega arith) ∙ w.kept j (omega arith);
+    }
+
+-- one byte more
+pub byte_written : (P : List ℕ → ℕ → Type 0) (p q x : ℕ) (old bytes : List ℕ) → q ≡ p + 1 → p < length old → ((xs ys : List ℕ) (j : ℕ) → get_or xs j 0 ≡ get_or ys j 0 → P xs j → P ys j) → P (set bytes p x) p → Written P old bytes p → Written P old (set bytes p x) q
+byte_written P p q x old bytes e inside same here w =
+    record {
+      size = length-set bytes p x ∙ w.size;
+      done = λ j h. elim (cases_eq j p) [
+        | inl at ↦ rw at here
+        | inr other ↦ same bytes (set bytes p x) j (sym (get_or-set_other bytes p j x 0 other)) (w.done j (omega arith))
+      ];
+      kept = λ j h. get_or-set_other bytes p j x 0 (omega arith) ∙ w.kept j (omega arith);
+    }
+
+-- all bytes were written
+pub all_written2 : (t : ℕ) (old other bytes : List ℕ) → length old ≤ length other → Written (Acts2 t old other) old bytes (length old) → bits bytes ≡ each t (bits old ∷ take (8 * length old) (bits other) ∷ [])
+all_written2 t old other bytes beside w =
+    let l = length-bits bytes in
+    let o = length-bits old in
+    let b = length-bits other in
+    each_from t (bits old ∷ take (8 * length old) (bits other) ∷ []) (bits bytes) (omega (arith, l, o, w.size))
+    (λ k h.
+    let k< : k < 8 * length old = omega (arith, o) in
+    get_or-bits_at bytes k false (omega (arith, w.size)) ∙ (w.done (k / 8) (omega arith) (k % 8) (omega arith)
+    ∙ (ap (λ z. answer t (z ∷ bit (get_or other (k / 8) 0) (k % 8) ∷ [])) (sym (get_or-bits_at old k false k<))
+    ∙ ap (λ z. answer t (get_or (bits old) k false ∷ z ∷ [])) (sym (get_or-take (8 * length old) (bits other) k false k< ∙ get_or-bits_at other k false (omega arith))))))
+
+pub all_written1 : (t : ℕ) (old bytes : List ℕ) → Written (Acts1 t old) old bytes (length old) → bits bytes ≡ each t (bits old ∷ [])
+all_written1 t old bytes w =
+    let l = length-bits bytes in
+    let o = length-bits old in
+    each_from t (bits old ∷ []) (bits bytes) (omega (arith, l, o, w.size))
+    (λ k h.
+    let k< : k < 8 * length old = omega (arith, o) in
+    get_or-bits_at bytes k false (omega (arith, w.size)) ∙ (w.done (k / 8) (omega arith) (k % 8) (omega arith)
+    ∙ ap (λ z. answer t (z ∷ [])) (sym (get_or-bits_at old k false k<))))
+
+-- ---- the first items of the answers
+
+pub take-each2 : (t n : ℕ) (xs ys zs : List Bool) → n ≤ length xs → n ≤ length ys → take n zs ≡ take n ys → take n (each t (xs ∷ zs ∷ [])) ≡ each t (take n xs ∷ take n ys ∷ [])
+take-each2 t n xs ys zs h g same =
+    let e = length-each t (xs ∷ zs ∷ []) in
+    let a = length-take-le n (each t (xs ∷ zs ∷ [])) (omega (arith, e)) in
+    let b = length-take-le n xs h in
+    each_from t (take n xs ∷ take n ys ∷ []) (take n (each t (xs ∷ zs ∷ []))) (omega (arith, a, b))
+    (λ k k<.
+    let k<n : k < n = omega (arith, b) in
+    get_or-take n (each t (xs ∷ zs ∷ [])) k false k<n ∙ (get_or-each t (xs ∷ zs ∷ []) k (omega arith)
+    ∙ (ap (λ z. answer t (z ∷ get_or zs k false ∷ [])) (sym (get_or-take n xs k false k<n))
+    ∙ ap (λ z. answer t (get_or (take n xs) k false ∷ z ∷ [])) (sym (get_or-take n zs k false k<n) ∙ ap (λ (l : List Bool). get_or l k false) same))))
+
+pub take-each1 : (t n : ℕ) (xs : List Bool) → n ≤ length xs → take n (each t (xs ∷ [])) ≡ each t (take n xs ∷ [])
+take-each1 t n xs h =
+    let e = length-each t (xs ∷ []) in
+    let a = length-take-le n (each t (xs ∷ [])) (omega (arith, e)) in
+    let b = length-take-le n xs h in
+    each_from t (take n xs ∷ []) (take n (each t (xs ∷ []))) (omega (arith, a, b))
+    (λ k k<.
+    let k<n : k < n = omega (arith, b) in
+    get_or-take n (each t (xs ∷ [])) k false k<n ∙ (get_or-each t (xs ∷ []) k (omega arith)
+    ∙ ap (λ z. answer t (z ∷ [])) (sym (get_or-take n xs k false k<n))))
+
+-- ---- spare bits
+
+abbrev pub AreBytes : List ℕ → Type 0
+AreBytes bytes = (i : ℕ) → Fits w8 (get_or bytes i 0)
+
+pub spare_none : (bytes : List ℕ) (n : ℕ) → length bytes ≡ (n + 7) / 8 → n % 8 ≡ 0 → AreBytes bytes → IsCanonical bytes n
+spare_none bytes n e whole fits = record {
+  fits = λ k. let f = (fits k).fits in f;
+  exact = e;
+  clear = λ k h. let l = length-bits bytes in get_or_past (bits bytes) k false (omega (arith, l));
+}
+
+pub spare_cleared : (bytes after : List ℕ) (n x : ℕ) → length bytes ≡ (n + 7) / 8 → 0 < n % 8 → x ≡ get_or bytes (n / 8) 0 % 2 ^ (n % 8) → after ≡ set bytes (n / 8) x → AreBytes after → IsCanonical after n × (take n (bits after) ≡ take n (bits bytes))
+spare_cleared bytes after n x e some is was fits =
+    let all : take ((n + 7) / 8) bytes ≡ bytes = take_all ((n + 7) / 8) bytes (omega arith) in
+    let cut = cut_within bytes n x (omega arith) some (is ∙ ap (λ (b : List ℕ). get_or b (n / 8) 0 % 2 ^ (n % 8)) (sym all)) (λ k. rw (all, ← was) (fits k).fits) in
+    let same : set (take ((n + 7) / 8) bytes) (n / 8) x ≡ after = ap (λ (b : List ℕ). set b (n / 8) x) all ∙ sym was in
+    (subst (λ (b : List ℕ). IsCanonical b n) same cut.0, ap (λ (b : List ℕ). take n (bits b)) (sym same) ∙ cut.1)
+
+-- the bits of a copy of the bytes that hold them
+pub front_bits : (bytes front : List ℕ) (n m : ℕ) → n ≤ 8 * length bytes → m ≡ (n + 7) / 8 → front ≡ take m bytes → take n (bits front) ≡ take n (bits bytes)
+front_bits bytes front n m h e is =
+    let shorter = take-take n (8 * m) (bits bytes) (omega (arith, e)) in
+    ap (λ (b : List ℕ). take n (bits b)) is ∙ (ap (take n) (sym (take-bits bytes m (omega (arith, e)))) ∙ shorter)
+
+-- ---- tables of which four bits are read
+
+pub low_table : (t i : ℕ) → i < 4 → bit (t % 16) i ≡ bit t i
+low_table t i h = let e : t % 16 ≡ t % 2 ^ 4 = refl in
+    sym (get_or-unnum 4 (t % 16) i false h) ∙ (ap (λ (b : List Bool). get_or b i false) (ap (unnum 4) e ∙ unnum-mod 4 t) ∙ get_or-unnum 4 t i false h)
+
+-- a table of two inputs is the one of its four lowest bits
+pub same_table : (t u : ℕ) (xs ys : List Bool) → t % 16 ≡ u → each u (xs ∷ ys ∷ []) ≡ each t (xs ∷ ys ∷ [])
+same_table t u xs ys e =
+    each_from t (xs ∷ ys ∷ []) (each u (xs ∷ ys ∷ [])) (length-each u (xs ∷ ys ∷ []))
+    (λ k h. get_or-each u (xs ∷ ys ∷ []) k h ∙ (ap (λ z. answer z (get_or xs k false ∷ get_or ys k false ∷ [])) (sym e) ∙ same (get_or xs k false) (get_or ys k false)))
+  where
+    same : (a b : Bool) → answer (t % 16) (a ∷ b ∷ []) ≡ answer t (a ∷ b ∷ [])
+    same true true = low_table t 3 (omega arith)
+    same true false = low_table t 1 (omega arith)
+    same false true = low_table t 2 (omega arith)
+    same false false = low_table t 0 (omega arith)
+
+-- ---- answers that are appended
+
+pub each-append : (t : ℕ) (a b d e : List Bool) → length a ≡ length d → length b ≡ length e → each t ((a ++ b) ∷ (d ++ e) ∷ []) ≡ each t (a ∷ d ∷ []) ++ each t (b ∷ e ∷ [])
+each-append t a b d e l m =
+    let front : List Bool = each t (a ∷ d ∷ []) in
+    let back : List Bool = each t (b ∷ e ∷ []) in
+    let f = length-each t (a ∷ d ∷ []) in
+    let g = length-each t (b ∷ e ∷ []) in
+    let n = length-append a b in
+    sym (each_from t ((a ++ b) ∷ (d ++ e) ∷ []) (front ++ back) (omega (arith, length-append front back, f, g, n))
+    (λ k h. elim (cases_lt k (length a)) [
+      | inl lt ↦
+          get_or_append_left front back false k (omega (arith, f)) ∙ (get_or-each t (a ∷ d ∷ []) k lt
+          ∙ (ap (λ z. answer t (z ∷ get_or d k false ∷ [])) (sym (get_or_append_left a b false k lt))
+          ∙ ap (λ z. answer t (get_or (a ++ b) k false ∷ z ∷ [])) (sym (get_or_append_left d e false k (omega arith)))))
+      | inr ge ↦
+          let i : ℕ = k - length a in
+          get_or-append_right front back (length a) k false f ge ∙ (get_or-each t (b ∷ e ∷ []) i (omega (arith, n))
+          ∙ (ap (λ z. answer t (z ∷ get_or e i false ∷ [])) (sym (get_or-append_right a b (length a) k false refl ge))
+          ∙ ap (λ z. answer t (get_or (a ++ b) k false ∷ z ∷ [])) (sym (get_or-append_right d e (length a) k false (sym l) ge))))
+    ]))
+
+-- one block more
+pub block_more : (t p n : ℕ) (left right before after : List ℕ) → length left ≡ length right → p + n ≤ length left → bits before ≡ each t (bits (take p left) ∷ bits (take p right) ∷ [])
+    → bits after ≡ bits before ++ each t (bits (take n (drop p left)) ∷ bits (take n (drop p right)) ∷ []) → bits after ≡ each t (bits (take (p + n) left) ∷ bits (take (p + n) right) ∷ [])
+block_more t p n left right before after l inside done more =
+    let a = length-bits (take p left) in
+    let b = length-bits (take p right) in
+    let d = length-bits (take n (drop p left)) in
+    let e = length-bits (take n (drop p right)) in
+    let ta = length-take-le p left (omega arith) in
+    let tb = length-take-le p right (omega arith) in
+    let da = length-drop p left in
+    let db = length-drop p right in
+    let td = length-take-le n (drop p left) (omega (arith, da)) in
+    let te = length-take-le n (drop p right) (omega (arith, db)) in
+    let split : (xs : List ℕ) → bits (take p xs) ++ bits (take n (drop p xs)) ≡ bits (take (p + n) xs) = λ xs. sym (ap bits (take-add p n xs) ∙ bits-append (take p xs) (take n (drop p xs))) in
+    more ∙ (ap (λ z. z ++ each t (bits (take n (drop p left)) ∷ bits (take n (drop p right)) ∷ [])) done
+    ∙ (sym (each-append t (bits (take p left)) (bits (take n (drop p left))) (bits (take p right)) (bits (take n (drop p right))) (omega (arith, a, b, ta, tb)) (omega (arith, d, e, td, te)))
+    ∙ (ap (λ z. each t (z ∷ (bits (take p right) ++ bits (take n (drop p right))) ∷ [])) (split left) ∙ ap (λ z. each t (bits (take (p + n) left) ∷ z ∷ [])) (split right))))
+
+pub no_block : (t : ℕ) (left right before : List ℕ) → before ≡ [] → bits before ≡ each t (bits (take 0 left) ∷ bits (take 0 right) ∷ [])
+no_block t left right before e = each_from t (bits (take 0 left) ∷ bits (take 0 right) ∷ []) (bits before) (ap (λ (b : List ℕ). length (bits b)) e) (λ k h. absurd (omega (arith, length-bits (take 0 left), h)))
+
+-- what was written to the end of a vector
+pub tail_written : (old more ys xs items : List ℕ) (at len : ℕ) → xs ≡ items → items ≡ old ++ more → at ≡ length old → length ys ≡ length more → len ≡ length items
+    → take len (put_mid at (length xs - at) xs ys ++ drop (length (put_mid at (length xs - at) xs ys)) items) ≡ old ++ ys
+tail_written old more ys xs items at len e was is size all =
+    let n = length-append old more in
+    let k : length xs - at ≡ length more = omega (arith, ap length e, ap length was, n) in
+    let front : take at xs ≡ old = ap (take at) (e ∙ was) ∙ take_at old more at (sym is) in
+    let behind : drop (length xs - at) (drop at xs) ≡ [] = drop_all (length xs - at) (drop at xs) (omega (arith, length-drop at xs)) in
+    let whole : put_mid at (length xs - at) xs ys ≡ old ++ ys = ap (λ (b : List ℕ). b ++ (ys ++ drop (length xs - at) (drop at xs))) front ∙ ap (λ (b : List ℕ). old ++ b) (ap (λ (b : List ℕ). ys ++ b) behind ∙ append-nil ys) in
+    whole_written items (put_mid at (length xs - at) xs ys) len all (ap length whole ∙ omega (arith, length-append old ys, n, size, ap length was)) ∙ whole
+
+pub appended : (t : ℕ) (left right : List ℕ) → length left ≡ length right → each t (bits left ∷ take (8 * length left) (bits right) ∷ []) ≡ each t (bits left ∷ bits right ∷ [])
+appended t left right e = ap (λ b. each t (bits left ∷ b ∷ [])) (take_all (8 * length left) (bits right) (omega (arith, length-bits right, e)))
+
+pub tail_is : (old more xs : List ℕ) (at : ℕ) → xs ≡ old ++ more → at ≡ length old → take (length xs - at) (drop at xs) ≡ more
+tail_is old more xs at was is =
+    let n = length-append old more in
+    let d : drop at xs ≡ more = ap (drop at) was ∙ drop_at old more at (sym is) in
+    ap (take (length xs - at)) d ∙ take_all (length xs - at) more (omega (arith, ap length was, n))
+
+-- a block that was written in place of its copy
+pub block_written : (t : ℕ) (old left right ys xs items after : List ℕ) (at len : ℕ) → length left ≡ length right → xs ≡ items → items ≡ old ++ left → at ≡ length old → len ≡ length items → length ys ≡ length (take (length xs - at) (drop at xs))
+    → bits ys ≡ each t (bits (take (length xs - at) (drop at xs)) ∷ take (8 * length (take (length xs - at) (drop at xs))) (bits right) ∷ [])
+    → bits (take len (put_mid at (length xs - at) xs ys ++ drop (length (put_mid at (length xs - at) xs ys)) items)) ≡ bits old ++ each t (bits left ∷ bits right ∷ [])
+block_written t old left right ys xs items after at len alike e was is all size answers =
+    let part = tail_is old left xs at (e ∙ was) is in
+    ap bits (tail_written old left ys xs items at len e was is (size ∙ ap length part) all)
+    ∙ (bits-append old ys ∙ ap (λ (b : List Bool). bits old ++ b) (answers ∙ (ap (λ (p : List ℕ). each t (bits p ∷ take (8 * length p) (bits right) ∷ [])) part ∙ appended t left right alike)))
+
+-- as many bytes as hold the answers
+pub length-answers : (t n m : ℕ) (left right bytes : List ℕ) → n ≤ 8 * length left → m ≡ (n + 7) / 8 → bits bytes ≡ each t (bits (take m left) ∷ bits (take m right) ∷ []) → length bytes ≡ (n + 7) / 8
+length-answers t n m left right bytes h e is =
+    let a = length-bits bytes in
+    let b = length-bits (take m left) in
+    let d = length-take-le m left (omega (arith, e)) in
+    let f = length-each t (bits (take m left) ∷ bits (take m right) ∷ []) in
+    omega (arith, a, b, d, e, ap length is ∙ f)
+
+-- the first of them
+pub first_answers : (t n m : ℕ) (left right bytes : List ℕ) → n ≤ 8 * length left → n ≤ 8 * length right → m ≡ (n + 7) / 8 → bits bytes ≡ each t (bits (take m left) ∷ bits (take m right) ∷ []) → take n (bits bytes) ≡ each t (take n (bits left) ∷ take n (bits right) ∷ [])
+first_answers t n m left right bytes h g e is =
+    let a = length-bits (take m left) in
+    let b = length-bits (take m right) in
+    let d = length-take-le m left (omega (arith, e)) in
+    let f = length-take-le m right (omega (arith, e)) in
+    ap (take n) is ∙ (take-each2 t n (bits (take m left)) (bits (take m right)) (bits (take m right)) (omega (arith, a, d, e)) (omega (arith, b, f, e)) refl
+    ∙ (ap (λ z. each t (z ∷ take n (bits (take m right)) ∷ [])) (front_bits left (take m left) n m h e refl)
+    ∙ ap (λ z. each t (take n (bits left) ∷ z ∷ [])) (front_bits right (take m right) n m g e refl)))

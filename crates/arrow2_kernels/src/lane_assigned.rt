@@ -1,0 +1,112 @@
+//! The answers of a truth table in place of bytes, 32 bytes at a time.
+ghost use Rattle.std.specs.Prelude.{◌≡◌, ◌+◌, ◌*◌, ◌/◌, ◌%◌, ◌^◌, ◌<◌, ◌≤◌, [], ◌∷◌, slice_index, slice_set, take, length as length'};
+ghost use Rattle.arrow2_model.specs.Bits.{bits};
+ghost use Rattle.arrow2_model.specs.Canonical.{IsCanonical};
+ghost use Rattle.arrow2_model.specs.Tables.{each};
+
+use crate::lanes::{binary_lanes, unary_lanes};
+use crate::tables::{binary_answers, unary_answers};
+use arrow2_chunk::bit_chunk::BitChunk;
+use std::simd::prelude::*;
+
+/// Writes the answers of table `t` for the first `length` bits, and for those of `other`, in place. Spare bits are
+/// false afterwards, whatever they were. Takes no memory. Asks for as many bytes as hold so many bits, and for as many
+/// of `other` at least.
+pub fn assign_binary(bytes: &mut [u8], other: &[u8], length: usize, t: u8)
+    requires exact { length' bytes.old ≡ (length + 7) / 8 }
+    requires inside { length ≤ 8 * length' other.now }
+    ensures canonical { IsCanonical bytes.new length }
+    ensures items { take length (bits bytes.new) ≡ each t (take length (bits bytes.old) ∷ take length (bits other.now) ∷ []) }
+{
+    write_by_table(bytes, other, t);
+    clear_spare(bytes, length);
+}
+
+/// The same of a table of one input.
+pub fn assign_unary(bytes: &mut [u8], length: usize, t: u8)
+    requires exact { length' bytes.old ≡ (length + 7) / 8 }
+    ensures canonical { IsCanonical bytes.new length }
+    ensures items { take length (bits bytes.new) ≡ each t (take length (bits bytes.old) ∷ []) }
+{
+    write_unary(bytes, t);
+    clear_spare(bytes, length);
+}
+
+/// Writes the answers for each bit of the bytes in place, by a loop of the table's own.
+pub(crate) fn write_by_table(bytes: &mut [u8], other: &[u8], t: u8)
+    requires inside { length' bytes.old ≤ length' other.now }
+    ensures { bits bytes.new ≡ each t (bits bytes.old ∷ take (8 * length' bytes.old) (bits other.now) ∷ []) }
+{
+    match t % 16 {
+        0 => write_binary(bytes, other, 0),
+        1 => write_binary(bytes, other, 1),
+        2 => write_binary(bytes, other, 2),
+        3 => write_binary(bytes, other, 3),
+        4 => write_binary(bytes, other, 4),
+        5 => write_binary(bytes, other, 5),
+        6 => write_binary(bytes, other, 6),
+        7 => write_binary(bytes, other, 7),
+        8 => write_binary(bytes, other, 8),
+        9 => write_binary(bytes, other, 9),
+        10 => write_binary(bytes, other, 10),
+        11 => write_binary(bytes, other, 11),
+        12 => write_binary(bytes, other, 12),
+        13 => write_binary(bytes, other, 13),
+        14 => write_binary(bytes, other, 14),
+        _ => write_binary(bytes, other, 15),
+    }
+}
+
+/// Writes the answers for each bit of the bytes in place. 32 bytes go at once, and a plain loop takes the rest.
+#[inline(always)]
+fn write_binary(bytes: &mut [u8], other: &[u8], t: u8)
+    requires inside { length' bytes.old ≤ length' other.now }
+    ensures { bits bytes.new ≡ each t (bits bytes.old ∷ take (8 * length' bytes.old) (bits other.now) ∷ []) }
+{
+    let whole = bytes.len() / 32;
+    for k in 0..whole {
+        let at = 32 * k;
+        let own = u8x32::from_slice(&bytes[at..]);
+        let beside = u8x32::from_slice(&other[at..]);
+        binary_lanes(u16::from(t), own, beside).copy_to_slice(&mut bytes[at..]);
+    }
+    for at in 32 * whole..bytes.len() {
+        bytes[at] = binary_answers(u16::from(t), bytes[at], other[at]);
+    }
+}
+
+/// The same of a table of one input.
+#[inline(always)]
+fn write_unary(bytes: &mut [u8], t: u8)
+    ensures { bits bytes.new ≡ each t (bits bytes.old ∷ []) }
+{
+    let whole = bytes.len() / 32;
+    for k in 0..whole {
+        let at = 32 * k;
+        let own = u8x32::from_slice(&bytes[at..]);
+        unary_lanes(u16::from(t), own).copy_to_slice(&mut bytes[at..]);
+    }
+    for at in 32 * whole..bytes.len() {
+        bytes[at] = unary_answers(u16::from(t), bytes[at]);
+    }
+}
+
+/// Clears the bits behind the first `length`. Asks for as many bytes as hold so many bits.
+pub(crate) fn clear_spare(bytes: &mut [u8], length: usize)
+    requires exact { length' bytes.old ≡ (length + 7) / 8 }
+    ensures canonical { IsCanonical bytes.new length }
+    ensures items { take length (bits bytes.new) ≡ take length (bits bytes.old) }
+{
+    if length % 8 != 0 {
+        clear_last(bytes, length / 8, length % 8);
+    }
+}
+
+/// Keeps of byte `last` its lowest `count` bits. Asks that there is one, and for less than eight.
+fn clear_last(bytes: &mut [u8], last: usize, count: usize)
+    requires inside { last < length' bytes.old }
+    requires few { count < 8 }
+    ensures { bytes.new ≡ slice_set bytes.old last (slice_index bytes.old last % 2 ^ count) }
+{
+    bytes[last] %= 1 << count;
+}
