@@ -11,6 +11,7 @@ use arrow2_bits::chunk_iterator::BitChunks;
 use arrow2_bits::chunks_exact::BitChunksExact;
 use arrow2_chunk::bit_chunk::BitChunk;
 use arrow2_kernels::rows::{NoList, OneList};
+use arrow2_kernels::tables::binary_answers;
 use std::ops::{BitAnd, BitAndAssign, BitOr, BitOrAssign, BitXor, BitXorAssign, Not};
 
 /// Writes what `op` answers to each word of `T` in its place. In the last word false stands behind the items, and what
@@ -47,6 +48,36 @@ pub fn binary_assign<T: BitChunk, F: Fn(T, T) -> T>(lhs: &mut MutableBitmap, rhs
     } else {
         let chunks = BitChunks::<T>::new(bytes, offset, length);
         lhs.assign_rows(OneList { chunks }, op);
+    }
+}
+
+/// Makes each item the answer of table `t` for it: bit `a1` of `t`. Goes by 32 bytes at a time. Takes no memory. Of `t` the
+/// two lowest bits are read.
+///
+/// In arrow2 it has no name.
+pub fn unary_assign_by_table(bitmap: &mut MutableBitmap, t: u8)
+    ensures items { bitmap.new.items ≡ each t (bitmap.old.items ∷ []) }
+    ensures capacity { bitmap.new.capacity ≡ bitmap.old.capacity }
+{
+    bitmap.answer(t);
+}
+
+/// Makes each item the answer of table `t` for it and the item of `rhs`: bit `a1 + 2 * a2` of `t`. Goes by 32 bytes at a time
+/// where `rhs` begins at a whole byte, else by words of `T`. Takes no memory. Of `t` the four lowest bits are read. Asks
+/// that both have one length.
+///
+/// In arrow2 it has no name.
+#[inline(always)]
+pub fn binary_assign_by_table<T: BitChunk>(lhs: &mut MutableBitmap, rhs: &Bitmap, t: u8)
+    requires same_length { length lhs.old.items ≡ length (items_of rhs.now) }
+    ensures items { lhs.new.items ≡ each t (lhs.old.items ∷ items_of rhs.now ∷ []) }
+    ensures capacity { lhs.new.capacity ≡ lhs.old.capacity }
+{
+    let (bytes, offset, _length) = rhs.as_slice();
+    if offset == 0 {
+        lhs.answer_beside(bytes, t);
+    } else {
+        binary_assign(lhs, rhs, |x: T, y: T| binary_answers(u16::from(t), x, y));
     }
 }
 
@@ -150,7 +181,7 @@ fn and_assign(lhs: &mut MutableBitmap, rhs: &Bitmap)
     if are_all(rhs, false) {
         lhs.fill(false);
     } else if !are_all(rhs, true) {
-        binary_assign(lhs, rhs, |x: u64, y: u64| x & y);
+        binary_assign_by_table::<u64>(lhs, rhs, 0b1000);
     }
 }
 
@@ -163,7 +194,7 @@ fn or_assign(lhs: &mut MutableBitmap, rhs: &Bitmap)
     if are_all(rhs, true) {
         lhs.fill(true);
     } else if !are_all(rhs, false) {
-        binary_assign(lhs, rhs, |x: u64, y: u64| x | y);
+        binary_assign_by_table::<u64>(lhs, rhs, 0b1110);
     }
 }
 
@@ -173,7 +204,7 @@ fn xor_assign(lhs: &mut MutableBitmap, rhs: &Bitmap)
     ensures items { lhs.new.items ≡ each 6 (lhs.old.items ∷ items_of rhs.now ∷ []) }
     ensures capacity { lhs.new.capacity ≡ lhs.old.capacity }
 {
-    binary_assign(lhs, rhs, |x: u64, y: u64| x ^ y);
+    binary_assign_by_table::<u64>(lhs, rhs, 0b0110);
 }
 
 /// Item by item, whether it is false.
@@ -181,5 +212,5 @@ fn not_assign(bitmap: &mut MutableBitmap)
     ensures items { bitmap.new.items ≡ each 1 (bitmap.old.items ∷ []) }
     ensures capacity { bitmap.new.capacity ≡ bitmap.old.capacity }
 {
-    unary_assign(bitmap, |x: u64| !x);
+    unary_assign_by_table(bitmap, 0b01);
 }

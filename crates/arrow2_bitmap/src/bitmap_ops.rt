@@ -11,8 +11,10 @@ use crate::immutable::Bitmap;
 use crate::mutable::MutableBitmap;
 use arrow2_bits::chunk_iterator::BitChunks;
 use arrow2_bits::chunks_exact::BitChunksExact;
+use arrow2_kernels::lane_mapped::{map_binary, map_unary};
 use arrow2_kernels::mapped::map_rows;
 use arrow2_kernels::rows::{Beside, OneList, WordRows};
+use arrow2_kernels::tables::{binary_answers, unary_answers};
 use arrow2_types::error::{Error, Result};
 use std::alloc::Global;
 use std::convert::TryFrom;
@@ -102,6 +104,56 @@ pub fn binary<F: Fn(u64, u64) -> u64>(lhs: &Bitmap, rhs: &Bitmap, op: F) -> Resu
     )
 }
 
+/// The answers of table `t` of one input, item by item: bit `a1` of `t`. Goes by 32 bytes at a time where the items begin
+/// at a whole byte, else by words. Of `t` the two lowest bits are read.
+///
+/// In arrow2 it has no name.
+///
+/// # Errors
+///
+/// `OutOfMemory` alone.
+#[inline(always)]
+pub fn unary_by_table(lhs: &Bitmap, t: u8) -> Result<Bitmap>
+    ensures items { IfOk result (λ b. items_of b ≡ each t (items_of lhs.now ∷ [])) }
+    ensures len { IfOk result (λ b. length' (items_of b) ≡ length' (items_of lhs.now)) }
+    ensures only { IfErr result (λ e. e ≡ Error.OutOfMemory) }
+{
+    let (bytes, offset, length) = lhs.as_slice();
+    if offset == 0 {
+        let answers = map_unary(lhs.allocator(), bytes, length, t)?;
+        prove!(length / 8 + usize::from(length % 8 != 0) <= answers.len());
+        Bitmap::from_u8_vec(answers, length)
+    } else {
+        unary(lhs, |x| unary_answers(u16::from(t), x))
+    }
+}
+
+/// The answers of table `t` of two inputs, item by item: bit `a1 + 2 * a2` of `t`. Goes by 32 bytes at a time where both
+/// begin at a whole byte, else by words. Of `t` the four lowest bits are read. Asks that both have one length.
+///
+/// In arrow2 it has no name.
+///
+/// # Errors
+///
+/// `OutOfMemory` alone.
+#[inline(always)]
+pub fn binary_by_table(lhs: &Bitmap, rhs: &Bitmap, t: u8) -> Result<Bitmap>
+    requires same_length { length' (items_of lhs.now) ≡ length' (items_of rhs.now) }
+    ensures items { IfOk result (λ b. items_of b ≡ each t (items_of lhs.now ∷ items_of rhs.now ∷ [])) }
+    ensures len { IfOk result (λ b. length' (items_of b) ≡ length' (items_of lhs.now)) }
+    ensures only { IfErr result (λ e. e ≡ Error.OutOfMemory) }
+{
+    let (left, left_offset, length) = lhs.as_slice();
+    let (right, right_offset, _right_length) = rhs.as_slice();
+    if left_offset + right_offset == 0 {
+        let answers = map_binary(lhs.allocator(), left, right, length, t)?;
+        prove!(length / 8 + usize::from(length % 8 != 0) <= answers.len());
+        Bitmap::from_u8_vec(answers, length)
+    } else {
+        binary(lhs, rhs, |x, y| binary_answers(u16::from(t), x, y))
+    }
+}
+
 /// Item by item, whether both are true. Asks that both have one length.
 ///
 /// # Errors
@@ -116,7 +168,7 @@ pub fn and(lhs: &Bitmap, rhs: &Bitmap) -> Result<Bitmap>
     if one_is_all(lhs, rhs, false) {
         filled(lhs.allocator(), lhs.len(), false)
     } else {
-        binary(lhs, rhs, |x, y| x & y)
+        binary_by_table(lhs, rhs, 0b1000)
     }
 }
 
@@ -134,7 +186,7 @@ pub fn or(lhs: &Bitmap, rhs: &Bitmap) -> Result<Bitmap>
     if one_is_all(lhs, rhs, true) {
         filled(lhs.allocator(), lhs.len(), true)
     } else {
-        binary(lhs, rhs, |x, y| x | y)
+        binary_by_table(lhs, rhs, 0b1110)
     }
 }
 
@@ -153,7 +205,7 @@ pub fn xor(lhs: &Bitmap, rhs: &Bitmap) -> Result<Bitmap>
     let right = value_of_all(rhs);
     match (left, right) {
         (Some(left), Some(right)) => filled(lhs.allocator(), lhs.len(), left != right),
-        _ => binary(lhs, rhs, |x, y| x ^ y),
+        _ => binary_by_table(lhs, rhs, 0b0110),
     }
 }
 
@@ -212,7 +264,7 @@ fn complement(bitmap: &Bitmap) -> Result<Bitmap>
     ensures items { IfOk result (λ b. items_of b ≡ each 1 (items_of bitmap.now ∷ [])) }
     ensures only { IfErr result (λ e. e ≡ Error.OutOfMemory) }
 {
-    unary(bitmap, |x| !x)
+    unary_by_table(bitmap, 0b01)
 }
 
 /// Whether the items of one of the two are all `value`. Takes no walk.

@@ -28,6 +28,7 @@ use arrow2_chunk::bit_chunk::BitChunk;
 use arrow2_growth::extended;
 use arrow2_growth::packed::{collected, packed};
 use arrow2_kernels::assigned::assign_rows;
+use arrow2_kernels::lane_assigned::{assign_binary, assign_unary};
 use arrow2_kernels::rows::WordRows;
 use arrow2_types::error::{Error, Result};
 use arrow2_types::refusal::Refusal;
@@ -446,6 +447,24 @@ impl MutableBitmap {
         write_rows(&mut self.buffer, self.length, rows, op);
     }
 
+    /// Makes each item the answer of table `t` for it and the bit of `other` at its place, 32 bytes at a time. Takes no
+    /// memory. Asks for as many bits.
+    pub(crate) fn answer_beside(&mut self, other: &[u8], t: u8)
+        requires inside { length self.old.items ≤ 8 * length other.now }
+        ensures items { self.new.items ≡ each t (self.old.items ∷ take (length self.old.items) (bits other.now) ∷ []) }
+        ensures capacity { self.new.capacity ≡ self.old.capacity }
+    {
+        write_beside(&mut self.buffer, self.length, other, t);
+    }
+
+    /// Makes each item the answer of table `t` for it, 32 bytes at a time. Takes no memory.
+    pub(crate) fn answer(&mut self, t: u8)
+        ensures items { self.new.items ≡ each t (self.old.items ∷ []) }
+        ensures capacity { self.new.capacity ≡ self.old.capacity }
+    {
+        write_answers(&mut self.buffer, self.length, t);
+    }
+
     /// Makes each item `value`. Takes no memory.
     pub(crate) fn fill(&mut self, value: bool)
         ensures items { self.new.items ≡ replicate (length self.old.items) value }
@@ -589,6 +608,27 @@ fn write_rows<T: BitChunk, S: WordRows<T>, F: Fn(T, S::Row) -> T>(
     ensures capacity { vec_capacity buffer.new ≡ vec_capacity buffer.old }
 {
     assign_rows(buffer.as_mut_slice(), length, rows, op);
+}
+
+/// Writes the answers of table `t` for the first `length` bits and those of `other` in place.
+fn write_beside(buffer: &mut Vec<u8>, length: usize, other: &[u8], t: u8)
+    requires canonical { IsCanonical buffer.old.items length }
+    requires inside { length ≤ 8 * length' other.now }
+    ensures canonical { IsCanonical buffer.new.items length }
+    ensures items { take length (bits buffer.new.items) ≡ each t (take length (bits buffer.old.items) ∷ take length (bits other.now) ∷ []) }
+    ensures capacity { vec_capacity buffer.new ≡ vec_capacity buffer.old }
+{
+    assign_binary(buffer.as_mut_slice(), other, length, t);
+}
+
+/// Writes the answers of table `t` for the first `length` bits in place.
+fn write_answers(buffer: &mut Vec<u8>, length: usize, t: u8)
+    requires canonical { IsCanonical buffer.old.items length }
+    ensures canonical { IsCanonical buffer.new.items length }
+    ensures items { take length (bits buffer.new.items) ≡ each t (take length (bits buffer.old.items) ∷ []) }
+    ensures capacity { vec_capacity buffer.new ≡ vec_capacity buffer.old }
+{
+    assign_unary(buffer.as_mut_slice(), length, t);
 }
 
 /// Makes each byte `byte`.

@@ -3,13 +3,12 @@ ghost use Rattle.std.specs.Prelude.{◌≡◌, [], ◌∷◌, length};
 ghost use Rattle.arrow2_model.specs.Storage.{BitmapStorage, GrowingBitmap, items_of};
 ghost use Rattle.arrow2_model.specs.Tables.{each};
 
-use arrow2_bitmap::assign_ops::{binary_assign, unary_assign};
+use arrow2_bitmap::assign_ops::{binary_assign_by_table, unary_assign_by_table};
 use arrow2_bitmap::immutable::Bitmap;
 use arrow2_bitmap::mutable::MutableBitmap;
 use arrow2_chunk::bit_chunk::BitChunk;
-use arrow2_kernels::tables::{binary_answers, unary_answers};
 
-/// Makes each item the answer of table `t` for it: bit `a1` of `t`. Goes by words of `W`, and gives the same list
+/// Makes each item the answer of table `t` for it: bit `a1` of `t`. Goes by 32 bytes at a time, and gives the same list
 /// whatever `W` is. Takes no memory. Of `t` the two lowest bits are read.
 ///
 /// In arrow2 it has no name.
@@ -17,12 +16,12 @@ pub fn unary_assign_table<W: BitChunk>(bitmap: &mut MutableBitmap, t: u8)
     ensures items { bitmap.new.items ≡ each t (bitmap.old.items ∷ []) }
     ensures capacity { bitmap.new.capacity ≡ bitmap.old.capacity }
 {
-    unary_assign(bitmap, |x: W| unary_answers(u16::from(t), x));
+    unary_assign_by_table(bitmap, t);
 }
 
-/// Makes each item the answer of table `t` for it and the item of `rhs`: bit `a1 + 2 * a2` of `t`. Goes by words of `W`,
-/// and gives the same list whatever `W` is. Takes no memory. Of `t` the four lowest bits are read. Asks that both have one
-/// length.
+/// Makes each item the answer of table `t` for it and the item of `rhs`: bit `a1 + 2 * a2` of `t`. Goes by 32 bytes at a
+/// time where `rhs` begins at a whole byte, else by words of `W`, and gives the same list whatever `W` is. Takes no
+/// memory. Of `t` the four lowest bits are read. Asks that both have one length.
 ///
 /// In arrow2 it has no name.
 pub fn binary_assign_table<W: BitChunk>(lhs: &mut MutableBitmap, rhs: &Bitmap, t: u8)
@@ -30,5 +29,5 @@ pub fn binary_assign_table<W: BitChunk>(lhs: &mut MutableBitmap, rhs: &Bitmap, t
     ensures items { lhs.new.items ≡ each t (lhs.old.items ∷ items_of rhs.now ∷ []) }
     ensures capacity { lhs.new.capacity ≡ lhs.old.capacity }
 {
-    binary_assign(lhs, rhs, |x: W, y: W| binary_answers(u16::from(t), x, y));
+    binary_assign_by_table::<W>(lhs, rhs, t);
 }

@@ -6,10 +6,10 @@ ghost use Rattle.arrow2_model.specs.Storage.{BitmapStorage, items_of};
 ghost use Rattle.arrow2_model.specs.Tables.{each, ActsTernary, ActsQuaternary};
 
 use crate::pair::Pair;
-use arrow2_bitmap::bitmap_ops::{binary, from_rows, unary};
+use arrow2_bitmap::bitmap_ops::{binary_by_table, from_rows, unary_by_table};
 use arrow2_bitmap::immutable::Bitmap;
 use arrow2_kernels::rows::{Beside, OneList};
-use arrow2_kernels::tables::{binary_answers, quaternary_answers, ternary_answers, unary_answers};
+use arrow2_kernels::tables::{quaternary_answers, ternary_answers};
 use arrow2_types::error::{Error, Result};
 
 /// The bitmap of what `op` answers to each three words of 64 items at one place. In the last words false stands behind
@@ -102,7 +102,7 @@ pub fn unary_table(a1: &Bitmap, t: u8) -> Result<Bitmap>
     ensures len { IfOk result (λ b. length' (items_of b) ≡ length' (items_of a1.now)) }
     ensures only { IfErr result (λ e. e ≡ Error.OutOfMemory) }
 {
-    unary(a1, |x| unary_answers(u16::from(t), x))
+    unary_by_table(a1, t)
 }
 
 /// The answers of table `t` of two inputs, item by item: bit `a1 + 2 * a2` of `t`. Asks that `t` is below 16, and that both
@@ -120,7 +120,7 @@ pub fn binary_table(a1: &Bitmap, a2: &Bitmap, t: u8) -> Result<Bitmap>
     ensures len { IfOk result (λ b. length' (items_of b) ≡ length' (items_of a1.now)) }
     ensures only { IfErr result (λ e. e ≡ Error.OutOfMemory) }
 {
-    binary(a1, a2, |x, y| binary_answers(u16::from(t), x, y))
+    binary_by_table(a1, a2, t)
 }
 
 /// The answers of table `t` of three inputs, item by item: bit `a1 + 2 * a2 + 4 * a3` of `t`. Asks that all have one length.

@@ -1,6 +1,5 @@
-use Rattle.std.proofs.Common.{◌∙◌, List, Bool, inr, rules}
+use Rattle.std.proofs.Common.{◌∙◌, List, Bool, inr}
 use Rattle.arrow2_model.specs.Storage.{items_of}
-use Rattle.arrow2_model.proofs.Tables.{acts-or}
 use Rattle.arrow2_bitmap.proofs.Constant.{or_true, or_false}
 use Rattle.arrow2_bitmap.proofs.assign_ops.or_assign.Goals as goal
 
@@ -9,9 +8,6 @@ returns-then-are_all-clause-items c =
     let own : List Bool = c.args.lhs.now.items in
     let other : List Bool = items_of c.args.rhs.now in
     c.fill.ensures.items ∙ or_true own other c.requires.same_length (inr (c.are_all.ensures c.if-are_all.true))
-
-pub returns-then-not-are_all-clause-items : goal.returns-then-not-are_all-clause-items
-returns-then-not-are_all-clause-items c = c.binary_assign.ensures.table 14 (λ x y r i x< y< i< post. acts-or 64 x y r i (search rules) i<)
 
 pub returns-else-not-are_all-clause-items : goal.returns-else-not-are_all-clause-items
 returns-else-not-are_all-clause-items c =

@@ -1,7 +1,6 @@
-use Rattle.std.proofs.Common.{◌∙◌, List, Bool, true, replicate, ap, rules}
+use Rattle.std.proofs.Common.{◌∙◌, List, Bool, true, replicate, ap}
 use Rattle.std.proofs.lemmas.Result.{IfOk-weaker}
 use Rattle.arrow2_model.specs.Storage.{items_of}
-use Rattle.arrow2_model.proofs.Tables.{acts-or}
 use Rattle.arrow2_bitmap.proofs.Constant.{or_true}
 use Rattle.arrow2_bitmap.proofs.bitmap_ops.or.Goals as goal
 
@@ -12,6 +11,3 @@ returns-then-one_is_all-clause-items c =
     IfOk-weaker c.filled.result _ _
     (λ m e. e ∙ (ap (λ n. replicate n true) c.len.ensures.items ∙ or_true a b c.requires.same_length (c.one_is_all.ensures c.if-one_is_all.true)))
     c.filled.ensures.items
-
-pub returns-else-one_is_all-clause-items : goal.returns-else-one_is_all-clause-items
-returns-else-one_is_all-clause-items c = c.binary.ensures.table 14 (λ x y r i x< y< i< post. acts-or 64 x y r i (search rules) i<)

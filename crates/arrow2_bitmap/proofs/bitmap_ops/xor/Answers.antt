@@ -1,8 +1,7 @@
-use Rattle.std.proofs.Common.{◌≡◌, ◌∙◌, List, Bool, not, length, replicate, ap, rules}
+use Rattle.std.proofs.Common.{◌≡◌, ◌∙◌, List, Bool, not, length, replicate, ap}
 use Rattle.std.proofs.lemmas.Result.{IfOk-weaker}
 use Rattle.std.specs.Bool.{beq}
 use Rattle.arrow2_model.specs.Storage.{items_of}
-use Rattle.arrow2_model.proofs.Tables.{acts-xor}
 use Rattle.arrow2_bitmap.proofs.Constant.{xor_alike}
 use Rattle.arrow2_bitmap.proofs.bitmap_ops.xor.Goals as goal
 
@@ -15,6 +14,3 @@ returns-in-Some-Some-clause-items c =
     let left : a ≡ replicate (length a) v = rw c.in-Some-Some.is-0 at c.value_of_all-left.ensures in
     let right : b ≡ replicate (length b) u = rw c.in-Some-Some.is-1 at c.value_of_all-right.ensures in
     IfOk-weaker c.filled.result _ _ (λ m e. e ∙ (ap (λ n. replicate n (not (beq v u))) c.len.ensures.items ∙ xor_alike a b v u c.requires.same_length left right)) c.filled.ensures.items
-
-pub returns-in_default-clause-items : goal.returns-in_default-clause-items
-returns-in_default-clause-items c = c.binary.ensures.table 6 (λ x y r i x< y< i< post. acts-xor 64 x y r i (search rules) i<)
