@@ -41,6 +41,16 @@ pub eight_from_four : slice_reads 3 16 4 8 ≡ 3
 unfolding slice_reads touched
 eight_from_four = refl
 
+pub forty : touched 0 320 ≡ 40
+unfolding touched
+forty = refl
+
+pub thirty_eight : touched 3 300 ≡ 38
+unfolding touched
+thirty_eight = refl
+
+pub ruleset counts = (forty, thirty_eight)
+
 pub ruleset slices = (middle, all_but_one, half, all, none, none_of_one, first_seven, eight_from_one, eight_from_four)
 
 pub first_cut : cut_reads 0 1600 800 ≡ 200

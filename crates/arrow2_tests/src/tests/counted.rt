@@ -95,6 +95,21 @@ fn bits_are_counted_through_stored_bytes(rt: HostRuntime) {
     assert!(rt; recount(&mut stored, 0, 32, 8, 20, 4) == 4);
 }
 
+#[tactic(auto, using(crate::proofs::ReadRows::counts))]
+#[test]
+fn counts_fetch_each_byte_once(rt: HostRuntime) {
+    let mut bytes = [0; 40];
+    for (i, byte) in bytes.iter_mut().enumerate() {
+        *byte = i as u8;
+    }
+    let mut stored = Stored::new(&bytes, Reads::new());
+    assert!(rt; count_zeros_counted(&mut stored, 0, 320) == 220);
+    is_read(stored.into_reads(), 40);
+    let mut stored = Stored::new(&bytes, Reads::new());
+    assert!(rt; count_zeros_counted(&mut stored, 3, 300) == 207);
+    is_read(stored.into_reads(), 38);
+}
+
 #[test]
 fn stored_bytes_are_fetched(rt: HostRuntime) {
     let mut stored = Stored::new(&[1, 2, 3, 4], Reads::new());

@@ -51,12 +51,12 @@ fn flip(bitmap: &mut MutableBitmap)
 
 /// `length` items from bit `offset` of bytes without a pattern, so that spare bits are set here and there.
 fn dirty(rt: &impl Abort, alloc: Global, seed: u64, offset: usize, length: usize) -> Bitmap
-    requires { offset + length ≤ 256 }
+    requires { offset + length ≤ 640 }
     ensures { count (items_of result) ≡ length }
 {
     let mut state = seed;
     let mut bytes = Vec::new(alloc);
-    for _ in 0..4 {
+    for _ in 0..10 {
         state = state
             .wrapping_mul(6364136223846793005)
             .wrapping_add(1442695040888963407);
@@ -170,8 +170,8 @@ fn new_by_words(rt: &impl Abort, alloc: Global, offset: usize, length: usize)
     });
 }
 
-/// Tables and operators answer item by item.
-fn new_by_tables(rt: &impl Abort, alloc: Global, offset: usize, length: usize)
+/// Tables of three and of four inputs answer item by item.
+fn by_wide_tables(rt: &impl Abort, alloc: Global, offset: usize, length: usize)
     requires offset { offset < 16 }
     requires length { length ≤ 200 }
 {
@@ -179,14 +179,6 @@ fn new_by_tables(rt: &impl Abort, alloc: Global, offset: usize, length: usize)
     let b = dirty(rt, alloc, 6, (offset * 5 + 3) % 16, length);
     let c = dirty(rt, alloc, 7, (offset * 3 + 1) % 16, length);
     let d = dirty(rt, alloc, 8, 15 - offset, length);
-    let one = unary_table(&a, 1).expect(rt, "no memory");
-    is_each(rt, &one, |i| looked_up(1, at(&a, i), false, false, false));
-    let two = binary_table(&a, &b, 11).expect(rt, "no memory");
-    is_each(
-        rt,
-        &two,
-        |i| looked_up(11, at(&a, i), at(&b, i), false, false),
-    );
     let three = ternary_table(&a, &b, &c, 0b11010010).expect(rt, "no memory");
     is_each(rt, &three, |i| {
         looked_up(0b11010010, at(&a, i), at(&b, i), at(&c, i), false)
@@ -197,25 +189,49 @@ fn new_by_tables(rt: &impl Abort, alloc: Global, offset: usize, length: usize)
     });
 }
 
-/// Operators on shared bitmaps answer item by item, and those in place the same.
-fn by_operators(rt: &impl Abort, alloc: Global, offset: usize, length: usize)
-    requires offset { offset < 16 }
-    requires length { length ≤ 200 }
+/// Tables of one and of two inputs answer item by item, in new memory and in place.
+fn by_tables(rt: &impl Abort, a: &Bitmap, b: &Bitmap, t: u8)
+    requires { count (items_of a.now) ≡ count (items_of b.now) }
 {
-    let a = dirty(rt, alloc, 9, offset, length);
-    let b = dirty(rt, alloc, 10, (offset * 5 + 3) % 16, length);
-    let both = (&a & &b).expect(rt, "no memory");
-    is_each(rt, &both, |i| at(&a, i) && at(&b, i));
-    let one = (&a | &b).expect(rt, "no memory");
-    is_each(rt, &one, |i| at(&a, i) || at(&b, i));
-    let differ = (&a ^ &b).expect(rt, "no memory");
-    is_each(rt, &differ, |i| at(&a, i) != at(&b, i));
-    let neither = (!&a).expect(rt, "no memory");
-    is_each(rt, &neither, |i| !at(&a, i));
-    is_like(rt, thawed(rt, &a) & &b, &both);
-    is_like(rt, thawed(rt, &a) | &b, &one);
-    is_like(rt, thawed(rt, &a) ^ &b, &differ);
-    is_like(rt, !thawed(rt, &a), &neither);
+    let one = unary_table(a, t % 4).expect(rt, "no memory");
+    is_each(
+        rt,
+        &one,
+        |i| looked_up(u16::from(t % 4), at(a, i), false, false, false),
+    );
+    let mut changed = thawed(rt, a);
+    unary_assign_table::<u8>(&mut changed, t % 4);
+    is_like(rt, changed, &one);
+    let two = binary_table(a, b, t % 16).expect(rt, "no memory");
+    is_each(
+        rt,
+        &two,
+        |i| looked_up(u16::from(t % 16), at(a, i), at(b, i), false, false),
+    );
+    let mut changed = thawed(rt, a);
+    binary_assign_table::<u8>(&mut changed, b, t % 16);
+    is_like(rt, changed, &two);
+    let mut changed = thawed(rt, a);
+    binary_assign_table::<u64>(&mut changed, b, t % 16);
+    is_like(rt, changed, &two);
+}
+
+/// Operators on shared bitmaps answer item by item, and those in place the same.
+fn by_operators(rt: &impl Abort, a: &Bitmap, b: &Bitmap)
+    requires { count (items_of a.now) ≡ count (items_of b.now) }
+{
+    let both = (a & b).expect(rt, "no memory");
+    is_each(rt, &both, |i| at(a, i) && at(b, i));
+    let one = (a | b).expect(rt, "no memory");
+    is_each(rt, &one, |i| at(a, i) || at(b, i));
+    let differ = (a ^ b).expect(rt, "no memory");
+    is_each(rt, &differ, |i| at(a, i) != at(b, i));
+    let neither = (!a).expect(rt, "no memory");
+    is_each(rt, &neither, |i| !at(a, i));
+    is_like(rt, thawed(rt, a) & b, &both);
+    is_like(rt, thawed(rt, a) | b, &one);
+    is_like(rt, thawed(rt, a) ^ b, &differ);
+    is_like(rt, !thawed(rt, a), &neither);
 }
 
 /// A changed bitmap has the words of the other, each one greater, at this width.
@@ -267,35 +283,6 @@ fn in_place_by_words(rt: &impl Abort, alloc: Global, offset: usize, length: usiz
     let mut changed = thawed(rt, &a);
     binary_assign(&mut changed, &b, |x: u64, y: u64| x.wrapping_sub(y));
     is_difference(rt, changed, &a, &b, 64);
-}
-
-/// In place, a table gives one list at each width: that which it gives in new memory.
-fn in_place_by_tables(rt: &impl Abort, alloc: Global, offset: usize, length: usize)
-    requires offset { offset < 16 }
-    requires length { length ≤ 200 }
-{
-    let a = dirty(rt, alloc, 13, (offset * 3 + 1) % 16, length);
-    let b = dirty(rt, alloc, 14, offset, length);
-    let flipped = unary_table(&a, 1).expect(rt, "no memory");
-    let mut changed = thawed(rt, &a);
-    unary_assign_table::<u8>(&mut changed, 1);
-    is_like(rt, changed, &flipped);
-    let mut changed = thawed(rt, &a);
-    unary_assign_table::<u64>(&mut changed, 1);
-    is_like(rt, changed, &flipped);
-    let wanted = binary_table(&a, &b, 6).expect(rt, "no memory");
-    let mut changed = thawed(rt, &a);
-    binary_assign_table::<u8>(&mut changed, &b, 6);
-    is_like(rt, changed, &wanted);
-    let mut changed = thawed(rt, &a);
-    binary_assign_table::<u16>(&mut changed, &b, 6);
-    is_like(rt, changed, &wanted);
-    let mut changed = thawed(rt, &a);
-    binary_assign_table::<u32>(&mut changed, &b, 6);
-    is_like(rt, changed, &wanted);
-    let mut changed = thawed(rt, &a);
-    binary_assign_table::<u64>(&mut changed, &b, 6);
-    is_like(rt, changed, &wanted);
 }
 
 /// A bitmap of these items.
@@ -384,9 +371,39 @@ fn tables_at_each_length_and_offset(rt: HostRuntime) {
     let alloc = rt.alloc();
     for length in 0..=200 {
         for offset in 0..16 {
-            new_by_tables(&rt, alloc, offset, length);
-            by_operators(&rt, alloc, offset, length);
-            in_place_by_tables(&rt, alloc, offset, length);
+            by_wide_tables(&rt, alloc, offset, length);
         }
     }
+    for length in 0..=600 {
+        for offset in 0..16 {
+            for beside in [offset, (offset * 5 + 3) % 16] {
+                let a = dirty(&rt, alloc, 5, offset, length);
+                let b = dirty(&rt, alloc, 6, beside, length);
+                by_tables(&rt, &a, &b, (length % 16) as u8);
+                by_operators(&rt, &a, &b);
+            }
+        }
+    }
+}
+
+/// The bitmap of 300 items that is true at the multiples of a number.
+fn multiples(rt: &impl Abort, alloc: Global, of: usize) -> Bitmap
+    requires { 0 < of }
+    ensures { count (items_of result) ≡ 300 }
+{
+    let items: Vec<bool> = (0..300usize)
+        .map(|i| i % of == 0)
+        .collect(alloc)
+        .expect(rt, "no memory");
+    assert!(rt; items.len() == 300);
+    Bitmap::from_bools(alloc, &items).expect(rt, "no memory")
+}
+
+#[test]
+fn operators_on_multiples(rt: HostRuntime) {
+    let a = multiples(&rt, rt.alloc(), 2);
+    let b = multiples(&rt, rt.alloc(), 3);
+    assert!(rt; and(&a, &b).expect(&rt, "no memory").unset_bits() == 250);
+    assert!(rt; or(&a, &b).expect(&rt, "no memory").unset_bits() == 100);
+    assert!(rt; xor(&a, &b).expect(&rt, "no memory").unset_bits() == 150);
 }
