@@ -246,13 +246,38 @@ fn runs(inputs: &Inputs) -> Vec<Line<'_>> {
     ]
 }
 
+/// The first bits, this many.
+const fn first(length: usize) -> [Part; 1] {
+    [Part { offset: 0, length }]
+}
+
+static FIRST_40: [Part; 1] = first(40);
+static FIRST_64: [Part; 1] = first(64);
+static FIRST_1_000: [Part; 1] = first(1_000);
+static FIRST_8_192: [Part; 1] = first(8_192);
+
 fn kernels(inputs: &Inputs) -> Vec<Line<'_>> {
     let Inputs { bytes, bytes_from_3, bytes_from_5, .. } = inputs;
     let own = &bytes_from_5[..LONG / 8];
+    let own_of = |length: usize| &bytes_from_5[..length / 8];
     let all = (16 * LONG, "bits");
     let runs = || vec![0; 16];
+    let calls = (100_000, "calls");
+    let short_runs = || vec![0; calls.0];
     vec![
         line!("and", all, and(bytes, &FROM_0, bytes_from_5, &FROM_0), runs()),
+        line!(
+            "and of 64 bits",
+            calls,
+            and(bytes, &FIRST_64, bytes_from_5, &FIRST_64),
+            short_runs()
+        ),
+        line!(
+            "and of 1,000 bits",
+            calls,
+            and(bytes, &FIRST_1_000, bytes_from_5, &FIRST_1_000),
+            short_runs()
+        ),
         line!("and, from bits 3 and 5", all, and(bytes_from_3, &FROM_3, bytes, &FROM_5), runs()),
         line!("unary", all, unary(bytes, &FROM_0), runs()),
         line!("unary, from bit 3", all, unary(bytes, &FROM_3), runs()),
@@ -264,6 +289,42 @@ fn kernels(inputs: &Inputs) -> Vec<Line<'_>> {
             all,
             xor_assign_by_bytes(own, bytes, &FROM_3),
             runs()
+        ),
+        line!("&=", all, and_assign(own, bytes, &FROM_0), runs()),
+        line!("&= of 40 bits", calls, and_assign(own_of(40), bytes, &FIRST_40), short_runs()),
+        line!("&= of 64 bits", calls, and_assign(own_of(64), bytes, &FIRST_64), short_runs()),
+        line!(
+            "&= of 1,000 bits",
+            calls,
+            and_assign(own_of(1_000), bytes, &FIRST_1_000),
+            short_runs()
+        ),
+        line!(
+            "&= of 8,192 bits",
+            calls,
+            and_assign(own_of(8_192), bytes, &FIRST_8_192),
+            short_runs()
+        ),
+        line!("binary_assign_table", all, binary_assign_table(own, bytes, &FROM_0), runs()),
+        line!(
+            "binary_assign_table of 40 bits",
+            calls,
+            binary_assign_table(own_of(40), bytes, &FIRST_40),
+            short_runs()
+        ),
+        line!(
+            "binary_assign_table of 8,192 bits",
+            calls,
+            binary_assign_table(own_of(8_192), bytes, &FIRST_8_192),
+            short_runs()
+        ),
+        line!("unary_assign_table", all, unary_assign_table(own), runs()),
+        line!("unary_assign_table of 40 bits", calls, unary_assign_table(own_of(40)), short_runs()),
+        line!(
+            "unary_assign_table of 8,192 bits",
+            calls,
+            unary_assign_table(own_of(8_192)),
+            short_runs()
         ),
     ]
 }

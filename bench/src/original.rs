@@ -175,11 +175,33 @@ pub fn unary(bytes: &[u8], parts: &[Part], runs: &[usize]) -> usize {
 }
 
 pub fn xor_assign(own: &[u8], bytes: &[u8], parts: &[Part], runs: &[usize]) -> usize {
-    assigned(own, bytes, parts, runs, |own, other| bitmap::binary_assign(own, other, |x: u64, y| x ^ y))
+    assigned(own, bytes, parts, runs, |own, other| {
+        bitmap::binary_assign(own, other, |x: u64, y| x ^ y)
+    })
 }
 
 pub fn xor_assign_by_bytes(own: &[u8], bytes: &[u8], parts: &[Part], runs: &[usize]) -> usize {
-    assigned(own, bytes, parts, runs, |own, other| bitmap::binary_assign(own, other, |x: u8, y| x ^ y))
+    assigned(own, bytes, parts, runs, |own, other| {
+        bitmap::binary_assign(own, other, |x: u8, y| x ^ y)
+    })
+}
+
+pub fn and_assign(own: &[u8], bytes: &[u8], parts: &[Part], runs: &[usize]) -> usize {
+    assigned(own, bytes, parts, runs, |mut own, other| own &= other)
+}
+
+pub fn binary_assign_table(own: &[u8], bytes: &[u8], parts: &[Part], runs: &[usize]) -> usize {
+    assigned(own, bytes, parts, runs, |own, other| {
+        bitmap::binary_assign(own, other, |x: u64, y| !(x ^ y))
+    })
+}
+
+pub fn unary_assign_table(own: &[u8], runs: &[usize]) -> usize {
+    let mut bitmap = MutableBitmap::from_vec(own.to_vec(), own.len() * 8);
+    for _ in runs {
+        bitmap::unary_assign(&mut bitmap, |x: u8| !x);
+    }
+    bitmap.unset_bits()
 }
 
 /// How many items of a growing bitmap are not set once the bitmaps that the runs choose have changed it in

@@ -48,6 +48,9 @@ exports! {
     fn unary = bench_unary(bytes: u8, parts: Part, runs: usize);
     fn xor_assign = bench_xor_assign(own: u8, bytes: u8, parts: Part, runs: usize);
     fn xor_assign_by_bytes = bench_xor_assign_by_bytes(own: u8, bytes: u8, parts: Part, runs: usize);
+    fn and_assign = bench_and_assign(own: u8, bytes: u8, parts: Part, runs: usize);
+    fn binary_assign_table = bench_binary_assign_table(own: u8, bytes: u8, parts: Part, runs: usize);
+    fn unary_assign_table = bench_unary_assign_table(own: u8, runs: usize);
 
     fn buffer_sliced = bench_buffer_sliced(items: u64, parts: Part);
     fn buffer_into_iter = bench_buffer_into_iter(items: u64, parts: Part);

@@ -8,6 +8,7 @@ use arrow2_bitmap::bitmap_ops::{and, unary};
 use arrow2_bitmap::immutable::Bitmap;
 use arrow2_bitmap::mutable::MutableBitmap;
 use arrow2_chunk::bit_chunk::BitChunk;
+use arrow2_tables::assign_ops::{binary_assign_table, unary_assign_table};
 use std::alloc::Global;
 
 /// New bitmaps of what is set in both bitmaps at the same place, each with its count.
@@ -94,6 +95,57 @@ fn xor_in_place<T: BitChunk>(own: &mut MutableBitmap, other: &Bitmap) {
     if own.len() == other.len() {
         binary_assign::<T, _>(own, other, |x, y| x.bit_xor(y));
     }
+}
+
+/// A growing bitmap of which the items stay that each of the bitmaps has too.
+#[unsafe(no_mangle)]
+pub extern "C" fn bench_and_assign(
+    alloc: Global,
+    own: &[u8],
+    bytes: &[u8],
+    parts: &[Part],
+    runs: &[usize],
+) -> usize {
+    assigned(alloc, own, bytes, parts, runs, and_in_place)
+}
+
+/// Leaves the items that are set in the other bitmap too. Leaves all where they differ in length.
+fn and_in_place(own: &mut MutableBitmap, other: &Bitmap) {
+    if own.len() == other.len() {
+        *own &= other;
+    }
+}
+
+/// A growing bitmap whose items become, by a table, whether they are those of each of the bitmaps.
+#[unsafe(no_mangle)]
+pub extern "C" fn bench_binary_assign_table(
+    alloc: Global,
+    own: &[u8],
+    bytes: &[u8],
+    parts: &[Part],
+    runs: &[usize],
+) -> usize {
+    assigned(alloc, own, bytes, parts, runs, equal_in_place)
+}
+
+/// Sets the items that are those of the other bitmap. Leaves all where they differ in length.
+fn equal_in_place(own: &mut MutableBitmap, other: &Bitmap) {
+    if own.len() == other.len() {
+        binary_assign_table::<u64>(own, other, 0b1001);
+    }
+}
+
+/// A growing bitmap whose items are turned, by a table, once for each run.
+#[unsafe(no_mangle)]
+pub extern "C" fn bench_unary_assign_table(alloc: Global, own: &[u8], runs: &[usize]) -> usize {
+    let Ok(made) = growing(alloc, own, own.len().saturating_mul(8)) else {
+        return 0;
+    };
+    let mut bitmap = made;
+    for _ in runs {
+        unary_assign_table::<u8>(&mut bitmap, 0b01);
+    }
+    bitmap.unset_bits()
 }
 
 /// How many items of a growing bitmap are not set once the bitmaps that the runs choose have changed it in turn.
