@@ -1,8 +1,14 @@
-/* Preloaded, it refuses one request for memory: the one whose number, from 1 on, REFUSE gives. */
-#define _GNU_SOURCE
-#include <dlfcn.h>
-#include <stdio.h>
-#include <stdlib.h>
+/* Preloaded, it refuses one request for memory: the one whose number, from 1 on, REFUSE gives, and says so on
+   descriptor 3. It takes no header, since the kit's compiler comes without any. */
+typedef __SIZE_TYPE__ size_t;
+
+extern void *dlsym(void *handle, const char *name);
+extern char *getenv(const char *name);
+extern long atol(const char *digits);
+extern long write(int descriptor, const void *bytes, size_t count);
+
+/* The next library that has a name, as <dlfcn.h> says it. */
+#define NEXT ((void *)-1L)
 
 static int refused(void) {
     static long left = -1;
@@ -12,20 +18,20 @@ static int refused(void) {
     }
     if (left == 0 || --left > 0)
         return 0;
-    fputs("refused\n", stderr);
+    write(3, "refused\n", 8);
     return 1;
 }
 
 void *malloc(size_t size) {
-    static void *(*real)(size_t);
-    if (!real)
-        real = (void *(*)(size_t))dlsym(RTLD_NEXT, "malloc");
-    return refused() ? NULL : real(size);
+    static void *(*next)(size_t);
+    if (!next)
+        next = (void *(*)(size_t))dlsym(NEXT, "malloc");
+    return refused() ? 0 : next(size);
 }
 
 void *realloc(void *block, size_t size) {
-    static void *(*real)(void *, size_t);
-    if (!real)
-        real = (void *(*)(void *, size_t))dlsym(RTLD_NEXT, "realloc");
-    return refused() ? NULL : real(block, size);
+    static void *(*next)(void *, size_t);
+    if (!next)
+        next = (void *(*)(void *, size_t))dlsym(NEXT, "realloc");
+    return refused() ? 0 : next(block, size);
 }

@@ -1,5 +1,5 @@
 //! Every call that changes a bitmap in place, on bitmaps of 70 items, each shown. None of them takes memory, so the text
-//! stays the same whichever request for memory is refused (`tests/refused`).
+//! stays the same whichever request for memory is refused (`tests/run`).
 #![tactic(auto)]
 
 use arrow2_bitmap::assign_ops::{binary_assign, unary_assign};
