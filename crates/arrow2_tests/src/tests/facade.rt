@@ -104,12 +104,10 @@ fn combines_by_tables(rt: &impl Abort, a: bitmap::Bitmap, same: bitmap::Bitmap) 
     bitmap::unary_assign(&mut own, |x: u8| !x);
     bitmap::unary_assign_table::<u16>(&mut own, 1);
     assert!(rt; own.unset_bits() == a.unset_bits());
-    if own.len() == a.len() {
-        bitmap::binary_assign(&mut own, &a, |x: u32, y| x | y);
-    }
-    if own.len() == a.len() {
-        bitmap::binary_assign_table::<u64>(&mut own, &a, 14);
-    }
+    assert!(rt; own.len() == a.len());
+    bitmap::binary_assign(&mut own, &a, |x: u32, y| x | y);
+    assert!(rt; own.len() == a.len());
+    bitmap::binary_assign_table::<u64>(&mut own, &a, 14);
     assert!(rt; own.unset_bits() == a.unset_bits());
 }
 

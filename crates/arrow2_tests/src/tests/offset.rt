@@ -156,10 +156,9 @@ fn shares<O: Offset>(rt: &impl Abort, alloc: Global) {
     assert!(rt; again == other);
     let vector = all.clone().expect(rt, "no memory").into_inner();
     assert!(rt; OffsetsBuffer::try_from(vector).expect(rt, "no memory") == other);
-    if other.len() == 5 {
-        all.try_extend_from_slice(&other, 1, 2)
-            .expect(rt, "no memory");
-    }
+    assert!(rt; other.len() == 5);
+    all.try_extend_from_slice(&other, 1, 2)
+        .expect(rt, "no memory");
     are(rt, all.as_slice(), &[0, 5, 8, 8, 12, 15, 15]);
     are(rt, other.into_inner().as_slice(), &[0, 5, 8, 8, 12]);
 }
