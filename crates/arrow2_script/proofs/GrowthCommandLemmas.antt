@@ -1,54 +1,37 @@
 -- Words say one command by which a bitmap grows at most, and each is spelled in one way.
-use Rattle.std.proofs.Common.{◌≡◌, refl, ◌<◌, ℕ, List, [], ◌∷◌, length, true, arith, codes}
-use Rattle.std.specs.Prelude.{Option, Some, None}
+use Rattle.std.proofs.Common.{◌≡◌, refl, ℕ, List, ◌∷◌, true, codes}
+use Rattle.std.specs.Prelude.{Some, None}
 use Rattle.std.specs.List.{list_all}
 use Rattle.std.proofs.lemmas.Option.{none-some}
-use Rattle.arrow2_script.specs.GrowthCommands.{fill_of, append_of, growth_named, growth_words, GrowthFits}
+use Rattle.arrow2_script.specs.BitmapCommands.{bitmap_named}
+use Rattle.arrow2_script.specs.OffsetCommands.{offset_named}
+use Rattle.arrow2_script.specs.ValueCommands.{value_named}
+use Rattle.arrow2_script.specs.StorageCommands.{storage_named}
+use Rattle.arrow2_script.specs.KernelCommands.{kernel_named}
+use Rattle.arrow2_script.specs.GrowthCommands.{growth_named, growth_words, GrowthFits}
+use Rattle.arrow2_script.specs.Commands.{named, command_of}
 use Rattle.arrow2_script.specs.declared.growth_command.GrowthCommand.{GrowthCommand}
 use Rattle.arrow2_script.specs.declared.growth_command.GrowthCommand.TheVariants.{Fill, Append}
-use Rattle.arrow2_script.proofs.KindLemmas.{slots, numbers, bits, two_then, three_then, at_name}
-use Rattle.arrow2_script.proofs.SpellingLemmas.{is_word, number_word, slot_word, bit_word}
-use Rattle.arrow2_script.proofs.WordLemmas.{number_of-decimal, slot_of-decimal, bit_of-byte}
+use Rattle.arrow2_script.specs.declared.command.Command.TheVariants as Kinds
+use Rattle.arrow2_script.proofs.KindLemmas.{bits, numbers, slots, more, no_more, at_row}
+use Rattle.arrow2_script.proofs.SpellingLemmas.{is_word}
+use Rattle.arrow2_script.proofs.WordLemmas.{bit_of-byte, number_of-decimal, slot_of-decimal}
 
--- the words of a command by which a bitmap grows, behind this name
+-- behind this name, the words of a command by which a bitmap grows, which are words
 abbrev Says : List ℕ → List (List ℕ) → GrowthCommand → Type 0
-Says name words command = GrowthFits command × (name ∷ words ≡ growth_words command)
-
-fill_says : (words : List (List ℕ)) (command : GrowthCommand) → fill_of words ≡ Some command → Says (codes "fill") words command
-unfolding fill_of
-fill_says = three_then slots numbers bits Fill (Says (codes "fill")) (λ slot additional bit s n b. ((s, n), refl))
-
-append_says : (words : List (List ℕ)) (command : GrowthCommand) → append_of words ≡ Some command → Says (codes "append") words command
-unfolding append_of
-append_says = two_then slots slots Append (Says (codes "append")) (λ to from t f. ((t, f), refl))
+Says name words command = GrowthFits command × (name ∷ words ≡ growth_words command) × (list_all is_word (name ∷ words) ≡ true)
 
 -- words that say a command by which a bitmap grows are its words
 pub growth_says : (name : List ℕ) (words : List (List ℕ)) (command : GrowthCommand) → growth_named name words ≡ Some command → Says name words command
-unfolding growth_named
+unfolding growth_named is_word
 growth_says name words command =
-    let at = at_name (λ known c. Says known words c) in
-    at (codes "fill") (fill_of words) name command (fill_says words command) _ (
-    at (codes "append") (append_of words) name command (append_says words command) None (
+    let says = Says in
+    at_row says (codes "fill") refl (more slots (more numbers (more bits no_more))) (λ p. Fill p.0 p.1.0 p.1.1.0) (λ p f w. ((f.0, f.1.0), refl, w)) words name command _ (
+    at_row says (codes "append") refl (more slots (more slots no_more)) (λ p. Append p.0 p.1.0) (λ p f w. ((f.0, f.1.0), refl, w)) words name command None (
     λ e. absurd (none-some command e)))
 
--- the command by which a bitmap grows that words say
-abbrev pub growth_of : List (List ℕ) → Option GrowthCommand
-growth_of [] = None
-growth_of (name ∷ words) = growth_named name words
-
 -- the words of a command by which a bitmap grows say it
-pub growth_of-words : (command : GrowthCommand) → GrowthFits command → growth_of (growth_words command) ≡ Some command
-unfolding growth_named fill_of append_of
+pub growth_of-words : (command : GrowthCommand) → GrowthFits command → command_of (growth_words command) ≡ Some (Kinds.Growth command)
+unfolding command_of named bitmap_named offset_named value_named storage_named kernel_named growth_named
 growth_of-words (Fill slot additional bit) fits = rw (slot_of-decimal slot fits.0, number_of-decimal additional fits.1, bit_of-byte bit) refl
 growth_of-words (Append to from) fits = rw (slot_of-decimal to fits.0, slot_of-decimal from fits.1) refl
-
--- they are words
-pub growth_words_pass : (command : GrowthCommand) → GrowthFits command → list_all is_word (growth_words command) ≡ true
-unfolding is_word
-growth_words_pass (Fill slot additional bit) fits = rw (slot_word slot fits.0, number_word additional fits.1, bit_word bit) refl
-growth_words_pass (Append to from) fits = rw (slot_word to fits.0, slot_word from fits.1) refl
-
--- and there are some
-pub some_growth_words : (command : GrowthCommand) → 0 < length (growth_words command)
-some_growth_words (Fill slot additional bit) = omega arith
-some_growth_words (Append to from) = omega arith

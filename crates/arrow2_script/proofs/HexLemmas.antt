@@ -1,5 +1,5 @@
 -- Words that say bytes in hexadecimal, and the one word that says each.
-use Rattle.std.proofs.Common.{codes, ◌≡◌, ◌∙◌, sym, ap, refl, ◌+◌, ◌*◌, ◌/◌, ◌%◌, ◌<◌, ℕ, suc, List, [], ◌∷◌, length, true, false, ◌&&◌, inl, inr, arith, eqb}
+use Rattle.std.proofs.Common.{codes, ◌≡◌, ◌∙◌, sym, ap, refl, ◌+◌, ◌*◌, ◌/◌, ◌%◌, ◌<◌, ℕ, List, [], ◌∷◌, length, true, false, ◌&&◌, inl, inr, arith, eqb}
 use Rattle.std.specs.Prelude.{Some}
 use Rattle.std.specs.List.{All, list_all, flat_map}
 use Rattle.std.specs.Str.{bytes_eq}
@@ -7,6 +7,7 @@ use Rattle.std.proofs.lemmas.List.Elements.{All-cons, All-nil}
 use Rattle.std.proofs.lemmas.Option.{cond_some, none-some, same_Some}
 use Rattle.std.proofs.lemmas.Slice.Eq.{bytes_eq-Decides}
 use Rattle.arrow2_script.specs.Words.{is_hex_digit, hex_value, hex_digit, bytes_said, hex_digits, hex_text, bytes_of}
+use Rattle.arrow2_script.proofs.LineLemmas.{parts_all}
 use Rattle.arrow2_script.proofs.WordLemmas.{choice, both, some_bytes, other_than}
 
 -- two digits say the first byte, and those behind them the others
@@ -42,16 +43,13 @@ value_digit n h = grind (arith, h)
 is_digit : (n : ℕ) → n < 16 → is_hex_digit (hex_digit n) ≡ true
 is_digit n h = grind (arith, h)
 
-front : (b : ℕ) (bs : List ℕ) → All (λ m. m < 256) (b ∷ bs) → (b < 256) × All (λ m. m < 256) bs
-front b bs all = (all 0 0 (omega arith), λ k d h. all (suc k) d (omega arith))
-
 halves : (b : ℕ) → b < 256 → (b / 16 < 16) × (b % 16 < 16) × (16 * (b / 16) + b % 16 ≡ b)
 halves b h = (omega (arith, h), omega arith, omega arith)
 
 are_digits : (bs : List ℕ) → All (λ m. m < 256) bs → list_all is_hex_digit (flat_map hex_digits bs) ≡ true
 are_digits [] all = refl
 are_digits (b ∷ bs) all =
-    let p = front b bs all in
+    let p = parts_all (λ m. m < 256) b bs all in
     let h = halves b p.0 in
     rw (is_digit (b / 16) h.0, is_digit (b % 16) h.1, are_digits bs p.1) refl
 
@@ -63,7 +61,7 @@ said_again : (bs : List ℕ) → All (λ m. m < 256) bs → bytes_said (flat_map
 unfolding bytes_said
 said_again [] all = refl
 said_again (b ∷ bs) all =
-    let p = front b bs all in
+    let p = parts_all (λ m. m < 256) b bs all in
     let h = halves b p.0 in
     rw (value_digit (b / 16) h.0, value_digit (b % 16) h.1, h.2, said_again bs p.1) refl
 

@@ -1,5 +1,5 @@
 -- The laws of the script's grammar.
-use Rattle.std.proofs.Common.{◌≡◌, ◌≢◌, ◌∙◌, sym, ap, refl, subst, ◌<◌, ℕ, suc, List, [], ◌∷◌, ◌++◌, length, Bool, true, false, cond, ◌||◌, not, ◌⊎◌, inl, inr, arith, eqb, append_assoc}
+use Rattle.std.proofs.Common.{◌≡◌, ◌≢◌, ◌∙◌, sym, ap, refl, subst, ◌<◌, ℕ, List, [], ◌∷◌, ◌++◌, length, Bool, true, false, cond, ◌||◌, not, ◌⊎◌, inl, inr, arith, eqb, append_assoc}
 use Rattle.std.specs.Prelude.{Some, ◌↔◌}
 use Rattle.std.specs.List.{All, flat_map, list_any, list_all, slice_split, onto_first, join_with_byte}
 use Rattle.std.proofs.lemmas.List.Elements.{All-cons, All-nil}
@@ -7,17 +7,14 @@ use Rattle.std.proofs.lemmas.List.Splits.{join_with_byte-slice_split}
 use Rattle.arrow2_script.specs.Lines.{lines_of, parts_of, parts_between, words_of, is_blank, closed, ended, IsLine, AreLines, IsWord, AreWords}
 use Rattle.arrow2_script.specs.Commands.{command_of, command_in, command_words, IsSpelling}
 use Rattle.arrow2_script.specs.declared.command.Command.{Command}
-use Rattle.arrow2_script.proofs.LineLemmas.{lines_of-cut, parts-joined}
-use Rattle.arrow2_script.proofs.SpellingLemmas.{is_word, both, not_true, filled}
-use Rattle.arrow2_script.proofs.CommandLemmas.{command_says, command_of-words, command_words_pass, some_words}
+use Rattle.arrow2_script.proofs.LineLemmas.{lines_of-cut, parts-joined, parts_all}
+use Rattle.arrow2_script.proofs.SpellingLemmas.{is_word, not_true, filled}
+use Rattle.arrow2_script.proofs.WordLemmas.{both}
+use Rattle.arrow2_script.proofs.CommandLemmas.{command_says, command_of-words, some_words}
 
 -- a byte is this one, or the test tells it apart
 is_or_other : (a b : ℕ) → (a ≡ b) ⊎ (eqb a b ≡ false)
 is_or_other a b = grind arith
-
--- the first element of such a list, and the others
-parts_all : {X : Type 0} (P : X → Type 0) (x : X) (xs : List X) → All P (x ∷ xs) → P x × All P xs
-parts_all P x xs all = (all 0 x (omega arith), λ k d h. all (suc k) d (omega arith))
 
 -- ---- lines
 
@@ -174,14 +171,16 @@ spelled : (line : List ℕ) (command : Command) → command_in line ≡ Some com
 unfolding command_in
 spelled line command e =
     let p = command_says (words_of line) command e in
-    let are = words_are line (rw p.1 (some_words command)) in
+    let are = words_are line (some_words (words_of line) command e) in
     (p.0, sym are.2 ∙ ap (λ t. join_with_byte 32 t) p.1)
 
 read : (line : List ℕ) (command : Command) → IsSpelling line command → command_in line ≡ Some command
 unfolding command_in
 read line command is =
-    let words = words_only line (command_words command) (some_words command, words_pass (command_words command) (command_words_pass command is.0), sym is.1) in
-    ap command_of words ∙ command_of-words command is.0
+    let parts = command_words command in
+    let says = command_of-words command is.0 in
+    let words = words_only line parts (some_words parts command says, words_pass parts (command_says parts command says).2, sym is.1) in
+    ap command_of words ∙ says
 
 pub command_law : (line : List ℕ) (command : Command) → (command_in line ≡ Some command) ↔ IsSpelling line command
 command_law line command = (spelled line command, read line command)

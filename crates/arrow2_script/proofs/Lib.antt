@@ -1,4 +1,3 @@
-pub mod ArgumentLemmas
 pub mod ArrayCommandLemmas
 pub mod BitmapCommandLemmas
 pub mod CommandLemmas

@@ -10,15 +10,15 @@ other : (a b : ℕ) → a ≢ b → eqb a b ≡ false
 other a b ne = grind (arith, ne)
 
 -- the first element of such a list, and the others
-front : (c b : ℕ) (bytes : List ℕ) → All (λ x. x ≢ c) (b ∷ bytes) → (b ≢ c) × All (λ x. x ≢ c) bytes
-front c b bytes all = (all 0 0 (omega arith), λ k d h. all (suc k) d (omega arith))
+pub parts_all : {X : Type 0} (P : X → Type 0) (x : X) (xs : List X) → All P (x ∷ xs) → P x × All P xs
+parts_all P x xs all = (all 0 x (omega arith), λ k d h. all (suc k) d (omega arith))
 
 -- what is free of byte 10 is the first line, before a byte 10
 pub lines_of-cut : (line rest : List ℕ) → All (λ b. b ≢ 10) line → lines_of (line ++ 10 ∷ rest) ≡ line ∷ lines_of rest
 unfolding lines_of
 lines_of-cut [] rest all = refl
 lines_of-cut (b ∷ line) rest all =
-    let f = front 10 b line all in
+    let f = parts_all (λ x. x ≢ 10) b line all in
     let test = other b 10 f.0 in
     rw (test, lines_of-cut line rest f.1) refl
 
@@ -26,10 +26,10 @@ lines_of-cut (b ∷ line) rest all =
 pub lines_of-last : (b : ℕ) (line : List ℕ) → All (λ x. x ≢ 10) (b ∷ line) → lines_of (b ∷ line) ≡ (b ∷ line) ∷ []
 unfolding lines_of
 lines_of-last b [] all =
-    let test = other b 10 (front 10 b [] all).0 in
+    let test = other b 10 (parts_all (λ x. x ≢ 10) b [] all).0 in
     rw test refl
 lines_of-last b (c ∷ line) all =
-    let f = front 10 b (c ∷ line) all in
+    let f = parts_all (λ x. x ≢ 10) b (c ∷ line) all in
     let test = other b 10 f.0 in
     rw (test, lines_of-last c line f.1) refl
 

@@ -1,5 +1,5 @@
 -- Words that say lists of numbers, and the one word that says each.
-use Rattle.std.proofs.Common.{map, codes, ◌≡◌, ◌≢◌, ◌∙◌, sym, ap, refl, ◌<◌, ◌^◌, ℕ, suc, List, [], ◌∷◌, length, true, inl, inr, arith, eqb}
+use Rattle.std.proofs.Common.{map, codes, ◌≡◌, ◌≢◌, ◌∙◌, sym, ap, refl, ◌<◌, ◌^◌, ℕ, List, [], ◌∷◌, length, true, inl, inr, arith, eqb}
 use Rattle.std.specs.Prelude.{Some, None}
 use Rattle.std.specs.List.{All, list_all, join_with_byte}
 use Rattle.std.specs.Str.{bytes_eq}
@@ -13,7 +13,7 @@ use Rattle.std.proofs.lemmas.List.Elements.{All-cons, All-nil}
 use Rattle.std.proofs.lemmas.List.Splits.{join_with_byte-slice_split, length-slice_split}
 use Rattle.arrow2_script.specs.Lines.{parts_between}
 use Rattle.arrow2_script.specs.Words.{number_of, is_number, numbers_said, numbers_text, numbers_of}
-use Rattle.arrow2_script.proofs.LineLemmas.{parts-joined, parts-last}
+use Rattle.arrow2_script.proofs.LineLemmas.{parts_all, parts-joined, parts-last}
 use Rattle.arrow2_script.proofs.WordLemmas.{number_of-decimal, decimal-number_of, some_or_none, both, choice, other_than, no_dash}
 
 -- a word that is a number says the number of its digits
@@ -47,19 +47,16 @@ pub ruleset numbers = (first_number, some_number, other_numbers)
 
 -- ---- from numbers to their word
 
-front : (n : ℕ) (ns : List ℕ) → All (λ m. m < 2 ^ 64) (n ∷ ns) → (n < 2 ^ 64) × All (λ m. m < 2 ^ 64) ns
-front n ns all = (all 0 0 (omega arith), λ k d h. all (suc k) d (omega arith))
-
 are_numbers : (ns : List ℕ) → All (λ m. m < 2 ^ 64) ns → list_all is_number (map decimal ns) ≡ true
 are_numbers [] all = refl
 are_numbers (n ∷ ns) all =
-    let p = front n ns all in
+    let p = parts_all (λ m. m < 2 ^ 64) n ns all in
     rw (number_of-decimal n p.0, are_numbers ns p.1) refl
 
 said_again : (ns : List ℕ) → All (λ m. m < 2 ^ 64) ns → numbers_said (map decimal ns) ≡ ns
 said_again [] all = refl
 said_again (n ∷ ns) all =
-    let p = front n ns all in
+    let p = parts_all (λ m. m < 2 ^ 64) n ns all in
     rw ((decimal_is_IsNumeral n p.0).1, said_again ns p.1) refl
 
 digits_free : (digits : List ℕ) → AllDigits 10 digits → All (λ b. b ≢ 44) digits
@@ -71,7 +68,7 @@ digits_free (d ∷ digits) all =
 words_free : (ns : List ℕ) → All (λ m. m < 2 ^ 64) ns → All (λ part. All (λ b. b ≢ 44) part) (map decimal ns)
 words_free [] all = All-nil (λ part. All (λ b. b ≢ 44) part)
 words_free (n ∷ ns) all =
-    let p = front n ns all in
+    let p = parts_all (λ m. m < 2 ^ 64) n ns all in
     All-cons (λ part. All (λ b. b ≢ 44) part) (decimal n) (map decimal ns) (digits_free (decimal n) (decimal_is_IsNumeral n p.0).0.1) (words_free ns p.1)
 
 -- the parts of such a word are the words of its numbers
@@ -85,7 +82,7 @@ not_dash : (n : ℕ) (ns : List ℕ) → All (λ m. m < 2 ^ 64) (n ∷ ns) → j
 not_dash n ns all e =
     let dash : parts_between 44 (codes "-") ≡ codes "-" ∷ [] = parts-last 44 (codes "-") (All-cons (λ b. b ≢ 44) 45 [] (omega arith) (All-nil (λ b. b ≢ 44))) in
     let same : map decimal (n ∷ ns) ≡ codes "-" ∷ [] = sym (numbers_parts n ns all) ∙ ap (parts_between 44) e ∙ dash in
-    no_dash n (front n ns all).0 (first_word (decimal n) (codes "-") (map decimal ns) [] same)
+    no_dash n (parts_all (λ m. m < 2 ^ 64) n ns all).0 (first_word (decimal n) (codes "-") (map decimal ns) [] same)
 
 pub numbers_of-text : (ns : List ℕ) → All (λ m. m < 2 ^ 64) ns → numbers_of (numbers_text ns) ≡ Some ns
 unfolding numbers_of

@@ -10,16 +10,12 @@ use Rattle.std.proofs.lemmas.Fmt.{decimal_is_IsNumeral}
 use Rattle.arrow2_script.specs.Lines.{is_blank}
 use Rattle.arrow2_script.specs.Words.{bit_byte, bits_text, optional_slot_word, numbers_text, width_word, hex_digit, hex_digits, hex_text}
 use Rattle.arrow2_script.specs.declared.words.Width.{Width}
+use Rattle.arrow2_script.proofs.WordLemmas.{both}
 use Rattle.arrow2_script.specs.declared.words.Width.TheVariants.{Bits8, Bits16, Bits32, Bits64}
 
 -- one byte or more, none of them 32
 unfoldable pub is_word : List ℕ → Bool
 is_word word = not (is_blank word) && list_all (λ b. not (eqb b 32)) word
-
-pub both : (a b : Bool) → (a && b) ≡ true → (a ≡ true) × (b ≡ true)
-both true true e = (refl, refl)
-both true false e = cc
-both false b e = cc
 
 pub not_true : (b : Bool) → not b ≡ true → b ≡ false
 not_true true e = cc

@@ -1,92 +1,24 @@
 -- The commands on bitmaps, and how each is spelled.
-use Rattle.std.specs.Prelude.{◌<◌, ◌^◌, ℕ, List, [], ◌∷◌, codes, Option, Some, None, if◌then◌else◌}
+use Rattle.std.specs.Prelude.{◌<◌, ◌^◌, ℕ, List, [], ◌∷◌, codes, Option, None, option_map, if◌then◌else◌}
 use Rattle.std.specs.Str.{bytes_eq}
 use Rattle.std.specs.Fmt.{decimal}
-use Rattle.arrow2_script.specs.Arguments.{◌>>=◌, one_of, two_of, three_of}
+use Rattle.arrow2_script.specs.Arguments.{◌>>◌, no_words}
 use Rattle.arrow2_script.specs.Words.{number_of, slot_of, bit_of, bits_of, bit_byte, bits_text}
 use Rattle.arrow2_script.specs.declared.bitmap_command.BitmapCommand.{BitmapCommand}
 use Rattle.arrow2_script.specs.declared.bitmap_command.BitmapCommand.TheVariants.{New, Push, Pop, Get, Freeze, Thaw, Slice, Count, Bits}
 
--- `new s bits`, after its name
-unfoldable pub new_of : List (List ℕ) → Option BitmapCommand
-new_of words = do
-  said ← two_of words
-  slot ← slot_of said.0
-  bits ← bits_of said.1
-  Some (New slot bits)
-
--- `push s bit`
-unfoldable pub push_of : List (List ℕ) → Option BitmapCommand
-push_of words = do
-  said ← two_of words
-  slot ← slot_of said.0
-  bit ← bit_of said.1
-  Some (Push slot bit)
-
--- `pop s`
-unfoldable pub pop_of : List (List ℕ) → Option BitmapCommand
-pop_of words = do
-  said ← one_of words
-  slot ← slot_of said
-  Some (Pop slot)
-
--- `get s i`
-unfoldable pub get_of : List (List ℕ) → Option BitmapCommand
-get_of words = do
-  said ← two_of words
-  slot ← slot_of said.0
-  index ← number_of said.1
-  Some (Get slot index)
-
--- `freeze s`
-unfoldable pub freeze_of : List (List ℕ) → Option BitmapCommand
-freeze_of words = do
-  said ← one_of words
-  slot ← slot_of said
-  Some (Freeze slot)
-
--- `thaw s`
-unfoldable pub thaw_of : List (List ℕ) → Option BitmapCommand
-thaw_of words = do
-  said ← one_of words
-  slot ← slot_of said
-  Some (Thaw slot)
-
--- `slice s i n`
-unfoldable pub slice_of : List (List ℕ) → Option BitmapCommand
-slice_of words = do
-  said ← three_of words
-  slot ← slot_of said.0
-  offset ← number_of said.1
-  length ← number_of said.2
-  Some (Slice slot offset length)
-
--- `count s`
-unfoldable pub count_of : List (List ℕ) → Option BitmapCommand
-count_of words = do
-  said ← one_of words
-  slot ← slot_of said
-  Some (Count slot)
-
--- `bits s`
-unfoldable pub bits_of_slot : List (List ℕ) → Option BitmapCommand
-bits_of_slot words = do
-  said ← one_of words
-  slot ← slot_of said
-  Some (Bits slot)
-
 -- the command on bitmaps that the words after a name say
 unfoldable pub bitmap_named : List ℕ → List (List ℕ) → Option BitmapCommand
 bitmap_named name words =
-    if bytes_eq name (codes "new") then new_of words
-    else if bytes_eq name (codes "push") then push_of words
-    else if bytes_eq name (codes "pop") then pop_of words
-    else if bytes_eq name (codes "get") then get_of words
-    else if bytes_eq name (codes "freeze") then freeze_of words
-    else if bytes_eq name (codes "thaw") then thaw_of words
-    else if bytes_eq name (codes "slice") then slice_of words
-    else if bytes_eq name (codes "count") then count_of words
-    else if bytes_eq name (codes "bits") then bits_of_slot words
+    if bytes_eq name (codes "new") then option_map (λ p. New p.0 p.1.0) ((slot_of >> bits_of >> no_words) words)
+    else if bytes_eq name (codes "push") then option_map (λ p. Push p.0 p.1.0) ((slot_of >> bit_of >> no_words) words)
+    else if bytes_eq name (codes "pop") then option_map (λ p. Pop p.0) ((slot_of >> no_words) words)
+    else if bytes_eq name (codes "get") then option_map (λ p. Get p.0 p.1.0) ((slot_of >> number_of >> no_words) words)
+    else if bytes_eq name (codes "freeze") then option_map (λ p. Freeze p.0) ((slot_of >> no_words) words)
+    else if bytes_eq name (codes "thaw") then option_map (λ p. Thaw p.0) ((slot_of >> no_words) words)
+    else if bytes_eq name (codes "slice") then option_map (λ p. Slice p.0 p.1.0 p.1.1.0) ((slot_of >> number_of >> number_of >> no_words) words)
+    else if bytes_eq name (codes "count") then option_map (λ p. Count p.0) ((slot_of >> no_words) words)
+    else if bytes_eq name (codes "bits") then option_map (λ p. Bits p.0) ((slot_of >> no_words) words)
     else None
 
 -- the words of a command on bitmaps

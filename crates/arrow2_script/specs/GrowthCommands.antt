@@ -1,34 +1,17 @@
 -- The commands by which bitmaps grow by many items, and how each is spelled.
-use Rattle.std.specs.Prelude.{◌<◌, ◌^◌, ℕ, List, [], ◌∷◌, codes, Option, Some, None, if◌then◌else◌}
+use Rattle.std.specs.Prelude.{◌<◌, ◌^◌, ℕ, List, [], ◌∷◌, codes, Option, None, option_map, if◌then◌else◌}
 use Rattle.std.specs.Str.{bytes_eq}
 use Rattle.std.specs.Fmt.{decimal}
-use Rattle.arrow2_script.specs.Arguments.{◌>>=◌, two_of, three_of}
+use Rattle.arrow2_script.specs.Arguments.{◌>>◌, no_words}
 use Rattle.arrow2_script.specs.Words.{number_of, slot_of, bit_of, bit_byte}
 use Rattle.arrow2_script.specs.declared.growth_command.GrowthCommand.{GrowthCommand}
 use Rattle.arrow2_script.specs.declared.growth_command.GrowthCommand.TheVariants.{Fill, Append}
 
--- `fill s n bit`, after its name
-unfoldable pub fill_of : List (List ℕ) → Option GrowthCommand
-fill_of words = do
-  said ← three_of words
-  slot ← slot_of said.0
-  additional ← number_of said.1
-  bit ← bit_of said.2
-  Some (Fill slot additional bit)
-
--- `append d s`
-unfoldable pub append_of : List (List ℕ) → Option GrowthCommand
-append_of words = do
-  said ← two_of words
-  to ← slot_of said.0
-  from ← slot_of said.1
-  Some (Append to from)
-
 -- the command by which a bitmap grows that the words after a name say
 unfoldable pub growth_named : List ℕ → List (List ℕ) → Option GrowthCommand
 growth_named name words =
-    if bytes_eq name (codes "fill") then fill_of words
-    else if bytes_eq name (codes "append") then append_of words
+    if bytes_eq name (codes "fill") then option_map (λ p. Fill p.0 p.1.0 p.1.1.0) ((slot_of >> number_of >> bit_of >> no_words) words)
+    else if bytes_eq name (codes "append") then option_map (λ p. Append p.0 p.1.0) ((slot_of >> slot_of >> no_words) words)
     else None
 
 -- the words of a command by which a bitmap grows

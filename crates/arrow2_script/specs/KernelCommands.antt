@@ -1,114 +1,27 @@
 -- The commands that combine bitmaps by truth tables, and how each is spelled.
-use Rattle.std.specs.Prelude.{◌<◌, ℕ, List, [], ◌∷◌, codes, Option, Some, None, if◌then◌else◌}
+use Rattle.std.specs.Prelude.{◌<◌, ℕ, List, [], ◌∷◌, codes, Option, None, option_map, if◌then◌else◌}
 use Rattle.std.specs.Str.{bytes_eq}
 use Rattle.std.specs.Fmt.{decimal}
-use Rattle.arrow2_script.specs.Arguments.{◌>>=◌, two_of, three_of, four_of, five_of, six_of, slots_of}
+use Rattle.arrow2_script.specs.Arguments.{◌>>◌, no_words}
 use Rattle.arrow2_script.specs.Words.{slot_of, below_of, width_of, width_word}
 use Rattle.arrow2_script.specs.declared.kernel_command.KernelCommand.{KernelCommand}
 use Rattle.arrow2_script.specs.declared.kernel_command.KernelCommand.TheVariants.{Make, AssignUnary, AssignBinary}
 use Rattle.arrow2_script.specs.declared.kernel_command.Kernel.{Kernel}
 use Rattle.arrow2_script.specs.declared.kernel_command.Kernel.TheVariants.{And, Or, Xor, Not, Unary, Binary, Ternary, Quaternary}
 
--- `and d a b`, after its name
-unfoldable pub and_of : List (List ℕ) → Option KernelCommand
-and_of words = do
-  slots ← slots_of words
-  Some (Make slots.0 (And slots.1 slots.2))
-
--- `or d a b`
-unfoldable pub or_of : List (List ℕ) → Option KernelCommand
-or_of words = do
-  slots ← slots_of words
-  Some (Make slots.0 (Or slots.1 slots.2))
-
--- `xor d a b`
-unfoldable pub xor_of : List (List ℕ) → Option KernelCommand
-xor_of words = do
-  slots ← slots_of words
-  Some (Make slots.0 (Xor slots.1 slots.2))
-
--- `not d a`
-unfoldable pub not_of : List (List ℕ) → Option KernelCommand
-not_of words = do
-  said ← two_of words
-  to ← slot_of said.0
-  from ← slot_of said.1
-  Some (Make to (Not from))
-
--- `table1 d t a`: a table of one input is a number below 4
-unfoldable pub table1_of : List (List ℕ) → Option KernelCommand
-table1_of words = do
-  said ← three_of words
-  to ← slot_of said.0
-  table ← below_of 4 said.1
-  from ← slot_of said.2
-  Some (Make to (Unary table from))
-
--- `table2 d t a b`: of two inputs, below 16
-unfoldable pub table2_of : List (List ℕ) → Option KernelCommand
-table2_of words = do
-  said ← four_of words
-  to ← slot_of said.0
-  table ← below_of 16 said.1
-  first ← slot_of said.2
-  second ← slot_of said.3
-  Some (Make to (Binary table first second))
-
--- `table3 d t a b c`: of three inputs, below 256
-unfoldable pub table3_of : List (List ℕ) → Option KernelCommand
-table3_of words = do
-  said ← five_of words
-  to ← slot_of said.0
-  table ← below_of 256 said.1
-  first ← slot_of said.2
-  second ← slot_of said.3
-  third ← slot_of said.4
-  Some (Make to (Ternary table first second third))
-
--- `table4 d t a b c e`: of four inputs, below 65536
-unfoldable pub table4_of : List (List ℕ) → Option KernelCommand
-table4_of words = do
-  said ← six_of words
-  to ← slot_of said.0
-  table ← below_of 65536 said.1
-  first ← slot_of said.2
-  second ← slot_of said.3
-  third ← slot_of said.4
-  fourth ← slot_of said.5
-  Some (Make to (Quaternary table first second third fourth))
-
--- `inplace1 s t w`
-unfoldable pub inplace1_of : List (List ℕ) → Option KernelCommand
-inplace1_of words = do
-  said ← three_of words
-  slot ← slot_of said.0
-  table ← below_of 4 said.1
-  width ← width_of said.2
-  Some (AssignUnary slot table width)
-
--- `inplace2 s t w a`
-unfoldable pub inplace2_of : List (List ℕ) → Option KernelCommand
-inplace2_of words = do
-  said ← four_of words
-  slot ← slot_of said.0
-  table ← below_of 16 said.1
-  width ← width_of said.2
-  other ← slot_of said.3
-  Some (AssignBinary slot table width other)
-
 -- the command that combines bitmaps that the words after a name say
 unfoldable pub kernel_named : List ℕ → List (List ℕ) → Option KernelCommand
 kernel_named name words =
-    if bytes_eq name (codes "and") then and_of words
-    else if bytes_eq name (codes "or") then or_of words
-    else if bytes_eq name (codes "xor") then xor_of words
-    else if bytes_eq name (codes "not") then not_of words
-    else if bytes_eq name (codes "table1") then table1_of words
-    else if bytes_eq name (codes "table2") then table2_of words
-    else if bytes_eq name (codes "table3") then table3_of words
-    else if bytes_eq name (codes "table4") then table4_of words
-    else if bytes_eq name (codes "inplace1") then inplace1_of words
-    else if bytes_eq name (codes "inplace2") then inplace2_of words
+    if bytes_eq name (codes "and") then option_map (λ p. Make p.0 (And p.1.0 p.1.1.0)) ((slot_of >> slot_of >> slot_of >> no_words) words)
+    else if bytes_eq name (codes "or") then option_map (λ p. Make p.0 (Or p.1.0 p.1.1.0)) ((slot_of >> slot_of >> slot_of >> no_words) words)
+    else if bytes_eq name (codes "xor") then option_map (λ p. Make p.0 (Xor p.1.0 p.1.1.0)) ((slot_of >> slot_of >> slot_of >> no_words) words)
+    else if bytes_eq name (codes "not") then option_map (λ p. Make p.0 (Not p.1.0)) ((slot_of >> slot_of >> no_words) words)
+    else if bytes_eq name (codes "table1") then option_map (λ p. Make p.0 (Unary p.1.0 p.1.1.0)) ((slot_of >> below_of 4 >> slot_of >> no_words) words)
+    else if bytes_eq name (codes "table2") then option_map (λ p. Make p.0 (Binary p.1.0 p.1.1.0 p.1.1.1.0)) ((slot_of >> below_of 16 >> slot_of >> slot_of >> no_words) words)
+    else if bytes_eq name (codes "table3") then option_map (λ p. Make p.0 (Ternary p.1.0 p.1.1.0 p.1.1.1.0 p.1.1.1.1.0)) ((slot_of >> below_of 256 >> slot_of >> slot_of >> slot_of >> no_words) words)
+    else if bytes_eq name (codes "table4") then option_map (λ p. Make p.0 (Quaternary p.1.0 p.1.1.0 p.1.1.1.0 p.1.1.1.1.0 p.1.1.1.1.1.0)) ((slot_of >> below_of 65536 >> slot_of >> slot_of >> slot_of >> slot_of >> no_words) words)
+    else if bytes_eq name (codes "inplace1") then option_map (λ p. AssignUnary p.0 p.1.0 p.1.1.0) ((slot_of >> below_of 4 >> width_of >> no_words) words)
+    else if bytes_eq name (codes "inplace2") then option_map (λ p. AssignBinary p.0 p.1.0 p.1.1.0 p.1.1.1.0) ((slot_of >> below_of 16 >> width_of >> slot_of >> no_words) words)
     else None
 
 -- the words of a command that makes a bitmap in slot `to`

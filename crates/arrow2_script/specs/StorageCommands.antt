@@ -1,54 +1,20 @@
 -- The commands on the bits in which bitmaps stand, and how each is spelled.
-use Rattle.std.specs.Prelude.{◌<◌, ◌^◌, ℕ, List, [], ◌∷◌, codes, Option, Some, None, if◌then◌else◌}
+use Rattle.std.specs.Prelude.{◌<◌, ◌^◌, ℕ, List, [], ◌∷◌, codes, Option, None, option_map, if◌then◌else◌}
 use Rattle.std.specs.List.{All}
 use Rattle.std.specs.Str.{bytes_eq}
 use Rattle.std.specs.Fmt.{decimal}
-use Rattle.arrow2_script.specs.Arguments.{◌>>=◌, one_of, two_of, three_of, four_of}
+use Rattle.arrow2_script.specs.Arguments.{◌>>◌, no_words}
 use Rattle.arrow2_script.specs.Words.{number_of, slot_of, bit_of, bit_byte, width_of, width_word, bytes_of, hex_text}
 use Rattle.arrow2_script.specs.declared.storage_command.StorageCommand.{StorageCommand}
 use Rattle.arrow2_script.specs.declared.storage_command.StorageCommand.TheVariants.{Raw, Set, Words, Runs}
 
--- `raw s hex o n`, after its name
-unfoldable pub raw_of : List (List ℕ) → Option StorageCommand
-raw_of words = do
-  said ← four_of words
-  slot ← slot_of said.0
-  bytes ← bytes_of said.1
-  offset ← number_of said.2
-  length ← number_of said.3
-  Some (Raw slot bytes offset length)
-
--- `set s i bit`
-unfoldable pub set_of : List (List ℕ) → Option StorageCommand
-set_of words = do
-  said ← three_of words
-  slot ← slot_of said.0
-  index ← number_of said.1
-  bit ← bit_of said.2
-  Some (Set slot index bit)
-
--- `words s w`
-unfoldable pub words_of_slot : List (List ℕ) → Option StorageCommand
-words_of_slot words = do
-  said ← two_of words
-  slot ← slot_of said.0
-  width ← width_of said.1
-  Some (Words slot width)
-
--- `runs s`
-unfoldable pub runs_of_slot : List (List ℕ) → Option StorageCommand
-runs_of_slot words = do
-  said ← one_of words
-  slot ← slot_of said
-  Some (Runs slot)
-
 -- the command on stored bits that the words after a name say
 unfoldable pub storage_named : List ℕ → List (List ℕ) → Option StorageCommand
 storage_named name words =
-    if bytes_eq name (codes "raw") then raw_of words
-    else if bytes_eq name (codes "set") then set_of words
-    else if bytes_eq name (codes "words") then words_of_slot words
-    else if bytes_eq name (codes "runs") then runs_of_slot words
+    if bytes_eq name (codes "raw") then option_map (λ p. Raw p.0 p.1.0 p.1.1.0 p.1.1.1.0) ((slot_of >> bytes_of >> number_of >> number_of >> no_words) words)
+    else if bytes_eq name (codes "set") then option_map (λ p. Set p.0 p.1.0 p.1.1.0) ((slot_of >> number_of >> bit_of >> no_words) words)
+    else if bytes_eq name (codes "words") then option_map (λ p. Words p.0 p.1.0) ((slot_of >> width_of >> no_words) words)
+    else if bytes_eq name (codes "runs") then option_map (λ p. Runs p.0) ((slot_of >> no_words) words)
     else None
 
 -- the words of a command on stored bits

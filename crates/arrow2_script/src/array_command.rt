@@ -1,10 +1,10 @@
 //! The commands on boolean arrays, and which one the words of a line say.
 ghost use Rattle.std.specs.Prelude.{◌≡◌};
-ghost use Rattle.arrow2_script.specs.ArrayCommands.{anew_of, alist_of, anulls_of, aslice_of, aand_of, aor_of, array_named};
+ghost use Rattle.arrow2_script.specs.ArrayCommands.{array_named};
 
-use crate::arguments::{one, slots, three};
+use crate::arguments::Values;
 use crate::lines::Parts;
-use crate::words::{SlotIndex, number, optional_slot};
+use crate::words::SlotIndex;
 
 /// A command on boolean arrays.
 #[derive(Drop)]
@@ -26,60 +26,6 @@ pub enum ArrayCommand {
     Or(SlotIndex, SlotIndex, SlotIndex),
 }
 
-#[tactic(auto, unfolding(crate::specs::ArrayCommands::anew_of))]
-fn read_new(parts: Parts<'_>) -> Option<ArrayCommand>
-    ensures { result ≡ anew_of parts.entry }
-{
-    let (to, values, validity) = three(parts)?;
-    let to = SlotIndex::read(to)?;
-    let values = SlotIndex::read(values)?;
-    let validity = optional_slot(validity)?;
-    Some(ArrayCommand::New(to, values, validity))
-}
-
-#[tactic(auto, unfolding(crate::specs::ArrayCommands::alist_of))]
-fn read_list(parts: Parts<'_>) -> Option<ArrayCommand>
-    ensures { result ≡ alist_of parts.entry }
-{
-    let slot = SlotIndex::read(one(parts)?)?;
-    Some(ArrayCommand::List(slot))
-}
-
-#[tactic(auto, unfolding(crate::specs::ArrayCommands::anulls_of))]
-fn read_nulls(parts: Parts<'_>) -> Option<ArrayCommand>
-    ensures { result ≡ anulls_of parts.entry }
-{
-    let slot = SlotIndex::read(one(parts)?)?;
-    Some(ArrayCommand::Nulls(slot))
-}
-
-#[tactic(auto, unfolding(crate::specs::ArrayCommands::aslice_of))]
-fn read_slice(parts: Parts<'_>) -> Option<ArrayCommand>
-    ensures { result ≡ aslice_of parts.entry }
-{
-    let (slot, offset, length) = three(parts)?;
-    let slot = SlotIndex::read(slot)?;
-    let offset = number(offset)?;
-    let length = number(length)?;
-    Some(ArrayCommand::Slice(slot, offset, length))
-}
-
-#[tactic(auto, unfolding(crate::specs::ArrayCommands::aand_of))]
-fn read_and(parts: Parts<'_>) -> Option<ArrayCommand>
-    ensures { result ≡ aand_of parts.entry }
-{
-    let (to, left, right) = slots(parts)?;
-    Some(ArrayCommand::And(to, left, right))
-}
-
-#[tactic(auto, unfolding(crate::specs::ArrayCommands::aor_of))]
-fn read_or(parts: Parts<'_>) -> Option<ArrayCommand>
-    ensures { result ≡ aor_of parts.entry }
-{
-    let (to, left, right) = slots(parts)?;
-    Some(ArrayCommand::Or(to, left, right))
-}
-
 impl ArrayCommand {
     /// The command of this name, with these words behind it.
     #[tactic(auto, unfolding(crate::specs::ArrayCommands::array_named))]
@@ -87,17 +33,23 @@ impl ArrayCommand {
         ensures { result ≡ array_named name.now parts.entry }
     {
         if name == b"anew".as_slice() {
-            read_new(parts)
+            let (to, (values, (validity, ()))) = Values::read(parts)?;
+            Some(ArrayCommand::New(to, values, validity))
         } else if name == b"alist".as_slice() {
-            read_list(parts)
+            let (slot, ()) = Values::read(parts)?;
+            Some(ArrayCommand::List(slot))
         } else if name == b"anulls".as_slice() {
-            read_nulls(parts)
+            let (slot, ()) = Values::read(parts)?;
+            Some(ArrayCommand::Nulls(slot))
         } else if name == b"aslice".as_slice() {
-            read_slice(parts)
+            let (slot, (offset, (length, ()))) = Values::read(parts)?;
+            Some(ArrayCommand::Slice(slot, offset, length))
         } else if name == b"aand".as_slice() {
-            read_and(parts)
+            let (to, (left, (right, ()))) = Values::read(parts)?;
+            Some(ArrayCommand::And(to, left, right))
         } else if name == b"aor".as_slice() {
-            read_or(parts)
+            let (to, (left, (right, ()))) = Values::read(parts)?;
+            Some(ArrayCommand::Or(to, left, right))
         } else {
             None
         }

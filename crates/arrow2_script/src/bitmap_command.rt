@@ -1,10 +1,10 @@
 //! The commands on bitmaps, and which one the words of a line say.
 ghost use Rattle.std.specs.Prelude.{◌≡◌};
-ghost use Rattle.arrow2_script.specs.BitmapCommands.{new_of, push_of, pop_of, get_of, freeze_of, thaw_of, slice_of, count_of, bits_of_slot, bitmap_named};
+ghost use Rattle.arrow2_script.specs.BitmapCommands.{bitmap_named};
 
-use crate::arguments::{one, three, two};
+use crate::arguments::Values;
 use crate::lines::Parts;
-use crate::words::{BitText, SlotIndex, bit, number};
+use crate::words::{BitText, SlotIndex};
 
 /// A command on bitmaps.
 #[derive(Drop)]
@@ -29,87 +29,6 @@ pub enum BitmapCommand<'a> {
     Bits(SlotIndex),
 }
 
-#[tactic(auto, unfolding(crate::specs::BitmapCommands::new_of))]
-fn read_new<'a>(parts: Parts<'a>) -> Option<BitmapCommand<'a>>
-    ensures { result ≡ new_of parts.entry }
-{
-    let (slot, bits) = two(parts)?;
-    let slot = SlotIndex::read(slot)?;
-    let bits = BitText::read(bits)?;
-    Some(BitmapCommand::New(slot, bits))
-}
-
-#[tactic(auto, unfolding(crate::specs::BitmapCommands::push_of))]
-fn read_push<'a>(parts: Parts<'a>) -> Option<BitmapCommand<'a>>
-    ensures { result ≡ push_of parts.entry }
-{
-    let (slot, value) = two(parts)?;
-    let slot = SlotIndex::read(slot)?;
-    let value = bit(value)?;
-    Some(BitmapCommand::Push(slot, value))
-}
-
-#[tactic(auto, unfolding(crate::specs::BitmapCommands::pop_of))]
-fn read_pop<'a>(parts: Parts<'a>) -> Option<BitmapCommand<'a>>
-    ensures { result ≡ pop_of parts.entry }
-{
-    let slot = SlotIndex::read(one(parts)?)?;
-    Some(BitmapCommand::Pop(slot))
-}
-
-#[tactic(auto, unfolding(crate::specs::BitmapCommands::get_of))]
-fn read_get<'a>(parts: Parts<'a>) -> Option<BitmapCommand<'a>>
-    ensures { result ≡ get_of parts.entry }
-{
-    let (slot, index) = two(parts)?;
-    let slot = SlotIndex::read(slot)?;
-    let index = number(index)?;
-    Some(BitmapCommand::Get(slot, index))
-}
-
-#[tactic(auto, unfolding(crate::specs::BitmapCommands::freeze_of))]
-fn read_freeze<'a>(parts: Parts<'a>) -> Option<BitmapCommand<'a>>
-    ensures { result ≡ freeze_of parts.entry }
-{
-    let slot = SlotIndex::read(one(parts)?)?;
-    Some(BitmapCommand::Freeze(slot))
-}
-
-#[tactic(auto, unfolding(crate::specs::BitmapCommands::thaw_of))]
-fn read_thaw<'a>(parts: Parts<'a>) -> Option<BitmapCommand<'a>>
-    ensures { result ≡ thaw_of parts.entry }
-{
-    let slot = SlotIndex::read(one(parts)?)?;
-    Some(BitmapCommand::Thaw(slot))
-}
-
-#[tactic(auto, unfolding(crate::specs::BitmapCommands::slice_of))]
-fn read_slice<'a>(parts: Parts<'a>) -> Option<BitmapCommand<'a>>
-    ensures { result ≡ slice_of parts.entry }
-{
-    let (slot, offset, length) = three(parts)?;
-    let slot = SlotIndex::read(slot)?;
-    let offset = number(offset)?;
-    let length = number(length)?;
-    Some(BitmapCommand::Slice(slot, offset, length))
-}
-
-#[tactic(auto, unfolding(crate::specs::BitmapCommands::count_of))]
-fn read_count<'a>(parts: Parts<'a>) -> Option<BitmapCommand<'a>>
-    ensures { result ≡ count_of parts.entry }
-{
-    let slot = SlotIndex::read(one(parts)?)?;
-    Some(BitmapCommand::Count(slot))
-}
-
-#[tactic(auto, unfolding(crate::specs::BitmapCommands::bits_of_slot))]
-fn read_bits<'a>(parts: Parts<'a>) -> Option<BitmapCommand<'a>>
-    ensures { result ≡ bits_of_slot parts.entry }
-{
-    let slot = SlotIndex::read(one(parts)?)?;
-    Some(BitmapCommand::Bits(slot))
-}
-
 impl<'a> BitmapCommand<'a> {
     /// The command of this name, with these words behind it.
     #[tactic(auto, unfolding(crate::specs::BitmapCommands::bitmap_named))]
@@ -117,23 +36,32 @@ impl<'a> BitmapCommand<'a> {
         ensures { result ≡ bitmap_named name.now parts.entry }
     {
         if name == b"new".as_slice() {
-            read_new(parts)
+            let (slot, (bits, ())) = Values::read(parts)?;
+            Some(BitmapCommand::New(slot, bits))
         } else if name == b"push".as_slice() {
-            read_push(parts)
+            let (slot, (bit, ())) = Values::read(parts)?;
+            Some(BitmapCommand::Push(slot, bit))
         } else if name == b"pop".as_slice() {
-            read_pop(parts)
+            let (slot, ()) = Values::read(parts)?;
+            Some(BitmapCommand::Pop(slot))
         } else if name == b"get".as_slice() {
-            read_get(parts)
+            let (slot, (index, ())) = Values::read(parts)?;
+            Some(BitmapCommand::Get(slot, index))
         } else if name == b"freeze".as_slice() {
-            read_freeze(parts)
+            let (slot, ()) = Values::read(parts)?;
+            Some(BitmapCommand::Freeze(slot))
         } else if name == b"thaw".as_slice() {
-            read_thaw(parts)
+            let (slot, ()) = Values::read(parts)?;
+            Some(BitmapCommand::Thaw(slot))
         } else if name == b"slice".as_slice() {
-            read_slice(parts)
+            let (slot, (offset, (length, ()))) = Values::read(parts)?;
+            Some(BitmapCommand::Slice(slot, offset, length))
         } else if name == b"count".as_slice() {
-            read_count(parts)
+            let (slot, ()) = Values::read(parts)?;
+            Some(BitmapCommand::Count(slot))
         } else if name == b"bits".as_slice() {
-            read_bits(parts)
+            let (slot, ()) = Values::read(parts)?;
+            Some(BitmapCommand::Bits(slot))
         } else {
             None
         }

@@ -1,8 +1,8 @@
 //! The commands that combine bitmaps by truth tables, and which one the words of a line say.
 ghost use Rattle.std.specs.Prelude.{◌≡◌};
-ghost use Rattle.arrow2_script.specs.KernelCommands.{and_of, or_of, xor_of, not_of, table1_of, table2_of, table3_of, table4_of, inplace1_of, inplace2_of, kernel_named};
+ghost use Rattle.arrow2_script.specs.KernelCommands.{kernel_named};
 
-use crate::arguments::{five, four, six, slots, three, two};
+use crate::arguments::Values;
 use crate::lines::Parts;
 use crate::words::{Below, SlotIndex, Width};
 
@@ -39,113 +39,6 @@ pub enum Kernel {
     Quaternary(Below<65536>, SlotIndex, SlotIndex, SlotIndex, SlotIndex),
 }
 
-#[tactic(auto, unfolding(crate::specs::KernelCommands::and_of))]
-fn read_and<'a>(parts: Parts<'a>) -> Option<KernelCommand>
-    ensures { result ≡ and_of parts.entry }
-{
-    let (to, left, right) = slots(parts)?;
-    Some(KernelCommand::Make(to, Kernel::And(left, right)))
-}
-
-#[tactic(auto, unfolding(crate::specs::KernelCommands::or_of))]
-fn read_or<'a>(parts: Parts<'a>) -> Option<KernelCommand>
-    ensures { result ≡ or_of parts.entry }
-{
-    let (to, left, right) = slots(parts)?;
-    Some(KernelCommand::Make(to, Kernel::Or(left, right)))
-}
-
-#[tactic(auto, unfolding(crate::specs::KernelCommands::xor_of))]
-fn read_xor<'a>(parts: Parts<'a>) -> Option<KernelCommand>
-    ensures { result ≡ xor_of parts.entry }
-{
-    let (to, left, right) = slots(parts)?;
-    Some(KernelCommand::Make(to, Kernel::Xor(left, right)))
-}
-
-#[tactic(auto, unfolding(crate::specs::KernelCommands::not_of))]
-fn read_not<'a>(parts: Parts<'a>) -> Option<KernelCommand>
-    ensures { result ≡ not_of parts.entry }
-{
-    let (to, from) = two(parts)?;
-    let to = SlotIndex::read(to)?;
-    let from = SlotIndex::read(from)?;
-    Some(KernelCommand::Make(to, Kernel::Not(from)))
-}
-
-#[tactic(auto, unfolding(crate::specs::KernelCommands::table1_of))]
-fn read_unary<'a>(parts: Parts<'a>) -> Option<KernelCommand>
-    ensures { result ≡ table1_of parts.entry }
-{
-    let (to, table, from) = three(parts)?;
-    let to = SlotIndex::read(to)?;
-    let table = Below::<4>::read(table)?;
-    let from = SlotIndex::read(from)?;
-    Some(KernelCommand::Make(to, Kernel::Unary(table, from)))
-}
-
-#[tactic(auto, unfolding(crate::specs::KernelCommands::table2_of))]
-fn read_binary<'a>(parts: Parts<'a>) -> Option<KernelCommand>
-    ensures { result ≡ table2_of parts.entry }
-{
-    let (to, table, first, second) = four(parts)?;
-    let to = SlotIndex::read(to)?;
-    let table = Below::<16>::read(table)?;
-    let first = SlotIndex::read(first)?;
-    let second = SlotIndex::read(second)?;
-    Some(KernelCommand::Make(to, Kernel::Binary(table, first, second)))
-}
-
-#[tactic(auto, unfolding(crate::specs::KernelCommands::table3_of))]
-fn read_ternary<'a>(parts: Parts<'a>) -> Option<KernelCommand>
-    ensures { result ≡ table3_of parts.entry }
-{
-    let (to, table, first, second, third) = five(parts)?;
-    let to = SlotIndex::read(to)?;
-    let table = Below::<256>::read(table)?;
-    let first = SlotIndex::read(first)?;
-    let second = SlotIndex::read(second)?;
-    let third = SlotIndex::read(third)?;
-    Some(KernelCommand::Make(to, Kernel::Ternary(table, first, second, third)))
-}
-
-#[tactic(auto, unfolding(crate::specs::KernelCommands::table4_of))]
-fn read_quaternary<'a>(parts: Parts<'a>) -> Option<KernelCommand>
-    ensures { result ≡ table4_of parts.entry }
-{
-    let (to, table, first, second, third, fourth) = six(parts)?;
-    let to = SlotIndex::read(to)?;
-    let table = Below::<65536>::read(table)?;
-    let first = SlotIndex::read(first)?;
-    let second = SlotIndex::read(second)?;
-    let third = SlotIndex::read(third)?;
-    let fourth = SlotIndex::read(fourth)?;
-    Some(KernelCommand::Make(to, Kernel::Quaternary(table, first, second, third, fourth)))
-}
-
-#[tactic(auto, unfolding(crate::specs::KernelCommands::inplace1_of))]
-fn read_assign_unary<'a>(parts: Parts<'a>) -> Option<KernelCommand>
-    ensures { result ≡ inplace1_of parts.entry }
-{
-    let (slot, table, width) = three(parts)?;
-    let slot = SlotIndex::read(slot)?;
-    let table = Below::<4>::read(table)?;
-    let width = Width::read(width)?;
-    Some(KernelCommand::AssignUnary(slot, table, width))
-}
-
-#[tactic(auto, unfolding(crate::specs::KernelCommands::inplace2_of))]
-fn read_assign_binary<'a>(parts: Parts<'a>) -> Option<KernelCommand>
-    ensures { result ≡ inplace2_of parts.entry }
-{
-    let (slot, table, width, other) = four(parts)?;
-    let slot = SlotIndex::read(slot)?;
-    let table = Below::<16>::read(table)?;
-    let width = Width::read(width)?;
-    let other = SlotIndex::read(other)?;
-    Some(KernelCommand::AssignBinary(slot, table, width, other))
-}
-
 impl KernelCommand {
     /// The command of this name, with these words behind it.
     #[tactic(auto, unfolding(crate::specs::KernelCommands::kernel_named))]
@@ -153,25 +46,35 @@ impl KernelCommand {
         ensures { result ≡ kernel_named name.now parts.entry }
     {
         if name == b"and".as_slice() {
-            read_and(parts)
+            let (to, (left, (right, ()))) = Values::read(parts)?;
+            Some(KernelCommand::Make(to, Kernel::And(left, right)))
         } else if name == b"or".as_slice() {
-            read_or(parts)
+            let (to, (left, (right, ()))) = Values::read(parts)?;
+            Some(KernelCommand::Make(to, Kernel::Or(left, right)))
         } else if name == b"xor".as_slice() {
-            read_xor(parts)
+            let (to, (left, (right, ()))) = Values::read(parts)?;
+            Some(KernelCommand::Make(to, Kernel::Xor(left, right)))
         } else if name == b"not".as_slice() {
-            read_not(parts)
+            let (to, (from, ())) = Values::read(parts)?;
+            Some(KernelCommand::Make(to, Kernel::Not(from)))
         } else if name == b"table1".as_slice() {
-            read_unary(parts)
+            let (to, (table, (from, ()))) = Values::read(parts)?;
+            Some(KernelCommand::Make(to, Kernel::Unary(table, from)))
         } else if name == b"table2".as_slice() {
-            read_binary(parts)
+            let (to, (table, (first, (second, ())))) = Values::read(parts)?;
+            Some(KernelCommand::Make(to, Kernel::Binary(table, first, second)))
         } else if name == b"table3".as_slice() {
-            read_ternary(parts)
+            let (to, (table, (first, (second, (third, ()))))) = Values::read(parts)?;
+            Some(KernelCommand::Make(to, Kernel::Ternary(table, first, second, third)))
         } else if name == b"table4".as_slice() {
-            read_quaternary(parts)
+            let (to, (table, (first, (second, (third, (fourth, ())))))) = Values::read(parts)?;
+            Some(KernelCommand::Make(to, Kernel::Quaternary(table, first, second, third, fourth)))
         } else if name == b"inplace1".as_slice() {
-            read_assign_unary(parts)
+            let (slot, (table, (width, ()))) = Values::read(parts)?;
+            Some(KernelCommand::AssignUnary(slot, table, width))
         } else if name == b"inplace2".as_slice() {
-            read_assign_binary(parts)
+            let (slot, (table, (width, (other, ())))) = Values::read(parts)?;
+            Some(KernelCommand::AssignBinary(slot, table, width, other))
         } else {
             None
         }

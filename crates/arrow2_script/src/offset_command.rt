@@ -1,10 +1,10 @@
 //! The commands on offsets, and which one the words of a line say.
 ghost use Rattle.std.specs.Prelude.{◌≡◌};
-ghost use Rattle.arrow2_script.specs.OffsetCommands.{onew_of, opush_of, opop_of, oext_of, olist_of, ofreeze_of, oslice_of, zip_of, offset_named};
+ghost use Rattle.arrow2_script.specs.OffsetCommands.{offset_named};
 
-use crate::arguments::{one, three, two};
+use crate::arguments::Values;
 use crate::lines::Parts;
-use crate::words::{NumberText, SlotIndex, number};
+use crate::words::{NumberText, SlotIndex};
 
 /// A command on offsets.
 #[derive(Drop)]
@@ -27,81 +27,6 @@ pub enum OffsetCommand<'a> {
     Zip(SlotIndex, SlotIndex),
 }
 
-#[tactic(auto, unfolding(crate::specs::OffsetCommands::onew_of))]
-fn read_new<'a>(parts: Parts<'a>) -> Option<OffsetCommand<'a>>
-    ensures { result ≡ onew_of parts.entry }
-{
-    let (slot, first) = two(parts)?;
-    let slot = SlotIndex::read(slot)?;
-    let first = number(first)?;
-    Some(OffsetCommand::New(slot, first))
-}
-
-#[tactic(auto, unfolding(crate::specs::OffsetCommands::opush_of))]
-fn read_push<'a>(parts: Parts<'a>) -> Option<OffsetCommand<'a>>
-    ensures { result ≡ opush_of parts.entry }
-{
-    let (slot, length) = two(parts)?;
-    let slot = SlotIndex::read(slot)?;
-    let length = number(length)?;
-    Some(OffsetCommand::Push(slot, length))
-}
-
-#[tactic(auto, unfolding(crate::specs::OffsetCommands::opop_of))]
-fn read_pop<'a>(parts: Parts<'a>) -> Option<OffsetCommand<'a>>
-    ensures { result ≡ opop_of parts.entry }
-{
-    let slot = SlotIndex::read(one(parts)?)?;
-    Some(OffsetCommand::Pop(slot))
-}
-
-#[tactic(auto, unfolding(crate::specs::OffsetCommands::oext_of))]
-fn read_extend<'a>(parts: Parts<'a>) -> Option<OffsetCommand<'a>>
-    ensures { result ≡ oext_of parts.entry }
-{
-    let (slot, lengths) = two(parts)?;
-    let slot = SlotIndex::read(slot)?;
-    let lengths = NumberText::read(lengths)?;
-    Some(OffsetCommand::Extend(slot, lengths))
-}
-
-#[tactic(auto, unfolding(crate::specs::OffsetCommands::olist_of))]
-fn read_offsets<'a>(parts: Parts<'a>) -> Option<OffsetCommand<'a>>
-    ensures { result ≡ olist_of parts.entry }
-{
-    let slot = SlotIndex::read(one(parts)?)?;
-    Some(OffsetCommand::Offsets(slot))
-}
-
-#[tactic(auto, unfolding(crate::specs::OffsetCommands::ofreeze_of))]
-fn read_freeze<'a>(parts: Parts<'a>) -> Option<OffsetCommand<'a>>
-    ensures { result ≡ ofreeze_of parts.entry }
-{
-    let slot = SlotIndex::read(one(parts)?)?;
-    Some(OffsetCommand::Freeze(slot))
-}
-
-#[tactic(auto, unfolding(crate::specs::OffsetCommands::oslice_of))]
-fn read_slice<'a>(parts: Parts<'a>) -> Option<OffsetCommand<'a>>
-    ensures { result ≡ oslice_of parts.entry }
-{
-    let (slot, first, count) = three(parts)?;
-    let slot = SlotIndex::read(slot)?;
-    let first = number(first)?;
-    let count = number(count)?;
-    Some(OffsetCommand::Slice(slot, first, count))
-}
-
-#[tactic(auto, unfolding(crate::specs::OffsetCommands::zip_of))]
-fn read_zip<'a>(parts: Parts<'a>) -> Option<OffsetCommand<'a>>
-    ensures { result ≡ zip_of parts.entry }
-{
-    let (offsets, validity) = two(parts)?;
-    let offsets = SlotIndex::read(offsets)?;
-    let validity = SlotIndex::read(validity)?;
-    Some(OffsetCommand::Zip(offsets, validity))
-}
-
 impl<'a> OffsetCommand<'a> {
     /// The command of this name, with these words behind it.
     #[tactic(auto, unfolding(crate::specs::OffsetCommands::offset_named))]
@@ -109,21 +34,29 @@ impl<'a> OffsetCommand<'a> {
         ensures { result ≡ offset_named name.now parts.entry }
     {
         if name == b"onew".as_slice() {
-            read_new(parts)
+            let (slot, (first, ())) = Values::read(parts)?;
+            Some(OffsetCommand::New(slot, first))
         } else if name == b"opush".as_slice() {
-            read_push(parts)
+            let (slot, (length, ())) = Values::read(parts)?;
+            Some(OffsetCommand::Push(slot, length))
         } else if name == b"opop".as_slice() {
-            read_pop(parts)
+            let (slot, ()) = Values::read(parts)?;
+            Some(OffsetCommand::Pop(slot))
         } else if name == b"oext".as_slice() {
-            read_extend(parts)
+            let (slot, (lengths, ())) = Values::read(parts)?;
+            Some(OffsetCommand::Extend(slot, lengths))
         } else if name == b"olist".as_slice() {
-            read_offsets(parts)
+            let (slot, ()) = Values::read(parts)?;
+            Some(OffsetCommand::Offsets(slot))
         } else if name == b"ofreeze".as_slice() {
-            read_freeze(parts)
+            let (slot, ()) = Values::read(parts)?;
+            Some(OffsetCommand::Freeze(slot))
         } else if name == b"oslice".as_slice() {
-            read_slice(parts)
+            let (slot, (first, (count, ()))) = Values::read(parts)?;
+            Some(OffsetCommand::Slice(slot, first, count))
         } else if name == b"zip".as_slice() {
-            read_zip(parts)
+            let (offsets, (validity, ())) = Values::read(parts)?;
+            Some(OffsetCommand::Zip(offsets, validity))
         } else {
             None
         }

@@ -1,10 +1,10 @@
 //! The commands on the bits in which bitmaps stand, and which one the words of a line say.
 ghost use Rattle.std.specs.Prelude.{◌≡◌};
-ghost use Rattle.arrow2_script.specs.StorageCommands.{raw_of, set_of, words_of_slot, runs_of_slot, storage_named};
+ghost use Rattle.arrow2_script.specs.StorageCommands.{storage_named};
 
-use crate::arguments::{four, one, three, two};
+use crate::arguments::Values;
 use crate::lines::Parts;
-use crate::words::{HexText, SlotIndex, Width, bit, number};
+use crate::words::{HexText, SlotIndex, Width};
 
 /// A command on the bits in which a bitmap stands.
 #[derive(Drop)]
@@ -19,47 +19,6 @@ pub enum StorageCommand<'a> {
     Runs(SlotIndex),
 }
 
-#[tactic(auto, unfolding(crate::specs::StorageCommands::raw_of))]
-fn read_raw<'a>(parts: Parts<'a>) -> Option<StorageCommand<'a>>
-    ensures { result ≡ raw_of parts.entry }
-{
-    let (slot, bytes, offset, length) = four(parts)?;
-    let slot = SlotIndex::read(slot)?;
-    let bytes = HexText::read(bytes)?;
-    let offset = number(offset)?;
-    let length = number(length)?;
-    Some(StorageCommand::Raw(slot, bytes, offset, length))
-}
-
-#[tactic(auto, unfolding(crate::specs::StorageCommands::set_of))]
-fn read_set<'a>(parts: Parts<'a>) -> Option<StorageCommand<'a>>
-    ensures { result ≡ set_of parts.entry }
-{
-    let (slot, index, value) = three(parts)?;
-    let slot = SlotIndex::read(slot)?;
-    let index = number(index)?;
-    let value = bit(value)?;
-    Some(StorageCommand::Set(slot, index, value))
-}
-
-#[tactic(auto, unfolding(crate::specs::StorageCommands::words_of_slot))]
-fn read_words<'a>(parts: Parts<'a>) -> Option<StorageCommand<'a>>
-    ensures { result ≡ words_of_slot parts.entry }
-{
-    let (slot, width) = two(parts)?;
-    let slot = SlotIndex::read(slot)?;
-    let width = Width::read(width)?;
-    Some(StorageCommand::Words(slot, width))
-}
-
-#[tactic(auto, unfolding(crate::specs::StorageCommands::runs_of_slot))]
-fn read_runs<'a>(parts: Parts<'a>) -> Option<StorageCommand<'a>>
-    ensures { result ≡ runs_of_slot parts.entry }
-{
-    let slot = SlotIndex::read(one(parts)?)?;
-    Some(StorageCommand::Runs(slot))
-}
-
 impl<'a> StorageCommand<'a> {
     /// The command of this name, with these words behind it.
     #[tactic(auto, unfolding(crate::specs::StorageCommands::storage_named))]
@@ -67,13 +26,17 @@ impl<'a> StorageCommand<'a> {
         ensures { result ≡ storage_named name.now parts.entry }
     {
         if name == b"raw".as_slice() {
-            read_raw(parts)
+            let (slot, (bytes, (offset, (length, ())))) = Values::read(parts)?;
+            Some(StorageCommand::Raw(slot, bytes, offset, length))
         } else if name == b"set".as_slice() {
-            read_set(parts)
+            let (slot, (index, (bit, ()))) = Values::read(parts)?;
+            Some(StorageCommand::Set(slot, index, bit))
         } else if name == b"words".as_slice() {
-            read_words(parts)
+            let (slot, (width, ())) = Values::read(parts)?;
+            Some(StorageCommand::Words(slot, width))
         } else if name == b"runs".as_slice() {
-            read_runs(parts)
+            let (slot, ()) = Values::read(parts)?;
+            Some(StorageCommand::Runs(slot))
         } else {
             None
         }

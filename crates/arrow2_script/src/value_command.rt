@@ -1,8 +1,8 @@
 //! The commands on values of any kind, and which one the words of a line say.
 ghost use Rattle.std.specs.Prelude.{◌≡◌};
-ghost use Rattle.arrow2_script.specs.ValueCommands.{copy_of, eq_of, value_named};
+ghost use Rattle.arrow2_script.specs.ValueCommands.{value_named};
 
-use crate::arguments::two;
+use crate::arguments::Values;
 use crate::lines::Parts;
 use crate::words::SlotIndex;
 
@@ -15,26 +15,6 @@ pub enum ValueCommand {
     Compare(SlotIndex, SlotIndex),
 }
 
-#[tactic(auto, unfolding(crate::specs::ValueCommands::copy_of))]
-fn read_copy(parts: Parts<'_>) -> Option<ValueCommand>
-    ensures { result ≡ copy_of parts.entry }
-{
-    let (from, to) = two(parts)?;
-    let from = SlotIndex::read(from)?;
-    let to = SlotIndex::read(to)?;
-    Some(ValueCommand::Copy(from, to))
-}
-
-#[tactic(auto, unfolding(crate::specs::ValueCommands::eq_of))]
-fn read_compare(parts: Parts<'_>) -> Option<ValueCommand>
-    ensures { result ≡ eq_of parts.entry }
-{
-    let (left, right) = two(parts)?;
-    let left = SlotIndex::read(left)?;
-    let right = SlotIndex::read(right)?;
-    Some(ValueCommand::Compare(left, right))
-}
-
 impl ValueCommand {
     /// The command of this name, with these words behind it.
     #[tactic(auto, unfolding(crate::specs::ValueCommands::value_named))]
@@ -42,9 +22,11 @@ impl ValueCommand {
         ensures { result ≡ value_named name.now parts.entry }
     {
         if name == b"copy".as_slice() {
-            read_copy(parts)
+            let (from, (to, ())) = Values::read(parts)?;
+            Some(ValueCommand::Copy(from, to))
         } else if name == b"eq".as_slice() {
-            read_compare(parts)
+            let (left, (right, ())) = Values::read(parts)?;
+            Some(ValueCommand::Compare(left, right))
         } else {
             None
         }

@@ -1,5 +1,5 @@
 //! What a word of a line says.
-ghost use Rattle.std.specs.Prelude.{◌≡◌, ◌<◌, ◌↔◌, ◌⊎◌, List, Bool, ℕ, length, slice_index, IsTrue};
+ghost use Rattle.std.specs.Prelude.{◌≡◌, ◌<◌, ◌↔◌, ◌⊎◌, List, Bool, Option, ℕ, length, slice_index, IsTrue};
 ghost use Rattle.arrow2_script.specs.Words.{number_of, below_of, width_of, optional_slot_of, bit_of, bits_of, is_bit_byte, items_said, is_number, numbers_of, is_hex_digit, hex_value, bytes_said, bytes_of};
 ghost use Rattle.std.specs.Iterator.{YieldsFirst, item_count};
 ghost use Rattle.std.specs.List.{list_all};
@@ -7,6 +7,16 @@ ghost use Rattle.std.specs.List.{list_all};
 use crate::lines::Parts;
 use std::marker::Model;
 use std::str;
+
+/// A value that one word says.
+pub trait Word<'a>: Drop {
+    // What each word says, where it says such a value.
+    ghost says: { List ℕ → Option Self };
+
+    /// The value that a word says.
+    fn said(word: &'a [u8]) -> Option<Self>
+        ensures { result ≡ says word.entry.now };
+}
 
 /// Whether a sign or a leading zero keeps a word from being a number.
 fn is_padded(word: &[u8]) -> bool
@@ -16,7 +26,7 @@ fn is_padded(word: &[u8]) -> bool
 }
 
 /// The number that a word says: decimal digits without a leading zero, except `0`, at most `u64::MAX`.
-pub fn number(word: &[u8]) -> Option<u64>
+fn number(word: &[u8]) -> Option<u64>
     ensures { result ≡ number_of word.now }
 {
     if is_padded(word) {
@@ -28,17 +38,28 @@ pub fn number(word: &[u8]) -> Option<u64>
     }
 }
 
-/// The bit that a word says: `0` or `1`.
-#[tactic(auto, unfolding(crate::specs::Words::bit_of))]
-pub fn bit(word: &[u8]) -> Option<bool>
-    ensures { result ≡ bit_of word.now }
-{
-    if word == b"0".as_slice() {
-        Some(false)
-    } else if word == b"1".as_slice() {
-        Some(true)
-    } else {
-        None
+/// A number: decimal digits without a leading zero, except `0`, at most `u64::MAX`.
+impl<'a> Word<'a> for u64 {
+    ghost says = { number_of };
+
+    fn said(word: &'a [u8]) -> Option<u64> {
+        number(word)
+    }
+}
+
+/// A bit: `0` or `1`.
+impl<'a> Word<'a> for bool {
+    ghost says = { bit_of };
+
+    #[tactic(auto, unfolding(crate::specs::Words::bit_of))]
+    fn said(word: &'a [u8]) -> Option<bool> {
+        if word == b"0".as_slice() {
+            Some(false)
+        } else if word == b"1".as_slice() {
+            Some(true)
+        } else {
+            None
+        }
     }
 }
 
@@ -59,18 +80,6 @@ impl<const BOUND: usize> Model for Below<BOUND> {
 }
 
 impl<const BOUND: usize> Below<BOUND> {
-    /// The number that a word says, where it is below the bound.
-    pub fn read(word: &[u8]) -> Option<Below<BOUND>>
-        ensures { result ≡ below_of BOUND word.now }
-    {
-        let number = number(word)? as usize;
-        if number < BOUND {
-            Some(Below { number })
-        } else {
-            None
-        }
-    }
-
     /// The number.
     pub fn get(self) -> usize
         ensures value { result ≡ self.entry }
@@ -80,19 +89,35 @@ impl<const BOUND: usize> Below<BOUND> {
     }
 }
 
+/// A number, where it is below the bound.
+impl<'a, const BOUND: usize> Word<'a> for Below<BOUND> {
+    ghost says = { below_of BOUND };
+
+    fn said(word: &'a [u8]) -> Option<Below<BOUND>> {
+        let number = number(word)? as usize;
+        if number < BOUND {
+            Some(Below { number })
+        } else {
+            None
+        }
+    }
+}
+
 /// The place of a slot among the sixteen, the first one 0.
 pub type SlotIndex = Below<16>;
 
-/// The slot that a word says, where one may be left out: `-` for none, or the slot's place.
-#[tactic(auto, unfolding(crate::specs::Words::optional_slot_of))]
-pub fn optional_slot(word: &[u8]) -> Option<Option<SlotIndex>>
-    ensures { result ≡ optional_slot_of word.now }
-{
-    if word == b"-".as_slice() {
-        return Some(None);
+/// A slot that may be left out: `-` for none, or the slot's place.
+impl<'a> Word<'a> for Option<SlotIndex> {
+    ghost says = { optional_slot_of };
+
+    #[tactic(auto, unfolding(crate::specs::Words::optional_slot_of))]
+    fn said(word: &'a [u8]) -> Option<Option<SlotIndex>> {
+        if word == b"-".as_slice() {
+            return Some(None);
+        }
+        let slot = SlotIndex::said(word)?;
+        Some(Some(slot))
     }
-    let slot = SlotIndex::read(word)?;
-    Some(Some(slot))
 }
 
 /// How many bits a word has, as a script says it.
@@ -108,12 +133,12 @@ pub enum Width {
     Bits64,
 }
 
-impl Width {
-    /// The width that a word says: `8`, `16`, `32` or `64`.
+/// A width: `8`, `16`, `32` or `64`.
+impl<'a> Word<'a> for Width {
+    ghost says = { width_of };
+
     #[tactic(auto, unfolding(crate::specs::Words::width_of))]
-    pub fn read(word: &[u8]) -> Option<Width>
-        ensures { result ≡ width_of word.now }
-    {
+    fn said(word: &'a [u8]) -> Option<Width> {
         if word == b"8".as_slice() {
             Some(Width::Bits8)
         } else if word == b"16".as_slice() {
@@ -148,11 +173,20 @@ impl<'a> Model for BitText<'a> {
 }
 
 impl<'a> BitText<'a> {
-    /// The items that a word says: `-` for none, or bytes `0` and `1`.
-    #[tactic(auto, unfolding(crate::specs::Words::bits_of))]
-    pub fn read(word: &'a [u8]) -> Option<BitText<'a>>
-        ensures { result ≡ bits_of word.entry.now }
+    /// A byte for each item: `1` for true.
+    pub fn digits(&self) -> &'a [u8]
+        ensures { items_said result.now ≡ self.now }
     {
+        self.digits
+    }
+}
+
+/// Items: `-` for none, or bytes `0` and `1`.
+impl<'a> Word<'a> for BitText<'a> {
+    ghost says = { bits_of };
+
+    #[tactic(auto, unfolding(crate::specs::Words::bits_of))]
+    fn said(word: &'a [u8]) -> Option<BitText<'a>> {
         if word == b"-".as_slice() {
             return Some(BitText { digits: &[] });
         }
@@ -164,13 +198,6 @@ impl<'a> BitText<'a> {
         } else {
             None
         }
-    }
-
-    /// A byte for each item: `1` for true.
-    pub fn digits(&self) -> &'a [u8]
-        ensures { items_said result.now ≡ self.now }
-    {
-        self.digits
     }
 }
 
@@ -213,11 +240,21 @@ impl<'a> Model for HexText<'a> {
 }
 
 impl<'a> HexText<'a> {
-    /// The bytes that a word says: `-` for none, or two digits `0` to `9` and `a` to `f` for each.
-    #[tactic(auto, unfolding(crate::specs::Words::bytes_of, crate::specs::Words::bytes_said))]
-    pub fn read(word: &'a [u8]) -> Option<HexText<'a>>
-        ensures { result ≡ bytes_of word.entry.now }
+    /// How many bytes there are.
+    #[tactic(auto, using(crate::proofs::HexLemmas::hex_bytes))]
+    pub fn len(&self) -> usize
+        ensures { result ≡ length self.now }
     {
+        self.digits.len() / 2
+    }
+}
+
+/// Bytes: `-` for none, or two digits `0` to `9` and `a` to `f` for each.
+impl<'a> Word<'a> for HexText<'a> {
+    ghost says = { bytes_of };
+
+    #[tactic(auto, unfolding(crate::specs::Words::bytes_of, crate::specs::Words::bytes_said))]
+    fn said(word: &'a [u8]) -> Option<HexText<'a>> {
         if word == b"-".as_slice() {
             return Some(HexText { digits: &[] });
         }
@@ -229,14 +266,6 @@ impl<'a> HexText<'a> {
         } else {
             None
         }
-    }
-
-    /// How many bytes there are.
-    #[tactic(auto, using(crate::proofs::HexLemmas::hex_bytes))]
-    pub fn len(&self) -> usize
-        ensures { result ≡ length self.now }
-    {
-        self.digits.len() / 2
     }
 }
 
@@ -276,12 +305,12 @@ impl<'a> Model for NumberText<'a> {
     ghost invariant = { λ t. list_all is_number t.words ≡ true };
 }
 
-impl<'a> NumberText<'a> {
-    /// The numbers that a word says: `-` for none, or numbers joined by `,`.
+/// Numbers: `-` for none, or numbers joined by `,`.
+impl<'a> Word<'a> for NumberText<'a> {
+    ghost says = { numbers_of };
+
     #[tactic(auto, unfolding(crate::specs::Words::numbers_of))]
-    pub fn read(word: &'a [u8]) -> Option<NumberText<'a>>
-        ensures { result ≡ numbers_of word.entry.now }
-    {
+    fn said(word: &'a [u8]) -> Option<NumberText<'a>> {
         if word == b"-".as_slice() {
             return Some(NumberText {
                 words: Parts::none(),
