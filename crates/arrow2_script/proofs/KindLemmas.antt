@@ -1,5 +1,5 @@
 -- Commands of one kind: the words that say each, and the names by which they are told apart.
-use Rattle.std.proofs.Common.{◌≡◌, subst, refl, ◌<◌, ◌≤◌, ◌^◌, ℕ, List, [], ◌∷◌, Bool, true, cond, inl, inr}
+use Rattle.std.proofs.Common.{◌≡◌, subst, refl, ◌<◌, ◌≤◌, ◌^◌, ℕ, List, [], ◌∷◌, Bool, true, cond, inl, inr, arith}
 use Rattle.std.specs.Prelude.{Option, Some, None, IfSome, option_map}
 use Rattle.std.specs.List.{All, list_all}
 use Rattle.std.specs.Str.{bytes_eq}
@@ -11,7 +11,7 @@ use Rattle.arrow2_script.specs.declared.words.Width.{Width}
 use Rattle.arrow2_script.specs.Words.{number_of, slot_of, optional_slot_of, optional_slot_word, below_of, bit_of, bit_byte, bits_of, bits_text, numbers_of, numbers_text, width_of, width_word, bytes_of, hex_text}
 use Rattle.arrow2_script.proofs.HexLemmas.{text-bytes_of}
 use Rattle.arrow2_script.proofs.NumberListLemmas.{text-numbers_of}
-use Rattle.arrow2_script.proofs.SpellingLemmas.{is_word, number_word, slot_word, optional_slot_is_word, below_word, bit_word, bits_word, numbers_word, width_is_word, hex_word}
+use Rattle.arrow2_script.proofs.SpellingLemmas.{is_word, number_word, optional_slot_is_word, bit_word, bits_word, numbers_word, width_is_word, hex_word}
 use Rattle.arrow2_script.proofs.WordLemmas.{choice, mapped, decimal-number_of, decimal-slot_of, word-optional_slot_of, decimal-below_of, byte-bit_of, word-width_of, text-bits_of}
 
 -- how a word is read, and the one word by which each value is spelled
@@ -23,7 +23,7 @@ pub record Reader (A : Type 0) : Type 1 where
   pub passes : (x : A) → Fits x → is_word (spell x) ≡ true
 
 abbrev pub slots : Reader ℕ
-slots = record { read = slot_of; spell = decimal; Fits = λ n. n < 16; spelled = decimal-slot_of; passes = slot_word }
+slots = record { read = slot_of; spell = decimal; Fits = λ n. n < 16; spelled = decimal-slot_of; passes = λ n h. number_word n (omega (arith, h)) }
 
 abbrev pub optional_slots : Reader (Option ℕ)
 optional_slots = record { read = optional_slot_of; spell = optional_slot_word; Fits = λ slot. IfSome slot (λ n. n < 16); spelled = word-optional_slot_of; passes = optional_slot_is_word }
@@ -33,7 +33,7 @@ numbers = record { read = number_of; spell = decimal; Fits = λ n. n < 2 ^ 64; s
 
 -- a table's number is below a bound that fits 64 bits
 abbrev pub tables : (bound : ℕ) → bound ≤ 2 ^ 64 → Reader ℕ
-tables bound most = record { read = below_of bound; spell = decimal; Fits = λ n. n < bound; spelled = decimal-below_of bound; passes = λ n h. below_word bound n most h }
+tables bound most = record { read = below_of bound; spell = decimal; Fits = λ n. n < bound; spelled = decimal-below_of bound; passes = λ n h. number_word n (omega (arith, most, h)) }
 
 abbrev pub bits : Reader Bool
 bits = record { read = bit_of; spell = λ bit. bit_byte bit ∷ []; Fits = λ bit. Unit {0}; spelled = λ word bit e. (tt, byte-bit_of word bit e); passes = λ bit fits. bit_word bit }
@@ -86,20 +86,14 @@ more_pass f g x fits = rw (f.passes x.0 fits.0, g.passes x.1 fits.1) refl
 abbrev pub more : {A B : Type 0} → Reader A → Values B → Values (A × B)
 more f g = record { read = f.read >> g.read; spell = λ x. f.spell x.0 ∷ g.spell x.1; Fits = λ x. f.Fits x.0 × g.Fits x.1; spelled = more_spelled f g; passes = more_pass f g }
 
--- where the test of a name passes, what stands behind it says the command; else what comes next does
-at_name : {C : Type 0} (Says : List ℕ → C → Type 0) (known : List ℕ) (read : Option C) (name : List ℕ) (command : C) → (read ≡ Some command → Says known command) → (next : Option C) → (next ≡ Some command → Says name command) → cond (bytes_eq name known) read next ≡ Some command → Says name command
-at_name Says known read name command says next others e = elim (choice (bytes_eq name known) read next (Some command) e) [
-  | inl p ↦
-      let is = (bytes_eq-Decides name known).0 p.0 in
-      rw is (says p.1)
-  | inr p ↦ others p.1
-]
-
 -- a row of a table of commands: where the test of its name passes, the values behind it are a command's; else what comes next is one
 pub at_row : {A C : Type 0} (Says : List ℕ → List (List ℕ) → C → Type 0) (known : List ℕ) → is_word known ≡ true → (values : Values A) (made : A → C) → ((x : A) → values.Fits x → list_all is_word (known ∷ values.spell x) ≡ true → Says known (values.spell x) (made x)) → (words : List (List ℕ)) (name : List ℕ) (command : C) (next : Option C) → (next ≡ Some command → Says name words command) → cond (bytes_eq name known) (option_map made (values.read words)) next ≡ Some command → Says name words command
-at_row Says known is values made says words name command next =
-    at_name (λ n c. Says n words c) known (option_map made (values.read words)) name command (λ e.
-      let p = mapped made (values.read words) command e in
-      let q = values.spelled words p.0 p.1 in
-      let pass : list_all is_word (known ∷ values.spell p.0) ≡ true = rw (is, values.passes p.0 q.0) refl in
-      subst (λ c. Says known words c) p.2 (subst (λ t. Says known t (made p.0)) q.1 (says p.0 q.0 pass))) next
+at_row Says known is values made says words name command next others e = elim (choice (bytes_eq name known) (option_map made (values.read words)) next (Some command) e) [
+  | inl p ↦
+      let same = (bytes_eq-Decides name known).0 p.0 in
+      let m = mapped made (values.read words) command p.1 in
+      let q = values.spelled words m.0 m.1 in
+      let pass : list_all is_word (known ∷ values.spell m.0) ≡ true = rw (is, values.passes m.0 q.0) refl in
+      rw same (subst (λ c. Says known words c) m.2 (subst (λ t. Says known t (made m.0)) q.1 (says m.0 q.0 pass)))
+  | inr p ↦ others p.1
+]

@@ -1,5 +1,5 @@
 -- Words that spell numbers, slots, bits and texts of bits.
-use Rattle.std.proofs.Common.{◌≡◌, refl, ◌/◌, ◌%◌, ◌<◌, ◌≤◌, ◌^◌, ℕ, suc, List, [], ◌∷◌, length, Bool, true, false, ◌&&◌, not, arith, eqb, map, length-append}
+use Rattle.std.proofs.Common.{◌≡◌, refl, ◌/◌, ◌%◌, ◌<◌, ◌^◌, ℕ, suc, List, [], ◌∷◌, length, Bool, true, false, ◌&&◌, not, arith, eqb, map, length-append}
 use Rattle.std.specs.Prelude.{Option, Some, None, IfSome}
 use Rattle.std.specs.List.{All, list_any, list_all, join_with_byte, flat_map}
 use Rattle.std.proofs.lemmas.List.Folds.{list_all-append}
@@ -37,13 +37,10 @@ number_word n h =
     let is = (decimal_is_IsNumeral n h).0 in
     rw (filled (decimal n) is.0, digits_spaceless (decimal n) is.1) refl
 
-pub slot_word : (n : ℕ) → n < 16 → is_word (decimal n) ≡ true
-slot_word n h = number_word n (omega arith)
-
 pub optional_slot_is_word : (slot : Option ℕ) → IfSome slot (λ n. n < 16) → is_word (optional_slot_word slot) ≡ true
 unfolding is_word
 optional_slot_is_word None fits = refl
-optional_slot_is_word (Some n) fits = slot_word n fits
+optional_slot_is_word (Some n) fits = number_word n (omega (arith, fits))
 
 bits_spaceless : (items : List Bool) → list_all (λ b. not (eqb b 32)) (map bit_byte items) ≡ true
 bits_spaceless [] = refl
@@ -75,9 +72,6 @@ pub numbers_word : (ns : List ℕ) → All (λ m. m < 2 ^ 64) ns → is_word (nu
 unfolding is_word
 numbers_word [] all = refl
 numbers_word (n ∷ ns) all = rw (filled (join_with_byte 44 (map decimal (n ∷ ns))) (some_numbers n ns (all 0 0 (omega arith))), numbers_spaceless n ns all) refl
-
-pub below_word : (bound n : ℕ) → bound ≤ 2 ^ 64 → n < bound → is_word (decimal n) ≡ true
-below_word bound n most h = number_word n (omega (arith, most, h))
 
 pub width_is_word : (width : Width) → is_word (width_word width) ≡ true
 unfolding is_word
