@@ -12,8 +12,7 @@ use Rattle.arrow2_model.specs.Parts.{part}
 use Rattle.arrow2_model.specs.Buffers.{BufferStorage, buffer_items, whole_buffer}
 use Rattle.arrow2_model.specs.Offsets.{running_sums, offsets_list, numbers_of, AreOffsets, AreOffsetsUpTo, start_of, lengths_of, offset_at, last_of}
 use Rattle.arrow2_model.proofs.Offsets.{Spells, spells, spelled, length-lengths_of, get_or-offsets, get_or-last, push_spells, repeat_spells, take_spells, part_spells, part-map, map-replicate}
-use Rattle.arrow2_lengths.proofs.Growing.{pushed as pushed_one, last_grown}
-pub use Rattle.arrow2_lengths.proofs.Growing.{same_naturals, natural_as_whole, value_at, value_last, value_natural}
+use Rattle.arrow2_offset.proofs.Appending.{pushed as pushed_one, last_grown, same_naturals, value_at, value_last}
 
 -- ---- fronts
 

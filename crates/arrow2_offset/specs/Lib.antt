@@ -1,3 +1,4 @@
 pub mod Collected
+pub mod Lengthened
 pub mod Made
 pub mod Refused

@@ -10,11 +10,11 @@ ghost use Rattle.arrow2_model.specs.Parts.{part};
 ghost use Rattle.arrow2_model.specs.Buffers.{buffer_items, whole_buffer};
 ghost use Rattle.arrow2_model.specs.Offsets.{AreOffsets, offset_at, offsets_of, offsets_list, start_of, lengths_of, last_of, numbers_of};
 
+use crate::check::try_check_offsets;
 use crate::iterator::Lengths;
 use crate::mutable::Offsets;
 use arrow2_buffer::Buffer;
 use arrow2_index::offset::Offset;
-use arrow2_lengths::check::try_check_offsets;
 use arrow2_types::error::{Error, Result};
 use either::Either;
 use std::alloc::{AllocError, Global};

@@ -1,6 +1,8 @@
 //! Where the values of binary, text and list arrays begin: offsets that grow, and offsets that are shared.
 #![tactic(auto)]
 
+mod appended;
+mod check;
 pub mod convert;
 pub mod immutable;
 pub mod iterator;

@@ -14,11 +14,11 @@ ghost use Rattle.arrow2_offset.specs.Made.{made_of};
 ghost use Rattle.arrow2_offset.specs.Refused.{IsOutOfSpec, why_not_offsets};
 ghost use Rattle.arrow2_types.specs.declared.refusal.Refusal.TheVariants as refusal;
 
+use crate::appended::append_lengths;
+use crate::check::try_check_offsets;
 use crate::immutable::OffsetsBuffer;
 use crate::iterator::Lengths;
 use arrow2_index::offset::Offset;
-use arrow2_lengths::appended::append_lengths;
-use arrow2_lengths::check::try_check_offsets;
 use arrow2_types::error::{Error, Result};
 use arrow2_types::refusal::Refusal;
 use std::alloc::{AllocError, Global};

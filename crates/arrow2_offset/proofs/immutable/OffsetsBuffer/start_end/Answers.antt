@@ -3,7 +3,8 @@ use Rattle.std.proofs.lemmas.List.{length-map}
 use Rattle.arrow2_model.specs.Buffers.{buffer_items}
 use Rattle.arrow2_model.specs.Offsets.{AreOffsets}
 use Rattle.arrow2_model.proofs.Offsets.{length-lengths_of}
-use Rattle.arrow2_offset.proofs.Growing.{value_natural, slot_read_of}
+use Rattle.arrow2_offset.proofs.Appending.{value_natural}
+use Rattle.arrow2_offset.proofs.Growing.{slot_read_of}
 use Rattle.arrow2_offset.proofs.immutable.OffsetsBuffer.start_end.Goals as goal
 
 pub bounds-offsets-index : goal.bounds-offsets-index

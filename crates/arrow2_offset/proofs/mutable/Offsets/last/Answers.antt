@@ -1,5 +1,5 @@
 use Rattle.std.proofs.Common.{◌∙◌}
-use Rattle.arrow2_offset.proofs.Growing.{value_last}
+use Rattle.arrow2_offset.proofs.Appending.{value_last}
 use Rattle.arrow2_offset.proofs.mutable.Offsets.last.Goals as goal
 
 pub returns-clause-value : goal.returns-clause-value

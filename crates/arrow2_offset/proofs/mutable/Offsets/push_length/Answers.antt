@@ -1,6 +1,7 @@
 use Rattle.std.proofs.Common.{arith, ◌∙◌, sym, ap}
 use Rattle.arrow2_model.specs.Offsets.{last_of_growing}
-use Rattle.arrow2_offset.proofs.Growing.{pushed, same_naturals}
+use Rattle.arrow2_offset.proofs.Appending.{same_naturals}
+use Rattle.arrow2_offset.proofs.Growing.{pushed}
 use Rattle.arrow2_offset.proofs.mutable.Offsets.push_length.Goals as goal
 
 pub invariant_of-self-2 : goal.invariant_of-self-2

@@ -1,6 +1,7 @@
 use Rattle.std.proofs.Common.{◌≡◌, ◌+◌, ◌<◌, ap, arith, length, map, refl}
 use Rattle.arrow2_model.specs.Offsets.{slots, lengths_of}
-use Rattle.arrow2_offset.proofs.Growing.{value_natural, slot_read, length_slots}
+use Rattle.arrow2_offset.proofs.Appending.{value_natural}
+use Rattle.arrow2_offset.proofs.Growing.{slot_read, length_slots}
 use Rattle.arrow2_offset.proofs.mutable.Offsets.start_end.Goals as goal
 
 pub to_usize-requires : goal.to_usize-requires

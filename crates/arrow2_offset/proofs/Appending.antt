@@ -6,7 +6,7 @@ use Rattle.std.proofs.lemmas.List.{length-map, map-append, append_assoc, get_or-
 use Rattle.std.proofs.lemmas.List.Sums.{sum_by-append}
 use Rattle.arrow2_model.specs.Offsets.{AreOffsets, start_of, lengths_of, last_of, offset_at}
 use Rattle.arrow2_model.proofs.Offsets.{Spells, get_or-last, get_or-offsets, push_spells}
-use Rattle.arrow2_lengths.specs.Lengthened.{LengthenedBy}
+use Rattle.arrow2_offset.specs.Lengthened.{LengthenedBy}
 
 pub same_naturals : (a b : ℕ) (x : ℤ) → pos a ≡ x → x ≡ pos b → a ≡ b
 same_naturals a b x e h = ap unsigned_abs (e ∙ h)

@@ -3,8 +3,8 @@ ghost use Rattle.std.specs.Prelude.{◌≡◌, ◌<◌, ◌≤◌, length, map, 
 ghost use Rattle.std.specs.Iterator.{IsFinite};
 ghost use Rattle.std.specs.Iterator.Runs.{WholeRun};
 ghost use Rattle.arrow2_model.specs.Offsets.{AreOffsetsUpTo, last_of};
-ghost use Rattle.arrow2_lengths.specs.Collected.{GivesPast};
-ghost use Rattle.arrow2_lengths.specs.Lengthened.{LengthenedBy};
+ghost use Rattle.arrow2_offset.specs.Collected.{GivesPast};
+ghost use Rattle.arrow2_offset.specs.Lengthened.{LengthenedBy};
 ghost use Rattle.arrow2_types.specs.declared.refusal.Refusal.TheVariants as refusal;
 
 use arrow2_index::offset::Offset;
@@ -21,7 +21,7 @@ const LEAST_ROOM: usize = 4;
 /// # Errors
 ///
 /// `Overflow` only where the last offset and the sum of the lengths that came pass `O::MAX`, else `OutOfMemory`.
-pub fn append_lengths<O: Offset, I: Iterator<Item = usize> + Drop>(
+pub(crate) fn append_lengths<O: Offset, I: Iterator<Item = usize> + Drop>(
     offsets: &mut Vec<O>,
     lengths: I,
 ) -> Result<(), Refusal>

@@ -1,6 +1,6 @@
 use Rattle.std.proofs.Common.{◌≡◌, ℕ, ◌+◌, ◌<◌, ◌≤◌, ◌↔◌, length, map, max, true}
 use Rattle.std.specs.Prelude.{pos, ◌≤ℤ◌, slice_index_or}
-use Rattle.arrow2_lengths.proofs.check.is_rising.Given as goal
+use Rattle.arrow2_offset.proofs.check.is_rising.Given as goal
 
 abbrev pub invariant-loop-i : goal.invariant-loop-i
 invariant-loop-i g l = record {

@@ -2,9 +2,9 @@ use Rattle.std.proofs.Common.{◌≡◌, ◌∙◌, ◌-◌, ap, subst, arith, r
 use Rattle.std.specs.Prelude.{pos, ◌<ℤ◌}
 use Rattle.std.proofs.lemmas.Bool.Decides.{nat_tests}
 use Rattle.arrow2_model.specs.Offsets.{last_of}
-use Rattle.arrow2_lengths.proofs.Growing.{value_last, value_natural}
-use Rattle.arrow2_lengths.proofs.Order.{lt_told, offsets_told}
-use Rattle.arrow2_lengths.proofs.check.try_check_offsets.Goals as goal
+use Rattle.arrow2_offset.proofs.Appending.{value_last, value_natural}
+use Rattle.arrow2_offset.proofs.Order.{lt_told, offsets_told}
+use Rattle.arrow2_offset.proofs.check.try_check_offsets.Goals as goal
 
 pub to_usize-last-requires : goal.to_usize-last-requires
 to_usize-last-requires g c =

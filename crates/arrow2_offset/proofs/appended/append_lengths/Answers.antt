@@ -1,8 +1,8 @@
 use Rattle.std.proofs.Common.{map, subst}
 use Rattle.std.specs.Prelude.{OnOk}
 use Rattle.std.specs.Iterator.Runs.{WholeRun}
-use Rattle.arrow2_lengths.specs.Lengthened.{LengthenedBy}
-use Rattle.arrow2_lengths.proofs.appended.append_lengths.Goals as goal
+use Rattle.arrow2_offset.specs.Lengthened.{LengthenedBy}
+use Rattle.arrow2_offset.proofs.appended.append_lengths.Goals as goal
 
 pub returns-else-is_err-clause-ok : goal.returns-else-is_err-clause-ok
 returns-else-is_err-clause-ok g c =

@@ -1,8 +1,8 @@
 use Rattle.std.proofs.Common.{◌-◌, map, arith}
 use Rattle.std.specs.Prelude.{pos}
 use Rattle.std.proofs.lemmas.List.{get_or-map}
-use Rattle.arrow2_lengths.proofs.Order.{le_told, rises_more}
-use Rattle.arrow2_lengths.proofs.check.is_rising.Goals as goal
+use Rattle.arrow2_offset.proofs.Order.{le_told, rises_more}
+use Rattle.arrow2_offset.proofs.check.is_rising.Goals as goal
 
 pub loop-i-preserved : goal.loop-i-preserved
 loop-i-preserved g c =

@@ -1,14 +1,14 @@
 //! The test of what is handed in as offsets.
 ghost use Rattle.std.specs.Prelude.{◌≡◌, ℕ, ◌+◌, ◌<◌, ◌≤ℤ◌, ◌↔◌, pos, length, map, slice_index_or, OnOk, IsOk, IfErr, IsTrue};
 ghost use Rattle.arrow2_model.specs.Offsets.{AreOffsets, AreOffsetsUpTo};
-ghost use Rattle.arrow2_lengths.specs.Refused.{IsOutOfSpec, why_not_offsets};
+ghost use Rattle.arrow2_offset.specs.Refused.{IsOutOfSpec, why_not_offsets};
 
 use arrow2_index::offset::Offset;
 use arrow2_types::error::{Error, Result};
 use std::alloc::{AllocError, Global};
 
 /// Refuses what is not a list of offsets, with the text of the first rule that it breaks.
-pub fn try_check_offsets<O: Offset>(alloc: Global, offsets: &[O]) -> Result<()>
+pub(crate) fn try_check_offsets<O: Offset>(alloc: Global, offsets: &[O]) -> Result<()>
     ensures ok { OnOk result (AreOffsetsUpTo O.MAX (map O.value offsets.now)) }
     ensures accepted { AreOffsets (map O.value offsets.now) → IsOk result }
     ensures refused { IfErr result (λ e. IsOutOfSpec e (why_not_offsets (map O.value offsets.now))) }

@@ -1,7 +1,7 @@
 use Rattle.std.proofs.Common.{◌≡◌, ◌+◌, ◌*◌, ◌^◌, ◌<◌, ◌≤◌, length, map, sum, take}
 use Rattle.arrow2_model.specs.Offsets.{last_of}
-use Rattle.arrow2_lengths.proofs.Growing.{AreLengthened}
-use Rattle.arrow2_lengths.proofs.appended.appended.Given as goal
+use Rattle.arrow2_offset.proofs.Appending.{AreLengthened}
+use Rattle.arrow2_offset.proofs.appended.appended.Given as goal
 
 abbrev pub invariant-loop-length : goal.invariant-loop-length
 invariant-loop-length g l = record {

@@ -1,7 +1,0 @@
--- What an iterator gave where its lengths are too many for an offset.
-use Rattle.std.specs.Prelude.{ℕ, ◌+◌, ◌<◌, List, Option, sum}
-use Rattle.std.specs.Iterator.{Yields}
-
--- lengths came by which the last offset passes the greatest one
-abbrev pub GivesPast : {S : Type 0} → ℕ → ℕ → (S → Option ℕ → S → Type 0) → S → Type 0
-GivesPast {S} max last steps s = (ns : List ℕ) × (t : S) × Yields steps s ns t × (max < last + sum ns)
