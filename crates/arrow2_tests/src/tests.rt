@@ -14,6 +14,8 @@ mod growing;
 mod hinting;
 mod index;
 mod kernels;
+mod lists;
 mod offset;
+mod storage;
 mod types;
 mod walks;

@@ -3,11 +3,13 @@ ghost use Rattle.std.specs.Prelude.{◌≡◌, IfOk, length as count};
 ghost use Rattle.arrow2_model.specs.Storage.{items_of};
 
 use super::checks::{gives, has, prints, shows};
+use arrow2_bitmap::bitmap_ops::unary;
 use arrow2_bitmap::immutable::Bitmap;
 use arrow2_bitmap::iterator::IntoIter;
 use arrow2_bitmap::mutable::MutableBitmap;
 use arrow2_bits::chunk_iterator::BitChunkIterExact;
 use arrow2_chunk::bit_chunk::BitChunk;
+use arrow2_walks::slice_iterator::SlicesIterator;
 use std::alloc::Global;
 use std::convert::TryFrom;
 use std::process::Abort;
@@ -170,11 +172,20 @@ fn a_bitmap_is_changed_in_place_or_copied(rt: HostRuntime) {
     assert!(rt; other.sliced(1, 1).into_mut().is_left());
 }
 
-/// Two of the four items are false, and one more is pushed behind them.
-fn grows(rt: &impl Abort, alloc: Global, bitmap: Bitmap) {
+/// Two of the four items are false, between two runs; the identity leaves them, and one more is pushed behind them.
+fn is_dirty_or_not(rt: &impl Abort, alloc: Global, bitmap: Bitmap) {
     assert!(rt; bitmap.unset_bits() == 2);
-    let grown = pushed(rt, bitmap.make_mut().expect(rt, "no memory"), true);
-    gives(rt, alloc, grown.iter(), &[false, true, false, true, true]);
+    let runs: Vec<(usize, usize)> = SlicesIterator::new(&bitmap)
+        .collect(alloc)
+        .expect(rt, "no memory");
+    assert!(rt; runs.as_slice() == [(1, 1), (3, 1)].as_slice());
+    let same = unary(&bitmap, |word| word).expect(rt, "no memory");
+    assert!(rt; same == bitmap);
+    for value in [false, true] {
+        let copy = bitmap.clone().expect(rt, "no memory");
+        let grown = pushed(rt, copy.make_mut().expect(rt, "no memory"), value);
+        gives(rt, alloc, grown.iter(), &[false, true, false, true, value]);
+    }
 }
 
 #[test]
@@ -185,9 +196,9 @@ fn what_is_behind_a_list_changes_nothing(rt: HostRuntime) {
     let dirty = bitmap_of(&rt, alloc, &[0b11111010], 4);
     let moved = bitmap_of(&rt, alloc, &[0b11010111], 7).sliced(3, 4);
     assert!(rt; dirty == alike && moved == alike && dirty == moved);
-    grows(&rt, alloc, dirty);
-    grows(&rt, alloc, moved);
-    grows(&rt, alloc, alike);
+    for bitmap in [dirty, moved, alike] {
+        is_dirty_or_not(&rt, alloc, bitmap);
+    }
 }
 
 #[test]

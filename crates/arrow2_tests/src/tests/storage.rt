@@ -1,0 +1,407 @@
+//! The storage test: whatever bit offset, spare bits and spare bytes stand behind a list, each call that shows no storage
+//! answers by the list alone.
+ghost use Rattle.std.specs.Prelude.{◌≡◌, length};
+ghost use Rattle.arrow2_model.specs.Storage.{items_of};
+
+use super::lists;
+use arrow2_array::BooleanArray;
+use arrow2_bitmap::assign_ops::{binary_assign, unary_assign};
+use arrow2_bitmap::bitmap_ops::{and, binary, or, unary, xor};
+use arrow2_bitmap::immutable::Bitmap;
+use arrow2_bitmap::mutable::MutableBitmap;
+use arrow2_bits::chunk_iterator::BitChunkIterExact;
+use arrow2_chunk::bit_chunk::BitChunk;
+use arrow2_tables::assign_ops::{binary_assign_table, unary_assign_table};
+use arrow2_tables::bitmap_ops::{
+    binary_table, quaternary, quaternary_table, ternary, ternary_table, unary_table,
+};
+use arrow2_walks::slice_iterator::SlicesIterator;
+use arrow2_walks::zip_validity::ZipValidity;
+use std::alloc::Global;
+use std::convert::TryFrom;
+use std::process::Abort;
+
+/// The bitmap has these items.
+fn has(rt: &impl Abort, bitmap: &Bitmap, list: &[bool]) {
+    assert!(rt; bitmap.len() == list.len() && bitmap.iter().eq(list.iter().copied()));
+}
+
+/// So has one that was changed.
+fn becomes(rt: &impl Abort, changed: MutableBitmap, list: &[bool]) {
+    assert!(rt; changed.len() == list.len() && changed.iter().eq(list.iter().copied()));
+    has(rt, &Bitmap::try_from(changed).expect(rt, "no memory"), list);
+}
+
+/// The bitmap, to be changed.
+fn thawed(rt: &impl Abort, bitmap: &Bitmap) -> MutableBitmap
+    ensures { result.items ≡ items_of bitmap.now }
+{
+    let copy = bitmap.clone().expect(rt, "no memory");
+    copy.make_mut().expect(rt, "no memory")
+}
+
+/// Items are read by place and walked from both ends.
+fn is_walked(rt: &impl Abort, bitmap: &Bitmap, list: &[bool]) {
+    has(rt, bitmap, list);
+    assert!(rt; bitmap.iter().rev().eq(list.iter().rev().copied()));
+    assert!(rt; bitmap.get(usize::MAX).is_none());
+    let mut inwards = bitmap.iter();
+    for i in 0..list.len() {
+        let back = list.len() - 1 - i / 2;
+        if i % 2 == 0 {
+            assert!(rt; inwards.next() == Some(list[i / 2]));
+        } else {
+            assert!(rt; inwards.next_back() == Some(list[back]));
+        }
+    }
+    assert!(rt; inwards.next().is_none());
+}
+
+/// A walk skips to each place, and to the one behind the last.
+fn is_skipped(rt: &impl Abort, bitmap: &Bitmap, list: &[bool]) {
+    for i in 0..list.len() + 1 {
+        let item = list.get(i).copied();
+        assert!(rt; bitmap.get(i) == item && bitmap.iter().nth(i) == item);
+        assert!(rt; bitmap.iter().nth_back(i) == list.iter().rev().copied().nth(i));
+    }
+}
+
+/// Each part from item `start` on counts its own falses.
+fn is_counted_from(rt: &impl Abort, bitmap: &Bitmap, list: &[bool], start: usize) {
+    assert!(rt; bitmap.len() == list.len() && start <= list.len());
+    let mut falses = 0usize;
+    for length in 0..list.len() - start + 1 {
+        assert!(rt; bitmap.null_count_range(start, length) == falses);
+        if !lists::at(list, start + length) {
+            falses = falses.wrapping_add(1);
+        }
+    }
+}
+
+/// What is left of the bitmap from item `start` on, and a part of that, has and counts its own items.
+fn is_cut_from(rt: &impl Abort, bitmap: &Bitmap, list: &[bool], start: usize) {
+    assert!(rt; bitmap.len() == list.len() && start <= list.len());
+    let items = &list[start..];
+    let part = bitmap.clone().expect(rt, "no memory").sliced(start, items.len());
+    has(rt, &part, items);
+    assert!(rt; part.unset_bits() == lists::falses(items) && part.null_count() == part.unset_bits());
+    let (skipped, length) = (items.len() / 3, items.len() / 2);
+    let items = &items[skipped..skipped + length];
+    let part = part.sliced(skipped, length);
+    has(rt, &part, items);
+    assert!(rt; part.unset_bits() == lists::falses(items) && part.len() == length);
+}
+
+/// Equality goes by the items, both ways.
+fn is_equal(rt: &impl Abort, alloc: Global, bitmap: &Bitmap, list: &[bool]) {
+    let alike = Bitmap::from_bools(alloc, list).expect(rt, "no memory");
+    assert!(rt; *bitmap == alike && alike == *bitmap);
+    let mut other = thawed(rt, &alike);
+    assert!(rt; thawed(rt, bitmap) == other && other == thawed(rt, bitmap));
+    let Some(last) = other.pop() else {
+        return;
+    };
+    let shorter = other.clone().expect(rt, "no memory");
+    other.push(!last).expect(rt, "no memory");
+    let other = Bitmap::try_from(other).expect(rt, "no memory");
+    let shorter = Bitmap::try_from(shorter).expect(rt, "no memory");
+    assert!(rt; *bitmap != other && other != *bitmap);
+    assert!(rt; *bitmap != shorter && shorter != *bitmap);
+}
+
+/// Words of this width hold the items one by one, and so does the rest.
+fn has_words<T: BitChunk>(rt: &impl Abort, bitmap: &Bitmap, list: &[bool]) {
+    let mut items = list.iter().copied();
+    let words = bitmap.chunks::<T>();
+    let rest = words.remainder_iter();
+    for word in words {
+        for i in 0..T::WIDTH {
+            assert!(rt; items.next() == Some(word.bit(i)));
+        }
+    }
+    assert!(rt; rest.eq(items));
+}
+
+/// The runs are those of the list.
+fn has_runs(rt: &impl Abort, alloc: Global, bitmap: &Bitmap, list: &[bool]) {
+    let walk = SlicesIterator::new(bitmap);
+    assert!(rt; walk.slots().checked_add(lists::falses(list)) == Some(list.len()));
+    let runs: Vec<(usize, usize)> = walk.collect(alloc).expect(rt, "no memory");
+    assert!(rt; runs == lists::runs(alloc, list).expect(rt, "no memory"));
+}
+
+/// Functions of words answer by the words of the lists.
+fn goes_by_words(
+    rt: &impl Abort,
+    alloc: Global,
+    bitmap: &Bitmap,
+    other: &Bitmap,
+    list: &[bool],
+    others: &[bool],
+) {
+    assert!(rt; bitmap.len() == other.len());
+    let one = lists::mixed(alloc, &[], list, 64).expect(rt, "no memory");
+    has(rt, &unary(bitmap, |x| x << 1).expect(rt, "no memory"), one.as_slice());
+    let two = lists::mixed(alloc, list, others, 64).expect(rt, "no memory");
+    let two = two.as_slice();
+    has(rt, &binary(bitmap, other, |x, y| x ^ y << 1).expect(rt, "no memory"), two);
+    let three = ternary(bitmap, other, other, |x, y, z| x ^ (y & z) << 1);
+    has(rt, &three.expect(rt, "no memory"), two);
+    let four = quaternary(bitmap, other, other, bitmap, |x, y, z, v| (x & v) ^ (y & z) << 1);
+    has(rt, &four.expect(rt, "no memory"), two);
+}
+
+/// Table `t` answers by the items: its lowest bits for one and for two inputs, in place too, and for three and four.
+fn goes_by_table<T: BitChunk>(
+    rt: &impl Abort,
+    alloc: Global,
+    (bitmap, other): (&Bitmap, &Bitmap),
+    (list, others): (&[bool], &[bool]),
+    t: u16,
+) {
+    assert!(rt; bitmap.len() == other.len());
+    let table = (t % 16) as u8;
+    let one = lists::looked_up(alloc, t % 4, [list, &[], &[], &[]]).expect(rt, "no memory");
+    has(rt, &unary_table(bitmap, table % 4).expect(rt, "no memory"), one.as_slice());
+    let mut changed = thawed(rt, bitmap);
+    unary_assign_table::<T>(&mut changed, table % 4);
+    becomes(rt, changed, one.as_slice());
+    let two = lists::looked_up(alloc, t % 16, [list, others, &[], &[]]).expect(rt, "no memory");
+    has(rt, &binary_table(bitmap, other, table).expect(rt, "no memory"), two.as_slice());
+    let mut changed = thawed(rt, bitmap);
+    binary_assign_table::<T>(&mut changed, other, table);
+    becomes(rt, changed, two.as_slice());
+    let three = lists::looked_up(alloc, t % 256, [list, others, list, &[]]);
+    let answer = ternary_table(bitmap, other, bitmap, (t % 256) as u8);
+    has(rt, &answer.expect(rt, "no memory"), three.expect(rt, "no memory").as_slice());
+    let four = lists::looked_up(alloc, t, [list, others, list, others]);
+    let answer = quaternary_table(bitmap, other, bitmap, other, t);
+    has(rt, &answer.expect(rt, "no memory"), four.expect(rt, "no memory").as_slice());
+}
+
+/// The operator of two inputs is this table, in new memory and in place.
+fn is_operator(
+    rt: &impl Abort,
+    alloc: Global,
+    answers: (Bitmap, Bitmap, MutableBitmap, MutableBitmap),
+    lists: (&[bool], &[bool]),
+    t: u16,
+) {
+    let list = lists::looked_up(alloc, t, [lists.0, lists.1, &[], &[]]).expect(rt, "no memory");
+    has(rt, &answers.0, list.as_slice());
+    has(rt, &answers.1, list.as_slice());
+    becomes(rt, answers.2, list.as_slice());
+    becomes(rt, answers.3, list.as_slice());
+}
+
+/// Operators answer item by item.
+fn goes_by_operators(
+    rt: &impl Abort,
+    alloc: Global,
+    bitmap: &Bitmap,
+    other: &Bitmap,
+    lists: (&[bool], &[bool]),
+) {
+    assert!(rt; bitmap.len() == other.len());
+    let mut changed = thawed(rt, bitmap);
+    changed &= other;
+    let both = (bitmap & other).expect(rt, "no memory");
+    let named = and(bitmap, other).expect(rt, "no memory");
+    is_operator(rt, alloc, (both, named, changed, thawed(rt, bitmap) & other), lists, 8);
+    let mut changed = thawed(rt, bitmap);
+    changed |= other;
+    let one = (bitmap | other).expect(rt, "no memory");
+    let named = or(bitmap, other).expect(rt, "no memory");
+    is_operator(rt, alloc, (one, named, changed, thawed(rt, bitmap) | other), lists, 14);
+    let mut changed = thawed(rt, bitmap);
+    changed ^= other;
+    let differ = (bitmap ^ other).expect(rt, "no memory");
+    let named = xor(bitmap, other).expect(rt, "no memory");
+    is_operator(rt, alloc, (differ, named, changed, thawed(rt, bitmap) ^ other), lists, 6);
+    let not = lists::looked_up(alloc, 1, [lists.0, &[], &[], &[]]).expect(rt, "no memory");
+    has(rt, &(!bitmap).expect(rt, "no memory"), not.as_slice());
+    becomes(rt, !thawed(rt, bitmap), not.as_slice());
+}
+
+/// In place, functions of words of this width answer by the words of the lists.
+fn changes_in_place<T: BitChunk>(
+    rt: &impl Abort,
+    alloc: Global,
+    bitmap: &Bitmap,
+    other: &Bitmap,
+    (list, others): (&[bool], &[bool]),
+) {
+    assert!(rt; bitmap.len() == other.len() && T::WIDTH > 0);
+    let one = lists::mixed(alloc, &[], list, T::WIDTH).expect(rt, "no memory");
+    let mut changed = thawed(rt, bitmap);
+    unary_assign(&mut changed, |x: T| x.up(1));
+    becomes(rt, changed, one.as_slice());
+    let two = lists::mixed(alloc, list, others, T::WIDTH).expect(rt, "no memory");
+    let mut changed = thawed(rt, bitmap);
+    binary_assign(&mut changed, other, |x: T, y: T| x.bit_xor(y.up(1)));
+    becomes(rt, changed, two.as_slice());
+}
+
+/// A bitmap that is changed item by item becomes the list that is.
+fn changes_by_items(rt: &impl Abort, alloc: Global, bitmap: &Bitmap, list: &[bool]) {
+    for value in [false, true] {
+        let mut grown = thawed(rt, bitmap);
+        grown.push(value).expect(rt, "no memory");
+        let items = lists::joined(alloc, list, &[value]).expect(rt, "no memory");
+        becomes(rt, grown, items.as_slice());
+    }
+    let mut popped = thawed(rt, bitmap);
+    assert!(rt; popped.pop() == list.last().copied());
+    becomes(rt, popped, &list[..list.len().saturating_sub(1)]);
+}
+
+/// Each item is read and set alone.
+fn sets_each_item(rt: &impl Abort, alloc: Global, bitmap: &Bitmap, list: &[bool]) {
+    for i in 0..list.len() {
+        let mut items = list.to_vec(alloc).expect(rt, "no memory");
+        let mut changed = thawed(rt, bitmap);
+        assert!(rt; changed.len() == list.len() && items.len() == list.len());
+        assert!(rt; changed.get(i) == list[i] && bitmap.get_bit(i) == list[i]);
+        changed.set(i, !list[i]);
+        items[i] = !list[i];
+        becomes(rt, changed, items.as_slice());
+    }
+}
+
+/// The items, and those of the storage, are appended behind up to nine others.
+fn is_appended(rt: &impl Abort, alloc: Global, bitmap: &Bitmap, list: &[bool]) {
+    let (bytes, offset, length) = bitmap.as_slice();
+    for count in 0..10usize {
+        let front = lists::thirds(alloc, count).expect(rt, "no memory");
+        let items = lists::joined(alloc, front.as_slice(), list).expect(rt, "no memory");
+        let own = MutableBitmap::from_bools(alloc, front.as_slice());
+        let mut grown = own.expect(rt, "no memory");
+        let mut by_bytes = grown.clone().expect(rt, "no memory");
+        grown.extend_from_bitmap(bitmap).expect(rt, "no memory");
+        becomes(rt, grown, items.as_slice());
+        by_bytes
+            .extend_from_slice(bytes, offset, length)
+            .expect(rt, "no memory");
+        becomes(rt, by_bytes, items.as_slice());
+    }
+}
+
+/// The items are collected and frozen, and a validity is there where one of them is false.
+fn is_collected(rt: &impl Abort, alloc: Global, bitmap: &Bitmap, list: &[bool]) {
+    has(rt, &Bitmap::try_from_iter(alloc, bitmap).expect(rt, "no memory"), list);
+    let collected = MutableBitmap::try_from_iter(alloc, bitmap);
+    becomes(rt, collected.expect(rt, "no memory"), list);
+    let taken = bitmap.clone().expect(rt, "no memory").into_iter();
+    assert!(rt; taken.eq(list.iter().copied()));
+    let validity = thawed(rt, bitmap).into_validity();
+    match validity.expect(rt, "no memory") {
+        Some(validity) => has(rt, &validity, list),
+        None => assert!(rt; lists::falses(list) == 0),
+    }
+}
+
+/// Values beside the bitmap are null where the list is false.
+fn tells_nulls(rt: &impl Abort, bitmap: &Bitmap, values: &[bool], list: &[bool]) {
+    assert!(rt; bitmap.len() == values.len());
+    let mut zip = ZipValidity::new_with_validity(values.iter().copied(), Some(bitmap));
+    for i in 0..values.len() {
+        let item = if lists::at(list, i) {
+            Some(lists::at(values, i))
+        } else {
+            None
+        };
+        assert!(rt; zip.next() == Some(item));
+    }
+    assert!(rt; zip.next().is_none());
+}
+
+/// A boolean array has these values where its validity is true, and as many nulls as that has falses.
+fn is_array(
+    rt: &impl Abort,
+    values: &Bitmap,
+    validity: &Bitmap,
+    (list, valid): (&[bool], &[bool]),
+) {
+    let values = values.clone().expect(rt, "no memory");
+    let validity = validity.clone().expect(rt, "no memory");
+    let array = BooleanArray::try_new(values, Some(validity)).expect(rt, "equal lengths");
+    assert!(rt; array.len() == list.len() && array.null_count() == lists::falses(valid));
+    let mut items = array.iter();
+    for i in 0..list.len() {
+        let item = if lists::at(valid, i) {
+            Some(list[i])
+        } else {
+            None
+        };
+        assert!(rt; items.next() == Some(item));
+    }
+}
+
+/// Everything that is asked of a bitmap answers as the list does.
+fn is_its_list(rt: &impl Abort, alloc: Global, bitmap: &Bitmap, list: &[bool]) {
+    is_walked(rt, bitmap, list);
+    is_skipped(rt, bitmap, list);
+    for start in 0..list.len() + 1 {
+        is_counted_from(rt, bitmap, list, start);
+        is_cut_from(rt, bitmap, list, start);
+    }
+    is_equal(rt, alloc, bitmap, list);
+    has_words::<u8>(rt, bitmap, list);
+    has_words::<u16>(rt, bitmap, list);
+    has_words::<u32>(rt, bitmap, list);
+    has_words::<u64>(rt, bitmap, list);
+    has_runs(rt, alloc, bitmap, list);
+    changes_by_items(rt, alloc, bitmap, list);
+    sets_each_item(rt, alloc, bitmap, list);
+    is_appended(rt, alloc, bitmap, list);
+    is_collected(rt, alloc, bitmap, list);
+}
+
+/// So does everything that is asked of it and of another one.
+fn answers_beside(rt: &impl Abort, alloc: Global, bitmap: &Bitmap, list: &[bool]) {
+    let others = lists::reversed(alloc, list).expect(rt, "no memory");
+    let others = others.as_slice();
+    let other = Bitmap::from_bools(alloc, others).expect(rt, "no memory");
+    goes_by_words(rt, alloc, bitmap, &other, list, others);
+    goes_by_words(rt, alloc, &other, bitmap, others, list);
+    goes_by_operators(rt, alloc, bitmap, &other, (list, others));
+    goes_by_operators(rt, alloc, &other, bitmap, (others, list));
+    changes_in_place::<u8>(rt, alloc, bitmap, &other, (list, others));
+    changes_in_place::<u16>(rt, alloc, &other, bitmap, (others, list));
+    changes_in_place::<u32>(rt, alloc, bitmap, &other, (list, others));
+    changes_in_place::<u64>(rt, alloc, &other, bitmap, (others, list));
+    for t in [27030, 38505, 1234, 60875] {
+        goes_by_table::<u8>(rt, alloc, (bitmap, &other), (list, others), t);
+        goes_by_table::<u64>(rt, alloc, (&other, bitmap), (others, list), t);
+    }
+    tells_nulls(rt, bitmap, others, list);
+    is_array(rt, bitmap, &other, (list, others));
+    is_array(rt, &other, bitmap, (others, list));
+}
+
+/// The list answers alike at each bit offset, spare bits all false and all true, with no, one and two spare bytes.
+fn in_each_storage(rt: &impl Abort, alloc: Global, list: &[bool]) {
+    for case in 0..48usize {
+        let (offset, spare, behind) = (case % 8, case / 8 % 2 == 1, case / 16);
+        let bytes = lists::stored(alloc, list, offset, spare, behind).expect(rt, "no memory");
+        let whole = Bitmap::try_new(bytes, offset + list.len()).expect(rt, "no memory");
+        let bitmap = whole.sliced(offset, list.len());
+        is_its_list(rt, alloc, &bitmap, list);
+        answers_beside(rt, alloc, &bitmap, list);
+    }
+}
+
+#[test]
+fn what_stands_behind_a_list_changes_no_answer(rt: HostRuntime) {
+    let alloc = rt.alloc();
+    // The bits of a number below its highest one: each list of up to five items once.
+    for number in 1..64u64 {
+        let length = number.ilog2() as usize;
+        let list = lists::of_number(alloc, number, length).expect(&rt, "no memory");
+        in_each_storage(&rt, alloc, list.as_slice());
+    }
+    for length in [63usize, 64, 65, 130] {
+        let list = lists::thirds(alloc, length).expect(&rt, "no memory");
+        in_each_storage(&rt, alloc, list.as_slice());
+    }
+}
