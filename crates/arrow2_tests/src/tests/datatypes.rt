@@ -102,10 +102,12 @@ fn a_filter_goes_by_the_original_places(rt: HostRuntime) {
         text(&rt, alloc, "v"),
     );
     let schema = Schema::from_fields(alloc, fields).with_metadata(metadata);
+    let copy = schema.clone().expect(&rt, "no memory for a schema");
+    assert!(rt; copy == schema);
     let even = schema.filter(|index, _| index % 2 == 0);
     assert!(rt; even.fields.len() == 2);
     assert!(rt; even.fields[0].name.as_str() == "a" && even.fields[1].name.as_str() == "c");
-    assert!(rt; even.metadata.len() == 1);
+    assert!(rt; even.metadata == copy.metadata && even.metadata.len() == 1);
     let named = even.filter(|_, field| field.name.as_str() == "c");
     assert!(rt; named.fields.len() == 1 && named.fields[0].name.as_str() == "c");
 }

@@ -97,7 +97,11 @@ fn stored_byte(list: &[bool], offset: usize, spare: bool, index: usize) -> u8 {
     for k in 0..8usize {
         let place = index.wrapping_mul(8).wrapping_add(k);
         let inside = offset <= place && place - offset < list.len();
-        if if inside { at(list, place - offset) } else { spare } {
+        if if inside {
+            at(list, place - offset)
+        } else {
+            spare
+        } {
             byte |= 1 << k;
         }
     }

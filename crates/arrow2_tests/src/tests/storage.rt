@@ -82,9 +82,14 @@ fn is_counted_from(rt: &impl Abort, bitmap: &Bitmap, list: &[bool], start: usize
 fn is_cut_from(rt: &impl Abort, bitmap: &Bitmap, list: &[bool], start: usize) {
     assert!(rt; bitmap.len() == list.len() && start <= list.len());
     let items = &list[start..];
-    let part = bitmap.clone().expect(rt, "no memory").sliced(start, items.len());
+    let part = bitmap
+        .clone()
+        .expect(rt, "no memory")
+        .sliced(start, items.len());
     has(rt, &part, items);
-    assert!(rt; part.unset_bits() == lists::falses(items) && part.null_count() == part.unset_bits());
+    assert!(rt;
+        part.unset_bits() == lists::falses(items) && part.null_count() == part.unset_bits()
+    );
     let (skipped, length) = (items.len() / 3, items.len() / 2);
     let items = &items[skipped..skipped + length];
     let part = part.sliced(skipped, length);
@@ -141,13 +146,27 @@ fn goes_by_words(
 ) {
     assert!(rt; bitmap.len() == other.len());
     let one = lists::mixed(alloc, &[], list, 64).expect(rt, "no memory");
-    has(rt, &unary(bitmap, |x| x << 1).expect(rt, "no memory"), one.as_slice());
+    has(
+        rt,
+        &unary(bitmap, |x| x << 1).expect(rt, "no memory"),
+        one.as_slice(),
+    );
     let two = lists::mixed(alloc, list, others, 64).expect(rt, "no memory");
     let two = two.as_slice();
-    has(rt, &binary(bitmap, other, |x, y| x ^ y << 1).expect(rt, "no memory"), two);
+    has(
+        rt,
+        &binary(bitmap, other, |x, y| x ^ y << 1).expect(rt, "no memory"),
+        two,
+    );
     let three = ternary(bitmap, other, other, |x, y, z| x ^ (y & z) << 1);
     has(rt, &three.expect(rt, "no memory"), two);
-    let four = quaternary(bitmap, other, other, bitmap, |x, y, z, v| (x & v) ^ (y & z) << 1);
+    let four = quaternary(
+        bitmap,
+        other,
+        other,
+        bitmap,
+        |x, y, z, v| (x & v) ^ (y & z) << 1,
+    );
     has(rt, &four.expect(rt, "no memory"), two);
 }
 
@@ -162,21 +181,37 @@ fn goes_by_table<T: BitChunk>(
     assert!(rt; bitmap.len() == other.len());
     let table = (t % 16) as u8;
     let one = lists::looked_up(alloc, t % 4, [list, &[], &[], &[]]).expect(rt, "no memory");
-    has(rt, &unary_table(bitmap, table % 4).expect(rt, "no memory"), one.as_slice());
+    has(
+        rt,
+        &unary_table(bitmap, table % 4).expect(rt, "no memory"),
+        one.as_slice(),
+    );
     let mut changed = thawed(rt, bitmap);
     unary_assign_table::<T>(&mut changed, table % 4);
     becomes(rt, changed, one.as_slice());
     let two = lists::looked_up(alloc, t % 16, [list, others, &[], &[]]).expect(rt, "no memory");
-    has(rt, &binary_table(bitmap, other, table).expect(rt, "no memory"), two.as_slice());
+    has(
+        rt,
+        &binary_table(bitmap, other, table).expect(rt, "no memory"),
+        two.as_slice(),
+    );
     let mut changed = thawed(rt, bitmap);
     binary_assign_table::<T>(&mut changed, other, table);
     becomes(rt, changed, two.as_slice());
     let three = lists::looked_up(alloc, t % 256, [list, others, list, &[]]);
     let answer = ternary_table(bitmap, other, bitmap, (t % 256) as u8);
-    has(rt, &answer.expect(rt, "no memory"), three.expect(rt, "no memory").as_slice());
+    has(
+        rt,
+        &answer.expect(rt, "no memory"),
+        three.expect(rt, "no memory").as_slice(),
+    );
     let four = lists::looked_up(alloc, t, [list, others, list, others]);
     let answer = quaternary_table(bitmap, other, bitmap, other, t);
-    has(rt, &answer.expect(rt, "no memory"), four.expect(rt, "no memory").as_slice());
+    has(
+        rt,
+        &answer.expect(rt, "no memory"),
+        four.expect(rt, "no memory").as_slice(),
+    );
 }
 
 /// The operator of two inputs is this table, in new memory and in place.
@@ -207,17 +242,35 @@ fn goes_by_operators(
     changed &= other;
     let both = (bitmap & other).expect(rt, "no memory");
     let named = and(bitmap, other).expect(rt, "no memory");
-    is_operator(rt, alloc, (both, named, changed, thawed(rt, bitmap) & other), lists, 8);
+    is_operator(
+        rt,
+        alloc,
+        (both, named, changed, thawed(rt, bitmap) & other),
+        lists,
+        8,
+    );
     let mut changed = thawed(rt, bitmap);
     changed |= other;
     let one = (bitmap | other).expect(rt, "no memory");
     let named = or(bitmap, other).expect(rt, "no memory");
-    is_operator(rt, alloc, (one, named, changed, thawed(rt, bitmap) | other), lists, 14);
+    is_operator(
+        rt,
+        alloc,
+        (one, named, changed, thawed(rt, bitmap) | other),
+        lists,
+        14,
+    );
     let mut changed = thawed(rt, bitmap);
     changed ^= other;
     let differ = (bitmap ^ other).expect(rt, "no memory");
     let named = xor(bitmap, other).expect(rt, "no memory");
-    is_operator(rt, alloc, (differ, named, changed, thawed(rt, bitmap) ^ other), lists, 6);
+    is_operator(
+        rt,
+        alloc,
+        (differ, named, changed, thawed(rt, bitmap) ^ other),
+        lists,
+        6,
+    );
     let not = lists::looked_up(alloc, 1, [lists.0, &[], &[], &[]]).expect(rt, "no memory");
     has(rt, &(!bitmap).expect(rt, "no memory"), not.as_slice());
     becomes(rt, !thawed(rt, bitmap), not.as_slice());
@@ -288,7 +341,11 @@ fn is_appended(rt: &impl Abort, alloc: Global, bitmap: &Bitmap, list: &[bool]) {
 
 /// The items are collected and frozen, and a validity is there where one of them is false.
 fn is_collected(rt: &impl Abort, alloc: Global, bitmap: &Bitmap, list: &[bool]) {
-    has(rt, &Bitmap::try_from_iter(alloc, bitmap).expect(rt, "no memory"), list);
+    has(
+        rt,
+        &Bitmap::try_from_iter(alloc, bitmap).expect(rt, "no memory"),
+        list,
+    );
     let collected = MutableBitmap::try_from_iter(alloc, bitmap);
     becomes(rt, collected.expect(rt, "no memory"), list);
     let taken = bitmap.clone().expect(rt, "no memory").into_iter();

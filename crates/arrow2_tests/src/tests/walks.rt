@@ -1,6 +1,7 @@
 //! Runs of set items, and values beside their validity.
 ghost use Rattle.std.specs.Prelude.{◌≡◌, length};
 
+use super::checks::shows;
 use arrow2::bitmap::Bitmap;
 use arrow2::bitmap::utils::{BitmapIter, SlicesIterator, ZipValidity, ZipValidityIter};
 use arrow2::laws;
@@ -92,6 +93,40 @@ fn values_come_beside_their_validity(rt: HostRuntime) {
     assert!(rt; matches!(zip.next(), Some(Some(1))));
     assert!(rt; zip.nth(usize::MAX).is_none());
     assert!(rt; zip.next().is_none() && zip.next_back().is_none());
+}
+
+#[test]
+fn derived_texts_name_the_parts(rt: HostRuntime) {
+    let alloc = rt.alloc();
+    let validity = bitmap_from(&rt, alloc, &[true, false]);
+    assert!(rt; validity.len() == 2);
+    shows(
+        &rt,
+        alloc,
+        &SlicesIterator::new(&validity),
+        "SlicesIterator { bytes: [1], offset: 0, end: 2, place: Place { index: 0, word: 0, held: 0 }, slots: 1 }",
+    );
+    let values = [1u32, 2];
+    let mut zip = ZipValidity::new_with_validity(values.iter().copied(), Some(&validity));
+    shows(
+        &rt,
+        alloc,
+        &zip,
+        "Optional(ZipValidityIter { values: Copied { it: Iter([1, 2]) }, validity: BitmapIter { bytes: [1], offset: 0, index: 0, end: 2 } })",
+    );
+    assert!(rt; matches!(zip.size_hint(), (2, Some(2))));
+    assert!(rt; matches!(zip.next(), Some(Some(1))));
+    assert!(rt; matches!(zip.size_hint(), (1, Some(1))));
+    let required: ZipValidity<Copied<Iter<u32>>, BitmapIter> = ZipValidity::new(
+        values.iter().copied(),
+        None,
+    );
+    shows(
+        &rt,
+        alloc,
+        &required,
+        "Required(Copied { it: Iter([1, 2]) })",
+    );
 }
 
 #[test]
