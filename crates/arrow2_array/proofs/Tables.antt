@@ -9,7 +9,7 @@ use Rattle.arrow2_model.specs.Tables.{answer, each}
 use Rattle.arrow2_model.specs.Zipped.{slot, zipped}
 use Rattle.arrow2_model.proofs.Kernels.{length-each, get_or-each, each_from}
 use Rattle.arrow2_array.specs.Items.{array_items, validity_items}
-use Rattle.arrow2_array.specs.Kleene.{kleene_and, kleene_or, by_items}
+use Rattle.arrow2_array.specs.Kleene.{kleene_and, kleene_or, by_items, Spells}
 use Rattle.arrow2_array.proofs.Items.{Fits, length-zipped, get_or-zipped, length-validity, as_zipped}
 
 -- ---- one item
@@ -28,11 +28,7 @@ or_known true false = refl
 or_known false true = refl
 or_known false false = refl
 
--- table v gives the value and table t the validity of what f makes of two items
-abbrev Spells : ℕ → ℕ → (Option Bool → Option Bool → Option Bool) → Type 0
-Spells v t f = (a n b m : Bool) → slot (answer v (a ∷ b ∷ [])) (answer t (a ∷ n ∷ b ∷ m ∷ [])) ≡ f (slot a n) (slot b m)
-
-and_spelled : Spells 8 53060 kleene_and
+pub and_spelled : Spells 8 53060 kleene_and
 unfolding bit
 and_spelled true true true true = refl
 and_spelled true true true false = refl
@@ -51,7 +47,7 @@ and_spelled false false true false = refl
 and_spelled false false false true = refl
 and_spelled false false false false = refl
 
-or_spelled : Spells 14 64648 kleene_or
+pub or_spelled : Spells 14 64648 kleene_or
 unfolding bit
 or_spelled true true true true = refl
 or_spelled true true true false = refl
@@ -124,7 +120,7 @@ by_tables v t f xs ns ys ms spelled n y m =
 -- ---- arrays
 
 -- an array whose values and validity are answers of the two tables is what f makes of two arrays
-by_arrays : (v t : ℕ) (f : Option Bool → Option Bool → Option Bool) (left right values : BitmapStorage) (left_validity right_validity validity : Option BitmapStorage) → Spells v t f
+pub by_arrays : (v t : ℕ) (f : Option Bool → Option Bool → Option Bool) (left right values : BitmapStorage) (left_validity right_validity validity : Option BitmapStorage) → Spells v t f
     → length (items_of left) ≡ length (items_of right) → Fits left left_validity → Fits right right_validity → items_of values ≡ each v (items_of left ∷ items_of right ∷ [])
     → validity_items (items_of left) validity ≡ each t (items_of left ∷ validity_items (items_of left) left_validity ∷ items_of right ∷ validity_items (items_of right) right_validity ∷ [])
     → array_items values validity ≡ by_items f (array_items left left_validity) (array_items right right_validity)
@@ -142,15 +138,3 @@ by_arrays v t f left right values left_validity right_validity validity spelled 
     same_validity : (xs ys : List Bool) (o : Option BitmapStorage) → length xs ≡ length ys → validity_items ys o ≡ validity_items xs o
     same_validity xs ys None e = ap (λ n. replicate n true) (sym e)
     same_validity xs ys (Some b) e = refl
-
-pub and_arrays : (left right values : BitmapStorage) (left_validity right_validity validity : Option BitmapStorage)
-    → length (items_of left) ≡ length (items_of right) → Fits left left_validity → Fits right right_validity → items_of values ≡ each 8 (items_of left ∷ items_of right ∷ [])
-    → validity_items (items_of left) validity ≡ each 53060 (items_of left ∷ validity_items (items_of left) left_validity ∷ items_of right ∷ validity_items (items_of right) right_validity ∷ [])
-    → array_items values validity ≡ by_items kleene_and (array_items left left_validity) (array_items right right_validity)
-and_arrays left right values left_validity right_validity validity = by_arrays 8 53060 kleene_and left right values left_validity right_validity validity and_spelled
-
-pub or_arrays : (left right values : BitmapStorage) (left_validity right_validity validity : Option BitmapStorage)
-    → length (items_of left) ≡ length (items_of right) → Fits left left_validity → Fits right right_validity → items_of values ≡ each 14 (items_of left ∷ items_of right ∷ [])
-    → validity_items (items_of left) validity ≡ each 64648 (items_of left ∷ validity_items (items_of left) left_validity ∷ items_of right ∷ validity_items (items_of right) right_validity ∷ [])
-    → array_items values validity ≡ by_items kleene_or (array_items left left_validity) (array_items right right_validity)
-or_arrays left right values left_validity right_validity validity = by_arrays 14 64648 kleene_or left right values left_validity right_validity validity or_spelled

@@ -1,5 +1,7 @@
 -- Kleene's logic: a null is a boolean that is not known, so an answer is null where it depends on that boolean.
-use Rattle.std.specs.Prelude.{List, [], ◌∷◌, Bool, true, false, ◌&&◌, ◌||◌, Option, Some, None}
+use Rattle.std.specs.Prelude.{◌≡◌, ℕ, List, [], ◌∷◌, Bool, true, false, ◌&&◌, ◌||◌, Option, Some, None}
+use Rattle.arrow2_model.specs.Tables.{answer}
+use Rattle.arrow2_model.specs.Zipped.{slot}
 
 -- whether both are true
 abbrev pub kleene_and : Option Bool → Option Bool → Option Bool
@@ -24,3 +26,7 @@ abbrev pub by_items : (Option Bool → Option Bool → Option Bool) → List (Op
 by_items f [] ys = []
 by_items f (x ∷ xs) [] = []
 by_items f (x ∷ xs) (y ∷ ys) = f x y ∷ by_items f xs ys
+
+-- table t gives the value, and table known whether it is one, of what f makes of two items: of values a, b with validities n, m
+abbrev pub Spells : ℕ → ℕ → (Option Bool → Option Bool → Option Bool) → Type 0
+Spells t known f = (a n b m : Bool) → slot (answer t (a ∷ b ∷ [])) (answer known (a ∷ n ∷ b ∷ m ∷ [])) ≡ f (slot a n) (slot b m)

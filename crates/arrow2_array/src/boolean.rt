@@ -1,17 +1,18 @@
 //! An array of booleans, each of which may be null.
-ghost use Rattle.std.specs.Prelude.{◌≡◌, ◌+◌, ◌≤◌, ◌<◌, ◌↔◌, None, length as length', slice_index_or, OnOk, IsOk, IfOk, IfErr, IsTrue, string_bytes};
+ghost use Rattle.std.specs.Prelude.{◌≡◌, ◌+◌, ◌≤◌, ◌<◌, ◌↔◌, [], ◌∷◌, Bool, true, Option, None, length as length', slice_index_or, OnOk, IsOk, IfOk, IfErr, IsTrue, string_bytes};
 ghost use Rattle.std.specs.Option.{ForSome};
 ghost use Rattle.arrow2_model.specs.Parts.{part};
 ghost use Rattle.arrow2_model.specs.Storage.{items_of};
+ghost use Rattle.arrow2_model.specs.Tables.{answer};
 ghost use Rattle.arrow2_types.specs.Refusals.{IsInvalidArgument};
 ghost use Rattle.arrow2_array.specs.Items.{array_items, nulls};
-ghost use Rattle.arrow2_array.specs.Kleene.{kleene_and, kleene_or, by_items};
+ghost use Rattle.arrow2_array.specs.Kleene.{kleene_and, kleene_or, by_items, Spells};
 ghost use Rattle.arrow2_array.specs.Refused.{unequal_lengths};
 
 use crate::iterator::BooleanIter;
-use crate::kleene::{AND_VALIDITY, OR_VALIDITY, validity_by};
+use crate::kleene::{AND_KNOWN, AND_VALUES, OR_KNOWN, OR_VALUES, validity_by};
 use arrow2_bitmap::Bitmap;
-use arrow2_bitmap::bitmap_ops::{and, or};
+use arrow2_tables::bitmap_ops::binary_table;
 use arrow2_types::error::{Error, Result};
 use std::alloc::{AllocError, Global};
 use std::marker::Model;
@@ -129,15 +130,7 @@ impl BooleanArray {
         ensures len { IfOk result (λ a. length' a ≡ length' self.now) }
         ensures only { IfErr result (λ e. e ≡ Error.OutOfMemory) }
     {
-        let values = and(&self.values, &other.values)?;
-        let validity = validity_by(
-            &self.values,
-            &self.validity,
-            &other.values,
-            &other.validity,
-            AND_VALIDITY,
-        )?;
-        Ok(BooleanArray { values, validity })
+        self.by_tables(other, AND_VALUES, AND_KNOWN)
     }
 
     /// Item by item, whether one is true, or both: true where one of them is true, and null where that is not known.
@@ -154,13 +147,26 @@ impl BooleanArray {
         ensures len { IfOk result (λ a. length' a ≡ length' self.now) }
         ensures only { IfErr result (λ e. e ≡ Error.OutOfMemory) }
     {
-        let values = or(&self.values, &other.values)?;
+        self.by_tables(other, OR_VALUES, OR_KNOWN)
+    }
+
+    /// The array of the values that table `t` answers for two values, null where table `known` answers false for them and
+    /// their validities.
+    fn by_tables(&self, other: &BooleanArray, t: u8, known: u16) -> Result<BooleanArray>
+        requires same_length { length' self.now ≡ length' other.now }
+        requires table { t < 16 }
+        requires known { (a b : Bool) → answer known (a ∷ true ∷ b ∷ true ∷ []) ≡ true }
+        ensures items { (f : Option Bool → Option Bool → Option Bool) → Spells t known f → IfOk result (λ a. a ≡ by_items f self.now other.now) }
+        ensures len { IfOk result (λ a. length' a ≡ length' self.now) }
+        ensures only { IfErr result (λ e. e ≡ Error.OutOfMemory) }
+    {
+        let values = binary_table(&self.values, &other.values, t)?;
         let validity = validity_by(
             &self.values,
             &self.validity,
             &other.values,
             &other.validity,
-            OR_VALIDITY,
+            known,
         )?;
         Ok(BooleanArray { values, validity })
     }

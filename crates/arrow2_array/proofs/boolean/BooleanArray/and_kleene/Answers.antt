@@ -1,26 +1,9 @@
-use Rattle.std.proofs.Common.{length, ap, sym, ◌∙◌}
-use Rattle.arrow2_array.specs.Items.{array_items}
-use Rattle.arrow2_array.specs.Kleene.{kleene_and, by_items}
-use Rattle.arrow2_array.proofs.Items.{length-array, same_lengths}
-use Rattle.arrow2_array.proofs.Tables.{and_known, and_arrays}
+use Rattle.arrow2_array.specs.Kleene.{kleene_and}
+use Rattle.arrow2_array.proofs.Tables.{and_known, and_spelled}
 use Rattle.arrow2_array.proofs.boolean.BooleanArray.and_kleene.Goals as goal
 
-pub and-requires : goal.and-requires
-and-requires c = record { same_length = same_lengths c.self.inside.values c.other.inside.values c.self.inside.validity c.other.inside.validity c.args.self.now c.args.other.now c.self.invariant c.other.invariant c.self.view_is c.other.view_is c.requires.same_length }
-
-pub validity_by-requires-clause-known : goal.validity_by-requires-clause-known
-validity_by-requires-clause-known c = and_known
-
-pub validity_by-requires-clause-same_length : goal.validity_by-requires-clause-same_length
-validity_by-requires-clause-same_length c = same_lengths c.self.inside.values c.other.inside.values c.self.inside.validity c.other.inside.validity c.args.self.now c.args.other.now c.self.invariant c.other.invariant c.self.view_is c.other.view_is c.requires.same_length
+pub by_tables-requires-clause-known : goal.by_tables-requires-clause-known
+by_tables-requires-clause-known c = and_known
 
 pub returns-clause-items : goal.returns-clause-items
-returns-clause-items c =
-    let same = same_lengths c.self.inside.values c.other.inside.values c.self.inside.validity c.other.inside.validity c.args.self.now c.args.other.now c.self.invariant c.other.invariant c.self.view_is c.other.view_is c.requires.same_length in
-    let told = and_arrays c.self.inside.values c.other.inside.values c.in_ok-values.values c.self.inside.validity c.other.inside.validity c.in_ok-validity.validity same c.self.invariant c.other.invariant c.in_ok-values.ensures.items c.in_ok-validity.ensures.items in
-    told ∙ (ap (λ l. by_items kleene_and l (array_items c.other.inside.values c.other.inside.validity)) c.self.view_is ∙ ap (by_items kleene_and c.args.self.now) c.other.view_is)
-
-pub returns-clause-len : goal.returns-clause-len
-returns-clause-len c =
-    let made = length-array c.in_ok-values.values c.in_ok-validity.validity (λ v is. c.in_ok-validity.ensures.len v is ∙ sym c.in_ok-values.ensures.len) in
-    made ∙ (c.in_ok-values.ensures.len ∙ (sym (length-array c.self.inside.values c.self.inside.validity c.self.invariant) ∙ ap length c.self.view_is))
+returns-clause-items c = c.by_tables.ensures.items kleene_and and_spelled
