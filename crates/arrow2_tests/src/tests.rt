@@ -15,6 +15,7 @@ mod hinting;
 mod index;
 mod kernels;
 mod lists;
+mod million;
 mod offset;
 mod storage;
 mod types;

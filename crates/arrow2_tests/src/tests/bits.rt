@@ -53,6 +53,19 @@ fn bits_are_printed_by_whole_bytes(rt: HostRuntime) {
 }
 
 #[test]
+fn many_bits_are_printed_whole(rt: HostRuntime) {
+    let alloc = rt.alloc();
+    for (bytes, length) in [(9, 72), (200, 1600)] {
+        let front = "0b10000001, ".repeat(alloc, bytes - 1);
+        let front = front.expect(&rt, "no memory for a text");
+        let text = format!(in alloc; "[{front}0b10000001]");
+        let text = text.expect(&rt, "no memory for a text");
+        let bits = Bits::new(&[0b10000001; 200], 0, length);
+        shows(&rt, alloc, &bits, text.as_str());
+    }
+}
+
+#[test]
 fn single_bits_are_read_written_and_counted(rt: HostRuntime) {
     assert!(rt; bytes_for(0) == 0 && bytes_for(8) == 1 && bytes_for(9) == 2);
     assert!(rt; bytes_for(usize::MAX) == 2305843009213693952);

@@ -6,7 +6,11 @@ use arrow2_bitmap::Bitmap;
 use arrow2_bits::{Reads, Stored, count_zeros_counted, recount};
 use arrow2_walks::pieces::Pieces;
 use std::alloc::Global;
+use std::mem::size_of;
 use std::process::Abort;
+
+// A counter, which these hold, takes no bytes when the program runs.
+const _: () = prove!(size_of::<Reads>() == 0);
 
 /// What a slice of `length` bits from bit `offset` on reads.
 fn read_by_slice(

@@ -39,6 +39,15 @@ pub(super) fn joined(
     Ok(items)
 }
 
+/// The items with the one at a place turned.
+pub(super) fn turned(alloc: Global, list: &[bool], place: usize) -> Result<Vec<bool>, AllocError> {
+    let mut items = list.to_vec(alloc)?;
+    if let Some(item) = items.get_mut(place) {
+        *item = !*item;
+    }
+    Ok(items)
+}
+
 /// The items the other way round.
 pub(super) fn reversed(alloc: Global, list: &[bool]) -> Result<Vec<bool>, AllocError> {
     list.iter().rev().copied().collect(alloc)

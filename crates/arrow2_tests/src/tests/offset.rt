@@ -194,13 +194,15 @@ fn shared_offsets_are_read_and_sliced(rt: HostRuntime) {
 fn shared_offsets_are_taken_back_where_nothing_is_sliced_off(rt: HostRuntime) {
     let alloc = rt.alloc();
     let mut part = shared(&rt, alloc, &[5, 8, 8, 12]);
-    if part.len() == 4 {
-        part.slice(1, 2);
-    }
+    assert!(rt; part.len() == 4);
+    part.slice(1, 2);
     let left = part.into_mut().left().expect(&rt, "it is sliced");
     is(&rt, left.as_slice(), &[8, 8]);
     assert!(rt; left.len_proxy() == 1);
-    let right = shared(&rt, alloc, &[5, 8, 8, 12]).into_mut().right();
+    let whole = shared(&rt, alloc, &[5, 8, 8, 12]);
+    let other = whole.clone().expect(&rt, "no memory");
+    assert!(rt; whole.into_mut().is_left());
+    let right = other.into_mut().right();
     is(
         &rt,
         right

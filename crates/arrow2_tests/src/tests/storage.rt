@@ -15,21 +15,35 @@ use arrow2_tables::assign_ops::{binary_assign_table, unary_assign_table};
 use arrow2_tables::bitmap_ops::{
     binary_table, quaternary, quaternary_table, ternary, ternary_table, unary_table,
 };
+use arrow2_types::error::Result;
 use arrow2_walks::slice_iterator::SlicesIterator;
 use arrow2_walks::zip_validity::ZipValidity;
-use std::alloc::Global;
+use std::alloc::{AllocError, Global};
 use std::convert::TryFrom;
 use std::process::Abort;
+
+/// A list that plain code gives, where it found memory.
+type Given = std::result::Result<Vec<bool>, AllocError>;
 
 /// The bitmap has these items.
 fn has(rt: &impl Abort, bitmap: &Bitmap, list: &[bool]) {
     assert!(rt; bitmap.len() == list.len() && bitmap.iter().eq(list.iter().copied()));
 }
 
-/// So has one that was changed.
-fn becomes(rt: &impl Abort, changed: MutableBitmap, list: &[bool]) {
-    assert!(rt; changed.len() == list.len() && changed.iter().eq(list.iter().copied()));
-    has(rt, &Bitmap::try_from(changed).expect(rt, "no memory"), list);
+/// The call made a bitmap of these items.
+fn makes(rt: &impl Abort, made: Result<Bitmap>, list: &Given) {
+    let (Ok(bitmap), Ok(list)) = (made, list) else {
+        panic!(rt; "no memory");
+    };
+    has(rt, &bitmap, list.as_slice());
+}
+
+/// A bitmap that was changed has these items, and once it is frozen, too.
+fn becomes(rt: &impl Abort, changed: MutableBitmap, list: &Given) {
+    if let Ok(list) = list {
+        assert!(rt; changed.len() == list.len() && changed.iter().eq(list.iter().copied()));
+    }
+    makes(rt, Bitmap::try_from(changed), list);
 }
 
 /// The bitmap, to be changed.
@@ -141,213 +155,205 @@ fn goes_by_words(
     alloc: Global,
     bitmap: &Bitmap,
     other: &Bitmap,
-    list: &[bool],
-    others: &[bool],
+    lists: (&[bool], &[bool]),
 ) {
     assert!(rt; bitmap.len() == other.len());
-    let one = lists::mixed(alloc, &[], list, 64).expect(rt, "no memory");
-    has(
-        rt,
-        &unary(bitmap, |x| x << 1).expect(rt, "no memory"),
-        one.as_slice(),
-    );
-    let two = lists::mixed(alloc, list, others, 64).expect(rt, "no memory");
-    let two = two.as_slice();
-    has(
-        rt,
-        &binary(bitmap, other, |x, y| x ^ y << 1).expect(rt, "no memory"),
-        two,
-    );
+    let one = lists::mixed(alloc, &[], lists.0, 64);
+    makes(rt, unary(bitmap, |x| x << 1), &one);
+    let two = lists::mixed(alloc, lists.0, lists.1, 64);
+    makes(rt, binary(bitmap, other, |x, y| x ^ y << 1), &two);
     let three = ternary(bitmap, other, other, |x, y, z| x ^ (y & z) << 1);
-    has(rt, &three.expect(rt, "no memory"), two);
-    let four = quaternary(
-        bitmap,
-        other,
-        other,
-        bitmap,
-        |x, y, z, v| (x & v) ^ (y & z) << 1,
-    );
-    has(rt, &four.expect(rt, "no memory"), two);
-}
-
-/// Table `t` answers by the items: its lowest bits for one and for two inputs, in place too, and for three and four.
-fn goes_by_table<T: BitChunk>(
-    rt: &impl Abort,
-    alloc: Global,
-    (bitmap, other): (&Bitmap, &Bitmap),
-    (list, others): (&[bool], &[bool]),
-    t: u16,
-) {
-    assert!(rt; bitmap.len() == other.len());
-    let table = (t % 16) as u8;
-    let one = lists::looked_up(alloc, t % 4, [list, &[], &[], &[]]).expect(rt, "no memory");
-    has(
-        rt,
-        &unary_table(bitmap, table % 4).expect(rt, "no memory"),
-        one.as_slice(),
-    );
-    let mut changed = thawed(rt, bitmap);
-    unary_assign_table::<T>(&mut changed, table % 4);
-    becomes(rt, changed, one.as_slice());
-    let two = lists::looked_up(alloc, t % 16, [list, others, &[], &[]]).expect(rt, "no memory");
-    has(
-        rt,
-        &binary_table(bitmap, other, table).expect(rt, "no memory"),
-        two.as_slice(),
-    );
-    let mut changed = thawed(rt, bitmap);
-    binary_assign_table::<T>(&mut changed, other, table);
-    becomes(rt, changed, two.as_slice());
-    let three = lists::looked_up(alloc, t % 256, [list, others, list, &[]]);
-    let answer = ternary_table(bitmap, other, bitmap, (t % 256) as u8);
-    has(
-        rt,
-        &answer.expect(rt, "no memory"),
-        three.expect(rt, "no memory").as_slice(),
-    );
-    let four = lists::looked_up(alloc, t, [list, others, list, others]);
-    let answer = quaternary_table(bitmap, other, bitmap, other, t);
-    has(
-        rt,
-        &answer.expect(rt, "no memory"),
-        four.expect(rt, "no memory").as_slice(),
-    );
-}
-
-/// The operator of two inputs is this table, in new memory and in place.
-fn is_operator(
-    rt: &impl Abort,
-    alloc: Global,
-    answers: (Bitmap, Bitmap, MutableBitmap, MutableBitmap),
-    lists: (&[bool], &[bool]),
-    t: u16,
-) {
-    let list = lists::looked_up(alloc, t, [lists.0, lists.1, &[], &[]]).expect(rt, "no memory");
-    has(rt, &answers.0, list.as_slice());
-    has(rt, &answers.1, list.as_slice());
-    becomes(rt, answers.2, list.as_slice());
-    becomes(rt, answers.3, list.as_slice());
-}
-
-/// Operators answer item by item.
-fn goes_by_operators(
-    rt: &impl Abort,
-    alloc: Global,
-    bitmap: &Bitmap,
-    other: &Bitmap,
-    lists: (&[bool], &[bool]),
-) {
-    assert!(rt; bitmap.len() == other.len());
-    let mut changed = thawed(rt, bitmap);
-    changed &= other;
-    let both = (bitmap & other).expect(rt, "no memory");
-    let named = and(bitmap, other).expect(rt, "no memory");
-    is_operator(
-        rt,
-        alloc,
-        (both, named, changed, thawed(rt, bitmap) & other),
-        lists,
-        8,
-    );
-    let mut changed = thawed(rt, bitmap);
-    changed |= other;
-    let one = (bitmap | other).expect(rt, "no memory");
-    let named = or(bitmap, other).expect(rt, "no memory");
-    is_operator(
-        rt,
-        alloc,
-        (one, named, changed, thawed(rt, bitmap) | other),
-        lists,
-        14,
-    );
-    let mut changed = thawed(rt, bitmap);
-    changed ^= other;
-    let differ = (bitmap ^ other).expect(rt, "no memory");
-    let named = xor(bitmap, other).expect(rt, "no memory");
-    is_operator(
-        rt,
-        alloc,
-        (differ, named, changed, thawed(rt, bitmap) ^ other),
-        lists,
-        6,
-    );
-    let not = lists::looked_up(alloc, 1, [lists.0, &[], &[], &[]]).expect(rt, "no memory");
-    has(rt, &(!bitmap).expect(rt, "no memory"), not.as_slice());
-    becomes(rt, !thawed(rt, bitmap), not.as_slice());
+    makes(rt, three, &two);
+    let four = quaternary(bitmap, other, other, bitmap, |x, y, z, v| {
+        (x & v) ^ (y & z) << 1
+    });
+    makes(rt, four, &two);
 }
 
 /// In place, functions of words of this width answer by the words of the lists.
-fn changes_in_place<T: BitChunk>(
+fn changes_by_words<T: BitChunk>(
     rt: &impl Abort,
     alloc: Global,
     bitmap: &Bitmap,
     other: &Bitmap,
-    (list, others): (&[bool], &[bool]),
+    lists: (&[bool], &[bool]),
 ) {
     assert!(rt; bitmap.len() == other.len() && T::WIDTH > 0);
-    let one = lists::mixed(alloc, &[], list, T::WIDTH).expect(rt, "no memory");
     let mut changed = thawed(rt, bitmap);
     unary_assign(&mut changed, |x: T| x.up(1));
-    becomes(rt, changed, one.as_slice());
-    let two = lists::mixed(alloc, list, others, T::WIDTH).expect(rt, "no memory");
+    becomes(rt, changed, &lists::mixed(alloc, &[], lists.0, T::WIDTH));
     let mut changed = thawed(rt, bitmap);
     binary_assign(&mut changed, other, |x: T, y: T| x.bit_xor(y.up(1)));
-    becomes(rt, changed, two.as_slice());
+    becomes(
+        rt,
+        changed,
+        &lists::mixed(alloc, lists.0, lists.1, T::WIDTH),
+    );
 }
 
-/// A bitmap that is changed item by item becomes the list that is.
-fn changes_by_items(rt: &impl Abort, alloc: Global, bitmap: &Bitmap, list: &[bool]) {
+/// Table `t` answers by the items: its lowest bits for one, for two and for three inputs.
+fn goes_by_table(
+    rt: &impl Abort,
+    alloc: Global,
+    bitmap: &Bitmap,
+    other: &Bitmap,
+    lists: (&[bool], &[bool]),
+    t: u16,
+) {
+    assert!(rt; bitmap.len() == other.len());
+    let (a, b) = lists;
+    let one = unary_table(bitmap, (t % 4) as u8);
+    makes(rt, one, &lists::looked_up(alloc, t % 4, [a, &[], &[], &[]]));
+    let two = binary_table(bitmap, other, (t % 16) as u8);
+    makes(rt, two, &lists::looked_up(alloc, t % 16, [a, b, &[], &[]]));
+    let three = ternary_table(bitmap, other, bitmap, (t % 256) as u8);
+    makes(rt, three, &lists::looked_up(alloc, t % 256, [a, b, a, &[]]));
+    let four = quaternary_table(bitmap, other, bitmap, other, t);
+    makes(rt, four, &lists::looked_up(alloc, t, [a, b, a, b]));
+}
+
+/// So it does in place.
+fn changes_by_table<T: BitChunk>(
+    rt: &impl Abort,
+    alloc: Global,
+    bitmap: &Bitmap,
+    other: &Bitmap,
+    lists: (&[bool], &[bool]),
+    t: u16,
+) {
+    assert!(rt; bitmap.len() == other.len());
+    let (a, b) = lists;
+    let mut changed = thawed(rt, bitmap);
+    unary_assign_table::<T>(&mut changed, (t % 4) as u8);
+    becomes(
+        rt,
+        changed,
+        &lists::looked_up(alloc, t % 4, [a, &[], &[], &[]]),
+    );
+    let mut changed = thawed(rt, bitmap);
+    binary_assign_table::<T>(&mut changed, other, (t % 16) as u8);
+    becomes(
+        rt,
+        changed,
+        &lists::looked_up(alloc, t % 16, [a, b, &[], &[]]),
+    );
+}
+
+/// `&` answers item by item, in new memory and in place.
+fn has_both(
+    rt: &impl Abort,
+    alloc: Global,
+    bitmap: &Bitmap,
+    other: &Bitmap,
+    lists: (&[bool], &[bool]),
+) {
+    assert!(rt; bitmap.len() == other.len());
+    let items = lists::looked_up(alloc, 0b1000, [lists.0, lists.1, &[], &[]]);
+    makes(rt, bitmap & other, &items);
+    makes(rt, and(bitmap, other), &items);
+    becomes(rt, thawed(rt, bitmap) & other, &items);
+    let mut changed = thawed(rt, bitmap);
+    changed &= other;
+    becomes(rt, changed, &items);
+}
+
+/// So does `|`.
+fn has_either(
+    rt: &impl Abort,
+    alloc: Global,
+    bitmap: &Bitmap,
+    other: &Bitmap,
+    lists: (&[bool], &[bool]),
+) {
+    assert!(rt; bitmap.len() == other.len());
+    let items = lists::looked_up(alloc, 0b1110, [lists.0, lists.1, &[], &[]]);
+    makes(rt, bitmap | other, &items);
+    makes(rt, or(bitmap, other), &items);
+    becomes(rt, thawed(rt, bitmap) | other, &items);
+    let mut changed = thawed(rt, bitmap);
+    changed |= other;
+    becomes(rt, changed, &items);
+}
+
+/// So does `^`.
+fn has_one_alone(
+    rt: &impl Abort,
+    alloc: Global,
+    bitmap: &Bitmap,
+    other: &Bitmap,
+    lists: (&[bool], &[bool]),
+) {
+    assert!(rt; bitmap.len() == other.len());
+    let items = lists::looked_up(alloc, 0b0110, [lists.0, lists.1, &[], &[]]);
+    makes(rt, bitmap ^ other, &items);
+    makes(rt, xor(bitmap, other), &items);
+    becomes(rt, thawed(rt, bitmap) ^ other, &items);
+    let mut changed = thawed(rt, bitmap);
+    changed ^= other;
+    becomes(rt, changed, &items);
+}
+
+/// So does `!`.
+fn has_none(rt: &impl Abort, alloc: Global, bitmap: &Bitmap, list: &[bool]) {
+    let items = lists::looked_up(alloc, 0b01, [list, &[], &[], &[]]);
+    makes(rt, !bitmap, &items);
+    becomes(rt, !thawed(rt, bitmap), &items);
+}
+
+/// A bitmap with one item more, and with one less, has the others as they were.
+fn changes_at_its_end(rt: &impl Abort, alloc: Global, bitmap: &Bitmap, list: &[bool]) {
     for value in [false, true] {
         let mut grown = thawed(rt, bitmap);
         grown.push(value).expect(rt, "no memory");
-        let items = lists::joined(alloc, list, &[value]).expect(rt, "no memory");
-        becomes(rt, grown, items.as_slice());
+        becomes(rt, grown, &lists::joined(alloc, list, &[value]));
     }
     let mut popped = thawed(rt, bitmap);
     assert!(rt; popped.pop() == list.last().copied());
-    becomes(rt, popped, &list[..list.len().saturating_sub(1)]);
+    let shorter = &list[..list.len().saturating_sub(1)];
+    becomes(rt, popped, &shorter.to_vec(alloc));
 }
 
 /// Each item is read and set alone.
 fn sets_each_item(rt: &impl Abort, alloc: Global, bitmap: &Bitmap, list: &[bool]) {
     for i in 0..list.len() {
-        let mut items = list.to_vec(alloc).expect(rt, "no memory");
         let mut changed = thawed(rt, bitmap);
-        assert!(rt; changed.len() == list.len() && items.len() == list.len());
+        assert!(rt; changed.len() == list.len() && bitmap.len() == list.len());
         assert!(rt; changed.get(i) == list[i] && bitmap.get_bit(i) == list[i]);
         changed.set(i, !list[i]);
-        items[i] = !list[i];
-        becomes(rt, changed, items.as_slice());
+        becomes(rt, changed, &lists::turned(alloc, list, i));
     }
 }
 
-/// The items, and those of the storage, are appended behind up to nine others.
+/// The items are appended behind up to nine others.
 fn is_appended(rt: &impl Abort, alloc: Global, bitmap: &Bitmap, list: &[bool]) {
+    for count in 0..10usize {
+        let front = lists::thirds(alloc, count).expect(rt, "no memory");
+        let own = MutableBitmap::from_bools(alloc, front.as_slice());
+        let mut grown = own.expect(rt, "no memory");
+        grown.extend_from_bitmap(bitmap).expect(rt, "no memory");
+        becomes(rt, grown, &lists::joined(alloc, front.as_slice(), list));
+    }
+}
+
+/// So are those of its storage.
+fn is_appended_by_bytes(rt: &impl Abort, alloc: Global, bitmap: &Bitmap, list: &[bool]) {
     let (bytes, offset, length) = bitmap.as_slice();
     for count in 0..10usize {
         let front = lists::thirds(alloc, count).expect(rt, "no memory");
-        let items = lists::joined(alloc, front.as_slice(), list).expect(rt, "no memory");
         let own = MutableBitmap::from_bools(alloc, front.as_slice());
         let mut grown = own.expect(rt, "no memory");
-        let mut by_bytes = grown.clone().expect(rt, "no memory");
-        grown.extend_from_bitmap(bitmap).expect(rt, "no memory");
-        becomes(rt, grown, items.as_slice());
-        by_bytes
-            .extend_from_slice(bytes, offset, length)
-            .expect(rt, "no memory");
-        becomes(rt, by_bytes, items.as_slice());
+        let extended = grown.extend_from_slice(bytes, offset, length);
+        extended.expect(rt, "no memory");
+        becomes(rt, grown, &lists::joined(alloc, front.as_slice(), list));
     }
 }
 
 /// The items are collected and frozen, and a validity is there where one of them is false.
 fn is_collected(rt: &impl Abort, alloc: Global, bitmap: &Bitmap, list: &[bool]) {
-    has(
-        rt,
-        &Bitmap::try_from_iter(alloc, bitmap).expect(rt, "no memory"),
-        list,
-    );
+    let items = list.to_vec(alloc);
+    makes(rt, Bitmap::try_from_iter(alloc, bitmap), &items);
     let collected = MutableBitmap::try_from_iter(alloc, bitmap);
-    becomes(rt, collected.expect(rt, "no memory"), list);
+    becomes(rt, collected.expect(rt, "no memory"), &items);
     let taken = bitmap.clone().expect(rt, "no memory").into_iter();
     assert!(rt; taken.eq(list.iter().copied()));
     let validity = thawed(rt, bitmap).into_validity();
@@ -408,43 +414,52 @@ fn is_its_list(rt: &impl Abort, alloc: Global, bitmap: &Bitmap, list: &[bool]) {
     has_words::<u32>(rt, bitmap, list);
     has_words::<u64>(rt, bitmap, list);
     has_runs(rt, alloc, bitmap, list);
-    changes_by_items(rt, alloc, bitmap, list);
+    has_none(rt, alloc, bitmap, list);
+    changes_at_its_end(rt, alloc, bitmap, list);
     sets_each_item(rt, alloc, bitmap, list);
     is_appended(rt, alloc, bitmap, list);
+    is_appended_by_bytes(rt, alloc, bitmap, list);
     is_collected(rt, alloc, bitmap, list);
 }
 
 /// So does everything that is asked of it and of another one.
-fn answers_beside(rt: &impl Abort, alloc: Global, bitmap: &Bitmap, list: &[bool]) {
-    let others = lists::reversed(alloc, list).expect(rt, "no memory");
-    let others = others.as_slice();
-    let other = Bitmap::from_bools(alloc, others).expect(rt, "no memory");
-    goes_by_words(rt, alloc, bitmap, &other, list, others);
-    goes_by_words(rt, alloc, &other, bitmap, others, list);
-    goes_by_operators(rt, alloc, bitmap, &other, (list, others));
-    goes_by_operators(rt, alloc, &other, bitmap, (others, list));
-    changes_in_place::<u8>(rt, alloc, bitmap, &other, (list, others));
-    changes_in_place::<u16>(rt, alloc, &other, bitmap, (others, list));
-    changes_in_place::<u32>(rt, alloc, bitmap, &other, (list, others));
-    changes_in_place::<u64>(rt, alloc, &other, bitmap, (others, list));
+fn answers_beside(
+    rt: &impl Abort,
+    alloc: Global,
+    bitmap: &Bitmap,
+    other: &Bitmap,
+    lists: (&[bool], &[bool]),
+) {
+    goes_by_words(rt, alloc, bitmap, other, lists);
+    changes_by_words::<u8>(rt, alloc, bitmap, other, lists);
+    changes_by_words::<u16>(rt, alloc, bitmap, other, lists);
+    changes_by_words::<u32>(rt, alloc, bitmap, other, lists);
+    changes_by_words::<u64>(rt, alloc, bitmap, other, lists);
     for t in [27030, 38505, 1234, 60875] {
-        goes_by_table::<u8>(rt, alloc, (bitmap, &other), (list, others), t);
-        goes_by_table::<u64>(rt, alloc, (&other, bitmap), (others, list), t);
+        goes_by_table(rt, alloc, bitmap, other, lists, t);
+        changes_by_table::<u8>(rt, alloc, bitmap, other, lists, t);
+        changes_by_table::<u64>(rt, alloc, bitmap, other, lists, t);
     }
-    tells_nulls(rt, bitmap, others, list);
-    is_array(rt, bitmap, &other, (list, others));
-    is_array(rt, &other, bitmap, (others, list));
+    has_both(rt, alloc, bitmap, other, lists);
+    has_either(rt, alloc, bitmap, other, lists);
+    has_one_alone(rt, alloc, bitmap, other, lists);
+    tells_nulls(rt, bitmap, lists.1, lists.0);
+    is_array(rt, bitmap, other, lists);
 }
 
 /// The list answers alike at each bit offset, spare bits all false and all true, with no, one and two spare bytes.
 fn in_each_storage(rt: &impl Abort, alloc: Global, list: &[bool]) {
+    let others = lists::reversed(alloc, list).expect(rt, "no memory");
+    let others = others.as_slice();
+    let other = Bitmap::from_bools(alloc, others).expect(rt, "no memory");
     for case in 0..48usize {
         let (offset, spare, behind) = (case % 8, case / 8 % 2 == 1, case / 16);
         let bytes = lists::stored(alloc, list, offset, spare, behind).expect(rt, "no memory");
         let whole = Bitmap::try_new(bytes, offset + list.len()).expect(rt, "no memory");
         let bitmap = whole.sliced(offset, list.len());
         is_its_list(rt, alloc, &bitmap, list);
-        answers_beside(rt, alloc, &bitmap, list);
+        answers_beside(rt, alloc, &bitmap, &other, (list, others));
+        answers_beside(rt, alloc, &other, &bitmap, (others, list));
     }
 }
 
