@@ -1,0 +1,33 @@
+//! Every public call that may find no memory, and every change in place, on few items. `tests/run` refuses each request
+//! for memory in turn: the text stays the same, and each call that may be refused was refused.
+#![tactic(auto)]
+
+mod ask;
+mod bitmaps;
+mod growing;
+mod in_place;
+mod items;
+mod offsets;
+mod walks;
+
+use arrow2_types::error::Result;
+use std::alloc::Global;
+use std::io::{Eprint, Print};
+use std::process::ExitCode;
+
+/// All calls, group by group.
+fn all<R: Print + Eprint>(rt: &R, alloc: Global) -> Result<()> {
+    bitmaps::all(rt, alloc)?;
+    growing::all(rt, alloc)?;
+    walks::all(rt, alloc)?;
+    offsets::all(rt, alloc)?;
+    in_place::all(rt, alloc)
+}
+
+/// Status 1 says that memory was refused twice to what a call is made on.
+fn main(rt: HostRuntime) -> ExitCode {
+    match all(&rt, rt.alloc()) {
+        Ok(()) => ExitCode::SUCCESS,
+        Err(_) => ExitCode::FAILURE,
+    }
+}

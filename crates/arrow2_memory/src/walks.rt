@@ -1,0 +1,77 @@
+//! Boolean arrays, and bitmaps in pieces. Both are shown by what they hold.
+use crate::ask::{had, made, refused, show};
+use crate::items::items;
+use arrow2_array::BooleanArray;
+use arrow2_bitmap::immutable::Bitmap;
+use arrow2_types::error::{Error, Result};
+use arrow2_walks::pieces::Pieces;
+use std::alloc::Global;
+use std::io::{Eprint, Print};
+
+/// How many items an array has, and how many nulls.
+fn counted(array: Result<BooleanArray>) -> Result<(usize, usize)> {
+    array.map(|array| (array.len(), array.null_count()))
+}
+
+/// Kleene's logic, and another owner.
+fn arrays<R: Print + Eprint>(rt: &R, array: &BooleanArray) {
+    made(rt, "BooleanArray::and_kleene", || {
+        counted(array.and_kleene(array))
+    });
+    made(rt, "BooleanArray::or_kleene", || {
+        counted(array.or_kleene(array))
+    });
+    made(rt, "Clone for BooleanArray", || {
+        counted(array.clone().map_err(Error::from))
+    });
+}
+
+/// The text of what an array is refused for.
+fn refused_array<R: Print + Eprint>(rt: &R, bitmap: &Bitmap) {
+    made(rt, "BooleanArray::try_new", || {
+        let validity = bitmap.clone()?.sliced(0, 0);
+        counted(BooleanArray::try_new(bitmap.clone()?, Some(validity)))
+    });
+}
+
+/// A bitmap as one piece.
+fn one_piece<R: Print + Eprint>(rt: &R, alloc: Global, bitmap: &Bitmap) {
+    made(rt, "Pieces::new", || {
+        Pieces::new(alloc, bitmap.clone()?).map(|pieces| pieces.len())
+    });
+}
+
+/// Cuts the first piece in halves, and says where that was refused though it changed the number of pieces.
+fn halve<R: Print + Eprint>(rt: &R, pieces: &mut Pieces) {
+    let before = pieces.len();
+    let half = pieces.get(0).len() / 2;
+    let answer = pieces.cut(0, half);
+    if refused(rt, "Pieces::cut", &answer) && pieces.len() != before {
+        show(rt, "Pieces::cut changed though refused", &pieces.len());
+    }
+}
+
+/// Cuts until memory was asked for again.
+fn cut<R: Print + Eprint>(rt: &R, pieces: &mut Pieces) {
+    for _ in 0..6 {
+        halve(rt, pieces);
+    }
+}
+
+/// Every other item of the array is null.
+fn array(alloc: Global) -> Result<BooleanArray> {
+    let validity = Bitmap::try_from_iter(alloc, (0..70usize).map(|i| i % 2 == 0))?;
+    BooleanArray::try_new(items(alloc, 1)?, Some(validity))
+}
+
+/// All of them.
+pub(crate) fn all<R: Print + Eprint>(rt: &R, alloc: Global) -> Result<()> {
+    let bitmap = had(|| items(alloc, 1))?;
+    let array = had(|| array(alloc))?;
+    arrays(rt, &array);
+    refused_array(rt, &bitmap);
+    one_piece(rt, alloc, &bitmap);
+    let mut pieces = had(|| Pieces::new(alloc, items(alloc, 3)?))?;
+    cut(rt, &mut pieces);
+    Ok(())
+}
