@@ -47,20 +47,6 @@ all_copied bytes after word x len left items so none behind spilled is bits-of s
 pub same_by_words : (xs ys : List Bool) → (full_words 64 xs ≡ full_words 64 ys) → (rest 64 xs ≡ rest 64 ys) → xs ≡ ys
 same_by_words xs ys e f = sym (items_of_words 64 xs wide) ∙ (rw (e, f) (items_of_words 64 ys wide))
 
--- words that differ
-pub words_differ : (x y : ℕ) (xs ys fs gs : List ℕ) → x ≢ y → fs ≡ x ∷ xs → gs ≡ y ∷ ys → fs ≢ gs
-words_differ x y xs ys fs gs ne e f same = let h : x ∷ xs ≡ y ∷ ys = sym e ∙ (same ∙ f) in ne (cc)
-
--- words that are the same leave the question to the others
-pub words_agree : (x y : ℕ) (xs ys fs gs : List ℕ) → x ≡ y → fs ≡ x ∷ xs → gs ≡ y ∷ ys → (fs ≡ gs) ↔ (xs ≡ ys)
-words_agree x y xs ys fs gs same e f = (
-  λ h. let k : x ∷ xs ≡ y ∷ ys = sym e ∙ (h ∙ f) in cc,
-  λ h. cc,
-)
-
-pub both_ways : {A B C : Type 0} → (A ↔ B) → (B ↔ C) → (A ↔ C)
-both_ways p q = ((λ a. q.0 (p.0 a)), λ c. p.1 (q.1 c))
-
 -- lists of one length have as many full words
 pub as_many_words : (xs ys : List Bool) → length xs ≡ length ys → length (full_words 64 xs) ≡ length (full_words 64 ys)
 as_many_words xs ys e = length-full_words 64 xs ∙ (ap (λ n. n / 64) e ∙ sym (length-full_words 64 ys))

@@ -22,10 +22,6 @@ byte_zeros bytes fetched at s n y inside within is first =
     let one = falses-byte_part (part bytes at 1) s n (get_or fetched 0 0 / 2 ^ s % 2 ^ n) (omega (arith, l)) within (ap (λ (b : List ℕ). get_or b 0 0 / 2 ^ s % 2 ^ n) is) in
     rw (mask, first, ← here) one
 
--- no more than there are bits
-pub part_zeros-le : (items : List Bool) (a n : ℕ) → falses (part items a n) ≤ n
-part_zeros-le items a n = let l = length-take n (drop a items) in let f = falses-le-length (part items a n) in omega (arith, l, f)
-
 -- a word that was fetched
 pub ones_fetched : (bytes fetched : List ℕ) (at k ones : ℕ) → at + k ≤ length bytes → fetched ≡ part bytes at k → ones + falses (bits fetched) ≡ 8 * k → ones + falses (part (bits bytes) (8 * at) (8 * k)) ≡ 8 * k
 ones_fetched bytes fetched at k ones inside got counted =

@@ -86,9 +86,6 @@ pub record Written (P : List ℕ → ℕ → Type 0) (old bytes : List ℕ) (p :
   pub done : (j : ℕ) → j < p → P bytes j
   pub kept : (j : ℕ) → p ≤ j → get_or bytes j 0 ≡ get_or old j 0
 
-pub none_written : (P : List ℕ → ℕ → Type 0) (old : List ℕ) (p : ℕ) → p ≡ 0 → Written P old old p
-none_written P old p e = record { size = refl; done = λ j h. absurd (omega arith); kept = λ j h. refl }
-
 -- 32 bytes more
 pub lanes_written2 : (t t' p q : ℕ) (old other bytes v : List ℕ) → t' ≡ t → q ≡ p + 32 → q ≤ length old → length old ≤ length other → length v ≡ 32
     → ((k i : ℕ) → k < 32 → i < 8 → bit (get_or v k 0) i ≡ answer t' (bit (get_or (chunk p 32 bytes) k 0) i ∷ bit (get_or (chunk p 32 other) k 0) i ∷ []))
@@ -129,18 +126,6 @@ lanes_written1 t t' p q old bytes v same e inside lv acts w =
             ap (λ z. bit z i) x ∙ (acts k i k< g ∙ (ap (λ z. answer z (bit (get_or (chunk p 32 bytes) k 0) i ∷ [])) same ∙ ap (λ z. answer t (bit z i ∷ [])) a))
       ];
       kept = λ j h. get_or-put_chunk_above p bytes v j 0 (omega arith) ∙ w.kept j (omega arith);
-    }
-
--- one byte more
-pub byte_written : (P : List ℕ → ℕ → Type 0) (p q x : ℕ) (old bytes : List ℕ) → q ≡ p + 1 → p < length old → ((xs ys : List ℕ) (j : ℕ) → get_or xs j 0 ≡ get_or ys j 0 → P xs j → P ys j) → P (set bytes p x) p → Written P old bytes p → Written P old (set bytes p x) q
-byte_written P p q x old bytes e inside same here w =
-    record {
-      size = length-set bytes p x ∙ w.size;
-      done = λ j h. elim (cases_eq j p) [
-        | inl at ↦ rw at here
-        | inr other ↦ same bytes (set bytes p x) j (sym (get_or-set_other bytes p j x 0 other)) (w.done j (omega arith))
-      ];
-      kept = λ j h. get_or-set_other bytes p j x 0 (omega arith) ∙ w.kept j (omega arith);
     }
 
 -- all bytes were written

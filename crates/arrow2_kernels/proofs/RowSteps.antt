@@ -19,13 +19,6 @@ num-falses [] (suc m) = rw (num-falses [] m) refl
 num-falses (true ∷ items) m = rw (num-falses items m) refl
 num-falses (false ∷ items) m = rw (num-falses items m) refl
 
--- the words of two rows
-pub words_beside : (w : ℕ) (xs ys : List ℕ) → AreWords w xs → AreWords w ys → AreWords w (xs ++ ys)
-words_beside w xs ys p q k = elim (cases_lt k (length xs)) [
-  | inl lt ↦ subst (λ (x : ℕ). x < 2 ^ w) (sym (get_or_append_left xs ys 0 k lt)) (p k)
-  | inr ge ↦ subst (λ (x : ℕ). x < 2 ^ w) (sym (get_or-append_right xs ys (length xs) k 0 refl ge)) (q (k - length xs))
-]
-
 -- one word
 pub one_word : (w x : ℕ) → x < 2 ^ w → AreWords w (x ∷ [])
 one_word w x h zero = h

@@ -126,9 +126,6 @@ differ_one (suc (suc a)) b h k = absurd (omega arith)
 differ_one zero (suc (suc b)) h k = absurd (omega arith)
 differ_one (suc zero) (suc (suc b)) h k = absurd (omega arith)
 
-flipped_one : (a : ℕ) → a < 2 → (1 - a == 1) ≡ not (a == 1)
-flipped_one a h = grind arith
-
 -- an operator that acts on each bit
 each_bit : (w x y z : ℕ) (f : Bool → Bool → Bool) → ((i : ℕ) → i < w → (bit_at z i == 1) ≡ f (bit_at x i == 1) (bit_at y i == 1)) → unnum w z ≡ zip2 f (unnum w x) (unnum w y)
 each_bit w x y z f each =

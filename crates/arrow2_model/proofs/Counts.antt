@@ -1,15 +1,14 @@
 -- Counts of false items.
-use Rattle.std.proofs.Common.{◌≡◌, ℕ, ◌+◌, ◌-◌, ◌*◌, ◌/◌, ◌%◌, ◌^◌, ◌<◌, ◌≤◌, List, [], ◌∷◌, ◌++◌, Bool, true, false, cond, not, take, drop, length, get_or, subst, refl, ap, sym, ◌∙◌, arith, zero, suc, replicate, zero-add}
+use Rattle.std.proofs.Common.{◌≡◌, ℕ, ◌+◌, ◌-◌, ◌/◌, ◌%◌, ◌^◌, ◌<◌, ◌≤◌, List, [], ◌∷◌, ◌++◌, Bool, true, false, cond, not, take, drop, length, get_or, subst, refl, ap, sym, ◌∙◌, arith, zero, suc, replicate, zero-add}
 use Rattle.std.specs.Prelude.{count_ones, count_by}
 use Rattle.std.proofs.Math.Nat.{mod-lt}
-use Rattle.std.proofs.Math.Seq.{take-add}
 use Rattle.std.proofs.lemmas.List.{map-id, drop_at, take_at}
 use Rattle.std.proofs.lemmas.List.Sums.{count_by-le-length, sum_by-append, sum_by-cons}
 use Rattle.std.proofs.lemmas.Nat.{pow_pos}
 use Rattle.std.proofs.lemmas.Simd.{ones-mask_l}
 use Rattle.arrow2_model.specs.Bits.{unnum, bits, num}
 use Rattle.arrow2_model.specs.Parts.{part, falses}
-use Rattle.arrow2_model.proofs.Bits.{length-unnum, bits-nil, bits-cons, bits-append}
+use Rattle.arrow2_model.proofs.Bits.{length-unnum, bits-cons}
 use Rattle.arrow2_model.proofs.Chunks.{unnum-add, unnum-mod}
 use Rattle.arrow2_model.proofs.Numbers.{num-unnum}
 use Rattle.arrow2_model.proofs.Parts.{part-add, part-front, part_all}
@@ -83,18 +82,6 @@ falses-part_three items a m n k all e =
     rw (e, part-add items a m (n + k), part-add items (a + m) n k) (falses-append (part items a m) (part items (a + m) n ++ part items (a + m + n) k) ∙ ap (λ r. falses (part items a m) + r) (falses-append (part items (a + m) n) (part items (a + m + n) k)))
 
 -- ---- whole words of bytes
-
--- k bytes more, which are a word
-pub falses-bits_more : (bytes : List ℕ) (at k w x before after : ℕ) → at + k ≤ length bytes → 8 * k ≡ w → x < 2 ^ w → unnum w x ≡ bits (part bytes at k) → before ≡ falses (bits (take at bytes)) → after ≡ before + (w - count_ones x) → after ≡ falses (bits (take (at + k) bytes))
-falses-bits_more bytes at k w x before after h e fits is was now =
-    let f = falses-unnum w x fits in
-    let s : bits (take (at + k) bytes) ≡ bits (take at bytes) ++ bits (part bytes at k) = ap bits (take-add at k bytes) ∙ bits-append (take at bytes) (part bytes at k) in
-    let a = ap falses s ∙ falses-append (bits (take at bytes)) (bits (part bytes at k)) in
-    let b = ap falses is in
-    omega (arith, f, a, b, was, now)
-
-pub falses-bits_none : (bytes : List ℕ) → falses (bits (take 0 bytes)) ≡ 0
-falses-bits_none bytes = ap falses bits-nil
 
 -- ---- some bits of one byte
 

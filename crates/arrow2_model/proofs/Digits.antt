@@ -8,7 +8,7 @@ use Rattle.std.proofs.lemmas.Bool.{cases_lt, le-ltb}
 use Rattle.std.proofs.lemmas.Bool.Decides.{nat_tests}
 use Rattle.std.proofs.lemmas.Int.{to_z_pos, to_z-of_z}
 use Rattle.std.proofs.Math.Nat.{div-div-eq-div-mul, div-one, mod-eq_of_lt, mod-lt, mul-add, mul_assoc, mul_comm, mul_left_comm, one-le-pow, pow-suc, pow-succ'}
-use Rattle.std.proofs.lemmas.List.{reverse-append, length-reverse, reverse-reverse, get_or-reverse, get_or_past, get_or-take, get_or-drop, take-take, length-append, length-drop, append_assoc, drop-drop, take-append-drop, length-take, take_more, take_all}
+use Rattle.std.proofs.lemmas.List.{reverse-append, length-reverse, reverse-reverse, get_or-reverse, get_or_past, get_or-take, get_or-drop, length-append, length-drop, append_assoc, drop-drop, take-append-drop, length-take, take_more, take_all}
 use mir.Val.{bits as width_bits, hbits}
 use Rattle.arrow2_model.specs.Digits.{residue, low_digits, digits, digits_number, natural_from, centred, integer_from}
 
@@ -74,17 +74,6 @@ high_bytes (suc n) x =
 pub digits-natural : (n x : ℕ) → x < 256 ^ n → digits n (pos x) ≡ low_digits n x
 unfolding digits
 digits-natural n x h = ap (low_digits n) (mod-eq_of_lt h)
-
-pub digits-signed : (w : Width) (n : ℕ) (z : ℤ) → 256 ^ n ≡ 2 ^ width_bits w → 2 ^ hbits w < 2 ^ width_bits w → FitsSigned w z → digits n z ≡ low_digits n (cast_unsigned w z)
-unfolding digits
-digits-signed w n (pos x) e h f =
-    let s = f.sfits in
-    ap (low_digits n) (mod-eq_of_lt (omega arith))
-digits-signed w n (negsuc x) e h f =
-    let s = f.sfits in
-    let small : x % 256 ^ n ≡ x = mod-eq_of_lt (omega arith) in
-    let same : 256 ^ n - 1 - x % 256 ^ n ≡ 2 ^ width_bits w - suc x = rw small (omega arith) in
-    ap (low_digits n) same
 
 -- ---- reading
 
@@ -469,11 +458,6 @@ slice_index-take-lt n bytes h k = elim (cases_lt k n) [
 
 pub slice_index-drop-lt : (n : ℕ) (bytes : List ℕ) → ((k : ℕ) → slice_index bytes k < 256) → (k : ℕ) → slice_index (drop n bytes) k < 256
 slice_index-drop-lt n bytes h k = rw (get_or-drop n bytes k 0) (h (n + k))
-
--- the first n bytes alone are read
-pub integer_from-take : (n : ℕ) (bytes : List ℕ) → integer_from n bytes ≡ integer_from n (take n bytes)
-unfolding integer_from natural_from
-integer_from-take n bytes = ap (λ (ds : List ℕ). centred (256 ^ n) (digits_number ds)) (sym (take-take n n bytes (omega arith)))
 
 -- n bytes from byte a on are the digits of the number that is read there
 pub digits_of_part : (n a : ℕ) (bytes : List ℕ) → a + n ≤ length bytes → ((k : ℕ) → slice_index bytes k < 256) → digits n (integer_from n (take n (drop a bytes))) ≡ take n (drop a bytes)

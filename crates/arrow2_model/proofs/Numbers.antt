@@ -21,10 +21,6 @@ unnum-num [] = refl
 unnum-num (true ∷ items) = let a : (1 + 2 * num items) % 2 ≡ 1 = omega arith in let b : (1 + 2 * num items) / 2 ≡ num items = omega arith in rw (a, b, unnum-num items)
 unnum-num (false ∷ items) = let a : (0 + 2 * num items) % 2 ≡ 0 = omega arith in let b : (0 + 2 * num items) / 2 ≡ num items = omega arith in rw (a, b, unnum-num items)
 
--- two lists of one length with one number are one list
-pub same_from_num : (xs ys : List Bool) → length xs ≡ length ys → num xs ≡ num ys → xs ≡ ys
-same_from_num xs ys l e = sym (unnum-num xs) ∙ (rw (l, e) (unnum-num ys))
-
 pub bit-num : (items : List Bool) (i : ℕ) → bit (num items) i ≡ get_or items i false
 bit-num items i = bit_is (num items) i ∙ (rw (bit_mask_l items i) (elim (get_or items i false) as (λ b. (cond b 1 0 == 1) ≡ b) [ true ↦ refl | false ↦ refl ]))
 

@@ -4,7 +4,7 @@ use Rattle.std.specs.Prelude.{ℤ, pos, negsuc, ◌≤ℤ◌, unsigned_abs, slic
 use Rattle.std.specs.Int.{int_gap}
 use Rattle.std.proofs.lemmas.Int.{ints}
 use Rattle.std.proofs.lemmas.List.{length-map, map-append, get_or-map, drop-map, take-map, take_all}
-use Rattle.std.proofs.lemmas.List.Sums.{sum_by-cons, sum_by-append}
+use Rattle.std.proofs.lemmas.List.Sums.{sum_by-cons}
 use Rattle.arrow2_model.specs.Parts.{part}
 use Rattle.arrow2_model.specs.Offsets.{running_sums, offsets_list, offset_at, AreOffsets, start_of, lengths_behind, lengths_of, last_of}
 
@@ -14,9 +14,6 @@ get_or-next x xs k d = rw add-one refl
 
 sum-cons : (n : ℕ) (ns : List ℕ) → sum (n ∷ ns) ≡ n + sum ns
 sum-cons n ns = sum_by-cons (λ x. x) n ns
-
-sum-append : (ns ms : List ℕ) → sum (ns ++ ms) ≡ sum ns + sum ms
-sum-append ns ms = sum_by-append (λ x. x) ns ms
 
 pub part-map : {X Y : Type 0} (f : X → Y) (xs : List X) (a n : ℕ) → part (map f xs) a n ≡ map f (part xs a n)
 part-map f xs a n = ap (take n) (drop-map f a xs) ∙ take-map f n (drop a xs)
@@ -120,9 +117,6 @@ length-lengths_of xs h =
     let m = length-map (offsets_list (start_of xs) (lengths_of xs)) pos in
     let l = length-running_sums (start_of xs) (lengths_of xs) in
     omega arith
-
-sum-take : (n : ℕ) (ns : List ℕ) (k : ℕ) → sum (take (k + 1) (n ∷ ns)) ≡ n + sum (take k ns)
-sum-take n ns k = rw add-one (sum-cons n (take k ns))
 
 pub get_or-offsets_list : (start : ℕ) (ns : List ℕ) (k : ℕ) → k ≤ length ns → get_or (offsets_list start ns) k 0 ≡ offset_at start ns k
 unfolding running_sums

@@ -1,8 +1,7 @@
 -- Parts of lists.
-use Rattle.std.proofs.Common.{◌≡◌, inl, inr, ℕ, ◌+◌, ◌-◌, ◌<◌, ◌≤◌, List, [], ◌∷◌, ◌++◌, Bool, take, drop, length, get_or, ap, ◌∙◌, arith, rules, min, refl}
-use Rattle.std.proofs.lemmas.List.{places, take_more, get_or-drop, get_or-take, length-drop, drop-take, take-take, drop-drop, take_all, length-take, drop-append-le, take-append-le, take_at, drop_at, length-append}
+use Rattle.std.proofs.Common.{◌≡◌, ℕ, ◌+◌, ◌-◌, ◌<◌, ◌≤◌, List, [], ◌∷◌, ◌++◌, Bool, take, drop, length, get_or, ap, ◌∙◌, arith, rules}
+use Rattle.std.proofs.lemmas.List.{places, take_more, get_or-drop, get_or-take, length-drop, drop-take, take-take, drop-drop, take_all, drop-append-le, take-append-le}
 use Rattle.std.proofs.Math.Seq.{take-add}
-use Rattle.std.proofs.lemmas.Bool.{cases_lt}
 use Rattle.arrow2_model.specs.Parts.{part}
 
 pub get_or-part : {X : Type 0} → (items : List X) (a n k : ℕ) (d : X) → k < n → get_or (part items a n) k d ≡ get_or items (a + k) d
@@ -17,15 +16,6 @@ part_more items a n d h = let l = length-drop a items in take_more (drop a items
 
 pub part-part : {X : Type 0} → (items : List X) (a n b m : ℕ) → b + m ≤ n → part (part items a n) b m ≡ part items (a + b) m
 part-part items a n b m h = let e : n ≡ b + (n - b) = omega arith in rw e (rw drop-take (take-take m (n - b) (drop b (drop a items)) (omega arith) ∙ ap (take m) (drop-drop b a items)))
-
--- a part of a part that may reach past its end
-pub part_within : (items : List Bool) (a len s w n : ℕ) → s ≤ len → n ≡ min w (len - s) → part (part items a len) s w ≡ part items (a + s) n
-part_within items a len s w n h e =
-    let q : len ≡ s + (len - s) = omega arith in
-    rw q (rw drop-take (elim (cases_lt w (len - s)) [
-      | inl small ↦ let m : n ≡ w = omega arith in rw m (take-take w (len - s) (drop s (drop a items)) (omega arith) ∙ ap (take w) (drop-drop s a items))
-      | inr big ↦ let m : n ≡ len - s = omega arith in let g = length-take (len - s) (drop s (drop a items)) in rw m (take_all w (take (len - s) (drop s (drop a items))) (omega (arith, g)) ∙ ap (take (len - s)) (drop-drop s a items))
-    ]))
 
 -- a part in two
 pub part-add : {X : Type 0} (items : List X) (a n m : ℕ) → part items a (n + m) ≡ part items a n ++ part items (a + n) m
@@ -47,9 +37,3 @@ part-front front back a n h =
 -- a list is a part of itself
 pub part_all : {X : Type 0} (items : List X) (n : ℕ) → length items ≡ n → part items 0 n ≡ items
 part_all items n e = take_all n items (omega (arith, e))
-
--- the first items of a list that is joined, where the tail is cut to what is wanted of it
-pub take_joined : {X : Type 0} (n : ℕ) (front last tail all : List X) → front ++ tail ≡ all → n ≡ length all → take (length tail) last ≡ tail → take n (front ++ last) ≡ all
-take_joined n front last tail all whole size cut =
-    let k : n ≡ length front + length tail = omega (arith, size, ap length whole, length-append front tail) in
-    rw k (take-add (length front) (length tail) (front ++ last) ∙ (ap (λ t. t ++ take (length tail) (drop (length front) (front ++ last))) (take_at front last (length front) refl) ∙ (ap (λ t. front ++ take (length tail) t) (drop_at front last (length front) refl) ∙ (ap (λ t. front ++ t) cut ∙ whole))))

@@ -56,13 +56,6 @@ below_fits w n h = let p = pow_pos (hbits w) in record { sfits = omega arith }
 
 -- ---- in the form of the code
 
-pub no_more : (a b : ℤ) (n : ℕ) (v : List ℤ) → pos n ≡ b -ℤ a → n ≡ 0 → integers a b ≡ v → v ≡ []
-no_more a b n v e z w = sym w ∙ integers-none a b n e z
-
-pub one_more : (a b c : ℤ) (n : ℕ) (v : List ℤ) → pos n ≡ b -ℤ a → (n ≡ 0 → ⊥) → c ≡ a +ℤ pos 1 → integers a b ≡ v → v ≡ a ∷ integers c b
-one_more a b c zero v e z m w = absurd (z refl)
-one_more a b c (suc n) v e z m w = sym w ∙ integers-first a b c (omega (arith, ints)) m
-
 pub how_many : (a b : ℤ) (n : ℕ) (v : List ℤ) → pos n ≡ b -ℤ a → integers a b ≡ v → length v ≡ n
 how_many a b n v e w = ap length (sym w) ∙ length-integers a b n e
 

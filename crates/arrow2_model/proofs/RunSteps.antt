@@ -75,5 +75,3 @@ runs_from_until items at e l h f =
 -- the same at the end of the list, where no item is behind the run
 pub runs_from_last : (items : List Bool) (at e : ℕ) → at < e → length items ≤ e → ((k : ℕ) → at ≤ k → k < e → get_or items k false ≡ true) → runs_from items at ≡ (at, e - at) ∷ runs_from items e
 runs_from_last items at e p l h = runs_from_until items at e p h (get_or_past items e false l)
-
-pub ruleset run_walking = (runs_from_start, runs_from_unset, runs_from_next, runs_from_end, runs_from_until, runs_from_last)
