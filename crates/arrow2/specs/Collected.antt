@@ -1,3 +1,3 @@
 -- An iterator gave more than is taken: items of a bitmap, lengths of offsets.
 pub use Rattle.arrow2_bitmap.specs.Collected.{GivesTooMany}
-pub use Rattle.arrow2_offset.specs.Collected.{GivesPast}
+pub use Rattle.arrow2_offset.specs.Collected.{GivesMoreThan, GivesPast}

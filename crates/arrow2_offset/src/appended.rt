@@ -1,9 +1,9 @@
 //! Lengths appended to a vector of offsets.
-ghost use Rattle.std.specs.Prelude.{◌≡◌, ◌<◌, ◌≤◌, length, map, take, OnOk, OnErr, IsErrOf, vec_len, vec_capacity};
+ghost use Rattle.std.specs.Prelude.{◌≡◌, ◌-◌, ◌<◌, ◌≤◌, length, map, take, OnOk, OnErr, IsErrOf, vec_len, vec_capacity};
 ghost use Rattle.std.specs.Iterator.{IsFinite};
 ghost use Rattle.std.specs.Iterator.Runs.{WholeRun};
 ghost use Rattle.arrow2_model.specs.Offsets.{AreOffsetsUpTo, last_of};
-ghost use Rattle.arrow2_offset.specs.Collected.{GivesPast};
+ghost use Rattle.arrow2_offset.specs.Collected.{GivesMoreThan, GivesPast};
 ghost use Rattle.arrow2_offset.specs.Lengthened.{LengthenedBy};
 ghost use Rattle.arrow2_types.specs.declared.refusal.Refusal.TheVariants as refusal;
 
@@ -32,6 +32,8 @@ pub(crate) fn append_lengths<O: Offset, I: Iterator<Item = usize> + Drop>(
     ensures ok { OnOk result (WholeRun I.next_gives lengths (λ p. LengthenedBy p.items (map O.value offsets.old.items) (map O.value offsets.new.items))) }
     ensures err { OnErr result (offsets.new.items ≡ offsets.old.items) }
     ensures overflow { IsErrOf result refusal.Overflow → GivesPast O.MAX (last_of (map O.value offsets.old.items)) I.next_gives lengths }
+    ensures room { IsErrOf result refusal.OutOfMemory → GivesMoreThan (vec_capacity offsets.old - vec_len offsets.old) I.next_gives lengths }
+    ensures capacity { vec_capacity offsets.old ≤ vec_capacity offsets.new }
 {
     let count = offsets.len();
     let empty = Vec::new(*offsets.allocator());
@@ -60,6 +62,8 @@ fn appended<O: Offset, I: Iterator<Item = usize> + Drop>(
     ensures front { take (length offsets.items) result.0.items ≡ offsets.items }
     ensures ok { OnOk result.1 (WholeRun I.next_gives lengths (λ p. LengthenedBy p.items (map O.value offsets.items) (map O.value result.0.items))) }
     ensures overflow { IsErrOf result.1 refusal.Overflow → GivesPast O.MAX (last_of (map O.value offsets.items)) I.next_gives lengths }
+    ensures room { IsErrOf result.1 refusal.OutOfMemory → GivesMoreThan (vec_capacity offsets - vec_len offsets) I.next_gives lengths }
+    ensures capacity { vec_capacity offsets ≤ vec_capacity result.0 }
 {
     let greatest = O::MAX as u128;
     let mut last = offsets[offsets.len() - 1].to_usize() as u128;
@@ -86,6 +90,7 @@ fn appended<O: Offset, I: Iterator<Item = usize> + Drop>(
 /// The offsets in a vector with room for more, unless memory was refused.
 fn with_room<O>(mut offsets: Vec<O>) -> (Vec<O>, Result<(), AllocError>)
     ensures same { result.0.items ≡ offsets.items }
+    ensures capacity { vec_capacity offsets ≤ vec_capacity result.0 }
     ensures ok { OnOk result.1 (vec_len result.0 < vec_capacity result.0) }
 {
     let room = double(&mut offsets);
@@ -98,6 +103,7 @@ fn with_room<O>(mut offsets: Vec<O>) -> (Vec<O>, Result<(), AllocError>)
 #[inline(never)]
 fn double<O>(offsets: &mut Vec<O>) -> Result<(), AllocError>
     ensures same { offsets.new.items ≡ offsets.old.items }
+    ensures capacity { vec_capacity offsets.old ≤ vec_capacity offsets.new }
     ensures ok { OnOk result (vec_len offsets.new < vec_capacity offsets.new) }
 {
     let lengths = offsets.len().saturating_sub(1);

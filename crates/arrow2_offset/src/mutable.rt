@@ -9,7 +9,7 @@ ghost use Rattle.std.specs.Cmp.Lexicographic.{pointwise, lists_equiv};
 ghost use Rattle.arrow2_model.specs.Parts.{part};
 ghost use Rattle.arrow2_model.specs.Buffers.{buffer_items};
 ghost use Rattle.arrow2_model.specs.Offsets.{AreOffsets, offset_at, AreOffsetsUpTo, offsets_of, last_of_growing, start_of, lengths_of, slots, SameOffsets, GrownBy};
-ghost use Rattle.arrow2_offset.specs.Collected.{GivesPast};
+ghost use Rattle.arrow2_offset.specs.Collected.{GivesMoreThan, GivesPast};
 ghost use Rattle.arrow2_offset.specs.Made.{made_of};
 ghost use Rattle.arrow2_offset.specs.Refused.{IsOutOfSpec, why_not_offsets};
 ghost use Rattle.arrow2_types.specs.declared.refusal.Refusal.TheVariants as refusal;
@@ -207,7 +207,7 @@ impl<O: Offset> Offsets<O> {
         Ok(())
     }
 
-    /// Appends the lengths of an iterator that ends. Its size hint is not read.
+    /// Appends the lengths of an iterator that ends. Its size hint is not read. Within the capacity it takes no memory.
     ///
     /// Differs from arrow2, whose sums wrap, and which keeps the lengths that it took where it answers
     /// `Overflow`.
@@ -226,13 +226,15 @@ impl<O: Offset> Offsets<O> {
         ensures fits { OnOk result (last_of_growing self.new ≤ O.MAX) }
         ensures err { OnErr result (SameOffsets self.old self.new) }
         ensures overflow { IsErrOf result Error.Overflow → GivesPast O.MAX (last_of_growing self.old) I.next_gives lengths }
+        ensures room { IsErrOf result Error.OutOfMemory → GivesMoreThan (self.old.capacity - slots self.old) I.next_gives lengths }
+        ensures capacity { self.old.capacity ≤ self.new.capacity }
         ensures only { IfErr result (λ e. (e ≡ Error.Overflow) ⊎ (e ≡ Error.OutOfMemory)) }
     {
         self.extend_lengths(lengths)?;
         Ok(())
     }
 
-    /// Appends the lengths of other offsets.
+    /// Appends the lengths of other offsets. Within the capacity it takes no memory.
     ///
     /// Differs from arrow2, which tests the other's last offset in place of the sum of its lengths.
     ///
@@ -245,13 +247,15 @@ impl<O: Offset> Offsets<O> {
         ensures err { OnErr result (SameOffsets self.old self.new) }
         ensures overflow { IsErrOf result Error.Overflow ↔ (O.MAX < last_of_growing self.old + sum other.now.lengths) }
         ensures only { IfErr result (λ e. (e ≡ Error.Overflow) ⊎ (e ≡ Error.OutOfMemory)) }
+        ensures room { slots self.old + slots other.now ≤ self.old.capacity → last_of_growing self.old + sum other.now.lengths ≤ O.MAX → IsOk result }
+        ensures capacity { self.old.capacity ≤ self.new.capacity }
     {
         self.append(other.as_slice())?;
         Ok(())
     }
 
     /// Appends `length` of the lengths of other offsets, from length `start` on. Asks that `length` is
-    /// 0, or that `start + length` is below the number of the other's offsets.
+    /// 0, or that `start + length` is below the number of the other's offsets. Within the capacity it takes no memory.
     ///
     /// Differs from arrow2, which tests the other's last offset in place of the sum of the lengths.
     ///
@@ -270,6 +274,8 @@ impl<O: Offset> Offsets<O> {
         ensures err { OnErr result (SameOffsets self.old self.new) }
         ensures overflow { IsErrOf result Error.Overflow ↔ (O.MAX < last_of_growing self.old + sum (part (lengths_of (buffer_items other.now)) start length)) }
         ensures only { IfErr result (λ e. (e ≡ Error.Overflow) ⊎ (e ≡ Error.OutOfMemory)) }
+        ensures room { slots self.old + length ≤ self.old.capacity → last_of_growing self.old + sum (part (lengths_of (buffer_items other.now)) start length) ≤ O.MAX → IsOk result }
+        ensures capacity { self.old.capacity ≤ self.new.capacity }
     {
         // The field is read for what the type keeps: the last offset is at most `O::MAX`.
         let _ = &self.offsets;
@@ -280,7 +286,7 @@ impl<O: Offset> Offsets<O> {
         Ok(())
     }
 
-    /// Appends `additional` lengths 0.
+    /// Appends `additional` lengths 0. Within the capacity it takes no memory.
     ///
     /// # Errors
     ///
@@ -443,6 +449,8 @@ impl<O: Offset> Offsets<O> {
         ensures fits { OnOk result (last_of_growing self.new ≤ O.MAX) }
         ensures err { OnErr result (SameOffsets self.old self.new) }
         ensures overflow { IsErrOf result refusal.Overflow → GivesPast O.MAX (last_of_growing self.old) I.next_gives lengths }
+        ensures room { IsErrOf result refusal.OutOfMemory → GivesMoreThan (self.old.capacity - slots self.old) I.next_gives lengths }
+        ensures capacity { self.old.capacity ≤ self.new.capacity }
     {
         append_lengths(&mut self.offsets, lengths)
     }
@@ -453,6 +461,8 @@ impl<O: Offset> Offsets<O> {
         ensures ok { OnOk result (GrownBy (lengths_of (map O.value offsets.now)) self.old self.new) }
         ensures err { OnErr result (SameOffsets self.old self.new) }
         ensures overflow { IsErrOf result refusal.Overflow ↔ (O.MAX < last_of_growing self.old + sum (lengths_of (map O.value offsets.now))) }
+        ensures room { slots self.old + length (lengths_of (map O.value offsets.now)) ≤ self.old.capacity → last_of_growing self.old + sum (lengths_of (map O.value offsets.now)) ≤ O.MAX → IsOk result }
+        ensures capacity { self.old.capacity ≤ self.new.capacity }
     {
         let count = offsets.len() - 1;
         let total = offsets[0].distance_to(offsets[count]);

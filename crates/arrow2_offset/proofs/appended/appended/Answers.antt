@@ -21,6 +21,7 @@ loop-length-init g c =
       grown = λ _. (c.requires.are.0, (refl {a = start_of (map v items)}, sym (append-nil (lengths_of (map v items)))));
       front = take_all (length items) items (omega arith);
       more = omega arith;
+      room = omega arith;
       small = omega (arith, some, many);
     }
 
@@ -38,12 +39,17 @@ loop-length-preserved g c =
     ] in
     let long = ap length grown in
     let n = length-append old (item ∷ []) in
+    let m = length-append c.loop-length.yielded (c.in-Some.length ∷ []) in
     let sums = sum-push c.loop-length.yielded c.in-Some.length in
     record {
       last = omega (arith, kept.last, sums);
       grown = λ h. pushed v offsets c.loop-length.yielded c.in-Some.length old new item (kept.grown (omega (arith, h))) grown (c.from_low_bits.ensures h ∙ ap pos (omega (arith, kept.last)));
-      front = front_stays c.args.offsets.items old new item kept.front kept.more grown;
-      more = omega (arith, long, n, kept.more);
+      front = front_stays c.args.offsets.items old new item kept.front (omega (arith, kept.more)) grown;
+      more = omega (arith, long, n, m, kept.more);
+      room = elim c.if-len-capacity.branch [
+        | then-len-capacity+else-last-greatest+else-is_err w ↦ search rules
+        | else-len-capacity w ↦ search rules
+      ];
       small = omega (arith, long, n, kept.small);
     }
 
@@ -61,3 +67,11 @@ returns-then-last-greatest-clause-overflow g c = λ _.
     let more = Yields-more g.I.Iterator.next_gives c.into_iter-length-iterator.result c.loop-length.yielded c.loop-length.length-iterator c.in-Some.length c.next.new.self c.loop-length.yielded_by c.in-Some.ensures.steps in
     let sums = sum-push c.loop-length.yielded c.in-Some.length in
     (c.loop-length.yielded ++ c.in-Some.length ∷ [], c.next.new.self, subst (λ s. Yields g.I.Iterator.next_gives s (c.loop-length.yielded ++ c.in-Some.length ∷ []) c.next.new.self) c.into_iter-length-iterator.ensures.into_iter_gives more, omega (arith, sums, kept.last, c.if-last-greatest.true, c.MAX-greatest.ensures))
+
+pub returns-then-is_err-clause-room : goal.returns-then-is_err-clause-room
+returns-then-is_err-clause-room g c = λ _.
+    let kept = c.loop-length.invariant in
+    let more = Yields-more g.I.Iterator.next_gives c.into_iter-length-iterator.result c.loop-length.yielded c.loop-length.length-iterator c.in-Some.length c.next.new.self c.loop-length.yielded_by c.in-Some.ensures.steps in
+    let n = length-append c.loop-length.yielded (c.in-Some.length ∷ []) in
+    let full = c.if-len-capacity.true in
+    (c.loop-length.yielded ++ c.in-Some.length ∷ [], c.next.new.self, subst (λ s. Yields g.I.Iterator.next_gives s (c.loop-length.yielded ++ c.in-Some.length ∷ []) c.next.new.self) c.into_iter-length-iterator.ensures.into_iter_gives more, omega (arith, n, kept.more, kept.room, full, c.capacity.ensures, c.len-in-loop-length.ensures, c.loop-length.offsets.ok.0, c.args.offsets.ok.0))

@@ -35,5 +35,12 @@ loop-length-init g c =
       start = same.0;
       grown = rw (same.1, walk) refl;
       room = omega (arith, n, k, m, c.in_ok-reserve_room.ensures.ok);
+      capacity = c.in_ok-reserve_room.ensures.capacity;
       fits = omega (arith, total, last, s, t, same.0, c.if-total-MAX.false, c.last.ensures.fits);
     }
+
+pub returns-then-total-MAX-clause-room : goal.returns-then-total-MAX-clause-room
+returns-then-total-MAX-clause-room g c = λ _ within.
+    let total : c.distance_to-total.result ≡ sum (lengths_of (map g.O.Number.value c.args.offsets.now)) = spread g.O.Number.value c.args.offsets.now c.index-offsets-0.result c.index-offsets-count.result c.distance_to-total.result c.requires c.index-offsets-0.is c.index-offsets-count.is c.distance_to-total.ensures in
+    let last : c.to_usize.result ≡ last_of_growing c.args.self.now = same_naturals c.to_usize.result (last_of_growing c.args.self.now) _ c.to_usize.ensures.value c.last.ensures.value in
+    absurd (omega (arith, total, last, within, c.if-total-MAX.true))

@@ -1,5 +1,8 @@
-use Rattle.std.proofs.Common.{◌+◌, ◌-◌, ◌<◌, inl, inr, arith, rules, length, refl}
+use Rattle.std.proofs.Common.{◌≡◌, ◌∙◌, ◌+◌, ◌-◌, ◌<◌, inl, inr, ap, arith, rules, length, refl}
 use Rattle.arrow2_model.specs.Buffers.{buffer_items}
+use Rattle.arrow2_model.specs.Offsets.{lengths_of}
+use Rattle.arrow2_model.proofs.Offsets.{length-lengths_of}
+use Rattle.arrow2_model.proofs.Parts.{length-part}
 use Rattle.arrow2_offset.proofs.Growing.{slice_of}
 use Rattle.arrow2_offset.proofs.mutable.Offsets.try_extend_from_slice.Goals as goal
 
@@ -29,3 +32,14 @@ returns-clause-overflow g c =
     let within : c.args.start + c.args.length < length (buffer_items c.args.other.now) = elim c.requires.inside [ inl e ↦ absurd (c.if-length-eq0.false e) | inr h ↦ h ] in
     let same = (slice_of g.O.Number.value s.result.now _ (buffer_items c.args.other.now) c.args.start (c.args.start + c.args.length + 1 - c.args.start) c.args.length s.ensures.offsets s.ensures.valid refl (omega arith) within).1 in
     rw (← same) (search rules)
+
+pub returns-in_err-append-clause-room : goal.returns-in_err-append-clause-room
+returns-in_err-append-clause-room g c = λ roomy fits.
+    let s = c.as_slice in
+    let xs = buffer_items c.args.other.now in
+    let within : c.args.start + c.args.length < length xs = elim c.requires.inside [ inl e ↦ absurd (c.if-length-eq0.false e) | inr h ↦ h ] in
+    let same = (slice_of g.O.Number.value s.result.now _ xs c.args.start (c.args.start + c.args.length + 1 - c.args.start) c.args.length s.ensures.offsets s.ensures.valid refl (omega arith) within).1 in
+    let slots_of = length-lengths_of xs s.ensures.valid in
+    let long = ap length same ∙ length-part (lengths_of xs) c.args.start c.args.length (omega (arith, slots_of, within)) in
+    let no = c.in_err-append.ensures.room (omega (arith, long, roomy)) (rw same fits) in
+    cc
