@@ -239,7 +239,8 @@ impl MutableBitmap {
         Ok(())
     }
 
-    /// Appends the items of a bitmap, as [`MutableBitmap::extend_from_slice`] does.
+    /// Appends the items of a bitmap, as [`MutableBitmap::extend_from_slice`] does. Within the capacity it takes no memory,
+    /// else it asks for it once, before it writes.
     ///
     /// # Errors
     ///

@@ -20,79 +20,73 @@ pub(crate) fn show<R: Print, T: fmt::Debug>(rt: &R, call: &str, answer: &T) {
 }
 
 /// What the call makes.
-pub(crate) fn made<R: Print + Eprint, T: fmt::Debug + Drop, F: Fn() -> Result<T>>(
-    rt: &R,
-    call: &str,
-    make: F,
-)
-    requires { F.IsAlwaysCallable make }
-{
-    let answer = make();
-    if refused(rt, call, &answer) {
-        show(rt, call, &make());
-    } else {
-        show(rt, call, &answer);
-    }
+macro_rules! made {
+    ($rt:expr, $call:literal, $make:expr) => {{
+        let answer = $make;
+        if $crate::ask::refused($rt, $call, &answer) {
+            $crate::ask::show($rt, $call, &$make);
+        } else {
+            $crate::ask::show($rt, $call, &answer);
+        }
+    }};
 }
+
+pub(crate) use made;
 
 /// What the call makes of a value, and of another such value where memory was refused.
-pub(crate) fn taken<R: Print + Eprint, A: Drop, T: fmt::Debug + Drop, F: Fn(A) -> Result<T>>(
-    rt: &R,
-    call: &str,
-    two: (A, A),
-    take: F,
-)
-    requires { F.IsAlwaysCallable take }
-{
-    let (first, second) = two;
-    let answer = take(first);
-    if refused(rt, call, &answer) {
-        show(rt, call, &take(second));
-    } else {
-        show(rt, call, &answer);
-    }
+macro_rules! taken {
+    ($rt:expr, $call:literal, $two:expr, $value:ident => $take:expr) => {{
+        let ($value, second) = $two;
+        let answer = $take;
+        if $crate::ask::refused($rt, $call, &answer) {
+            let $value = second;
+            $crate::ask::show($rt, $call, &$take);
+        } else {
+            $crate::ask::show($rt, $call, &answer);
+        }
+    }};
 }
+
+pub(crate) use taken;
 
 /// What the call leaves in a copy of the value. Where memory was refused, that is the value.
-pub(crate) fn changed<R, T, F>(rt: &R, call: &str, before: &T, change: F)
-where
-    R: Print + Eprint,
-    T: Clone + fmt::Debug + PartialEq,
-    F: Fn(&mut T) -> Result<()>,
-    requires { F.IsAlwaysCallable change }
-{
-    let copy = || before.clone().map_err(Error::from);
-    if let Ok(mut value) = had(copy) {
-        changed_in_place(rt, call, &mut value, before, change);
-    }
+macro_rules! changed {
+    ($rt:expr, $call:literal, $before:expr, $value:ident => $change:expr) => {
+        if let Ok(mut $value) = $crate::ask::copied($before) {
+            let answer = $change;
+            if $crate::ask::refused($rt, $call, &answer) {
+                $crate::ask::compare($rt, &$value, $before);
+                $crate::ask::show($rt, $call, &$change);
+            } else {
+                $crate::ask::show($rt, $call, &answer);
+            }
+            $crate::ask::show($rt, $call, &$value);
+        }
+    };
 }
 
-/// The same, in the copy.
-fn changed_in_place<R, T, F>(rt: &R, call: &str, value: &mut T, before: &T, change: F)
-where
-    R: Print + Eprint,
-    T: fmt::Debug + PartialEq,
-    F: Fn(&mut T) -> Result<()>,
-    requires { F.IsAlwaysCallable change }
-{
-    let answer = change(value);
-    if refused(rt, call, &answer) {
-        if *value != *before {
-            show(rt, "changed though refused", value);
-        }
-        show(rt, call, &change(value));
-    } else {
-        show(rt, call, &answer);
-    }
-    show(rt, call, value);
-}
+pub(crate) use changed;
 
 /// What can be had once memory is there.
-pub(crate) fn had<T: Drop, F: Fn() -> Result<T>>(make: F) -> Result<T>
-    requires { F.IsAlwaysCallable make }
-{
-    match make() {
-        Err(_) => make(),
-        made => made,
+macro_rules! had {
+    ($make:expr) => {
+        match $make {
+            Err(_) => $make,
+            made => made,
+        }
+    };
+}
+
+pub(crate) use had;
+
+/// A copy of the value.
+pub(crate) fn copied<T: Clone>(value: &T) -> Result<T> {
+    had!(value.clone().map_err(Error::from))
+}
+
+/// Shows the value where it is not as it was before.
+pub(crate) fn compare<R: Print, T: fmt::Debug + PartialEq>(rt: &R, value: &T, before: &T) {
+    if *value != *before {
+        show(rt, "changed though refused", value);
     }
 }

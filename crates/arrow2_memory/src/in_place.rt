@@ -76,9 +76,14 @@ fn operators<R: Print + Eprint>(rt: &R, lhs: MutableBitmap, rhs: &Bitmap) {
     show(rt, "|", &taken(and, Operator::Or, rhs));
 }
 
+/// A left side and a right one.
+fn sides(alloc: Global) -> Result<(MutableBitmap, Bitmap)> {
+    Ok((growing_items(alloc)?, items(alloc, 3)?))
+}
+
 /// All of them.
 pub(crate) fn all<R: Print + Eprint>(rt: &R, alloc: Global) -> Result<()> {
-    let (mut lhs, rhs) = had(|| Ok((growing_items(alloc)?, items(alloc, 3)?)))?;
+    let (mut lhs, rhs) = had!(sides(alloc))?;
     words::<_, u8>(rt, &mut lhs, &rhs);
     words::<_, u16>(rt, &mut lhs, &rhs);
     words::<_, u32>(rt, &mut lhs, &rhs);

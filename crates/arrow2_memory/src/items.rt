@@ -4,10 +4,12 @@ use arrow2_bitmap::mutable::MutableBitmap;
 use arrow2_types::error::Result;
 use std::alloc::Global;
 
-/// Seventy items that follow no pattern, from bit `offset` of bytes whose other bits are set here and there.
+/// Eighty bits that follow no pattern.
+pub(crate) const BYTES: [u8; 10] = [0xb6, 0x5b, 0x0f, 0xe1, 0x27, 0x99, 0xd4, 0x3c, 0x72, 0xad];
+
+/// Seventy items of these, from bit `offset` on.
 pub(crate) fn items(alloc: Global, offset: usize) -> Result<Bitmap> {
-    let bytes = [0xb6, 0x5b, 0x0f, 0xe1, 0x27, 0x99, 0xd4, 0x3c, 0x72, 0xad];
-    let whole = Bitmap::from_u8_slice(alloc, &bytes, 80)?;
+    let whole = Bitmap::from_u8_slice(alloc, &BYTES, 80)?;
     Ok(whole.sliced(offset % 8, 70))
 }
 

@@ -1,5 +1,6 @@
-//! Every public call that may find no memory, and every change in place, on few items. `tests/run` refuses each request
-//! for memory in turn: the text stays the same, and each call that may be refused was refused.
+//! Every public call of buffers, bitmaps, tables, walks, offsets and arrays that may find no memory, and every change in
+//! place, on few items. `tests/run` refuses each request for memory in turn: the text stays the same, and each call that
+//! may be refused was refused.
 #![tactic(auto)]
 
 mod ask;

@@ -15,30 +15,42 @@ fn counted(array: Result<BooleanArray>) -> Result<(usize, usize)> {
 
 /// Kleene's logic, and another owner.
 fn arrays<R: Print + Eprint>(rt: &R, array: &BooleanArray) {
-    made(rt, "BooleanArray::and_kleene", || {
+    made!(
+        rt,
+        "BooleanArray::and_kleene",
         counted(array.and_kleene(array))
-    });
-    made(rt, "BooleanArray::or_kleene", || {
+    );
+    made!(
+        rt,
+        "BooleanArray::or_kleene",
         counted(array.or_kleene(array))
-    });
-    made(rt, "Clone for BooleanArray", || {
+    );
+    made!(
+        rt,
+        "Clone for BooleanArray",
         counted(array.clone().map_err(Error::from))
-    });
+    );
+}
+
+/// An array of values and a validity that is shorter.
+fn of_two_lengths(bitmap: &Bitmap) -> Result<(usize, usize)> {
+    let validity = bitmap.clone()?.sliced(0, 0);
+    counted(BooleanArray::try_new(bitmap.clone()?, Some(validity)))
 }
 
 /// The text of what an array is refused for.
 fn refused_array<R: Print + Eprint>(rt: &R, bitmap: &Bitmap) {
-    made(rt, "BooleanArray::try_new", || {
-        let validity = bitmap.clone()?.sliced(0, 0);
-        counted(BooleanArray::try_new(bitmap.clone()?, Some(validity)))
-    });
+    made!(rt, "BooleanArray::try_new", of_two_lengths(bitmap));
+}
+
+/// How many pieces a bitmap is at first.
+fn whole(alloc: Global, bitmap: &Bitmap) -> Result<usize> {
+    Ok(Pieces::new(alloc, bitmap.clone()?)?.len())
 }
 
 /// A bitmap as one piece.
 fn one_piece<R: Print + Eprint>(rt: &R, alloc: Global, bitmap: &Bitmap) {
-    made(rt, "Pieces::new", || {
-        Pieces::new(alloc, bitmap.clone()?).map(|pieces| pieces.len())
-    });
+    made!(rt, "Pieces::new", whole(alloc, bitmap));
 }
 
 /// Cuts the first piece in halves, and says where that was refused though it changed the number of pieces.
@@ -58,6 +70,11 @@ fn cut<R: Print + Eprint>(rt: &R, pieces: &mut Pieces) {
     }
 }
 
+/// A bitmap to be cut.
+fn pieces(alloc: Global) -> Result<Pieces> {
+    Pieces::new(alloc, items(alloc, 3)?)
+}
+
 /// Every other item of the array is null.
 fn array(alloc: Global) -> Result<BooleanArray> {
     let validity = Bitmap::try_from_iter(alloc, (0..70usize).map(|i| i % 2 == 0))?;
@@ -66,12 +83,12 @@ fn array(alloc: Global) -> Result<BooleanArray> {
 
 /// All of them.
 pub(crate) fn all<R: Print + Eprint>(rt: &R, alloc: Global) -> Result<()> {
-    let bitmap = had(|| items(alloc, 1))?;
-    let array = had(|| array(alloc))?;
+    let bitmap = had!(items(alloc, 1))?;
+    let array = had!(array(alloc))?;
     arrays(rt, &array);
     refused_array(rt, &bitmap);
     one_piece(rt, alloc, &bitmap);
-    let mut pieces = had(|| Pieces::new(alloc, items(alloc, 3)?))?;
+    let mut pieces = had!(pieces(alloc))?;
     cut(rt, &mut pieces);
     Ok(())
 }
