@@ -1,6 +1,7 @@
 -- Lists of words, one by one.
-use Rattle.std.proofs.Common.{◌≡◌, ◌∙◌, ◌⊎◌, inl, inr, sym, ap, refl, ℕ, length, List, [], ◌∷◌, ◌++◌, map, append_assoc, append-nil}
-use Rattle.std.specs.List.{flat_map, zip}
+use Rattle.std.proofs.Common.{◌≡◌, ◌∙◌, ◌⊎◌, inl, inr, sym, ap, refl, ℕ, Bool, length, List, [], ◌∷◌, ◌++◌, map, append_assoc, append-nil}
+use Rattle.std.specs.List.{flat_map}
+use Rattle.arrow2.specs.Zipped.{slot, zipped}
 use Rattle.arrow2_machine.specs.Replies.{words_text}
 
 -- words with a space before each
@@ -23,12 +24,12 @@ module _ {X : Type 0} (f : X → List ℕ) where
   next_written out spaced old x rest left e space is =
       ap (λ t. t ++ led (map f rest)) (is ∙ ap (λ t. t ++ f x) space) ∙ append_assoc (old ++ 32 ∷ []) (f x) (led (map f rest)) ∙ append_assoc old (32 ∷ []) (f x ++ led (map f rest)) ∙ ap (λ xs. old ++ led (map f xs)) (sym e)
 
--- pairs, one by one
-pub zipped_next : {X Y : Type 0} (xs others : List X) (ys more : List Y) (x : X) (y : Y) → xs ≡ x ∷ others → ys ≡ y ∷ more → zip xs ys ≡ (x, y) ∷ zip others more
-zipped_next xs others ys more x y e f = rw (e, f) refl
+-- values beside their validity, one by one
+pub zipped_next : {X : Type 0} (xs others : List X) (valid more : List Bool) (x : X) (v : Bool) → xs ≡ x ∷ others → valid ≡ v ∷ more → zipped xs valid ≡ slot x v ∷ zipped others more
+zipped_next xs others valid more x v e f = rw (e, f) refl
 
 -- lists of one length end together
-pub ended_together : {X Y : Type 0} (xs : List X) (ys : List Y) → length xs ≡ length ys → ((u : List X) × ((xs ≡ []) × (u ≡ []))) ⊎ ((u : List Y) × ((ys ≡ []) × (u ≡ []))) → zip xs ys ≡ []
+pub ended_together : {X : Type 0} (xs : List X) (ys : List Bool) → length xs ≡ length ys → ((u : List X) × ((xs ≡ []) × (u ≡ []))) ⊎ ((u : List Bool) × ((ys ≡ []) × (u ≡ []))) → zipped xs ys ≡ []
 ended_together [] ys same end = refl
 ended_together (x ∷ xs) [] same end = refl
 ended_together (x ∷ xs) (y ∷ ys) same (inl e) = let never = e.1.0 in cc

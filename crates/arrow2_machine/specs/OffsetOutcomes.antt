@@ -1,6 +1,6 @@
 -- What each command on offsets does to the machine of lists.
 use Rattle.std.specs.Prelude.{ℕ, ◌+◌, ◌-◌, ◌==◌, ◌||◌, nat_lt, List, [], ◌∷◌, ◌++◌, length, map, sum, slice_set, take, codes, Result, Ok, Err, if◌then◌else◌}
-use Rattle.std.specs.List.{zip}
+use Rattle.arrow2.specs.Zipped.{zipped}
 use Rattle.std.specs.Fmt.{decimal}
 use Rattle.arrow2.specs.Parts.{part}
 use Rattle.arrow2.specs.Offsets.{offset_at, last_offset}
@@ -54,11 +54,11 @@ sliced_offsets held i n = do
   if n == 0 || nat_lt (length o.lengths + 1) (i + n) then Err Range else Ok (FrozenOffsets (record { start = offset_at o.start o.lengths i; lengths = part o.lengths i (n - 1) }))
 
 -- the text of a slot's lengths by another slot's items
-abbrev pub zipped : Held → Held → Result (List ℕ) Refusal
-zipped offsets validity = do
+abbrev pub zip_text : Held → Held → Result (List ℕ) Refusal
+zip_text offsets validity = do
   o ← frozen_offsets offsets
   items ← frozen validity
-  if length o.lengths == length items then Ok (words_text (map (λ p. slot_word p.0 p.1) (zip o.lengths items))) else Err Length
+  if length o.lengths == length items then Ok (words_text (map slot_word (zipped o.lengths items))) else Err Length
 
 -- the slots after a command on offsets, and its reply
 unfoldable pub offset_outcome : List Held → OffsetCommand → Result (List Held × List ℕ) Refusal
@@ -84,5 +84,5 @@ offset_outcome slots (command.Slice s i n) = do
   held ← sliced_offsets (at slots s) i n
   Ok (slice_set slots s held, codes "ok")
 offset_outcome slots (command.Zip s v) = do
-  said ← zipped (at slots s) (at slots v)
+  said ← zip_text (at slots s) (at slots v)
   Ok (slots, said)

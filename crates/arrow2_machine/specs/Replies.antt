@@ -28,10 +28,10 @@ words_text (word ∷ words) = join_with_byte 32 (word ∷ words)
 abbrev pub listed_word : Bool → List ℕ → List ℕ
 listed_word first word = if first then word else 32 ∷ word
 
--- the word that tells the length of a slot, or `null` where the slot is not valid
-abbrev pub slot_word : ℕ → Bool → List ℕ
-slot_word length true = decimal length
-slot_word length false = codes "null"
+-- the word that tells the length of a slot, or `null` where it has none
+abbrev pub slot_word : Option ℕ → List ℕ
+slot_word (Some length) = decimal length
+slot_word None = codes "null"
 
 -- the word that tells a run: its first place and its length, with byte 58 between
 abbrev pub run_word : ℕ × ℕ → List ℕ

@@ -5,7 +5,7 @@ ghost use Rattle.arrow2.specs.Buffers.{buffer_items};
 ghost use Rattle.arrow2.specs.Offsets.{offset_at, start_of, lengths_of, last_of_growing, GrownBy, SameOffsets};
 ghost use Rattle.arrow2_machine.specs.Held.{Nothing};
 ghost use Rattle.arrow2_machine.specs.Replies.{offset_said};
-ghost use Rattle.arrow2_machine.specs.OffsetOutcomes.{begun, grown, shortened, offset_text, froze_offsets, sliced_offsets, zipped, offset_outcome};
+ghost use Rattle.arrow2_machine.specs.OffsetOutcomes.{begun, grown, shortened, offset_text, froze_offsets, sliced_offsets, zip_text, offset_outcome};
 ghost use Rattle.arrow2_machine.specs.Outcomes.{Gives, Fails};
 
 use crate::refusal::CommandError::Refused;
@@ -180,8 +180,8 @@ impl Slot {
     ///
     /// `Kind` or `Length`, which change nothing, or `OutOfMemory`, after which a part of the text may be there.
     pub fn write_zipped(&self, validity: &Slot, out: &mut Vec<u8>) -> Result<(), CommandError>
-        ensures ok { OnOk result (IsOkAnd (zipped self.now validity.now) (λ text. out.new.items ≡ out.old.items ++ text)) }
-        ensures refused { IfErr result (λ e. Fails e (zipped self.now validity.now)) }
+        ensures ok { OnOk result (IsOkAnd (zip_text self.now validity.now) (λ text. out.new.items ≡ out.old.items ++ text)) }
+        ensures refused { IfErr result (λ e. Fails e (zip_text self.now validity.now)) }
         ensures err { IfErr result (λ e. e ≢ CommandError.OutOfMemory → out.new.items ≡ out.old.items) }
     {
         match (&self.contents, &validity.contents) {

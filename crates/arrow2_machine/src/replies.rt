@@ -1,7 +1,7 @@
 //! The parts of replies.
 ghost use Rattle.std.specs.Prelude.{◌≡◌, ◌++◌, ℕ, length, map, unsigned_abs, OnOk, IfErr};
 ghost use Rattle.std.specs.Fmt.{decimal};
-ghost use Rattle.std.specs.List.{zip};
+ghost use Rattle.arrow2.specs.Zipped.{slot, zipped};
 ghost use Rattle.arrow2.specs.Words.{words};
 ghost use Rattle.arrow2_script.specs.Words.{bit_byte as byte_of, bits_text};
 ghost use Rattle.arrow2_machine.specs.Replies.{array_byte as array_byte_of, array_items_text, item_said, listed_word, offset_said, run_word, slot_word, words_text};
@@ -96,7 +96,7 @@ pub(crate) fn write_offsets(offsets: &[i32], out: &mut Vec<u8>) -> Result<(), Co
 
 /// Appends the word that tells the length of a slot, or `null` where the slot is not valid.
 fn write_slot(length: usize, valid: bool, out: &mut Vec<u8>) -> Result<(), CommandError>
-    ensures ok { OnOk result (out.new.items ≡ out.old.items ++ slot_word length valid) }
+    ensures ok { OnOk result (out.new.items ≡ out.old.items ++ slot_word (slot length valid)) }
     ensures only { IfErr result (λ e. e ≡ CommandError.OutOfMemory) }
 {
     if valid {
@@ -114,7 +114,7 @@ pub(crate) fn write_slots(
     out: &mut Vec<u8>,
 ) -> Result<(), CommandError>
     requires { length lengths ≡ length validity }
-    ensures ok { OnOk result (out.new.items ≡ out.old.items ++ words_text (map (λ p. slot_word p.0 p.1) (zip lengths.entry validity.entry))) }
+    ensures ok { OnOk result (out.new.items ≡ out.old.items ++ words_text (map slot_word (zipped lengths.entry validity.entry))) }
     ensures only { IfErr result (λ e. e ≡ CommandError.OutOfMemory) }
 {
     let mut slots = lengths.zip(validity);

@@ -1,6 +1,6 @@
 use Rattle.std.proofs.Common.{◌≡◌, ◌∙◌, sym, ap, arith, length, [], append-nil}
-use Rattle.std.specs.List.{zip}
 use Rattle.std.specs.Iterator.Adapters.{zip_first, zip_second}
+use Rattle.arrow2.specs.Zipped.{slot, zipped}
 use Rattle.arrow2_machine.specs.Replies.{slot_word, words_text}
 use Rattle.arrow2_machine.proofs.WordListLemmas.{first_written, next_written, zipped_next, ended_together}
 use Rattle.arrow2_machine.proofs.replies.write_slots.Goals as goal
@@ -10,9 +10,9 @@ loop-length-init c =
     let a = sym c.zip-slots.ensures.first ∙ c.in-Some.ensures.steps.0 in
     let b = sym c.zip-slots.ensures.second ∙ c.in-Some.ensures.steps.1 in
     let left = c.next.new.self in
-    let pairs = zipped_next c.args.lengths (zip_first left) c.args.validity (zip_second left) c.in-Some.length c.in-Some.valid a b in
+    let slots = zipped_next c.args.lengths (zip_first left) c.args.validity (zip_second left) c.in-Some.length c.in-Some.valid a b in
     rw c.into_iter-length-iterator.ensures.into_iter_gives (record {
-      so_far = first_written (λ p. slot_word p.0 p.1) c.write_slot.new.out.items c.args.out.now.items (c.in-Some.length, c.in-Some.valid) (zip (zip_first left) (zip_second left)) (zip c.args.lengths c.args.validity) pairs c.in_ok-write_slot.ensures.ok;
+      so_far = first_written slot_word c.write_slot.new.out.items c.args.out.now.items (slot c.in-Some.length c.in-Some.valid) (zipped (zip_first left) (zip_second left)) (zipped c.args.lengths c.args.validity) slots c.in_ok-write_slot.ensures.ok;
       same = omega (arith, ap length a, ap length b, c.requires);
     })
 
@@ -21,9 +21,9 @@ loop-length-preserved c =
     let now = c.loop-length.length-iterator in
     let left = c.next-in-loop-length.new.self in
     let steps = c.in-Some-2.ensures.steps in
-    let pairs = zipped_next (zip_first now) (zip_first left) (zip_second now) (zip_second left) c.in-Some-2.length c.in-Some-2.valid steps.0 steps.1 in
+    let slots = zipped_next (zip_first now) (zip_first left) (zip_second now) (zip_second left) c.in-Some-2.length c.in-Some-2.valid steps.0 steps.1 in
     record {
-      so_far = next_written (λ p. slot_word p.0 p.1) c.write_slot-in-loop-length.new.out.items c.push.new.self.items c.loop-length.out.items (c.in-Some-2.length, c.in-Some-2.valid) (zip (zip_first left) (zip_second left)) (zip (zip_first now) (zip_second now)) pairs c.in_ok-push.ensures.items c.in_ok-write_slot-2.ensures.ok ∙ c.loop-length.invariant.so_far;
+      so_far = next_written slot_word c.write_slot-in-loop-length.new.out.items c.push.new.self.items c.loop-length.out.items (slot c.in-Some-2.length c.in-Some-2.valid) (zipped (zip_first left) (zip_second left)) (zipped (zip_first now) (zip_second now)) slots c.in_ok-push.ensures.items c.in_ok-write_slot-2.ensures.ok ∙ c.loop-length.invariant.so_far;
       same = omega (arith, ap length steps.0, ap length steps.1, c.loop-length.invariant.same);
     }
 
@@ -34,7 +34,7 @@ returns-in_default-clause-ok c =
     let first = c.zip-slots.ensures.first in
     let second = c.zip-slots.ensures.second in
     let same : length (zip_first slots) ≡ length (zip_second slots) = omega (arith, ap length first, ap length second, c.requires) in
-    let none : zip c.args.lengths c.args.validity ≡ [] = rw (← first, ← second) (ended_together (zip_first slots) (zip_second slots) same c.in_default.ensures.steps) in
+    let none : zipped c.args.lengths c.args.validity ≡ [] = rw (← first, ← second) (ended_together (zip_first slots) (zip_second slots) same c.in_default.ensures.steps) in
     rw none c.in_ok-extend_from_slice.ensures.items
 
 pub returns-clause-ok : goal.returns-clause-ok

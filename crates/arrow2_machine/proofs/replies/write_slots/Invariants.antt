@@ -1,12 +1,12 @@
 use Rattle.std.proofs.Common.{◌≡◌, ◌++◌, length, map}
-use Rattle.std.specs.List.{zip}
 use Rattle.std.specs.Iterator.Adapters.{zip_first, zip_second}
+use Rattle.arrow2.specs.Zipped.{zipped}
 use Rattle.arrow2_machine.specs.Replies.{words_text, slot_word}
 use Rattle.arrow2_machine.proofs.WordListLemmas.{led}
 use Rattle.arrow2_machine.proofs.replies.write_slots.Given as goal
 
 abbrev pub invariant-loop-length : goal.invariant-loop-length
 invariant-loop-length l = record {
-  so_far : l.out.items ++ led (map (λ p. slot_word p.0 p.1) (zip (zip_first l.length-iterator) (zip_second l.length-iterator))) ≡ l.fn.out.items ++ words_text (map (λ p. slot_word p.0 p.1) (zip l.fn.lengths l.fn.validity));
+  so_far : l.out.items ++ led (map slot_word (zipped (zip_first l.length-iterator) (zip_second l.length-iterator))) ≡ l.fn.out.items ++ words_text (map slot_word (zipped l.fn.lengths l.fn.validity));
   same : length (zip_first l.length-iterator) ≡ length (zip_second l.length-iterator);
 }
