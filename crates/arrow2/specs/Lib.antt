@@ -33,5 +33,6 @@ pub use Rattle.arrow2_walks.specs.Cuts
 pub use Rattle.arrow2_walks.specs.Places
 pub use Rattle.arrow2_walks.specs.Slots
 pub use Rattle.arrow2_walks.specs.Zips
+pub use Rattle.arrow2_array.specs.ArrayTexts
 pub use Rattle.arrow2_array.specs.Items
 pub use Rattle.arrow2_array.specs.Kleene

@@ -1,8 +1,8 @@
 -- The items of a boolean array, place by place, in parts, and counted.
-use Rattle.std.proofs.Common.{◌≡◌, ℕ, zero, suc, ◌<◌, List, [], ◌∷◌, Bool, true, false, not, cond, map, length, take, drop, get_or, replicate, refl, ap, sym, ◌∙◌, arith}
-use Rattle.std.specs.Prelude.{Option, Some, None}
+use Rattle.std.proofs.Common.{Bor, ◌≡◌, ℕ, zero, suc, ◌<◌, List, [], ◌∷◌, Bool, true, false, not, cond, map, length, take, drop, get_or, replicate, refl, ap, sym, ◌∙◌, arith}
+use Rattle.std.specs.Prelude.{Option, Some, None, MatchOption}
 use Rattle.std.specs.Bool.{then_some}
-use Rattle.std.specs.Option.{ForSome, is_none}
+use Rattle.std.specs.Option.{ForSome, is_none, is_some, option_copied}
 use Rattle.std.proofs.lemmas.List.{length-replicate}
 use Rattle.std.proofs.lemmas.List.Sums.{sum_by-cons}
 use Rattle.arrow2_model.specs.Parts.{part, falses}
@@ -43,6 +43,14 @@ part-zipped xs vs a n e = ap (take n) (drop-zipped xs vs a e) ∙ take-zipped (d
 pub zipped-set : (xs : List Bool) → zipped xs (replicate (length xs) true) ≡ map (λ x. Some x) xs
 zipped-set [] = refl
 zipped-set (x ∷ xs) = ap (λ l. Some x ∷ l) (zipped-set xs)
+
+-- which items are not null
+known-zipped : (xs vs : List Bool) → length vs ≡ length xs → map is_some (zipped xs vs) ≡ vs
+known-zipped [] [] e = refl
+known-zipped [] (v ∷ vs) e = absurd (omega (arith, e))
+known-zipped (x ∷ xs) [] e = absurd (omega (arith, e))
+known-zipped (x ∷ xs) (true ∷ vs) e = ap (λ l. true ∷ l) (known-zipped xs vs (omega (arith, e)))
+known-zipped (x ∷ xs) (false ∷ vs) e = ap (λ l. false ∷ l) (known-zipped xs vs (omega (arith, e)))
 
 nulls-zipped : (xs vs : List Bool) → length vs ≡ length xs → nulls (zipped xs vs) ≡ falses vs
 nulls-zipped [] [] e = refl
@@ -112,3 +120,23 @@ pub same_lengths : (left right : BitmapStorage) (left_validity right_validity : 
     → array_items left left_validity ≡ xs → array_items right right_validity ≡ ys → length xs ≡ length ys → length (items_of left) ≡ length (items_of right)
 same_lengths left right left_validity right_validity xs ys l r is-left is-right e =
     sym (length-array left left_validity l) ∙ (ap length is-left ∙ (e ∙ (sym (ap length is-right) ∙ length-array right right_validity r)))
+
+-- which items are not null
+pub known-array : (values : BitmapStorage) (validity : Option BitmapStorage) → Fits values validity → map is_some (array_items values validity) ≡ validity_items (items_of values) validity
+known-array values validity h = ap (map is_some) (as_zipped values validity) ∙ known-zipped (items_of values) (validity_items (items_of values) validity) (length-validity values validity h)
+
+-- an item that is copied
+inside : {X : Type 0} {x y : X} → Some x ≡ Some y → x ≡ y
+inside e = cc
+
+-- the values, beside which items are not null, are the items
+pub known-values : (values : BitmapStorage) (validity : Option BitmapStorage) → Fits values validity → zipped (items_of values) (map is_some (array_items values validity)) ≡ array_items values validity
+known-values values validity h = ap (zipped (items_of values)) (known-array values validity h) ∙ sym (as_zipped values validity)
+
+-- the validity, where there is one
+pub known-validity : (values : BitmapStorage) (validity : Option BitmapStorage) (items : List (Option Bool)) (r : Option (Bor BitmapStorage)) → Fits values validity → array_items values validity ≡ items → option_copied r ≡ validity
+    → MatchOption r (nulls items ≡ 0) (λ v. items_of v.now ≡ map is_some items)
+known-validity values None items None h is e = rw (← is) (no_nulls values)
+known-validity values (Some v) items None h is e = let never = e in cc
+known-validity values None items (Some w) h is e = let never = e in cc
+known-validity values (Some v) items (Some w) h is e = rw (← is) (sym (known-array values (Some v) h ∙ ap items_of (sym (inside e))))

@@ -1,3 +1,5 @@
+pub mod ArrayTexts
 pub mod Items
+pub mod Same
 pub mod Tables
 pub mod Walks

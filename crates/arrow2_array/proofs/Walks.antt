@@ -1,15 +1,17 @@
 -- The walk over a boolean array is a validity zip over its items.
-use Rattle.std.proofs.Common.{Bor, ◌≡◌, ℕ, zero, suc, ◌<◌, Bool, List, length, map, replicate, true, ap, sym, ◌∙◌, refl, arith}
+use Rattle.std.proofs.Common.{Bor, ◌≡◌, ℕ, zero, suc, ◌<◌, Bool, List, [], ◌∷◌, length, map, replicate, true, ap, sym, subst, ◌∙◌, refl, arith}
 use Rattle.std.specs.Prelude.{Option, Some, None, option_map}
+use Rattle.std.specs.Iterator.{MakesProgress, YieldsLast, item_count}
 use Rattle.std.specs.Option.{ForSome}
-use Rattle.std.proofs.lemmas.List.{length-map}
+use Rattle.std.proofs.lemmas.List.{length-append, length-map}
 use Rattle.arrow2_model.specs.Parts.{falses}
 use Rattle.arrow2_model.specs.Storage.{BitmapStorage, items_of}
 use Rattle.arrow2_model.specs.Zipped.{zipped}
 use Rattle.arrow2_walks.specs.declared.zip_validity.ZipValidity.{ZipValidity}
 use Rattle.arrow2_walks.specs.declared.zip_validity.ZipValidity.TheVariants.{Required, Optional}
-use Rattle.arrow2_walks.specs.Zips.{values_of, validity_of, MatchZip, IsRequiredAnd, IsOptionalAnd, HasEqualLengths, either_values}
+use Rattle.arrow2_walks.specs.Zips.{values_of, validity_of, MatchZip, IsRequiredAnd, IsOptionalAnd, HasEqualLengths, either_values, either_steps}
 use Rattle.arrow2_walks.specs.Slots.{slots_of}
+use Rattle.arrow2_walks.proofs.Slots.{last_of_either_by}
 use Rattle.arrow2_model.proofs.Counts.{falses-none}
 use Rattle.arrow2_array.specs.Items.{array_items}
 use Rattle.arrow2_array.proofs.Items.{length-zipped, zipped-set}
@@ -50,3 +52,19 @@ walks values (Some v) walk fits none all some = by_count values v.now walk (fals
 pub length-walk : (walk : ZipValidity (List Bool) (List Bool)) → MatchZip walk (λ _. Unit {0}) (HasEqualLengths (λ s. s) (λ s. s)) → length (slots_of (λ s. s) (λ s. s) walk) ≡ length (either_values walk)
 length-walk (Required i) e = length-map i (λ value. Some value)
 length-walk (Optional both) e = length-zipped (values_of both) (validity_of both) (sym e)
+
+-- what a step from the back gives, and what is left
+pub last_item : (s t : ZipValidity (List Bool) (List Bool)) (xs : List (Option Bool)) (r : Option (Option Bool)) → MatchZip s (λ _. Unit {0}) (HasEqualLengths (λ s. s) (λ s. s)) → slots_of (λ s. s) (λ s. s) s ≡ xs
+    → either_steps (YieldsLast (λ s. s)) (YieldsLast (λ s. s)) s r t → YieldsLast (λ l. l) xs r (slots_of (λ s. s) (λ s. s) t)
+last_item s t xs None e is h = rw (← is) (last_of_either_by (λ x. x) (λ s. s) (λ s. s) s t None e h).0
+last_item s t xs (Some None) e is h = rw (← is) (last_of_either_by (λ x. x) (λ s. s) (λ s. s) s t (Some None) e h).0
+last_item s t xs (Some (Some x)) e is h = rw (← is) (last_of_either_by (λ x. x) (λ s. s) (λ s. s) s t (Some (Some x)) e h).0
+
+-- and one item fewer is left
+pub last_progress : (can : List (Option Bool) → Type 0) → ((l : List (Option Bool)) → can l) → (xs ys : List (Option Bool)) (r : Option (Option Bool)) → YieldsLast (λ l. l) xs r ys → MakesProgress can (item_count (λ l. l)) xs r ys
+last_progress can always xs ys None h = record { on = λ _. tt; keeps = tt; rests = λ _. tt }
+last_progress can always xs ys (Some item) h = record {
+  on = λ _. (always ys, tt, subst (λ l. length ys < length l) (sym h) (omega (arith, length-append ys (item ∷ []))));
+  keeps = always ys;
+  rests = λ _. tt;
+}

@@ -1,3 +1,4 @@
+pub mod ArrayTexts
 pub mod Items
 pub mod Kleene
 pub mod Refused

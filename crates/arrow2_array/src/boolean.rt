@@ -1,9 +1,13 @@
 //! An array of booleans, each of which may be null.
-ghost use Rattle.std.specs.Prelude.{◌≡◌, ◌+◌, ◌≤◌, ◌<◌, ◌↔◌, [], ◌∷◌, Bool, true, Option, None, length as length', slice_index_or, OnOk, IsOk, IfOk, IfErr, IsTrue, string_bytes};
-ghost use Rattle.std.specs.Option.{ForSome};
+ghost use Rattle.std.specs.Prelude.{◌≡◌, ◌+◌, ◌≤◌, ◌<◌, ◌↔◌, [], ◌∷◌, Bool, true, Option, None, length as length', map, slice_index_or, OnOk, IsOk, IfOk, IfErr, IsTrue, MatchOption, string_bytes};
+ghost use Rattle.std.specs.Bool.{beq};
+ghost use Rattle.std.specs.Cmp.{partial_equiv_from_equiv, bool_eq_equiv};
+ghost use Rattle.std.specs.Cmp.Lexicographic.{pointwise, lists_equiv, options_equiv};
+ghost use Rattle.std.specs.Option.{ForSome, is_some, option_eq};
 ghost use Rattle.arrow2_model.specs.Parts.{part};
 ghost use Rattle.arrow2_model.specs.Storage.{items_of};
 ghost use Rattle.arrow2_model.specs.Tables.{answer};
+ghost use Rattle.arrow2_model.specs.Zipped.{zipped};
 ghost use Rattle.arrow2_types.specs.Refusals.{IsInvalidArgument};
 ghost use Rattle.arrow2_array.specs.Items.{array_items, nulls};
 ghost use Rattle.arrow2_array.specs.Kleene.{kleene_and, kleene_or, by_items, Spells};
@@ -85,6 +89,21 @@ impl BooleanArray {
             Some(validity) => validity.get_bit(index).then_some(value),
             None => Some(value),
         }
+    }
+
+    /// The values: those under nulls are what they are.
+    pub fn values(&self) -> &Bitmap
+        ensures items { zipped (items_of result.now) (map is_some self.now) ≡ self.now }
+        ensures len { length' (items_of result.now) ≡ length' self.now }
+    {
+        &self.values
+    }
+
+    /// Which items are not null, or `None` where the array was made without a validity: then none is null.
+    pub fn validity(&self) -> Option<&Bitmap>
+        ensures { MatchOption result (nulls self.now ≡ 0) (λ validity. items_of validity.now ≡ map is_some self.now) }
+    {
+        self.validity.as_ref()
     }
 
     /// How many items are null. The count is kept, so it takes no walk.
@@ -194,6 +213,37 @@ impl Clone for BooleanArray {
             validity: self.validity.clone()?,
         })
     }
+}
+
+/// Equality of the lists: nulls are equal, whatever values stand under them.
+impl PartialEq for BooleanArray {
+    ghost eq = { pointwise (option_eq beq) };
+
+    ghost laws = { partial_equiv_from_equiv (lists_equiv (options_equiv bool_eq_equiv)) };
+
+    fn eq(&self, other: &BooleanArray) -> bool
+        ensures told { result ≡ pointwise (option_eq beq) self.now other.now }
+        ensures same { IsTrue result ↔ (self.now ≡ other.now) }
+    {
+        self.len() == other.len() && same_items(self.iter(), other.iter())
+    }
+}
+
+impl Eq for BooleanArray {
+    ghost laws = { lists_equiv (options_equiv bool_eq_equiv) };
+}
+
+/// Whether two walks of as many items give the same.
+fn same_items(items: BooleanIter<'_>, others: BooleanIter<'_>) -> bool
+    requires same_length { length' items ≡ length' others }
+    ensures { result ≡ pointwise (option_eq beq) items.entry others.entry }
+{
+    for (item, other) in items.zip(others) {
+        if item != other {
+            return false;
+        }
+    }
+    true
 }
 
 /// Refuses a validity that has not as many items as there are values.

@@ -1,7 +1,7 @@
 //! A walk over the items of a boolean array.
 ghost use Rattle.std.specs.Prelude.{◌≡◌, length, Some, IfSome, option_map};
 ghost use Rattle.std.specs.Option.{ForSome};
-ghost use Rattle.std.specs.Iterator.{YieldsFirst, item_count, UpTo};
+ghost use Rattle.std.specs.Iterator.{YieldsFirst, YieldsLast, item_count, UpTo};
 ghost use Rattle.std.specs.Iterator.SizeHint.{IsWithinCount};
 ghost use Rattle.arrow2_model.specs.Storage.{items_of};
 ghost use Rattle.arrow2_array.specs.Items.{array_items};
@@ -62,5 +62,13 @@ impl<'a> Iterator for BooleanIter<'a> {
     {
         let left = self.items.len();
         (left, Some(left))
+    }
+}
+
+impl<'a> DoubleEndedIterator for BooleanIter<'a> {
+    ghost next_back_gives = { YieldsLast (λ s. s) };
+
+    fn next_back(&mut self) -> Option<Option<bool>> {
+        self.items.next_back()
     }
 }

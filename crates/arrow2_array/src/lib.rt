@@ -2,6 +2,7 @@
 #![tactic(auto)]
 
 pub mod boolean;
+pub mod fmt;
 pub mod iterator;
 mod kleene;
 

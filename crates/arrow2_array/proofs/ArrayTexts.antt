@@ -1,0 +1,32 @@
+-- The text of a boolean array, item by item.
+use Rattle.std.proofs.Common.{◌≡◌, ◌∙◌, ℕ, zero, suc, ◌<◌, List, [], ◌∷◌, ◌++◌, length, take, get_or, Bool, Option, None, ap, sym, refl, arith, append_assoc, append-nil}
+use Rattle.std.specs.Prelude.{codes}
+use Rattle.std.specs.List.{flat_map}
+use Rattle.arrow2_array.specs.ArrayTexts.{item_word, listed}
+
+-- the word for an item behind another one
+abbrev behind : Option Bool → List ℕ
+behind item = codes ", " ++ item_word item
+
+more-behind : (items : List (Option Bool)) (i : ℕ) → i < length items → flat_map behind (take (suc i) items) ≡ flat_map behind (take i items) ++ behind (get_or items i None)
+more-behind [] i h = absurd (omega (arith, h))
+more-behind (item ∷ items) zero h = append-nil (behind item)
+more-behind (item ∷ items) (suc i) h = ap (λ t. behind item ++ t) (more-behind items i (omega (arith, h))) ∙ sym (append_assoc (behind item) (flat_map behind (take i items)) (behind (get_or items i None)))
+
+-- before the first item there is nothing
+pub listed-none : (items : List (Option Bool)) (i : ℕ) (word : List ℕ) → i ≡ 0 → listed (take i items) ++ word ≡ word
+unfolding listed
+listed-none items i word e = rw e refl
+
+-- the first item
+pub listed-first : (items : List (Option Bool)) (n : ℕ) → n ≡ 1 → 0 < length items → listed (take n items) ≡ item_word (get_or items 0 None)
+unfolding listed
+listed-first [] n e h = absurd (omega (arith, h))
+listed-first (item ∷ items) n e h = rw e (append-nil (item_word item))
+
+-- one item more
+pub listed-more : (items : List (Option Bool)) (i n : ℕ) → 0 < i → n ≡ suc i → i < length items → listed (take n items) ≡ listed (take i items) ++ (codes ", " ++ item_word (get_or items i None))
+unfolding listed
+listed-more [] i n some e h = absurd (omega (arith, h))
+listed-more (item ∷ items) zero n some e h = absurd (omega (arith, some))
+listed-more (item ∷ items) (suc i) n some e h = rw e (ap (λ t. item_word item ++ t) (more-behind items i (omega (arith, h))) ∙ sym (append_assoc (item_word item) (flat_map behind (take i items)) (behind (get_or items i None))))

@@ -1,0 +1,43 @@
+//! The text of a boolean array.
+ghost use Rattle.std.specs.Prelude.{◌≡◌, Some};
+ghost use Rattle.std.specs.Fmt.{WritesOnOk, WritesStyledOnOk};
+ghost use Rattle.arrow2_array.specs.ArrayTexts.{array_text, item_word};
+
+use crate::boolean::BooleanArray;
+use std::fmt;
+
+/// The items in brackets behind the name of the type: each is `true`, `false` or `None`. The formatter's options change
+/// nothing.
+impl fmt::Debug for BooleanArray {
+    ghost debug_output = { λ a. Some (array_text a) };
+
+    fn fmt<W: fmt::Write>(&self, f: &mut fmt::Formatter<W>) -> fmt::Result {
+        write_array(self, f)
+    }
+}
+
+/// Writes the text of an array.
+fn write_array<W: fmt::Write>(array: &BooleanArray, f: &mut fmt::Formatter<W>) -> fmt::Result
+    ensures writes { WritesOnOk W.write_str_gives f.old result (array_text array.now) f.new }
+    ensures styled { WritesStyledOnOk W.write_str_gives f.old result (array_text array.now) f.new }
+{
+    f.write_str("BooleanArray[")?;
+    for index in 0..array.len() {
+        if index > 0 {
+            f.write_str(", ")?;
+        }
+        f.write_str(word(array.get(index)))?;
+    }
+    f.write_str("]")
+}
+
+/// The word for an item.
+fn word(item: Option<bool>) -> &'static str
+    ensures { result.now ≡ item_word item }
+{
+    match item {
+        Some(true) => "true",
+        Some(false) => "false",
+        None => "None",
+    }
+}
