@@ -1,0 +1,151 @@
+//! Truth tables in place: the first input stands from bit 0 on in bytes that are as many as hold it, and the answers are
+//! written over it. Spare bits become 0, whatever they were.
+ghost use Rattle.std.specs.Prelude.{◌≡◌, ◌≢◌, ◌<◌, ◌↔◌, ◌⊎◌, [], ◌∷◌, take};
+ghost use Rattle.arrow2_model.specs.Bits.{bits};
+ghost use Rattle.arrow2_model.specs.Canonical.{IsCanonical};
+ghost use Rattle.arrow2_model.specs.Parts.{part};
+ghost use Rattle.arrow2_model.specs.Tables.{each};
+ghost use Rattle.arrow2_ffi.specs.Ranges.{IsInside, Holds};
+
+use crate::codes::{ARROW2_LENGTH, ARROW2_OK, ARROW2_RANGE};
+use crate::ranges::{are_inside, hold};
+use crate::rows::{assign_four, assign_three, assign_two};
+use arrow2_kernels::lane_assigned::assign_unary;
+
+/// Writes the answers of a table of one input for the first `length` bits in their place.
+#[unsafe(no_mangle)]
+pub extern "C" fn arrow2_unary_assign_table(bytes: &mut [u8], length: usize, table: u16) -> u32
+    ensures range { result ≡ ARROW2_RANGE ↔ ¬ (table < 4) }
+    ensures length { result ≡ ARROW2_LENGTH ↔ ((result ≢ ARROW2_RANGE) × ¬ Holds bytes.old length) }
+    ensures only { (result ≡ ARROW2_OK) ⊎ (result ≡ ARROW2_RANGE) ⊎ (result ≡ ARROW2_LENGTH) }
+    ensures ok { result ≡ ARROW2_OK →
+        take length (bits bytes.new) ≡ each table (take length (bits bytes.old) ∷ []) }
+    ensures canonical { result ≡ ARROW2_OK → IsCanonical bytes.new length }
+    ensures refused { result ≢ ARROW2_OK → bytes.new ≡ bytes.old }
+{
+    if table >= 4 {
+        return ARROW2_RANGE;
+    }
+    if !hold(bytes, length) {
+        return ARROW2_LENGTH;
+    }
+    assign_unary(bytes, length, table as u8);
+    ARROW2_OK
+}
+
+/// Writes the answers of a table of two inputs for the first `length` bits, and for as many of the second input, in
+/// their place.
+#[unsafe(no_mangle)]
+pub extern "C" fn arrow2_binary_assign_table(
+    bytes: &mut [u8],
+    second: &[u8],
+    second_offset: usize,
+    length: usize,
+    table: u16,
+) -> u32
+    ensures range { result ≡ ARROW2_RANGE ↔
+        ¬ ((table < 16) × IsInside second.now second_offset length) }
+    ensures length { result ≡ ARROW2_LENGTH ↔ ((result ≢ ARROW2_RANGE) × ¬ Holds bytes.old length) }
+    ensures only { (result ≡ ARROW2_OK) ⊎ (result ≡ ARROW2_RANGE) ⊎ (result ≡ ARROW2_LENGTH) }
+    ensures ok { result ≡ ARROW2_OK → take length (bits bytes.new) ≡ each table
+        (take length (bits bytes.old) ∷ part (bits second.now) second_offset length ∷ []) }
+    ensures canonical { result ≡ ARROW2_OK → IsCanonical bytes.new length }
+    ensures refused { result ≢ ARROW2_OK → bytes.new ≡ bytes.old }
+{
+    if table >= 16 || !are_inside(second, second_offset, length) {
+        return ARROW2_RANGE;
+    }
+    if !hold(bytes, length) {
+        return ARROW2_LENGTH;
+    }
+    assign_two(bytes, length, second, second_offset, table as u8);
+    ARROW2_OK
+}
+
+/// The same of a table of three inputs.
+#[unsafe(no_mangle)]
+pub extern "C" fn arrow2_ternary_assign_table(
+    bytes: &mut [u8],
+    second: &[u8],
+    second_offset: usize,
+    third: &[u8],
+    third_offset: usize,
+    length: usize,
+    table: u16,
+) -> u32
+    ensures range { result ≡ ARROW2_RANGE ↔ ¬ ((table < 256)
+        × IsInside second.now second_offset length × IsInside third.now third_offset length) }
+    ensures length { result ≡ ARROW2_LENGTH ↔ ((result ≢ ARROW2_RANGE) × ¬ Holds bytes.old length) }
+    ensures only { (result ≡ ARROW2_OK) ⊎ (result ≡ ARROW2_RANGE) ⊎ (result ≡ ARROW2_LENGTH) }
+    ensures ok { result ≡ ARROW2_OK → take length (bits bytes.new) ≡ each table
+        (take length (bits bytes.old) ∷ part (bits second.now) second_offset length
+        ∷ part (bits third.now) third_offset length ∷ []) }
+    ensures canonical { result ≡ ARROW2_OK → IsCanonical bytes.new length }
+    ensures refused { result ≢ ARROW2_OK → bytes.new ≡ bytes.old }
+{
+    if table >= 256
+        || !are_inside(second, second_offset, length)
+        || !are_inside(third, third_offset, length)
+    {
+        return ARROW2_RANGE;
+    }
+    if !hold(bytes, length) {
+        return ARROW2_LENGTH;
+    }
+    assign_three(
+        bytes,
+        length,
+        second,
+        second_offset,
+        third,
+        third_offset,
+        table as u8,
+    );
+    ARROW2_OK
+}
+
+/// The same of a table of four inputs.
+#[unsafe(no_mangle)]
+pub extern "C" fn arrow2_quaternary_assign_table(
+    bytes: &mut [u8],
+    second: &[u8],
+    second_offset: usize,
+    third: &[u8],
+    third_offset: usize,
+    fourth: &[u8],
+    fourth_offset: usize,
+    length: usize,
+    table: u16,
+) -> u32
+    ensures range { result ≡ ARROW2_RANGE ↔ ¬ (IsInside second.now second_offset length
+        × IsInside third.now third_offset length × IsInside fourth.now fourth_offset length) }
+    ensures length { result ≡ ARROW2_LENGTH ↔ ((result ≢ ARROW2_RANGE) × ¬ Holds bytes.old length) }
+    ensures only { (result ≡ ARROW2_OK) ⊎ (result ≡ ARROW2_RANGE) ⊎ (result ≡ ARROW2_LENGTH) }
+    ensures ok { result ≡ ARROW2_OK → take length (bits bytes.new) ≡ each table
+        (take length (bits bytes.old) ∷ part (bits second.now) second_offset length
+        ∷ part (bits third.now) third_offset length ∷ part (bits fourth.now) fourth_offset length ∷ []) }
+    ensures canonical { result ≡ ARROW2_OK → IsCanonical bytes.new length }
+    ensures refused { result ≢ ARROW2_OK → bytes.new ≡ bytes.old }
+{
+    if !are_inside(second, second_offset, length)
+        || !are_inside(third, third_offset, length)
+        || !are_inside(fourth, fourth_offset, length)
+    {
+        return ARROW2_RANGE;
+    }
+    if !hold(bytes, length) {
+        return ARROW2_LENGTH;
+    }
+    assign_four(
+        bytes,
+        length,
+        second,
+        second_offset,
+        third,
+        third_offset,
+        fourth,
+        fourth_offset,
+        table,
+    );
+    ARROW2_OK
+}

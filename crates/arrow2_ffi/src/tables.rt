@@ -1,0 +1,175 @@
+//! Truth tables over bits of one to four inputs: bit `a1 + 2 * a2 + 4 * a3 + 8 * a4` of a table is its answer for
+//! inputs `a1` to `a4`.
+//!
+//! The answers are written over `out` from bit 0 on. It has as many bytes as hold them, and its spare bits become 0.
+ghost use Rattle.std.specs.Prelude.{◌≡◌, ◌≢◌, ◌<◌, ◌↔◌, ◌⊎◌, [], ◌∷◌, take};
+ghost use Rattle.arrow2_model.specs.Bits.{bits};
+ghost use Rattle.arrow2_model.specs.Canonical.{IsCanonical};
+ghost use Rattle.arrow2_model.specs.Parts.{part};
+ghost use Rattle.arrow2_model.specs.Tables.{each};
+ghost use Rattle.arrow2_ffi.specs.Ranges.{IsInside, Holds};
+
+use crate::codes::{ARROW2_LENGTH, ARROW2_OK, ARROW2_RANGE};
+use crate::ranges::{are_inside, hold};
+use crate::rows::{assign_four, assign_three, assign_two, copy};
+use arrow2_kernels::lane_assigned::assign_unary;
+
+/// Writes the answers of a table of one input for the `length` bits from bit `offset` on.
+#[unsafe(no_mangle)]
+pub extern "C" fn arrow2_unary_table(
+    bytes: &[u8],
+    offset: usize,
+    length: usize,
+    table: u16,
+    out: &mut [u8],
+) -> u32
+    ensures range { result ≡ ARROW2_RANGE ↔ ¬ ((table < 4) × IsInside bytes.now offset length) }
+    ensures length { result ≡ ARROW2_LENGTH ↔ ((result ≢ ARROW2_RANGE) × ¬ Holds out.old length) }
+    ensures only { (result ≡ ARROW2_OK) ⊎ (result ≡ ARROW2_RANGE) ⊎ (result ≡ ARROW2_LENGTH) }
+    ensures ok { result ≡ ARROW2_OK →
+        take length (bits out.new) ≡ each table (part (bits bytes.now) offset length ∷ []) }
+    ensures canonical { result ≡ ARROW2_OK → IsCanonical out.new length }
+    ensures refused { result ≢ ARROW2_OK → out.new ≡ out.old }
+{
+    if table >= 4 || !are_inside(bytes, offset, length) {
+        return ARROW2_RANGE;
+    }
+    if !hold(out, length) {
+        return ARROW2_LENGTH;
+    }
+    copy(bytes, offset, length, out);
+    assign_unary(out, length, table as u8);
+    ARROW2_OK
+}
+
+/// Writes the answers of a table of two inputs for as many bits of both.
+#[unsafe(no_mangle)]
+pub extern "C" fn arrow2_binary_table(
+    first: &[u8],
+    first_offset: usize,
+    second: &[u8],
+    second_offset: usize,
+    length: usize,
+    table: u16,
+    out: &mut [u8],
+) -> u32
+    ensures range { result ≡ ARROW2_RANGE ↔ ¬ ((table < 16)
+        × IsInside first.now first_offset length × IsInside second.now second_offset length) }
+    ensures length { result ≡ ARROW2_LENGTH ↔ ((result ≢ ARROW2_RANGE) × ¬ Holds out.old length) }
+    ensures only { (result ≡ ARROW2_OK) ⊎ (result ≡ ARROW2_RANGE) ⊎ (result ≡ ARROW2_LENGTH) }
+    ensures ok { result ≡ ARROW2_OK → take length (bits out.new) ≡ each table
+        (part (bits first.now) first_offset length ∷ part (bits second.now) second_offset length ∷ []) }
+    ensures canonical { result ≡ ARROW2_OK → IsCanonical out.new length }
+    ensures refused { result ≢ ARROW2_OK → out.new ≡ out.old }
+{
+    if table >= 16
+        || !are_inside(first, first_offset, length)
+        || !are_inside(second, second_offset, length)
+    {
+        return ARROW2_RANGE;
+    }
+    if !hold(out, length) {
+        return ARROW2_LENGTH;
+    }
+    copy(first, first_offset, length, out);
+    assign_two(out, length, second, second_offset, table as u8);
+    ARROW2_OK
+}
+
+/// Writes the answers of a table of three inputs for as many bits of each.
+#[unsafe(no_mangle)]
+pub extern "C" fn arrow2_ternary_table(
+    first: &[u8],
+    first_offset: usize,
+    second: &[u8],
+    second_offset: usize,
+    third: &[u8],
+    third_offset: usize,
+    length: usize,
+    table: u16,
+    out: &mut [u8],
+) -> u32
+    ensures range { result ≡ ARROW2_RANGE ↔ ¬ ((table < 256)
+        × IsInside first.now first_offset length × IsInside second.now second_offset length
+        × IsInside third.now third_offset length) }
+    ensures length { result ≡ ARROW2_LENGTH ↔ ((result ≢ ARROW2_RANGE) × ¬ Holds out.old length) }
+    ensures only { (result ≡ ARROW2_OK) ⊎ (result ≡ ARROW2_RANGE) ⊎ (result ≡ ARROW2_LENGTH) }
+    ensures ok { result ≡ ARROW2_OK → take length (bits out.new) ≡ each table
+        (part (bits first.now) first_offset length ∷ part (bits second.now) second_offset length
+        ∷ part (bits third.now) third_offset length ∷ []) }
+    ensures canonical { result ≡ ARROW2_OK → IsCanonical out.new length }
+    ensures refused { result ≢ ARROW2_OK → out.new ≡ out.old }
+{
+    if table >= 256
+        || !are_inside(first, first_offset, length)
+        || !are_inside(second, second_offset, length)
+        || !are_inside(third, third_offset, length)
+    {
+        return ARROW2_RANGE;
+    }
+    if !hold(out, length) {
+        return ARROW2_LENGTH;
+    }
+    copy(first, first_offset, length, out);
+    assign_three(
+        out,
+        length,
+        second,
+        second_offset,
+        third,
+        third_offset,
+        table as u8,
+    );
+    ARROW2_OK
+}
+
+/// Writes the answers of a table of four inputs for as many bits of each.
+#[unsafe(no_mangle)]
+pub extern "C" fn arrow2_quaternary_table(
+    first: &[u8],
+    first_offset: usize,
+    second: &[u8],
+    second_offset: usize,
+    third: &[u8],
+    third_offset: usize,
+    fourth: &[u8],
+    fourth_offset: usize,
+    length: usize,
+    table: u16,
+    out: &mut [u8],
+) -> u32
+    ensures range { result ≡ ARROW2_RANGE ↔ ¬ (
+        IsInside first.now first_offset length × IsInside second.now second_offset length
+        × IsInside third.now third_offset length × IsInside fourth.now fourth_offset length) }
+    ensures length { result ≡ ARROW2_LENGTH ↔ ((result ≢ ARROW2_RANGE) × ¬ Holds out.old length) }
+    ensures only { (result ≡ ARROW2_OK) ⊎ (result ≡ ARROW2_RANGE) ⊎ (result ≡ ARROW2_LENGTH) }
+    ensures ok { result ≡ ARROW2_OK → take length (bits out.new) ≡ each table
+        (part (bits first.now) first_offset length ∷ part (bits second.now) second_offset length
+        ∷ part (bits third.now) third_offset length ∷ part (bits fourth.now) fourth_offset length ∷ []) }
+    ensures canonical { result ≡ ARROW2_OK → IsCanonical out.new length }
+    ensures refused { result ≢ ARROW2_OK → out.new ≡ out.old }
+{
+    if !are_inside(first, first_offset, length)
+        || !are_inside(second, second_offset, length)
+        || !are_inside(third, third_offset, length)
+        || !are_inside(fourth, fourth_offset, length)
+    {
+        return ARROW2_RANGE;
+    }
+    if !hold(out, length) {
+        return ARROW2_LENGTH;
+    }
+    copy(first, first_offset, length, out);
+    assign_four(
+        out,
+        length,
+        second,
+        second_offset,
+        third,
+        third_offset,
+        fourth,
+        fourth_offset,
+        table,
+    );
+    ARROW2_OK
+}
