@@ -1,13 +1,25 @@
 -- How calls on offsets refuse.
 use Rattle.std.specs.Prelude.{◌≡◌, ℕ, ℤ, pos, negsuc, List, [], ◌∷◌, codes, string_bytes}
+use Rattle.arrow2_offset.specs.declared.check.BrokenRule.{BrokenRule}
+use Rattle.arrow2_offset.specs.declared.check.BrokenRule.TheVariants.{Empty, Negative, Falling}
 use Rattle.arrow2_types.specs.declared.error.Error.{Error}
 use Rattle.arrow2_types.specs.declared.error.Error.TheVariants.{OutOfSpec, OutOfMemory}
 
+-- the first rule that a list breaks which is not offsets
+abbrev pub first_broken : List ℤ → BrokenRule
+first_broken [] = Empty
+first_broken (negsuc n ∷ xs) = Negative
+first_broken (pos n ∷ xs) = Falling
+
+-- the words for a list that breaks this rule first
+abbrev pub rule_words : BrokenRule → List ℕ
+rule_words Empty = codes "offsets must have at least one element"
+rule_words Negative = codes "offsets must be larger than 0"
+rule_words Falling = codes "offsets must be monotonically increasing"
+
 -- the words for a list that is not offsets: those of the first rule that it breaks
 abbrev pub why_not_offsets : List ℤ → List ℕ
-why_not_offsets [] = codes "offsets must have at least one element"
-why_not_offsets (negsuc n ∷ xs) = codes "offsets must be larger than 0"
-why_not_offsets (pos n ∷ xs) = codes "offsets must be monotonically increasing"
+why_not_offsets xs = rule_words (first_broken xs)
 
 -- what was handed in does not follow the specification, in these words; or want of memory, where the words found none
 abbrev pub IsOutOfSpec : Error → List ℕ → Type 0

@@ -1,11 +1,43 @@
 //! The test of what is handed in as offsets.
-ghost use Rattle.std.specs.Prelude.{◌≡◌, ℕ, ◌+◌, ◌<◌, ◌≤ℤ◌, ◌↔◌, pos, length, map, slice_index_or, OnOk, IsOk, IfErr, IsTrue};
+ghost use Rattle.std.specs.Prelude.{◌≡◌, ℕ, ◌+◌, ◌<◌, ◌≤ℤ◌, ◌↔◌, pos, length, map, slice_index_or, OnOk, IsOk, IfErr, IfSome, IfNone, IsNone, IsTrue};
 ghost use Rattle.arrow2_model.specs.Offsets.{AreOffsets, AreOffsetsUpTo};
-ghost use Rattle.arrow2_offset.specs.Refused.{IsOutOfSpec, why_not_offsets};
+ghost use Rattle.arrow2_offset.specs.Refused.{IsOutOfSpec, first_broken, rule_words, why_not_offsets};
 
 use arrow2_index::offset::Offset;
 use arrow2_types::error::{Error, Result};
 use std::alloc::{AllocError, Global};
+
+/// What is wrong with a list that is not offsets: the first rule that it breaks.
+#[derive(Clone, Copy, Debug)]
+pub enum BrokenRule {
+    /// There is no offset at all.
+    Empty,
+    /// The first offset is negative.
+    Negative,
+    /// An offset is below the one before it.
+    Falling,
+}
+
+/// The first rule that the numbers break, or `None` where they are offsets. Takes no memory.
+///
+/// In arrow2 it answers an error with a text.
+pub fn broken_rule<O: Offset>(offsets: &[O]) -> Option<BrokenRule>
+    ensures none { IfNone result (AreOffsetsUpTo O.MAX (map O.value offsets.now)) }
+    ensures accepted { AreOffsets (map O.value offsets.now) → IsNone result }
+    ensures broken { IfSome result (λ rule. rule ≡ first_broken (map O.value offsets.now)) }
+{
+    if offsets.is_empty() {
+        return Some(BrokenRule::Empty);
+    }
+    if offsets[0] < O::zero() {
+        return Some(BrokenRule::Negative);
+    }
+    if !is_rising(offsets) {
+        return Some(BrokenRule::Falling);
+    }
+    let _last = offsets[offsets.len() - 1].to_usize();
+    None
+}
 
 /// Refuses what is not a list of offsets, with the text of the first rule that it breaks.
 pub(crate) fn try_check_offsets<O: Offset>(alloc: Global, offsets: &[O]) -> Result<()>
@@ -13,17 +45,21 @@ pub(crate) fn try_check_offsets<O: Offset>(alloc: Global, offsets: &[O]) -> Resu
     ensures accepted { AreOffsets (map O.value offsets.now) → IsOk result }
     ensures refused { IfErr result (λ e. IsOutOfSpec e (why_not_offsets (map O.value offsets.now))) }
 {
-    if offsets.is_empty() {
-        return Err(out_of_spec(alloc, "offsets must have at least one element"));
+    match broken_rule(offsets) {
+        None => Ok(()),
+        Some(rule) => Err(out_of_spec(alloc, words_of(rule))),
     }
-    if offsets[0] < O::zero() {
-        return Err(out_of_spec(alloc, "offsets must be larger than 0"));
+}
+
+/// The text for a list that breaks this rule first.
+fn words_of(rule: BrokenRule) -> &'static str
+    ensures { result.now ≡ rule_words rule }
+{
+    match rule {
+        BrokenRule::Empty => "offsets must have at least one element",
+        BrokenRule::Negative => "offsets must be larger than 0",
+        BrokenRule::Falling => "offsets must be monotonically increasing",
     }
-    if !is_rising(offsets) {
-        return Err(out_of_spec(alloc, "offsets must be monotonically increasing"));
-    }
-    let _last = offsets[offsets.len() - 1].to_usize();
-    Ok(())
 }
 
 /// The error with this text, or `OutOfMemory` where the text finds no memory.

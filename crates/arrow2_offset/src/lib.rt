@@ -9,6 +9,7 @@ pub mod iterator;
 pub mod laws;
 pub mod mutable;
 
+pub use check::{BrokenRule, broken_rule};
 pub use immutable::OffsetsBuffer;
 pub use iterator::Lengths;
 pub use mutable::Offsets;

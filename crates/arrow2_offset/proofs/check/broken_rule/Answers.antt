@@ -4,7 +4,7 @@ use Rattle.std.proofs.lemmas.Bool.Decides.{nat_tests}
 use Rattle.arrow2_model.specs.Offsets.{last_of}
 use Rattle.arrow2_offset.proofs.Appending.{value_last, value_natural}
 use Rattle.arrow2_offset.proofs.Order.{lt_told, offsets_told}
-use Rattle.arrow2_offset.proofs.check.try_check_offsets.Goals as goal
+use Rattle.arrow2_offset.proofs.check.broken_rule.Goals as goal
 
 pub to_usize-last-requires : goal.to_usize-last-requires
 to_usize-last-requires g c =
@@ -18,8 +18,8 @@ to_usize-last-requires g c =
     let are = offsets_told v items c.index-offsets-0.result some c.index-offsets-0.is natural (c.is_rising.ensures.0 up) in
     value_natural v items c.index-offsets-offsets.result (length items - 1) are (omega (arith, some)) c.index-offsets-offsets.is
 
-pub returns-clause-ok : goal.returns-clause-ok
-returns-clause-ok g c =
+pub returns-clause-none : goal.returns-clause-none
+returns-clause-none g c =
     let v = g.O.Number.value in
     let items = c.args.offsets.now in
     let zero : v c.zero.result ≡ pos 0 = ap v c.zero.ensures ∙ g.met.O.Zero.zero_law g.met.O.Integral.exact_law in
