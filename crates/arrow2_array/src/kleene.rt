@@ -11,19 +11,19 @@ use arrow2_types::error::{Error, Result};
 use std::convert::TryFrom;
 
 /// Whether both values are true: bit `left + 2 * right`.
-pub(crate) const AND_VALUES: u8 = 0b1000;
+pub const AND_VALUES: u8 = 0b1000;
 
 /// And whether one is, or both.
-pub(crate) const OR_VALUES: u8 = 0b1110;
+pub const OR_VALUES: u8 = 0b1110;
 
 /// For which items it is known whether both are true: bit `left + 2 * left_validity + 4 * right + 8 * right_validity`.
 ///
 /// Read from the left, the four rows are those of a right item that is true, false, null over true, null over false; in
 /// each, the left item goes through the same four.
-pub(crate) const AND_KNOWN: u16 = 0b1100_1111_0100_0100;
+pub const AND_KNOWN: u16 = 0b1100_1111_0100_0100;
 
 /// And for which it is known whether one is true, or both.
-pub(crate) const OR_KNOWN: u16 = 0b1111_1100_1000_1000;
+pub const OR_KNOWN: u16 = 0b1111_1100_1000_1000;
 
 /// The answers of table `t` for the values and validities of two arrays, where a missing validity is all set. Where both
 /// are missing there is none to be had: the table has to answer true there.

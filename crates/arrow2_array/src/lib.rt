@@ -4,7 +4,7 @@
 pub mod boolean;
 pub mod fmt;
 pub mod iterator;
-mod kleene;
+pub mod kleene;
 
 pub use boolean::BooleanArray;
 pub use iterator::BooleanIter;

@@ -1,0 +1,3 @@
+mod OffsetSteps
+mod RunSteps
+mod BoolSteps

@@ -3,7 +3,15 @@
 
 pub mod assign_tables;
 pub mod bits;
+mod bool_words;
+pub mod booleans;
 pub mod codes;
+pub mod kleene;
+mod offset_calls;
+mod offset_loops;
+pub mod offset_widths;
+pub mod offsets;
 mod ranges;
 mod rows;
+pub mod runs;
 pub mod tables;

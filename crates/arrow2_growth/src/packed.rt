@@ -81,7 +81,7 @@ pub fn packed(alloc: Global, items: &[bool]) -> Result<Vec<u8>, AllocError>
 }
 
 /// The word of 64 items: one comparison of 64 lanes.
-fn word_of(items: &[bool; 64]) -> u64
+pub fn word_of(items: &[bool; 64]) -> u64
     ensures { result ≡ num items.now }
 {
     let lanes = u8x64::from_array(lanes_of(items));
@@ -99,8 +99,8 @@ fn lanes_of(items: &[bool; 64]) -> [u8; 64]
     lanes
 }
 
-/// The items, and false behind them.
-fn padded(items: &[bool]) -> [bool; 64]
+/// The items, and false behind them. Asks that they are no more than a word has.
+pub fn padded(items: &[bool]) -> [bool; 64]
     requires { length items.now ≤ 64 }
     ensures front { take (length items.now) result ≡ items.now }
     ensures size { length result ≡ 64 }

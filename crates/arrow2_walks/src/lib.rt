@@ -3,7 +3,7 @@
 
 pub mod laws;
 pub mod pieces;
-mod places;
+pub mod places;
 pub mod slice_iterator;
 pub mod zip_validity;
 

@@ -7,15 +7,21 @@ use arrow2_bits::chunks::word_from;
 
 /// A place, and the bits from it on that were read already, as the lowest ones of a word.
 #[derive(Clone, Copy, Debug)]
-pub(crate) struct Place {
-    pub(crate) index: usize,
-    pub(crate) word: u64,
-    pub(crate) held: usize,
+pub struct Place {
+    /// The place.
+    pub index: usize,
+    /// The bits from it on, the lowest first.
+    pub word: u64,
+    /// How many of them were read.
+    pub held: usize,
 }
 
 /// The first place from `at` on whose bit, counted from bit `offset` on, is `value`, or `end` where there is none. Each
-/// word is read once, and shifted as it is passed.
-pub(crate) fn first_place(bytes: &[u8], offset: usize, end: usize, at: Place, value: bool) -> Place
+/// word is read once, and shifted as it is passed. Asks that bits up to `end` are inside, and that `at` holds bits from its
+/// place on.
+///
+/// In arrow2 it is inside the iterator over runs.
+pub fn first_place(bytes: &[u8], offset: usize, end: usize, at: Place, value: bool) -> Place
     requires inside { offset + end ≤ 8 * length bytes.now }
     requires read { IsRead (bits bytes.now) offset end at.index at.word at.held }
     ensures first { IsFirst (bits bytes.now) offset at.index end value result.index }

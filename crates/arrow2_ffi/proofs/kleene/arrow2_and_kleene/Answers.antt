@@ -1,0 +1,6 @@
+use Rattle.arrow2_array.specs.Kleene.{kleene_and}
+use Rattle.arrow2_array.proofs.Tables.{and_spelled}
+use Rattle.arrow2_ffi.proofs.kleene.arrow2_and_kleene.Goals as goal
+
+pub returns-clause-ok : goal.returns-clause-ok
+returns-clause-ok c = c.by_tables.ensures.ok kleene_and and_spelled

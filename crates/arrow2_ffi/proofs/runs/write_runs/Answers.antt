@@ -1,0 +1,29 @@
+use Rattle.std.proofs.Common.{ℕ, ◌-◌, List, arith, refl, take}
+use Rattle.std.specs.List.{zip}
+use Rattle.std.proofs.lemmas.List.{length-set}
+use Rattle.arrow2_walks.proofs.TakenRuns.{none_at_end}
+use Rattle.arrow2_ffi.proofs.RunSteps.{run_last, run_more}
+use Rattle.arrow2_ffi.proofs.runs.write_runs.Goals as goal
+
+pub returns-then-start-end-clause-runs : goal.returns-then-start-end-clause-runs
+returns-then-start-end-clause-runs c = run_last c.args.bytes.now c.args.offset c.args.end c.args.at c.loop-k.place.index c.first_place-place.result.index (zip (take c.loop-k.k c.loop-k.starts) (take c.loop-k.k c.loop-k.lengths)) c.requires.inside c.loop-k.invariant.done c.first_place-place.ensures.first (omega (arith, c.if-start-end.true))
+
+pub returns-then-start-end-clause-last : goal.returns-then-start-end-clause-last
+returns-then-start-end-clause-last c = λ _. none_at_end c.args.bytes.now c.args.offset c.args.end c.args.end c.requires.inside refl
+
+pub loop-k-preserved : goal.loop-k-preserved
+loop-k-preserved c =
+    let k : ℕ = c.loop-k.k in
+    let p : ℕ = c.first_place-place.result.index in
+    let q : ℕ = c.first_place-place-in-loop-k.result.index in
+    let starts : List ℕ = c.loop-k.starts in
+    let lengths : List ℕ = c.loop-k.lengths in
+    let l = length-set starts k p in
+    let m = length-set lengths k (q - p) in
+    let kept = c.loop-k.invariant in
+    record {
+      starts = omega (arith, l, kept.starts);
+      lengths = omega (arith, m, kept.lengths);
+      read = c.first_place-place-in-loop-k.ensures.read;
+      done = run_more c.args.bytes.now c.args.offset c.args.end c.args.at c.loop-k.place.index p q k starts lengths c.requires.inside (omega (arith, c.loop-k-test.true, kept.starts)) (omega (arith, c.loop-k-test.true, kept.lengths)) kept.done c.first_place-place.ensures.first (λ e. omega (arith, e, c.if-start-end.false)) c.first_place-place-in-loop-k.ensures.first;
+    }

@@ -1,0 +1,39 @@
+//! Booleans, one byte each, read by words of 64 bits.
+ghost use Rattle.std.specs.Prelude.{◌∷◌, [], length as length'};
+ghost use Rattle.arrow2_model.specs.Kernels.{word};
+
+use arrow2_chunk::bit_chunk::BitChunk;
+use arrow2_growth::packed::{padded, word_of};
+use arrow2_kernels::rows::WordRows;
+
+/// Booleans, of which each 64 are a row of one word.
+#[derive(Drop)]
+pub(crate) struct BoolWords<'a> {
+    /// Those still to come.
+    pub(crate) items: &'a [bool],
+}
+
+impl<'a> WordRows<u64> for BoolWords<'a> {
+    type Row = u64;
+
+    ghost words = { λ x. x ∷ [] };
+
+    ghost length = { λ s. length' s.items.now };
+
+    ghost row_at = { λ s j. word 64 s.items.now j ∷ [] };
+
+    ghost alike = { λ s. Unit {0} };
+
+    fn next_row(&mut self) -> Option<u64> {
+        if self.items.len() < 64 {
+            return None;
+        }
+        let word = word_of(&padded(&self.items[..64]));
+        self.items = &self.items[64..];
+        Some(word)
+    }
+
+    fn rest_row(&self) -> u64 {
+        BitChunk::masked(word_of(&padded(self.items)), self.items.len())
+    }
+}

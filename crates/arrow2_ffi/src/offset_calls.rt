@@ -1,0 +1,88 @@
+//! What the exports on offsets do, for either width.
+ghost use Rattle.std.specs.Prelude.{◌≡◌, ◌≢◌, ◌+◌, ◌-◌, ◌<◌, ◌↔◌, ◌⊎◌, pos, map, length};
+ghost use Rattle.arrow2_model.specs.Offsets.{AreOffsets, last_offset, lengths_of, offsets_list};
+ghost use Rattle.arrow2_model.specs.Parts.{part};
+ghost use Rattle.arrow2_offset.specs.Refused.{first_broken};
+ghost use Rattle.arrow2_ffi.specs.Rules.{rule_code};
+
+use crate::codes::{ARROW2_LENGTH, ARROW2_OK, ARROW2_OVERFLOW, ARROW2_RANGE};
+use crate::offset_loops::{refusal, total, write_lengths, write_part, write_sums};
+use arrow2_index::offset::Offset;
+
+/// Whether the numbers are offsets, and else which rule they break first.
+pub(crate) fn check<O: Offset>(offsets: &[O]) -> u32
+    ensures ok { result ≡ ARROW2_OK ↔ AreOffsets (map O.value offsets.now) }
+    ensures broken { result ≢ ARROW2_OK → result ≡ rule_code (first_broken (map O.value offsets.now)) }
+{
+    match refusal(offsets) {
+        None => ARROW2_OK,
+        Some(code) => code,
+    }
+}
+
+/// Writes how far each offset is from the next one.
+pub(crate) fn lengths<O: Offset>(offsets: &[O], lengths: &mut [usize]) -> u32
+    ensures broken { ¬ AreOffsets (map O.value offsets.now) →
+        result ≡ rule_code (first_broken (map O.value offsets.now)) }
+    ensures length { AreOffsets (map O.value offsets.now) →
+        (result ≡ ARROW2_LENGTH ↔ (length offsets.now ≢ length lengths.old + 1)) }
+    ensures only { AreOffsets (map O.value offsets.now) →
+        (result ≡ ARROW2_OK) ⊎ (result ≡ ARROW2_LENGTH) }
+    ensures ok { result ≡ ARROW2_OK → lengths.new ≡ lengths_of (map O.value offsets.now) }
+    ensures refused { result ≢ ARROW2_OK → lengths.new ≡ lengths.old }
+{
+    if let Some(code) = refusal(offsets) {
+        return code;
+    }
+    if offsets.len() - 1 != lengths.len() {
+        return ARROW2_LENGTH;
+    }
+    write_lengths(offsets, lengths);
+    ARROW2_OK
+}
+
+/// Writes the start, and behind it the running sums of the lengths.
+pub(crate) fn sums<O: Offset>(start: usize, lengths: &[usize], offsets: &mut [O]) -> u32
+    ensures length { result ≡ ARROW2_LENGTH ↔ (length offsets.old ≢ length lengths.now + 1) }
+    ensures overflow { result ≡ ARROW2_OVERFLOW ↔
+        ((result ≢ ARROW2_LENGTH) × (O.MAX < last_offset start lengths.now)) }
+    ensures only { (result ≡ ARROW2_OK) ⊎ (result ≡ ARROW2_LENGTH) ⊎ (result ≡ ARROW2_OVERFLOW) }
+    ensures ok { result ≡ ARROW2_OK → map O.value offsets.new ≡ map pos (offsets_list start lengths.now) }
+    ensures refused { result ≢ ARROW2_OK → offsets.new ≡ offsets.old }
+{
+    if offsets.is_empty() || offsets.len() - 1 != lengths.len() {
+        return ARROW2_LENGTH;
+    }
+    if total(start, lengths) > O::MAX as u128 {
+        return ARROW2_OVERFLOW;
+    }
+    write_sums(start, lengths, offsets);
+    ARROW2_OK
+}
+
+/// Writes as many offsets as `out` has, from offset `from` on, each less the first of them.
+pub(crate) fn from_zero<O: Offset>(offsets: &[O], from: usize, out: &mut [O]) -> u32
+    ensures broken { ¬ AreOffsets (map O.value offsets.now) →
+        result ≡ rule_code (first_broken (map O.value offsets.now)) }
+    ensures length { AreOffsets (map O.value offsets.now) →
+        (result ≡ ARROW2_LENGTH ↔ (length out.old ≡ 0)) }
+    ensures range { AreOffsets (map O.value offsets.now) →
+        (result ≡ ARROW2_RANGE ↔ ((result ≢ ARROW2_LENGTH) × (length offsets.now < from + length out.old))) }
+    ensures only { AreOffsets (map O.value offsets.now) →
+        (result ≡ ARROW2_OK) ⊎ (result ≡ ARROW2_LENGTH) ⊎ (result ≡ ARROW2_RANGE) }
+    ensures ok { result ≡ ARROW2_OK → map O.value out.new ≡ map pos
+        (offsets_list 0 (part (lengths_of (map O.value offsets.now)) from (length out.old - 1))) }
+    ensures refused { result ≢ ARROW2_OK → out.new ≡ out.old }
+{
+    if let Some(code) = refusal(offsets) {
+        return code;
+    }
+    if out.is_empty() {
+        return ARROW2_LENGTH;
+    }
+    if from > offsets.len() || out.len() > offsets.len() - from {
+        return ARROW2_RANGE;
+    }
+    write_part(offsets, from, out);
+    ARROW2_OK
+}

@@ -1,0 +1,83 @@
+//! Offsets of either width in memory of the caller: the loops.
+ghost use Rattle.std.specs.Prelude.{◌≡◌, ◌+◌, ◌-◌, ◌<◌, ◌≤◌, ℕ, pos, map, length, IfNone, IfSome, IsNone};
+ghost use Rattle.arrow2_model.specs.Offsets.{AreOffsets, AreOffsetsUpTo, last_of, last_offset, lengths_of, offsets_list};
+ghost use Rattle.arrow2_model.specs.Parts.{part};
+ghost use Rattle.arrow2_offset.specs.Refused.{first_broken};
+ghost use Rattle.arrow2_ffi.specs.Rules.{rule_code};
+
+use crate::codes::{ARROW2_SPEC_EMPTY, ARROW2_SPEC_FALLING, ARROW2_SPEC_NEGATIVE};
+use arrow2_index::offset::Offset;
+use arrow2_offset::{BrokenRule, broken_rule};
+
+/// The code of the first rule that the numbers break, or `None` where they are offsets.
+pub(crate) fn refusal<O: Offset>(offsets: &[O]) -> Option<u32>
+    ensures none { IfNone result (AreOffsetsUpTo O.MAX (map O.value offsets.now)) }
+    ensures accepted { AreOffsets (map O.value offsets.now) → IsNone result }
+    ensures broken { IfSome result (λ code. code ≡ rule_code (first_broken (map O.value offsets.now))) }
+{
+    match broken_rule(offsets) {
+        None => None,
+        Some(BrokenRule::Empty) => Some(ARROW2_SPEC_EMPTY),
+        Some(BrokenRule::Negative) => Some(ARROW2_SPEC_NEGATIVE),
+        Some(BrokenRule::Falling) => Some(ARROW2_SPEC_FALLING),
+    }
+}
+
+/// The last of the offsets.
+pub(crate) fn last<O: Offset>(offsets: &[O]) -> usize
+    requires are { AreOffsets (map O.value offsets.now) }
+    ensures { result ≡ last_of (map O.value offsets.now) }
+{
+    offsets[offsets.len() - 1].to_usize()
+}
+
+/// Writes how far each offset is from the next one. Asks for one length less than offsets.
+pub(crate) fn write_lengths<O: Offset>(offsets: &[O], lengths: &mut [usize])
+    requires are { AreOffsets (map O.value offsets.now) }
+    requires exact { length offsets.now ≡ length lengths.old + 1 }
+    ensures { lengths.new ≡ lengths_of (map O.value offsets.now) }
+{
+    for i in 0..lengths.len() {
+        lengths[i] = offsets[i].distance_to(offsets[i + 1]);
+    }
+}
+
+/// The start and all lengths, added up exactly.
+pub(crate) fn total(start: usize, lengths: &[usize]) -> u128
+    ensures { result ≡ last_offset start lengths.now }
+{
+    let mut sum = start as u128;
+    for length in lengths {
+        sum += *length as u128;
+    }
+    sum
+}
+
+/// Writes the start, and behind it the running sums of the lengths. Asks for one offset more than lengths, and that
+/// the last of them is an offset.
+pub(crate) fn write_sums<O: Offset>(start: usize, lengths: &[usize], offsets: &mut [O])
+    requires exact { length offsets.old ≡ length lengths.now + 1 }
+    requires fits { last_offset start lengths.now ≤ O.MAX }
+    ensures { map O.value offsets.new ≡ map pos (offsets_list start lengths.now) }
+{
+    let mut sum = start;
+    offsets[0] = O::from_as_usize(sum);
+    for i in 0..lengths.len() {
+        sum += lengths[i];
+        offsets[i + 1] = O::from_as_usize(sum);
+    }
+}
+
+/// Writes as many offsets as `out` has, from offset `from` on, each less the first of them. Asks that there is one, and
+/// that they are inside.
+pub(crate) fn write_part<O: Offset>(offsets: &[O], from: usize, out: &mut [O])
+    requires are { AreOffsetsUpTo O.MAX (map O.value offsets.now) }
+    requires some { 0 < length out.old }
+    requires inside { from + length out.old ≤ length offsets.now }
+    ensures { map O.value out.new ≡ map pos (offsets_list 0 (part (lengths_of (map O.value offsets.now)) from (length out.old - 1))) }
+{
+    let first = offsets[from];
+    for i in 0..out.len() {
+        out[i] = O::from_as_usize(first.distance_to(offsets[from + i]));
+    }
+}

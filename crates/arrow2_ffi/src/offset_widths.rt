@@ -1,0 +1,75 @@
+//! Offsets of 32 bits as offsets of 64 bits, and back.
+ghost use Rattle.std.specs.Prelude.{◌≡◌, ◌≢◌, ◌<◌, ◌↔◌, ◌⊎◌, length};
+ghost use Rattle.arrow2_model.specs.Offsets.{AreOffsets, AreOffsetsUpTo, last_of};
+ghost use Rattle.arrow2_offset.specs.Refused.{first_broken};
+ghost use Rattle.arrow2_ffi.specs.Rules.{rule_code};
+
+use crate::codes::{ARROW2_LENGTH, ARROW2_OK, ARROW2_OVERFLOW};
+use crate::offset_loops::{last, refusal};
+
+/// Writes the same numbers, in 64 bits each.
+#[unsafe(no_mangle)]
+pub extern "C" fn arrow2_offsets_widen(offsets: &[i32], out: &mut [i64]) -> u32
+    ensures broken { ¬ AreOffsets offsets.now → result ≡ rule_code (first_broken offsets.now) }
+    ensures length { AreOffsets offsets.now →
+        (result ≡ ARROW2_LENGTH ↔ (length out.old ≢ length offsets.now)) }
+    ensures only { AreOffsets offsets.now → (result ≡ ARROW2_OK) ⊎ (result ≡ ARROW2_LENGTH) }
+    ensures ok { result ≡ ARROW2_OK → out.new ≡ offsets.now }
+    ensures refused { result ≢ ARROW2_OK → out.new ≡ out.old }
+{
+    if let Some(code) = refusal(offsets) {
+        return code;
+    }
+    if out.len() != offsets.len() {
+        return ARROW2_LENGTH;
+    }
+    write_wide(offsets, out);
+    ARROW2_OK
+}
+
+/// Writes the same numbers, in 32 bits each.
+#[unsafe(no_mangle)]
+pub extern "C" fn arrow2_offsets_narrow(offsets: &[i64], out: &mut [i32]) -> u32
+    ensures broken { ¬ AreOffsets offsets.now → result ≡ rule_code (first_broken offsets.now) }
+    ensures length { AreOffsets offsets.now →
+        (result ≡ ARROW2_LENGTH ↔ (length out.old ≢ length offsets.now)) }
+    ensures overflow { AreOffsets offsets.now → (result ≡ ARROW2_OVERFLOW ↔
+        ((result ≢ ARROW2_LENGTH) × (2147483647 < last_of offsets.now))) }
+    ensures only { AreOffsets offsets.now →
+        (result ≡ ARROW2_OK) ⊎ (result ≡ ARROW2_LENGTH) ⊎ (result ≡ ARROW2_OVERFLOW) }
+    ensures ok { result ≡ ARROW2_OK → out.new ≡ offsets.now }
+    ensures refused { result ≢ ARROW2_OK → out.new ≡ out.old }
+{
+    if let Some(code) = refusal(offsets) {
+        return code;
+    }
+    if out.len() != offsets.len() {
+        return ARROW2_LENGTH;
+    }
+    if last(offsets) > 2147483647 {
+        return ARROW2_OVERFLOW;
+    }
+    write_narrow(offsets, out);
+    ARROW2_OK
+}
+
+/// Writes the same numbers, in 64 bits each. Asks for as many.
+fn write_wide(offsets: &[i32], out: &mut [i64])
+    requires exact { length out.old ≡ length offsets.now }
+    ensures { out.new ≡ offsets.now }
+{
+    for i in 0..out.len() {
+        out[i] = i64::from(offsets[i]);
+    }
+}
+
+/// Writes the same numbers, in 32 bits each. Asks for as many, and that they are offsets that fit.
+fn write_narrow(offsets: &[i64], out: &mut [i32])
+    requires exact { length out.old ≡ length offsets.now }
+    requires fit { AreOffsetsUpTo 2147483647 offsets.now }
+    ensures { out.new ≡ offsets.now }
+{
+    for i in 0..out.len() {
+        out[i] = offsets[i] as i32;
+    }
+}

@@ -1,0 +1,122 @@
+//! Offsets of 32 and of 64 bits: where the value of each slot begins. There is one offset more than slots, none is
+//! negative, and none is below the one before it.
+ghost use Rattle.std.specs.Prelude.{◌≡◌, ◌≢◌, ◌+◌, ◌-◌, ◌<◌, ◌↔◌, ◌⊎◌, pos, map, length};
+ghost use Rattle.arrow2_model.specs.Offsets.{AreOffsets, last_offset, last_of, lengths_of, offsets_list};
+ghost use Rattle.arrow2_model.specs.Parts.{part};
+ghost use Rattle.arrow2_offset.specs.Refused.{first_broken};
+ghost use Rattle.arrow2_ffi.specs.Rules.{rule_code};
+
+use crate::codes::{ARROW2_LENGTH, ARROW2_OK, ARROW2_OVERFLOW, ARROW2_RANGE};
+use crate::offset_calls::{check, from_zero, lengths, sums};
+
+/// Whether the numbers are offsets of 32 bits, and else which rule they break first.
+#[unsafe(no_mangle)]
+pub extern "C" fn arrow2_offsets32_check(offsets: &[i32]) -> u32
+    ensures ok { result ≡ ARROW2_OK ↔ AreOffsets offsets.now }
+    ensures broken { result ≢ ARROW2_OK → result ≡ rule_code (first_broken offsets.now) }
+{
+    check(offsets)
+}
+
+/// Writes how far each offset of 32 bits is from the next one: as many lengths as slots.
+#[unsafe(no_mangle)]
+pub extern "C" fn arrow2_offsets32_lengths(offsets: &[i32], out: &mut [usize]) -> u32
+    ensures broken { ¬ AreOffsets offsets.now → result ≡ rule_code (first_broken offsets.now) }
+    ensures length { AreOffsets offsets.now →
+        (result ≡ ARROW2_LENGTH ↔ (length offsets.now ≢ length out.old + 1)) }
+    ensures only { AreOffsets offsets.now → (result ≡ ARROW2_OK) ⊎ (result ≡ ARROW2_LENGTH) }
+    ensures ok { result ≡ ARROW2_OK → out.new ≡ lengths_of offsets.now }
+    ensures refused { result ≢ ARROW2_OK → out.new ≡ out.old }
+{
+    lengths(offsets, out)
+}
+
+/// Writes `start`, and behind it the running sums of the lengths: offsets of 32 bits.
+#[unsafe(no_mangle)]
+pub extern "C" fn arrow2_offsets32_from_lengths(
+    start: usize,
+    lengths: &[usize],
+    out: &mut [i32],
+) -> u32
+    ensures length { result ≡ ARROW2_LENGTH ↔ (length out.old ≢ length lengths.now + 1) }
+    ensures overflow { result ≡ ARROW2_OVERFLOW ↔
+        ((result ≢ ARROW2_LENGTH) × (2147483647 < last_offset start lengths.now)) }
+    ensures only { (result ≡ ARROW2_OK) ⊎ (result ≡ ARROW2_LENGTH) ⊎ (result ≡ ARROW2_OVERFLOW) }
+    ensures ok { result ≡ ARROW2_OK → out.new ≡ map pos (offsets_list start lengths.now) }
+    ensures refused { result ≢ ARROW2_OK → out.new ≡ out.old }
+{
+    sums(start, lengths, out)
+}
+
+/// Writes as many offsets of 32 bits as `out` has, from offset `from` on, each less the first of them: so they begin at
+/// 0 and span the same slots.
+#[unsafe(no_mangle)]
+pub extern "C" fn arrow2_offsets32_from_zero(offsets: &[i32], from: usize, out: &mut [i32]) -> u32
+    ensures broken { ¬ AreOffsets offsets.now → result ≡ rule_code (first_broken offsets.now) }
+    ensures length { AreOffsets offsets.now → (result ≡ ARROW2_LENGTH ↔ (length out.old ≡ 0)) }
+    ensures range { AreOffsets offsets.now → (result ≡ ARROW2_RANGE ↔
+        ((result ≢ ARROW2_LENGTH) × (length offsets.now < from + length out.old))) }
+    ensures only { AreOffsets offsets.now →
+        (result ≡ ARROW2_OK) ⊎ (result ≡ ARROW2_LENGTH) ⊎ (result ≡ ARROW2_RANGE) }
+    ensures ok { result ≡ ARROW2_OK → out.new ≡
+        map pos (offsets_list 0 (part (lengths_of offsets.now) from (length out.old - 1))) }
+    ensures refused { result ≢ ARROW2_OK → out.new ≡ out.old }
+{
+    from_zero(offsets, from, out)
+}
+
+/// Whether the numbers are offsets of 64 bits, and else which rule they break first.
+#[unsafe(no_mangle)]
+pub extern "C" fn arrow2_offsets64_check(offsets: &[i64]) -> u32
+    ensures ok { result ≡ ARROW2_OK ↔ AreOffsets offsets.now }
+    ensures broken { result ≢ ARROW2_OK → result ≡ rule_code (first_broken offsets.now) }
+{
+    check(offsets)
+}
+
+/// Writes how far each offset of 64 bits is from the next one: as many lengths as slots.
+#[unsafe(no_mangle)]
+pub extern "C" fn arrow2_offsets64_lengths(offsets: &[i64], out: &mut [usize]) -> u32
+    ensures broken { ¬ AreOffsets offsets.now → result ≡ rule_code (first_broken offsets.now) }
+    ensures length { AreOffsets offsets.now →
+        (result ≡ ARROW2_LENGTH ↔ (length offsets.now ≢ length out.old + 1)) }
+    ensures only { AreOffsets offsets.now → (result ≡ ARROW2_OK) ⊎ (result ≡ ARROW2_LENGTH) }
+    ensures ok { result ≡ ARROW2_OK → out.new ≡ lengths_of offsets.now }
+    ensures refused { result ≢ ARROW2_OK → out.new ≡ out.old }
+{
+    lengths(offsets, out)
+}
+
+/// Writes `start`, and behind it the running sums of the lengths: offsets of 64 bits.
+#[unsafe(no_mangle)]
+pub extern "C" fn arrow2_offsets64_from_lengths(
+    start: usize,
+    lengths: &[usize],
+    out: &mut [i64],
+) -> u32
+    ensures length { result ≡ ARROW2_LENGTH ↔ (length out.old ≢ length lengths.now + 1) }
+    ensures overflow { result ≡ ARROW2_OVERFLOW ↔
+        ((result ≢ ARROW2_LENGTH) × (9223372036854775807 < last_offset start lengths.now)) }
+    ensures only { (result ≡ ARROW2_OK) ⊎ (result ≡ ARROW2_LENGTH) ⊎ (result ≡ ARROW2_OVERFLOW) }
+    ensures ok { result ≡ ARROW2_OK → out.new ≡ map pos (offsets_list start lengths.now) }
+    ensures refused { result ≢ ARROW2_OK → out.new ≡ out.old }
+{
+    sums(start, lengths, out)
+}
+
+/// Writes as many offsets of 64 bits as `out` has, from offset `from` on, each less the first of them: so they begin at
+/// 0 and span the same slots.
+#[unsafe(no_mangle)]
+pub extern "C" fn arrow2_offsets64_from_zero(offsets: &[i64], from: usize, out: &mut [i64]) -> u32
+    ensures broken { ¬ AreOffsets offsets.now → result ≡ rule_code (first_broken offsets.now) }
+    ensures length { AreOffsets offsets.now → (result ≡ ARROW2_LENGTH ↔ (length out.old ≡ 0)) }
+    ensures range { AreOffsets offsets.now → (result ≡ ARROW2_RANGE ↔
+        ((result ≢ ARROW2_LENGTH) × (length offsets.now < from + length out.old))) }
+    ensures only { AreOffsets offsets.now →
+        (result ≡ ARROW2_OK) ⊎ (result ≡ ARROW2_LENGTH) ⊎ (result ≡ ARROW2_RANGE) }
+    ensures ok { result ≡ ARROW2_OK → out.new ≡
+        map pos (offsets_list 0 (part (lengths_of offsets.now) from (length out.old - 1))) }
+    ensures refused { result ≢ ARROW2_OK → out.new ≡ out.old }
+{
+    from_zero(offsets, from, out)
+}
