@@ -1,0 +1,176 @@
+/* The layer's loops over memory that is the caller's. What each call says is proved of the library (docs/BINDINGS.md);
+ * this header is written by hand.
+ *
+ * Rules for every call:
+ * - A slice is a pointer and then how many items it has. No pointer is null, not even one to no item.
+ * - What a call reads it may share with others. What it writes is the caller's alone while the call runs: no two of the
+ *   slices overlap where one of them is written.
+ * - Bit i of bytes is bit i % 8 of byte i / 8, the lowest first. Offsets and lengths of bits are in bits, and may be
+ *   any numbers; those of other slices are in items.
+ * - `out` of a call that writes bits has (length + 7) / 8 bytes, no more and no fewer. The bits are written from bit 0
+ *   on, and spare bits become 0.
+ * - The answer is one of the codes below. Where it is not ARROW2_OK, nothing was written.
+ * - Nothing is kept between calls, no call asks for memory, and calls may run on several threads at once.
+ */
+#ifndef ARROW2_PROVED_H
+#define ARROW2_PROVED_H
+
+#ifndef __cplusplus
+#include <stdbool.h>
+#endif
+#include <stddef.h>
+#include <stdint.h>
+
+#ifdef __cplusplus
+extern "C" {
+#endif
+
+/* The call did what it says. */
+#define ARROW2_OK 0u
+/* A place or a range is not inside, or a table has bits past its last answer. */
+#define ARROW2_RANGE 1u
+/* A slice has not as many items as the call needs. */
+#define ARROW2_LENGTH 2u
+/* A number is above the greatest offset. */
+#define ARROW2_OVERFLOW 3u
+/* Memory was refused. No call of this version answers it. */
+#define ARROW2_MEMORY 4u
+/* What should be offsets has no item, begins with a negative number, has a number that is below the one before it. */
+#define ARROW2_SPEC_EMPTY 5u
+#define ARROW2_SPEC_NEGATIVE 6u
+#define ARROW2_SPEC_FALLING 7u
+
+/* ---- Bits */
+
+/* Writes to `zeros` how many of the `length` bits from bit `offset` on are not set.
+ * ARROW2_RANGE: they are not inside the bytes. */
+uint32_t arrow2_count_zeros(const uint8_t *bytes, size_t bytes_count, size_t offset, size_t length, size_t *zeros);
+
+/* Writes to `value` whether bit `index` is set. ARROW2_RANGE: it is not inside the bytes. */
+uint32_t arrow2_get_bit(const uint8_t *bytes, size_t bytes_count, size_t index, bool *value);
+
+/* Writes `value` to bit `index`, and leaves every other bit as it was. ARROW2_RANGE: it is not inside the bytes. */
+uint32_t arrow2_set_bit(uint8_t *bytes, size_t bytes_count, size_t index, bool value);
+
+/* Copies the `length` bits from bit `offset` on over `out`.
+ * ARROW2_RANGE: they are not inside the bytes. Else ARROW2_LENGTH: `out` has another length. */
+uint32_t arrow2_copy_bits(const uint8_t *bytes, size_t bytes_count, size_t offset, size_t length, uint8_t *out,
+                          size_t out_count);
+
+/* ---- Truth tables
+ *
+ * Bit a1 + 2 * a2 + 4 * a3 + 8 * a4 of `table` is its answer for inputs a1 to a4: 8 is and, 14 or, 6 xor of two inputs,
+ * 1 is not. Each input is `length` bits from its offset on.
+ * ARROW2_RANGE: a table of one input is above 3, of two above 15, of three above 255, or an input is not inside its
+ * bytes. Else ARROW2_LENGTH: `out` has another length. */
+
+uint32_t arrow2_unary_table(const uint8_t *bytes, size_t bytes_count, size_t offset, size_t length, uint16_t table,
+                            uint8_t *out, size_t out_count);
+
+uint32_t arrow2_binary_table(const uint8_t *first, size_t first_count, size_t first_offset, const uint8_t *second,
+                             size_t second_count, size_t second_offset, size_t length, uint16_t table, uint8_t *out,
+                             size_t out_count);
+
+uint32_t arrow2_ternary_table(const uint8_t *first, size_t first_count, size_t first_offset, const uint8_t *second,
+                              size_t second_count, size_t second_offset, const uint8_t *third, size_t third_count,
+                              size_t third_offset, size_t length, uint16_t table, uint8_t *out, size_t out_count);
+
+uint32_t arrow2_quaternary_table(const uint8_t *first, size_t first_count, size_t first_offset, const uint8_t *second,
+                                 size_t second_count, size_t second_offset, const uint8_t *third, size_t third_count,
+                                 size_t third_offset, const uint8_t *fourth, size_t fourth_count, size_t fourth_offset,
+                                 size_t length, uint16_t table, uint8_t *out, size_t out_count);
+
+/* The same in place: the first input is the first `length` bits of `bytes`, which are (length + 7) / 8, and the answers
+ * are written over it. Codes as above; ARROW2_LENGTH: `bytes` has another length. */
+
+uint32_t arrow2_unary_assign_table(uint8_t *bytes, size_t bytes_count, size_t length, uint16_t table);
+
+uint32_t arrow2_binary_assign_table(uint8_t *bytes, size_t bytes_count, const uint8_t *second, size_t second_count,
+                                    size_t second_offset, size_t length, uint16_t table);
+
+uint32_t arrow2_ternary_assign_table(uint8_t *bytes, size_t bytes_count, const uint8_t *second, size_t second_count,
+                                     size_t second_offset, const uint8_t *third, size_t third_count,
+                                     size_t third_offset, size_t length, uint16_t table);
+
+uint32_t arrow2_quaternary_assign_table(uint8_t *bytes, size_t bytes_count, const uint8_t *second, size_t second_count,
+                                        size_t second_offset, const uint8_t *third, size_t third_count,
+                                        size_t third_offset, const uint8_t *fourth, size_t fourth_count,
+                                        size_t fourth_offset, size_t length, uint16_t table);
+
+/* ---- Kleene's logic
+ *
+ * Values beside their validity: an item is null where its validity bit is not set. Of both sides `length` items are
+ * read. `values` and `validity` get the answer, each as `out` above.
+ * ARROW2_RANGE: bits of one of the four are not inside. Else ARROW2_LENGTH: `values` or `validity` has another length. */
+
+/* Whether both are true: false where one of them is false, and null where that is not known. */
+uint32_t arrow2_and_kleene(const uint8_t *left, size_t left_count, size_t left_offset, const uint8_t *left_validity,
+                           size_t left_validity_count, size_t left_validity_offset, const uint8_t *right,
+                           size_t right_count, size_t right_offset, const uint8_t *right_validity,
+                           size_t right_validity_count, size_t right_validity_offset, size_t length, uint8_t *values,
+                           size_t values_count, uint8_t *validity, size_t validity_count);
+
+/* Whether one is true, or both: true where one of them is true, and null where that is not known. */
+uint32_t arrow2_or_kleene(const uint8_t *left, size_t left_count, size_t left_offset, const uint8_t *left_validity,
+                          size_t left_validity_count, size_t left_validity_offset, const uint8_t *right,
+                          size_t right_count, size_t right_offset, const uint8_t *right_validity,
+                          size_t right_validity_count, size_t right_validity_offset, size_t length, uint8_t *values,
+                          size_t values_count, uint8_t *validity, size_t validity_count);
+
+/* ---- Booleans, one byte each, 0 or 1 */
+
+/* Writes the booleans as bits over `out`, which has (items_count + 7) / 8 bytes. ARROW2_LENGTH: it has not. */
+uint32_t arrow2_pack(const bool *items, size_t items_count, uint8_t *out, size_t out_count);
+
+/* Writes as many bits as `out` has items, from bit `offset` on, as booleans. ARROW2_RANGE: they are not inside. */
+uint32_t arrow2_unpack(const uint8_t *bytes, size_t bytes_count, size_t offset, bool *out, size_t out_count);
+
+/* ---- Runs of set bits */
+
+/* Writes the runs of set bits among the `length` bits from bit `offset` on, from place `*at` of them on: each by its
+ * first place, counted from bit `offset` on, and its length, as many as fit. Writes to `count` how many these are, and
+ * to `at` where to go on. Begin with 0 in `at`; fewer than fit are the last ones.
+ * ARROW2_RANGE: the bits are not inside the bytes, or `*at` is above `length`. Else ARROW2_LENGTH: `starts` and
+ * `lengths` have not equally many items. */
+uint32_t arrow2_runs(const uint8_t *bytes, size_t bytes_count, size_t offset, size_t length, size_t *at, size_t *starts,
+                     size_t starts_count, size_t *lengths, size_t lengths_count, size_t *count);
+
+/* ---- Offsets of 32 and of 64 bits
+ *
+ * Offsets are at least one number, none negative and none below the one before it: slot i spans from offset i to offset
+ * i + 1. A call that is given numbers which are no offsets answers the first rule that they break, before any other
+ * code: ARROW2_SPEC_EMPTY, ARROW2_SPEC_NEGATIVE, ARROW2_SPEC_FALLING. */
+
+/* Whether the numbers are offsets. */
+uint32_t arrow2_offsets32_check(const int32_t *offsets, size_t offsets_count);
+uint32_t arrow2_offsets64_check(const int64_t *offsets, size_t offsets_count);
+
+/* Writes the length of each slot. ARROW2_LENGTH: `out` has not one item less than `offsets`. */
+uint32_t arrow2_offsets32_lengths(const int32_t *offsets, size_t offsets_count, size_t *out, size_t out_count);
+uint32_t arrow2_offsets64_lengths(const int64_t *offsets, size_t offsets_count, size_t *out, size_t out_count);
+
+/* Writes `start`, and behind it the running sums of the lengths.
+ * ARROW2_LENGTH: `out` has not one item more than `lengths`. Else ARROW2_OVERFLOW: `start` and all lengths, added up
+ * exactly, are above the greatest offset. */
+uint32_t arrow2_offsets32_from_lengths(size_t start, const size_t *lengths, size_t lengths_count, int32_t *out,
+                                       size_t out_count);
+uint32_t arrow2_offsets64_from_lengths(size_t start, const size_t *lengths, size_t lengths_count, int64_t *out,
+                                       size_t out_count);
+
+/* Writes as many offsets as `out` has, from offset `from` on, each less the first of them.
+ * ARROW2_LENGTH: `out` has no item. Else ARROW2_RANGE: they are not inside. */
+uint32_t arrow2_offsets32_from_zero(const int32_t *offsets, size_t offsets_count, size_t from, int32_t *out,
+                                    size_t out_count);
+uint32_t arrow2_offsets64_from_zero(const int64_t *offsets, size_t offsets_count, size_t from, int64_t *out,
+                                    size_t out_count);
+
+/* Writes the same numbers in the other width. ARROW2_LENGTH: `out` has another length than `offsets`.
+ * Else, where they are narrowed, ARROW2_OVERFLOW: the last one is above 2147483647. */
+uint32_t arrow2_offsets_widen(const int32_t *offsets, size_t offsets_count, int64_t *out, size_t out_count);
+uint32_t arrow2_offsets_narrow(const int64_t *offsets, size_t offsets_count, int32_t *out, size_t out_count);
+
+#ifdef __cplusplus
+}
+#endif
+
+#endif

@@ -1,0 +1,49 @@
+//! Bits of bytes.
+
+use crate::refusal::{Refusal, told};
+use crate::sys;
+
+/// How many of the `length` bits from bit `offset` on are not set.
+///
+/// # Errors
+///
+/// [`Refusal::Range`] exactly where they are not inside the bytes.
+pub fn count_zeros(bytes: &[u8], offset: usize, length: usize) -> Result<usize, Refusal> {
+    let mut zeros = 0;
+    // The slice and the number are borrowed for the call, and it keeps neither.
+    told(unsafe { sys::arrow2_count_zeros(bytes.as_ptr(), bytes.len(), offset, length, &mut zeros) })?;
+    Ok(zeros)
+}
+
+/// Whether bit `index` is set.
+///
+/// # Errors
+///
+/// [`Refusal::Range`] exactly where it is not inside the bytes.
+pub fn get_bit(bytes: &[u8], index: usize) -> Result<bool, Refusal> {
+    let mut value = false;
+    // The slice and the boolean are borrowed for the call, and it keeps neither.
+    told(unsafe { sys::arrow2_get_bit(bytes.as_ptr(), bytes.len(), index, &mut value) })?;
+    Ok(value)
+}
+
+/// Writes `value` to bit `index`, and leaves every other bit as it was.
+///
+/// # Errors
+///
+/// [`Refusal::Range`] exactly where it is not inside the bytes.
+pub fn set_bit(bytes: &mut [u8], index: usize, value: bool) -> Result<(), Refusal> {
+    // The slice is borrowed for the call, and it does not keep it.
+    told(unsafe { sys::arrow2_set_bit(bytes.as_mut_ptr(), bytes.len(), index, value) })
+}
+
+/// Copies the `length` bits from bit `offset` on over `out`, from bit 0 on. Spare bits become 0.
+///
+/// # Errors
+///
+/// [`Refusal::Range`] exactly where they are not inside the bytes, else [`Refusal::Length`] exactly where `out` has
+/// not [`crate::bytes_for`] that many bytes.
+pub fn copy_bits(bytes: &[u8], offset: usize, length: usize, out: &mut [u8]) -> Result<(), Refusal> {
+    // The slices are borrowed for the call, one of them alone, and it keeps neither.
+    told(unsafe { sys::arrow2_copy_bits(bytes.as_ptr(), bytes.len(), offset, length, out.as_mut_ptr(), out.len()) })
+}

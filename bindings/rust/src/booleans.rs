@@ -1,0 +1,26 @@
+//! Booleans, one byte each, as bits and back.
+
+use crate::Bits;
+use crate::refusal::{Refusal, told};
+use crate::sys;
+
+/// Writes the booleans as bits over `out`, from bit 0 on. Spare bits become 0.
+///
+/// # Errors
+///
+/// [`Refusal::Length`] exactly where `out` has not [`crate::bytes_for`] that many bytes.
+pub fn pack(items: &[bool], out: &mut [u8]) -> Result<(), Refusal> {
+    // The slices are borrowed for the call, `out` alone, and it keeps none.
+    told(unsafe { sys::arrow2_pack(items.as_ptr(), items.len(), out.as_mut_ptr(), out.len()) })
+}
+
+/// Writes as many bits as `out` has items as booleans.
+///
+/// # Errors
+///
+/// [`Refusal::Range`] exactly where they are not inside.
+pub fn unpack(bits: Bits<'_>, out: &mut [bool]) -> Result<(), Refusal> {
+    let Bits { bytes, offset } = bits;
+    // The slices are borrowed for the call, `out` alone, and it keeps none.
+    told(unsafe { sys::arrow2_unpack(bytes.as_ptr(), bytes.len(), offset, out.as_mut_ptr(), out.len()) })
+}

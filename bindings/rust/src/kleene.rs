@@ -1,0 +1,69 @@
+//! Kleene's logic on values beside their validity.
+
+use crate::Bits;
+use crate::refusal::{Refusal, told};
+use crate::sys;
+
+/// Values beside their validity: an item is null where its validity bit is not set.
+#[derive(Clone, Copy, Debug)]
+pub struct Nullable<'a> {
+    /// The values.
+    pub values: Bits<'a>,
+    /// Which of them are not null.
+    pub validity: Bits<'a>,
+}
+
+/// The calls of both operators.
+macro_rules! operator {
+    ($(#[$doc:meta])* $name:ident, $export:ident) => {
+        $(#[$doc])*
+        ///
+        /// # Errors
+        ///
+        /// [`Refusal::Range`] exactly where bits of one of the four are not inside, else [`Refusal::Length`] exactly
+        /// where `values` or `validity` has not [`crate::bytes_for`] that many bytes.
+        pub fn $name(
+            left: Nullable<'_>,
+            right: Nullable<'_>,
+            length: usize,
+            values: &mut [u8],
+            validity: &mut [u8],
+        ) -> Result<(), Refusal> {
+            // The slices are borrowed for the call, the last two alone, and it keeps none.
+            told(unsafe {
+                sys::$export(
+                    left.values.bytes.as_ptr(),
+                    left.values.bytes.len(),
+                    left.values.offset,
+                    left.validity.bytes.as_ptr(),
+                    left.validity.bytes.len(),
+                    left.validity.offset,
+                    right.values.bytes.as_ptr(),
+                    right.values.bytes.len(),
+                    right.values.offset,
+                    right.validity.bytes.as_ptr(),
+                    right.validity.bytes.len(),
+                    right.validity.offset,
+                    length,
+                    values.as_mut_ptr(),
+                    values.len(),
+                    validity.as_mut_ptr(),
+                    validity.len(),
+                )
+            })
+        }
+    };
+}
+
+operator!(
+    /// Writes, item by item, whether both are true: false where one of them is false, and null where that is not known.
+    and_kleene,
+    arrow2_and_kleene
+);
+
+operator!(
+    /// Writes, item by item, whether one is true, or both: true where one of them is true, and null where that is not
+    /// known.
+    or_kleene,
+    arrow2_or_kleene
+);

@@ -1,0 +1,56 @@
+//! The memory layer under Apache Arrow arrays, over slices that are the caller's: bits, truth tables, offsets.
+//!
+//! What each call answers is proved of the library that it calls (`docs/BINDINGS.md`). This crate adds what Rust knows
+//! of slices: no pointer is null, and what is written overlaps nothing that is read.
+//!
+//! Bit `i` of bytes is bit `i % 8` of byte `i / 8`, the lowest first. Lengths and offsets of bits are in bits, and may
+//! be any numbers. A call that refuses has written nothing. No call asks for memory, and none panics.
+//!
+//! ```
+//! use arrow2_proved::{Bits, binary_table, count_zeros};
+//!
+//! let values = Bits { bytes: &[0b0110_1100], offset: 2 };
+//! let others = Bits { bytes: &[0b0000_0011], offset: 0 };
+//! let mut both = [0];
+//! binary_table(values, others, 4, arrow2_proved::AND, &mut both)?;
+//! assert_eq!(both, [0b0000_0011]);
+//! assert_eq!(count_zeros(&both, 0, 4)?, 2);
+//! # Ok::<(), arrow2_proved::Refusal>(())
+//! ```
+#![no_std]
+#![deny(missing_docs)]
+
+mod bits;
+mod booleans;
+mod kleene;
+mod offsets;
+mod refusal;
+mod runs;
+mod sys;
+mod tables;
+
+pub use bits::{copy_bits, count_zeros, get_bit, set_bit};
+pub use booleans::{pack, unpack};
+pub use kleene::{Nullable, and_kleene, or_kleene};
+pub use offsets::{Offset, narrow, widen};
+pub use refusal::Refusal;
+pub use runs::runs;
+pub use tables::{
+    AND, NOT, OR, XOR, binary_assign_table, binary_table, quaternary_assign_table, quaternary_table,
+    ternary_assign_table, ternary_table, unary_assign_table, unary_table,
+};
+
+/// Bits of bytes from a bit offset on.
+#[derive(Clone, Copy, Debug)]
+pub struct Bits<'a> {
+    /// The bytes.
+    pub bytes: &'a [u8],
+    /// The bit at which they begin.
+    pub offset: usize,
+}
+
+/// How many bytes hold so many bits: an eighth, rounded up.
+#[must_use]
+pub const fn bytes_for(bits: usize) -> usize {
+    bits.div_ceil(8)
+}

@@ -1,0 +1,106 @@
+//! Offsets of 32 and of 64 bits.
+
+use crate::refusal::{Refusal, told};
+use crate::sys;
+
+mod sealed {
+    pub trait Sealed {}
+    impl Sealed for i32 {}
+    impl Sealed for i64 {}
+}
+
+/// A number that an offset may be: `i32` or `i64`.
+///
+/// Offsets are at least one number, none negative and none below the one before it: slot `i` spans from offset `i` to
+/// offset `i + 1`. Each call on numbers that are no offsets answers [`Refusal::NoOffset`],
+/// [`Refusal::NegativeOffset`] or [`Refusal::FallingOffsets`]: the first rule that they break, before any other error.
+pub trait Offset: sealed::Sealed + Copy {
+    /// Whether the numbers are offsets.
+    ///
+    /// # Errors
+    ///
+    /// The first rule that they break.
+    fn check(offsets: &[Self]) -> Result<(), Refusal>;
+
+    /// Writes the length of each slot.
+    ///
+    /// # Errors
+    ///
+    /// The first rule that the numbers break, else [`Refusal::Length`] exactly where `out` has not one item less.
+    fn lengths(offsets: &[Self], out: &mut [usize]) -> Result<(), Refusal>;
+
+    /// Writes `start`, and behind it the running sums of the lengths.
+    ///
+    /// # Errors
+    ///
+    /// [`Refusal::Length`] exactly where `out` has not one item more than `lengths`, else [`Refusal::Overflow`]
+    /// exactly where `start` and all lengths together are above the greatest offset.
+    fn from_lengths(start: usize, lengths: &[usize], out: &mut [Self]) -> Result<(), Refusal>;
+
+    /// Writes as many offsets as `out` has, from offset `from` on, each less the first of them.
+    ///
+    /// # Errors
+    ///
+    /// The first rule that the numbers break, else [`Refusal::Length`] exactly where `out` has no item, else
+    /// [`Refusal::Range`] exactly where they are not inside.
+    fn from_zero(offsets: &[Self], from: usize, out: &mut [Self]) -> Result<(), Refusal>;
+}
+
+/// The calls of one width.
+macro_rules! offset {
+    ($width:ty, $check:ident, $lengths:ident, $from_lengths:ident, $from_zero:ident) => {
+        // Each slice is borrowed for the call, what is written alone, and no call keeps one.
+        impl Offset for $width {
+            fn check(offsets: &[Self]) -> Result<(), Refusal> {
+                told(unsafe { sys::$check(offsets.as_ptr(), offsets.len()) })
+            }
+
+            fn lengths(offsets: &[Self], out: &mut [usize]) -> Result<(), Refusal> {
+                told(unsafe { sys::$lengths(offsets.as_ptr(), offsets.len(), out.as_mut_ptr(), out.len()) })
+            }
+
+            fn from_lengths(start: usize, lengths: &[usize], out: &mut [Self]) -> Result<(), Refusal> {
+                told(unsafe { sys::$from_lengths(start, lengths.as_ptr(), lengths.len(), out.as_mut_ptr(), out.len()) })
+            }
+
+            fn from_zero(offsets: &[Self], from: usize, out: &mut [Self]) -> Result<(), Refusal> {
+                told(unsafe { sys::$from_zero(offsets.as_ptr(), offsets.len(), from, out.as_mut_ptr(), out.len()) })
+            }
+        }
+    };
+}
+
+offset!(
+    i32,
+    arrow2_offsets32_check,
+    arrow2_offsets32_lengths,
+    arrow2_offsets32_from_lengths,
+    arrow2_offsets32_from_zero
+);
+offset!(
+    i64,
+    arrow2_offsets64_check,
+    arrow2_offsets64_lengths,
+    arrow2_offsets64_from_lengths,
+    arrow2_offsets64_from_zero
+);
+
+/// Writes the same offsets, in 64 bits each.
+///
+/// # Errors
+///
+/// The first rule that the numbers break, else [`Refusal::Length`] exactly where `out` has another length.
+pub fn widen(offsets: &[i32], out: &mut [i64]) -> Result<(), Refusal> {
+    // The slices are borrowed for the call, `out` alone, and it keeps none.
+    told(unsafe { sys::arrow2_offsets_widen(offsets.as_ptr(), offsets.len(), out.as_mut_ptr(), out.len()) })
+}
+
+/// Writes the same offsets, in 32 bits each.
+///
+/// # Errors
+///
+/// As [`widen`], else [`Refusal::Overflow`] exactly where the last offset is above `i32::MAX`.
+pub fn narrow(offsets: &[i64], out: &mut [i32]) -> Result<(), Refusal> {
+    // The slices are borrowed for the call, `out` alone, and it keeps none.
+    told(unsafe { sys::arrow2_offsets_narrow(offsets.as_ptr(), offsets.len(), out.as_mut_ptr(), out.len()) })
+}

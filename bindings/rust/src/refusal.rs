@@ -1,0 +1,53 @@
+//! Why a call refuses.
+
+use core::fmt;
+
+/// Why a call refused. Nothing was written.
+#[derive(Clone, Copy, Debug, PartialEq, Eq)]
+pub enum Refusal {
+    /// A place or a range is not inside, or a table has bits past its last answer.
+    Range,
+    /// A slice has not as many items as the call needs.
+    Length,
+    /// A number is above the greatest offset.
+    Overflow,
+    /// Memory was refused. No call of this version answers it.
+    Memory,
+    /// What should be offsets has no item.
+    NoOffset,
+    /// What should be offsets begins with a negative number.
+    NegativeOffset,
+    /// What should be offsets has a number that is below the one before it.
+    FallingOffsets,
+}
+
+impl fmt::Display for Refusal {
+    fn fmt(&self, f: &mut fmt::Formatter<'_>) -> fmt::Result {
+        f.write_str(match self {
+            Refusal::Range => "a place, a range or a table is not inside",
+            Refusal::Length => "a slice has another length than the call needs",
+            Refusal::Overflow => "a number is above the greatest offset",
+            Refusal::Memory => "out of memory",
+            Refusal::NoOffset => "offsets must have at least one element",
+            Refusal::NegativeOffset => "offsets must be larger than 0",
+            Refusal::FallingOffsets => "offsets must be monotonically increasing",
+        })
+    }
+}
+
+impl core::error::Error for Refusal {}
+
+/// What a code of the library says.
+pub(crate) fn told(code: u32) -> Result<(), Refusal> {
+    match code {
+        0 => Ok(()),
+        2 => Err(Refusal::Length),
+        3 => Err(Refusal::Overflow),
+        4 => Err(Refusal::Memory),
+        5 => Err(Refusal::NoOffset),
+        6 => Err(Refusal::NegativeOffset),
+        7 => Err(Refusal::FallingOffsets),
+        // 1. The library has no other codes.
+        _ => Err(Refusal::Range),
+    }
+}

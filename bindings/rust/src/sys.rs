@@ -1,0 +1,192 @@
+//! The library's exports, as `arrow2_proved.h` declares them.
+
+unsafe extern "C" {
+    pub fn arrow2_count_zeros(bytes: *const u8, count: usize, offset: usize, length: usize, zeros: *mut usize) -> u32;
+    pub fn arrow2_get_bit(bytes: *const u8, count: usize, index: usize, value: *mut bool) -> u32;
+    pub fn arrow2_set_bit(bytes: *mut u8, count: usize, index: usize, value: bool) -> u32;
+    pub fn arrow2_copy_bits(
+        bytes: *const u8,
+        count: usize,
+        offset: usize,
+        length: usize,
+        out: *mut u8,
+        out_count: usize,
+    ) -> u32;
+    pub fn arrow2_unary_table(
+        bytes: *const u8,
+        count: usize,
+        offset: usize,
+        length: usize,
+        table: u16,
+        out: *mut u8,
+        out_count: usize,
+    ) -> u32;
+    pub fn arrow2_binary_table(
+        first: *const u8,
+        first_count: usize,
+        first_offset: usize,
+        second: *const u8,
+        second_count: usize,
+        second_offset: usize,
+        length: usize,
+        table: u16,
+        out: *mut u8,
+        out_count: usize,
+    ) -> u32;
+    pub fn arrow2_ternary_table(
+        first: *const u8,
+        first_count: usize,
+        first_offset: usize,
+        second: *const u8,
+        second_count: usize,
+        second_offset: usize,
+        third: *const u8,
+        third_count: usize,
+        third_offset: usize,
+        length: usize,
+        table: u16,
+        out: *mut u8,
+        out_count: usize,
+    ) -> u32;
+    pub fn arrow2_quaternary_table(
+        first: *const u8,
+        first_count: usize,
+        first_offset: usize,
+        second: *const u8,
+        second_count: usize,
+        second_offset: usize,
+        third: *const u8,
+        third_count: usize,
+        third_offset: usize,
+        fourth: *const u8,
+        fourth_count: usize,
+        fourth_offset: usize,
+        length: usize,
+        table: u16,
+        out: *mut u8,
+        out_count: usize,
+    ) -> u32;
+    pub fn arrow2_unary_assign_table(bytes: *mut u8, count: usize, length: usize, table: u16) -> u32;
+    pub fn arrow2_binary_assign_table(
+        bytes: *mut u8,
+        count: usize,
+        second: *const u8,
+        second_count: usize,
+        second_offset: usize,
+        length: usize,
+        table: u16,
+    ) -> u32;
+    pub fn arrow2_ternary_assign_table(
+        bytes: *mut u8,
+        count: usize,
+        second: *const u8,
+        second_count: usize,
+        second_offset: usize,
+        third: *const u8,
+        third_count: usize,
+        third_offset: usize,
+        length: usize,
+        table: u16,
+    ) -> u32;
+    pub fn arrow2_quaternary_assign_table(
+        bytes: *mut u8,
+        count: usize,
+        second: *const u8,
+        second_count: usize,
+        second_offset: usize,
+        third: *const u8,
+        third_count: usize,
+        third_offset: usize,
+        fourth: *const u8,
+        fourth_count: usize,
+        fourth_offset: usize,
+        length: usize,
+        table: u16,
+    ) -> u32;
+    pub fn arrow2_offsets32_check(offsets: *const i32, count: usize) -> u32;
+    pub fn arrow2_offsets64_check(offsets: *const i64, count: usize) -> u32;
+    pub fn arrow2_offsets32_lengths(offsets: *const i32, count: usize, out: *mut usize, out_count: usize) -> u32;
+    pub fn arrow2_offsets64_lengths(offsets: *const i64, count: usize, out: *mut usize, out_count: usize) -> u32;
+    pub fn arrow2_offsets32_from_lengths(
+        start: usize,
+        lengths: *const usize,
+        count: usize,
+        out: *mut i32,
+        out_count: usize,
+    ) -> u32;
+    pub fn arrow2_offsets64_from_lengths(
+        start: usize,
+        lengths: *const usize,
+        count: usize,
+        out: *mut i64,
+        out_count: usize,
+    ) -> u32;
+    pub fn arrow2_offsets32_from_zero(
+        offsets: *const i32,
+        count: usize,
+        from: usize,
+        out: *mut i32,
+        out_count: usize,
+    ) -> u32;
+    pub fn arrow2_offsets64_from_zero(
+        offsets: *const i64,
+        count: usize,
+        from: usize,
+        out: *mut i64,
+        out_count: usize,
+    ) -> u32;
+    pub fn arrow2_offsets_widen(offsets: *const i32, count: usize, out: *mut i64, out_count: usize) -> u32;
+    pub fn arrow2_offsets_narrow(offsets: *const i64, count: usize, out: *mut i32, out_count: usize) -> u32;
+    pub fn arrow2_runs(
+        bytes: *const u8,
+        count: usize,
+        offset: usize,
+        length: usize,
+        at: *mut usize,
+        starts: *mut usize,
+        starts_count: usize,
+        lengths: *mut usize,
+        lengths_count: usize,
+        written: *mut usize,
+    ) -> u32;
+    pub fn arrow2_pack(items: *const bool, count: usize, out: *mut u8, out_count: usize) -> u32;
+    pub fn arrow2_unpack(bytes: *const u8, count: usize, offset: usize, out: *mut bool, out_count: usize) -> u32;
+    pub fn arrow2_and_kleene(
+        left: *const u8,
+        left_count: usize,
+        left_offset: usize,
+        left_validity: *const u8,
+        left_validity_count: usize,
+        left_validity_offset: usize,
+        right: *const u8,
+        right_count: usize,
+        right_offset: usize,
+        right_validity: *const u8,
+        right_validity_count: usize,
+        right_validity_offset: usize,
+        length: usize,
+        values: *mut u8,
+        values_count: usize,
+        validity: *mut u8,
+        validity_count: usize,
+    ) -> u32;
+    pub fn arrow2_or_kleene(
+        left: *const u8,
+        left_count: usize,
+        left_offset: usize,
+        left_validity: *const u8,
+        left_validity_count: usize,
+        left_validity_offset: usize,
+        right: *const u8,
+        right_count: usize,
+        right_offset: usize,
+        right_validity: *const u8,
+        right_validity_count: usize,
+        right_validity_offset: usize,
+        length: usize,
+        values: *mut u8,
+        values_count: usize,
+        validity: *mut u8,
+        validity_count: usize,
+    ) -> u32;
+}

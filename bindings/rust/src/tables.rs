@@ -1,0 +1,225 @@
+//! Truth tables over bits.
+//!
+//! Bit `a1 + 2 * a2 + 4 * a3 + 8 * a4` of a table is its answer for inputs `a1` to `a4`.
+
+use crate::Bits;
+use crate::refusal::{Refusal, told};
+use crate::sys;
+
+/// The table of one input that answers its opposite.
+pub const NOT: u16 = 0b01;
+
+/// The table of two inputs that answers whether both are set.
+pub const AND: u16 = 0b1000;
+
+/// The table of two inputs that answers whether one is set, or both.
+pub const OR: u16 = 0b1110;
+
+/// The table of two inputs that answers whether one is set, and not both.
+pub const XOR: u16 = 0b0110;
+
+/// Writes the answers of `table` for `length` bits of the input over `out`, from bit 0 on. Spare bits become 0.
+///
+/// # Errors
+///
+/// [`Refusal::Range`] exactly where `table` is above 3 or the bits are not inside, else [`Refusal::Length`] exactly
+/// where `out` has not [`crate::bytes_for`] that many bytes.
+pub fn unary_table(input: Bits<'_>, length: usize, table: u16, out: &mut [u8]) -> Result<(), Refusal> {
+    let Bits { bytes, offset } = input;
+    // The slices are borrowed for the call, `out` alone, and it keeps none.
+    told(unsafe {
+        sys::arrow2_unary_table(bytes.as_ptr(), bytes.len(), offset, length, table, out.as_mut_ptr(), out.len())
+    })
+}
+
+/// The same of two inputs.
+///
+/// # Errors
+///
+/// As [`unary_table`], but where `table` is above 15.
+pub fn binary_table(
+    first: Bits<'_>,
+    second: Bits<'_>,
+    length: usize,
+    table: u16,
+    out: &mut [u8],
+) -> Result<(), Refusal> {
+    // The slices are borrowed for the call, `out` alone, and it keeps none.
+    told(unsafe {
+        sys::arrow2_binary_table(
+            first.bytes.as_ptr(),
+            first.bytes.len(),
+            first.offset,
+            second.bytes.as_ptr(),
+            second.bytes.len(),
+            second.offset,
+            length,
+            table,
+            out.as_mut_ptr(),
+            out.len(),
+        )
+    })
+}
+
+/// The same of three inputs.
+///
+/// # Errors
+///
+/// As [`unary_table`], but where `table` is above 255.
+pub fn ternary_table(
+    first: Bits<'_>,
+    second: Bits<'_>,
+    third: Bits<'_>,
+    length: usize,
+    table: u16,
+    out: &mut [u8],
+) -> Result<(), Refusal> {
+    // The slices are borrowed for the call, `out` alone, and it keeps none.
+    told(unsafe {
+        sys::arrow2_ternary_table(
+            first.bytes.as_ptr(),
+            first.bytes.len(),
+            first.offset,
+            second.bytes.as_ptr(),
+            second.bytes.len(),
+            second.offset,
+            third.bytes.as_ptr(),
+            third.bytes.len(),
+            third.offset,
+            length,
+            table,
+            out.as_mut_ptr(),
+            out.len(),
+        )
+    })
+}
+
+/// The same of four inputs.
+///
+/// # Errors
+///
+/// As [`unary_table`], but every table will do.
+pub fn quaternary_table(
+    first: Bits<'_>,
+    second: Bits<'_>,
+    third: Bits<'_>,
+    fourth: Bits<'_>,
+    length: usize,
+    table: u16,
+    out: &mut [u8],
+) -> Result<(), Refusal> {
+    // The slices are borrowed for the call, `out` alone, and it keeps none.
+    told(unsafe {
+        sys::arrow2_quaternary_table(
+            first.bytes.as_ptr(),
+            first.bytes.len(),
+            first.offset,
+            second.bytes.as_ptr(),
+            second.bytes.len(),
+            second.offset,
+            third.bytes.as_ptr(),
+            third.bytes.len(),
+            third.offset,
+            fourth.bytes.as_ptr(),
+            fourth.bytes.len(),
+            fourth.offset,
+            length,
+            table,
+            out.as_mut_ptr(),
+            out.len(),
+        )
+    })
+}
+
+/// Writes the answers of `table` for the first `length` bits of `bytes` in their place. Spare bits become 0.
+///
+/// # Errors
+///
+/// [`Refusal::Range`] exactly where `table` is above 3, else [`Refusal::Length`] exactly where `bytes` has not
+/// [`crate::bytes_for`] that many bytes.
+pub fn unary_assign_table(bytes: &mut [u8], length: usize, table: u16) -> Result<(), Refusal> {
+    // The slice is borrowed for the call, alone, and it does not keep it.
+    told(unsafe { sys::arrow2_unary_assign_table(bytes.as_mut_ptr(), bytes.len(), length, table) })
+}
+
+/// The same of two inputs: the first `length` bits of `bytes`, and as many of `second`.
+///
+/// # Errors
+///
+/// As [`unary_assign_table`], but where `table` is above 15 or bits of `second` are not inside.
+pub fn binary_assign_table(bytes: &mut [u8], second: Bits<'_>, length: usize, table: u16) -> Result<(), Refusal> {
+    // The slices are borrowed for the call, `bytes` alone, and it keeps none.
+    told(unsafe {
+        sys::arrow2_binary_assign_table(
+            bytes.as_mut_ptr(),
+            bytes.len(),
+            second.bytes.as_ptr(),
+            second.bytes.len(),
+            second.offset,
+            length,
+            table,
+        )
+    })
+}
+
+/// The same of three inputs.
+///
+/// # Errors
+///
+/// As [`unary_assign_table`], but where `table` is above 255 or bits of the others are not inside.
+pub fn ternary_assign_table(
+    bytes: &mut [u8],
+    second: Bits<'_>,
+    third: Bits<'_>,
+    length: usize,
+    table: u16,
+) -> Result<(), Refusal> {
+    // The slices are borrowed for the call, `bytes` alone, and it keeps none.
+    told(unsafe {
+        sys::arrow2_ternary_assign_table(
+            bytes.as_mut_ptr(),
+            bytes.len(),
+            second.bytes.as_ptr(),
+            second.bytes.len(),
+            second.offset,
+            third.bytes.as_ptr(),
+            third.bytes.len(),
+            third.offset,
+            length,
+            table,
+        )
+    })
+}
+
+/// The same of four inputs.
+///
+/// # Errors
+///
+/// As [`unary_assign_table`], but every table will do, and where bits of the others are not inside.
+pub fn quaternary_assign_table(
+    bytes: &mut [u8],
+    second: Bits<'_>,
+    third: Bits<'_>,
+    fourth: Bits<'_>,
+    length: usize,
+    table: u16,
+) -> Result<(), Refusal> {
+    // The slices are borrowed for the call, `bytes` alone, and it keeps none.
+    told(unsafe {
+        sys::arrow2_quaternary_assign_table(
+            bytes.as_mut_ptr(),
+            bytes.len(),
+            second.bytes.as_ptr(),
+            second.bytes.len(),
+            second.offset,
+            third.bytes.as_ptr(),
+            third.bytes.len(),
+            third.offset,
+            fourth.bytes.as_ptr(),
+            fourth.bytes.len(),
+            fourth.offset,
+            length,
+            table,
+        )
+    })
+}

@@ -1,0 +1,326 @@
+//! Each call beside a plain loop, on random inputs.
+
+mod inputs;
+
+use arrow2_proved::{
+    Bits, Nullable, Offset, Refusal, and_kleene, binary_assign_table, binary_table, bytes_for, copy_bits, count_zeros,
+    get_bit, narrow, or_kleene, pack, quaternary_assign_table, quaternary_table, runs, set_bit, ternary_assign_table,
+    ternary_table, unary_assign_table, unary_table, unpack, widen,
+};
+use inputs::{Random, part, written};
+
+/// How many random inputs each call gets.
+const INPUTS: usize = 10_000;
+
+#[test]
+fn counts() {
+    let mut random = Random::new(1);
+    for _ in 0..INPUTS {
+        let bytes = random.bytes();
+        let (offset, length) = random.range(&bytes);
+        let expected = part(&bytes, offset, length).map(|bits| bits.iter().filter(|bit| !**bit).count());
+        assert_eq!(count_zeros(&bytes, offset, length), expected);
+    }
+}
+
+#[test]
+fn single_bits() {
+    let mut random = Random::new(2);
+    for _ in 0..INPUTS {
+        let mut bytes = random.bytes();
+        let index = random.place(&bytes);
+        let value = random.flag();
+        let before = part(&bytes, 0, 8 * bytes.len()).unwrap();
+        assert_eq!(get_bit(&bytes, index), before.get(index).copied().ok_or(Refusal::Range));
+        let mut after = before.clone();
+        let set = set_bit(&mut bytes, index, value);
+        match after.get_mut(index) {
+            Some(bit) => {
+                *bit = value;
+                assert_eq!(set, Ok(()));
+            }
+            None => assert_eq!(set, Err(Refusal::Range)),
+        }
+        assert_eq!(part(&bytes, 0, 8 * bytes.len()).unwrap(), after);
+    }
+}
+
+#[test]
+fn copies() {
+    let mut random = Random::new(3);
+    for _ in 0..INPUTS {
+        let bytes = random.bytes();
+        let (offset, length) = random.range(&bytes);
+        let mut out = random.out(length);
+        let expected = written(part(&bytes, offset, length), length, &out);
+        let answer = copy_bits(&bytes, offset, length, &mut out);
+        assert_eq!((answer, out), expected);
+    }
+}
+
+/// The answers of a table for as many inputs as it is given.
+fn answers(table: u16, inputs: &[Vec<bool>], length: usize) -> Vec<bool> {
+    let answer = |place: usize| {
+        let bits = inputs.iter().enumerate();
+        let index: usize = bits.map(|(input, bits)| usize::from(bits[place]) << input).sum();
+        table >> index & 1 == 1
+    };
+    (0..length).map(answer).collect()
+}
+
+/// What a table of `count` inputs answers, or why it refuses.
+fn expected(table: u16, inputs: &[Bits<'_>], length: usize) -> Result<Vec<bool>, Refusal> {
+    let most = [3, 15, 255, u16::MAX][inputs.len() - 1];
+    if table > most {
+        return Err(Refusal::Range);
+    }
+    let lists: Result<Vec<_>, _> = inputs.iter().map(|bits| part(bits.bytes, bits.offset, length)).collect();
+    Ok(answers(table, &lists?, length))
+}
+
+#[test]
+fn tables() {
+    let mut random = Random::new(4);
+    for _ in 0..INPUTS {
+        let stored: Vec<Vec<u8>> = (0..4).map(|_| random.bytes()).collect();
+        let length = random.common_length(&stored);
+        let inputs: Vec<Bits<'_>> =
+            stored.iter().map(|bytes| Bits { bytes, offset: random.offset(bytes, length) }).collect();
+        for count in 1..=4 {
+            let table = random.table(count as u32);
+            let mut out = random.out(length);
+            let told = written(expected(table, &inputs[..count], length), length, &out);
+            let answer = match count {
+                1 => unary_table(inputs[0], length, table, &mut out),
+                2 => binary_table(inputs[0], inputs[1], length, table, &mut out),
+                3 => ternary_table(inputs[0], inputs[1], inputs[2], length, table, &mut out),
+                _ => quaternary_table(inputs[0], inputs[1], inputs[2], inputs[3], length, table, &mut out),
+            };
+            assert_eq!((answer, out), told, "{count} inputs");
+        }
+    }
+}
+
+#[test]
+fn tables_in_place() {
+    let mut random = Random::new(5);
+    for _ in 0..INPUTS {
+        let stored: Vec<Vec<u8>> = (0..3).map(|_| random.bytes()).collect();
+        let length = random.common_length(&stored);
+        let others: Vec<Bits<'_>> =
+            stored.iter().map(|bytes| Bits { bytes, offset: random.offset(bytes, length) }).collect();
+        for count in 1..=4 {
+            let table = random.table(count as u32);
+            let mut out = random.out(length);
+            // Bytes of another length are refused by it, after all ranges.
+            let own = if out.len() == bytes_for(length) { out.clone() } else { vec![0; bytes_for(length)] };
+            let mut inputs = vec![Bits { bytes: &own, offset: 0 }];
+            inputs.extend(&others[..count - 1]);
+            let told = written(expected(table, &inputs, length), length, &out);
+            let answer = match count {
+                1 => unary_assign_table(&mut out, length, table),
+                2 => binary_assign_table(&mut out, others[0], length, table),
+                3 => ternary_assign_table(&mut out, others[0], others[1], length, table),
+                _ => quaternary_assign_table(&mut out, others[0], others[1], others[2], length, table),
+            };
+            assert_eq!((answer, out), told, "{count} inputs");
+        }
+    }
+}
+
+/// The first rule that the numbers break.
+fn rule(offsets: &[i128]) -> Result<(), Refusal> {
+    match offsets {
+        [] => Err(Refusal::NoOffset),
+        [first, ..] if *first < 0 => Err(Refusal::NegativeOffset),
+        _ if offsets.windows(2).any(|pair| pair[0] > pair[1]) => Err(Refusal::FallingOffsets),
+        _ => Ok(()),
+    }
+}
+
+/// All calls on offsets of one width.
+fn offsets<O: Offset + Into<i128> + TryFrom<i128> + Default + PartialEq + std::fmt::Debug>(greatest: i128, seed: u64) {
+    let mut random = Random::new(seed);
+    for _ in 0..INPUTS {
+        let numbers = random.numbers(greatest);
+        let offsets: Vec<O> = numbers.iter().map(|n| O::try_from(*n).ok().unwrap()).collect();
+        assert_eq!(O::check(&offsets), rule(&numbers));
+
+        let mut lengths = vec![7; random.near(numbers.len().saturating_sub(1))];
+        let told = rule(&numbers)
+            .and_then(|()| if lengths.len() + 1 == numbers.len() { Ok(()) } else { Err(Refusal::Length) });
+        let spans: Vec<usize> = numbers.windows(2).map(|pair| (pair[1] - pair[0]) as usize).collect();
+        let wanted = if told.is_ok() { spans } else { lengths.clone() };
+        assert_eq!((O::lengths(&offsets, &mut lengths), &lengths), (told, &wanted));
+
+        let start = random.below(5);
+        let mut sums = vec![O::default(); random.near(lengths.len() + 1)];
+        let mut wanted = vec![start as i128];
+        wanted.extend(lengths.iter().scan(start as i128, |sum, length| {
+            *sum += *length as i128;
+            Some(*sum)
+        }));
+        let told = match wanted.last() {
+            _ if sums.len() != lengths.len() + 1 => Err(Refusal::Length),
+            Some(last) if *last > greatest => Err(Refusal::Overflow),
+            _ => Ok(()),
+        };
+        let untouched: Vec<i128> = vec![0; sums.len()];
+        assert_eq!(O::from_lengths(start, &lengths, &mut sums), told);
+        let sums: Vec<i128> = sums.into_iter().map(Into::into).collect();
+        assert_eq!(sums, if told.is_ok() { wanted } else { untouched });
+
+        let from = random.below(numbers.len() + 2);
+        let mut moved = vec![O::default(); random.below(numbers.len() + 2)];
+        let told = rule(&numbers).and_then(|()| match moved.len() {
+            0 => Err(Refusal::Length),
+            count if from + count > numbers.len() => Err(Refusal::Range),
+            _ => Ok(()),
+        });
+        assert_eq!(O::from_zero(&offsets, from, &mut moved), told);
+        let moved: Vec<i128> = moved.into_iter().map(Into::into).collect();
+        let wanted = match told {
+            Ok(()) => numbers[from..from + moved.len()].iter().map(|n| n - numbers[from]).collect(),
+            Err(_) => vec![0; moved.len()],
+        };
+        assert_eq!(moved, wanted);
+    }
+}
+
+#[test]
+fn offsets_of_32_bits() {
+    offsets::<i32>(i128::from(i32::MAX), 6);
+}
+
+#[test]
+fn offsets_of_64_bits() {
+    offsets::<i64>(i128::from(i64::MAX), 7);
+}
+
+#[test]
+fn widths() {
+    let mut random = Random::new(8);
+    for _ in 0..INPUTS {
+        let numbers = random.numbers(1 << 33);
+        let wide: Vec<i64> = numbers.iter().map(|n| *n as i64).collect();
+        let mut out = vec![7; random.near(wide.len())];
+        let told = rule(&numbers).and_then(|()| match numbers.last() {
+            _ if out.len() != wide.len() => Err(Refusal::Length),
+            Some(last) if *last > i128::from(i32::MAX) => Err(Refusal::Overflow),
+            _ => Ok(()),
+        });
+        let wanted = if told.is_ok() { wide.iter().map(|n| *n as i32).collect() } else { out.clone() };
+        assert_eq!((narrow(&wide, &mut out), &out), (told, &wanted));
+        if told.is_ok() {
+            let mut back = vec![0; out.len()];
+            assert_eq!((widen(&out, &mut back), back), (Ok(()), wide));
+        }
+    }
+}
+
+/// The runs of set bits, each by its first place and its length.
+fn plain_runs(bits: &[bool], from: usize) -> Vec<(usize, usize)> {
+    let mut runs: Vec<(usize, usize)> = vec![];
+    for place in (from..bits.len()).filter(|place| bits[*place]) {
+        match runs.last_mut() {
+            Some((start, length)) if *start + *length == place => *length += 1,
+            _ => runs.push((place, 1)),
+        }
+    }
+    runs
+}
+
+#[test]
+fn runs_of_set_bits() {
+    let mut random = Random::new(9);
+    for _ in 0..INPUTS {
+        let bytes = random.bytes();
+        let (offset, length) = random.range(&bytes);
+        let bits = Bits { bytes: &bytes, offset };
+        let room = 1 + random.below(5);
+        let (mut starts, mut lengths) = (vec![7; room], vec![7; random.near(room)]);
+        let mut at = random.below(length.min(1 << 12) + 2);
+        let begun = at;
+        let Ok(items) =
+            part(&bytes, offset, length).and_then(|b| if at <= length { Ok(b) } else { Err(Refusal::Range) })
+        else {
+            assert_eq!(runs(bits, length, &mut at, &mut starts, &mut lengths), Err(Refusal::Range));
+            assert_eq!((at, starts), (begun, vec![7; room]));
+            continue;
+        };
+        if lengths.len() != room {
+            assert_eq!(runs(bits, length, &mut at, &mut starts, &mut lengths), Err(Refusal::Length));
+            assert_eq!((at, starts), (begun, vec![7; room]));
+            continue;
+        }
+        let mut told = vec![];
+        loop {
+            let count = runs(bits, length, &mut at, &mut starts, &mut lengths).unwrap();
+            told.extend(starts.iter().copied().zip(lengths.iter().copied()).take(count));
+            if count < room {
+                break;
+            }
+        }
+        assert_eq!(told, plain_runs(&items, begun));
+    }
+}
+
+#[test]
+fn booleans() {
+    let mut random = Random::new(10);
+    for _ in 0..INPUTS {
+        let bytes = random.bytes();
+        let (offset, length) = random.range(&bytes);
+        let length = length.min(1 << 12);
+        let mut items = vec![false; length];
+        let told = part(&bytes, offset, length);
+        let answer = unpack(Bits { bytes: &bytes, offset }, &mut items);
+        assert_eq!((answer, &items), (told.clone().map(drop), told.as_ref().unwrap_or(&vec![false; length])));
+
+        let items: Vec<bool> = (0..length).map(|_| random.flag()).collect();
+        let mut out = random.out(length);
+        let expected = written(Ok(items.clone()), length, &out);
+        assert_eq!((pack(&items, &mut out), out), expected);
+    }
+}
+
+#[test]
+fn kleene() {
+    let mut random = Random::new(11);
+    for _ in 0..INPUTS {
+        let stored: Vec<Vec<u8>> = (0..4).map(|_| random.bytes()).collect();
+        let length = random.common_length(&stored);
+        let bits: Vec<Bits<'_>> =
+            stored.iter().map(|bytes| Bits { bytes, offset: random.offset(bytes, length) }).collect();
+        let left = Nullable { values: bits[0], validity: bits[1] };
+        let right = Nullable { values: bits[2], validity: bits[3] };
+        let parts: Result<Vec<_>, _> = bits.iter().map(|bits| part(bits.bytes, bits.offset, length)).collect();
+        // The operator, and the value that decides it alone.
+        for decides in [false, true] {
+            let (mut values, mut validity) = (random.out(length), random.out(length));
+            let before = (values.clone(), validity.clone());
+            let call = if decides { or_kleene } else { and_kleene };
+            let answer = call(left, right, length, &mut values, &mut validity);
+            let fits = [&before.0, &before.1].iter().all(|out| out.len() == bytes_for(length));
+            match &parts {
+                Ok(parts) if fits => {
+                    assert_eq!(answer, Ok(()));
+                    let (told, valid) = (part(&values, 0, length).unwrap(), part(&validity, 0, length).unwrap());
+                    for i in 0..length {
+                        let sides = [parts[1][i].then_some(parts[0][i]), parts[3][i].then_some(parts[2][i])];
+                        let wanted = match sides {
+                            _ if sides.contains(&Some(decides)) => Some(decides),
+                            [Some(_), Some(_)] => Some(!decides),
+                            _ => None,
+                        };
+                        assert_eq!(valid[i].then_some(told[i]), wanted);
+                    }
+                }
+                _ => {
+                    let refusal = if parts.is_ok() { Refusal::Length } else { Refusal::Range };
+                    assert_eq!((answer, (values, validity)), (Err(refusal), before));
+                }
+            }
+        }
+    }
+}
