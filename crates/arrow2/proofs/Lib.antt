@@ -1,3 +1,4 @@
+pub mod Columns
 pub mod Rulesets
 pub mod Words
 pub mod Zips
