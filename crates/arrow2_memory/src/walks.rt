@@ -1,4 +1,4 @@
-//! Boolean arrays, and bitmaps in pieces. Both are shown by what they hold.
+//! Boolean arrays, and bitmaps in pieces, which are shown by how many there are.
 use crate::ask::{had, made, refused, show};
 use crate::items::items;
 use arrow2_array::BooleanArray;
@@ -8,34 +8,21 @@ use arrow2_walks::pieces::Pieces;
 use std::alloc::Global;
 use std::io::{Eprint, Print};
 
-/// How many items an array has, and how many nulls.
-fn counted(array: Result<BooleanArray>) -> Result<(usize, usize)> {
-    array.map(|array| (array.len(), array.null_count()))
-}
-
 /// Kleene's logic, and another owner.
 fn arrays<R: Print + Eprint>(rt: &R, array: &BooleanArray) {
-    made!(
-        rt,
-        "BooleanArray::and_kleene",
-        counted(array.and_kleene(array))
-    );
-    made!(
-        rt,
-        "BooleanArray::or_kleene",
-        counted(array.or_kleene(array))
-    );
+    made!(rt, "BooleanArray::and_kleene", array.and_kleene(array));
+    made!(rt, "BooleanArray::or_kleene", array.or_kleene(array));
     made!(
         rt,
         "Clone for BooleanArray",
-        counted(array.clone().map_err(Error::from))
+        array.clone().map_err(Error::from)
     );
 }
 
 /// An array of values and a validity that is shorter.
-fn of_two_lengths(bitmap: &Bitmap) -> Result<(usize, usize)> {
+fn of_two_lengths(bitmap: &Bitmap) -> Result<BooleanArray> {
     let validity = bitmap.clone()?.sliced(0, 0);
-    counted(BooleanArray::try_new(bitmap.clone()?, Some(validity)))
+    BooleanArray::try_new(bitmap.clone()?, Some(validity))
 }
 
 /// The text of what an array is refused for.
