@@ -2,7 +2,7 @@
 ghost use Rattle.std.specs.Prelude.{◌≡◌, length};
 ghost use Rattle.arrow2_model.specs.Storage.{items_of};
 
-use super::checks::prints;
+use super::checks::{prints, shows};
 use arrow2_array::BooleanArray;
 use arrow2_bitmap::Bitmap;
 use std::alloc::Global;
@@ -76,10 +76,16 @@ fn arrays_without_validity_have_no_null(rt: HostRuntime) {
     let mut nulls = array_of(&rt, alloc, [0b10101010; 2], [0b11001100; 2]);
     nulls.slice(1, 4);
     has_items(&rt, alloc, &nulls, &[n, f, t, n]);
-    let one = left.or_kleene(&nulls).expect(&rt, "no memory");
+    let mut one = left.or_kleene(&nulls).expect(&rt, "no memory");
     has_items(&rt, alloc, &one, &[n, f, t, t]);
     let copy = one.clone().expect(&rt, "no memory");
     assert!(rt; copy.get(0).is_none() && copy.get(3) == t && !copy.is_empty());
+    assert!(rt; copy == one && one != left);
+    assert!(rt; one.values().len() == 4 && one.validity().is_some() && left.validity().is_none());
+    assert!(rt; one.iter().next_back() == Some(t));
+    shows(&rt, alloc, &one, "BooleanArray[None, false, true, true]");
+    one.slice(0, 0);
+    shows(&rt, alloc, &one, "BooleanArray[]");
 }
 
 #[test]

@@ -40,9 +40,10 @@ fn makes(rt: &impl Abort, made: Result<Bitmap>, list: &Given) {
 
 /// A bitmap that was changed has these items, and once it is frozen, too.
 fn becomes(rt: &impl Abort, changed: MutableBitmap, list: &Given) {
-    if let Ok(list) = list {
-        assert!(rt; changed.len() == list.len() && changed.iter().eq(list.iter().copied()));
-    }
+    let Ok(items) = list else {
+        panic!(rt; "no memory");
+    };
+    assert!(rt; changed.len() == items.len() && changed.iter().eq(items.iter().copied()));
     makes(rt, Bitmap::try_from(changed), list);
 }
 
