@@ -60,7 +60,8 @@ pub extern "C" fn arrow2_and_kleene(
     )
 }
 
-/// Writes, item by item, whether one is true, or both: true where one of them is true, and null where that is not known.
+/// Writes, item by item, whether one is true, or both: true where one of them is true, and null where that is not
+/// known.
 #[unsafe(no_mangle)]
 pub extern "C" fn arrow2_or_kleene(
     left: &[u8],
