@@ -1,5 +1,5 @@
 -- The items of a boolean array, place by place, in parts, and counted.
-use Rattle.std.proofs.Common.{Bor, ◌≡◌, ℕ, zero, suc, ◌<◌, List, [], ◌∷◌, Bool, true, false, not, cond, map, length, take, drop, get_or, replicate, refl, ap, sym, ◌∙◌, arith}
+use Rattle.std.proofs.Common.{Bor, ◌≡◌, ℕ, ◌<◌, List, [], ◌∷◌, Bool, true, false, cond, map, length, get_or, replicate, refl, ap, sym, ◌∙◌, arith}
 use Rattle.std.specs.Prelude.{Option, Some, None, MatchOption}
 use Rattle.std.specs.Bool.{then_some}
 use Rattle.std.specs.Option.{ForSome, is_none, is_some, option_copied}
@@ -9,35 +9,10 @@ use Rattle.arrow2_model.specs.Parts.{part, falses}
 use Rattle.arrow2_model.specs.Storage.{BitmapStorage, items_of}
 use Rattle.arrow2_model.specs.Zipped.{slot, zipped}
 use Rattle.arrow2_model.proofs.Offsets.{part-map}
+use Rattle.arrow2_walks.proofs.Zipped.{length-zipped, at-zipped, part-zipped, nulls-zipped}
 use Rattle.arrow2_array.specs.Items.{array_items, validity_items, nulls}
 
 -- ---- values beside their validity
-
-pub length-zipped : (xs vs : List Bool) → length vs ≡ length xs → length (zipped xs vs) ≡ length xs
-length-zipped [] vs e = refl
-length-zipped (x ∷ xs) [] e = absurd (omega (arith, e))
-length-zipped (x ∷ xs) (v ∷ vs) e = ap suc (length-zipped xs vs (omega (arith, e)))
-
-pub get_or-zipped : (xs vs : List Bool) (k : ℕ) → length vs ≡ length xs → k < length xs → get_or (zipped xs vs) k None ≡ slot (get_or xs k false) (get_or vs k false)
-get_or-zipped [] vs k e h = absurd (omega (arith, h))
-get_or-zipped (x ∷ xs) [] k e h = absurd (omega (arith, e))
-get_or-zipped (x ∷ xs) (v ∷ vs) zero e h = refl
-get_or-zipped (x ∷ xs) (v ∷ vs) (suc k) e h = get_or-zipped xs vs k (omega (arith, e)) (omega (arith, h))
-
-take-zipped : (xs vs : List Bool) (n : ℕ) → take n (zipped xs vs) ≡ zipped (take n xs) (take n vs)
-take-zipped xs vs zero = refl
-take-zipped [] vs (suc n) = refl
-take-zipped (x ∷ xs) [] (suc n) = refl
-take-zipped (x ∷ xs) (v ∷ vs) (suc n) = ap (λ l. slot x v ∷ l) (take-zipped xs vs n)
-
-drop-zipped : (xs vs : List Bool) (n : ℕ) → length vs ≡ length xs → drop n (zipped xs vs) ≡ zipped (drop n xs) (drop n vs)
-drop-zipped xs vs zero e = refl
-drop-zipped [] vs (suc n) e = refl
-drop-zipped (x ∷ xs) [] (suc n) e = absurd (omega (arith, e))
-drop-zipped (x ∷ xs) (v ∷ vs) (suc n) e = drop-zipped xs vs n (omega (arith, e))
-
-part-zipped : (xs vs : List Bool) (a n : ℕ) → length vs ≡ length xs → part (zipped xs vs) a n ≡ zipped (part xs a n) (part vs a n)
-part-zipped xs vs a n e = ap (take n) (drop-zipped xs vs a e) ∙ take-zipped (drop a xs) (drop a vs) n
 
 -- where all are valid none is null
 pub zipped-set : (xs : List Bool) → zipped xs (replicate (length xs) true) ≡ map (λ x. Some x) xs
@@ -51,21 +26,6 @@ known-zipped [] (v ∷ vs) e = absurd (omega (arith, e))
 known-zipped (x ∷ xs) [] e = absurd (omega (arith, e))
 known-zipped (x ∷ xs) (true ∷ vs) e = ap (λ l. true ∷ l) (known-zipped xs vs (omega (arith, e)))
 known-zipped (x ∷ xs) (false ∷ vs) e = ap (λ l. false ∷ l) (known-zipped xs vs (omega (arith, e)))
-
-nulls-zipped : (xs vs : List Bool) → length vs ≡ length xs → nulls (zipped xs vs) ≡ falses vs
-nulls-zipped [] [] e = refl
-nulls-zipped [] (v ∷ vs) e = absurd (omega (arith, e))
-nulls-zipped (x ∷ xs) [] e = absurd (omega (arith, e))
-nulls-zipped (x ∷ xs) (true ∷ vs) e =
-    let a = sum_by-cons (λ o. cond (is_none o) 1 0) (Some x) (zipped xs vs) in
-    let b = sum_by-cons (λ v. cond (not v) 1 0) true vs in
-    let c = nulls-zipped xs vs (omega (arith, e)) in
-    omega (arith, a, b, c)
-nulls-zipped (x ∷ xs) (false ∷ vs) e =
-    let a = sum_by-cons (λ o. cond (is_none o) 1 0) (slot x false) (zipped xs vs) in
-    let b = sum_by-cons (λ v. cond (not v) 1 0) false vs in
-    let c = nulls-zipped xs vs (omega (arith, e)) in
-    omega (arith, a, b, c)
 
 nulls-some : (xs : List Bool) → nulls (map (λ x. Some x) xs) ≡ 0
 nulls-some [] = refl
@@ -96,7 +56,7 @@ length-array values validity h = ap length (as_zipped values validity) ∙ lengt
 pub valid_item : (values validity : BitmapStorage) (k : ℕ) (value valid : Bool) → length (items_of validity) ≡ length (items_of values) → k < length (items_of values) → value ≡ get_or (items_of values) k false → valid ≡ get_or (items_of validity) k false
     → then_some valid value ≡ get_or (array_items values (Some validity)) k None
 valid_item values validity k value valid e h is-value is-valid =
-    as_slot value valid ∙ (ap (λ b. slot b valid) is-value ∙ (ap (slot (get_or (items_of values) k false)) is-valid ∙ sym (get_or-zipped (items_of values) (items_of validity) k e h)))
+    as_slot value valid ∙ (ap (λ b. slot b valid) is-value ∙ (ap (slot (get_or (items_of values) k false)) is-valid ∙ sym (at-zipped (items_of values) (items_of validity) k false e h)))
   where
     as_slot : (value valid : Bool) → then_some valid value ≡ slot value valid
     as_slot value true = refl
@@ -125,10 +85,6 @@ same_lengths left right left_validity right_validity xs ys l r is-left is-right 
 pub known-array : (values : BitmapStorage) (validity : Option BitmapStorage) → Fits values validity → map is_some (array_items values validity) ≡ validity_items (items_of values) validity
 known-array values validity h = ap (map is_some) (as_zipped values validity) ∙ known-zipped (items_of values) (validity_items (items_of values) validity) (length-validity values validity h)
 
--- an item that is copied
-inside : {X : Type 0} {x y : X} → Some x ≡ Some y → x ≡ y
-inside e = cc
-
 -- the values, beside which items are not null, are the items
 pub known-values : (values : BitmapStorage) (validity : Option BitmapStorage) → Fits values validity → zipped (items_of values) (map is_some (array_items values validity)) ≡ array_items values validity
 known-values values validity h = ap (zipped (items_of values)) (known-array values validity h) ∙ sym (as_zipped values validity)
@@ -139,4 +95,4 @@ pub known-validity : (values : BitmapStorage) (validity : Option BitmapStorage) 
 known-validity values None items None h is e = rw (← is) (no_nulls values)
 known-validity values (Some v) items None h is e = let never = e in cc
 known-validity values None items (Some w) h is e = let never = e in cc
-known-validity values (Some v) items (Some w) h is e = rw (← is) (sym (known-array values (Some v) h ∙ ap items_of (sym (inside e))))
+known-validity values (Some v) items (Some w) h is e = let same : w.now ≡ v = cc in rw (← is) (sym (known-array values (Some v) h ∙ ap items_of (sym same)))

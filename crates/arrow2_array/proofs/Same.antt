@@ -1,10 +1,11 @@
 -- Lists of booleans and nulls that are compared item by item.
-use Rattle.std.proofs.Common.{◌≡◌, ◌⊎◌, inl, inr, List, [], ◌∷◌, length, Bool, true, false, Option, Some, None, refl, rules, arith}
+use Rattle.std.proofs.Common.{◌≡◌, ◌⊎◌, inl, inr, List, [], ◌∷◌, length, Bool, true, false, Option, Some, None, refl, sym, rules, arith}
 use Rattle.std.specs.Prelude.{not}
 use Rattle.std.specs.Bool.{beq, Decides}
 use Rattle.std.specs.Cmp.{booleans_Decides}
 use Rattle.std.specs.Cmp.Lexicographic.{pointwise}
 use Rattle.std.specs.Option.{option_eq}
+use Rattle.std.proofs.lemmas.Bool.{not-false, not-true}
 use Rattle.std.proofs.lemmas.Slice.Eq.{slice_eq-Decides}
 
 -- two items compare as equal exactly if they are
@@ -18,21 +19,13 @@ items_Decides None None = search rules
 pub lists_Decides : (xs ys : List (Option Bool)) (r : Bool) → r ≡ pointwise (option_eq beq) xs ys → Decides r (xs ≡ ys)
 lists_Decides xs ys r e = slice_eq-Decides items_Decides xs ys r e
 
-is_false : (b : Bool) → true ≡ not b → b ≡ false
-is_false true h = let never = h in cc
-is_false false h = refl
-
-is_true : (b : Bool) → false ≡ not b → b ≡ true
-is_true true h = refl
-is_true false h = let never = h in cc
-
 -- the first items differ
 pub unequal-next : (xs ys others more : List (Option Bool)) (x y : Option Bool) → xs ≡ x ∷ others → ys ≡ y ∷ more → true ≡ not (option_eq beq x y) → false ≡ pointwise (option_eq beq) xs ys
-unequal-next xs ys others more x y e f h = rw (e, f, is_false (option_eq beq x y) h) refl
+unequal-next xs ys others more x y e f h = rw (e, f, not-true (option_eq beq x y) (sym h)) refl
 
 -- the first items are equal
 pub equal-next : (xs ys others more : List (Option Bool)) (x y : Option Bool) → xs ≡ x ∷ others → ys ≡ y ∷ more → false ≡ not (option_eq beq x y) → pointwise (option_eq beq) xs ys ≡ pointwise (option_eq beq) others more
-equal-next xs ys others more x y e f h = rw (e, f, is_true (option_eq beq x y) h) refl
+equal-next xs ys others more x y e f h = rw (e, f, not-false (option_eq beq x y) (sym h)) refl
 
 -- lists of one length end together
 pub equal-ended : (xs ys : List (Option Bool)) → length xs ≡ length ys → ((u : List (Option Bool)) × ((xs ≡ []) × (u ≡ []))) ⊎ ((u : List (Option Bool)) × ((ys ≡ []) × (u ≡ []))) → pointwise (option_eq beq) xs ys ≡ true

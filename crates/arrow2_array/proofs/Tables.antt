@@ -8,9 +8,10 @@ use Rattle.arrow2_model.specs.Storage.{BitmapStorage, items_of}
 use Rattle.arrow2_model.specs.Tables.{answer, each}
 use Rattle.arrow2_model.specs.Zipped.{slot, zipped}
 use Rattle.arrow2_model.proofs.Kernels.{length-each, get_or-each, each_from}
+use Rattle.arrow2_walks.proofs.Zipped.{length-zipped, at-zipped}
 use Rattle.arrow2_array.specs.Items.{array_items, validity_items}
 use Rattle.arrow2_array.specs.Kleene.{kleene_and, kleene_or, by_items, Spells}
-use Rattle.arrow2_array.proofs.Items.{Fits, length-zipped, get_or-zipped, length-validity, as_zipped}
+use Rattle.arrow2_array.proofs.Items.{Fits, length-validity, as_zipped}
 
 -- ---- one item
 
@@ -110,12 +111,12 @@ by_tables v t f xs ns ys ms spelled n y m =
     ext_get_or None (zipped values validity) (by_items f (zipped xs ns) (zipped ys ms)) (la ∙ (lv ∙ sym (lb ∙ lx)))
     (λ k k<.
     let h : k < length xs = omega (arith, la, lv) in
-    get_or-zipped values validity k (lt ∙ sym lv) (omega (arith, lv, h))
+    at-zipped values validity k false (lt ∙ sym lv) (omega (arith, lv, h))
     ∙ (ap (λ b. slot b (get_or validity k false)) (get_or-each v (xs ∷ ys ∷ []) k h)
     ∙ (ap (slot (answer v (get_or xs k false ∷ get_or ys k false ∷ []))) (get_or-each t (xs ∷ ns ∷ ys ∷ ms ∷ []) k h)
     ∙ (spelled (get_or xs k false) (get_or ns k false) (get_or ys k false) (get_or ms k false)
     ∙ sym (get_or-by_items f (zipped xs ns) (zipped ys ms) k (lx ∙ sym (ly ∙ y)) (omega (arith, lx, h))
-    ∙ (ap (λ o. f o (get_or (zipped ys ms) k None)) (get_or-zipped xs ns k n h) ∙ ap (f (slot (get_or xs k false) (get_or ns k false))) (get_or-zipped ys ms k (m ∙ sym y) (omega (arith, y, h)))))))))
+    ∙ (ap (λ o. f o (get_or (zipped ys ms) k None)) (at-zipped xs ns k false n h) ∙ ap (f (slot (get_or xs k false) (get_or ns k false))) (at-zipped ys ms k false (m ∙ sym y) (omega (arith, y, h)))))))))
 
 -- ---- arrays
 

@@ -12,9 +12,10 @@ use Rattle.arrow2_walks.specs.declared.zip_validity.ZipValidity.TheVariants.{Req
 use Rattle.arrow2_walks.specs.Zips.{values_of, validity_of, MatchZip, IsRequiredAnd, IsOptionalAnd, HasEqualLengths, either_values, either_steps}
 use Rattle.arrow2_walks.specs.Slots.{slots_of}
 use Rattle.arrow2_walks.proofs.Slots.{last_of_either_by}
+use Rattle.arrow2_walks.proofs.Zipped.{length-zipped}
 use Rattle.arrow2_model.proofs.Counts.{falses-none}
 use Rattle.arrow2_array.specs.Items.{array_items}
-use Rattle.arrow2_array.proofs.Items.{length-zipped, zipped-set}
+use Rattle.arrow2_array.proofs.Items.{zipped-set}
 
 -- the two lists that are walked have one length, and their slots are these items
 abbrev pub Walks : ZipValidity (List Bool) (List Bool) → List (Option Bool) → Type 0

@@ -2,7 +2,7 @@
 #![tactic(auto)]
 
 pub mod boolean;
-pub mod fmt;
+mod fmt;
 pub mod iterator;
 pub mod kleene;
 

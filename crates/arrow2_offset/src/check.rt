@@ -20,7 +20,7 @@ pub enum BrokenRule {
 
 /// The first rule that the numbers break, or `None` where they are offsets. Takes no memory.
 ///
-/// In arrow2 it answers an error with a text.
+/// In arrow2 the test is private, and answers an error with a text.
 pub fn broken_rule<O: Offset>(offsets: &[O]) -> Option<BrokenRule>
     ensures none { IfNone result (AreOffsetsUpTo O.MAX (map O.value offsets.now)) }
     ensures accepted { AreOffsets (map O.value offsets.now) → IsNone result }

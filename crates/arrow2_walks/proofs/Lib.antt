@@ -3,3 +3,4 @@ pub mod InnerRuns
 pub mod Slots
 pub mod TakenRuns
 pub mod WordsOfPlaces
+pub mod Zipped

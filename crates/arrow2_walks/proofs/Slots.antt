@@ -11,6 +11,7 @@ use Rattle.arrow2_walks.specs.declared.zip_validity.ZipValidity.{ZipValidity}
 use Rattle.arrow2_walks.specs.declared.zip_validity.ZipValidity.TheVariants.{Required, Optional}
 use Rattle.arrow2_walks.specs.Zips.{values_of, validity_of, MatchZip, zip_validity_steps, either_steps, HasEqualLengths}
 use Rattle.arrow2_walks.specs.Slots.{slots_of_both, slots_of}
+use Rattle.arrow2_walks.proofs.Zipped.{push-zipped}
 
 -- what a step says of the lengths
 first_length : {A B : Type 0} (view : A → B) (xs ys : List B) (o : Option A) → MatchOption o ((xs ≡ []) × (ys ≡ [])) (λ x. xs ≡ view x ∷ ys) → MatchOption o ((xs ≡ []) × (ys ≡ [])) (λ _. length xs ≡ suc (length ys))
@@ -36,12 +37,6 @@ ended xs ys vs ws None (Some v) e a b h = let l = ap length a.0 in absurd (omega
 ended xs ys vs ws (Some x) None e a b h = let l = ap length b.0 in absurd (omega (arith, l, a, e))
 ended xs ys vs ws (Some x) (Some v) e a b (inl i) = absurd (no_item x i)
 ended xs ys vs ws (Some x) (Some v) e a b (inr i) = absurd (no_item v i)
-
-zipped-last : {B : Type 0} (xs : List B) (vs : List Bool) (x : B) (v : Bool) → length xs ≡ length vs → zipped (xs ++ x ∷ []) (vs ++ v ∷ []) ≡ zipped xs vs ++ slot x v ∷ []
-zipped-last [] [] x v e = refl
-zipped-last [] (w ∷ vs) x v e = absurd (omega (arith, e))
-zipped-last (y ∷ xs) [] x v e = absurd (omega (arith, e))
-zipped-last (y ∷ xs) (w ∷ vs) x v e = ap (λ l. slot y w ∷ l) (zipped-last xs vs x v (omega (arith, e)))
 
 map-last : {A B : Type 0} (f : A → B) (xs : List A) (x : A) → map f (xs ++ x ∷ []) ≡ map f xs ++ f x ∷ []
 map-last f [] x = refl
@@ -71,7 +66,7 @@ module _ {S T A B : Type 0} (view : A → B) (rest : S → List B) (valid : T �
       let ys = rest (values_of t) in let vs = valid (validity_of s) in let ws = valid (validity_of t) in
       let a = ap length h.2 ∙ length-last ys (view h.0) in let b = ap length h.3 ∙ length-last ws h.1 in
       let same : length ys ≡ length ws = omega (arith, a, b, e) in
-      (ap (λ l. zipped l vs) h.2 ∙ (ap (λ l. zipped (ys ++ view h.0 ∷ []) l) h.3 ∙ (zipped-last ys ws (view h.0) h.1 same ∙ ap (λ z. zipped ys ws ++ z ∷ []) (slot-view h.0 h.1 ∙ ap (option_map view) (sym h.4)))), same)
+      (ap (λ l. zipped l vs) h.2 ∙ (ap (λ l. zipped (ys ++ view h.0 ∷ []) l) h.3 ∙ (push-zipped ys ws (view h.0) h.1 (sym same) ∙ ap (λ z. zipped ys ws ++ z ∷ []) (slot-view h.0 h.1 ∙ ap (option_map view) (sym h.4)))), same)
 
   -- values that come without validity
   first_value : (xs ys : List B) (o : Option A) (r : Option (Option A)) → MatchOption o ((xs ≡ []) × (ys ≡ [])) (λ x. xs ≡ view x ∷ ys) → r ≡ option_map (λ x. Some x) o
