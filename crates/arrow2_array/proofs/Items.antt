@@ -7,8 +7,8 @@ use Rattle.std.proofs.lemmas.List.{length-replicate}
 use Rattle.std.proofs.lemmas.List.Sums.{sum_by-cons}
 use Rattle.arrow2_model.specs.Parts.{part, falses}
 use Rattle.arrow2_model.specs.Storage.{BitmapStorage, items_of}
-use Rattle.arrow2_model.specs.Zipped.{slot, zipped}
-use Rattle.arrow2_model.proofs.Offsets.{part-map}
+use Rattle.arrow2_walks.specs.Zipped.{slot, zipped}
+use Rattle.arrow2_model.proofs.Parts.{part-map}
 use Rattle.arrow2_walks.proofs.Zipped.{length-zipped, at-zipped, part-zipped, nulls-zipped}
 use Rattle.arrow2_array.specs.Items.{array_items, validity_items, nulls}
 

@@ -1,12 +1,11 @@
 -- Kleene's logic by truth tables over values and validities.
 use Rattle.std.proofs.Common.{◌≡◌, ℕ, zero, suc, ◌<◌, List, [], ◌∷◌, Bool, true, false, length, get_or, replicate, refl, ap, sym, ◌∙◌, arith}
 use Rattle.std.specs.Prelude.{Option, Some, None}
-use Rattle.std.specs.Option.{is_some}
 use Rattle.std.proofs.lemmas.List.{ext_get_or, length-replicate, get_or-replicate}
 use Rattle.arrow2_model.specs.Bits.{bit}
 use Rattle.arrow2_model.specs.Storage.{BitmapStorage, items_of}
 use Rattle.arrow2_model.specs.Tables.{answer, each}
-use Rattle.arrow2_model.specs.Zipped.{slot, zipped}
+use Rattle.arrow2_walks.specs.Zipped.{slot, zipped}
 use Rattle.arrow2_model.proofs.Kernels.{length-each, get_or-each, each_from}
 use Rattle.arrow2_walks.proofs.Zipped.{length-zipped, at-zipped}
 use Rattle.arrow2_array.specs.Items.{array_items, validity_items}
@@ -28,6 +27,52 @@ or_known true true = refl
 or_known true false = refl
 or_known false true = refl
 or_known false false = refl
+
+-- beside an item that is not null, which comes second or first
+
+pub and_beside : (a n b : Bool) → answer 207 (a ∷ n ∷ b ∷ []) ≡ answer 53060 (a ∷ n ∷ b ∷ true ∷ [])
+unfolding bit
+and_beside true true true = refl
+and_beside true true false = refl
+and_beside true false true = refl
+and_beside true false false = refl
+and_beside false true true = refl
+and_beside false true false = refl
+and_beside false false true = refl
+and_beside false false false = refl
+
+pub and_behind : (a b m : Bool) → answer 207 (b ∷ m ∷ a ∷ []) ≡ answer 53060 (a ∷ true ∷ b ∷ m ∷ [])
+unfolding bit
+and_behind true true true = refl
+and_behind true true false = refl
+and_behind true false true = refl
+and_behind true false false = refl
+and_behind false true true = refl
+and_behind false true false = refl
+and_behind false false true = refl
+and_behind false false false = refl
+
+pub or_beside : (a n b : Bool) → answer 252 (a ∷ n ∷ b ∷ []) ≡ answer 64648 (a ∷ n ∷ b ∷ true ∷ [])
+unfolding bit
+or_beside true true true = refl
+or_beside true true false = refl
+or_beside true false true = refl
+or_beside true false false = refl
+or_beside false true true = refl
+or_beside false true false = refl
+or_beside false false true = refl
+or_beside false false false = refl
+
+pub or_behind : (a b m : Bool) → answer 252 (b ∷ m ∷ a ∷ []) ≡ answer 64648 (a ∷ true ∷ b ∷ m ∷ [])
+unfolding bit
+or_behind true true true = refl
+or_behind true true false = refl
+or_behind true false true = refl
+or_behind true false false = refl
+or_behind false true true = refl
+or_behind false true false = refl
+or_behind false false true = refl
+or_behind false false false = refl
 
 pub and_spelled : Spells 8 53060 kleene_and
 unfolding bit
@@ -70,7 +115,7 @@ or_spelled false false false false = refl
 -- ---- item by item
 
 -- where all are valid, a table that answers true there gives no more than all set
-all_known : (t : ℕ) (xs ys : List Bool) → ((a b : Bool) → answer t (a ∷ true ∷ b ∷ true ∷ []) ≡ true) → length xs ≡ length ys
+pub all_known : (t : ℕ) (xs ys : List Bool) → ((a b : Bool) → answer t (a ∷ true ∷ b ∷ true ∷ []) ≡ true) → length xs ≡ length ys
     → replicate (length xs) true ≡ each t (xs ∷ replicate (length xs) true ∷ ys ∷ replicate (length ys) true ∷ [])
 all_known t xs ys known e =
     each_from t (xs ∷ replicate (length xs) true ∷ ys ∷ replicate (length ys) true ∷ []) (replicate (length xs) true) (length-replicate (length xs) true)
@@ -79,12 +124,22 @@ all_known t xs ys known e =
     let right : get_or (replicate (length ys) true) k false ≡ true = get_or-replicate (length ys) k true false (omega (arith, e)) in
     left ∙ rw (left, right) (sym (known (get_or xs k false) (get_or ys k false))))
 
-pub none_known : (t : ℕ) (left right : BitmapStorage) (left_validity right_validity : Option BitmapStorage) → ((a b : Bool) → answer t (a ∷ true ∷ b ∷ true ∷ []) ≡ true)
-    → length (items_of left) ≡ length (items_of right) → is_some left_validity ≡ false → is_some right_validity ≡ false
-    → replicate (length (items_of left)) true ≡ each t (items_of left ∷ validity_items (items_of left) left_validity ∷ items_of right ∷ validity_items (items_of right) right_validity ∷ [])
-none_known t left right None None known e l r = all_known t (items_of left) (items_of right) known e
-none_known t left right None (Some v) known e l r = let no : ⊥ = cc in absurd no
-none_known t left right (Some v) o known e l r = let no : ⊥ = cc in absurd no
+-- a table of three lists is that of four, one of which is all set
+pub beside_right : (t u : ℕ) (xs ns ys : List Bool) → ((a n b : Bool) → answer u (a ∷ n ∷ b ∷ []) ≡ answer t (a ∷ n ∷ b ∷ true ∷ [])) → length xs ≡ length ys
+    → each u (xs ∷ ns ∷ ys ∷ []) ≡ each t (xs ∷ ns ∷ ys ∷ replicate (length ys) true ∷ [])
+beside_right t u xs ns ys beside e =
+    each_from t (xs ∷ ns ∷ ys ∷ replicate (length ys) true ∷ []) (each u (xs ∷ ns ∷ ys ∷ [])) (length-each u (xs ∷ ns ∷ ys ∷ []))
+    (λ k k<.
+    let set : get_or (replicate (length ys) true) k false ≡ true = get_or-replicate (length ys) k true false (omega (arith, e)) in
+    get_or-each u (xs ∷ ns ∷ ys ∷ []) k k< ∙ rw set (beside (get_or xs k false) (get_or ns k false) (get_or ys k false)))
+
+pub beside_left : (t u : ℕ) (xs ys ms : List Bool) → ((a b m : Bool) → answer u (b ∷ m ∷ a ∷ []) ≡ answer t (a ∷ true ∷ b ∷ m ∷ [])) → length xs ≡ length ys
+    → each u (ys ∷ ms ∷ xs ∷ []) ≡ each t (xs ∷ replicate (length xs) true ∷ ys ∷ ms ∷ [])
+beside_left t u xs ys ms behind e =
+    each_from t (xs ∷ replicate (length xs) true ∷ ys ∷ ms ∷ []) (each u (ys ∷ ms ∷ xs ∷ [])) (length-each u (ys ∷ ms ∷ xs ∷ []) ∙ sym e)
+    (λ k k<.
+    let set : get_or (replicate (length xs) true) k false ≡ true = get_or-replicate (length xs) k true false k< in
+    get_or-each u (ys ∷ ms ∷ xs ∷ []) k (omega (arith, e)) ∙ rw set (behind (get_or xs k false) (get_or ys k false) (get_or ms k false)))
 
 length-by_items : (f : Option Bool → Option Bool → Option Bool) (xs ys : List (Option Bool)) → length xs ≡ length ys → length (by_items f xs ys) ≡ length xs
 length-by_items f [] ys e = refl

@@ -6,7 +6,7 @@ use Rattle.std.specs.Option.{ForSome}
 use Rattle.std.proofs.lemmas.List.{length-append, length-map}
 use Rattle.arrow2_model.specs.Parts.{falses}
 use Rattle.arrow2_model.specs.Storage.{BitmapStorage, items_of}
-use Rattle.arrow2_model.specs.Zipped.{zipped}
+use Rattle.arrow2_walks.specs.Zipped.{zipped}
 use Rattle.arrow2_walks.specs.declared.zip_validity.ZipValidity.{ZipValidity}
 use Rattle.arrow2_walks.specs.declared.zip_validity.ZipValidity.TheVariants.{Required, Optional}
 use Rattle.arrow2_walks.specs.Zips.{values_of, validity_of, MatchZip, IsRequiredAnd, IsOptionalAnd, HasEqualLengths, either_values, either_steps}

@@ -2,7 +2,7 @@
 use Rattle.std.specs.Prelude.{ℕ, List, Bool, true, Option, Some, None, length, map, replicate, count_by}
 use Rattle.std.specs.Option.{is_none}
 use Rattle.arrow2_model.specs.Storage.{BitmapStorage, items_of}
-use Rattle.arrow2_model.specs.Zipped.{zipped}
+use Rattle.arrow2_walks.specs.Zipped.{zipped}
 
 -- by the values and the validity: without validity none is null
 abbrev pub array_items : BitmapStorage → Option BitmapStorage → List (Option Bool)

@@ -1,7 +1,7 @@
 -- Kleene's logic: a null is a boolean that is not known, so an answer is null where it depends on that boolean.
 use Rattle.std.specs.Prelude.{◌≡◌, ℕ, List, [], ◌∷◌, Bool, true, false, ◌&&◌, ◌||◌, Option, Some, None}
 use Rattle.arrow2_model.specs.Tables.{answer}
-use Rattle.arrow2_model.specs.Zipped.{slot}
+use Rattle.arrow2_walks.specs.Zipped.{slot}
 
 -- whether both are true
 abbrev pub kleene_and : Option Bool → Option Bool → Option Bool

@@ -5,10 +5,9 @@ ghost use Rattle.arrow2_model.specs.Storage.{items_of};
 ghost use Rattle.arrow2_model.specs.Tables.{answer, each};
 ghost use Rattle.arrow2_array.specs.Items.{validity_items};
 
-use arrow2_bitmap::{Bitmap, MutableBitmap};
-use arrow2_tables::bitmap_ops::quaternary_table;
+use arrow2_bitmap::Bitmap;
+use arrow2_tables::bitmap_ops::{quaternary_table, ternary_table};
 use arrow2_types::error::{Error, Result};
-use std::convert::TryFrom;
 
 /// Whether both values are true: bit `left + 2 * right`.
 pub const AND_VALUES: u8 = 0b1000;
@@ -25,16 +24,27 @@ pub const AND_KNOWN: u16 = 0b1100_1111_0100_0100;
 /// And for which it is known whether one is true, or both.
 pub const OR_KNOWN: u16 = 0b1111_1100_1000_1000;
 
-/// The answers of table `t` for the values and validities of two arrays, where a missing validity is all set. Where both
-/// are missing there is none to be had: the table has to answer true there.
+/// For which items it is known whether both are true, where one of them is not null: bit
+/// `value + 2 * validity + 4 * other` of an item and of the value that the other one has.
+pub const AND_KNOWN_BESIDE: u8 = 0b1100_1111;
+
+/// And for which it is known whether one is true, or both.
+pub const OR_KNOWN_BESIDE: u8 = 0b1111_1100;
+
+/// The answers of table `t` for the values and validities of two arrays, where a missing validity is all set: by table
+/// `beside` of three inputs where one is missing. Where both are missing there is none to be had: table `t` has to
+/// answer true there.
 pub(crate) fn validity_by(
     left: &Bitmap,
     left_validity: &Option<Bitmap>,
     right: &Bitmap,
     right_validity: &Option<Bitmap>,
     t: u16,
+    beside: u8,
 ) -> Result<Option<Bitmap>>
     requires known { (a b : Bool) → answer t (a ∷ true ∷ b ∷ true ∷ []) ≡ true }
+    requires beside_right { (a n b : Bool) → answer beside (a ∷ n ∷ b ∷ []) ≡ answer t (a ∷ n ∷ b ∷ true ∷ []) }
+    requires beside_left { (a b m : Bool) → answer beside (b ∷ m ∷ a ∷ []) ≡ answer t (a ∷ true ∷ b ∷ m ∷ []) }
     requires same_length { length' (items_of left.now) ≡ length' (items_of right.now) }
     requires left_fits { ForSome left_validity.now (λ v. length' (items_of v) ≡ length' (items_of left.now)) }
     requires right_fits { ForSome right_validity.now (λ v. length' (items_of v) ≡ length' (items_of right.now)) }
@@ -42,27 +52,10 @@ pub(crate) fn validity_by(
     ensures len { IfOk result (λ v. ForSome v (λ b. length' (items_of b) ≡ length' (items_of left.now))) }
     ensures only { IfErr result (λ e. e ≡ Error.OutOfMemory) }
 {
-    if left_validity.is_none() && right_validity.is_none() {
-        return Ok(None);
-    }
-    let left_known = known(left, left_validity)?;
-    let right_known = known(right, right_validity)?;
-    let validity = quaternary_table(left, &left_known, right, &right_known, t)?;
-    Ok(Some(validity))
-}
-
-/// The validity of these values: all set where it is missing.
-fn known(values: &Bitmap, validity: &Option<Bitmap>) -> Result<Bitmap>
-    requires fits { ForSome validity.now (λ v. length' (items_of v) ≡ length' (items_of values.now)) }
-    ensures items { IfOk result (λ b. items_of b ≡ validity_items (items_of values.now) validity.now) }
-    ensures len { IfOk result (λ b. length' (items_of b) ≡ length' (items_of values.now)) }
-    ensures only { IfErr result (λ e. e ≡ Error.OutOfMemory) }
-{
-    match validity {
-        Some(validity) => Ok(validity.clone()?),
-        None => {
-            let set = MutableBitmap::from_len_set(values.allocator(), values.len())?;
-            Bitmap::try_from(set)
-        }
+    match (left_validity, right_validity) {
+        (None, None) => Ok(None),
+        (Some(valid), None) => Ok(Some(ternary_table(left, valid, right, beside)?)),
+        (None, Some(valid)) => Ok(Some(ternary_table(right, valid, left, beside)?)),
+        (Some(valid), Some(other)) => Ok(Some(quaternary_table(left, valid, right, other, t)?)),
     }
 }

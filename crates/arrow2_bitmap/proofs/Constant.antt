@@ -17,9 +17,6 @@ all_false (true ∷ items) n e l = let c : falses (true ∷ items) ≡ 0 + false
 item_of : (items : List Bool) (v : Bool) (k : ℕ) → items ≡ replicate (length items) v → k < length items → get_or items k false ≡ v
 item_of items v k e h = ap (λ (t : List Bool). get_or t k false) e ∙ get_or-replicate (length items) k v false h
 
-pub all_true : (items : List Bool) → falses items ≡ 0 → items ≡ replicate (length items) true
-all_true items e = falses-none items e
-
 pub and_false : (a b : List Bool) → length a ≡ length b → (a ≡ replicate (length a) false) ⊎ (b ≡ replicate (length b) false) → replicate (length a) false ≡ each 8 (a ∷ b ∷ [])
 and_false a b l h =
     each_from 8 (a ∷ b ∷ []) (replicate (length a) false) (length-replicate (length a) false)
@@ -78,4 +75,4 @@ or_false a b l e =
     same true = refl
     same false = refl
 
-pub ruleset constant = (all_false, all_true)
+pub ruleset constant = (all_false, falses-none)

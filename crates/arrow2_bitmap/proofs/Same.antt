@@ -1,6 +1,6 @@
 -- What `==` of bitmaps answers.
-use Rattle.std.proofs.Common.{◌≡◌, ◌≢◌, ◌↔◌, ℕ, List, Bool, true, false, length, refl, ap, sym, ◌∙◌}
-use Rattle.std.specs.Bool.{beq, Decides, IsTrue}
+use Rattle.std.proofs.Common.{◌≡◌, ◌≢◌, ◌↔◌, ℕ, List, Bool, length, ap, sym, ◌∙◌}
+use Rattle.std.specs.Bool.{beq, IsTrue}
 use Rattle.std.specs.Prelude.{nat_eq}
 use Rattle.std.specs.Cmp.Lexicographic.{pointwise}
 use Rattle.std.proofs.lemmas.Bool.{eqb-true}
@@ -8,20 +8,11 @@ use Rattle.std.proofs.lemmas.Bool.Decides.{same_from_decides, Decides-eqb}
 use Rattle.std.proofs.lemmas.Slice.Eq.{slice_eq-Decides}
 use Rattle.arrow2_model.specs.Canonical.{canonical_bytes}
 use Rattle.arrow2_model.proofs.Canonical.{same_from_canonical_bytes}
-
-Decides-beq : (a b : Bool) → Decides (beq a b) (a ≡ b)
-Decides-beq true true = ((λ e. refl), λ e. refl)
-Decides-beq true false = ((λ e. sym e), λ e. sym e)
-Decides-beq false true = ((λ e. e), λ e. e)
-Decides-beq false false = ((λ e. refl), λ e. refl)
+use Rattle.arrow2_model.proofs.Same.{pointwise-same}
 
 -- an answer that is true just where the lists are the same
 pub same_told : (xs ys : List Bool) (r : Bool) → IsTrue r ↔ (xs ≡ ys) → r ≡ pointwise beq xs ys
-same_told xs ys r h = same_from_decides r (pointwise beq xs ys) h (slice_eq-Decides Decides-beq xs ys (pointwise beq xs ys) refl)
-
--- an answer that is that of the lists' own equality says whether they are the same
-pub told_same : (xs ys : List Bool) (r : Bool) → r ≡ pointwise beq xs ys → IsTrue r ↔ (xs ≡ ys)
-told_same xs ys r e = slice_eq-Decides Decides-beq xs ys r e
+same_told xs ys r h = same_from_decides r (pointwise beq xs ys) h (pointwise-same xs ys)
 
 -- an answer about the canonical bytes of lists of one length
 pub same_bytes_told : (xs ys : List Bool) (a b : List ℕ) (r : Bool) → length xs ≡ length ys → a ≡ canonical_bytes xs → b ≡ canonical_bytes ys → r ≡ pointwise nat_eq a b → r ≡ pointwise beq xs ys

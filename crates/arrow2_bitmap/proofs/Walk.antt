@@ -1,11 +1,9 @@
 -- Steps of a walk over the items of a bitmap, from both ends.
-use Rattle.std.proofs.Common.{◌≡◌, ℕ, suc, ◌+◌, ◌-◌, ◌<◌, ◌≤◌, List, [], ◌∷◌, ◌++◌, Bool, false, take, length, get_or, ap, ◌∙◌, refl, arith}
+use Rattle.std.proofs.Common.{◌≡◌, ℕ, suc, ◌+◌, ◌-◌, ◌<◌, ◌≤◌, List, [], ◌∷◌, ◌++◌, Bool, false, take, length, get_or, ap, ◌∙◌, arith}
 use Rattle.std.proofs.lemmas.List.{drop_more, take_all}
 use Rattle.arrow2_model.specs.Parts.{part}
 use Rattle.arrow2_model.proofs.Parts.{length-part, part_more}
-
-pub part_none : (items : List Bool) (a n : ℕ) → n ≡ 0 → part items a n ≡ []
-part_none items a n e = rw e refl
+use Rattle.arrow2_model.proofs.Walks.{part_none}
 
 -- all items
 pub part_all : (items : List Bool) (n : ℕ) → n ≡ length items → part items 0 n ≡ items

@@ -1,7 +1,8 @@
-pub mod Tables
 pub mod Counted
 pub mod LaneCounts
 pub mod Lending
 pub mod Loaded
+pub mod Merged
 pub mod NextChunk
 pub mod Spilled
+pub mod Tables

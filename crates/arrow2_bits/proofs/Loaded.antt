@@ -6,7 +6,7 @@ use Rattle.arrow2_model.specs.Bits.{bit, unnum, bits, num}
 use Rattle.arrow2_model.specs.Parts.{part}
 use Rattle.arrow2_model.proofs.Bits.{length-bits}
 use Rattle.arrow2_model.proofs.Bytes.{take-bits, part-bits, part-bits-drop}
-use Rattle.arrow2_model.proofs.Merged.{merged, num-zeros}
+use Rattle.arrow2_bits.proofs.Merged.{merged, num-zeros}
 use Rattle.arrow2_model.proofs.Numbers.{bit-num, num-unnum}
 use Rattle.arrow2_model.proofs.Parts.{get_or-part}
 

@@ -5,7 +5,7 @@ ghost use Rattle.std.proofs.Common.{lit≤};
 ghost use lib.Lanes.{zip2};
 ghost use Rattle.num_traits.specs.Laws.{bit_len};
 ghost use Rattle.arrow2_model.specs.Bits.{bit, bits, unnum};
-ghost use Rattle.arrow2_model.specs.Ones.{ones};
+ghost use Rattle.arrow2_chunk.specs.Ones.{ones};
 ghost use Rattle.arrow2_model.specs.Parts.{falses};
 ghost use Rattle.arrow2_model.specs.Digits.{digits, natural_from};
 
@@ -137,7 +137,7 @@ pub trait BitChunk: PrimInt + NativeType {
     ghost number_law: { (bytes : List ℕ) → number (Self.of_le bytes) ≡ natural_from Self.SIZE bytes };
 }
 
-#[tactic(auto, using(arrow2_model::proofs::Chunks::chunks, arrow2_model::proofs::Chunks::chunk_bytes, arrow2_model::proofs::Ones::set_bits, arrow2_model::proofs::Counts::counted_words, arrow2_model::proofs::Digits::u8_bytes))]
+#[tactic(auto, using(arrow2_model::proofs::Chunks::chunks, arrow2_model::proofs::Chunks::chunk_bytes, crate::proofs::Ones::set_bits, arrow2_model::proofs::Counts::counted_words, arrow2_model::proofs::Digits::u8_bytes))]
 impl BitChunk for u8 {
     ghost WIDTH = { 8 };
 
@@ -220,7 +220,7 @@ impl BitChunk for u8 {
     }
 }
 
-#[tactic(auto, using(arrow2_model::proofs::Chunks::chunks, arrow2_model::proofs::Chunks::chunk_bytes, arrow2_model::proofs::Ones::set_bits, arrow2_model::proofs::Counts::counted_words, arrow2_model::proofs::Digits::unsigned_bytes))]
+#[tactic(auto, using(arrow2_model::proofs::Chunks::chunks, arrow2_model::proofs::Chunks::chunk_bytes, crate::proofs::Ones::set_bits, arrow2_model::proofs::Counts::counted_words, arrow2_model::proofs::Digits::unsigned_bytes))]
 impl BitChunk for u16 {
     ghost WIDTH = { 16 };
 
@@ -303,7 +303,7 @@ impl BitChunk for u16 {
     }
 }
 
-#[tactic(auto, using(arrow2_model::proofs::Chunks::chunks, arrow2_model::proofs::Chunks::chunk_bytes, arrow2_model::proofs::Ones::set_bits, arrow2_model::proofs::Counts::counted_words, arrow2_model::proofs::Digits::unsigned_bytes))]
+#[tactic(auto, using(arrow2_model::proofs::Chunks::chunks, arrow2_model::proofs::Chunks::chunk_bytes, crate::proofs::Ones::set_bits, arrow2_model::proofs::Counts::counted_words, arrow2_model::proofs::Digits::unsigned_bytes))]
 impl BitChunk for u32 {
     ghost WIDTH = { 32 };
 
@@ -386,7 +386,7 @@ impl BitChunk for u32 {
     }
 }
 
-#[tactic(auto, using(arrow2_model::proofs::Chunks::chunks, arrow2_model::proofs::Chunks::chunk_bytes, arrow2_model::proofs::Ones::set_bits, arrow2_model::proofs::Counts::counted_words, arrow2_model::proofs::Digits::unsigned_bytes))]
+#[tactic(auto, using(arrow2_model::proofs::Chunks::chunks, arrow2_model::proofs::Chunks::chunk_bytes, crate::proofs::Ones::set_bits, arrow2_model::proofs::Counts::counted_words, arrow2_model::proofs::Digits::unsigned_bytes))]
 impl BitChunk for u64 {
     ghost WIDTH = { 64 };
 

@@ -3,7 +3,7 @@ ghost use Rattle.std.specs.Prelude.{◌≡◌, ◌≤◌, length, take, Some, If
 ghost use Rattle.std.specs.Iterator.{YieldsFirst, item_count, UpTo};
 ghost use Rattle.std.specs.Iterator.SizeHint.{IsWithinCount};
 ghost use Rattle.arrow2_model.specs.Bits.{unnum};
-ghost use Rattle.arrow2_model.specs.Ones.{ones};
+ghost use Rattle.arrow2_chunk.specs.Ones.{ones};
 
 use crate::bit_chunk::BitChunk;
 use std::marker::Model;
@@ -81,7 +81,7 @@ pub struct BitChunkOnes<T: BitChunk> {
 impl<T: BitChunk> Model for BitChunkOnes<T> {
     ghost use Rattle.std.specs.Prelude.{List, ℕ};
     ghost use Rattle.arrow2_model.specs.Bits.{unnum};
-    ghost use Rattle.arrow2_model.specs.Ones.{ones};
+    ghost use Rattle.arrow2_chunk.specs.Ones.{ones};
 
     ghost Value = { List ℕ };
 

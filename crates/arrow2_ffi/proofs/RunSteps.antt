@@ -4,7 +4,7 @@ use Rattle.std.specs.List.{zip}
 use Rattle.std.proofs.lemmas.List.{append_assoc}
 use Rattle.arrow2_model.specs.Bits.{bits}
 use Rattle.arrow2_model.specs.Parts.{part}
-use Rattle.arrow2_model.specs.Runs.{runs_from}
+use Rattle.arrow2_walks.specs.Runs.{runs_from}
 use Rattle.arrow2_walks.specs.Places.{IsFirst}
 use Rattle.arrow2_walks.proofs.TakenRuns.{next_run, no_run, none_at_end}
 

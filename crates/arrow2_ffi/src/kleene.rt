@@ -6,7 +6,7 @@ ghost use Rattle.std.specs.Prelude.{◌≡◌, ◌≢◌, ◌↔◌, ◌⊎◌, 
 ghost use Rattle.arrow2_model.specs.Bits.{bits};
 ghost use Rattle.arrow2_model.specs.Canonical.{IsCanonical};
 ghost use Rattle.arrow2_model.specs.Parts.{part};
-ghost use Rattle.arrow2_model.specs.Zipped.{zipped};
+ghost use Rattle.arrow2_walks.specs.Zipped.{zipped};
 ghost use Rattle.arrow2_array.specs.Kleene.{kleene_and, kleene_or, by_items, Spells};
 ghost use Rattle.arrow2_ffi.specs.Ranges.{IsInside, Holds};
 

@@ -1,6 +1,6 @@
 //! What the exports on offsets do, for either width.
 ghost use Rattle.std.specs.Prelude.{◌≡◌, ◌≢◌, ◌+◌, ◌-◌, ◌<◌, ◌↔◌, ◌⊎◌, pos, map, length};
-ghost use Rattle.arrow2_model.specs.Offsets.{AreOffsets, last_offset, lengths_of, offsets_list};
+ghost use Rattle.arrow2_offset.specs.Offsets.{AreOffsets, last_offset, lengths_of, offsets_list};
 ghost use Rattle.arrow2_model.specs.Parts.{part};
 ghost use Rattle.arrow2_offset.specs.Refused.{first_broken};
 ghost use Rattle.arrow2_ffi.specs.Rules.{rule_code};

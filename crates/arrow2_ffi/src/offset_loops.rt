@@ -1,6 +1,6 @@
 //! Offsets of either width in memory of the caller: the loops.
 ghost use Rattle.std.specs.Prelude.{◌≡◌, ◌+◌, ◌-◌, ◌<◌, ◌≤◌, ℕ, pos, map, length, IfNone, IfSome, IsNone};
-ghost use Rattle.arrow2_model.specs.Offsets.{AreOffsets, AreOffsetsUpTo, last_of, last_offset, lengths_of, offsets_list};
+ghost use Rattle.arrow2_offset.specs.Offsets.{AreOffsets, AreOffsetsUpTo, last_of, last_offset, lengths_of, offsets_list};
 ghost use Rattle.arrow2_model.specs.Parts.{part};
 ghost use Rattle.arrow2_offset.specs.Refused.{first_broken};
 ghost use Rattle.arrow2_ffi.specs.Rules.{rule_code};

@@ -1,6 +1,6 @@
 //! Offsets of 32 bits as offsets of 64 bits, and back.
 ghost use Rattle.std.specs.Prelude.{◌≡◌, ◌≢◌, ◌<◌, ◌↔◌, ◌⊎◌, length};
-ghost use Rattle.arrow2_model.specs.Offsets.{AreOffsets, AreOffsetsUpTo, last_of};
+ghost use Rattle.arrow2_offset.specs.Offsets.{AreOffsets, AreOffsetsUpTo, last_of};
 ghost use Rattle.arrow2_offset.specs.Refused.{first_broken};
 ghost use Rattle.arrow2_ffi.specs.Rules.{rule_code};
 

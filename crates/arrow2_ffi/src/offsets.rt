@@ -1,7 +1,7 @@
 //! Offsets of 32 and of 64 bits: where the value of each slot begins. There is one offset more than slots, none is
 //! negative, and none is below the one before it.
 ghost use Rattle.std.specs.Prelude.{◌≡◌, ◌≢◌, ◌+◌, ◌-◌, ◌<◌, ◌↔◌, ◌⊎◌, pos, map, length};
-ghost use Rattle.arrow2_model.specs.Offsets.{AreOffsets, last_offset, last_of, lengths_of, offsets_list};
+ghost use Rattle.arrow2_offset.specs.Offsets.{AreOffsets, last_offset, last_of, lengths_of, offsets_list};
 ghost use Rattle.arrow2_model.specs.Parts.{part};
 ghost use Rattle.arrow2_offset.specs.Refused.{first_broken};
 ghost use Rattle.arrow2_ffi.specs.Rules.{rule_code};

@@ -1,5 +1,5 @@
 -- Items of a word behind those that bytes hold.
-use Rattle.std.proofs.Common.{◌≡◌, ◌≢◌, inl, inr, ℕ, zero, suc, ◌+◌, ◌-◌, ◌*◌, ◌/◌, ◌%◌, ◌<◌, ◌≤◌, ◌||◌, List, ◌++◌, Bool, true, false, take, drop, replicate, length, get_or, set, refl, ap, sym, ◌∙◌, arith}
+use Rattle.std.proofs.Common.{◌≡◌, ◌≢◌, inl, inr, ℕ, ◌+◌, ◌-◌, ◌*◌, ◌/◌, ◌%◌, ◌<◌, ◌≤◌, ◌||◌, List, ◌++◌, Bool, true, false, take, drop, replicate, length, get_or, set, refl, ap, sym, ◌∙◌, arith}
 use lib.Lanes.{zip2}
 use Rattle.std.proofs.lemmas.Bool.{cases_lt, cases_eq}
 use Rattle.std.proofs.lemmas.Grind.{get_or_default_zero}
@@ -9,6 +9,7 @@ use Rattle.arrow2_model.specs.Canonical.{IsCanonical}
 use Rattle.arrow2_model.proofs.Bits.{length-unnum, get_or-unnum, bits-append, length-bits, get_or-bits, get_or-bits_at}
 use Rattle.arrow2_model.proofs.Bytes.{take-bits}
 use Rattle.arrow2_model.proofs.Canonical.{bytes_fit}
+use Rattle.arrow2_model.proofs.Parts.{get_or-padded}
 use Rattle.arrow2_model.proofs.Tables.{bit-zip2}
 
 -- what a vector of bytes knows of its items
@@ -63,21 +64,9 @@ merged_written byte p m u y i low place clear up bits-of size is h =
 
 -- ---- a word behind bytes
 
-get_or-falses : (m i : ℕ) → get_or (replicate m false) i false ≡ false
-get_or-falses zero i = refl
-get_or-falses (suc m) zero = refl
-get_or-falses (suc m) (suc i) = get_or-falses m i
-
--- false behind items is what a place past them reads
-padded : (items : List Bool) (m i : ℕ) → get_or (items ++ replicate m false) i false ≡ get_or items i false
-padded items m i = elim (cases_lt i (length items)) [
-  | inl lt ↦ get_or_append_left items (replicate m false) false i lt
-  | inr ge ↦ get_or-append_right items (replicate m false) (length items) i false refl ge ∙ (get_or-falses m (i - length items) ∙ sym (get_or_past items i false ge))
-]
-
 -- an item of a masked word
 masked_item : (c m x i : ℕ) → unnum 64 m ≡ take c (unnum 64 x) ++ replicate (64 - c) false → get_or (unnum 64 m) i false ≡ get_or (take c (unnum 64 x)) i false
-masked_item c m x i mask = ap (λ (t : List Bool). get_or t i false) mask ∙ padded (take c (unnum 64 x)) (64 - c) i
+masked_item c m x i mask = ap (λ (t : List Bool). get_or t i false) mask ∙ get_or-padded (take c (unnum 64 x)) (64 - c) i
 
 -- bits before and behind the end of bytes that grew
 pub before : (bytes grown more : List ℕ) (k : ℕ) → grown ≡ bytes ++ more → k < 8 * length bytes → get_or (bits grown) k false ≡ get_or (bits bytes) k false
@@ -165,6 +154,6 @@ pushed_within bytes grown after word n c k m r x y z canonical some few size e o
             other i ne i<
             ∙ (behind bytes grown word k i e (omega (arith, wide, size, few)) (omega (arith, canonical.exact)) (omega (arith, s, g))
             ∙ (ap (λ (b : List Bool). get_or b (i - 8 * length bytes) false) (of ∙ down)
-            ∙ (padded (drop (8 - n % 8) (unnum 64 m)) (8 - n % 8) (i - 8 * length bytes) ∙ (get_or-drop (8 - n % 8) (unnum 64 m) (i - 8 * length bytes) false ∙ (ap (λ j. get_or (unnum 64 m) j false) at ∙ sym (right i ge))))))
+            ∙ (get_or-padded (drop (8 - n % 8) (unnum 64 m)) (8 - n % 8) (i - 8 * length bytes) ∙ (get_or-drop (8 - n % 8) (unnum 64 m) (i - 8 * length bytes) false ∙ (ap (λ j. get_or (unnum 64 m) j false) at ∙ sym (right i ge))))))
       ]
     ])

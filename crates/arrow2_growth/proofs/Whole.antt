@@ -1,5 +1,5 @@
 -- Many items behind those that bytes hold.
-use Rattle.std.proofs.Common.{◌≡◌, inl, inr, ℕ, zero, suc, ◌+◌, ◌-◌, ◌*◌, ◌/◌, ◌%◌, ◌<◌, ◌≤◌, List, ◌++◌, Bool, true, false, take, drop, replicate, length, get_or, refl, ap, sym, ◌∙◌, arith}
+use Rattle.std.proofs.Common.{◌≡◌, inl, inr, ℕ, ◌+◌, ◌-◌, ◌*◌, ◌/◌, ◌%◌, ◌<◌, ◌≤◌, List, ◌++◌, Bool, true, false, take, drop, replicate, length, get_or, refl, ap, sym, ◌∙◌, arith}
 use Rattle.std.proofs.lemmas.Bool.{cases_lt}
 use Rattle.std.proofs.lemmas.List.{length-append, length-take-le, length-drop, get_or-take, get_or_append_left, get_or-append_right, get_or_past, ext_get_or, take_all, take-append-le, drop_more, append_assoc, take-replicate, replicate-append-replicate}
 use Rattle.std.proofs.lemmas.Slice.{take-put_mid}
@@ -8,8 +8,8 @@ use borrow.Rule.Slice.PartMut.{put_mid}
 use Rattle.arrow2_model.specs.Bits.{bits, unnum}
 use Rattle.arrow2_model.specs.Canonical.{IsCanonical}
 use Rattle.arrow2_model.specs.Parts.{part}
-use Rattle.arrow2_model.proofs.Bits.{length-unnum, get_or-unnum, bits-nil, bits-cons, bits-append, length-bits}
-use Rattle.arrow2_model.proofs.Bytes.{take-bits, drop-bits, bits-zeros, part-bits-drop}
+use Rattle.arrow2_model.proofs.Bits.{length-unnum, get_or-unnum, bits-cons, bits-append, length-bits}
+use Rattle.arrow2_model.proofs.Bytes.{take-bits, drop-bits, bits-ones, bits-zeros, part-bits-drop}
 use Rattle.arrow2_model.proofs.Parts.{part-add}
 use Rattle.arrow2_growth.proofs.Pushed.{AreBytes, Hold, held, before}
 
@@ -96,16 +96,6 @@ pushed_whole_front slice after own n c inside whole first =
     ap (λ k. take k (bits after)) at ∙ (first ∙ ap (λ (t : List Bool). own ++ t) (sym (take-bits slice (c / 8) (omega arith)) ∙ ap (λ k. take k (bits slice)) count))
 
 -- ---- one value
-
-unnum-255 : unnum 8 255 ≡ replicate 8 true
-unfolding unnum
-unnum-255 = refl
-
-bits-ones : (m : ℕ) → bits (replicate m 255) ≡ replicate (8 * m) true
-bits-ones zero = bits-nil
-bits-ones (suc m) =
-    let e : 8 * suc m ≡ 8 + 8 * m = omega arith in
-    bits-cons 255 (replicate m 255) ∙ (rw (unnum-255, bits-ones m, e) (replicate-append-replicate 8 (8 * m) true))
 
 unnum-all : unnum 64 18446744073709551615 ≡ replicate 64 true
 unfolding unnum

@@ -3,7 +3,7 @@ ghost use Rattle.std.specs.Prelude.{◌≡◌, ◌<◌, ◌≤◌, ◌<ℤ◌, �
 ghost use Rattle.std.specs.Iterator.{YieldsFirstBy, item_count, UpTo};
 ghost use Rattle.std.specs.Iterator.SizeHint.{IsWithinCount};
 ghost use Rattle.arrow2_model.specs.Digits.{digits};
-ghost use Rattle.arrow2_model.specs.Ranges.{integers};
+ghost use Rattle.arrow2_index.specs.Ranges.{integers};
 
 use arrow2_types::native::NativeType;
 use num_traits::{CheckedAdd, Num, One};
@@ -257,7 +257,7 @@ pub struct IndexRange<I: Index> {
 
 impl<I: Index> Model for IndexRange<I> {
     ghost use Rattle.std.specs.Prelude.{◌≤ℤ◌, ℤ, List};
-    ghost use Rattle.arrow2_model.specs.Ranges.{integers};
+    ghost use Rattle.arrow2_index.specs.Ranges.{integers};
 
     ghost Value = { List ℤ };
 
@@ -266,7 +266,7 @@ impl<I: Index> Model for IndexRange<I> {
     ghost invariant = { λ r. I.value r.start ≤ℤ I.value r.end };
 }
 
-#[tactic(auto, using(arrow2_model::proofs::Ranges::ranges))]
+#[tactic(auto, using(crate::proofs::Ranges::ranges))]
 impl<I: Index> IndexRange<I> {
     /// The walk from `start` up to the number before `end`. Asks that `start` is at most `end`.
     pub fn new(start: I, end: I) -> IndexRange<I>
@@ -277,7 +277,7 @@ impl<I: Index> IndexRange<I> {
     }
 }
 
-#[tactic(auto, using(arrow2_model::proofs::Ranges::ranges))]
+#[tactic(auto, using(crate::proofs::Ranges::ranges))]
 impl<I: Index> Iterator for IndexRange<I> {
     type Item = I;
 

@@ -1,6 +1,6 @@
 -- The bits of whole bytes: fronts, ends and parts of them, and zeros.
-use Rattle.std.proofs.Common.{◌≡◌, ℕ, zero, suc, ◌+◌, ◌*◌, ◌≤◌, List, ◌∷◌, ◌++◌, false, take, drop, replicate, length, refl, ap, sym, ◌∙◌, arith}
-use Rattle.std.proofs.lemmas.List.{take-append-drop, drop_at, take_at, length-drop, length-take-le, drop-drop}
+use Rattle.std.proofs.Common.{◌≡◌, ℕ, zero, suc, ◌+◌, ◌*◌, ◌≤◌, List, ◌∷◌, ◌++◌, false, true, take, drop, replicate, length, refl, ap, sym, ◌∙◌, arith}
+use Rattle.std.proofs.lemmas.List.{take-append-drop, drop_at, take_at, length-drop, length-take-le, drop-drop, replicate-append-replicate}
 use Rattle.arrow2_model.specs.Bits.{unnum, bits}
 use Rattle.arrow2_model.specs.Parts.{part}
 use Rattle.arrow2_model.proofs.Bits.{bits-nil, bits-cons, bits-append, length-bits}
@@ -50,3 +50,15 @@ take-falses (suc n) (suc m) h = ap (λ t. false ∷ t) (take-falses n m (omega a
 -- a front of the bits of bytes that are zero
 pub front-zeros : (m n : ℕ) → n ≤ 8 * m → take n (bits (replicate m 0)) ≡ replicate n false
 front-zeros m n h = rw (bits-zeros m) (take-falses n (8 * m) h)
+
+-- ---- ones
+
+unnum-255 : unnum 8 255 ≡ replicate 8 true
+unfolding unnum
+unnum-255 = refl
+
+pub bits-ones : (m : ℕ) → bits (replicate m 255) ≡ replicate (8 * m) true
+bits-ones zero = bits-nil
+bits-ones (suc m) =
+    let e : 8 * suc m ≡ 8 + 8 * m = omega arith in
+    bits-cons 255 (replicate m 255) ∙ (rw (unnum-255, bits-ones m, e) (replicate-append-replicate 8 (8 * m) true))

@@ -1,5 +1,5 @@
 -- Bytes that hold so many bits and nothing behind them.
-use Rattle.std.proofs.Common.{◌≡◌, ◌≢◌, inl, inr, ℕ, zero, suc, ◌+◌, ◌-◌, ◌*◌, ◌/◌, ◌%◌, ◌^◌, ◌<◌, ◌≤◌, ◌==◌, List, [], ◌∷◌, ◌++◌, Bool, true, false, take, drop, replicate, length, get_or, set, refl, ap, sym, ◌∙◌, arith, subst}
+use Rattle.std.proofs.Common.{◌≡◌, ◌≢◌, inl, inr, ℕ, suc, ◌+◌, ◌-◌, ◌*◌, ◌/◌, ◌%◌, ◌^◌, ◌<◌, ◌≤◌, ◌==◌, List, [], ◌∷◌, ◌++◌, Bool, true, false, take, drop, replicate, length, get_or, set, refl, ap, sym, ◌∙◌, arith, subst}
 use Rattle.std.specs.Int as width
 use Rattle.std.specs.Prelude.{bit_or}
 use Rattle.std.specs.Int.{div_ceil, from_bool}
@@ -16,7 +16,7 @@ use Rattle.arrow2_model.specs.Words.{words}
 use Rattle.arrow2_model.specs.Canonical.{canonical_bytes, IsCanonical}
 use Rattle.arrow2_model.proofs.Bits.{length-unnum, get_or-unnum, bits-nil, bits-cons, bits-append, length-bits, get_or-bits, get_or-bits_at, bits-set, unnum-or, bit_is}
 use Rattle.arrow2_model.proofs.Numbers.{bit-num, num-part-lt, same_from_bits}
-use Rattle.arrow2_model.proofs.Parts.{get_or-part}
+use Rattle.arrow2_model.proofs.Parts.{get_or-falses, get_or-part}
 use Rattle.arrow2_model.proofs.Words.{length-words, get_or-words}
 
 -- a front of the bits and all of them have the same items, as far as nothing is set behind the front
@@ -58,11 +58,6 @@ pub canonical-nil : (bytes : List ℕ) → bytes ≡ [] → IsCanonical bytes 0
 canonical-nil bytes e = record { fits = λ k. rw e (omega arith); exact = rw e refl; clear = λ k h. rw (e, bits-nil) refl }
 
 -- ---- one item more
-
-get_or-falses : (m i : ℕ) → get_or (replicate m false) i false ≡ false
-get_or-falses zero i = refl
-get_or-falses (suc m) zero = refl
-get_or-falses (suc m) (suc i) = get_or-falses m i
 
 bits-push : (bytes : List ℕ) (b : ℕ) → bits (bytes ++ b ∷ []) ≡ bits bytes ++ unnum 8 b
 bits-push bytes b = bits-append bytes (b ∷ []) ∙ ap (λ t. bits bytes ++ t) (bits-cons b [] ∙ (rw bits-nil (append-nil (unnum 8 b))))

@@ -470,10 +470,10 @@ digits_of_part_high n a bytes l h =
     let size : length (take n (drop a bytes)) ≡ n = length-take n (drop a bytes) ∙ omega (arith, length-drop a bytes) in
     digits_of_integer_high n (take n (drop a bytes)) size (slice_index-take-lt n (drop a bytes) (slice_index-drop-lt a bytes h))
 
-take_first : (n : ℕ) (xs ys : List ℕ) → length xs ≡ n → take n (xs ++ ys) ≡ xs
+pub take_first : (n : ℕ) (xs ys : List ℕ) → length xs ≡ n → take n (xs ++ ys) ≡ xs
 take_first n xs ys e = rw (← e) (take-append_seam xs ys)
 
-drop_first : (n : ℕ) (xs ys : List ℕ) → length xs ≡ n → drop n (xs ++ ys) ≡ ys
+pub drop_first : (n : ℕ) (xs ys : List ℕ) → length xs ≡ n → drop n (xs ++ ys) ≡ ys
 drop_first n xs ys e = rw (← e) (drop-append_seam xs ys)
 
 -- what the parts of joined bytes are read as

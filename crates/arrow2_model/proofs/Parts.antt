@@ -1,6 +1,7 @@
 -- Parts of lists.
-use Rattle.std.proofs.Common.{◌≡◌, ℕ, ◌+◌, ◌-◌, ◌<◌, ◌≤◌, List, [], ◌∷◌, ◌++◌, Bool, take, drop, length, get_or, ap, ◌∙◌, arith, rules}
-use Rattle.std.proofs.lemmas.List.{places, take_more, get_or-drop, get_or-take, length-drop, drop-take, take-take, drop-drop, take_all, drop-append-le, take-append-le}
+use Rattle.std.proofs.Common.{◌≡◌, inl, inr, ℕ, zero, suc, ◌+◌, ◌-◌, ◌<◌, ◌≤◌, List, [], ◌∷◌, ◌++◌, Bool, false, map, take, drop, replicate, length, get_or, refl, ap, sym, ◌∙◌, arith, rules}
+use Rattle.std.proofs.lemmas.Bool.{cases_lt}
+use Rattle.std.proofs.lemmas.List.{get_or_append_left, get_or-append_right, get_or_past, places, take_more, get_or-drop, get_or-take, length-drop, drop-take, take-take, drop-drop, take_all, drop-append-le, drop-map, take-append-le, take-map}
 use Rattle.std.proofs.Math.Seq.{take-add}
 use Rattle.arrow2_model.specs.Parts.{part}
 
@@ -37,3 +38,21 @@ part-front front back a n h =
 -- a list is a part of itself
 pub part_all : {X : Type 0} (items : List X) (n : ℕ) → length items ≡ n → part items 0 n ≡ items
 part_all items n e = take_all n items (omega (arith, e))
+
+-- a part of what is made item by item
+pub part-map : {X Y : Type 0} (f : X → Y) (xs : List X) (a n : ℕ) → part (map f xs) a n ≡ map f (part xs a n)
+part-map f xs a n = ap (take n) (drop-map f a xs) ∙ take-map f n (drop a xs)
+
+-- ---- false items behind others
+
+pub get_or-falses : (m i : ℕ) → get_or (replicate m false) i false ≡ false
+get_or-falses zero i = refl
+get_or-falses (suc m) zero = refl
+get_or-falses (suc m) (suc i) = get_or-falses m i
+
+-- behind the items nothing is set
+pub get_or-padded : (items : List Bool) (m i : ℕ) → get_or (items ++ replicate m false) i false ≡ get_or items i false
+get_or-padded items m i = elim (cases_lt i (length items)) [
+  | inl lt ↦ get_or_append_left items (replicate m false) false i lt
+  | inr ge ↦ get_or-append_right items (replicate m false) (length items) i false refl ge ∙ (get_or-falses m (i - length items) ∙ sym (get_or_past items i false ge))
+]

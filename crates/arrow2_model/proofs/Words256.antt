@@ -4,11 +4,10 @@ use Rattle.std.specs.Prelude.{ℤ, pos, negsuc, ◌+ℤ◌, ◌-ℤ◌, ◌*ℤ�
 use Rattle.std.specs.Int.{cast_unsigned, cast_signed, w128, int_wrapping_neg}
 use Rattle.std.proofs.lemmas.Int.{ints, to_z-of_z}
 use Rattle.arrow2_model.specs.Digits.{residue, centred, words_value, high_word, low_word, digits, low_digits, integer_from, natural_from, digits_number}
-use Rattle.arrow2_model.proofs.Digits.{residue-lt, residue-centred, centred-residue, slice_index-take-lt, slice_index-drop-lt, of_z_is, to_z_is, length-digits, slice_index-reverse-lt, digits_of_integer, integer_from-digits}
+use Rattle.arrow2_model.proofs.Digits.{residue-lt, residue-centred, centred-residue, slice_index-take-lt, slice_index-drop-lt, of_z_is, to_z_is, length-digits, slice_index-reverse-lt, digits_of_integer, integer_from-digits, take_first, drop_first}
 use Rattle.std.proofs.Math.Nat.{div-div-eq-div-mul, div-one, mod-eq_of_lt, mul_left_comm, pow-succ'}
 use Rattle.std.proofs.lemmas.Bool.Decides.{nat_tests, same_from_decides, Decides-like, Decides-and, Decides-eqb, Decides-int_eq}
 use Rattle.std.proofs.lemmas.List.{take-take, take-append-drop, length-reverse, reverse-reverse, length-take, length-drop, take_all}
-use Rattle.std.proofs.Math.Seq.{take-append_seam, drop-append_seam}
 use Rattle.std.specs.declared.cmp.Ordering.{Ordering}
 use Rattle.std.specs.Ordering.{int_cmp, nat_cmp, ordering_then, int_eq}
 
@@ -132,12 +131,6 @@ digits_of_words bytes l h =
 pub digits_of_words_high : (bytes : List ℕ) → length bytes ≡ 32 → ((k : ℕ) → slice_index bytes k < 256) → reverse (digits 32 (words_value (integer_from 16 (drop 16 (reverse bytes))) (integer_from 16 (reverse bytes)))) ≡ bytes
 digits_of_words_high bytes l h =
     ap reverse (digits_of_words (reverse bytes) (length-reverse bytes ∙ l) (slice_index-reverse-lt bytes h)) ∙ reverse-reverse bytes
-
-take_first : (n : ℕ) (xs ys : List ℕ) → length xs ≡ n → take n (xs ++ ys) ≡ xs
-take_first n xs ys e = rw (← e) (take-append_seam xs ys)
-
-drop_first : (n : ℕ) (xs ys : List ℕ) → length xs ≡ n → drop n (xs ++ ys) ≡ ys
-drop_first n xs ys e = rw (← e) (drop-append_seam xs ys)
 
 -- what was written is read back
 pub words_read_back : (hi lo : ℤ) (bytes : List ℕ) → FitsSigned w128 hi → FitsSigned w128 lo → bytes ≡ digits 32 (words_value hi lo) → words_value (integer_from 16 (drop 16 bytes)) (integer_from 16 bytes) ≡ words_value hi lo

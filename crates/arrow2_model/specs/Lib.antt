@@ -3,15 +3,10 @@ pub mod Buffers
 pub mod Canonical
 pub mod Digits
 pub mod Kernels
-pub mod Offsets
-pub mod Ones
 pub mod Parts
-pub mod Ranges
-pub mod Runs
 pub mod Rows
 pub mod Shown
 pub mod Storage
 pub mod Tables
 pub mod Touched
 pub mod Words
-pub mod Zipped

@@ -1,16 +1,15 @@
 //! Laws of the definitions. Each function is its law and nothing else.
-ghost use Rattle.std.specs.Prelude.{◌≡◌, ◌↔◌, ℕ, ◌+◌, ◌-◌, ◌*◌, ◌/◌, ◌%◌, ◌<◌, ◌≤◌, ◌^◌, List, ◌∷◌, [], ◌++◌, Bool, true, length, codes, count_by, false, get_or, replicate, slice_get, slice_index, slice_index_or, Some, take, IsTrue};
+ghost use Rattle.std.specs.Prelude.{◌≡◌, ◌↔◌, ℕ, ◌+◌, ◌-◌, ◌*◌, ◌/◌, ◌%◌, ◌<◌, ◌≤◌, ◌^◌, List, ◌∷◌, [], ◌++◌, Bool, true, length, codes, count_by, false, replicate, slice_get, slice_index, Some, take, IsTrue};
 ghost use Rattle.std.specs.Bool.{beq};
 ghost use Rattle.std.specs.Cmp.Lexicographic.{pointwise};
 ghost use Rattle.std.specs.Int.{div_ceil};
-ghost use Rattle.std.specs.List.{flat_map, sum_by};
+ghost use Rattle.std.specs.List.{flat_map};
 ghost use Rattle.arrow2_model.specs.Bits.{bit, bits, num, unnum, sum_of_powers};
 ghost use Rattle.arrow2_model.specs.Parts.{part, falses};
 ghost use Rattle.arrow2_model.specs.Storage.{BitmapStorage, items_of};
 ghost use Rattle.arrow2_model.specs.Words.{words, full_words, rest};
 ghost use Rattle.arrow2_model.specs.Kernels.{word, kernel};
 ghost use Rattle.arrow2_model.specs.Touched.{touched, slice_reads, cut_reads, lg, to_read, HoldsBit};
-ghost use Rattle.arrow2_model.specs.Runs.{runs, AreRuns, InRuns};
 ghost use Rattle.arrow2_model.specs.Tables.{each, Acts};
 ghost use Rattle.arrow2_model.specs.Canonical.{canonical_bytes};
 ghost use Rattle.arrow2_model.specs.Shown.{shown, items_text};
@@ -145,31 +144,6 @@ pub fn xor_with_itself_is_false()
 #[tactic(auto, using(crate::proofs::Tables::operators))]
 pub fn not_twice_is_the_list()
     ensures { (xs : List Bool) → each 1 (each 1 (xs ∷ []) ∷ []) ≡ xs }
-{}
-
-/// The runs of a list are its maximal runs of true items, all of them, each once and rising; no other list is that.
-#[tactic(auto, using(crate::proofs::RunLaws::runs_of_a_list))]
-pub fn runs_are_the_maximal_ones()
-    ensures all { (items : List Bool) → AreRuns items (runs items) }
-    ensures only { (items : List Bool) (ps : List (ℕ × ℕ)) → AreRuns items ps → ps ≡ runs items }
-{}
-
-/// A run ends before any later one begins, with a place between them: runs are disjoint, rising and not adjacent.
-#[tactic(auto, using(crate::proofs::RunLaws::runs_of_a_list))]
-pub fn runs_lie_apart()
-    ensures { (items : List Bool) (i j : ℕ) → i < j → j < length (runs items) → (slice_index_or (runs items) i (0, 0)).0 + (slice_index_or (runs items) i (0, 0)).1 < (slice_index_or (runs items) j (0, 0)).0 }
-{}
-
-/// The places in runs are those of the true items.
-#[tactic(auto, using(crate::proofs::RunLaws::runs_of_a_list))]
-pub fn runs_cover_the_true_items()
-    ensures { (items : List Bool) (k : ℕ) → (get_or items k false ≡ true) ↔ InRuns k (runs items) }
-{}
-
-/// The lengths of the runs and the false items are all items.
-#[tactic(auto, using(crate::proofs::RunLaws::runs_of_a_list))]
-pub fn lengths_of_runs_are_the_true_items()
-    ensures { (items : List Bool) → sum_by (λ p. p.1) (runs items) + falses items ≡ length items }
 {}
 
 /// The bytes touched by some bits are those that hold one of them.

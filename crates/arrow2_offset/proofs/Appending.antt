@@ -4,8 +4,8 @@ use Rattle.std.specs.Prelude.{ℤ, pos, ◌≤ℤ◌, unsigned_abs}
 use Rattle.std.proofs.lemmas.Int.{ints}
 use Rattle.std.proofs.lemmas.List.{length-map, map-append, append_assoc, get_or-map, take-append-le}
 use Rattle.std.proofs.lemmas.List.Sums.{sum_by-append}
-use Rattle.arrow2_model.specs.Offsets.{AreOffsets, start_of, lengths_of, last_of, offset_at}
-use Rattle.arrow2_model.proofs.Offsets.{Spells, get_or-last, get_or-offsets, push_spells}
+use Rattle.arrow2_offset.specs.Offsets.{AreOffsets, start_of, lengths_of, last_of, offset_at}
+use Rattle.arrow2_offset.proofs.OffsetLists.{Spells, get_or-last, get_or-offsets, push_spells}
 use Rattle.arrow2_offset.specs.Lengthened.{LengthenedBy}
 
 pub same_naturals : (a b : ℕ) (x : ℤ) → pos a ≡ x → x ≡ pos b → a ≡ b

@@ -10,8 +10,9 @@ use Rattle.std.proofs.lemmas.List.Sums.{sum_by-append, sum_by-cons}
 use Rattle.std.proofs.Math.Seq.{take-add}
 use Rattle.arrow2_model.specs.Parts.{part}
 use Rattle.arrow2_model.specs.Buffers.{BufferStorage, buffer_items, whole_buffer}
-use Rattle.arrow2_model.specs.Offsets.{running_sums, offsets_list, numbers_of, AreOffsets, AreOffsetsUpTo, start_of, lengths_of, offset_at, last_of}
-use Rattle.arrow2_model.proofs.Offsets.{Spells, spells, spelled, length-lengths_of, get_or-offsets, get_or-last, push_spells, repeat_spells, take_spells, part_spells, part-map, map-replicate}
+use Rattle.arrow2_offset.specs.Offsets.{running_sums, offsets_list, numbers_of, AreOffsets, AreOffsetsUpTo, start_of, lengths_of, offset_at, last_of}
+use Rattle.arrow2_offset.proofs.OffsetLists.{Spells, spells, spelled, length-lengths_of, get_or-offsets, get_or-last, push_spells, repeat_spells, take_spells, part_spells, map-replicate}
+use Rattle.arrow2_model.proofs.Parts.{part-map}
 use Rattle.arrow2_offset.proofs.Appending.{pushed as pushed_one, last_grown, same_naturals, value_at, value_last}
 
 -- ---- fronts

@@ -1,8 +1,8 @@
 -- The laws of offsets.
 use Rattle.std.proofs.Common.{◌≡◌, ◌↔◌, ℕ, ◌+◌, ◌≤◌, List, ◌∷◌, ◌++◌, map, length, ap, sym, ◌∙◌, arith}
 use Rattle.std.specs.Prelude.{pos}
-use Rattle.arrow2_model.specs.Offsets.{running_sums, offsets_list, offset_at, last_offset, start_of, lengths_of, GrowingOffsets, SameOffsets, offsets_of}
-use Rattle.arrow2_model.proofs.Offsets.{spelled, AreOffsets-list, lengths_of-list, start_of-list, running_sums-append, length-running_sums, get_or-offsets_list}
+use Rattle.arrow2_offset.specs.Offsets.{running_sums, offsets_list, offset_at, last_offset, start_of, lengths_of, GrowingOffsets, SameOffsets, offsets_of}
+use Rattle.arrow2_offset.proofs.OffsetLists.{spelled, AreOffsets-list, lengths_of-list, start_of-list, running_sums-append, length-running_sums, get_or-offsets_list}
 use Rattle.arrow2_offset.proofs.Growing.{sum-take-le}
 
 pub at_most_last : (start : ℕ) (ns : List ℕ) (k : ℕ) → offset_at start ns k ≤ last_offset start ns

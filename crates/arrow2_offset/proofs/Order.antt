@@ -9,7 +9,7 @@ use Rattle.std.proofs.lemmas.Int.{ints}
 use Rattle.std.proofs.lemmas.Cmp.{int_ranked}
 use Rattle.std.proofs.lemmas.Bool.{cases_lt}
 use Rattle.std.proofs.lemmas.List.{length-map, get_or-map}
-use Rattle.arrow2_model.specs.Offsets.{AreOffsets}
+use Rattle.arrow2_offset.specs.Offsets.{AreOffsets}
 
 le_ranked : (a b : ℤ) (r : Ordering) → MatchOrdering r (a <ℤ b) (a ≡ b) (b <ℤ a) → IsTrue (is_le r) ↔ (a ≤ℤ b)
 le_ranked a b Less h = ((λ _. omega (arith, ints)), λ _. refl)

@@ -1,13 +1,11 @@
 -- Steps of a walk over the lengths between offsets.
-use Rattle.std.proofs.Common.{◌≡◌, ℕ, ◌+◌, ◌-◌, ◌<◌, List, [], ◌∷◌, map, length, take, drop, get_or, ap, sym, ◌∙◌, refl, arith, add-one}
+use Rattle.std.proofs.Common.{◌≡◌, ℕ, ◌+◌, ◌-◌, ◌<◌, List, [], ◌∷◌, map, length, take, drop, get_or, ap, sym, ◌∙◌, refl, arith}
 use Rattle.std.specs.Prelude.{ℤ, pos, ◌≤ℤ◌, ◌-ℤ◌, unsigned_abs}
 use Rattle.std.specs.Int.{int_gap}
 use Rattle.std.proofs.lemmas.List.{length-drop, take_all}
-use Rattle.arrow2_model.specs.Offsets.{AreOffsets, lengths_of, lengths_behind}
-use Rattle.arrow2_model.proofs.Ranges.{gap_pos}
-
-get_or-next : {X : Type 0} (x : X) (xs : List X) (k : ℕ) (d : X) → get_or (x ∷ xs) (k + 1) d ≡ get_or xs k d
-get_or-next x xs k d = rw add-one refl
+use Rattle.arrow2_offset.specs.Offsets.{AreOffsets, lengths_of, lengths_behind}
+use Rattle.arrow2_index.proofs.Ranges.{gap_pos}
+use Rattle.arrow2_offset.proofs.OffsetLists.{get_or-next}
 
 -- the offsets behind the first one
 offsets_behind : (x y : ℤ) (xs : List ℤ) → AreOffsets (x ∷ y ∷ xs) → AreOffsets (y ∷ xs)

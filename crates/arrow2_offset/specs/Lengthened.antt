@@ -1,6 +1,6 @@
 -- What growing leaves of a list of offsets.
 use Rattle.std.specs.Prelude.{◌≡◌, ℕ, ◌++◌, ℤ, List}
-use Rattle.arrow2_model.specs.Offsets.{start_of, lengths_of}
+use Rattle.arrow2_offset.specs.Offsets.{start_of, lengths_of}
 
 -- offsets that have grown by some lengths: these are appended, and nothing else changes
 abbrev pub LengthenedBy : List ℕ → List ℤ → List ℤ → Type 0

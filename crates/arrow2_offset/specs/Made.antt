@@ -1,6 +1,6 @@
 -- What is made of a vector.
 use Rattle.std.specs.Prelude.{ℕ, ◌-◌, ℤ, List}
-use Rattle.arrow2_model.specs.Offsets.{GrowingOffsets, start_of, lengths_of}
+use Rattle.arrow2_offset.specs.Offsets.{GrowingOffsets, start_of, lengths_of}
 
 -- the offsets that a list of numbers spells, in a vector with room for some numbers: one more than lengths
 abbrev pub made_of : List ℤ → ℕ → GrowingOffsets

@@ -2,7 +2,7 @@
 ghost use Rattle.std.specs.Prelude.{◌≡◌, ◌-◌, ◌<◌, ◌≤◌, length, map, take, OnOk, OnErr, IsErrOf, vec_len, vec_capacity};
 ghost use Rattle.std.specs.Iterator.{IsFinite};
 ghost use Rattle.std.specs.Iterator.Runs.{WholeRun};
-ghost use Rattle.arrow2_model.specs.Offsets.{AreOffsetsUpTo, last_of};
+ghost use Rattle.arrow2_offset.specs.Offsets.{AreOffsetsUpTo, last_of};
 ghost use Rattle.arrow2_offset.specs.Collected.{GivesMoreThan, GivesPast};
 ghost use Rattle.arrow2_offset.specs.Lengthened.{LengthenedBy};
 ghost use Rattle.arrow2_types.specs.declared.refusal.Refusal.TheVariants as refusal;

@@ -1,6 +1,6 @@
 //! The test of what is handed in as offsets.
 ghost use Rattle.std.specs.Prelude.{◌≡◌, ℕ, ◌+◌, ◌<◌, ◌≤ℤ◌, ◌↔◌, pos, length, map, slice_index_or, OnOk, IsOk, IfErr, IfSome, IfNone, IsNone, IsTrue};
-ghost use Rattle.arrow2_model.specs.Offsets.{AreOffsets, AreOffsetsUpTo};
+ghost use Rattle.arrow2_offset.specs.Offsets.{AreOffsets, AreOffsetsUpTo};
 ghost use Rattle.arrow2_offset.specs.Refused.{IsOutOfSpec, first_broken, rule_words, why_not_offsets};
 
 use arrow2_index::offset::Offset;

@@ -2,7 +2,7 @@
 ghost use Rattle.std.specs.Prelude.{◌≡◌, ◌<◌, ◌≤◌, ◌↔◌, ◌⊎◌, IfOk, IsErrOf, MatchResult};
 ghost use Rattle.arrow2_types.specs.declared.error.Error.TheVariants.{Overflow, OutOfMemory};
 ghost use Rattle.arrow2_model.specs.Buffers.{buffer_items, whole_buffer};
-ghost use Rattle.arrow2_model.specs.Offsets.{AreOffsetsUpTo, last_of, last_of_growing, SameOffsets};
+ghost use Rattle.arrow2_offset.specs.Offsets.{AreOffsetsUpTo, last_of, last_of_growing, SameOffsets};
 
 use crate::immutable::OffsetsBuffer;
 use crate::mutable::Offsets;

@@ -8,7 +8,7 @@ ghost use Rattle.arrow2_types.specs.declared.error.Error.TheVariants.{OutOfMemor
 ghost use Rattle.arrow2_offset.specs.Refused.{IsOutOfSpec, why_not_offsets};
 ghost use Rattle.arrow2_model.specs.Parts.{part};
 ghost use Rattle.arrow2_model.specs.Buffers.{buffer_items, whole_buffer};
-ghost use Rattle.arrow2_model.specs.Offsets.{AreOffsets, offset_at, offsets_of, offsets_list, start_of, lengths_of, last_of, numbers_of};
+ghost use Rattle.arrow2_offset.specs.Offsets.{AreOffsets, offset_at, offsets_of, offsets_list, start_of, lengths_of, last_of, numbers_of};
 
 use crate::check::try_check_offsets;
 use crate::iterator::Lengths;
@@ -36,7 +36,7 @@ pub struct OffsetsBuffer<O: Offset> {
 impl<O: Offset> Model for OffsetsBuffer<O> {
     ghost use Rattle.std.specs.Prelude.{ℤ};
     ghost use Rattle.arrow2_model.specs.Buffers.{BufferStorage, buffer_items};
-    ghost use Rattle.arrow2_model.specs.Offsets.{AreOffsetsUpTo, numbers_of};
+    ghost use Rattle.arrow2_offset.specs.Offsets.{AreOffsetsUpTo, numbers_of};
 
     ghost Value = { BufferStorage ℤ };
 

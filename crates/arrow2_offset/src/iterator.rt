@@ -2,7 +2,7 @@
 ghost use Rattle.std.specs.Prelude.{◌≡◌, map, length, Some, IfSome};
 ghost use Rattle.std.specs.Iterator.{YieldsFirst, item_count, UpTo};
 ghost use Rattle.std.specs.Iterator.SizeHint.{IsWithinCount};
-ghost use Rattle.arrow2_model.specs.Offsets.{AreOffsets, lengths_of};
+ghost use Rattle.arrow2_offset.specs.Offsets.{AreOffsets, lengths_of};
 
 use arrow2_index::offset::Offset;
 use std::alloc::AllocError;
@@ -18,7 +18,7 @@ pub struct Lengths<'a, O: Offset> {
 
 impl<'a, O: Offset> Model for Lengths<'a, O> {
     ghost use Rattle.std.specs.Prelude.{List, ℕ, map};
-    ghost use Rattle.arrow2_model.specs.Offsets.{AreOffsets, lengths_of};
+    ghost use Rattle.arrow2_offset.specs.Offsets.{AreOffsets, lengths_of};
 
     ghost Value = { List ℕ };
 

@@ -1,6 +1,6 @@
 //! Laws of the definitions of offsets. Each function is its law and nothing else.
 ghost use Rattle.std.specs.Prelude.{◌≡◌, ℕ, ℤ, ◌+◌, ◌≤◌, ◌++◌, ◌↔◌, List, length, map, pos, slice_index_or};
-ghost use Rattle.arrow2_model.specs.Offsets.{running_sums, offsets_list, offset_at, last_offset, AreOffsets, start_of, lengths_of, GrowingOffsets, SameOffsets, offsets_of};
+ghost use Rattle.arrow2_offset.specs.Offsets.{running_sums, offsets_list, offset_at, last_offset, AreOffsets, start_of, lengths_of, GrowingOffsets, SameOffsets, offsets_of};
 
 /// Whole numbers are offsets exactly if they are the list of a start and lengths, and then of those that
 /// they spell.

@@ -8,7 +8,7 @@ ghost use Rattle.std.specs.Cmp.{partial_equiv_from_equiv, nat_eq_equiv, on_equiv
 ghost use Rattle.std.specs.Cmp.Lexicographic.{pointwise, lists_equiv};
 ghost use Rattle.arrow2_model.specs.Parts.{part};
 ghost use Rattle.arrow2_model.specs.Buffers.{buffer_items};
-ghost use Rattle.arrow2_model.specs.Offsets.{AreOffsets, offset_at, AreOffsetsUpTo, offsets_of, last_of_growing, start_of, lengths_of, slots, SameOffsets, GrownBy};
+ghost use Rattle.arrow2_offset.specs.Offsets.{AreOffsets, offset_at, AreOffsetsUpTo, offsets_of, last_of_growing, start_of, lengths_of, slots, SameOffsets, GrownBy};
 ghost use Rattle.arrow2_offset.specs.Collected.{GivesMoreThan, GivesPast};
 ghost use Rattle.arrow2_offset.specs.Made.{made_of};
 ghost use Rattle.arrow2_offset.specs.Refused.{IsOutOfSpec, why_not_offsets};
@@ -38,7 +38,7 @@ pub struct Offsets<O: Offset> {
 
 impl<O: Offset> Model for Offsets<O> {
     ghost use Rattle.std.specs.Prelude.{◌-◌, map, vec_capacity};
-    ghost use Rattle.arrow2_model.specs.Offsets.{GrowingOffsets, start_of, lengths_of, AreOffsetsUpTo};
+    ghost use Rattle.arrow2_offset.specs.Offsets.{GrowingOffsets, start_of, lengths_of, AreOffsetsUpTo};
 
     ghost Value = { GrowingOffsets };
 

@@ -2,13 +2,14 @@
 use Rattle.std.proofs.Common.{◌≡◌, ◌≢◌, ◌∙◌, sym, ap, refl, subst, ◌<◌, ℕ, List, [], ◌∷◌, ◌++◌, length, Bool, true, false, cond, ◌||◌, not, ◌⊎◌, inl, inr, arith, eqb, append_assoc}
 use Rattle.std.specs.Prelude.{Some, ◌↔◌}
 use Rattle.std.specs.List.{All, flat_map, list_any, list_all, slice_split, onto_first, join_with_byte}
+use Rattle.std.proofs.lemmas.Bool.{not-true}
 use Rattle.std.proofs.lemmas.List.Elements.{All-cons, All-nil}
 use Rattle.std.proofs.lemmas.List.Splits.{join_with_byte-slice_split}
 use Rattle.arrow2_script.specs.Lines.{lines_of, parts_of, parts_between, words_of, is_blank, closed, ended, IsLine, AreLines, IsWord, AreWords}
 use Rattle.arrow2_script.specs.Commands.{command_of, command_in, command_words, IsSpelling}
 use Rattle.arrow2_script.specs.declared.command.Command.{Command}
 use Rattle.arrow2_script.proofs.LineLemmas.{lines_of-cut, parts-joined, parts_all}
-use Rattle.arrow2_script.proofs.SpellingLemmas.{is_word, not_true, filled}
+use Rattle.arrow2_script.proofs.SpellingLemmas.{is_word, filled}
 use Rattle.arrow2_script.proofs.WordLemmas.{both}
 use Rattle.arrow2_script.proofs.CommandLemmas.{command_says, command_of-words, some_words}
 
@@ -106,7 +107,7 @@ word_passes : (word : List ℕ) → is_word word ≡ true → IsWord word
 unfolding is_word
 word_passes word e =
     let p = both (not (is_blank word)) (list_all (λ b. not (eqb b 32)) word) e in
-    (there word (not_true (is_blank word) p.0), spaceless word p.1)
+    (there word (not-true (is_blank word) p.0), spaceless word p.1)
 
 words_pass : (words : List (List ℕ)) → list_all is_word words ≡ true → All IsWord words
 words_pass [] e = All-nil IsWord

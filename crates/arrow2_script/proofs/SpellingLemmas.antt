@@ -2,6 +2,7 @@
 use Rattle.std.proofs.Common.{◌≡◌, refl, ◌/◌, ◌%◌, ◌<◌, ◌^◌, ℕ, suc, List, [], ◌∷◌, length, Bool, true, false, ◌&&◌, not, arith, eqb, map, length-append}
 use Rattle.std.specs.Prelude.{Option, Some, None, IfSome}
 use Rattle.std.specs.List.{All, list_any, list_all, join_with_byte, flat_map}
+use Rattle.std.proofs.lemmas.Bool.{not-true}
 use Rattle.std.proofs.lemmas.List.Folds.{list_all-append}
 use Rattle.std.specs.Str.Parse.{AllDigits}
 use Rattle.std.specs.Fmt.{decimal}
@@ -16,10 +17,6 @@ use Rattle.arrow2_script.specs.declared.words.Width.TheVariants.{Bits8, Bits16, 
 -- one byte or more, none of them 32
 unfoldable pub is_word : List ℕ → Bool
 is_word word = not (is_blank word) && list_all (λ b. not (eqb b 32)) word
-
-pub not_true : (b : Bool) → not b ≡ true → b ≡ false
-not_true true e = cc
-not_true false e = refl
 
 pub filled : (bytes : List ℕ) → 0 < length bytes → is_blank bytes ≡ false
 filled bytes some = grind (arith, some)
@@ -99,4 +96,4 @@ words_there [] e = refl
 words_there (word ∷ words) e =
     let p = both (is_word word) (list_all is_word words) e in
     let q = both (not (is_blank word)) (list_all (λ b. not (eqb b 32)) word) p.0 in
-    rw (not_true (is_blank word) q.0, words_there words p.1) refl
+    rw (not-true (is_blank word) q.0, words_there words p.1) refl

@@ -2,8 +2,8 @@
 use Rattle.std.proofs.Common.{ℕ, zero, suc, ◌+◌, ◌-◌, ◌<◌, ◌≤◌, inl, inr, List, [], ◌∷◌, Bool, false, length, get_or, sym, ◌∙◌, arith}
 use Rattle.std.proofs.lemmas.Bool.{true≢false, cases_lt}
 use Rattle.std.proofs.lemmas.List.{get_or_past}
-use Rattle.arrow2_model.specs.Runs.{IsRun, AllRuns, runs}
-use Rattle.arrow2_model.proofs.MaximalRuns.{runs_are}
+use Rattle.arrow2_walks.specs.Runs.{IsRun, AllRuns, runs}
+use Rattle.arrow2_walks.proofs.MaximalRuns.{runs_are}
 
 run_inside : (items : List Bool) (p : ℕ × ℕ) → IsRun items p → p.0 + p.1 ≤ length items
 run_inside items p run = elim (cases_lt (length items) (p.0 + p.1)) [

@@ -1,6 +1,10 @@
 pub mod Cuts
 pub mod InnerRuns
+pub mod MaximalRuns
+pub mod RunLaws
+pub mod RunSteps
 pub mod Slots
 pub mod TakenRuns
+pub mod UniqueRuns
 pub mod WordsOfPlaces
 pub mod Zipped

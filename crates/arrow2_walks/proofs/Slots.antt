@@ -5,7 +5,7 @@ use Rattle.std.proofs.iter.runs.Made.{took}
 use Rattle.std.specs.Iterator.Runs.{Run}
 use Rattle.std.specs.Iterator.{Yields, YieldsFirst, YieldsLast, YieldsFirstBy, YieldsLastBy}
 use Rattle.std.proofs.lemmas.List.{length-append}
-use Rattle.arrow2_model.specs.Zipped.{slot, zipped}
+use Rattle.arrow2_walks.specs.Zipped.{slot, zipped}
 use Rattle.arrow2_walks.specs.declared.zip_validity.ZipValidityIter.{ZipValidityIter}
 use Rattle.arrow2_walks.specs.declared.zip_validity.ZipValidity.{ZipValidity}
 use Rattle.arrow2_walks.specs.declared.zip_validity.ZipValidity.TheVariants.{Required, Optional}

@@ -3,9 +3,9 @@ use Rattle.std.proofs.Common.{◌≡◌, ℕ, ◌+◌, ◌-◌, ◌*◌, ◌<◌
 use Rattle.std.proofs.lemmas.Bool.{true≢false, cases_lt}
 use Rattle.arrow2_model.specs.Bits.{bits}
 use Rattle.arrow2_model.specs.Parts.{part}
-use Rattle.arrow2_model.specs.Runs.{runs_from}
+use Rattle.arrow2_walks.specs.Runs.{runs_from}
 use Rattle.arrow2_model.proofs.Parts.{get_or-part}
-use Rattle.arrow2_model.proofs.RunSteps.{runs_from_start, runs_from_next, runs_from_end, runs_from_until, runs_from_last}
+use Rattle.arrow2_walks.proofs.RunSteps.{runs_from_start, runs_from_next, runs_from_end, runs_from_until, runs_from_last}
 use Rattle.arrow2_model.proofs.Walks.{length-part_bits}
 use Rattle.arrow2_walks.specs.Places.{IsFirst}
 

@@ -4,7 +4,7 @@ use Rattle.std.specs.Int.{trailing_zeros}
 use Rattle.std.specs.Int as width
 use Rattle.std.specs.Int.Count.{trailing_of_zero}
 use Rattle.std.proofs.Math.Nat.{div-div-eq-div-mul, div-one, pow-succ', zero-add}
-use Rattle.std.proofs.lemmas.Bool.{cases_lt}
+use Rattle.std.proofs.lemmas.Bool.{cases_lt, not-false, not-true}
 use Rattle.std.proofs.lemmas.Nat.Bits.{bit_at-trailing_zeros, bit_at-zero}
 use Rattle.std.proofs.lemmas.List.{get_or-map}
 use Rattle.arrow2_model.specs.Bits.{bit, unnum}
@@ -27,20 +27,12 @@ flipped_bit x i h l =
     let n = length-unnum 64 x in
     sym (get_or-unnum 64 (2 ^ 64 - 1 - x) i false l) ∙ (ap (λ xs. get_or xs i false) (unnum-not 64 x (2 ^ 64 - 1 - x) h refl) ∙ (get_or-map not (unnum 64 x) i false false (omega (arith, n, l)) ∙ ap not (get_or-unnum 64 x i false l)))
 
-not_false : (b : Bool) → not b ≡ false → b ≡ true
-not_false true e = refl
-not_false false e = sym e
-
-not_true : (b : Bool) → not b ≡ true → b ≡ false
-not_true true e = sym e
-not_true false e = refl
-
 -- the first bit that is not set, by the word with every bit flipped
 pub first_unset : (x p : ℕ) → x < 2 ^ 64 → p ≡ trailing_zeros width.w64 (2 ^ 64 - 1 - x) → (p ≤ 64) × ((i : ℕ) → i < p → bit x i ≡ true) × (p < 64 → bit x p ≡ false)
 first_unset x p h e =
     let f = first_set (2 ^ 64 - 1 - x) p (omega arith) e in
     let most = f.0 in
-    (most, (λ i l. not_false (bit x i) (sym (flipped_bit x i h (omega (arith, most, l))) ∙ f.1 i l)), λ l. not_true (bit x p) (sym (flipped_bit x p h l) ∙ f.2 l))
+    (most, (λ i l. not-false (bit x i) (sym (flipped_bit x i h (omega (arith, most, l))) ∙ f.1 i l)), λ l. not-true (bit x p) (sym (flipped_bit x p h l) ∙ f.2 l))
 
 -- a bit of a shifted number
 pub bit_behind : (n x i : ℕ) → bit (x / 2 ^ n) i ≡ bit x (n + i)

@@ -1,11 +1,11 @@
--- Values beside their validity: how many they are, place by place, in parts, with one more, and how many are null.
+-- Values beside their validity: how many they are, place by place, in parts, with others behind them, and how many are null.
 use Rattle.std.proofs.Common.{◌≡◌, ℕ, zero, suc, ◌<◌, List, [], ◌∷◌, ◌++◌, Bool, true, false, not, cond, length, take, drop, get_or, refl, ap, sym, ◌∙◌, arith}
 use Rattle.std.specs.Prelude.{Option, Some, None, is_some, unwrap_or, count_by}
 use Rattle.std.specs.Bool.{then_some}
 use Rattle.std.specs.Option.{is_none}
 use Rattle.std.proofs.lemmas.List.Sums.{sum_by-cons}
 use Rattle.arrow2_model.specs.Parts.{part, falses}
-use Rattle.arrow2_model.specs.Zipped.{slot, zipped}
+use Rattle.arrow2_walks.specs.Zipped.{slot, zipped}
 
 module _ {X : Type 0} where
   pub length-zipped : (xs : List X) (vs : List Bool) → length vs ≡ length xs → length (zipped xs vs) ≡ length xs
@@ -45,11 +45,14 @@ module _ {X : Type 0} where
   pub part-zipped : (xs : List X) (vs : List Bool) (a n : ℕ) → length vs ≡ length xs → part (zipped xs vs) a n ≡ zipped (part xs a n) (part vs a n)
   part-zipped xs vs a n e = ap (take n) (drop-zipped xs vs a e) ∙ take-zipped (drop a xs) (drop a vs) n
 
+  pub append-zipped : (xs ys : List X) (vs ws : List Bool) → length vs ≡ length xs → zipped (xs ++ ys) (vs ++ ws) ≡ zipped xs vs ++ zipped ys ws
+  append-zipped [] ys [] ws e = refl
+  append-zipped [] ys (v ∷ vs) ws e = absurd (omega (arith, e))
+  append-zipped (x ∷ xs) ys [] ws e = absurd (omega (arith, e))
+  append-zipped (x ∷ xs) ys (v ∷ vs) ws e = ap (λ l. slot x v ∷ l) (append-zipped xs ys vs ws (omega (arith, e)))
+
   pub push-zipped : (xs : List X) (vs : List Bool) (x : X) (v : Bool) → length vs ≡ length xs → zipped (xs ++ x ∷ []) (vs ++ v ∷ []) ≡ zipped xs vs ++ slot x v ∷ []
-  push-zipped [] [] x v e = refl
-  push-zipped [] (w ∷ vs) x v e = absurd (omega (arith, e))
-  push-zipped (y ∷ xs) [] x v e = absurd (omega (arith, e))
-  push-zipped (y ∷ xs) (w ∷ vs) x v e = ap (λ l. slot y w ∷ l) (push-zipped xs vs x v (omega (arith, e)))
+  push-zipped xs vs x v e = append-zipped xs (x ∷ []) vs (v ∷ []) e
 
   -- an option by its value, or another one where it has none, and whether it has one
   pub slot-option : (o : Option X) (d : X) → slot (unwrap_or o d) (is_some o) ≡ o
@@ -71,4 +74,4 @@ module _ {X : Type 0} where
       let c = nulls-zipped xs vs (omega (arith, e)) in
       omega (arith, a, b, c)
 
-pub ruleset columns = (length-zipped, part-zipped, push-zipped, slot-option, nulls-zipped)
+pub ruleset columns = (length-zipped, part-zipped, append-zipped, push-zipped, slot-option, nulls-zipped)

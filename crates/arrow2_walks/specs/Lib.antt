@@ -1,4 +1,6 @@
 pub mod Cuts
 pub mod Places
+pub mod Runs
 pub mod Slots
+pub mod Zipped
 pub mod Zips

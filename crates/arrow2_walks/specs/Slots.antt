@@ -1,6 +1,6 @@
 -- The slots that are still to come of a validity zip, by what is still to come of its walks.
 use Rattle.std.specs.Prelude.{List, Bool, Option, Some, map}
-use Rattle.arrow2_model.specs.Zipped.{zipped}
+use Rattle.arrow2_walks.specs.Zipped.{zipped}
 use Rattle.arrow2_walks.specs.declared.zip_validity.ZipValidityIter.{ZipValidityIter}
 use Rattle.arrow2_walks.specs.declared.zip_validity.ZipValidity.{ZipValidity}
 use Rattle.arrow2_walks.specs.declared.zip_validity.ZipValidity.TheVariants.{Required, Optional}

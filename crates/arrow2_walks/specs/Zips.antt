@@ -1,7 +1,7 @@
 -- The steps of the validity zips.
 use Rattle.std.specs.Prelude.{◌≡◌, ◌⊎◌, ℕ, List, Bool, true, Option, Some, None, MatchOption, option_map, length}
 use Rattle.std.specs.Iterator.Runs.{EachRunFrom}
-use Rattle.arrow2_model.specs.Zipped.{slot}
+use Rattle.arrow2_walks.specs.Zipped.{slot}
 use Rattle.arrow2_walks.specs.declared.zip_validity.ZipValidityIter.{ZipValidityIter}
 use Rattle.arrow2_walks.specs.declared.zip_validity.ZipValidity.{ZipValidity}
 use Rattle.arrow2_walks.specs.declared.zip_validity.ZipValidity.TheVariants.{Required, Optional}

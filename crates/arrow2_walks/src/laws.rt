@@ -1,6 +1,8 @@
 //! Laws of the walks. Each function is its law and nothing else.
-ghost use Rattle.std.specs.Prelude.{◌+◌, ◌≤◌, All, Bool, List, Option, length, option_map};
-ghost use Rattle.arrow2_model.specs.Runs.{runs};
+ghost use Rattle.std.specs.Prelude.{◌≡◌, ◌↔◌, ℕ, ◌+◌, ◌<◌, ◌≤◌, All, Bool, List, Option, false, get_or, length, option_map, slice_index_or, true};
+ghost use Rattle.std.specs.List.{sum_by};
+ghost use Rattle.arrow2_model.specs.Parts.{falses};
+ghost use Rattle.arrow2_walks.specs.Runs.{runs, AreRuns, InRuns};
 ghost use Rattle.std.specs.Iterator.{YieldsFirst, YieldsLast, YieldsFirstBy, YieldsLastBy};
 ghost use Rattle.arrow2_walks.specs.declared.zip_validity.ZipValidityIter.{ZipValidityIter};
 ghost use Rattle.arrow2_walks.specs.declared.zip_validity.ZipValidity.{ZipValidity};
@@ -24,6 +26,31 @@ pub fn a_zip_with_or_without_validity_walks_over_its_slots<
 >()
     ensures first { (view : I.Item → X) (rest : I → List X) (valid : V → List Bool) (s t : ZipValidity I V) (r : Option (Option I.Item)) → MatchZip s (λ _. Unit {0}) (HasEqualLengths rest valid) → either_steps (YieldsFirstBy view rest) (YieldsFirst valid) s r t → YieldsFirstBy (option_map view) (slots_of rest valid) s r t × MatchZip t (λ _. Unit {0}) (HasEqualLengths rest valid) }
     ensures last { (view : I.Item → X) (rest : I → List X) (valid : V → List Bool) (s t : ZipValidity I V) (r : Option (Option I.Item)) → MatchZip s (λ _. Unit {0}) (HasEqualLengths rest valid) → either_steps (YieldsLastBy view rest) (YieldsLast valid) s r t → YieldsLastBy (option_map view) (slots_of rest valid) s r t × MatchZip t (λ _. Unit {0}) (HasEqualLengths rest valid) }
+{}
+
+/// The runs of a list are its maximal runs of true items, all of them, each once and rising; no other list is that.
+#[tactic(auto, using(crate::proofs::RunLaws::runs_of_a_list))]
+pub fn runs_are_the_maximal_ones()
+    ensures all { (items : List Bool) → AreRuns items (runs items) }
+    ensures only { (items : List Bool) (ps : List (ℕ × ℕ)) → AreRuns items ps → ps ≡ runs items }
+{}
+
+/// A run ends before any later one begins, with a place between them: runs are disjoint, rising and not adjacent.
+#[tactic(auto, using(crate::proofs::RunLaws::runs_of_a_list))]
+pub fn runs_lie_apart()
+    ensures { (items : List Bool) (i j : ℕ) → i < j → j < length (runs items) → (slice_index_or (runs items) i (0, 0)).0 + (slice_index_or (runs items) i (0, 0)).1 < (slice_index_or (runs items) j (0, 0)).0 }
+{}
+
+/// The places in runs are those of the true items.
+#[tactic(auto, using(crate::proofs::RunLaws::runs_of_a_list))]
+pub fn runs_cover_the_true_items()
+    ensures { (items : List Bool) (k : ℕ) → (get_or items k false ≡ true) ↔ InRuns k (runs items) }
+{}
+
+/// The lengths of the runs and the false items are all items.
+#[tactic(auto, using(crate::proofs::RunLaws::runs_of_a_list))]
+pub fn lengths_of_runs_are_the_true_items()
+    ensures { (items : List Bool) → sum_by (λ p. p.1) (runs items) + falses items ≡ length items }
 {}
 
 /// Each run of a list ends inside it.

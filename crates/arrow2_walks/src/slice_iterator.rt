@@ -2,7 +2,7 @@
 ghost use Rattle.std.specs.Prelude.{◌≡◌, ◌+◌, length};
 ghost use Rattle.std.specs.Iterator.{YieldsFirst, item_count};
 ghost use Rattle.arrow2_model.specs.Parts.{falses};
-ghost use Rattle.arrow2_model.specs.Runs.{runs};
+ghost use Rattle.arrow2_walks.specs.Runs.{runs};
 ghost use Rattle.arrow2_model.specs.Storage.{items_of};
 ghost use Rattle.arrow2_walks.specs.Places.{RunsLeft};
 
@@ -26,7 +26,7 @@ impl<'a> Model for SlicesIterator<'a> {
     ghost use Rattle.std.specs.Prelude.{◌+◌, ◌*◌, ◌≤◌, length};
     ghost use Rattle.arrow2_model.specs.Bits.{bits};
     ghost use Rattle.arrow2_model.specs.Parts.{part};
-    ghost use Rattle.arrow2_model.specs.Runs.{runs_from};
+    ghost use Rattle.arrow2_walks.specs.Runs.{runs_from};
     ghost use Rattle.arrow2_walks.specs.Places.{IsRead, RunsLeft};
 
     ghost Value = { RunsLeft };

@@ -1,8 +1,8 @@
 use Rattle.std.proofs.Common.{◌≡◌, ◌∙◌, ◌++◌, ◌+◌, ◌<◌, ℕ, List, length, take, get_or, None, true, refl, sym, ap, subst, arith, append_assoc, take_all}
 use Rattle.std.specs.Prelude.{codes}
-use Rattle.std.specs.declared.fmt.Formatter.{Formatter}
-use Rattle.std.specs.Fmt.{HasWritten, HasWrittenStyled, IsPlainFormatter, IsDefaultSpec}
+use Rattle.std.specs.Fmt.{HasWrittenStyled}
 use Rattle.std.proofs.Output.{has_written_styled_append, has_written_styled_of_eq}
+use Rattle.arrow2_model.proofs.Written.{plain_written}
 use Rattle.arrow2_array.specs.ArrayTexts.{item_word, listed}
 use Rattle.arrow2_array.proofs.ArrayTexts.{listed-none, listed-first, listed-more}
 use Rattle.arrow2_array.proofs.fmt.write_array.Goals as goal
@@ -47,13 +47,6 @@ returns-clause-styled g c = λ flush ok.
     let all : take c.loop-index.index xs ≡ xs = take_all c.loop-index.index xs (omega (arith, c.loop-index-test.false, c.len-index-end.ensures)) in
     has_written_styled_of_eq _ _ _ _ _ (ap (λ t. (codes "BooleanArray[" ++ listed t) ++ codes "]") all ∙ append_assoc (codes "BooleanArray[") (listed xs) (codes "]"))
     (has_written_styled_append _ _ _ _ _ _ so_far (c.write_str-2.ensures.styled so_far.flush ok))
-
--- what is written whatever the options is written with none
-plain_written : {W : Type 0} (took : W → List ℕ → W → Type 0) (f g : Formatter W) (text : List ℕ) → IsPlainFormatter f → HasWrittenStyled took f text g → HasWritten took f text g
-plain_written took f g text plain styled = record {
-  wrote = styled.wrote;
-  plain = record { bare = subst IsDefaultSpec (sym styled.spec) plain.bare; flush = styled.flush };
-}
 
 pub returns-clause-writes : goal.returns-clause-writes
 returns-clause-writes g c = λ plain ok. plain_written _ _ _ _ plain (returns-clause-styled g c plain.flush ok)

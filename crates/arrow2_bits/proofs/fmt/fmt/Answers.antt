@@ -1,9 +1,9 @@
-use Rattle.std.proofs.Common.{◌≡◌, ◌+◌, ◌-◌, ◌*◌, ◌<◌, ◌≤◌, ◌++◌, ◌∷◌, [], ℕ, zero, suc, List, length, get_or, min, true, refl, sym, ap, subst, ◌∙◌, arith}
+use Rattle.std.proofs.Common.{◌≡◌, ◌+◌, ◌-◌, ◌*◌, ◌<◌, ◌≤◌, ◌++◌, ◌∷◌, [], ℕ, zero, suc, length, get_or, min, true, refl, sym, ap, subst, ◌∙◌, arith}
 use Rattle.std.specs.Prelude.{codes}
-use Rattle.std.specs.declared.fmt.Formatter.{Formatter}
-use Rattle.std.specs.Fmt.{HasWritten, HasWrittenStyled, IsPlainFormatter, IsDefaultSpec}
+use Rattle.std.specs.Fmt.{HasWrittenStyled}
 use Rattle.std.proofs.lemmas.List.{append_assoc}
 use Rattle.std.proofs.Output.{has_written_styled_append, has_written_styled_of_eq}
+use Rattle.arrow2_model.proofs.Written.{plain_written}
 use Rattle.arrow2_model.specs.Shown.{shown_byte}
 use Rattle.arrow2_model.proofs.Shown.{shown_byte_alone, shown_front, shown_front_none, shown_front_first, shown_front_more, shown_is}
 use Rattle.arrow2_bits.proofs.fmt.fmt.Goals as goal
@@ -72,13 +72,6 @@ returns-clause-styled g c = λ flush ok.
     ] in
     has_written_styled_of_eq _ _ _ _ _ (sym (shown_is a.bytes.now a.offset a.length j c.requires.offset c.loop-byte.auto.byte-index-end before.each before.last all))
     (has_written_styled_append _ _ _ _ _ _ so_far (c.write_str-2.ensures.styled so_far.flush ok))
-
--- what is written whatever the options is written with none
-plain_written : {W : Type 0} (took : W → List ℕ → W → Type 0) (f g : Formatter W) (text : List ℕ) → IsPlainFormatter f → HasWrittenStyled took f text g → HasWritten took f text g
-plain_written took f g text plain styled = record {
-  wrote = styled.wrote;
-  plain = record { bare = subst IsDefaultSpec (sym styled.spec) plain.bare; flush = styled.flush };
-}
 
 pub returns-clause-writes : goal.returns-clause-writes
 returns-clause-writes g c = λ plain ok. plain_written _ _ _ _ plain (returns-clause-styled g c plain.flush ok)

@@ -1,5 +1,5 @@
 use Rattle.std.proofs.Common.{◌≡◌, ℕ, ◌<◌, ◌+◌, length, map, get_or}
-use Rattle.arrow2_model.specs.Offsets.{lengths_of}
+use Rattle.arrow2_offset.specs.Offsets.{lengths_of}
 use Rattle.arrow2_ffi.proofs.offset_loops.write_lengths.Given as goal
 
 abbrev pub invariant-loop-i : goal.invariant-loop-i

@@ -1,9 +1,9 @@
 use Rattle.std.proofs.Common.{◌≡◌, ◌∙◌, ℕ, ◌-◌, List, map, length, ap, arith}
 use Rattle.std.specs.Prelude.{ℤ, pos}
 use Rattle.std.proofs.lemmas.List.{length-map, length-set}
-use Rattle.arrow2_model.specs.Offsets.{lengths_of, offset_at}
+use Rattle.arrow2_offset.specs.Offsets.{lengths_of, offset_at}
 use Rattle.arrow2_model.specs.Parts.{part}
-use Rattle.arrow2_model.proofs.Offsets.{length-lengths_of}
+use Rattle.arrow2_offset.proofs.OffsetLists.{length-lengths_of}
 use Rattle.arrow2_model.proofs.Parts.{length-part}
 use Rattle.arrow2_ffi.proofs.OffsetSteps.{all_offsets, from_first, one_more_value, within_last}
 use Rattle.arrow2_ffi.proofs.offset_loops.write_part.Goals as goal

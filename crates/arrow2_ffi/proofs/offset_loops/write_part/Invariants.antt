@@ -1,6 +1,6 @@
 use Rattle.std.proofs.Common.{◌≡◌, ℕ, ◌<◌, ◌-◌, length, map, get_or}
 use Rattle.std.specs.Prelude.{pos}
-use Rattle.arrow2_model.specs.Offsets.{lengths_of, offset_at}
+use Rattle.arrow2_offset.specs.Offsets.{lengths_of, offset_at}
 use Rattle.arrow2_model.specs.Parts.{part}
 use Rattle.arrow2_ffi.proofs.offset_loops.write_part.Given as goal
 

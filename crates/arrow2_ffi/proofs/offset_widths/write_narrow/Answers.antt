@@ -3,7 +3,7 @@ use Rattle.std.specs.Prelude.{ℤ, pos, FitsSigned}
 use Rattle.std.specs.Int as integers
 use Rattle.std.proofs.lemmas.Int.{to_z-of_z}
 use Rattle.std.proofs.lemmas.List.{ext_get_or, length-set}
-use Rattle.arrow2_model.proofs.Ranges.{below_fits}
+use Rattle.arrow2_model.proofs.Signed.{below_fits}
 use Rattle.arrow2_offset.proofs.Growing.{offset_within}
 use Rattle.arrow2_ffi.proofs.OffsetSteps.{one_more}
 use Rattle.arrow2_ffi.proofs.offset_widths.write_narrow.Goals as goal

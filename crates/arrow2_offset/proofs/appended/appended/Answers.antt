@@ -4,7 +4,7 @@ use Rattle.std.proofs.lemmas.List.{length-map, length-append, append-nil, take_a
 use Rattle.std.proofs.iter.Next.{Yields-more}
 use Rattle.std.proofs.iter.runs.Made.{run_of_exit}
 use Rattle.std.specs.Iterator.{Yields}
-use Rattle.arrow2_model.specs.Offsets.{start_of, lengths_of}
+use Rattle.arrow2_offset.specs.Offsets.{start_of, lengths_of}
 use Rattle.arrow2_offset.proofs.Appending.{same_naturals, value_last, pushed, front_stays, sum-push}
 use Rattle.arrow2_offset.proofs.appended.appended.Goals as goal
 use Rattle.arrow2_offset.proofs.appended.appended.Goals.{then-len-capacity+else-last-greatest+else-is_err, else-len-capacity}

@@ -1,6 +1,6 @@
 use Rattle.std.proofs.Common.{◌≡◌, ◌+◌, ◌*◌, ◌^◌, ◌<◌, ◌≤◌, length, map, sum, take}
 use Rattle.std.specs.Prelude.{vec_capacity}
-use Rattle.arrow2_model.specs.Offsets.{last_of}
+use Rattle.arrow2_offset.specs.Offsets.{last_of}
 use Rattle.arrow2_offset.proofs.Appending.{AreLengthened}
 use Rattle.arrow2_offset.proofs.appended.appended.Given as goal
 

@@ -1,7 +1,7 @@
 use Rattle.std.proofs.Common.{◌≡◌, ◌∙◌, ◌-◌, ap, subst, arith, rules, length, map, refl, true}
 use Rattle.std.specs.Prelude.{pos, ◌<ℤ◌}
 use Rattle.std.proofs.lemmas.Bool.Decides.{nat_tests}
-use Rattle.arrow2_model.specs.Offsets.{last_of}
+use Rattle.arrow2_offset.specs.Offsets.{last_of}
 use Rattle.arrow2_offset.proofs.Appending.{value_last, value_natural}
 use Rattle.arrow2_offset.proofs.Order.{lt_told, offsets_told}
 use Rattle.arrow2_offset.proofs.check.broken_rule.Goals as goal

@@ -1,6 +1,7 @@
 use Rattle.std.proofs.Common.{◌∙◌, ap, sym, length, arith}
 use Rattle.arrow2_bitmap.proofs.Buffer.{length_items}
-use Rattle.arrow2_bitmap.proofs.Same.{same_bytes_told, different_told, told_same}
+use Rattle.arrow2_model.proofs.Same.{compared}
+use Rattle.arrow2_bitmap.proofs.Same.{same_bytes_told, different_told}
 use Rattle.arrow2_bitmap.proofs.mutable.MutableBitmapPartialEq.eq.Goals as goal
 
 pub returns-then-self-other-clause-told : goal.returns-then-self-other-clause-told
@@ -16,7 +17,7 @@ returns-else-self-other-clause-told c =
     different_told c.args.self.now.items c.args.other.now.items c.self.inside.length c.other.inside.length a b c.if-self-other.false
 
 pub returns-then-self-other-clause-same : goal.returns-then-self-other-clause-same
-returns-then-self-other-clause-same c = told_same c.args.self.now.items c.args.other.now.items _ (returns-then-self-other-clause-told c)
+returns-then-self-other-clause-same c = compared c.args.self.now.items c.args.other.now.items _ (returns-then-self-other-clause-told c)
 
 pub returns-else-self-other-clause-same : goal.returns-else-self-other-clause-same
-returns-else-self-other-clause-same c = told_same c.args.self.now.items c.args.other.now.items _ (returns-else-self-other-clause-told c)
+returns-else-self-other-clause-same c = compared c.args.self.now.items c.args.other.now.items _ (returns-else-self-other-clause-told c)

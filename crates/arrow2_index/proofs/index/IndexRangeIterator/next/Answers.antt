@@ -1,7 +1,7 @@
 use Rattle.std.proofs.Common.{◌≡◌, ◌∙◌, rules, arith, ap, sym, length, refl, []}
 use Rattle.std.specs.Prelude.{◌<ℤ◌}
 use Rattle.std.proofs.lemmas.Int.{ints}
-use Rattle.arrow2_model.proofs.Ranges.{integers-none, integers-first}
+use Rattle.arrow2_index.proofs.Ranges.{integers-none, integers-first}
 use Rattle.arrow2_index.proofs.index.IndexRangeIterator.next.Goals as goal
 
 pub returns-then-eq-clause-steps : goal.returns-then-eq-clause-steps

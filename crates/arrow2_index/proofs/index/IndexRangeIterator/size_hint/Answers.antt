@@ -1,5 +1,5 @@
 use Rattle.std.proofs.Common.{arith, ap, sym, Some, ◌≡◌, length}
-use Rattle.arrow2_model.proofs.Ranges.{how_many}
+use Rattle.arrow2_index.proofs.Ranges.{how_many}
 use Rattle.arrow2_index.proofs.index.IndexRangeIterator.size_hint.Goals as goal
 
 pub returns-clause-exact : goal.returns-clause-exact

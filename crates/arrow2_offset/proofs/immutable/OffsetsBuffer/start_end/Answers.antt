@@ -1,8 +1,8 @@
 use Rattle.std.proofs.Common.{◌+◌, ap, arith, length, map}
 use Rattle.std.proofs.lemmas.List.{length-map}
 use Rattle.arrow2_model.specs.Buffers.{buffer_items}
-use Rattle.arrow2_model.specs.Offsets.{AreOffsets}
-use Rattle.arrow2_model.proofs.Offsets.{length-lengths_of}
+use Rattle.arrow2_offset.specs.Offsets.{AreOffsets}
+use Rattle.arrow2_offset.proofs.OffsetLists.{length-lengths_of}
 use Rattle.arrow2_offset.proofs.Appending.{value_natural}
 use Rattle.arrow2_offset.proofs.Growing.{slot_read_of}
 use Rattle.arrow2_offset.proofs.immutable.OffsetsBuffer.start_end.Goals as goal

@@ -1,6 +1,6 @@
 use Rattle.std.proofs.Common.{◌≡◌, ◌∙◌, arith, ap, sum, map, length, refl}
 use Rattle.std.proofs.lemmas.Grind.{common_steps}
-use Rattle.arrow2_model.specs.Offsets.{lengths_of, last_of_growing}
+use Rattle.arrow2_offset.specs.Offsets.{lengths_of, last_of_growing}
 use Rattle.arrow2_offset.proofs.Appending.{same_naturals}
 use Rattle.arrow2_offset.proofs.Growing.{ends_in_order, spread, length_slots}
 use Rattle.arrow2_offset.proofs.mutable.Offsets.append.Goals as goal

@@ -1,5 +1,5 @@
 use Rattle.std.proofs.Common.{◌≡◌, ◌+◌, ◌≤◌, ◌++◌, length, map, sum}
-use Rattle.arrow2_model.specs.Offsets.{slots, last_of_growing, lengths_of}
+use Rattle.arrow2_offset.specs.Offsets.{slots, last_of_growing, lengths_of}
 use Rattle.arrow2_offset.proofs.mutable.Offsets.append.Given as goal
 
 abbrev pub invariant-loop-length : goal.invariant-loop-length

@@ -1,6 +1,6 @@
 use Rattle.std.proofs.Common.{arith, ◌≡◌, ◌∙◌, ◌+◌, sym, ap}
 use Rattle.std.specs.Prelude.{pos}
-use Rattle.arrow2_model.specs.Offsets.{last_of_growing}
+use Rattle.arrow2_offset.specs.Offsets.{last_of_growing}
 use Rattle.arrow2_offset.proofs.Growing.{repeated}
 use Rattle.arrow2_offset.proofs.mutable.Offsets.extend_constant.Goals as goal
 

@@ -1,5 +1,5 @@
 use Rattle.std.proofs.Common.{arith, ◌∙◌, ◌+◌, ◌≤◌, sym, ap}
-use Rattle.arrow2_model.specs.Offsets.{last_of_growing}
+use Rattle.arrow2_offset.specs.Offsets.{last_of_growing}
 use Rattle.arrow2_offset.proofs.Appending.{same_naturals}
 use Rattle.arrow2_offset.proofs.Growing.{pushed}
 use Rattle.arrow2_offset.proofs.mutable.Offsets.push_within.Goals as goal

@@ -1,5 +1,5 @@
 use Rattle.std.proofs.Common.{◌≡◌, ◌+◌, ◌<◌, ap, arith, length, map, refl}
-use Rattle.arrow2_model.specs.Offsets.{slots, lengths_of}
+use Rattle.arrow2_offset.specs.Offsets.{slots, lengths_of}
 use Rattle.arrow2_offset.proofs.Appending.{value_natural}
 use Rattle.arrow2_offset.proofs.Growing.{slot_read, length_slots}
 use Rattle.arrow2_offset.proofs.mutable.Offsets.start_end.Goals as goal

@@ -1,5 +1,5 @@
 use Rattle.std.proofs.Common.{arith, ◌≡◌, ◌≤◌, length, map, refl, ap}
-use Rattle.arrow2_model.specs.Offsets.{lengths_of, slots}
+use Rattle.arrow2_offset.specs.Offsets.{lengths_of, slots}
 use Rattle.arrow2_offset.proofs.Growing.{cut}
 use Rattle.arrow2_offset.proofs.mutable.Offsets.truncate.Goals as goal
 

@@ -1,7 +1,7 @@
 use Rattle.std.proofs.Common.{◌≡◌, ◌∙◌, ◌+◌, ◌-◌, ◌<◌, inl, inr, ap, arith, rules, length, refl}
 use Rattle.arrow2_model.specs.Buffers.{buffer_items}
-use Rattle.arrow2_model.specs.Offsets.{lengths_of}
-use Rattle.arrow2_model.proofs.Offsets.{length-lengths_of}
+use Rattle.arrow2_offset.specs.Offsets.{lengths_of}
+use Rattle.arrow2_offset.proofs.OffsetLists.{length-lengths_of}
 use Rattle.arrow2_model.proofs.Parts.{length-part}
 use Rattle.arrow2_offset.proofs.Growing.{slice_of}
 use Rattle.arrow2_offset.proofs.mutable.Offsets.try_extend_from_slice.Goals as goal

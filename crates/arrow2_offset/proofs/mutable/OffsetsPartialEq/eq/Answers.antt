@@ -1,4 +1,4 @@
-use Rattle.arrow2_model.specs.Offsets.{offsets_of}
+use Rattle.arrow2_offset.specs.Offsets.{offsets_of}
 use Rattle.arrow2_offset.proofs.Same.{naturals_same}
 use Rattle.arrow2_offset.proofs.mutable.OffsetsPartialEq.eq.Goals as goal
 

@@ -1,15 +1,15 @@
 -- Words at a bit offset: merged from two words, and padded with zeros.
-use Rattle.std.proofs.Common.{◌≡◌, ℕ, zero, suc, ◌+◌, ◌-◌, ◌*◌, ◌<◌, ◌≤◌, ◌||◌, List, ◌++◌, Bool, true, false, take, drop, replicate, length, get_or, refl, ap, sym, ◌∙◌, inl, inr, arith}
+use Rattle.std.proofs.Common.{◌≡◌, ℕ, zero, ◌+◌, ◌-◌, ◌*◌, ◌<◌, ◌≤◌, ◌||◌, List, ◌++◌, Bool, true, false, take, drop, replicate, length, get_or, refl, ap, sym, ◌∙◌, inl, inr, arith}
 use lib.Lanes.{zip2}
 use Rattle.std.proofs.lemmas.Bool.{cases_lt}
-use Rattle.std.proofs.lemmas.List.{length-append, length-drop, length-take-le, length-replicate, get_or-drop, get_or-take, get_or-replicate, get_or_append_left, get_or-append_right, get_or_past, ext_get_or}
+use Rattle.std.proofs.lemmas.List.{length-append, length-drop, length-take-le, length-replicate, get_or-drop, get_or-take, get_or-replicate, get_or_append_left, get_or-append_right, ext_get_or}
 use Rattle.std.proofs.lemmas.Simd.{length-zip2, get_or-zip2}
 use Rattle.arrow2_model.specs.Bits.{bits, num}
 use Rattle.arrow2_model.specs.Parts.{part}
 use Rattle.arrow2_model.proofs.Bits.{bits-append}
 use Rattle.arrow2_model.proofs.Bytes.{bits-zeros}
 use Rattle.arrow2_model.proofs.Numbers.{bit-num, num-part-lt, same_from_bits}
-use Rattle.arrow2_model.proofs.Parts.{get_or-part, length-part}
+use Rattle.arrow2_model.proofs.Parts.{get_or-padded, get_or-part, length-part}
 
 -- the word from item s on, of the word from item 0 and the word from item 8 on
 pub merged : (items low high : List Bool) (w s : ℕ) → s < 8 → 8 ≤ w → s + w ≤ length items → 8 + w ≤ length items → low ≡ part items 0 w → high ≡ part items 8 w → zip2 (λ a b. a || b) (drop s low ++ replicate s false) (replicate (8 - s) false ++ take (w - (8 - s)) high) ≡ part items s w
@@ -52,18 +52,6 @@ merged items low high w s s<8 wide h h' is-low is-high =
     or_same : (b : Bool) → (b || b) ≡ b
     or_same true = refl
     or_same false = refl
-
-get_or-falses : (m i : ℕ) → get_or (replicate m false) i false ≡ false
-get_or-falses zero i = refl
-get_or-falses (suc m) zero = refl
-get_or-falses (suc m) (suc i) = get_or-falses m i
-
--- behind the items nothing is set
-get_or-padded : (items : List Bool) (m i : ℕ) → get_or (items ++ replicate m false) i false ≡ get_or items i false
-get_or-padded items m i = elim (cases_lt i (length items)) [
-  | inl lt ↦ get_or_append_left items (replicate m false) false i lt
-  | inr ge ↦ get_or-append_right items (replicate m false) (length items) i false refl ge ∙ (get_or-falses m (i - length items) ∙ sym (get_or_past items i false ge))
-]
 
 -- items that are false at the end don't change the number
 num-padded : (items : List Bool) (m a w : ℕ) → num (part (items ++ replicate m false) a w) ≡ num (part items a w)

@@ -4,9 +4,9 @@ use Rattle.std.specs.Prelude.{slice_index_or}
 use Rattle.std.specs.List.{sum_by}
 use Rattle.std.proofs.lemmas.List.Sums.{sum_by-cons}
 use Rattle.arrow2_model.specs.Parts.{falses}
-use Rattle.arrow2_model.specs.Runs.{moved, with_true, runs, AllRuns, RisePast, Rise, InRuns}
-use Rattle.arrow2_model.proofs.MaximalRuns.{runs_are}
-use Rattle.arrow2_model.proofs.UniqueRuns.{runs_unique}
+use Rattle.arrow2_walks.specs.Runs.{moved, with_true, runs, AllRuns, RisePast, Rise, InRuns}
+use Rattle.arrow2_walks.proofs.MaximalRuns.{runs_are}
+use Rattle.arrow2_walks.proofs.UniqueRuns.{runs_unique}
 
 past : (e j : ℕ) (ps : List (ℕ × ℕ)) → RisePast e ps → j < length ps → e < (slice_index_or ps j (0, 0)).0
 past e j [] r l = absurd (omega arith)

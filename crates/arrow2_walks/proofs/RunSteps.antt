@@ -2,7 +2,7 @@
 use Rattle.std.proofs.Common.{◌≡◌, ℕ, zero, suc, ◌+◌, ◌-◌, ◌<◌, ◌≤◌, List, [], ◌∷◌, Bool, true, false, map, get_or, drop, length, refl, sym, ap, ◌∙◌, arith}
 use Rattle.std.proofs.lemmas.Bool.{true≢false}
 use Rattle.std.proofs.lemmas.List.{drop_more, drop_all, drop-drop, get_or-drop, get_or_past}
-use Rattle.arrow2_model.specs.Runs.{with_true, runs, moved, runs_from}
+use Rattle.arrow2_walks.specs.Runs.{with_true, runs, moved, runs_from}
 
 moved-moved : (a b : ℕ) (ps : List (ℕ × ℕ)) → map (moved a) (map (moved b) ps) ≡ map (moved (a + b)) ps
 moved-moved a b [] = refl

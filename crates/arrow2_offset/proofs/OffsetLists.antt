@@ -3,20 +3,18 @@ use Rattle.std.proofs.Common.{◌≡◌, ℕ, zero, suc, ◌+◌, ◌-◌, ◌<�
 use Rattle.std.specs.Prelude.{ℤ, pos, negsuc, ◌≤ℤ◌, unsigned_abs, slice_index_or}
 use Rattle.std.specs.Int.{int_gap}
 use Rattle.std.proofs.lemmas.Int.{ints}
-use Rattle.std.proofs.lemmas.List.{length-map, map-append, get_or-map, drop-map, take-map, take_all}
+use Rattle.std.proofs.lemmas.List.{length-map, map-append, get_or-map, take_all}
 use Rattle.std.proofs.lemmas.List.Sums.{sum_by-cons}
 use Rattle.arrow2_model.specs.Parts.{part}
-use Rattle.arrow2_model.specs.Offsets.{running_sums, offsets_list, offset_at, AreOffsets, start_of, lengths_behind, lengths_of, last_of}
+use Rattle.arrow2_model.proofs.Parts.{part-map}
+use Rattle.arrow2_offset.specs.Offsets.{running_sums, offsets_list, offset_at, AreOffsets, start_of, lengths_behind, lengths_of, last_of}
 
 -- the item at the place behind k
-get_or-next : {X : Type 0} (x : X) (xs : List X) (k : ℕ) (d : X) → get_or (x ∷ xs) (k + 1) d ≡ get_or xs k d
+pub get_or-next : {X : Type 0} (x : X) (xs : List X) (k : ℕ) (d : X) → get_or (x ∷ xs) (k + 1) d ≡ get_or xs k d
 get_or-next x xs k d = rw add-one refl
 
 sum-cons : (n : ℕ) (ns : List ℕ) → sum (n ∷ ns) ≡ n + sum ns
 sum-cons n ns = sum_by-cons (λ x. x) n ns
-
-pub part-map : {X Y : Type 0} (f : X → Y) (xs : List X) (a n : ℕ) → part (map f xs) a n ≡ map f (part xs a n)
-part-map f xs a n = ap (take n) (drop-map f a xs) ∙ take-map f n (drop a xs)
 
 -- ---- running sums
 

@@ -1,7 +1,7 @@
 -- `runs` gives just the maximal runs.
 use Rattle.std.proofs.Common.{◌≡◌, ℕ, zero, suc, ◌+◌, ◌<◌, ◌≤◌, inl, inr, List, [], ◌∷◌, Bool, true, false, map, get_or, refl, sym, ap, ◌∙◌, arith}
 use Rattle.std.proofs.lemmas.Bool.{true≢false}
-use Rattle.arrow2_model.specs.Runs.{moved, with_true, runs, IsRun, AllRuns, RisePast, Rise, InRuns, AreRuns}
+use Rattle.arrow2_walks.specs.Runs.{moved, with_true, runs, IsRun, AllRuns, RisePast, Rise, InRuns, AreRuns}
 
 -- a run stays one behind an item in front, where the run isn't first or the item is false
 moved_run : (b : Bool) (xs : List Bool) (p : ℕ × ℕ) → (p.0 ≡ 0 → b ≡ false) → IsRun xs p → IsRun (b ∷ xs) (moved 1 p)

@@ -1,8 +1,8 @@
 -- The maximal runs, rising, are one list: what `AreRuns` says of a list determines it.
 use Rattle.std.proofs.Common.{◌≡◌, ℕ, suc, ◌+◌, ◌<◌, ◌≤◌, inl, inr, List, [], ◌∷◌, Bool, true, false, get_or, refl, sym, ap, subst, ◌∙◌, arith}
 use Rattle.std.proofs.lemmas.Bool.{true≢false, cases_order}
-use Rattle.arrow2_model.specs.Runs.{runs, IsRun, AllRuns, RisePast, Rise, InRuns, AreRuns}
-use Rattle.arrow2_model.proofs.MaximalRuns.{runs_are}
+use Rattle.arrow2_walks.specs.Runs.{runs, IsRun, AllRuns, RisePast, Rise, InRuns, AreRuns}
+use Rattle.arrow2_walks.proofs.MaximalRuns.{runs_are}
 
 -- the runs rise, and the first begins at e or past it
 abbrev From : ℕ → List (ℕ × ℕ) → Type 0

@@ -12,7 +12,7 @@ use Rattle.std.proofs.Math.Nat.{mod-lt, mod-eq_of_lt, add-mod_right, suc-mul, ze
 use Rattle.std.proofs.lemmas.List.{length-set, get_or-set_same, get_or-set_other, get_or_past}
 use Rattle.std.proofs.lemmas.Simd.{ones-mask_l, ones-mask_l_cons}
 use Rattle.arrow2_model.specs.Bits.{unnum, num}
-use Rattle.arrow2_model.specs.Ones.{ones}
+use Rattle.arrow2_chunk.specs.Ones.{ones}
 use Rattle.arrow2_model.proofs.Bits.{length-unnum}
 use Rattle.arrow2_model.proofs.Numbers.{num-unnum}
 use Rattle.arrow2_model.proofs.Chunks.{word_is, item_is, same_test}

@@ -1,13 +1,11 @@
 -- Steps of a walk over a range of whole numbers.
-use Rattle.std.proofs.Common.{◌≡◌, ℕ, zero, suc, ◌+◌, ◌-◌, ◌^◌, ◌≤◌, List, [], ◌∷◌, map, length, refl, ap, sym, ◌∙◌, arith}
-use Rattle.std.specs.Prelude.{ℤ, pos, negsuc, ◌+ℤ◌, ◌-ℤ◌, ◌<ℤ◌, ◌≤ℤ◌, FitsSigned}
-use Rattle.std.specs.Int.{int_gap, Width}
-use mir.Val.{hbits}
-use Rattle.std.proofs.lemmas.Nat.{pow_pos}
+use Rattle.std.proofs.Common.{◌≡◌, ℕ, zero, suc, ◌+◌, ◌-◌, List, [], ◌∷◌, map, length, refl, ap, sym, ◌∙◌, arith}
+use Rattle.std.specs.Prelude.{ℤ, pos, negsuc, ◌+ℤ◌, ◌-ℤ◌, ◌<ℤ◌, ◌≤ℤ◌}
+use Rattle.std.specs.Int.{int_gap}
 use Rattle.std.specs.List.{range_with_len}
 use Rattle.std.proofs.lemmas.Int.{ints}
 use Rattle.std.proofs.lemmas.List.FromFn.{length-map-range_with_len}
-use Rattle.arrow2_model.specs.Ranges.{integers}
+use Rattle.arrow2_index.specs.Ranges.{integers}
 
 gap_is : (a b : ℤ) (n : ℕ) → pos n ≡ b -ℤ a → int_gap a b ≡ n
 gap_is (pos a) (pos b) n e = omega (arith, ints)
@@ -46,13 +44,6 @@ integers-first a b c h e =
 pub length-integers : (a b : ℤ) (n : ℕ) → pos n ≡ b -ℤ a → length (integers a b) ≡ n
 unfolding integers
 length-integers a b n e = length-map-range_with_len (λ k. a +ℤ pos k) 0 (int_gap a b) ∙ gap_is a b n e
-
--- the natural numbers of a signed type
-pub fits_below : (w : Width) (n : ℕ) → FitsSigned w (pos n) → n ≤ 2 ^ hbits w - 1
-fits_below w n f = let s = f.sfits in omega arith
-
-pub below_fits : (w : Width) (n : ℕ) → n ≤ 2 ^ hbits w - 1 → FitsSigned w (pos n)
-below_fits w n h = let p = pow_pos (hbits w) in record { sfits = omega arith }
 
 -- ---- in the form of the code
 
