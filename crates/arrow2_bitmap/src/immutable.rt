@@ -25,7 +25,7 @@ use crate::check::check_length;
 use crate::mutable::MutableBitmap;
 use arrow2_bits::chunk_iterator::BitChunks;
 use arrow2_bits::iterator::BitmapIter;
-use arrow2_bits::{Reads, Stored, bytes_for, count_zeros, get_bit, recount};
+use arrow2_bits::{Reads, Stored, bytes_for, count_zeros, get_bit, recount, same_bits};
 use arrow2_buffer::bytes::Bytes;
 use arrow2_chunk::bit_chunk::BitChunk;
 use arrow2_types::error::{Error, Result};
@@ -435,25 +435,6 @@ fn copy_items(bitmap: &Bitmap) -> Result<MutableBitmap>
     Ok(MutableBitmap::from_vec(bytes, bitmap.len()))
 }
 
-/// Whether two bitmaps of one length have the same items, by words of 64 bits.
-fn same_items(a: &Bitmap, b: &Bitmap) -> bool
-    requires { length (items_of a.now) ≡ length (items_of b.now) }
-    ensures { IsTrue result ↔ (items_of a.now ≡ items_of b.now) }
-{
-    let mut left = a.chunks::<u64>();
-    let mut right = b.chunks::<u64>();
-    while let Some(word) = left.next() {
-        let Some(other) = right.next() else {
-            return false;
-        };
-        if word != other {
-            return false;
-        }
-    }
-    let len = left.remainder_len();
-    BitChunk::masked(left.remainder(), len) == BitChunk::masked(right.remainder(), len)
-}
-
 impl<'a> IntoIterator for &'a Bitmap {
     type Item = bool;
 
@@ -476,7 +457,14 @@ impl PartialEq for Bitmap {
         ensures told { result ≡ pointwise beq (items_of self.now) (items_of other.now) }
         ensures same { IsTrue result ↔ (items_of self.now ≡ items_of other.now) }
     {
-        self.len() == other.len() && same_items(self, other)
+        self.len() == other.len()
+            && same_bits(
+                self.bytes.as_slice(),
+                self.offset,
+                other.bytes.as_slice(),
+                other.offset,
+                self.length,
+            )
     }
 }
 

@@ -1,3 +1,4 @@
+pub mod Compared
 pub mod Counted
 pub mod LaneCounts
 pub mod Lending

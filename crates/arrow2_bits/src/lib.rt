@@ -14,10 +14,12 @@ mod counts;
 pub mod fmt;
 pub mod iterator;
 mod lanes;
+mod same;
 
 pub use bytes::Stored;
 pub use counter::Reads;
 pub use counts::{count_zeros, count_zeros_counted, recount};
+pub use same::same_bits;
 
 /// At place i the byte whose bit i alone is set: read in place of a shift by a variable.
 const BITS: [u8; 8] = [1, 2, 4, 8, 16, 32, 64, 128];
