@@ -1,5 +1,6 @@
-//! Bits of bytes: counting, reading, writing and copying them. Bit `i` is bit `i % 8` of byte `i / 8`, the lowest first.
-ghost use Rattle.std.specs.Prelude.{◌≡◌, ◌≢◌, ◌*◌, ◌<◌, ◌↔◌, ◌⊎◌, false, take, length as length', slice_index_or, slice_set};
+//! Bits of bytes: counting, comparing, reading, writing and copying them. Bit `i` is bit `i % 8` of byte `i / 8`, the
+//! lowest first.
+ghost use Rattle.std.specs.Prelude.{◌≡◌, ◌≢◌, ◌*◌, ◌<◌, ◌↔◌, ◌⊎◌, IsTrue, false, take, length as length', slice_index_or, slice_set};
 ghost use Rattle.arrow2_model.specs.Bits.{bits};
 ghost use Rattle.arrow2_model.specs.Canonical.{IsCanonical};
 ghost use Rattle.arrow2_model.specs.Parts.{part, falses};
@@ -26,6 +27,31 @@ pub extern "C" fn arrow2_count_zeros(
         return ARROW2_RANGE;
     }
     *zeros = arrow2_bits::count_zeros(bytes, offset, length);
+    ARROW2_OK
+}
+
+/// Writes to `equal` whether the `length` bits of `left` from bit `left_offset` on are those of `right` from bit
+/// `right_offset` on.
+#[unsafe(no_mangle)]
+pub extern "C" fn arrow2_equal_bits(
+    left: &[u8],
+    left_offset: usize,
+    right: &[u8],
+    right_offset: usize,
+    length: usize,
+    equal: &mut bool,
+) -> u32
+    ensures range { result ≡ ARROW2_RANGE ↔
+        ¬ (IsInside left.now left_offset length × IsInside right.now right_offset length) }
+    ensures only { (result ≡ ARROW2_OK) ⊎ (result ≡ ARROW2_RANGE) }
+    ensures ok { result ≡ ARROW2_OK → (IsTrue equal.new ↔
+        (part (bits left.now) left_offset length ≡ part (bits right.now) right_offset length)) }
+    ensures refused { result ≢ ARROW2_OK → equal.new ≡ equal.old }
+{
+    if !are_inside(left, left_offset, length) || !are_inside(right, right_offset, length) {
+        return ARROW2_RANGE;
+    }
+    *equal = arrow2_bits::same_bits(left, left_offset, right, right_offset, length);
     ARROW2_OK
 }
 
