@@ -1,3 +1,4 @@
 mod OffsetSteps
 mod RunSteps
 mod BoolSteps
+mod PlaceSteps

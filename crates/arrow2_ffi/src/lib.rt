@@ -11,6 +11,7 @@ mod offset_calls;
 mod offset_loops;
 pub mod offset_widths;
 pub mod offsets;
+pub mod places;
 mod ranges;
 mod rows;
 pub mod runs;
