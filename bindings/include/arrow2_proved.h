@@ -46,6 +46,11 @@ extern "C" {
  * ARROW2_RANGE: they are not inside the bytes. */
 uint32_t arrow2_count_zeros(const uint8_t *bytes, size_t bytes_count, size_t offset, size_t length, size_t *zeros);
 
+/* Writes to `equal` whether the `length` bits of `left` from bit `left_offset` on are those of `right` from bit
+ * `right_offset` on. ARROW2_RANGE: one of both is not inside its bytes. */
+uint32_t arrow2_equal_bits(const uint8_t *left, size_t left_count, size_t left_offset, const uint8_t *right,
+                           size_t right_count, size_t right_offset, size_t length, bool *equal);
+
 /* Writes to `value` whether bit `index` is set. ARROW2_RANGE: it is not inside the bytes. */
 uint32_t arrow2_get_bit(const uint8_t *bytes, size_t bytes_count, size_t index, bool *value);
 
@@ -125,7 +130,7 @@ uint32_t arrow2_pack(const bool *items, size_t items_count, uint8_t *out, size_t
 /* Writes as many bits as `out` has items, from bit `offset` on, as booleans. ARROW2_RANGE: they are not inside. */
 uint32_t arrow2_unpack(const uint8_t *bytes, size_t bytes_count, size_t offset, bool *out, size_t out_count);
 
-/* ---- Runs of set bits */
+/* ---- Runs and places of set bits */
 
 /* Writes the runs of set bits among the `length` bits from bit `offset` on, from place `*at` of them on: each by its
  * first place, counted from bit `offset` on, and its length, as many as fit. Writes to `count` how many these are, and
@@ -134,6 +139,13 @@ uint32_t arrow2_unpack(const uint8_t *bytes, size_t bytes_count, size_t offset, 
  * `lengths` have not equally many items. */
 uint32_t arrow2_runs(const uint8_t *bytes, size_t bytes_count, size_t offset, size_t length, size_t *at, size_t *starts,
                      size_t starts_count, size_t *lengths, size_t lengths_count, size_t *count);
+
+/* Writes the places of set bits among the `length` bits from bit `offset` on, from place `*at` of them on, rising, each
+ * counted from bit `offset` on, as many as fit. Writes to `count` how many these are, and to `at` where to go on. Begin
+ * with 0 in `at`; fewer than fit are the last ones.
+ * ARROW2_RANGE: the bits are not inside the bytes, or `*at` is above `length`. */
+uint32_t arrow2_set_places(const uint8_t *bytes, size_t bytes_count, size_t offset, size_t length, size_t *at,
+                           size_t *places, size_t places_count, size_t *count);
 
 /* ---- Offsets of 32 and of 64 bits
  *

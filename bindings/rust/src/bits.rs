@@ -1,5 +1,6 @@
 //! Bits of bytes.
 
+use crate::Bits;
 use crate::refusal::{Refusal, told};
 use crate::sys;
 
@@ -13,6 +14,29 @@ pub fn count_zeros(bytes: &[u8], offset: usize, length: usize) -> Result<usize, 
     // The slice and the number are borrowed for the call, and it keeps neither.
     told(unsafe { sys::arrow2_count_zeros(bytes.as_ptr(), bytes.len(), offset, length, &mut zeros) })?;
     Ok(zeros)
+}
+
+/// Whether the `length` bits of both are the same.
+///
+/// # Errors
+///
+/// [`Refusal::Range`] exactly where those of one of both are not inside its bytes.
+pub fn equal_bits(left: Bits<'_>, right: Bits<'_>, length: usize) -> Result<bool, Refusal> {
+    let mut equal = false;
+    // The slices and the boolean are borrowed for the call, and it keeps none.
+    told(unsafe {
+        sys::arrow2_equal_bits(
+            left.bytes.as_ptr(),
+            left.bytes.len(),
+            left.offset,
+            right.bytes.as_ptr(),
+            right.bytes.len(),
+            right.offset,
+            length,
+            &mut equal,
+        )
+    })?;
+    Ok(equal)
 }
 
 /// Whether bit `index` is set.

@@ -24,15 +24,17 @@ mod bits;
 mod booleans;
 mod kleene;
 mod offsets;
+mod places;
 mod refusal;
 mod runs;
 mod sys;
 mod tables;
 
-pub use bits::{copy_bits, count_zeros, get_bit, set_bit};
+pub use bits::{copy_bits, count_zeros, equal_bits, get_bit, set_bit};
 pub use booleans::{pack, unpack};
 pub use kleene::{Nullable, and_kleene, or_kleene};
 pub use offsets::{Offset, narrow, widen};
+pub use places::set_places;
 pub use refusal::Refusal;
 pub use runs::runs;
 pub use tables::{

@@ -2,6 +2,16 @@
 
 unsafe extern "C" {
     pub fn arrow2_count_zeros(bytes: *const u8, count: usize, offset: usize, length: usize, zeros: *mut usize) -> u32;
+    pub fn arrow2_equal_bits(
+        left: *const u8,
+        left_count: usize,
+        left_offset: usize,
+        right: *const u8,
+        right_count: usize,
+        right_offset: usize,
+        length: usize,
+        equal: *mut bool,
+    ) -> u32;
     pub fn arrow2_get_bit(bytes: *const u8, count: usize, index: usize, value: *mut bool) -> u32;
     pub fn arrow2_set_bit(bytes: *mut u8, count: usize, index: usize, value: bool) -> u32;
     pub fn arrow2_copy_bits(
@@ -147,6 +157,16 @@ unsafe extern "C" {
         starts_count: usize,
         lengths: *mut usize,
         lengths_count: usize,
+        written: *mut usize,
+    ) -> u32;
+    pub fn arrow2_set_places(
+        bytes: *const u8,
+        count: usize,
+        offset: usize,
+        length: usize,
+        at: *mut usize,
+        places: *mut usize,
+        places_count: usize,
         written: *mut usize,
     ) -> u32;
     pub fn arrow2_pack(items: *const bool, count: usize, out: *mut u8, out_count: usize) -> u32;

@@ -6,8 +6,8 @@ use arrow2::bitmap::Bitmap;
 use arrow2::bitmap::utils::SlicesIterator;
 use arrow2::offset::Offsets;
 use arrow2_proved::{
-    AND, Bits, NOT, OR, Offset, XOR, binary_table, bytes_for, copy_bits, count_zeros, get_bit, narrow, pack, runs,
-    unary_table, unpack, widen,
+    AND, Bits, NOT, OR, Offset, XOR, binary_table, bytes_for, copy_bits, count_zeros, equal_bits, get_bit, narrow,
+    pack, runs, set_places, unary_table, unpack, widen,
 };
 use inputs::Random;
 
@@ -36,6 +36,21 @@ fn counts_and_single_bits() {
         if length > 0 {
             let index = random.below(length);
             assert_eq!(get_bit(&bytes, offset + index), Ok(theirs.get_bit(index)));
+        }
+    }
+}
+
+#[test]
+fn equality() {
+    let mut random = Random::new(16);
+    for _ in 0..INPUTS {
+        let left = random.bytes();
+        let length = random.below(8 * left.len() + 1);
+        let first = Bits { bytes: &left, offset: random.offset(&left, length) };
+        let (right, offset) = random.copy(&left, first.offset, length);
+        let second = Bits { bytes: &right, offset };
+        if offset + length <= 8 * right.len() {
+            assert_eq!(equal_bits(first, second, length), Ok(bitmap(first, length) == bitmap(second, length)));
         }
     }
 }
@@ -80,7 +95,7 @@ fn offsets() {
 }
 
 #[test]
-fn copies_runs_and_booleans() {
+fn copies_runs_places_and_booleans() {
     let mut random = Random::new(14);
     for _ in 0..INPUTS {
         let bytes = random.bytes();
@@ -96,6 +111,11 @@ fn copies_runs_and_booleans() {
         let count = runs(bits, length, &mut at, &mut starts, &mut lengths).unwrap();
         let ours: Vec<_> = starts.into_iter().zip(lengths).take(count).collect();
         assert_eq!(ours, SlicesIterator::new(&theirs).collect::<Vec<_>>());
+
+        let (mut at, mut places) = (0, vec![0; length]);
+        let count = set_places(bits, length, &mut at, &mut places).unwrap();
+        let set: Vec<_> = theirs.iter().enumerate().filter(|(_, bit)| *bit).map(|(place, _)| place).collect();
+        assert_eq!(places[..count], set);
 
         let mut items = vec![false; length];
         unpack(bits, &mut items).unwrap();

@@ -4,8 +4,8 @@ mod inputs;
 
 use arrow2_proved::{
     Bits, Nullable, Offset, Refusal, and_kleene, binary_assign_table, binary_table, bytes_for, copy_bits, count_zeros,
-    get_bit, narrow, or_kleene, pack, quaternary_assign_table, quaternary_table, runs, set_bit, ternary_assign_table,
-    ternary_table, unary_assign_table, unary_table, unpack, widen,
+    equal_bits, get_bit, narrow, or_kleene, pack, quaternary_assign_table, quaternary_table, runs, set_bit, set_places,
+    ternary_assign_table, ternary_table, unary_assign_table, unary_table, unpack, widen,
 };
 use inputs::{Random, part, written};
 
@@ -21,6 +21,28 @@ fn counts() {
         let expected = part(&bytes, offset, length).map(|bits| bits.iter().filter(|bit| !**bit).count());
         assert_eq!(count_zeros(&bytes, offset, length), expected);
     }
+}
+
+#[test]
+fn equality() {
+    let mut random = Random::new(12);
+    let mut same = 0;
+    for _ in 0..INPUTS {
+        let left = random.bytes();
+        let (left_offset, length) = random.range(&left);
+        let (right, right_offset) = random.copy(&left, left_offset, length);
+        let answer = equal_bits(
+            Bits { bytes: &left, offset: left_offset },
+            Bits { bytes: &right, offset: right_offset },
+            length,
+        );
+        let bits = part(&left, left_offset, length);
+        let told = bits.and_then(|bits| Ok(bits == part(&right, right_offset, length)?));
+        assert_eq!(answer, told);
+        same += usize::from(told == Ok(true));
+    }
+    // Both answers came often.
+    assert!(INPUTS / 10 < same && same < INPUTS * 9 / 10, "{same} of {INPUTS}");
 }
 
 #[test]
@@ -262,6 +284,38 @@ fn runs_of_set_bits() {
             }
         }
         assert_eq!(told, plain_runs(&items, begun));
+    }
+}
+
+#[test]
+fn places_of_set_bits() {
+    let mut random = Random::new(13);
+    for _ in 0..INPUTS {
+        let bytes = random.bytes();
+        let (offset, length) = random.range(&bytes);
+        let bits = Bits { bytes: &bytes, offset };
+        let room = 1 + random.below(70);
+        let mut places = vec![7; room];
+        let mut at = random.below(length.min(1 << 12) + 2);
+        let begun = at;
+        let Ok(items) =
+            part(&bytes, offset, length).and_then(|b| if at <= length { Ok(b) } else { Err(Refusal::Range) })
+        else {
+            assert_eq!(set_places(bits, length, &mut at, &mut places), Err(Refusal::Range));
+            assert_eq!((at, places), (begun, vec![7; room]));
+            continue;
+        };
+        let mut told = vec![];
+        loop {
+            let count = set_places(bits, length, &mut at, &mut places).unwrap();
+            told.extend_from_slice(&places[..count]);
+            if count < room {
+                break;
+            }
+        }
+        assert_eq!(told, (begun..length).filter(|place| items[*place]).collect::<Vec<_>>());
+        assert_eq!((set_places(bits, length, &mut at, &mut places), at), (Ok(0), length));
+        assert_eq!(set_places(bits, length, &mut at, &mut []), Ok(0));
     }
 }
 

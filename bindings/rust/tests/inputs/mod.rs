@@ -84,6 +84,26 @@ impl Random {
         if self.flag() { offset / 8 * 8 } else { offset }
     }
 
+    /// Bytes in which the bits of that range stand again, one time of two with one of them flipped, and the offset at
+    /// which they stand there. One time of eight they end before that.
+    pub fn copy(&mut self, bytes: &[u8], offset: usize, length: usize) -> (Vec<u8>, usize) {
+        let Ok(bits) = part(bytes, offset, length) else {
+            return (self.bytes(), offset);
+        };
+        let start = self.below(20);
+        let mut copied: Vec<u8> = (0..bytes_for(start + length)).map(|_| self.next() as u8).collect();
+        let flipped = if self.flag() { self.below(length) } else { length };
+        for (i, bit) in bits.into_iter().enumerate() {
+            let place = start + i;
+            copied[place / 8] &= !(1 << (place % 8));
+            copied[place / 8] |= u8::from(bit != (i == flipped)) << (place % 8);
+        }
+        if self.below(8) == 0 {
+            copied.pop();
+        }
+        (copied, start)
+    }
+
     /// A table of so many inputs, and now and then one with bits past its last answer.
     pub fn table(&mut self, inputs: u32) -> u16 {
         let any = self.next() as u16;
