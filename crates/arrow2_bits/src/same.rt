@@ -19,7 +19,8 @@ pub fn same_bits(
 ) -> bool
     requires left { left_offset + len ≤ 8 * length left.now }
     requires right { right_offset + len ≤ 8 * length right.now }
-    ensures { IsTrue result ↔ (part (bits left.now) left_offset len ≡ part (bits right.now) right_offset len) }
+    ensures { IsTrue result ↔
+        (part (bits left.now) left_offset len ≡ part (bits right.now) right_offset len) }
 {
     let mut words = BitChunks::<u64>::new(left, left_offset, len);
     let mut others = BitChunks::<u64>::new(right, right_offset, len);

@@ -20,7 +20,8 @@ pub extern "C" fn arrow2_set_places(
     places: &mut [usize],
     count: &mut usize,
 ) -> u32
-    ensures range { result ≡ ARROW2_RANGE ↔ ¬ (IsInside bytes.now offset length × (at.old ≤ length)) }
+    ensures range { result ≡ ARROW2_RANGE ↔
+        ¬ (IsInside bytes.now offset length × (at.old ≤ length)) }
     ensures only { (result ≡ ARROW2_OK) ⊎ (result ≡ ARROW2_RANGE) }
     ensures ok { result ≡ ARROW2_OK →
         take count.new places.new ++ ones_from (part (bits bytes.now) offset length) at.new
@@ -52,7 +53,8 @@ fn write_places(
 ) -> (usize, usize)
     requires inside { IsInside bytes.now offset end }
     requires within { at ≤ end }
-    ensures places { take result.0 places.new ++ ones_from (part (bits bytes.now) offset end) result.1
+    ensures places { take result.0 places.new
+        ++ ones_from (part (bits bytes.now) offset end) result.1
         ≡ ones_from (part (bits bytes.now) offset end) at }
     ensures most { result.0 ≤ length' places.old }
     ensures last { result.0 < length' places.old →
