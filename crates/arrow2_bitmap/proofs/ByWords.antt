@@ -1,12 +1,11 @@
 -- Copies by words of 64 bits.
-use Rattle.std.proofs.Common.{◌≡◌, ◌≢◌, ◌↔◌, ℕ, suc, ◌+◌, ◌-◌, ◌*◌, ◌/◌, ◌^◌, ◌<◌, ◌≤◌, List, [], ◌∷◌, ◌++◌, Bool, false, take, replicate, length, refl, ap, sym, ◌∙◌, subst, arith}
+use Rattle.std.proofs.Common.{◌≡◌, ℕ, suc, ◌+◌, ◌*◌, ◌<◌, ◌≤◌, List, [], ◌∷◌, ◌++◌, Bool, take, length, refl, ap, sym, ◌∙◌, subst, arith}
 use Rattle.std.specs.List.{flat_map}
-use Rattle.std.proofs.lemmas.List.{length-append, take-append-le, append_assoc, append-nil, length-drop, take_all, nil_from_length}
-use Rattle.arrow2_model.specs.Bits.{bits, unnum, num}
+use Rattle.std.proofs.lemmas.List.{length-append, append_assoc, append-nil}
+use Rattle.arrow2_model.specs.Bits.{bits, unnum}
 use Rattle.arrow2_model.specs.Words.{full_words, rest}
 use Rattle.arrow2_model.proofs.Bits.{bits-append, length-bits, length-unnum}
-use Rattle.arrow2_model.proofs.Numbers.{num-unnum}
-use Rattle.arrow2_model.proofs.Words.{items_of_words, length-rest, length-full_words}
+use Rattle.arrow2_model.proofs.Words.{items_of_words, length-rest}
 
 wide : 0 < 64
 wide = omega arith
