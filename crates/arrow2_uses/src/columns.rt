@@ -1,6 +1,7 @@
 //! A column of one's own: values beside their validity, and a builder that survives refused memory.
 ghost use Rattle.std.specs.Prelude.{◌≡◌, ◌+◌, ◌<◌, ◌≤◌, ◌++◌, ◌⊎◌, [], ◌∷◌, All, None, length as length', map, count_by, slice_index_or, IfOk, IfErr, OnOk, OnErr};
 ghost use Rattle.std.specs.Option.{is_none};
+ghost use Rattle.std.specs.List.{flat_map};
 ghost use Rattle.arrow2.specs.Parts.{part};
 
 use arrow2::bitmap::{Bitmap, MutableBitmap};
@@ -129,6 +130,21 @@ impl<T: NativeType> ColumnBuilder<T> {
         Ok(())
     }
 
+    /// Appends the items of a column. After an error the items are as they were.
+    ///
+    /// # Errors
+    ///
+    /// `OutOfMemory`, or `Overflow` where bits cannot be more.
+    pub fn extend(&mut self, column: &Column<T>) -> Result<()>
+        ensures ok { OnOk result (self.new ≡ self.old ++ column.now) }
+        ensures err { OnErr result (self.new ≡ self.old) }
+        ensures only { IfErr result (λ e. (e ≡ Error.Overflow) ⊎ (e ≡ Error.OutOfMemory)) }
+    {
+        self.validity.reserve(column.len())?;
+        self.values.extend_from_slice(column.values.as_slice())?;
+        self.validity.extend_from_bitmap(&column.validity)
+    }
+
     /// The column of the items.
     ///
     /// # Errors
@@ -143,4 +159,20 @@ impl<T: NativeType> ColumnBuilder<T> {
         let validity = Bitmap::try_from(validity)?;
         Ok(Column { values, validity })
     }
+}
+
+/// The items of these columns, one behind the other.
+///
+/// # Errors
+///
+/// `OutOfMemory`, or `Overflow` where the items are more than bits can be.
+pub fn concat<T: NativeType>(alloc: Global, columns: &[Column<T>]) -> Result<Column<T>>
+    ensures ok { IfOk result (λ c. c ≡ flat_map (λ column. column) columns.now) }
+    ensures only { IfErr result (λ e. (e ≡ Error.Overflow) ⊎ (e ≡ Error.OutOfMemory)) }
+{
+    let mut joined = ColumnBuilder::new(alloc);
+    for column in columns {
+        joined.extend(column)?;
+    }
+    joined.finish()
 }
