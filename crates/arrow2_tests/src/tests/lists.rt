@@ -154,3 +154,16 @@ pub(super) fn thirds(alloc: Global, length: usize) -> Result<Vec<bool>, AllocErr
     }
     Ok(items)
 }
+
+/// A list without a pattern.
+pub(super) fn scattered(alloc: Global, seed: u64, length: usize) -> Result<Vec<bool>, AllocError> {
+    let mut items = Vec::new(alloc);
+    let mut state = seed;
+    for _ in 0..length {
+        state = state
+            .wrapping_mul(6364136223846793005)
+            .wrapping_add(1442695040888963407);
+        items.push(state >> 63 == 1)?;
+    }
+    Ok(items)
+}

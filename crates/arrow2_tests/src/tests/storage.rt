@@ -1,6 +1,6 @@
 //! The storage test: whatever bit offset, spare bits and spare bytes stand behind a list, each call that shows no storage
 //! answers by the list alone.
-ghost use Rattle.std.specs.Prelude.{◌≡◌, length};
+ghost use Rattle.std.specs.Prelude.{◌≡◌, ◌<◌, length};
 ghost use Rattle.arrow2_model.specs.Storage.{items_of};
 
 use super::lists;
@@ -448,6 +448,22 @@ fn answers_beside(
     is_array(rt, bitmap, other, lists);
 }
 
+/// The list as a bitmap: from a bit offset on, all spare bits alike, with some bytes more behind it.
+fn stored(
+    rt: &impl Abort,
+    alloc: Global,
+    list: &[bool],
+    offset: usize,
+    spare: bool,
+    behind: usize,
+) -> Bitmap
+    requires { offset < 16 }
+{
+    let bytes = lists::stored(alloc, list, offset, spare, behind).expect(rt, "no memory");
+    let whole = Bitmap::try_new(bytes, offset + list.len()).expect(rt, "no memory");
+    whole.sliced(offset, list.len())
+}
+
 /// The list answers alike at each bit offset, spare bits all false and all true, with no, one and two spare bytes.
 fn in_each_storage(rt: &impl Abort, alloc: Global, list: &[bool]) {
     let others = lists::reversed(alloc, list).expect(rt, "no memory");
@@ -455,12 +471,24 @@ fn in_each_storage(rt: &impl Abort, alloc: Global, list: &[bool]) {
     let other = Bitmap::from_bools(alloc, others).expect(rt, "no memory");
     for case in 0..48usize {
         let (offset, spare, behind) = (case % 8, case / 8 % 2 == 1, case / 16);
-        let bytes = lists::stored(alloc, list, offset, spare, behind).expect(rt, "no memory");
-        let whole = Bitmap::try_new(bytes, offset + list.len()).expect(rt, "no memory");
-        let bitmap = whole.sliced(offset, list.len());
+        let bitmap = stored(rt, alloc, list, offset, spare, behind);
         is_its_list(rt, alloc, &bitmap, list);
         answers_beside(rt, alloc, &bitmap, &other, (list, others));
         answers_beside(rt, alloc, &other, &bitmap, (others, list));
+    }
+}
+
+/// Lists without a pattern answer beside each other, at each bit offset of the one and two of the other.
+fn at_each_offset(rt: &impl Abort, alloc: Global, length: usize) {
+    let list = lists::scattered(alloc, 1, length).expect(rt, "no memory");
+    let others = lists::scattered(alloc, 2, length).expect(rt, "no memory");
+    let (list, others) = (list.as_slice(), others.as_slice());
+    for offset in 0..16 {
+        let bitmap = stored(rt, alloc, list, offset, true, 1);
+        let alike = stored(rt, alloc, others, offset, true, 0);
+        answers_beside(rt, alloc, &bitmap, &alike, (list, others));
+        let apart = stored(rt, alloc, others, (offset * 5 + 3) % 16, true, 1);
+        answers_beside(rt, alloc, &bitmap, &apart, (list, others));
     }
 }
 
@@ -476,5 +504,12 @@ fn what_stands_behind_a_list_changes_no_answer(rt: HostRuntime) {
     for length in [63usize, 64, 65, 130] {
         let list = lists::thirds(alloc, length).expect(&rt, "no memory");
         in_each_storage(&rt, alloc, list.as_slice());
+    }
+}
+
+#[test]
+fn two_lists_answer_at_each_length_and_offset(rt: HostRuntime) {
+    for length in 0..=600 {
+        at_each_offset(&rt, rt.alloc(), length);
     }
 }
