@@ -1,9 +1,13 @@
-//! Asks a call that takes memory for its answer, once more where memory was refused. Such a call is named on standard
-//! error, and its answer shown on standard output, which so has one text whichever request for memory is refused.
+//! Asks for calls that take memory, and shows what they answer. Each group of them is made twice, and what was refused
+//! memory at first is shown as it was made again: so standard output has one text whichever request for memory is
+//! refused. The calls that were refused at first are named on standard error.
 use arrow2_types::error::{Error, Result};
 use std::cmp::PartialEq;
 use std::fmt;
 use std::io::{Eprint, Print};
+
+/// The name of a call, and its answer.
+pub(crate) type Row<T> = (&'static str, Result<T>);
 
 /// Whether the call was refused memory. It is then named.
 pub(crate) fn refused<R: Eprint, T>(rt: &R, call: &str, answer: &Result<T>) -> bool {
@@ -19,73 +23,49 @@ pub(crate) fn show<R: Print, T: fmt::Debug>(rt: &R, call: &str, answer: &T) {
     let _ = println!(rt; "{call}: {answer:?}");
 }
 
-/// What the call makes.
-macro_rules! made {
-    ($rt:expr, $call:literal, $make:expr) => {{
-        let answer = $make;
-        if $crate::ask::refused($rt, $call, &answer) {
-            $crate::ask::show($rt, $call, &$make);
-        } else {
-            $crate::ask::show($rt, $call, &answer);
-        }
-    }};
+/// Shows what calls made, and where memory was refused, what they made again.
+pub(crate) fn made<R: Print + Eprint, T: fmt::Debug>(rt: &R, rows: &[Row<T>], again: &[Row<T>]) {
+    for ((call, answer), (_, other)) in rows.iter().zip(again) {
+        let refused = refused(rt, call, answer);
+        show(rt, call, if refused { other } else { answer });
+    }
 }
 
-pub(crate) use made;
-
-/// What the call makes of a value, and of another such value where memory was refused.
-macro_rules! taken {
-    ($rt:expr, $call:literal, $two:expr, $value:ident => $take:expr) => {{
-        let ($value, second) = $two;
-        let answer = $take;
-        if $crate::ask::refused($rt, $call, &answer) {
-            let $value = second;
-            $crate::ask::show($rt, $call, &$take);
-        } else {
-            $crate::ask::show($rt, $call, &answer);
-        }
-    }};
+/// Changes of a value.
+pub(crate) trait Change<T> {
+    /// Changes it.
+    fn change(&self, value: &mut T) -> Row<()>;
 }
 
-pub(crate) use taken;
-
-/// What the call leaves in a copy of the value. Where memory was refused, that is the value.
-macro_rules! changed {
-    ($rt:expr, $call:literal, $before:expr, $value:ident => $change:expr) => {
-        if let Ok(mut $value) = $crate::ask::copied($before) {
-            let answer = $change;
-            if $crate::ask::refused($rt, $call, &answer) {
-                $crate::ask::compare($rt, &$value, $before);
-                $crate::ask::show($rt, $call, &$change);
-            } else {
-                $crate::ask::show($rt, $call, &answer);
-            }
-            $crate::ask::show($rt, $call, &$value);
-        }
-    };
+/// Shows what a change leaves in a copy of the value. Where memory was refused, that is the value.
+pub(crate) fn changed<R: Print + Eprint, T: Clone + Drop + PartialEq + fmt::Debug, C: Change<T>>(
+    rt: &R,
+    before: &T,
+    change: &C,
+) -> Result<()> {
+    let mut value = copied(before)?;
+    let (call, answer) = change.change(&mut value);
+    if refused(rt, call, &answer) {
+        compare(rt, &value, before);
+        let (_, again) = change.change(&mut value);
+        show(rt, call, &again);
+    } else {
+        show(rt, call, &answer);
+    }
+    show(rt, call, &value);
+    Ok(())
 }
 
-pub(crate) use changed;
-
-/// What can be had once memory is there.
-macro_rules! had {
-    ($make:expr) => {
-        match $make {
-            Err(_) => $make,
-            made => made,
-        }
-    };
-}
-
-pub(crate) use had;
-
-/// A copy of the value.
-pub(crate) fn copied<T: Clone>(value: &T) -> Result<T> {
-    had!(value.clone().map_err(Error::from))
+/// A copy of the value, for which memory may be refused once.
+fn copied<T: Clone + Drop>(value: &T) -> Result<T> {
+    match value.clone() {
+        Ok(copy) => Ok(copy),
+        Err(_) => value.clone().map_err(Error::from),
+    }
 }
 
 /// Shows the value where it is not as it was before.
-pub(crate) fn compare<R: Print, T: fmt::Debug + PartialEq>(rt: &R, value: &T, before: &T) {
+fn compare<R: Print, T: fmt::Debug + PartialEq>(rt: &R, value: &T, before: &T) {
     if *value != *before {
         show(rt, "changed though refused", value);
     }

@@ -1,5 +1,5 @@
 //! Bitmaps that are made, read and combined.
-use crate::ask::{had, made};
+use crate::ask::{Row, made};
 use crate::items::items;
 use arrow2_bitmap::bitmap_ops::{
     and, binary, binary_by_table, from_rows, or, unary, unary_by_table, xor,
@@ -16,19 +16,18 @@ use std::convert::TryFrom;
 use std::io::{Eprint, Print};
 
 /// Bitmaps of given bits.
-fn given<R: Print + Eprint>(rt: &R, alloc: Global) {
-    made!(rt, "Bitmap::new", Bitmap::new(alloc));
-    made!(rt, "Bitmap::new_zeroed", Bitmap::new_zeroed(alloc, 9));
-    made!(
-        rt,
-        "Bitmap::from_u8_slice",
-        Bitmap::from_u8_slice(alloc, &[0b1011_0110, 0b1], 9)
-    );
-    made!(
-        rt,
-        "Bitmap::from_bools",
-        Bitmap::from_bools(alloc, &[true, false, true])
-    );
+fn given(alloc: Global) -> [Row<Bitmap>; 4] {
+    let bytes = [0b1011_0110, 0b1];
+    let items = [true, false, true];
+    [
+        ("Bitmap::new", Bitmap::new(alloc)),
+        ("Bitmap::new_zeroed", Bitmap::new_zeroed(alloc, 9)),
+        (
+            "Bitmap::from_u8_slice",
+            Bitmap::from_u8_slice(alloc, &bytes, 9),
+        ),
+        ("Bitmap::from_bools", Bitmap::from_bools(alloc, &items)),
+    ]
 }
 
 /// What is collected asks for memory more than once.
@@ -37,20 +36,23 @@ fn collected(alloc: Global) -> Result<Bitmap> {
 }
 
 /// Bitmaps of bytes that are there, and of an iterator.
-fn moved<R: Print + Eprint>(rt: &R, alloc: Global) {
-    made!(
-        rt,
-        "Bitmap::from_u8_vec",
-        Bitmap::from_u8_vec(Vec::new(alloc), 0)
-    );
-    made!(rt, "Bitmap::try_new", Bitmap::try_new(Vec::new(alloc), 0));
-    made!(rt, "Bitmap::try_new", Bitmap::try_new(Vec::new(alloc), 9));
-    made!(
-        rt,
-        "TryFrom<MutableBitmap> for Bitmap",
-        Bitmap::try_from(MutableBitmap::new(alloc))
-    );
-    made!(rt, "Bitmap::try_from_iter", collected(alloc));
+fn moved(alloc: Global) -> [Row<Bitmap>; 5] {
+    let none = MutableBitmap::new(alloc);
+    [
+        (
+            "Bitmap::from_u8_vec",
+            Bitmap::from_u8_vec(Vec::new(alloc), 0),
+        ),
+        ("Bitmap::try_new", Bitmap::try_new(Vec::new(alloc), 0)),
+        ("Bitmap::try_new", Bitmap::try_new(Vec::new(alloc), 9)),
+        ("TryFrom<MutableBitmap> for Bitmap", Bitmap::try_from(none)),
+        ("Bitmap::try_from_iter", collected(alloc)),
+    ]
+}
+
+/// Another owner.
+fn shared(bitmap: &Bitmap) -> [Row<Bitmap>; 1] {
+    [("Clone for Bitmap", bitmap.clone().map_err(Error::from))]
 }
 
 /// A copy that can be changed.
@@ -58,23 +60,12 @@ fn made_mut(bitmap: &Bitmap) -> Result<MutableBitmap> {
     bitmap.clone()?.make_mut()
 }
 
-/// Another owner, and that copy.
-fn copied<R: Print + Eprint>(rt: &R, bitmap: &Bitmap) {
-    made!(rt, "Clone for Bitmap", bitmap.clone().map_err(Error::from));
-    made!(rt, "Bitmap::make_mut", made_mut(bitmap));
+/// That copy.
+fn copied(bitmap: &Bitmap) -> [Row<MutableBitmap>; 1] {
+    [("Bitmap::make_mut", made_mut(bitmap))]
 }
 
-/// A function of one word, which moves its bits.
-fn of_one(bitmap: &Bitmap) -> Result<Bitmap> {
-    unary(bitmap, |x| x << 1)
-}
-
-/// Of two words.
-fn of_two(bitmap: &Bitmap) -> Result<Bitmap> {
-    binary(bitmap, bitmap, |x, y| x ^ y << 1)
-}
-
-/// Of three words.
+/// A function of three words, which moves their bits.
 fn of_three(bitmap: &Bitmap) -> Result<Bitmap> {
     ternary(bitmap, bitmap, bitmap, |x, y, z| x ^ y << 1 ^ z << 2)
 }
@@ -98,65 +89,56 @@ fn of_rows(bitmap: &Bitmap) -> Result<Bitmap> {
 }
 
 /// Functions of words.
-fn by_words<R: Print + Eprint>(rt: &R, bitmap: &Bitmap) {
-    made!(rt, "unary", of_one(bitmap));
-    made!(rt, "binary", of_two(bitmap));
-    made!(rt, "ternary", of_three(bitmap));
-    made!(rt, "quaternary", of_four(bitmap));
+fn by_words(bitmap: &Bitmap) -> [Row<Bitmap>; 5] {
+    [
+        ("unary", unary(bitmap, |x| x << 1)),
+        ("binary", binary(bitmap, bitmap, |x, y| x ^ y << 1)),
+        ("ternary", of_three(bitmap)),
+        ("quaternary", of_four(bitmap)),
+        ("from_rows", of_rows(bitmap)),
+    ]
 }
 
-/// Rows of words, and the tables that the operators go by.
-fn by_own_tables<R: Print + Eprint>(rt: &R, bitmap: &Bitmap) {
-    made!(rt, "from_rows", of_rows(bitmap));
-    made!(rt, "unary_by_table", unary_by_table(bitmap, 0b01));
-    made!(
-        rt,
-        "binary_by_table",
-        binary_by_table(bitmap, bitmap, 0b0110)
-    );
+/// A table of four inputs.
+fn by_four(bitmap: &Bitmap) -> Result<Bitmap> {
+    quaternary_table(bitmap, bitmap, bitmap, bitmap, 0b0111_1111_1111_1110)
 }
 
-/// Truth tables.
-fn by_tables<R: Print + Eprint>(rt: &R, bitmap: &Bitmap) {
-    made!(rt, "unary_table", unary_table(bitmap, 0b01));
-    made!(rt, "binary_table", binary_table(bitmap, bitmap, 0b0111));
-    made!(
-        rt,
-        "ternary_table",
-        ternary_table(bitmap, bitmap, bitmap, 0b0111_1110)
-    );
-    made!(
-        rt,
-        "quaternary_table",
-        quaternary_table(bitmap, bitmap, bitmap, bitmap, 0b0111_1111_1111_1110)
-    );
+/// Truth tables, and those that the operators go by.
+fn by_tables(bitmap: &Bitmap) -> [Row<Bitmap>; 6] {
+    let (one, two) = (bitmap, bitmap);
+    [
+        ("unary_by_table", unary_by_table(one, 0b01)),
+        ("binary_by_table", binary_by_table(one, two, 0b0110)),
+        ("unary_table", unary_table(one, 0b01)),
+        ("binary_table", binary_table(one, two, 0b0111)),
+        ("ternary_table", ternary_table(one, two, one, 0b0111_1110)),
+        ("quaternary_table", by_four(bitmap)),
+    ]
 }
 
-/// The named functions of two bitmaps.
-fn by_names<R: Print + Eprint>(rt: &R, bitmap: &Bitmap) {
-    made!(rt, "and", and(bitmap, bitmap));
-    made!(rt, "or", or(bitmap, bitmap));
-    made!(rt, "xor", xor(bitmap, bitmap));
-}
-
-/// Operators.
-fn by_operators<R: Print + Eprint>(rt: &R, bitmap: &Bitmap) {
-    made!(rt, "BitAnd<&Bitmap> for &Bitmap", bitmap & bitmap);
-    made!(rt, "BitOr<&Bitmap> for &Bitmap", bitmap | bitmap);
-    made!(rt, "BitXor<&Bitmap> for &Bitmap", bitmap ^ bitmap);
-    made!(rt, "Not for &Bitmap", !bitmap);
+/// The named functions of two bitmaps, and operators.
+fn by_names(bitmap: &Bitmap) -> [Row<Bitmap>; 7] {
+    [
+        ("and", and(bitmap, bitmap)),
+        ("or", or(bitmap, bitmap)),
+        ("xor", xor(bitmap, bitmap)),
+        ("BitAnd<&Bitmap> for &Bitmap", bitmap & bitmap),
+        ("BitOr<&Bitmap> for &Bitmap", bitmap | bitmap),
+        ("BitXor<&Bitmap> for &Bitmap", bitmap ^ bitmap),
+        ("Not for &Bitmap", !bitmap),
+    ]
 }
 
 /// All of them.
 pub(crate) fn all<R: Print + Eprint>(rt: &R, alloc: Global) -> Result<()> {
-    let bitmap = had!(items(alloc, 1))?;
-    given(rt, alloc);
-    moved(rt, alloc);
-    copied(rt, &bitmap);
-    by_words(rt, &bitmap);
-    by_own_tables(rt, &bitmap);
-    by_tables(rt, &bitmap);
-    by_names(rt, &bitmap);
-    by_operators(rt, &bitmap);
+    let bitmap = items(alloc, 1).or(items(alloc, 1))?;
+    made(rt, &given(alloc), &given(alloc));
+    made(rt, &moved(alloc), &moved(alloc));
+    made(rt, &shared(&bitmap), &shared(&bitmap));
+    made(rt, &copied(&bitmap), &copied(&bitmap));
+    made(rt, &by_words(&bitmap), &by_words(&bitmap));
+    made(rt, &by_tables(&bitmap), &by_tables(&bitmap));
+    made(rt, &by_names(&bitmap), &by_names(&bitmap));
     Ok(())
 }

@@ -1,5 +1,5 @@
 //! Bitmaps that grow.
-use crate::ask::{changed, had, made, refused, show, taken};
+use crate::ask::{Change, Row, changed, made, refused, show};
 use crate::items::{BYTES, growing_items, items};
 use arrow2_bitmap::immutable::Bitmap;
 use arrow2_bitmap::mutable::MutableBitmap;
@@ -7,86 +7,92 @@ use arrow2_types::error::{Error, Result};
 use std::alloc::Global;
 use std::io::{Eprint, Print};
 
-/// Growing bitmaps of given bits.
-fn given<R: Print + Eprint>(rt: &R, alloc: Global) {
-    made!(
-        rt,
-        "MutableBitmap::with_capacity",
-        MutableBitmap::with_capacity(alloc, 20)
-    );
-    made!(
-        rt,
-        "MutableBitmap::from_len_zeroed",
-        MutableBitmap::from_len_zeroed(alloc, 9)
-    );
-    made!(
-        rt,
-        "MutableBitmap::from_len_set",
-        MutableBitmap::from_len_set(alloc, 9)
-    );
-    made!(
-        rt,
-        "MutableBitmap::from_bools",
-        MutableBitmap::from_bools(alloc, &[true, false, true])
-    );
-}
-
 /// What is collected asks for memory more than once.
 fn of_every_third(alloc: Global) -> Result<MutableBitmap> {
     MutableBitmap::try_from_iter(alloc, (0..600usize).map(|i| i % 3 == 0))
 }
 
-/// What is collected, and what is refused, which takes memory for its text.
-fn collected<R: Print + Eprint>(rt: &R, alloc: Global) {
-    made!(rt, "MutableBitmap::try_from_iter", of_every_third(alloc));
-    made!(
-        rt,
-        "MutableBitmap::try_new",
-        MutableBitmap::try_new(Vec::new(alloc), 9)
-    );
+/// A name of a call that makes a bitmap that grows, and its answer.
+type Grown = Row<MutableBitmap>;
+
+/// Growing bitmaps of given bits.
+fn given(alloc: Global) -> [Grown; 6] {
+    let items = [true, false, true];
+    [
+        (
+            "MutableBitmap::with_capacity",
+            MutableBitmap::with_capacity(alloc, 20),
+        ),
+        (
+            "MutableBitmap::from_len_zeroed",
+            MutableBitmap::from_len_zeroed(alloc, 9),
+        ),
+        (
+            "MutableBitmap::from_len_set",
+            MutableBitmap::from_len_set(alloc, 9),
+        ),
+        (
+            "MutableBitmap::from_bools",
+            MutableBitmap::from_bools(alloc, &items),
+        ),
+        ("MutableBitmap::try_from_iter", of_every_third(alloc)),
+        (
+            "MutableBitmap::try_new",
+            MutableBitmap::try_new(Vec::new(alloc), 9),
+        ),
+    ]
 }
 
 /// A copy.
-fn copied<R: Print + Eprint>(rt: &R, bitmap: &MutableBitmap) {
-    made!(
-        rt,
+fn copied(bitmap: &MutableBitmap) -> [Grown; 1] {
+    [(
         "Clone for MutableBitmap",
-        bitmap.clone().map_err(Error::from)
-    );
+        bitmap.clone().map_err(Error::from),
+    )]
 }
 
 /// What the items are as a validity.
-fn validity<R: Print + Eprint>(rt: &R, two: (MutableBitmap, MutableBitmap)) {
-    taken!(rt, "MutableBitmap::into_validity", two, bitmap => bitmap.into_validity());
+fn validity(bitmap: MutableBitmap) -> [Row<Option<Bitmap>>; 1] {
+    [("MutableBitmap::into_validity", bitmap.into_validity())]
 }
 
-/// An empty bitmap by one item, and by more of one value than a vector first has room for.
-fn pushed<R: Print + Eprint>(rt: &R, alloc: Global) {
-    let empty = MutableBitmap::new(alloc);
-    changed!(rt, "MutableBitmap::push", &empty, bitmap => bitmap.push(true));
-    changed!(
-        rt,
-        "MutableBitmap::extend_constant",
-        &empty,
-        bitmap => bitmap.extend_constant(90, true)
-    );
+/// How a bitmap grows, and how its room does.
+#[derive(Drop)]
+enum Growth<'a> {
+    /// By one item.
+    Push,
+    /// By more of one value than a vector first has room for.
+    ExtendConstant,
+    /// By bits.
+    ExtendFromSlice,
+    /// By the items of a bitmap.
+    ExtendFromBitmap(&'a Bitmap),
+    /// By room alone.
+    Reserve,
+    /// By room that is given back.
+    ShrinkToFit,
 }
 
-/// An empty bitmap by other bits.
-fn extended<R: Print + Eprint>(rt: &R, alloc: Global, other: &Bitmap) {
-    let empty = MutableBitmap::new(alloc);
-    changed!(
-        rt,
-        "MutableBitmap::extend_from_slice",
-        &empty,
-        bitmap => bitmap.extend_from_slice(&BYTES, 3, 70)
-    );
-    changed!(
-        rt,
-        "MutableBitmap::extend_from_bitmap",
-        &empty,
-        bitmap => bitmap.extend_from_bitmap(other)
-    );
+impl Change<MutableBitmap> for Growth<'_> {
+    fn change(&self, bitmap: &mut MutableBitmap) -> Row<()> {
+        match self {
+            Growth::Push => ("MutableBitmap::push", bitmap.push(true)),
+            Growth::ExtendConstant => (
+                "MutableBitmap::extend_constant",
+                bitmap.extend_constant(90, true),
+            ),
+            Growth::ExtendFromSlice => (
+                "MutableBitmap::extend_from_slice",
+                bitmap.extend_from_slice(&BYTES, 3, 70),
+            ),
+            Growth::ExtendFromBitmap(other) => (
+                "MutableBitmap::extend_from_bitmap",
+                bitmap.extend_from_bitmap(other),
+            ),
+            Growth::Reserve => ("MutableBitmap::reserve", bitmap.reserve(90)),
+            Growth::ShrinkToFit => ("MutableBitmap::shrink_to_fit", reserve_and_shrink(bitmap)),
+        }
+    }
 }
 
 /// Asks for room, and gives it back.
@@ -95,16 +101,21 @@ fn reserve_and_shrink(bitmap: &mut MutableBitmap) -> Result<()> {
     bitmap.shrink_to_fit()
 }
 
-/// Room is asked for, and given back.
-fn with_room<R: Print + Eprint>(rt: &R, alloc: Global) {
+/// An empty bitmap grows in each way.
+fn grown<R: Print + Eprint>(rt: &R, alloc: Global) -> Result<()> {
     let empty = MutableBitmap::new(alloc);
-    changed!(rt, "MutableBitmap::reserve", &empty, bitmap => bitmap.reserve(90));
-    changed!(
-        rt,
-        "MutableBitmap::shrink_to_fit",
-        &empty,
-        bitmap => reserve_and_shrink(&mut bitmap)
-    );
+    let other = items(alloc, 1).or(items(alloc, 1))?;
+    for growth in &[
+        Growth::Push,
+        Growth::ExtendConstant,
+        Growth::ExtendFromSlice,
+        Growth::ExtendFromBitmap(&other),
+        Growth::Reserve,
+        Growth::ShrinkToFit,
+    ] {
+        changed(rt, &empty, growth)?;
+    }
+    Ok(())
 }
 
 /// As many items as there is room for. None of them takes memory, so this is named where one is refused.
@@ -116,34 +127,19 @@ fn below_capacity<R: Print + Eprint>(rt: &R, bitmap: &mut MutableBitmap) {
     show(rt, "MutableBitmap::push below the capacity", bitmap);
 }
 
-/// Bitmaps that grow from none.
-fn from_none<R: Print + Eprint>(rt: &R, alloc: Global) -> Result<()> {
-    let bitmap = had!(items(alloc, 1))?;
-    given(rt, alloc);
-    collected(rt, alloc);
-    pushed(rt, alloc);
-    extended(rt, alloc, &bitmap);
-    with_room(rt, alloc);
-    Ok(())
-}
-
-/// Two bitmaps of the same items.
-fn two_growing(alloc: Global) -> Result<(MutableBitmap, MutableBitmap)> {
-    Ok((growing_items(alloc)?, growing_items(alloc)?))
-}
-
-/// A bitmap that has room, and one that is copied and frozen.
-fn grown<R: Print + Eprint>(rt: &R, alloc: Global) -> Result<()> {
-    let mut roomy = had!(MutableBitmap::with_capacity(alloc, 20))?;
-    below_capacity(rt, &mut roomy);
-    let two = had!(two_growing(alloc))?;
-    copied(rt, &two.0);
-    validity(rt, two);
-    Ok(())
+/// A bitmap with room for twenty items.
+fn roomy(alloc: Global) -> Result<MutableBitmap> {
+    MutableBitmap::with_capacity(alloc, 20)
 }
 
 /// All of them.
 pub(crate) fn all<R: Print + Eprint>(rt: &R, alloc: Global) -> Result<()> {
-    from_none(rt, alloc)?;
-    grown(rt, alloc)
+    made(rt, &given(alloc), &given(alloc));
+    grown(rt, alloc)?;
+    below_capacity(rt, &mut roomy(alloc).or(roomy(alloc))?);
+    let one = growing_items(alloc).or(growing_items(alloc))?;
+    let other = growing_items(alloc).or(growing_items(alloc))?;
+    made(rt, &copied(&one), &copied(&one));
+    made(rt, &validity(one), &validity(other));
+    Ok(())
 }

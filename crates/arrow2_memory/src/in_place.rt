@@ -1,5 +1,5 @@
 //! Changes in place. None of them takes memory.
-use crate::ask::{had, show};
+use crate::ask::show;
 use crate::items::{growing_items, items};
 use arrow2_bitmap::assign_ops::{binary_assign, unary_assign};
 use arrow2_bitmap::immutable::Bitmap;
@@ -83,7 +83,7 @@ fn sides(alloc: Global) -> Result<(MutableBitmap, Bitmap)> {
 
 /// All of them.
 pub(crate) fn all<R: Print + Eprint>(rt: &R, alloc: Global) -> Result<()> {
-    let (mut lhs, rhs) = had!(sides(alloc))?;
+    let (mut lhs, rhs) = sides(alloc).or(sides(alloc))?;
     words::<_, u8>(rt, &mut lhs, &rhs);
     words::<_, u16>(rt, &mut lhs, &rhs);
     words::<_, u32>(rt, &mut lhs, &rhs);

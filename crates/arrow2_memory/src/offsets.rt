@@ -1,5 +1,5 @@
 //! Offsets and buffers.
-use crate::ask::{changed, had, made, refused, show, taken};
+use crate::ask::{Change, Row, changed, made, refused, show};
 use arrow2_buffer::Buffer;
 use arrow2_offset::{Offsets, OffsetsBuffer};
 use arrow2_types::error::{Error, Result};
@@ -8,168 +8,174 @@ use std::convert::TryFrom;
 use std::io::{Eprint, Print};
 
 /// Buffers.
-fn buffers<R: Print + Eprint>(rt: &R, alloc: Global) {
-    made!(rt, "Buffer::new", Buffer::<u32>::new(alloc));
-    made!(
-        rt,
-        "TryFrom<Vec<T>> for Buffer<T>",
-        Buffer::<u32>::try_from(Vec::new(alloc))
-    );
-    made!(
-        rt,
-        "Buffer::try_from_iter",
-        Buffer::try_from_iter(alloc, 0..100u32)
-    );
+fn buffers(alloc: Global) -> [Row<Buffer<u32>>; 3] {
+    [
+        ("Buffer::new", Buffer::new(alloc)),
+        (
+            "TryFrom<Vec<T>> for Buffer<T>",
+            Buffer::try_from(Vec::new(alloc)),
+        ),
+        (
+            "Buffer::try_from_iter",
+            Buffer::try_from_iter(alloc, 0..100u32),
+        ),
+    ]
 }
 
-/// Offsets of given lengths.
-fn given<R: Print + Eprint>(rt: &R, alloc: Global) {
-    made!(rt, "Offsets::new", Offsets::<i32>::new(alloc));
-    made!(
-        rt,
-        "Offsets::new_zeroed",
-        Offsets::<i32>::new_zeroed(alloc, 9)
-    );
-    made!(
-        rt,
-        "Offsets::with_capacity",
-        Offsets::<i32>::with_capacity(alloc, 20)
-    );
-    made!(
-        rt,
-        "TryFrom<Vec<O>> for Offsets<O>",
-        Offsets::<i32>::try_from(Vec::new(alloc))
-    );
+/// Offsets of given lengths, and of those that an iterator gives: they ask for memory more than once.
+fn given(alloc: Global) -> [Row<Offsets<i32>>; 6] {
+    [
+        ("Offsets::new", Offsets::new(alloc)),
+        ("Offsets::new_zeroed", Offsets::new_zeroed(alloc, 9)),
+        ("Offsets::with_capacity", Offsets::with_capacity(alloc, 20)),
+        (
+            "TryFrom<Vec<O>> for Offsets<O>",
+            Offsets::try_from(Vec::new(alloc)),
+        ),
+        (
+            "Offsets::try_from_iter",
+            Offsets::try_from_iter(alloc, 0..100usize),
+        ),
+        (
+            "Offsets::try_from_lengths",
+            Offsets::try_from_lengths(alloc, 0..100usize),
+        ),
+    ]
 }
 
-/// Offsets of the lengths that an iterator gives: they ask for memory more than once.
-fn collected<R: Print + Eprint>(rt: &R, alloc: Global) {
-    made!(
-        rt,
-        "Offsets::try_from_iter",
-        Offsets::<i32>::try_from_iter(alloc, 0..100usize)
-    );
-    made!(
-        rt,
-        "Offsets::try_from_lengths",
-        Offsets::<i32>::try_from_lengths(alloc, 0..100usize)
-    );
+/// A copy.
+fn copied(offsets: &Offsets<i32>) -> [Row<Offsets<i32>>; 1] {
+    [("Clone for Offsets<O>", offsets.clone().map_err(Error::from))]
 }
 
-/// Shared offsets.
-fn frozen_given<R: Print + Eprint>(rt: &R, alloc: Global) {
-    made!(rt, "OffsetsBuffer::new", OffsetsBuffer::<i32>::new(alloc));
-    made!(
-        rt,
-        "TryFrom<Vec<O>> for OffsetsBuffer<O>",
-        OffsetsBuffer::<i32>::try_from(Vec::new(alloc))
-    );
+/// Shared offsets, and another owner of some.
+fn frozen(alloc: Global, shared: &OffsetsBuffer<i32>) -> [Row<OffsetsBuffer<i32>>; 3] {
+    [
+        ("OffsetsBuffer::new", OffsetsBuffer::new(alloc)),
+        (
+            "TryFrom<Vec<O>> for OffsetsBuffer<O>",
+            OffsetsBuffer::try_from(Vec::new(alloc)),
+        ),
+        (
+            "Clone for OffsetsBuffer<O>",
+            shared.clone().map_err(Error::from),
+        ),
+    ]
 }
 
-/// Offsets that are frozen, two by two, so that another one is there where memory was refused.
-fn frozen<R: Print + Eprint>(rt: &R, two: (Offsets<i32>, Offsets<i32>)) {
-    taken!(
-        rt,
-        "TryFrom<Offsets<O>> for OffsetsBuffer<O>",
-        two,
-        offsets => OffsetsBuffer::try_from(offsets)
-    );
-}
-
-/// Buffers that are offsets, or are refused by a text.
-fn checked<R: Print + Eprint>(rt: &R, two: (Buffer<i32>, Buffer<i32>)) {
-    taken!(
-        rt,
-        "TryFrom<Buffer<O>> for OffsetsBuffer<O>",
-        two,
-        buffer => OffsetsBuffer::try_from(buffer)
-    );
-}
-
-/// Offsets of the other width.
-fn widened<R: Print + Eprint>(
-    rt: &R,
-    narrow: (Offsets<i32>, Offsets<i32>),
-    wide: (Offsets<i64>, Offsets<i64>),
-) {
-    taken!(
-        rt,
-        "TryFrom<Offsets<i32>> for Offsets<i64>",
-        narrow,
-        offsets => Offsets::<i64>::try_from(offsets)
-    );
-    taken!(
-        rt,
-        "TryFrom<Offsets<i64>> for Offsets<i32>",
-        wide,
-        offsets => Offsets::<i32>::try_from(offsets)
-    );
-}
-
-/// Shared offsets of the other width.
-fn shared_widened<R: Print + Eprint>(
-    rt: &R,
-    narrow: &OffsetsBuffer<i32>,
-    wide: &OffsetsBuffer<i64>,
-) {
-    made!(
-        rt,
-        "TryFrom<&OffsetsBuffer<i32>> for OffsetsBuffer<i64>",
-        OffsetsBuffer::<i64>::try_from(narrow)
-    );
-    made!(
-        rt,
-        "TryFrom<&OffsetsBuffer<i64>> for OffsetsBuffer<i32>",
-        OffsetsBuffer::<i32>::try_from(wide)
-    );
-}
-
-/// A copy, and another owner.
-fn copied<R: Print + Eprint>(rt: &R, offsets: &Offsets<i32>, shared: &OffsetsBuffer<i32>) {
-    made!(
-        rt,
-        "Clone for Offsets<O>",
-        offsets.clone().map_err(Error::from)
-    );
-    made!(
-        rt,
-        "Clone for OffsetsBuffer<O>",
-        shared.clone().map_err(Error::from)
-    );
-    made!(
-        rt,
+/// Another owner of a buffer.
+fn buffer(shared: &OffsetsBuffer<i32>) -> [Row<Buffer<i32>>; 1] {
+    [(
         "Clone for Buffer<T>",
-        shared.buffer().clone().map_err(Error::from)
-    );
+        shared.buffer().clone().map_err(Error::from),
+    )]
 }
 
-/// One length more, and as many empty slots as ask for memory.
-fn pushed<R: Print + Eprint>(rt: &R, before: &Offsets<i32>) {
-    changed!(rt, "Offsets::try_push", before, offsets => offsets.try_push(7));
-    changed!(rt, "Offsets::try_push_usize", before, offsets => offsets.try_push_usize(7));
-    changed!(rt, "Offsets::extend_constant", before, offsets => offsets.extend_constant(90));
+/// Offsets that are frozen, a buffer that is offsets, and one that is none.
+fn moved(
+    offsets: Offsets<i32>,
+    buffer: Buffer<i32>,
+    empty: Buffer<i32>,
+) -> [Row<OffsetsBuffer<i32>>; 3] {
+    [
+        (
+            "TryFrom<Offsets<O>> for OffsetsBuffer<O>",
+            OffsetsBuffer::try_from(offsets),
+        ),
+        (
+            "TryFrom<Buffer<O>> for OffsetsBuffer<O>",
+            OffsetsBuffer::try_from(buffer),
+        ),
+        (
+            "TryFrom<Buffer<O>> for OffsetsBuffer<O>",
+            OffsetsBuffer::try_from(empty),
+        ),
+    ]
 }
 
-/// Lengths that an iterator gives, room, and what is given back of it.
-fn extended<R: Print + Eprint>(rt: &R, before: &Offsets<i32>) {
-    changed!(
-        rt,
-        "Offsets::try_extend_from_lengths",
-        before,
-        offsets => offsets.try_extend_from_lengths(0..100usize)
-    );
-    changed!(rt, "Offsets::reserve", before, offsets => offsets.reserve(90));
-    changed!(rt, "Offsets::shrink_to_fit", before, offsets => offsets.shrink_to_fit());
+/// Offsets of the greater width.
+fn widened(offsets: Offsets<i32>) -> [Row<Offsets<i64>>; 1] {
+    [(
+        "TryFrom<Offsets<i32>> for Offsets<i64>",
+        Offsets::try_from(offsets),
+    )]
 }
 
-/// Lengths of other offsets.
-fn joined<R: Print + Eprint>(rt: &R, before: &Offsets<i32>, other: &Offsets<i32>) {
-    changed!(
-        rt,
-        "Offsets::try_extend_from_self",
-        before,
-        offsets => offsets.try_extend_from_self(other)
-    );
+/// Offsets of the smaller width.
+fn narrowed(offsets: Offsets<i64>) -> [Row<Offsets<i32>>; 1] {
+    [(
+        "TryFrom<Offsets<i64>> for Offsets<i32>",
+        Offsets::try_from(offsets),
+    )]
+}
+
+/// Shared offsets of the greater width.
+fn shared_widened(offsets: &OffsetsBuffer<i32>) -> [Row<OffsetsBuffer<i64>>; 1] {
+    [(
+        "TryFrom<&OffsetsBuffer<i32>> for OffsetsBuffer<i64>",
+        OffsetsBuffer::try_from(offsets),
+    )]
+}
+
+/// Shared offsets of the smaller width.
+fn shared_narrowed(offsets: &OffsetsBuffer<i64>) -> [Row<OffsetsBuffer<i32>>; 1] {
+    [(
+        "TryFrom<&OffsetsBuffer<i64>> for OffsetsBuffer<i32>",
+        OffsetsBuffer::try_from(offsets),
+    )]
+}
+
+/// How offsets grow, and how their room does.
+#[derive(Drop)]
+enum Growth {
+    /// By one length.
+    Push,
+    /// By one length that is a `usize`.
+    PushUsize,
+    /// By as many empty slots as ask for memory.
+    ExtendConstant,
+    /// By the lengths that an iterator gives.
+    ExtendFromLengths,
+    /// By room alone.
+    Reserve,
+    /// By room that is given back.
+    ShrinkToFit,
+}
+
+impl Change<Offsets<i32>> for Growth {
+    fn change(&self, offsets: &mut Offsets<i32>) -> Row<()> {
+        match self {
+            Growth::Push => ("Offsets::try_push", offsets.try_push(7)),
+            Growth::PushUsize => ("Offsets::try_push_usize", offsets.try_push_usize(7)),
+            Growth::ExtendConstant => ("Offsets::extend_constant", offsets.extend_constant(90)),
+            Growth::ExtendFromLengths => (
+                "Offsets::try_extend_from_lengths",
+                offsets.try_extend_from_lengths(0..100usize),
+            ),
+            Growth::Reserve => ("Offsets::reserve", offsets.reserve(90)),
+            Growth::ShrinkToFit => ("Offsets::shrink_to_fit", offsets.shrink_to_fit()),
+        }
+    }
+}
+
+/// By the lengths of other offsets.
+impl Change<Offsets<i32>> for Offsets<i32> {
+    fn change(&self, offsets: &mut Offsets<i32>) -> Row<()> {
+        (
+            "Offsets::try_extend_from_self",
+            offsets.try_extend_from_self(self),
+        )
+    }
+}
+
+/// By a part of the lengths of shared offsets.
+impl Change<Offsets<i32>> for OffsetsBuffer<i32> {
+    fn change(&self, offsets: &mut Offsets<i32>) -> Row<()> {
+        (
+            "Offsets::try_extend_from_slice",
+            extend_by_two(offsets, self),
+        )
+    }
 }
 
 /// Appends the first two lengths.
@@ -180,14 +186,23 @@ fn extend_by_two(offsets: &mut Offsets<i32>, other: &OffsetsBuffer<i32>) -> Resu
     offsets.try_extend_from_slice(other, 0, 2)
 }
 
-/// A part of the lengths of shared offsets.
-fn joined_part<R: Print + Eprint>(rt: &R, before: &Offsets<i32>, other: &OffsetsBuffer<i32>) {
-    changed!(
-        rt,
-        "Offsets::try_extend_from_slice",
-        before,
-        offsets => extend_by_two(&mut offsets, other)
-    );
+/// Offsets without a length grow in each way.
+fn grown<R: Print + Eprint>(rt: &R, alloc: Global) -> Result<()> {
+    let before = Offsets::new(alloc).or(Offsets::new(alloc))?;
+    for growth in &[
+        Growth::Push,
+        Growth::PushUsize,
+        Growth::ExtendConstant,
+        Growth::ExtendFromLengths,
+        Growth::Reserve,
+        Growth::ShrinkToFit,
+    ] {
+        changed(rt, &before, growth)?;
+    }
+    let other = five(alloc).or(five(alloc))?;
+    changed(rt, &before, &other)?;
+    let shared = five_shared(alloc).or(five_shared(alloc))?;
+    changed(rt, &before, &shared)
 }
 
 /// As many lengths as there is room for. None of them takes memory, so this is named where one is refused.
@@ -197,6 +212,11 @@ fn below_capacity<R: Print + Eprint>(rt: &R, offsets: &mut Offsets<i32>) {
         refused(rt, "Offsets::try_push_usize below the capacity", &pushed);
     }
     show(rt, "Offsets::try_push_usize below the capacity", offsets);
+}
+
+/// Offsets with room for twenty lengths.
+fn roomy(alloc: Global) -> Result<Offsets<i32>> {
+    Offsets::with_capacity(alloc, 20)
 }
 
 /// Offsets of five lengths.
@@ -209,87 +229,72 @@ fn five_shared(alloc: Global) -> Result<OffsetsBuffer<i32>> {
     OffsetsBuffer::try_from(five(alloc)?)
 }
 
-/// Two of those offsets.
-fn two_fives(alloc: Global) -> Result<(Offsets<i32>, Offsets<i32>)> {
-    Ok((five(alloc)?, five(alloc)?))
+/// Those offsets in the greater width.
+fn five_wide(alloc: Global) -> Result<Offsets<i64>> {
+    Offsets::try_from(five(alloc)?)
 }
 
-/// Two of them in the other width.
-fn two_wide_fives(alloc: Global) -> Result<(Offsets<i64>, Offsets<i64>)> {
+/// Those offsets in the greater width, shared.
+fn five_shared_wide(alloc: Global) -> Result<OffsetsBuffer<i64>> {
+    OffsetsBuffer::try_from(five_wide(alloc)?)
+}
+
+/// Offsets, a buffer that is offsets, and one that is none.
+fn to_move(alloc: Global) -> Result<(Offsets<i32>, Buffer<i32>, Buffer<i32>)> {
     Ok((
-        Offsets::try_from(five(alloc)?)?,
-        Offsets::try_from(five(alloc)?)?,
-    ))
-}
-
-/// Two buffers that are offsets.
-fn two_buffers(alloc: Global) -> Result<(Buffer<i32>, Buffer<i32>)> {
-    Ok((
+        five(alloc)?,
         five_shared(alloc)?.into_inner(),
-        five_shared(alloc)?.into_inner(),
+        Buffer::new(alloc)?,
     ))
-}
-
-/// Two buffers that are none.
-fn two_empty_buffers(alloc: Global) -> Result<(Buffer<i32>, Buffer<i32>)> {
-    Ok((Buffer::new(alloc)?, Buffer::new(alloc)?))
 }
 
 /// Offsets and buffers of given items.
 fn of_items<R: Print + Eprint>(rt: &R, alloc: Global) -> Result<()> {
-    let offsets = had!(five(alloc))?;
-    let shared = had!(five_shared(alloc))?;
-    buffers(rt, alloc);
-    given(rt, alloc);
-    collected(rt, alloc);
-    frozen_given(rt, alloc);
-    copied(rt, &offsets, &shared);
+    let offsets = five(alloc).or(five(alloc))?;
+    let shared = five_shared(alloc).or(five_shared(alloc))?;
+    made(rt, &buffers(alloc), &buffers(alloc));
+    made(rt, &given(alloc), &given(alloc));
+    made(rt, &copied(&offsets), &copied(&offsets));
+    made(rt, &frozen(alloc, &shared), &frozen(alloc, &shared));
+    made(rt, &buffer(&shared), &buffer(&shared));
     Ok(())
 }
 
 /// Offsets that are frozen, and buffers that are offsets or not.
-fn moved<R: Print + Eprint>(rt: &R, alloc: Global) -> Result<()> {
-    frozen(rt, had!(two_fives(alloc))?);
-    checked(rt, had!(two_buffers(alloc))?);
-    checked(rt, had!(two_empty_buffers(alloc))?);
+fn frozen_or_refused<R: Print + Eprint>(rt: &R, alloc: Global) -> Result<()> {
+    let (offsets, buffer, empty) = to_move(alloc).or(to_move(alloc))?;
+    let first = moved(offsets, buffer, empty);
+    let (offsets, buffer, empty) = to_move(alloc).or(to_move(alloc))?;
+    made(rt, &first, &moved(offsets, buffer, empty));
     Ok(())
 }
 
 /// Offsets of the other width.
 fn converted<R: Print + Eprint>(rt: &R, alloc: Global) -> Result<()> {
-    let narrow = had!(two_fives(alloc))?;
-    let wide = had!(two_wide_fives(alloc))?;
-    widened(rt, narrow, wide);
+    let (one, other) = (five(alloc).or(five(alloc))?, five(alloc).or(five(alloc))?);
+    made(rt, &widened(one), &widened(other));
+    let one = five_wide(alloc).or(five_wide(alloc))?;
+    let other = five_wide(alloc).or(five_wide(alloc))?;
+    made(rt, &narrowed(one), &narrowed(other));
     Ok(())
 }
 
 /// Shared offsets of the other width.
 fn shared_converted<R: Print + Eprint>(rt: &R, alloc: Global) -> Result<()> {
-    let narrow = had!(five_shared(alloc))?;
-    let wide = had!(OffsetsBuffer::<i64>::try_from(&narrow))?;
-    shared_widened(rt, &narrow, &wide);
-    Ok(())
-}
-
-/// Offsets that grow.
-fn growing<R: Print + Eprint>(rt: &R, alloc: Global) -> Result<()> {
-    let before = had!(Offsets::new(alloc))?;
-    pushed(rt, &before);
-    extended(rt, &before);
-    let other = had!(five(alloc))?;
-    let shared = had!(five_shared(alloc))?;
-    joined(rt, &before, &other);
-    joined_part(rt, &before, &shared);
-    let mut roomy = had!(Offsets::with_capacity(alloc, 20))?;
-    below_capacity(rt, &mut roomy);
+    let narrow = five_shared(alloc).or(five_shared(alloc))?;
+    made(rt, &shared_widened(&narrow), &shared_widened(&narrow));
+    let wide = five_shared_wide(alloc).or(five_shared_wide(alloc))?;
+    made(rt, &shared_narrowed(&wide), &shared_narrowed(&wide));
     Ok(())
 }
 
 /// All of them.
 pub(crate) fn all<R: Print + Eprint>(rt: &R, alloc: Global) -> Result<()> {
     of_items(rt, alloc)?;
-    moved(rt, alloc)?;
+    frozen_or_refused(rt, alloc)?;
     converted(rt, alloc)?;
     shared_converted(rt, alloc)?;
-    growing(rt, alloc)
+    grown(rt, alloc)?;
+    below_capacity(rt, &mut roomy(alloc).or(roomy(alloc))?);
+    Ok(())
 }

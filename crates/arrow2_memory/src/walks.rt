@@ -1,5 +1,5 @@
 //! Boolean arrays, and bitmaps in pieces, which are shown by how many there are.
-use crate::ask::{had, made, refused, show};
+use crate::ask::{Row, made, refused, show};
 use crate::items::items;
 use arrow2_array::BooleanArray;
 use arrow2_bitmap::immutable::Bitmap;
@@ -8,15 +8,14 @@ use arrow2_walks::pieces::Pieces;
 use std::alloc::Global;
 use std::io::{Eprint, Print};
 
-/// Kleene's logic, and another owner.
-fn arrays<R: Print + Eprint>(rt: &R, array: &BooleanArray) {
-    made!(rt, "BooleanArray::and_kleene", array.and_kleene(array));
-    made!(rt, "BooleanArray::or_kleene", array.or_kleene(array));
-    made!(
-        rt,
-        "Clone for BooleanArray",
-        array.clone().map_err(Error::from)
-    );
+/// Kleene's logic, another owner, and the text of what an array is refused for.
+fn arrays(array: &BooleanArray, bitmap: &Bitmap) -> [Row<BooleanArray>; 4] {
+    [
+        ("BooleanArray::and_kleene", array.and_kleene(array)),
+        ("BooleanArray::or_kleene", array.or_kleene(array)),
+        ("Clone for BooleanArray", array.clone().map_err(Error::from)),
+        ("BooleanArray::try_new", of_two_lengths(bitmap)),
+    ]
 }
 
 /// An array of values and a validity that is shorter.
@@ -25,19 +24,14 @@ fn of_two_lengths(bitmap: &Bitmap) -> Result<BooleanArray> {
     BooleanArray::try_new(bitmap.clone()?, Some(validity))
 }
 
-/// The text of what an array is refused for.
-fn refused_array<R: Print + Eprint>(rt: &R, bitmap: &Bitmap) {
-    made!(rt, "BooleanArray::try_new", of_two_lengths(bitmap));
-}
-
 /// How many pieces a bitmap is at first.
 fn whole(alloc: Global, bitmap: &Bitmap) -> Result<usize> {
     Ok(Pieces::new(alloc, bitmap.clone()?)?.len())
 }
 
 /// A bitmap as one piece.
-fn one_piece<R: Print + Eprint>(rt: &R, alloc: Global, bitmap: &Bitmap) {
-    made!(rt, "Pieces::new", whole(alloc, bitmap));
+fn one_piece(alloc: Global, bitmap: &Bitmap) -> [Row<usize>; 1] {
+    [("Pieces::new", whole(alloc, bitmap))]
 }
 
 /// Cuts the first piece in halves, and says where that was refused though it changed the number of pieces.
@@ -70,12 +64,11 @@ fn array(alloc: Global) -> Result<BooleanArray> {
 
 /// All of them.
 pub(crate) fn all<R: Print + Eprint>(rt: &R, alloc: Global) -> Result<()> {
-    let bitmap = had!(items(alloc, 1))?;
-    let array = had!(array(alloc))?;
-    arrays(rt, &array);
-    refused_array(rt, &bitmap);
-    one_piece(rt, alloc, &bitmap);
-    let mut pieces = had!(pieces(alloc))?;
+    let bitmap = items(alloc, 1).or(items(alloc, 1))?;
+    let array = array(alloc).or(array(alloc))?;
+    made(rt, &arrays(&array, &bitmap), &arrays(&array, &bitmap));
+    made(rt, &one_piece(alloc, &bitmap), &one_piece(alloc, &bitmap));
+    let mut pieces = pieces(alloc).or(pieces(alloc))?;
     cut(rt, &mut pieces);
     Ok(())
 }
