@@ -23,7 +23,9 @@ pub trait BitChunkIterExact<B: BitChunk>: Iterator<Item = B> {
     /// behind it there, so mask it to [`BitChunkIterExact::remainder_len`] bits.
     fn remainder(&self) -> B
         ensures spill { B.BitChunk.number result ≡ (walk self.now).spill }
-        ensures rest { take (length (rest B.BitChunk.WIDTH (walk self.now).items)) (unnum B.BitChunk.WIDTH (B.BitChunk.number result)) ≡ rest B.BitChunk.WIDTH (walk self.now).items };
+        ensures rest { take (length (rest B.BitChunk.WIDTH (walk self.now).items))
+            (unnum B.BitChunk.WIDTH (B.BitChunk.number result))
+            ≡ rest B.BitChunk.WIDTH (walk self.now).items };
 
     /// How many items the remainder has: fewer than a word. All items still to come are as many as a `usize` can say.
     fn remainder_len(&self) -> usize
@@ -44,7 +46,8 @@ pub trait BitChunkIterExact<B: BitChunk>: Iterator<Item = B> {
     ghost remaining_law: { (s : Self) → IsFinite (Self.remaining s) };
 
     // Each step gives the first full word, and the remainder stays.
-    ghost gives_law: { (s : Self) (r : Option B) (t : Self) → Self.next_gives s r t → GivesWord B.BitChunk.WIDTH B.BitChunk.number walk s r t };
+    ghost gives_law: { (s : Self) (r : Option B) (t : Self) → Self.next_gives s r t →
+        GivesWord B.BitChunk.WIDTH B.BitChunk.number walk s r t };
 }
 
 /// The walk over bits from any bit offset on: contracts see the items still to come and the word of
@@ -67,9 +70,14 @@ impl<'a, T: BitChunk> Model for BitChunks<'a, T> {
 
     ghost Value = { WordWalk };
 
-    ghost view = { λ c. record { items = part (bits c.bytes.now) c.shift (T.BitChunk.WIDTH * c.count + c.remainder_len); spill = T.BitChunk.number c.remainder } };
+    ghost view = { λ c. record {
+      items = part (bits c.bytes.now) c.shift
+          (T.BitChunk.WIDTH * c.count + c.remainder_len);
+      spill = T.BitChunk.number c.remainder;
+    } };
 
-    ghost invariant = { λ c. IsChunkWalk T.BitChunk.WIDTH c.bytes.now c.shift c.count c.remainder_len (T.BitChunk.number c.remainder) };
+    ghost invariant = { λ c. IsChunkWalk T.BitChunk.WIDTH c.bytes.now c.shift c.count
+        c.remainder_len (T.BitChunk.number c.remainder) };
 }
 
 impl<'a, T: BitChunk> BitChunks<'a, T> {
@@ -105,7 +113,9 @@ impl<'a, T: BitChunk> BitChunks<'a, T> {
     /// behind it there, so mask it to [`BitChunks::remainder_len`] bits.
     pub fn remainder(&self) -> T
         ensures spill { T.BitChunk.number result ≡ self.now.spill }
-        ensures rest { take (length (rest T.BitChunk.WIDTH self.now.items)) (unnum T.BitChunk.WIDTH (T.BitChunk.number result)) ≡ rest T.BitChunk.WIDTH self.now.items }
+        ensures rest { take (length (rest T.BitChunk.WIDTH self.now.items))
+            (unnum T.BitChunk.WIDTH (T.BitChunk.number result))
+            ≡ rest T.BitChunk.WIDTH self.now.items }
     {
         self.remainder
     }
@@ -157,9 +167,12 @@ impl<'a, T: BitChunk> Iterator for BitChunks<'a, T> {
 
     /// Both bounds are the number of full words still to come.
     fn size_hint(&self) -> (usize, Option<usize>)
-        ensures lower { IsWithinCount result.0 (item_count (λ s. full_words T.BitChunk.WIDTH s.items) self.now) }
-        ensures upper { IfSome result.1 (UpTo (item_count (λ s. full_words T.BitChunk.WIDTH s.items) self.now)) }
-        ensures exact { (result.0 ≡ length (full_words T.BitChunk.WIDTH self.now.items)) × (result.1 ≡ Some (length (full_words T.BitChunk.WIDTH self.now.items))) }
+        ensures lower { IsWithinCount result.0 (item_count (λ s.
+            full_words T.BitChunk.WIDTH s.items) self.now) }
+        ensures upper { IfSome result.1 (UpTo (item_count (λ s.
+            full_words T.BitChunk.WIDTH s.items) self.now)) }
+        ensures exact { (result.0 ≡ length (full_words T.BitChunk.WIDTH self.now.items))
+            × (result.1 ≡ Some (length (full_words T.BitChunk.WIDTH self.now.items))) }
     {
         let left = self.len();
         (left, Some(left))

@@ -11,7 +11,8 @@ use arrow2_chunk::bit_chunk::BitChunk;
 pub(crate) fn chunk_at<T: BitChunk>(bytes: &[u8], shift: usize) -> T
     requires place { shift < 8 }
     requires within { shift + T.BitChunk.WIDTH ≤ 8 * length bytes.now }
-    ensures bits { unnum T.BitChunk.WIDTH (T.BitChunk.number result) ≡ part (bits bytes.now) shift T.BitChunk.WIDTH }
+    ensures bits { unnum T.BitChunk.WIDTH (T.BitChunk.number result)
+        ≡ part (bits bytes.now) shift T.BitChunk.WIDTH }
     ensures fits { T.BitChunk.number result < 2 ^ T.BitChunk.WIDTH }
 {
     let low = T::from_ne_slice(&bytes[..T::SIZE]);
@@ -41,7 +42,8 @@ pub fn padded_chunk_at<T: BitChunk>(bytes: &[u8], shift: usize) -> T
 /// as false. Asks that the first is inside.
 pub fn word_from(bytes: &[u8], offset: usize, place: usize) -> u64
     requires { offset + place < 8 * length bytes.now }
-    ensures { (i : ℕ) → i < 64 → bit result i ≡ get_or (bits bytes.now) (offset + (place + i)) false }
+    ensures { (i : ℕ) → i < 64 →
+        bit result i ≡ get_or (bits bytes.now) (offset + (place + i)) false }
 {
     let within = offset % 8 + place % 8;
     let first = offset / 8 + place / 8 + within / 8;

@@ -57,7 +57,9 @@ impl<'a, T: BitChunk> BitChunksExact<'a, T> {
     /// behind it there, so mask it to [`BitChunkIterExact::remainder_len`] bits.
     pub fn remainder(&self) -> T
         ensures spill { T.BitChunk.number result ≡ self.now.spill }
-        ensures rest { take (length' (rest T.BitChunk.WIDTH self.now.items)) (unnum T.BitChunk.WIDTH (T.BitChunk.number result)) ≡ rest T.BitChunk.WIDTH self.now.items }
+        ensures rest { take (length' (rest T.BitChunk.WIDTH self.now.items))
+            (unnum T.BitChunk.WIDTH (T.BitChunk.number result))
+            ≡ rest T.BitChunk.WIDTH self.now.items }
     {
         self.chunks.remainder()
     }
@@ -94,9 +96,12 @@ impl<'a, T: BitChunk> Iterator for BitChunksExact<'a, T> {
 
     /// Both bounds are the number of full words still to come.
     fn size_hint(&self) -> (usize, Option<usize>)
-        ensures lower { IsWithinCount result.0 (item_count (λ s. full_words T.BitChunk.WIDTH s.items) self.now) }
-        ensures upper { IfSome result.1 (UpTo (item_count (λ s. full_words T.BitChunk.WIDTH s.items) self.now)) }
-        ensures exact { (result.0 ≡ length' (full_words T.BitChunk.WIDTH self.now.items)) × (result.1 ≡ Some (length' (full_words T.BitChunk.WIDTH self.now.items))) }
+        ensures lower { IsWithinCount result.0 (item_count (λ s.
+            full_words T.BitChunk.WIDTH s.items) self.now) }
+        ensures upper { IfSome result.1 (UpTo (item_count (λ s.
+            full_words T.BitChunk.WIDTH s.items) self.now)) }
+        ensures exact { (result.0 ≡ length' (full_words T.BitChunk.WIDTH self.now.items))
+            × (result.1 ≡ Some (length' (full_words T.BitChunk.WIDTH self.now.items))) }
     {
         self.chunks.size_hint()
     }

@@ -33,7 +33,13 @@ impl<'a, T> Model for BitChunksExactMut<'a, T> {
 
     ghost Value = { ChunkWalkMut };
 
-    ghost view = { λ c. record { bytes = c.bytes.now; at = c.at; size = c.size; remainder = c.remainder.now; remainder_len = c.remainder_len } };
+    ghost view = { λ c. record {
+      bytes = c.bytes.now;
+      at = c.at;
+      size = c.size;
+      remainder = c.remainder.now;
+      remainder_len = c.remainder_len;
+    } };
 
     // It does not say that `at` is inside: bytes that are lent whole could come back as any list.
     ghost invariant = { λ c. c.remainder_len < 8 * c.size };
@@ -43,12 +49,15 @@ impl<'a, T: BitChunk> BitChunksExactMut<'a, T> {
     /// The walk over the first `length` bits. Asks that they are inside the bytes.
     pub fn new(bytes: &'a mut [u8], length: usize) -> BitChunksExactMut<'a, T>
         requires { length ≤ 8 * length' bytes.old }
-        ensures bytes { result.bytes ≡ take (T.NativeType.SIZE * (length / 8 / T.NativeType.SIZE)) bytes.old }
+        ensures bytes { result.bytes ≡ take
+            (T.NativeType.SIZE * (length / 8 / T.NativeType.SIZE)) bytes.old }
         ensures at { result.at ≡ 0 }
         ensures size { result.size ≡ T.NativeType.SIZE }
         ensures left { chunks_left result ≡ length / 8 / T.NativeType.SIZE }
-        ensures remainder { let full = T.NativeType.SIZE * (length / 8 / T.NativeType.SIZE) in result.remainder ≡ part bytes.old full ((length + 7) / 8 - full) }
-        ensures remainder_len { result.remainder_len ≡ length - 8 * T.NativeType.SIZE * (length / 8 / T.NativeType.SIZE) }
+        ensures remainder { let full = T.NativeType.SIZE * (length / 8 / T.NativeType.SIZE) in
+            result.remainder ≡ part bytes.old full ((length + 7) / 8 - full) }
+        ensures remainder_len { result.remainder_len
+            ≡ length - 8 * T.NativeType.SIZE * (length / 8 / T.NativeType.SIZE) }
     {
         let size = T::SIZE;
         let count = length / 8 / size;
@@ -74,7 +83,8 @@ impl<'a, T> BitChunksExactMut<'a, T> {
     /// arrow2 has the iterator alone.
     pub fn next_chunk(&mut self) -> Option<&mut [u8]>
         ensures* writes_back { sem 𝓛 (LendsNextIf T.row self.entry result) }
-        ensures chunk { MatchOption result (chunks_left self.old ≡ 0) (λ r. (0 < chunks_left self.old) × (r.now ≡ next_chunk self.old)) }
+        ensures chunk { MatchOption result (chunks_left self.old ≡ 0) (λ r.
+            (0 < chunks_left self.old) × (r.now ≡ next_chunk self.old)) }
     {
         let chunk = self.lend_next();
         if chunk.len() == 0 {
@@ -195,7 +205,8 @@ impl<'a, T: Drop> Iterator for BitChunksExactMut<'a, T> {
     fn size_hint(&self) -> (usize, Option<usize>)
         ensures lower { IsWithinCount result.0 (at_most (chunks_left self.now)) }
         ensures upper { IfSome result.1 (UpTo (at_most (chunks_left self.now))) }
-        ensures exact { (result.0 ≡ chunks_left self.now) × (result.1 ≡ Some (chunks_left self.now)) }
+        ensures exact { (result.0 ≡ chunks_left self.now)
+            × (result.1 ≡ Some (chunks_left self.now)) }
     {
         let left = self.ahead() / self.size;
         (left, Some(left))

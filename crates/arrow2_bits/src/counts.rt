@@ -136,7 +136,8 @@ fn ones_in_blocks(stored: &mut Stored<'_>, first: usize, pairs: usize) -> usize
     requires fits { first + 64 * pairs < 2 ^ 64 }
     requires few { 8 * (64 * pairs) < 2 ^ 64 }
     requires inside { first + 64 * pairs ≤ length stored.old.bytes }
-    ensures ones { result + falses (part (bits stored.old.bytes) (8 * first) (8 * (64 * pairs))) ≡ 8 * (64 * pairs) }
+    ensures ones { result + falses (part (bits stored.old.bytes) (8 * first) (8 * (64 * pairs)))
+        ≡ 8 * (64 * pairs) }
     ensures bytes { stored.new.bytes ≡ stored.old.bytes }
     ensures reads { stored.new.reads ≡ stored.old.reads + 64 * pairs }
 {
@@ -171,7 +172,8 @@ fn ones_in_words<T: BitChunk, const N: usize>(
     requires fits { first + N * words < 2 ^ 64 }
     requires few { 8 * (N * words) < 2 ^ 64 }
     requires inside { first + N * words ≤ length stored.old.bytes }
-    ensures ones { result + falses (part (bits stored.old.bytes) (8 * first) (8 * (N * words))) ≡ 8 * (N * words) }
+    ensures ones { result + falses (part (bits stored.old.bytes) (8 * first) (8 * (N * words)))
+        ≡ 8 * (N * words) }
     ensures bytes { stored.new.bytes ≡ stored.old.bytes }
     ensures reads { stored.new.reads ≡ stored.old.reads + N * words }
 {

@@ -26,8 +26,10 @@ pub fn fmt<W: fmt::Write>(
 ) -> fmt::Result
     requires offset { offset < 8 }
     requires inside { 0 < length → offset + length ≤ 8 * count bytes.now }
-    ensures writes { WritesOnOk W.write_str_gives f.old result (shown bytes.now offset length) f.new }
-    ensures styled { WritesStyledOnOk W.write_str_gives f.old result (shown bytes.now offset length) f.new }
+    ensures writes { WritesOnOk W.write_str_gives f.old result
+        (shown bytes.now offset length) f.new }
+    ensures styled { WritesStyledOnOk W.write_str_gives f.old result
+        (shown bytes.now offset length) f.new }
 {
     f.write_str("[")?;
     let mut start = offset;
@@ -90,7 +92,8 @@ fn write_byte<W: fmt::Write>(
     f: &mut fmt::Formatter<W>,
 ) -> fmt::Result
     requires { start + length ≤ 8 }
-    ensures { WritesStyledOnOk W.write_str_gives f.old result (shown_byte (byte ∷ []) start length 0) f.new }
+    ensures { WritesStyledOnOk W.write_str_gives f.old result
+        (shown_byte (byte ∷ []) start length 0) f.new }
 {
     if length == 8 {
         return write_whole_byte(byte, f);

@@ -47,7 +47,8 @@ impl<T> Model for Buffer<T> {
 
     ghost view = { λ b. record { storage = b.storage.value; offset = b.offset; len = b.len } };
 
-    ghost invariant = { λ b. (b.offset + b.len ≤ length b.storage.value) × (b.offset + b.len < 2 ^ 64) };
+    ghost invariant = { λ b. (b.offset + b.len ≤ length b.storage.value)
+        × (b.offset + b.len < 2 ^ 64) };
 }
 
 #[tactic(auto, using(crate::proofs::Part::slicing))]
@@ -111,7 +112,10 @@ impl<T> Buffer<T> {
         requires inside { offset + length ≤ length' (buffer_items self.old) }
         ensures items { buffer_items self.new ≡ part (buffer_items self.old) offset length }
         ensures len { length' (buffer_items self.new) ≡ length }
-        ensures storage { self.new ≡ record self.old { offset = self.old.offset + offset; len = length } }
+        ensures storage { self.new ≡ record self.old {
+          offset = self.old.offset + offset;
+          len = length;
+        } }
     {
         prove!(offset <= self.len && length <= self.len - offset);
         self.offset += offset;
@@ -152,8 +156,11 @@ impl<T> Buffer<T> {
     /// arrow2 has [`Buffer::get_mut_slice`] alone.
     pub fn change_slice<F: FnOnce(&mut [T])>(&mut self, change: F) -> bool
         requires { F.IsAlwaysCallable change }
-        ensures changed { OnTrue result (FnOnceReturnsAtMut F.FnOnce change (buffer_items self.old) tt (buffer_items self.new)) }
-        ensures others { OnTrue result (self.new ≡ record self.old { storage = overwritten self.old.storage self.old.offset (buffer_items self.new) }) }
+        ensures changed { OnTrue result (FnOnceReturnsAtMut F.FnOnce change (buffer_items self.old)
+            tt (buffer_items self.new)) }
+        ensures others { OnTrue result (self.new
+            ≡ record self.old
+            { storage = overwritten self.old.storage self.old.offset (buffer_items self.new) }) }
         ensures same { OnFalse result (self.new ≡ self.old) }
     {
         let start = self.offset;
@@ -163,7 +170,8 @@ impl<T> Buffer<T> {
 
     /// The storage whole, the place of the first item there, and how many items there are.
     pub fn into_inner(self) -> (Rc<Bytes<T>>, usize, usize)
-        ensures storage { (result.0.value ≡ self.storage) × (result.1 ≡ self.offset) × (result.2 ≡ self.len) }
+        ensures storage { (result.0.value ≡ self.storage) × (result.1 ≡ self.offset)
+            × (result.2 ≡ self.len) }
         ensures inside { result.1 + result.2 ≤ length result.0.value }
     {
         (self.storage, self.offset, self.len)
@@ -220,7 +228,10 @@ fn change_unshared<T, F: FnOnce(&mut [T])>(
     requires order { start ≤ end }
     requires within { end ≤ length shared.old.value }
     requires callable { F.IsAlwaysCallable change }
-    ensures written { OnTrue result ((changed : List T) × FnOnceReturnsAtMut F.FnOnce change (part shared.old.value start (end - start)) tt changed × (length changed ≡ end - start) × (shared.new.value ≡ overwritten shared.old.value start changed)) }
+    ensures written { OnTrue result ((changed : List T)
+        × FnOnceReturnsAtMut F.FnOnce change (part shared.old.value start (end - start)) tt changed
+        × (length changed ≡ end - start)
+        × (shared.new.value ≡ overwritten shared.old.value start changed)) }
     ensures same { OnFalse result (shared.new ≡ shared.old) }
 {
     match Bytes::get_mut(shared) {
@@ -253,8 +264,10 @@ impl<T: Drop> Buffer<T> {
     ///
     /// `OutOfMemory` where the items, or the count of their owners, find no memory.
     pub fn try_from_iter<I: IntoIterator<Item = T>>(alloc: Global, iter: I) -> Result<Self>
-        requires { (it : I.IntoIter) → I.into_iter_gives iter it → I.IntoIter.can_next it × IsFinite (I.IntoIter.remaining it) }
-        ensures items { IfOk result (λ b. (it : I.IntoIter) × I.into_iter_gives iter it × WholeRun I.IntoIter.next_gives it (λ p. b ≡ whole_buffer p.items)) }
+        requires { (it : I.IntoIter) → I.into_iter_gives iter it →
+            I.IntoIter.can_next it × IsFinite (I.IntoIter.remaining it) }
+        ensures items { IfOk result (λ b. (it : I.IntoIter) × I.into_iter_gives iter it
+            × WholeRun I.IntoIter.next_gives it (λ p. b ≡ whole_buffer p.items)) }
         ensures only { IfErr result (λ e. e ≡ OutOfMemory) }
     {
         let mut items = Vec::new(alloc);
@@ -286,7 +299,8 @@ fn with_room<T: Drop>(mut items: Vec<T>) -> std::result::Result<Vec<T>, AllocErr
 impl<T: Drop> TryFrom<Vec<T>> for Buffer<T> {
     type Error = Error;
 
-    ghost try_from_gives = { λ items r. MatchResult r (λ b. b ≡ whole_buffer items.items) (λ e. e ≡ OutOfMemory) };
+    ghost try_from_gives = { λ items r. MatchResult r (λ b.
+        b ≡ whole_buffer items.items) (λ e. e ≡ OutOfMemory) };
 
     fn try_from(items: Vec<T>) -> Result<Self> {
         let alloc = *items.allocator();
@@ -310,7 +324,8 @@ impl<T: PartialEq> PartialEq for Buffer<T> {
     /// Where the items' own equality is equality, this is equality of the lists.
     fn eq(&self, other: &Self) -> bool
         ensures items { result ≡ pointwise T.eq (buffer_items self.now) (buffer_items other.now) }
-        ensures same { ((x y : T) → Decides (T.eq x y) (x ≡ y)) → IsTrue result ↔ (buffer_items self.now ≡ buffer_items other.now) }
+        ensures same { ((x y : T) → Decides (T.eq x y) (x ≡ y)) →
+            IsTrue result ↔ (buffer_items self.now ≡ buffer_items other.now) }
     {
         self.as_slice() == other.as_slice()
     }

@@ -7,7 +7,13 @@ ghost use Rattle.arrow2_buffer.specs.Lent.{rewritten};
 /// behind them in the storage is as it was.
 #[tactic(auto, using(crate::proofs::Overwritten::loans))]
 pub fn written_items_are_the_items<T>()
-    ensures items { (b : BufferStorage T) (others : List T) → b.offset + b.len ≤ length b.storage → length others ≡ b.len → buffer_items (record b { storage = rewritten b.storage b.offset others }) ≡ others }
-    ensures before { (b : BufferStorage T) (others : List T) → b.offset + b.len ≤ length b.storage → length others ≡ b.len → take b.offset (rewritten b.storage b.offset others) ≡ take b.offset b.storage }
-    ensures behind { (b : BufferStorage T) (others : List T) → b.offset + b.len ≤ length b.storage → length others ≡ b.len → drop (b.offset + b.len) (rewritten b.storage b.offset others) ≡ drop (b.offset + b.len) b.storage }
+    ensures items { (b : BufferStorage T) (others : List T) → b.offset + b.len ≤ length b.storage →
+        length others ≡ b.len →
+        buffer_items (record b { storage = rewritten b.storage b.offset others }) ≡ others }
+    ensures before { (b : BufferStorage T) (others : List T) → b.offset + b.len ≤ length b.storage →
+        length others ≡ b.len → take b.offset (rewritten b.storage b.offset others)
+        ≡ take b.offset b.storage }
+    ensures behind { (b : BufferStorage T) (others : List T) → b.offset + b.len ≤ length b.storage →
+        length others ≡ b.len → drop (b.offset + b.len) (rewritten b.storage b.offset others)
+        ≡ drop (b.offset + b.len) b.storage }
 {}

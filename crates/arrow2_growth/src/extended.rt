@@ -25,7 +25,8 @@ pub fn reserve(bytes: &mut Vec<u8>, length: usize, additional: usize) -> Result<
     ensures total { IfOk result (λ n. n ≡ length + additional) }
     ensures ok { OnOk result (length + additional ≤ 8 * vec_capacity bytes.new) }
     ensures overflow { IsErrOf result refusal.Overflow ↔ (2 ^ 64 ≤ length + additional) }
-    ensures room { length + additional < 2 ^ 64 → length + additional ≤ 8 * vec_capacity bytes.old → IsOk result }
+    ensures room { length + additional < 2 ^ 64 →
+        length + additional ≤ 8 * vec_capacity bytes.old → IsOk result }
     ensures capacity { vec_capacity bytes.old ≤ vec_capacity bytes.new }
 {
     let Some(total) = length.checked_add(additional) else {
@@ -53,10 +54,12 @@ pub fn extend_from_slice(
     requires inside { offset + count ≤ 8 * length' slice.now }
     ensures total { IfOk result (λ n. n ≡ length + count) }
     ensures canonical { OnOk result (IsCanonical bytes.new.items (length + count)) }
-    ensures items { OnOk result (take (length + count) (bits bytes.new.items) ≡ take length (bits bytes.old.items) ++ part (bits slice.now) offset count) }
+    ensures items { OnOk result (take (length + count) (bits bytes.new.items)
+        ≡ take length (bits bytes.old.items) ++ part (bits slice.now) offset count) }
     ensures err { OnErr result (bytes.new.items ≡ bytes.old.items) }
     ensures overflow { IsErrOf result refusal.Overflow ↔ (2 ^ 64 ≤ length + count) }
-    ensures room { length + count < 2 ^ 64 → length + count ≤ 8 * vec_capacity bytes.old → IsOk result }
+    ensures room { length + count < 2 ^ 64 →
+        length + count ≤ 8 * vec_capacity bytes.old → IsOk result }
     ensures capacity { vec_capacity bytes.old ≤ vec_capacity bytes.new }
 {
     let total = reserve(bytes, length, count)?;
@@ -88,10 +91,12 @@ pub fn extend_constant(
     requires canonical { IsCanonical bytes.old.items length }
     ensures total { IfOk result (λ n. n ≡ length + additional) }
     ensures canonical { OnOk result (IsCanonical bytes.new.items (length + additional)) }
-    ensures items { OnOk result (take (length + additional) (bits bytes.new.items) ≡ take length (bits bytes.old.items) ++ replicate additional value) }
+    ensures items { OnOk result (take (length + additional) (bits bytes.new.items)
+        ≡ take length (bits bytes.old.items) ++ replicate additional value) }
     ensures err { OnErr result (bytes.new.items ≡ bytes.old.items) }
     ensures overflow { IsErrOf result refusal.Overflow ↔ (2 ^ 64 ≤ length + additional) }
-    ensures room { length + additional < 2 ^ 64 → length + additional ≤ 8 * vec_capacity bytes.old → IsOk result }
+    ensures room { length + additional < 2 ^ 64 →
+        length + additional ≤ 8 * vec_capacity bytes.old → IsOk result }
     ensures capacity { vec_capacity bytes.old ≤ vec_capacity bytes.new }
 {
     let total = reserve(bytes, length, additional)?;
@@ -119,7 +124,8 @@ fn push_part(
     requires inside { offset + count ≤ 8 * length' slice.now }
     requires fits { length + count < 2 ^ 64 }
     ensures canonical { OnOk result (IsCanonical bytes.new.items (length + count)) }
-    ensures items { OnOk result (take (length + count) (bits bytes.new.items) ≡ take length (bits bytes.old.items) ++ part (bits slice.now) offset count) }
+    ensures items { OnOk result (take (length + count) (bits bytes.new.items)
+        ≡ take length (bits bytes.old.items) ++ part (bits slice.now) offset count) }
     ensures room { length + count ≤ 8 * vec_capacity bytes.old → IsOk result }
     ensures capacity { vec_capacity bytes.old ≤ vec_capacity bytes.new }
 {
@@ -143,7 +149,8 @@ fn push_bytes(
     requires inside { count ≤ 8 * length' slice.now }
     requires fits { length + count < 2 ^ 64 }
     ensures canonical { OnOk result (IsCanonical bytes.new.items (length + count)) }
-    ensures items { OnOk result (take (length + count) (bits bytes.new.items) ≡ take length (bits bytes.old.items) ++ take count (bits slice.now)) }
+    ensures items { OnOk result (take (length + count) (bits bytes.new.items)
+        ≡ take length (bits bytes.old.items) ++ take count (bits slice.now)) }
     ensures room { length + count ≤ 8 * vec_capacity bytes.old → IsOk result }
     ensures capacity { vec_capacity bytes.old ≤ vec_capacity bytes.new }
 {
@@ -162,7 +169,8 @@ fn push_all(bytes: &mut Vec<u8>, length: usize, slice: &[u8]) -> Result<(), Allo
     requires canonical { IsCanonical bytes.old.items length }
     requires whole { 0 < length' slice.now → length % 8 ≡ 0 }
     ensures canonical { OnOk result (IsCanonical bytes.new.items (length + 8 * length' slice.now)) }
-    ensures items { OnOk result (take (length + 8 * length' slice.now) (bits bytes.new.items) ≡ take length (bits bytes.old.items) ++ bits slice.now) }
+    ensures items { OnOk result (take (length + 8 * length' slice.now) (bits bytes.new.items)
+        ≡ take length (bits bytes.old.items) ++ bits slice.now) }
     ensures room { length + 8 * length' slice.now ≤ 8 * vec_capacity bytes.old → IsOk result }
     ensures capacity { vec_capacity bytes.old ≤ vec_capacity bytes.new }
 {
@@ -177,7 +185,8 @@ fn push_copies(bytes: &mut Vec<u8>, length: usize, byte: u8, count: usize) -> Re
     requires whole { 0 < count → length % 8 ≡ 0 }
     requires fits { length + 8 * count < 2 ^ 64 }
     ensures canonical { OnOk result (IsCanonical bytes.new.items (length + 8 * count)) }
-    ensures items { OnOk result (take (length + 8 * count) (bits bytes.new.items) ≡ take length (bits bytes.old.items) ++ bits (replicate count byte)) }
+    ensures items { OnOk result (take (length + 8 * count) (bits bytes.new.items)
+        ≡ take length (bits bytes.old.items) ++ bits (replicate count byte)) }
     ensures room { length + 8 * count ≤ 8 * vec_capacity bytes.old → IsOk result }
     ensures capacity { vec_capacity bytes.old ≤ vec_capacity bytes.new }
 {
@@ -195,8 +204,10 @@ fn push_blocks(
     requires canonical { IsCanonical bytes.old.items length }
     requires whole { 0 < length' chunks.items → length % 8 ≡ 0 }
     requires fits { length + length' chunks.items < 2 ^ 64 }
-    ensures canonical { OnOk result (IsCanonical bytes.new.items (length + length' chunks.entry.items)) }
-    ensures items { OnOk result (take (length + length' chunks.entry.items) (bits bytes.new.items) ≡ take length (bits bytes.old.items) ++ chunks.entry.items) }
+    ensures canonical { OnOk result (IsCanonical bytes.new.items (length
+        + length' chunks.entry.items)) }
+    ensures items { OnOk result (take (length + length' chunks.entry.items) (bits bytes.new.items)
+        ≡ take length (bits bytes.old.items) ++ chunks.entry.items) }
     ensures room { length + length' chunks.entry.items ≤ 8 * vec_capacity bytes.old → IsOk result }
     ensures capacity { vec_capacity bytes.old ≤ vec_capacity bytes.new }
 {
@@ -232,8 +243,10 @@ fn push_words(
 ) -> Result<(), AllocError>
     requires canonical { IsCanonical bytes.old.items length }
     requires fits { length + length' chunks.items < 2 ^ 64 }
-    ensures canonical { OnOk result (IsCanonical bytes.new.items (length + length' chunks.entry.items)) }
-    ensures items { OnOk result (take (length + length' chunks.entry.items) (bits bytes.new.items) ≡ take length (bits bytes.old.items) ++ chunks.entry.items) }
+    ensures canonical { OnOk result (IsCanonical bytes.new.items (length
+        + length' chunks.entry.items)) }
+    ensures items { OnOk result (take (length + length' chunks.entry.items) (bits bytes.new.items)
+        ≡ take length (bits bytes.old.items) ++ chunks.entry.items) }
     ensures room { length + length' chunks.entry.items ≤ 8 * vec_capacity bytes.old → IsOk result }
     ensures capacity { vec_capacity bytes.old ≤ vec_capacity bytes.new }
 {

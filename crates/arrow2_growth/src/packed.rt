@@ -25,8 +25,11 @@ pub fn collected<I: Iterator<Item = bool> + Drop>(
     requires can { I.can_next items }
     requires ends { IsFinite (I.remaining items) }
     ensures enough { IfOk result (λ r. r.1 ≤ 8 * vec_len r.0) }
-    ensures items { IfOk result (λ r. WholeRun I.next_gives items (λ p. take r.1 (bits r.0.items) ≡ p.items)) }
-    ensures overflow { IsErrOf result refusal.Overflow → (xs : List Bool) × (x : Bool) × (t : I) × YieldsThen I.next_gives items xs (Some x) t × (length xs ≡ 2 ^ 64 - 1) }
+    ensures items { IfOk result (λ r.
+        WholeRun I.next_gives items (λ p. take r.1 (bits r.0.items) ≡ p.items)) }
+    ensures overflow { IsErrOf result refusal.Overflow →
+        (xs : List Bool) × (x : Bool) × (t : I) × YieldsThen I.next_gives items xs (Some x) t
+        × (length xs ≡ 2 ^ 64 - 1) }
 {
     let mut items = items;
     let mut bytes = Vec::new(alloc);
@@ -54,7 +57,8 @@ fn fill<I: Iterator<Item = bool>>(items: &mut I, block: &mut [bool; 64]) -> usiz
     ensures few { result ≤ 64 }
     ensures full { result ≡ 64 → Yields I.next_gives items.old block.new items.new }
     ensures goes { result ≡ 64 → IsNearerEnd I.can_next I.remaining items.old items.new }
-    ensures ended { result < 64 → YieldsThen I.next_gives items.old (take result block.new) None items.new }
+    ensures ended { result < 64 → YieldsThen I.next_gives items.old
+        (take result block.new) None items.new }
 {
     for k in 0..64 {
         let Some(item) = items.next() else {

@@ -23,7 +23,8 @@ pub fn push_word(
     requires canonical { IsCanonical bytes.old.items length }
     requires few { count ≤ 64 }
     ensures canonical { OnOk result (IsCanonical bytes.new.items (length + count)) }
-    ensures items { OnOk result (take (length + count) (bits bytes.new.items) ≡ take length (bits bytes.old.items) ++ take count (unnum 64 word)) }
+    ensures items { OnOk result (take (length + count) (bits bytes.new.items)
+        ≡ take length (bits bytes.old.items) ++ take count (unnum 64 word)) }
     ensures err { OnErr result (bytes.new.items ≡ bytes.old.items) }
     ensures room { length + count ≤ 8 * vec_capacity bytes.old → IsOk result }
     ensures capacity { vec_capacity bytes.old ≤ vec_capacity bytes.new }

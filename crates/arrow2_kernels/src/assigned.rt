@@ -23,7 +23,10 @@ pub fn assign_rows<T: BitChunk, S: WordRows<T>, F: Fn(T, S::Row) -> T>(
     requires length { S.length rows ≡ length }
     requires exact { length' bytes.old ≡ (length + 7) / 8 }
     ensures canonical { IsCanonical bytes.new length }
-    ensures items { (f : List ℕ → ℕ) → IsOwnRowFunction T.BitChunk.WIDTH S.words T.BitChunk.number (F.post op) f → take length (bits bytes.new) ≡ joined T.BitChunk.WIDTH (λ j. f (word T.BitChunk.WIDTH (take length (bits bytes.old)) j ∷ S.row_at rows j)) length }
+    ensures items { (f : List ℕ → ℕ) →
+        IsOwnRowFunction T.BitChunk.WIDTH S.words T.BitChunk.number (F.post op) f →
+        take length (bits bytes.new) ≡ joined T.BitChunk.WIDTH (λ j.
+        f (word T.BitChunk.WIDTH (take length (bits bytes.old)) j ∷ S.row_at rows j)) length }
 {
     let mut rows = rows;
     let mut at = 0;
@@ -45,7 +48,8 @@ pub fn assign_rows<T: BitChunk, S: WordRows<T>, F: Fn(T, S::Row) -> T>(
 fn word_at<T: BitChunk>(bytes: &[u8], at: usize, count: usize) -> T
     requires inside { at + count ≤ length' bytes.now }
     requires most { count ≤ T.BitChunk.SIZE }
-    ensures items { (i : ℕ) → i < 8 * count → bit (T.BitChunk.number result) i ≡ slice_index_or (bits bytes.now) (8 * at + i) false }
+    ensures items { (i : ℕ) → i < 8 * count → bit (T.BitChunk.number result) i
+        ≡ slice_index_or (bits bytes.now) (8 * at + i) false }
     ensures fits { T.BitChunk.number result < 2 ^ T.BitChunk.WIDTH }
 {
     let mut padded = [0u8; 8];
@@ -58,8 +62,10 @@ fn word_at<T: BitChunk>(bytes: &[u8], at: usize, count: usize) -> T
 fn put_word<T: BitChunk>(bytes: &mut [u8], at: usize, count: usize, word: T)
     requires inside { at + count ≤ length' bytes.old }
     requires most { count ≤ T.BitChunk.SIZE }
-    ensures written { (i : ℕ) → i < 8 * count → slice_index_or (bits bytes.new) (8 * at + i) false ≡ bit (T.BitChunk.number word) i }
-    ensures kept { (k : ℕ) → (k < 8 * at) ⊎ (8 * (at + count) ≤ k) → slice_index_or (bits bytes.new) k false ≡ slice_index_or (bits bytes.old) k false }
+    ensures written { (i : ℕ) → i < 8 * count → slice_index_or (bits bytes.new) (8 * at + i) false
+        ≡ bit (T.BitChunk.number word) i }
+    ensures kept { (k : ℕ) → (k < 8 * at) ⊎ (8 * (at + count) ≤ k) →
+        slice_index_or (bits bytes.new) k false ≡ slice_index_or (bits bytes.old) k false }
 {
     let word = word.to_ne_bytes();
     write_over(&mut bytes[at..at + count], &word.as_slice()[..count]);

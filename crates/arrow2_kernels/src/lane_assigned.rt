@@ -16,7 +16,8 @@ pub fn assign_binary(bytes: &mut [u8], other: &[u8], length: usize, t: u8)
     requires exact { length' bytes.old ≡ (length + 7) / 8 }
     requires inside { length ≤ 8 * length' other.now }
     ensures canonical { IsCanonical bytes.new length }
-    ensures items { take length (bits bytes.new) ≡ each t (take length (bits bytes.old) ∷ take length (bits other.now) ∷ []) }
+    ensures items { take length (bits bytes.new)
+        ≡ each t (take length (bits bytes.old) ∷ take length (bits other.now) ∷ []) }
 {
     write_by_table(bytes, other, t);
     clear_spare(bytes, length);
@@ -35,7 +36,8 @@ pub fn assign_unary(bytes: &mut [u8], length: usize, t: u8)
 /// Writes the answers for each bit of the bytes in place, by a loop of the table's own.
 pub(crate) fn write_by_table(bytes: &mut [u8], other: &[u8], t: u8)
     requires inside { length' bytes.old ≤ length' other.now }
-    ensures { bits bytes.new ≡ each t (bits bytes.old ∷ take (8 * length' bytes.old) (bits other.now) ∷ []) }
+    ensures { bits bytes.new ≡ each t (bits bytes.old
+        ∷ take (8 * length' bytes.old) (bits other.now) ∷ []) }
 {
     match t % 16 {
         0 => write_binary(bytes, other, 0),
@@ -61,7 +63,8 @@ pub(crate) fn write_by_table(bytes: &mut [u8], other: &[u8], t: u8)
 #[inline(always)]
 fn write_binary(bytes: &mut [u8], other: &[u8], t: u8)
     requires inside { length' bytes.old ≤ length' other.now }
-    ensures { bits bytes.new ≡ each t (bits bytes.old ∷ take (8 * length' bytes.old) (bits other.now) ∷ []) }
+    ensures { bits bytes.new ≡ each t (bits bytes.old
+        ∷ take (8 * length' bytes.old) (bits other.now) ∷ []) }
 {
     let whole = bytes.len() / 32;
     for k in 0..whole {

@@ -27,7 +27,8 @@ pub fn map_binary(
     requires left { length ≤ 8 * length' left.now }
     requires right { length ≤ 8 * length' right.now }
     ensures canonical { IfOk result (λ v. IsCanonical v.items length) }
-    ensures items { IfOk result (λ v. take length (bits v.items) ≡ each t (take length (bits left.now) ∷ take length (bits right.now) ∷ [])) }
+    ensures items { IfOk result (λ v. take length (bits v.items)
+        ≡ each t (take length (bits left.now) ∷ take length (bits right.now) ∷ [])) }
 {
     let count = bytes_for(length);
     let mut bytes = Vec::with_capacity(alloc, count)?;
@@ -44,7 +45,8 @@ pub fn map_binary(
 pub fn map_unary(alloc: Global, list: &[u8], length: usize, t: u8) -> Result<Vec<u8>, AllocError>
     requires { length ≤ 8 * length' list.now }
     ensures canonical { IfOk result (λ v. IsCanonical v.items length) }
-    ensures items { IfOk result (λ v. take length (bits v.items) ≡ each t (take length (bits list.now) ∷ [])) }
+    ensures items { IfOk result (λ v. take length (bits v.items)
+        ≡ each t (take length (bits list.now) ∷ [])) }
 {
     let mut bytes = Vec::from_slice(alloc, &list[..bytes_for(length)])?;
     assign_unary(bytes.as_mut_slice(), length, t);
@@ -68,7 +70,8 @@ fn append_blocks(bytes: &mut Vec<u8>, left: &[u8], right: &[u8], t: u8) -> Resul
 /// Appends the answers of table `t` for each bit of both. Asks for as many bytes of both.
 fn append_binary(bytes: &mut Vec<u8>, left: &[u8], right: &[u8], t: u8) -> Result<(), AllocError>
     requires alike { length' left.now ≡ length' right.now }
-    ensures { OnOk result (bits bytes.new.items ≡ bits bytes.old.items ++ each t (bits left.now ∷ bits right.now ∷ [])) }
+    ensures { OnOk result (bits bytes.new.items ≡ bits bytes.old.items
+        ++ each t (bits left.now ∷ bits right.now ∷ [])) }
 {
     let at = bytes.len();
     bytes.extend_from_slice(left)?;

@@ -26,7 +26,9 @@ pub fn map_rows<S: WordRows<u64>, F: Fn(S::Row) -> u64>(
     requires alike { S.alike rows }
     requires length { S.length rows ≡ length }
     ensures canonical { IfOk result (λ v. IsCanonical v.items length) }
-    ensures items { (f : List ℕ → ℕ) → IsRowFunction 64 S.words (λ x. x) (F.post op) f → IfOk result (λ v. take length (bits v.items) ≡ joined 64 (λ j. f (S.row_at rows j)) length) }
+    ensures items { (f : List ℕ → ℕ) → IsRowFunction 64 S.words (λ x. x) (F.post op) f →
+        IfOk result (λ v. take length (bits v.items)
+        ≡ joined 64 (λ j. f (S.row_at rows j)) length) }
 {
     let mut bytes = vec![in alloc; 0u8; bytes_for(length)]?;
     assign_rows(bytes.as_mut_slice(), length, rows, |_own: u64, row| op(row));

@@ -28,7 +28,8 @@ pub trait WordRows<B: BitChunk>: Drop {
     fn next_row(&mut self) -> Option<Self::Row>
         requires { alike self.old }
         ensures alike { alike self.new }
-        ensures row { GivesRow B.BitChunk.WIDTH words (length self.old) (row_at self.old) result (length self.new) (row_at self.new) };
+        ensures row { GivesRow B.BitChunk.WIDTH words (length self.old) (row_at self.old) result
+            (length self.new) (row_at self.new) };
 
     /// The row of the items that are left, with false behind them. Asks that they are fewer than a word has.
     fn rest_row(&self) -> Self::Row

@@ -8,7 +8,8 @@ use arrow2_chunk::bit_chunk::BitChunk;
 
 /// The answers of a table of one input, bit by bit.
 pub fn unary_answers<T: BitChunk>(table: u16, x: T) -> T
-    ensures answers { (i : ℕ) → i < T.BitChunk.WIDTH → bit (T.BitChunk.number result) i ≡ answer table (bit (T.BitChunk.number x) i ∷ []) }
+    ensures answers { (i : ℕ) → i < T.BitChunk.WIDTH →
+        bit (T.BitChunk.number result) i ≡ answer table (bit (T.BitChunk.number x) i ∷ []) }
 {
     let yes = filled(x, BitChunk::bit(table, 1));
     let no = filled(x, BitChunk::bit(table, 0));
@@ -17,7 +18,9 @@ pub fn unary_answers<T: BitChunk>(table: u16, x: T) -> T
 
 /// The answers of a table of two inputs, bit by bit.
 pub fn binary_answers<T: BitChunk>(table: u16, x: T, y: T) -> T
-    ensures answers { (i : ℕ) → i < T.BitChunk.WIDTH → bit (T.BitChunk.number result) i ≡ answer table (bit (T.BitChunk.number x) i ∷ bit (T.BitChunk.number y) i ∷ []) }
+    ensures answers { (i : ℕ) → i < T.BitChunk.WIDTH →
+        bit (T.BitChunk.number result) i
+        ≡ answer table (bit (T.BitChunk.number x) i ∷ bit (T.BitChunk.number y) i ∷ []) }
 {
     let yes = unary_answers(table >> 2, x);
     let no = unary_answers(table, x);
@@ -26,7 +29,10 @@ pub fn binary_answers<T: BitChunk>(table: u16, x: T, y: T) -> T
 
 /// The answers of a table of three inputs, bit by bit.
 pub fn ternary_answers<T: BitChunk>(table: u16, x: T, y: T, z: T) -> T
-    ensures answers { (i : ℕ) → i < T.BitChunk.WIDTH → bit (T.BitChunk.number result) i ≡ answer table (bit (T.BitChunk.number x) i ∷ bit (T.BitChunk.number y) i ∷ bit (T.BitChunk.number z) i ∷ []) }
+    ensures answers { (i : ℕ) → i < T.BitChunk.WIDTH →
+        bit (T.BitChunk.number result) i
+        ≡ answer table (bit (T.BitChunk.number x) i ∷ bit (T.BitChunk.number y) i
+        ∷ bit (T.BitChunk.number z) i ∷ []) }
 {
     let yes = binary_answers(table >> 4, x, y);
     let no = binary_answers(table, x, y);
@@ -35,7 +41,10 @@ pub fn ternary_answers<T: BitChunk>(table: u16, x: T, y: T, z: T) -> T
 
 /// The answers of a table of four inputs, bit by bit.
 pub fn quaternary_answers<T: BitChunk>(table: u16, x: T, y: T, z: T, v: T) -> T
-    ensures answers { (i : ℕ) → i < T.BitChunk.WIDTH → bit (T.BitChunk.number result) i ≡ answer table (bit (T.BitChunk.number x) i ∷ bit (T.BitChunk.number y) i ∷ bit (T.BitChunk.number z) i ∷ bit (T.BitChunk.number v) i ∷ []) }
+    ensures answers { (i : ℕ) → i < T.BitChunk.WIDTH →
+        bit (T.BitChunk.number result) i
+        ≡ answer table (bit (T.BitChunk.number x) i ∷ bit (T.BitChunk.number y) i
+        ∷ bit (T.BitChunk.number z) i ∷ bit (T.BitChunk.number v) i ∷ []) }
 {
     let yes = ternary_answers(table >> 8, x, y, z);
     let no = ternary_answers(table, x, y, z);
@@ -44,7 +53,10 @@ pub fn quaternary_answers<T: BitChunk>(table: u16, x: T, y: T, z: T, v: T) -> T
 
 /// Each bit of `yes` where `which` is set, and each bit of `no` where it is not.
 fn chosen<T: BitChunk>(which: T, yes: T, no: T) -> T
-    ensures { (i : ℕ) → i < T.BitChunk.WIDTH → bit (T.BitChunk.number result) i ≡ (if bit (T.BitChunk.number which) i then bit (T.BitChunk.number yes) i else bit (T.BitChunk.number no) i) }
+    ensures { (i : ℕ) → i < T.BitChunk.WIDTH →
+        bit (T.BitChunk.number result) i
+        ≡ (if bit (T.BitChunk.number which) i then bit (T.BitChunk.number yes) i else bit
+        (T.BitChunk.number no) i) }
 {
     yes.bit_and(which).bit_or(no.bit_and(which.bit_not()))
 }

@@ -1,6 +1,5 @@
 -- The tables of the operators, and their laws.
-use Rattle.std.proofs.Common.{◌≡◌, ℕ, ◌-◌, ◌^◌, ◌<◌, ◌&&◌, ◌||◌, not, List, [], ◌∷◌, Bool, true, false, length, get_or, map, replicate, refl, ap, sym, ◌∙◌, arith}
-use Rattle.std.specs.Prelude.{bit_and, bit_or, bit_xor}
+use Rattle.std.proofs.Common.{◌≡◌, ℕ, ◌-◌, ◌<◌, ◌&&◌, ◌||◌, not, List, [], ◌∷◌, Bool, true, false, length, get_or, map, replicate, refl, ap, sym, ◌∙◌, arith}
 use mathlib.Core.Bool.{xor}
 use lib.Lanes.{zip2}
 use Rattle.std.proofs.lemmas.List.{ext_get_or, get_or-map, length-replicate, get_or-replicate}
@@ -9,7 +8,6 @@ use Rattle.arrow2_model.specs.Bits.{bit, unnum}
 use Rattle.arrow2_model.specs.Tables.{answer, each}
 use Rattle.arrow2_model.proofs.Bits.{length-unnum, get_or-unnum}
 use Rattle.arrow2_model.proofs.Kernels.{length-each, get_or-each, each_from}
-use Rattle.arrow2_model.proofs.Chunks.{unnum-and, unnum-or_each, unnum-xor, unnum-not}
 
 -- ---- the tables of the operators
 
@@ -55,18 +53,6 @@ bit-map w x r i f e h =
     sym (get_or-unnum w r i false h)
     ∙ (ap (λ (u : List Bool). get_or u i false) e
     ∙ (get_or-map f (unnum w x) i false false (omega (arith, p)) ∙ ap f (get_or-unnum w x i false h)))
-
-pub acts-and : (w x y r i : ℕ) → r ≡ bit_and x y → i < w → bit r i ≡ answer 8 (bit x i ∷ bit y i ∷ [])
-acts-and w x y r i e h = bit-zip2 w x y r i (λ a b. a && b) (ap (unnum w) e ∙ unnum-and w x y) h ∙ sym (answer-and (bit x i) (bit y i))
-
-pub acts-or : (w x y r i : ℕ) → r ≡ bit_or x y → i < w → bit r i ≡ answer 14 (bit x i ∷ bit y i ∷ [])
-acts-or w x y r i e h = bit-zip2 w x y r i (λ a b. a || b) (ap (unnum w) e ∙ unnum-or_each w x y) h ∙ sym (answer-or (bit x i) (bit y i))
-
-pub acts-xor : (w x y r i : ℕ) → r ≡ bit_xor x y → i < w → bit r i ≡ answer 6 (bit x i ∷ bit y i ∷ [])
-acts-xor w x y r i e h = bit-zip2 w x y r i xor (ap (unnum w) e ∙ unnum-xor w x y) h ∙ sym (answer-xor (bit x i) (bit y i))
-
-pub acts-not : (w x r i : ℕ) → x < 2 ^ w → r ≡ 2 ^ w - 1 - x → i < w → bit r i ≡ answer 1 (bit x i ∷ [])
-acts-not w x r i fits e h = bit-map w x r i not (unnum-not w x r fits e) h ∙ sym (answer-not (bit x i))
 
 -- ---- their laws
 
@@ -119,5 +105,3 @@ not-twice xs =
     (λ k k<. get_or-not (each 1 (xs ∷ [])) k (omega (arith, m)) ∙ (ap not (get_or-not xs k (omega (arith, l, m))) ∙ not_not (get_or xs k false)))
 
 pub ruleset operators = (not-of-and, xor-self, not-twice)
-
-pub ruleset acting = (acts-and, acts-or, acts-xor, acts-not)

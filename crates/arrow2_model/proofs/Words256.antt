@@ -1,12 +1,12 @@
 -- Numbers of 256 bits in two words.
 use Rattle.std.proofs.Common.{◌≡◌, ℕ, zero, suc, ◌+◌, ◌-◌, ◌*◌, ◌/◌, ◌%◌, ◌^◌, ◌<◌, List, ◌∷◌, ◌++◌, length, take, drop, slice_index, reverse, refl, ap, sym, ◌∙◌, arith}
-use Rattle.std.specs.Prelude.{ℤ, pos, negsuc, ◌+ℤ◌, ◌-ℤ◌, ◌*ℤ◌, neg_ℤ, ◌&&◌, ◌≢◌, ◌==◌, FitsSigned}
+use Rattle.std.specs.Prelude.{ℤ, pos, negsuc, ◌+ℤ◌, ◌-ℤ◌, ◌*ℤ◌, neg_ℤ, ◌≢◌, ◌==◌, FitsSigned}
 use Rattle.std.specs.Int.{cast_unsigned, cast_signed, w128, int_wrapping_neg}
 use Rattle.std.proofs.lemmas.Int.{ints, to_z-of_z}
 use Rattle.arrow2_model.specs.Digits.{residue, centred, words_value, high_word, low_word, digits, low_digits, integer_from, natural_from, digits_number}
 use Rattle.arrow2_model.proofs.Digits.{residue-lt, residue-centred, centred-residue, slice_index-take-lt, slice_index-drop-lt, of_z_is, to_z_is, length-digits, slice_index-reverse-lt, digits_of_integer, integer_from-digits, take_first, drop_first}
 use Rattle.std.proofs.Math.Nat.{div-div-eq-div-mul, div-one, mod-eq_of_lt, mul_left_comm, pow-succ'}
-use Rattle.std.proofs.lemmas.Bool.Decides.{nat_tests, same_from_decides, Decides-like, Decides-and, Decides-eqb, Decides-int_eq}
+use Rattle.std.proofs.lemmas.Bool.Decides.{nat_tests, same_from_decides, Decides-like, Decides-eqb, Decides-int_eq}
 use Rattle.std.proofs.lemmas.List.{take-take, take-append-drop, length-reverse, reverse-reverse, length-take, length-drop, take_all}
 use Rattle.std.specs.declared.cmp.Ordering.{Ordering}
 use Rattle.std.specs.Ordering.{int_cmp, nat_cmp, ordering_then, int_eq}
@@ -142,17 +142,6 @@ words_read_back hi lo bytes f g e =
     let low : integer_from 16 bytes ≡ lo = first_half bytes ∙ (ap (integer_from 16) front ∙ integer_from-digits w128 16 lo (refl, refl) g) in
     let high : integer_from 16 (drop 16 bytes) ≡ hi = ap (integer_from 16) back ∙ integer_from-digits w128 16 hi (refl, refl) f in
     rw (low, high) refl
-
--- ---- equality
-
-pub equal-words : (a b c d : ℤ) → FitsSigned w128 b → FitsSigned w128 d → (int_eq a c && int_eq b d) ≡ int_eq (words_value a b) (words_value c d)
-equal-words a b c d f g =
-    same_from_decides (int_eq a c && int_eq b d) (int_eq (words_value a b) (words_value c d))
-    (Decides-like (int_eq a c && int_eq b d)
-    (λ p. ap (λ h. words_value h b) p.0 ∙ ap (words_value c) p.1)
-    (λ e. (sym (high_word-words a b) ∙ (ap high_word e ∙ high_word-words c d), sym (low_word-words a b f) ∙ (ap low_word e ∙ low_word-words c d g)))
-    (Decides-and (int_eq a c) (int_eq b d) (Decides-int_eq a c) (Decides-int_eq b d)))
-    (Decides-int_eq (words_value a b) (words_value c d))
 
 -- ---- negation in the form of the code
 

@@ -17,7 +17,8 @@ ghost use Rattle.arrow2_model.specs.Shown.{shown, items_text};
 /// A part of a part is one part of the list.
 #[tactic(auto, using(crate::proofs::Walks::parts))]
 pub fn part_of_a_part()
-    ensures { (items : List Bool) (a n b m : ℕ) → b + m ≤ n → part (part items a n) b m ≡ part items (a + b) m }
+    ensures { (items : List Bool) (a n b m : ℕ) → b + m ≤ n →
+        part (part items a n) b m ≡ part items (a + b) m }
 {}
 
 /// A list has at most as many false items as items.
@@ -36,7 +37,8 @@ pub fn true_and_false_items_are_all()
 #[tactic(auto, using(crate::proofs::Counts::counting))]
 pub fn false_items_are_added()
     ensures lists { (xs ys : List Bool) → falses (xs ++ ys) ≡ falses xs + falses ys }
-    ensures parts { (items : List Bool) (m n : ℕ) → length items ≡ m + n → falses (part items 0 m) + falses (part items m n) ≡ falses items }
+    ensures parts { (items : List Bool) (m n : ℕ) → length items ≡ m + n →
+        falses (part items 0 m) + falses (part items m n) ≡ falses items }
 {}
 
 /// No item is false exactly where all are true.
@@ -48,21 +50,26 @@ pub fn no_false_item_where_all_are_true()
 /// A bit of a number, and of bytes, is the item of its list of bits at that place.
 pub fn a_bit_is_an_item()
     ensures number { (w x i : ℕ) → i < w → slice_get (unnum w x) i ≡ Some (bit x i) }
-    ensures bytes { (bytes : List ℕ) (k : ℕ) → k < 8 * length bytes → slice_get (bits bytes) k ≡ Some (bit (slice_index bytes (k / 8)) (k % 8)) }
+    ensures bytes { (bytes : List ℕ) (k : ℕ) → k < 8 * length bytes →
+        slice_get (bits bytes) k ≡ Some (bit (slice_index bytes (k / 8)) (k % 8)) }
 {}
 
 /// The bits of the full words of a list, and behind them its rest, are the list.
 #[tactic(auto, using(crate::proofs::Words::by_words))]
 pub fn words_and_the_rest_are_the_list()
-    ensures { (w : ℕ) (items : List Bool) → 0 < w → flat_map (unnum w) (full_words w items) ++ rest w items ≡ items }
+    ensures { (w : ℕ) (items : List Bool) → 0 < w →
+        flat_map (unnum w) (full_words w items) ++ rest w items ≡ items }
 {}
 
 /// A list that loses its first full word is the bits of that word and the list that is left; one without a full
 /// word is its rest.
 #[tactic(auto, using(crate::proofs::Words::by_words))]
 pub fn a_step_takes_the_first_word()
-    ensures word { (w : ℕ) (items left : List Bool) (x : ℕ) → 0 < w → full_words w items ≡ x ∷ full_words w left → rest w left ≡ rest w items → items ≡ unnum w x ++ left }
-    ensures end { (w : ℕ) (items : List Bool) → 0 < w → full_words w items ≡ [] → rest w items ≡ items }
+    ensures word { (w : ℕ) (items left : List Bool) (x : ℕ) → 0 < w →
+        full_words w items ≡ x ∷ full_words w left → rest w left ≡ rest w items →
+        items ≡ unnum w x ++ left }
+    ensures end { (w : ℕ) (items : List Bool) → 0 < w →
+        full_words w items ≡ [] → rest w items ≡ items }
 {}
 
 /// The number of a list is the sum of 2 ^ i over the places i where it is true.
@@ -82,7 +89,8 @@ pub fn one_list_of_a_number()
 /// Lists of one length whose canonical bytes are equal are equal.
 #[tactic(auto, using(crate::proofs::Canonical::canonical))]
 pub fn canonical_bytes_tell_lists_apart()
-    ensures { (xs ys : List Bool) → length xs ≡ length ys → canonical_bytes xs ≡ canonical_bytes ys → xs ≡ ys }
+    ensures { (xs ys : List Bool) → length xs ≡ length ys →
+        canonical_bytes xs ≡ canonical_bytes ys → xs ≡ ys }
 {}
 
 /// No bits are shown as a pair of brackets, wherever they begin.
@@ -94,14 +102,18 @@ pub fn no_bits_are_two_brackets()
 /// The text of the first bits of bytes is that of the list of them, whatever stands behind them.
 #[tactic(auto, using(crate::proofs::Shown::texts))]
 pub fn first_bits_are_shown_as_their_list()
-    ensures { (bytes : List ℕ) (n : ℕ) → n ≤ 8 * length bytes → shown bytes 0 n ≡ items_text (take n (bits bytes)) }
+    ensures { (bytes : List ℕ) (n : ℕ) → n ≤ 8 * length bytes →
+        shown bytes 0 n ≡ items_text (take n (bits bytes)) }
 {}
 
 /// What is printed of a bitmap that grows, and of one whose items begin at bit 0, is the text of its items.
 #[tactic(auto, using(crate::proofs::Texts::texts_of_lists))]
 pub fn a_bitmap_is_shown_as_its_list()
-    ensures growing { (items : List Bool) → shown (canonical_bytes items) 0 (length items) ≡ items_text items }
-    ensures stored { (b : BitmapStorage) → b.offset ≡ 0 → b.len ≤ 8 * length b.bytes → shown (part b.bytes (b.offset / 8) ((b.offset % 8 + b.len + 7) / 8)) (b.offset % 8) b.len ≡ items_text (items_of b) }
+    ensures growing { (items : List Bool) →
+        shown (canonical_bytes items) 0 (length items) ≡ items_text items }
+    ensures stored { (b : BitmapStorage) → b.offset ≡ 0 → b.len ≤ 8 * length b.bytes →
+        shown (part b.bytes (b.offset / 8) ((b.offset % 8 + b.len + 7) / 8)) (b.offset % 8) b.len
+        ≡ items_text (items_of b) }
 {}
 
 /// A comparison item by item, which is what `==` of bitmaps answers, is true exactly where the lists are one.
@@ -113,25 +125,29 @@ pub fn a_comparison_tells_lists_apart()
 /// The words of which kernels are made are those of the list.
 #[tactic(auto, using(crate::proofs::Kernels::kernels))]
 pub fn kernels_go_by_the_words_of_a_list()
-    ensures { (w : ℕ) (items : List Bool) (j : ℕ) → j < div_ceil (length items) w → slice_index (words w items) j ≡ word w items j }
+    ensures { (w : ℕ) (items : List Bool) (j : ℕ) → j < div_ceil (length items) w →
+        slice_index (words w items) j ≡ word w items j }
 {}
 
 /// A function of words that acts on each bit by one table has that table, item by item, as its kernel.
 #[tactic(auto, using(crate::proofs::Kernels::kernels))]
 pub fn a_function_bit_by_bit_is_its_table()
-    ensures { (w t : ℕ) (f : List ℕ → ℕ) (lists : List (List Bool)) → 0 < w → Acts t w f → kernel w f lists ≡ each t lists }
+    ensures { (w t : ℕ) (f : List ℕ → ℕ) (lists : List (List Bool)) → 0 < w → Acts t w f →
+        kernel w f lists ≡ each t lists }
 {}
 
 /// One table gives the same list at any two widths.
 #[tactic(auto, using(crate::proofs::Kernels::kernels))]
 pub fn a_table_is_the_same_at_each_width()
-    ensures { (v w t : ℕ) (f g : List ℕ → ℕ) (lists : List (List Bool)) → 0 < v → 0 < w → Acts t v f → Acts t w g → kernel v f lists ≡ kernel w g lists }
+    ensures { (v w t : ℕ) (f g : List ℕ → ℕ) (lists : List (List Bool)) → 0 < v → 0 < w →
+        Acts t v f → Acts t w g → kernel v f lists ≡ kernel w g lists }
 {}
 
 /// Not of both is not of the one or not of the other.
 #[tactic(auto, using(crate::proofs::Tables::operators))]
 pub fn not_of_and_is_or_of_nots()
-    ensures { (xs ys : List Bool) → length xs ≡ length ys → each 1 (each 8 (xs ∷ ys ∷ []) ∷ []) ≡ each 14 (each 1 (xs ∷ []) ∷ each 1 (ys ∷ []) ∷ []) }
+    ensures { (xs ys : List Bool) → length xs ≡ length ys →
+        each 1 (each 8 (xs ∷ ys ∷ []) ∷ []) ≡ each 14 (each 1 (xs ∷ []) ∷ each 1 (ys ∷ []) ∷ []) }
 {}
 
 /// Exclusive or of a list with itself is false everywhere.
@@ -175,5 +191,6 @@ pub fn the_logarithm_is_the_greatest_exponent()
 /// What a cut reads, in eighths of a byte, is at most what its items have less to read afterwards, and 30.
 #[tactic(auto, using(crate::proofs::Touched::reads))]
 pub fn cuts_pay_for_themselves()
-    ensures { (o n i : ℕ) → i ≤ n → 8 * cut_reads o n i + to_read i + to_read (n - i) ≤ to_read n + 30 }
+    ensures { (o n i : ℕ) → i ≤ n →
+        8 * cut_reads o n i + to_read i + to_read (n - i) ≤ to_read n + 30 }
 {}
