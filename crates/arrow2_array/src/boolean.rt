@@ -43,7 +43,8 @@ impl Model for BooleanArray {
 
     ghost view = { λ a. array_items a.values a.validity };
 
-    ghost invariant = { λ a. ForSome a.validity (λ validity. length (items_of validity) ≡ length (items_of a.values)) };
+    ghost invariant = { λ a. ForSome a.validity (λ validity.
+        length (items_of validity) ≡ length (items_of a.values)) };
 }
 
 impl BooleanArray {
@@ -53,11 +54,16 @@ impl BooleanArray {
     ///
     /// `InvalidArgumentError` exactly if the lengths differ, or `OutOfMemory` there, where its text finds no memory.
     pub fn try_new(values: Bitmap, validity: Option<Bitmap>) -> Result<BooleanArray>
-        ensures fits { OnOk result (ForSome validity (λ v. length' (items_of v) ≡ length' (items_of values))) }
+        ensures fits { OnOk result (ForSome validity (λ v.
+            length' (items_of v) ≡ length' (items_of values))) }
         ensures ok { IfOk result (λ a. a ≡ array_items values validity) }
         ensures len { IfOk result (λ a. length' a ≡ length' (items_of values)) }
-        ensures accepted { ForSome validity (λ v. length' (items_of v) ≡ length' (items_of values)) → IsOk result }
-        ensures refused { ForSome validity (λ v. IfErr result (λ e. IsInvalidArgument e (unequal_lengths (length' (items_of v)) (length' (items_of values))))) }
+        ensures accepted { ForSome validity (λ v. length' (items_of v)
+            ≡ length' (items_of values)) → IsOk result }
+        ensures refused { ForSome validity (λ v.
+            IfErr result (λ e.
+            IsInvalidArgument e
+            (unequal_lengths (length' (items_of v)) (length' (items_of values))))) }
     {
         if let Some(validity) = &validity {
             check_lengths(&values, validity)?;
@@ -103,7 +109,8 @@ impl BooleanArray {
 
     /// Which items are not null, or `None` where the array was made without a validity: then none is null.
     pub fn validity(&self) -> Option<&Bitmap>
-        ensures { MatchOption result (nulls self.now ≡ 0) (λ validity. items_of validity.now ≡ map is_some self.now) }
+        ensures { MatchOption result (nulls self.now ≡ 0) (λ validity.
+            items_of validity.now ≡ map is_some self.now) }
     {
         self.validity.as_ref()
     }
@@ -177,9 +184,12 @@ impl BooleanArray {
         requires same_length { length' self.now ≡ length' other.now }
         requires table { t < 16 }
         requires known { (a b : Bool) → answer known (a ∷ true ∷ b ∷ true ∷ []) ≡ true }
-        requires beside_right { (a n b : Bool) → answer beside (a ∷ n ∷ b ∷ []) ≡ answer known (a ∷ n ∷ b ∷ true ∷ []) }
-        requires beside_left { (a b m : Bool) → answer beside (b ∷ m ∷ a ∷ []) ≡ answer known (a ∷ true ∷ b ∷ m ∷ []) }
-        ensures items { (f : Option Bool → Option Bool → Option Bool) → Spells t known f → IfOk result (λ a. a ≡ by_items f self.now other.now) }
+        requires beside_right { (a n b : Bool) → answer beside (a ∷ n ∷ b ∷ [])
+            ≡ answer known (a ∷ n ∷ b ∷ true ∷ []) }
+        requires beside_left { (a b m : Bool) → answer beside (b ∷ m ∷ a ∷ [])
+            ≡ answer known (a ∷ true ∷ b ∷ m ∷ []) }
+        ensures items { (f : Option Bool → Option Bool → Option Bool) → Spells t known f →
+            IfOk result (λ a. a ≡ by_items f self.now other.now) }
         ensures len { IfOk result (λ a. length' a ≡ length' self.now) }
         ensures only { IfErr result (λ e. e ≡ Error.OutOfMemory) }
     {
@@ -254,7 +264,9 @@ fn same_items(items: BooleanIter<'_>, others: BooleanIter<'_>) -> bool
 /// Refuses a validity that has not as many items as there are values.
 fn check_lengths(values: &Bitmap, validity: &Bitmap) -> Result<()>
     ensures fits { IsOk result ↔ (length' (items_of validity.now) ≡ length' (items_of values.now)) }
-    ensures refused { IfErr result (λ e. IsInvalidArgument e (unequal_lengths (length' (items_of validity.now)) (length' (items_of values.now)))) }
+    ensures refused { IfErr result (λ e.
+        IsInvalidArgument e
+        (unequal_lengths (length' (items_of validity.now)) (length' (items_of values.now)))) }
 {
     if validity.len() != values.len() {
         let text = refusal(values.allocator(), validity.len(), values.len())?;

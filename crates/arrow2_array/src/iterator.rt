@@ -34,7 +34,8 @@ impl<'a> Model for BooleanIter<'a> {
 impl<'a> BooleanIter<'a> {
     /// The walk over these values, null where the validity is false. Asks that both have one length.
     pub(crate) fn new(values: &'a Bitmap, validity: Option<&'a Bitmap>) -> BooleanIter<'a>
-        requires same_length { ForSome validity (λ v. length (items_of v.now) ≡ length (items_of values.now)) }
+        requires same_length { ForSome validity (λ v. length (items_of v.now)
+            ≡ length (items_of values.now)) }
         ensures { result ≡ array_items values.entry.now (option_map (λ v. v.now) validity.entry) }
     {
         BooleanIter {

@@ -43,13 +43,20 @@ pub(crate) fn validity_by(
     beside: u8,
 ) -> Result<Option<Bitmap>>
     requires known { (a b : Bool) → answer t (a ∷ true ∷ b ∷ true ∷ []) ≡ true }
-    requires beside_right { (a n b : Bool) → answer beside (a ∷ n ∷ b ∷ []) ≡ answer t (a ∷ n ∷ b ∷ true ∷ []) }
-    requires beside_left { (a b m : Bool) → answer beside (b ∷ m ∷ a ∷ []) ≡ answer t (a ∷ true ∷ b ∷ m ∷ []) }
+    requires beside_right { (a n b : Bool) → answer beside (a ∷ n ∷ b ∷ [])
+        ≡ answer t (a ∷ n ∷ b ∷ true ∷ []) }
+    requires beside_left { (a b m : Bool) → answer beside (b ∷ m ∷ a ∷ [])
+        ≡ answer t (a ∷ true ∷ b ∷ m ∷ []) }
     requires same_length { length' (items_of left.now) ≡ length' (items_of right.now) }
-    requires left_fits { ForSome left_validity.now (λ v. length' (items_of v) ≡ length' (items_of left.now)) }
-    requires right_fits { ForSome right_validity.now (λ v. length' (items_of v) ≡ length' (items_of right.now)) }
-    ensures items { IfOk result (λ v. validity_items (items_of left.now) v ≡ each t (items_of left.now ∷ validity_items (items_of left.now) left_validity.now ∷ items_of right.now ∷ validity_items (items_of right.now) right_validity.now ∷ [])) }
-    ensures len { IfOk result (λ v. ForSome v (λ b. length' (items_of b) ≡ length' (items_of left.now))) }
+    requires left_fits { ForSome left_validity.now (λ v. length' (items_of v)
+        ≡ length' (items_of left.now)) }
+    requires right_fits { ForSome right_validity.now (λ v. length' (items_of v)
+        ≡ length' (items_of right.now)) }
+    ensures items { IfOk result (λ v. validity_items (items_of left.now) v
+        ≡ each t (items_of left.now ∷ validity_items (items_of left.now) left_validity.now
+        ∷ items_of right.now ∷ validity_items (items_of right.now) right_validity.now ∷ [])) }
+    ensures len { IfOk result (λ v.
+        ForSome v (λ b. length' (items_of b) ≡ length' (items_of left.now))) }
     ensures only { IfErr result (λ e. e ≡ Error.OutOfMemory) }
 {
     match (left_validity, right_validity) {

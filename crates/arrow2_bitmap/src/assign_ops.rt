@@ -20,8 +20,10 @@ use std::ops::{BitAnd, BitAndAssign, BitOr, BitOrAssign, BitXor, BitXorAssign, N
 /// Differs from arrow2: spare bits don't reach `op`, and are false afterwards.
 pub fn unary_assign<T: BitChunk, F: Fn(T) -> T>(bitmap: &mut MutableBitmap, op: F)
     requires callable { F.IsAlwaysCallable op }
-    ensures kernel { (f : ℕ → ℕ) → IsUnary T.BitChunk.WIDTH T.BitChunk.number (F.post op) f → bitmap.new.items ≡ unary_kernel T.BitChunk.WIDTH f bitmap.old.items }
-    ensures table { (t : ℕ) → ActsUnary T.BitChunk.WIDTH T.BitChunk.number (F.post op) t → bitmap.new.items ≡ each t (bitmap.old.items ∷ []) }
+    ensures kernel { (f : ℕ → ℕ) → IsUnary T.BitChunk.WIDTH T.BitChunk.number (F.post op) f →
+        bitmap.new.items ≡ unary_kernel T.BitChunk.WIDTH f bitmap.old.items }
+    ensures table { (t : ℕ) → ActsUnary T.BitChunk.WIDTH T.BitChunk.number (F.post op) t →
+        bitmap.new.items ≡ each t (bitmap.old.items ∷ []) }
     ensures len { length bitmap.new.items ≡ length bitmap.old.items }
     ensures capacity { bitmap.new.capacity ≡ bitmap.old.capacity }
 {
@@ -36,8 +38,10 @@ pub fn unary_assign<T: BitChunk, F: Fn(T) -> T>(bitmap: &mut MutableBitmap, op: 
 pub fn binary_assign<T: BitChunk, F: Fn(T, T) -> T>(lhs: &mut MutableBitmap, rhs: &Bitmap, op: F)
     requires callable { F.IsAlwaysCallable op }
     requires same_length { length lhs.old.items ≡ length (items_of rhs.now) }
-    ensures kernel { (f : ℕ → ℕ → ℕ) → IsBinary T.BitChunk.WIDTH T.BitChunk.number (F.post op) f → lhs.new.items ≡ binary_kernel T.BitChunk.WIDTH f lhs.old.items (items_of rhs.now) }
-    ensures table { (t : ℕ) → ActsBinary T.BitChunk.WIDTH T.BitChunk.number (F.post op) t → lhs.new.items ≡ each t (lhs.old.items ∷ items_of rhs.now ∷ []) }
+    ensures kernel { (f : ℕ → ℕ → ℕ) → IsBinary T.BitChunk.WIDTH T.BitChunk.number (F.post op) f →
+        lhs.new.items ≡ binary_kernel T.BitChunk.WIDTH f lhs.old.items (items_of rhs.now) }
+    ensures table { (t : ℕ) → ActsBinary T.BitChunk.WIDTH T.BitChunk.number (F.post op) t →
+        lhs.new.items ≡ each t (lhs.old.items ∷ items_of rhs.now ∷ []) }
     ensures len { length lhs.new.items ≡ length lhs.old.items }
     ensures capacity { lhs.new.capacity ≡ lhs.old.capacity }
 {
@@ -85,7 +89,8 @@ pub fn binary_assign_by_table<T: BitChunk>(lhs: &mut MutableBitmap, rhs: &Bitmap
 impl<'a> BitAndAssign<&'a Bitmap> for MutableBitmap {
     ghost can_bitand_assign = { λ m b. length m.items ≡ length (items_of b.now) };
 
-    ghost bitand_assign_gives = { λ old b new. (new.items ≡ each 8 (old.items ∷ items_of b.now ∷ [])) × (new.capacity ≡ old.capacity) };
+    ghost bitand_assign_gives = { λ old b new. (new.items
+        ≡ each 8 (old.items ∷ items_of b.now ∷ [])) × (new.capacity ≡ old.capacity) };
 
     fn bitand_assign(&mut self, rhs: &'a Bitmap) {
         and_assign(self, rhs);
@@ -98,7 +103,8 @@ impl<'a> BitAnd<&'a Bitmap> for MutableBitmap {
 
     ghost can_bitand = { λ m b. length m.items ≡ length (items_of b.now) };
 
-    ghost bitand_gives = { λ m b r. (r.items ≡ each 8 (m.items ∷ items_of b.now ∷ [])) × (r.capacity ≡ m.capacity) };
+    ghost bitand_gives = { λ m b r. (r.items ≡ each 8 (m.items ∷ items_of b.now ∷ []))
+        × (r.capacity ≡ m.capacity) };
 
     fn bitand(self, rhs: &'a Bitmap) -> MutableBitmap {
         let mut bitmap = self;
@@ -111,7 +117,8 @@ impl<'a> BitAnd<&'a Bitmap> for MutableBitmap {
 impl<'a> BitOrAssign<&'a Bitmap> for MutableBitmap {
     ghost can_bitor_assign = { λ m b. length m.items ≡ length (items_of b.now) };
 
-    ghost bitor_assign_gives = { λ old b new. (new.items ≡ each 14 (old.items ∷ items_of b.now ∷ [])) × (new.capacity ≡ old.capacity) };
+    ghost bitor_assign_gives = { λ old b new. (new.items
+        ≡ each 14 (old.items ∷ items_of b.now ∷ [])) × (new.capacity ≡ old.capacity) };
 
     fn bitor_assign(&mut self, rhs: &'a Bitmap) {
         or_assign(self, rhs);
@@ -124,7 +131,8 @@ impl<'a> BitOr<&'a Bitmap> for MutableBitmap {
 
     ghost can_bitor = { λ m b. length m.items ≡ length (items_of b.now) };
 
-    ghost bitor_gives = { λ m b r. (r.items ≡ each 14 (m.items ∷ items_of b.now ∷ [])) × (r.capacity ≡ m.capacity) };
+    ghost bitor_gives = { λ m b r. (r.items ≡ each 14 (m.items ∷ items_of b.now ∷ []))
+        × (r.capacity ≡ m.capacity) };
 
     fn bitor(self, rhs: &'a Bitmap) -> MutableBitmap {
         let mut bitmap = self;
@@ -137,7 +145,8 @@ impl<'a> BitOr<&'a Bitmap> for MutableBitmap {
 impl<'a> BitXorAssign<&'a Bitmap> for MutableBitmap {
     ghost can_bitxor_assign = { λ m b. length m.items ≡ length (items_of b.now) };
 
-    ghost bitxor_assign_gives = { λ old b new. (new.items ≡ each 6 (old.items ∷ items_of b.now ∷ [])) × (new.capacity ≡ old.capacity) };
+    ghost bitxor_assign_gives = { λ old b new. (new.items
+        ≡ each 6 (old.items ∷ items_of b.now ∷ [])) × (new.capacity ≡ old.capacity) };
 
     fn bitxor_assign(&mut self, rhs: &'a Bitmap) {
         xor_assign(self, rhs);
@@ -150,7 +159,8 @@ impl<'a> BitXor<&'a Bitmap> for MutableBitmap {
 
     ghost can_bitxor = { λ m b. length m.items ≡ length (items_of b.now) };
 
-    ghost bitxor_gives = { λ m b r. (r.items ≡ each 6 (m.items ∷ items_of b.now ∷ [])) × (r.capacity ≡ m.capacity) };
+    ghost bitxor_gives = { λ m b r. (r.items ≡ each 6 (m.items ∷ items_of b.now ∷ []))
+        × (r.capacity ≡ m.capacity) };
 
     fn bitxor(self, rhs: &'a Bitmap) -> MutableBitmap {
         let mut bitmap = self;

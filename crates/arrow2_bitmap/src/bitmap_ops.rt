@@ -36,10 +36,19 @@ pub fn from_rows<S: WordRows<u64>, F: Fn(S::Row) -> u64>(
     requires callable { F.IsAlwaysCallable op }
     requires alike { S.alike rows }
     requires length { S.length rows ≡ length }
-    ensures kernel { (f : List ℕ → ℕ) (lists : List (List Bool)) → IsRowFunction 64 S.words (λ x. x) (F.post op) f → AreRowsOf 64 lists (S.row_at rows) length → IfOk result (λ b. items_of b ≡ kernel 64 f lists) }
-    ensures table { (t : ℕ) (lists : List (List Bool)) → ActsOnRows 64 S.words (λ x. x) (F.post op) t → AreRowsOf 64 lists (S.row_at rows) length → IfOk result (λ b. items_of b ≡ each t lists) }
+    ensures kernel { (f : List ℕ → ℕ) (lists : List (List Bool)) →
+        IsRowFunction 64 S.words (λ x. x) (F.post op) f →
+        AreRowsOf 64 lists (S.row_at rows) length →
+        IfOk result (λ b. items_of b ≡ kernel 64 f lists) }
+    ensures table { (t : ℕ) (lists : List (List Bool)) →
+        ActsOnRows 64 S.words (λ x. x) (F.post op) t → AreRowsOf 64 lists (S.row_at rows) length →
+        IfOk result (λ b. items_of b ≡ each t lists) }
     ensures len { IfOk result (λ b. length' (items_of b) ≡ length) }
-    ensures storage { IfOk result (λ b. b ≡ record { bytes = canonical_bytes (items_of b); offset = 0; len = length }) }
+    ensures storage { IfOk result (λ b. b ≡ record {
+      bytes = canonical_bytes (items_of b);
+      offset = 0;
+      len = length;
+    }) }
     ensures only { IfErr result (λ e. e ≡ Error.OutOfMemory) }
 {
     let bytes = map_rows(alloc, length, rows, op)?;
@@ -56,10 +65,16 @@ pub fn from_rows<S: WordRows<u64>, F: Fn(S::Row) -> u64>(
 /// `OutOfMemory` alone.
 pub fn unary<F: Fn(u64) -> u64>(lhs: &Bitmap, op: F) -> Result<Bitmap>
     requires callable { F.IsAlwaysCallable op }
-    ensures kernel { (f : ℕ → ℕ) → IsUnary 64 (λ x. x) (F.post op) f → IfOk result (λ b. items_of b ≡ unary_kernel 64 f (items_of lhs.now)) }
-    ensures table { (t : ℕ) → ActsUnary 64 (λ x. x) (F.post op) t → IfOk result (λ b. items_of b ≡ each t (items_of lhs.now ∷ [])) }
+    ensures kernel { (f : ℕ → ℕ) → IsUnary 64 (λ x. x) (F.post op) f →
+        IfOk result (λ b. items_of b ≡ unary_kernel 64 f (items_of lhs.now)) }
+    ensures table { (t : ℕ) → ActsUnary 64 (λ x. x) (F.post op) t →
+        IfOk result (λ b. items_of b ≡ each t (items_of lhs.now ∷ [])) }
     ensures len { IfOk result (λ b. length' (items_of b) ≡ length' (items_of lhs.now)) }
-    ensures storage { IfOk result (λ b. b ≡ record { bytes = canonical_bytes (items_of b); offset = 0; len = length' (items_of lhs.now) }) }
+    ensures storage { IfOk result (λ b. b ≡ record {
+      bytes = canonical_bytes (items_of b);
+      offset = 0;
+      len = length' (items_of lhs.now);
+    }) }
     ensures only { IfErr result (λ e. e ≡ Error.OutOfMemory) }
 {
     let alloc = lhs.allocator();
@@ -84,10 +99,16 @@ pub fn unary<F: Fn(u64) -> u64>(lhs: &Bitmap, op: F) -> Result<Bitmap>
 pub fn binary<F: Fn(u64, u64) -> u64>(lhs: &Bitmap, rhs: &Bitmap, op: F) -> Result<Bitmap>
     requires callable { F.IsAlwaysCallable op }
     requires same_length { length' (items_of lhs.now) ≡ length' (items_of rhs.now) }
-    ensures kernel { (f : ℕ → ℕ → ℕ) → IsBinary 64 (λ x. x) (F.post op) f → IfOk result (λ b. items_of b ≡ binary_kernel 64 f (items_of lhs.now) (items_of rhs.now)) }
-    ensures table { (t : ℕ) → ActsBinary 64 (λ x. x) (F.post op) t → IfOk result (λ b. items_of b ≡ each t (items_of lhs.now ∷ items_of rhs.now ∷ [])) }
+    ensures kernel { (f : ℕ → ℕ → ℕ) → IsBinary 64 (λ x. x) (F.post op) f →
+        IfOk result (λ b. items_of b ≡ binary_kernel 64 f (items_of lhs.now) (items_of rhs.now)) }
+    ensures table { (t : ℕ) → ActsBinary 64 (λ x. x) (F.post op) t →
+        IfOk result (λ b. items_of b ≡ each t (items_of lhs.now ∷ items_of rhs.now ∷ [])) }
     ensures len { IfOk result (λ b. length' (items_of b) ≡ length' (items_of lhs.now)) }
-    ensures storage { IfOk result (λ b. b ≡ record { bytes = canonical_bytes (items_of b); offset = 0; len = length' (items_of lhs.now) }) }
+    ensures storage { IfOk result (λ b. b ≡ record {
+      bytes = canonical_bytes (items_of b);
+      offset = 0;
+      len = length' (items_of lhs.now);
+    }) }
     ensures only { IfErr result (λ e. e ≡ Error.OutOfMemory) }
 {
     let left = OneList {
@@ -139,7 +160,8 @@ pub fn unary_by_table(lhs: &Bitmap, t: u8) -> Result<Bitmap>
 #[inline(always)]
 pub fn binary_by_table(lhs: &Bitmap, rhs: &Bitmap, t: u8) -> Result<Bitmap>
     requires same_length { length' (items_of lhs.now) ≡ length' (items_of rhs.now) }
-    ensures items { IfOk result (λ b. items_of b ≡ each t (items_of lhs.now ∷ items_of rhs.now ∷ [])) }
+    ensures items { IfOk result (λ b. items_of b
+        ≡ each t (items_of lhs.now ∷ items_of rhs.now ∷ [])) }
     ensures len { IfOk result (λ b. length' (items_of b) ≡ length' (items_of lhs.now)) }
     ensures only { IfErr result (λ e. e ≡ Error.OutOfMemory) }
 {
@@ -161,7 +183,8 @@ pub fn binary_by_table(lhs: &Bitmap, rhs: &Bitmap, t: u8) -> Result<Bitmap>
 /// `OutOfMemory` alone.
 pub fn and(lhs: &Bitmap, rhs: &Bitmap) -> Result<Bitmap>
     requires same_length { length' (items_of lhs.now) ≡ length' (items_of rhs.now) }
-    ensures items { IfOk result (λ b. items_of b ≡ each 8 (items_of lhs.now ∷ items_of rhs.now ∷ [])) }
+    ensures items { IfOk result (λ b. items_of b
+        ≡ each 8 (items_of lhs.now ∷ items_of rhs.now ∷ [])) }
     ensures len { IfOk result (λ b. length' (items_of b) ≡ length' (items_of lhs.now)) }
     ensures only { IfErr result (λ e. e ≡ Error.OutOfMemory) }
 {
@@ -179,7 +202,8 @@ pub fn and(lhs: &Bitmap, rhs: &Bitmap) -> Result<Bitmap>
 /// `OutOfMemory` alone.
 pub fn or(lhs: &Bitmap, rhs: &Bitmap) -> Result<Bitmap>
     requires same_length { length' (items_of lhs.now) ≡ length' (items_of rhs.now) }
-    ensures items { IfOk result (λ b. items_of b ≡ each 14 (items_of lhs.now ∷ items_of rhs.now ∷ [])) }
+    ensures items { IfOk result (λ b. items_of b
+        ≡ each 14 (items_of lhs.now ∷ items_of rhs.now ∷ [])) }
     ensures len { IfOk result (λ b. length' (items_of b) ≡ length' (items_of lhs.now)) }
     ensures only { IfErr result (λ e. e ≡ Error.OutOfMemory) }
 {
@@ -197,7 +221,8 @@ pub fn or(lhs: &Bitmap, rhs: &Bitmap) -> Result<Bitmap>
 /// `OutOfMemory` alone.
 pub fn xor(lhs: &Bitmap, rhs: &Bitmap) -> Result<Bitmap>
     requires same_length { length' (items_of lhs.now) ≡ length' (items_of rhs.now) }
-    ensures items { IfOk result (λ b. items_of b ≡ each 6 (items_of lhs.now ∷ items_of rhs.now ∷ [])) }
+    ensures items { IfOk result (λ b. items_of b
+        ≡ each 6 (items_of lhs.now ∷ items_of rhs.now ∷ [])) }
     ensures len { IfOk result (λ b. length' (items_of b) ≡ length' (items_of lhs.now)) }
     ensures only { IfErr result (λ e. e ≡ Error.OutOfMemory) }
 {
@@ -215,7 +240,8 @@ impl<'a, 'b> BitAnd<&'b Bitmap> for &'a Bitmap {
 
     ghost can_bitand = { λ a b. length' (items_of a.now) ≡ length' (items_of b.now) };
 
-    ghost bitand_gives = { λ a b r. MatchResult r (λ m. items_of m ≡ each 8 (items_of a.now ∷ items_of b.now ∷ [])) (λ e. e ≡ OutOfMemory) };
+    ghost bitand_gives = { λ a b r. MatchResult r (λ m. items_of m
+        ≡ each 8 (items_of a.now ∷ items_of b.now ∷ [])) (λ e. e ≡ OutOfMemory) };
 
     fn bitand(self, rhs: &'b Bitmap) -> Result<Bitmap> {
         and(self, rhs)
@@ -228,7 +254,8 @@ impl<'a, 'b> BitOr<&'b Bitmap> for &'a Bitmap {
 
     ghost can_bitor = { λ a b. length' (items_of a.now) ≡ length' (items_of b.now) };
 
-    ghost bitor_gives = { λ a b r. MatchResult r (λ m. items_of m ≡ each 14 (items_of a.now ∷ items_of b.now ∷ [])) (λ e. e ≡ OutOfMemory) };
+    ghost bitor_gives = { λ a b r. MatchResult r (λ m. items_of m
+        ≡ each 14 (items_of a.now ∷ items_of b.now ∷ [])) (λ e. e ≡ OutOfMemory) };
 
     fn bitor(self, rhs: &'b Bitmap) -> Result<Bitmap> {
         or(self, rhs)
@@ -241,7 +268,8 @@ impl<'a, 'b> BitXor<&'b Bitmap> for &'a Bitmap {
 
     ghost can_bitxor = { λ a b. length' (items_of a.now) ≡ length' (items_of b.now) };
 
-    ghost bitxor_gives = { λ a b r. MatchResult r (λ m. items_of m ≡ each 6 (items_of a.now ∷ items_of b.now ∷ [])) (λ e. e ≡ OutOfMemory) };
+    ghost bitxor_gives = { λ a b r. MatchResult r (λ m. items_of m
+        ≡ each 6 (items_of a.now ∷ items_of b.now ∷ [])) (λ e. e ≡ OutOfMemory) };
 
     fn bitxor(self, rhs: &'b Bitmap) -> Result<Bitmap> {
         xor(self, rhs)
@@ -252,7 +280,8 @@ impl<'a, 'b> BitXor<&'b Bitmap> for &'a Bitmap {
 impl<'a> Not for &'a Bitmap {
     type Output = Result<Bitmap>;
 
-    ghost not_gives = { λ a r. MatchResult r (λ m. items_of m ≡ each 1 (items_of a.now ∷ [])) (λ e. e ≡ OutOfMemory) };
+    ghost not_gives = { λ a r. MatchResult r (λ m. items_of m
+        ≡ each 1 (items_of a.now ∷ [])) (λ e. e ≡ OutOfMemory) };
 
     fn not(self) -> Result<Bitmap> {
         complement(self)
@@ -269,7 +298,8 @@ fn complement(bitmap: &Bitmap) -> Result<Bitmap>
 
 /// Whether the items of one of the two are all `value`. Takes no walk.
 fn one_is_all(lhs: &Bitmap, rhs: &Bitmap, value: bool) -> bool
-    ensures { IsTrue result → (items_of lhs.now ≡ replicate (length' (items_of lhs.now)) value) ⊎ (items_of rhs.now ≡ replicate (length' (items_of rhs.now)) value) }
+    ensures { IsTrue result → (items_of lhs.now ≡ replicate (length' (items_of lhs.now)) value)
+        ⊎ (items_of rhs.now ≡ replicate (length' (items_of rhs.now)) value) }
 {
     are_all(lhs, value) || are_all(rhs, value)
 }
@@ -277,7 +307,8 @@ fn one_is_all(lhs: &Bitmap, rhs: &Bitmap, value: bool) -> bool
 /// Whether the items are all `value`. The count of false items is kept, so it takes no walk.
 #[tactic(auto, using(crate::proofs::Constant::constant))]
 pub(crate) fn are_all(bitmap: &Bitmap, value: bool) -> bool
-    ensures { IsTrue result → items_of bitmap.now ≡ replicate (length' (items_of bitmap.now)) value }
+    ensures { IsTrue result → items_of bitmap.now
+        ≡ replicate (length' (items_of bitmap.now)) value }
 {
     if value {
         bitmap.unset_bits() == 0
@@ -288,7 +319,8 @@ pub(crate) fn are_all(bitmap: &Bitmap, value: bool) -> bool
 
 /// The value that all items have, if they have one. The count of false items is kept, so it takes no walk.
 fn value_of_all(bitmap: &Bitmap) -> Option<bool>
-    ensures { IfSome result (λ value. items_of bitmap.now ≡ replicate (length' (items_of bitmap.now)) value) }
+    ensures { IfSome result (λ value. items_of bitmap.now
+        ≡ replicate (length' (items_of bitmap.now)) value) }
 {
     if are_all(bitmap, false) {
         Some(false)

@@ -57,7 +57,9 @@ impl Model for Bitmap {
 
     ghost view = { λ b. record { bytes = b.bytes.value; offset = b.offset; len = b.length } };
 
-    ghost invariant = { λ b. (b.offset + b.length ≤ 8 * count b.bytes.value) × (b.offset + b.length < 2 ^ 64) × (b.unset_bits ≡ falses (part (bits b.bytes.value) b.offset b.length)) };
+    ghost invariant = { λ b. (b.offset + b.length ≤ 8 * count b.bytes.value)
+        × (b.offset + b.length < 2 ^ 64)
+        × (b.unset_bits ≡ falses (part (bits b.bytes.value) b.offset b.length)) };
 }
 
 #[tactic(auto, using(arrow2_model::proofs::Walks::parts))]
@@ -83,10 +85,16 @@ impl Bitmap {
     /// `OutOfMemory` there, where its text finds no memory; else `OutOfMemory` alone.
     pub fn try_new(bytes: Vec<u8>, length: usize) -> Result<Bitmap>
         ensures fits { OnOk result (length ≤ 8 * vec_len bytes) }
-        ensures ok { IfOk result (λ b. b ≡ record { bytes = bytes.items; offset = 0; len = length }) }
+        ensures ok { IfOk result (λ b. b ≡ record {
+          bytes = bytes.items;
+          offset = 0;
+          len = length;
+        }) }
         ensures items { IfOk result (λ b. items_of b ≡ take length (bits bytes.items)) }
         ensures len { IfOk result (λ b. length' (items_of b) ≡ length) }
-        ensures refused { 8 * vec_len bytes < length → IfErr result (λ e. IsInvalidArgument e (too_long (codes "The offset + length") length (vec_len bytes))) }
+        ensures refused { 8 * vec_len bytes < length →
+            IfErr result (λ e.
+            IsInvalidArgument e (too_long (codes "The offset + length") length (vec_len bytes))) }
         ensures only { length ≤ 8 * vec_len bytes → IfErr result (λ e. e ≡ Error.OutOfMemory) }
     {
         check_length("The offset + length", length, &bytes)?;
@@ -100,7 +108,11 @@ impl Bitmap {
     /// `OutOfMemory` alone.
     pub fn from_u8_vec(bytes: Vec<u8>, length: usize) -> Result<Bitmap>
         requires fits { length ≤ 8 * vec_len bytes }
-        ensures ok { IfOk result (λ b. b ≡ record { bytes = bytes.items; offset = 0; len = length }) }
+        ensures ok { IfOk result (λ b. b ≡ record {
+          bytes = bytes.items;
+          offset = 0;
+          len = length;
+        }) }
         ensures items { IfOk result (λ b. items_of b ≡ take length (bits bytes.items)) }
         ensures len { IfOk result (λ b. length' (items_of b) ≡ length) }
         ensures only { IfErr result (λ e. e ≡ Error.OutOfMemory) }
@@ -114,7 +126,11 @@ impl Bitmap {
     pub(crate) fn from_counted(bytes: Vec<u8>, length: usize, unset_bits: usize) -> Result<Bitmap>
         requires fits { length ≤ 8 * vec_len bytes }
         requires counted { unset_bits ≡ falses (take length (bits bytes.items)) }
-        ensures ok { IfOk result (λ b. b ≡ record { bytes = bytes.items; offset = 0; len = length }) }
+        ensures ok { IfOk result (λ b. b ≡ record {
+          bytes = bytes.items;
+          offset = 0;
+          len = length;
+        }) }
         ensures items { IfOk result (λ b. items_of b ≡ take length (bits bytes.items)) }
         ensures len { IfOk result (λ b. length' (items_of b) ≡ length) }
         ensures only { IfErr result (λ e. e ≡ Error.OutOfMemory) }
@@ -151,7 +167,11 @@ impl Bitmap {
     /// `OutOfMemory` alone.
     pub fn new_zeroed(alloc: Global, length: usize) -> Result<Bitmap>
         ensures items { IfOk result (λ b. items_of b ≡ replicate length false) }
-        ensures storage { IfOk result (λ b. b ≡ record { bytes = replicate ((length + 7) / 8) 0; offset = 0; len = length }) }
+        ensures storage { IfOk result (λ b. b ≡ record {
+          bytes = replicate ((length + 7) / 8) 0;
+          offset = 0;
+          len = length;
+        }) }
         ensures only { IfErr result (λ e. e ≡ Error.OutOfMemory) }
     {
         let zeros = vec![in alloc; 0u8; bytes_for(length)]?;
@@ -165,7 +185,11 @@ impl Bitmap {
     /// `OutOfMemory` alone.
     pub fn from_bools(alloc: Global, items: &[bool]) -> Result<Bitmap>
         ensures items { IfOk result (λ b. items_of b ≡ items.now) }
-        ensures storage { IfOk result (λ b. b ≡ record { bytes = canonical_bytes items.now; offset = 0; len = length items.now }) }
+        ensures storage { IfOk result (λ b. b ≡ record {
+          bytes = canonical_bytes items.now;
+          offset = 0;
+          len = length items.now;
+        }) }
         ensures only { IfErr result (λ e. e ≡ Error.OutOfMemory) }
     {
         Bitmap::try_from(MutableBitmap::from_bools(alloc, items)?)
@@ -179,11 +203,18 @@ impl Bitmap {
     ///
     /// `Overflow` only after `usize::MAX` items and one more, else `OutOfMemory` alone.
     pub fn try_from_iter<I: IntoIterator<Item = bool>>(alloc: Global, iter: I) -> Result<Bitmap>
-        requires { (it : I.IntoIter) → I.into_iter_gives iter it → I.IntoIter.can_next it × IsFinite (I.IntoIter.remaining it) }
-        ensures items { IfOk result (λ b. (it : I.IntoIter) × I.into_iter_gives iter it × WholeRun I.IntoIter.next_gives it (λ p. items_of b ≡ p.items)) }
-        ensures storage { IfOk result (λ b. b ≡ record { bytes = canonical_bytes (items_of b); offset = 0; len = length (items_of b) }) }
+        requires { (it : I.IntoIter) → I.into_iter_gives iter it →
+            I.IntoIter.can_next it × IsFinite (I.IntoIter.remaining it) }
+        ensures items { IfOk result (λ b. (it : I.IntoIter) × I.into_iter_gives iter it
+            × WholeRun I.IntoIter.next_gives it (λ p. items_of b ≡ p.items)) }
+        ensures storage { IfOk result (λ b. b ≡ record {
+          bytes = canonical_bytes (items_of b);
+          offset = 0;
+          len = length (items_of b);
+        }) }
         ensures fits { IfOk result (λ b. length (items_of b) < 2 ^ 64) }
-        ensures overflow { IsErrOf result Error.Overflow → (it : I.IntoIter) × I.into_iter_gives iter it × GivesTooMany I.IntoIter.next_gives it }
+        ensures overflow { IsErrOf result Error.Overflow →
+            (it : I.IntoIter) × I.into_iter_gives iter it × GivesTooMany I.IntoIter.next_gives it }
         ensures only { IfErr result (λ e. (e ≡ Error.Overflow) ⊎ (e ≡ Error.OutOfMemory)) }
     {
         Bitmap::try_from(MutableBitmap::try_from_iter(alloc, iter)?)
@@ -244,7 +275,8 @@ impl Bitmap {
     /// The bytes that hold its items, the bit of the first of them at which the items begin, below
     /// 8, and how many items there are.
     pub fn as_slice(&self) -> (&[u8], usize, usize)
-        ensures bytes { result.0.now ≡ part self.now.bytes (self.now.offset / 8) ((self.now.offset % 8 + self.now.len + 7) / 8) }
+        ensures bytes { result.0.now ≡ part self.now.bytes (self.now.offset / 8)
+            ((self.now.offset % 8 + self.now.len + 7) / 8) }
         ensures offset { result.1 ≡ self.now.offset % 8 }
         ensures len { result.2 ≡ self.now.len }
         ensures inside { result.1 + result.2 ≤ 8 * length' result.0.now }
@@ -264,7 +296,8 @@ impl Bitmap {
     pub fn chunks<T: BitChunk>(&self) -> BitChunks<'_, T>
         ensures items { result.items ≡ items_of self.now }
         ensures fits { length (items_of self.now) < 2 ^ 64 }
-        ensures spill { result.spill ≡ spill T.BitChunk.SIZE self.now.bytes self.now.offset self.now.len }
+        ensures spill { result.spill ≡ spill T.BitChunk.SIZE self.now.bytes
+            self.now.offset self.now.len }
     {
         BitChunks::new(self.bytes.as_slice(), self.offset, self.length)
     }
@@ -297,7 +330,11 @@ impl Bitmap {
     /// Takes no memory.
     pub fn slice(&mut self, offset: usize, length: usize)
         requires inside { offset + length ≤ length' (items_of self.old) }
-        ensures storage { self.new ≡ record { bytes = self.old.bytes; offset = self.old.offset + offset; len = length } }
+        ensures storage { self.new ≡ record {
+          bytes = self.old.bytes;
+          offset = self.old.offset + offset;
+          len = length;
+        } }
         ensures items { items_of self.new ≡ part (items_of self.old) offset length }
         ensures len { length' (items_of self.new) ≡ length }
     {
@@ -310,10 +347,15 @@ impl Bitmap {
     /// arrow2 counts no reads.
     pub fn slice_counted(&mut self, offset: usize, length: usize, reads: &mut Reads)
         requires inside { offset + length ≤ length' (items_of self.old) }
-        ensures storage { self.new ≡ record { bytes = self.old.bytes; offset = self.old.offset + offset; len = length } }
+        ensures storage { self.new ≡ record {
+          bytes = self.old.bytes;
+          offset = self.old.offset + offset;
+          len = length;
+        } }
         ensures items { items_of self.new ≡ part (items_of self.old) offset length }
         ensures len { length' (items_of self.new) ≡ length }
-        ensures reads { reads.new ≡ reads.old + slice_reads self.old.offset (length' (items_of self.old)) offset length }
+        ensures reads { reads.new ≡ reads.old
+            + slice_reads self.old.offset (length' (items_of self.old)) offset length }
         ensures bound { reads.new ≤ reads.old + length' (items_of self.old) / 16 + 4 }
     {
         prove!(offset <= self.length && length <= self.length - offset);
@@ -335,7 +377,11 @@ impl Bitmap {
     /// The same as [`Bitmap::slice`], by value.
     pub fn sliced(self, offset: usize, length: usize) -> Bitmap
         requires inside { offset + length ≤ length' (items_of self) }
-        ensures storage { result ≡ record { bytes = self.bytes; offset = self.offset + offset; len = length } }
+        ensures storage { result ≡ record {
+          bytes = self.bytes;
+          offset = self.offset + offset;
+          len = length;
+        } }
         ensures items { items_of result ≡ part (items_of self) offset length }
         ensures len { length' (items_of result) ≡ length }
     {
@@ -359,7 +405,8 @@ impl Bitmap {
     /// The bitmap to be changed in place, on the right, where no one shares the bytes and the
     /// items begin at bit 0; else the bitmap as it was, on the left. Takes no memory.
     pub fn into_mut(self) -> Either<Bitmap, MutableBitmap>
-        ensures { MatchEither result (λ b. b ≡ self) (λ m. (self.offset ≡ 0) × (m.items ≡ items_of self)) }
+        ensures { MatchEither result (λ b. b ≡ self) (λ m. (self.offset ≡ 0)
+            × (m.items ≡ items_of self)) }
     {
         if self.offset != 0 {
             return Either::Left(self);
@@ -490,7 +537,12 @@ impl Clone for Bitmap {
 impl TryFrom<MutableBitmap> for Bitmap {
     type Error = Error;
 
-    ghost try_from_gives = { λ m r. MatchResult r (λ b. (items_of b ≡ m.items) × (b ≡ record { bytes = canonical_bytes m.items; offset = 0; len = length m.items })) (λ e. e ≡ OutOfMemory) };
+    ghost try_from_gives = { λ m r. MatchResult r (λ b. (items_of b ≡ m.items)
+        × (b ≡ record {
+          bytes = canonical_bytes m.items;
+          offset = 0;
+          len = length m.items;
+        })) (λ e. e ≡ OutOfMemory) };
 
     fn try_from(bitmap: MutableBitmap) -> Result<Bitmap> {
         let (bytes, length) = bitmap.into_parts();
@@ -500,7 +552,8 @@ impl TryFrom<MutableBitmap> for Bitmap {
 
 /// The text of the bits of [`Bitmap::as_slice`] by [`arrow2_bits::fmt::fmt`].
 impl fmt::Debug for Bitmap {
-    ghost debug_output = { λ b. Some (shown (part b.bytes (b.offset / 8) ((b.offset % 8 + b.len + 7) / 8)) (b.offset % 8) b.len) };
+    ghost debug_output = { λ b. Some (shown
+        (part b.bytes (b.offset / 8) ((b.offset % 8 + b.len + 7) / 8)) (b.offset % 8) b.len) };
 
     fn fmt<W: fmt::Write>(&self, f: &mut fmt::Formatter<W>) -> fmt::Result {
         let (bytes, offset, length) = self.as_slice();

@@ -27,7 +27,8 @@ impl Model for IntoIter {
 
     ghost view = { λ i. part (items_of i.values) i.index (i.end - i.index) };
 
-    ghost invariant = { λ i. (i.index ≤ i.end) × (i.end ≤ i.values.len) × (i.values.len ≡ length (items_of i.values)) };
+    ghost invariant = { λ i. (i.index ≤ i.end) × (i.end ≤ i.values.len)
+        × (i.values.len ≡ length (items_of i.values)) };
 }
 
 #[tactic(auto, using(crate::proofs::Walk::walking))]

@@ -6,13 +6,22 @@ ghost use Rattle.arrow2_model.specs.Storage.{BitmapStorage, GrowingBitmap, items
 /// Two bitmaps that grow, of one length, are equal exactly if their bytes are.
 #[tactic(auto, using(crate::proofs::Bytes::canonical))]
 pub fn bytes_tell_growing_bitmaps_apart()
-    ensures { (m n : GrowingBitmap) → length m.items ≡ length n.items → (m.items ≡ n.items) ↔ (canonical_bytes m.items ≡ canonical_bytes n.items) }
+    ensures { (m n : GrowingBitmap) → length m.items ≡ length n.items →
+        (m.items ≡ n.items) ↔ (canonical_bytes m.items ≡ canonical_bytes n.items) }
 {}
 
 /// What a bitmap that grows is frozen to has its items. Two of them are equal exactly if they are frozen to equal
 /// storage: to equal bytes, which begin at bit 0, and one length.
 #[tactic(auto, using(crate::proofs::Bytes::canonical))]
 pub fn equal_items_freeze_to_equal_bytes()
-    ensures items { (m : GrowingBitmap) (a : BitmapStorage) → a ≡ record { bytes = canonical_bytes m.items; offset = 0; len = length m.items } → items_of a ≡ m.items }
-    ensures equal { (m n : GrowingBitmap) (a b : BitmapStorage) → a ≡ record { bytes = canonical_bytes m.items; offset = 0; len = length m.items } → b ≡ record { bytes = canonical_bytes n.items; offset = 0; len = length n.items } → (m.items ≡ n.items) ↔ (a ≡ b) }
+    ensures items { (m : GrowingBitmap) (a : BitmapStorage) →
+        a ≡ record {
+          bytes = canonical_bytes m.items;
+          offset = 0;
+          len = length m.items;
+        } → items_of a ≡ m.items }
+    ensures equal { (m n : GrowingBitmap) (a b : BitmapStorage) →
+        a ≡ record { bytes = canonical_bytes m.items; offset = 0; len = length m.items } →
+        b ≡ record { bytes = canonical_bytes n.items; offset = 0; len = length n.items } →
+        (m.items ≡ n.items) ↔ (a ≡ b) }
 {}

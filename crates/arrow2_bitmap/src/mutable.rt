@@ -55,7 +55,10 @@ impl Model for MutableBitmap {
 
     ghost Value = { GrowingBitmap };
 
-    ghost view = { λ m. record { items = take m.length (bits m.buffer.items); capacity = min (8 * vec_capacity m.buffer) (2 ^ 64 - 1) } };
+    ghost view = { λ m. record {
+      items = take m.length (bits m.buffer.items);
+      capacity = min (8 * vec_capacity m.buffer) (2 ^ 64 - 1);
+    } };
 
     ghost invariant = { λ m. IsCanonical m.buffer.items m.length };
 }
@@ -82,7 +85,8 @@ impl MutableBitmap {
         ensures fits { IsOk result ↔ (length ≤ 8 * vec_len bytes) }
         ensures ok { IfOk result (λ m. m.items ≡ take length (bits bytes.items)) }
         ensures len { IfOk result (λ m. length' m.items ≡ length) }
-        ensures refused { IfErr result (λ e. IsInvalidArgument e (too_long (codes "The length") length (vec_len bytes))) }
+        ensures refused { IfErr result (λ e.
+            IsInvalidArgument e (too_long (codes "The length") length (vec_len bytes))) }
     {
         check_length("The length", length, &bytes)?;
         Ok(MutableBitmap::from_vec(bytes, length))
@@ -154,10 +158,13 @@ impl MutableBitmap {
         alloc: Global,
         iter: I,
     ) -> Result<MutableBitmap>
-        requires { (it : I.IntoIter) → I.into_iter_gives iter it → I.IntoIter.can_next it × IsFinite (I.IntoIter.remaining it) }
-        ensures items { IfOk result (λ m. (it : I.IntoIter) × I.into_iter_gives iter it × WholeRun I.IntoIter.next_gives it (λ p. m.items ≡ p.items)) }
+        requires { (it : I.IntoIter) → I.into_iter_gives iter it →
+            I.IntoIter.can_next it × IsFinite (I.IntoIter.remaining it) }
+        ensures items { IfOk result (λ m. (it : I.IntoIter) × I.into_iter_gives iter it
+            × WholeRun I.IntoIter.next_gives it (λ p. m.items ≡ p.items)) }
         ensures fits { IfOk result (λ m. length m.items < 2 ^ 64) }
-        ensures overflow { IsErrOf result Error.Overflow → (it : I.IntoIter) × I.into_iter_gives iter it × GivesTooMany I.IntoIter.next_gives it }
+        ensures overflow { IsErrOf result Error.Overflow →
+            (it : I.IntoIter) × I.into_iter_gives iter it × GivesTooMany I.IntoIter.next_gives it }
         ensures only { IfErr result (λ e. (e ≡ Error.Overflow) ⊎ (e ≡ Error.OutOfMemory)) }
     {
         let (bytes, length) = collected(alloc, iter.into_iter())?;
@@ -204,7 +211,8 @@ impl MutableBitmap {
     pub fn extend_constant(&mut self, additional: usize, value: bool) -> Result<()>
         ensures ok { OnOk result (self.new.items ≡ self.old.items ++ replicate additional value) }
         ensures err { OnErr result (self.new.items ≡ self.old.items) }
-        ensures overflow { IsErrOf result Error.Overflow ↔ (2 ^ 64 ≤ length self.old.items + additional) }
+        ensures overflow { IsErrOf result Error.Overflow ↔
+            (2 ^ 64 ≤ length self.old.items + additional) }
         ensures only { IfErr result (λ e. (e ≡ Error.Overflow) ⊎ (e ≡ Error.OutOfMemory)) }
         ensures room { length self.old.items + additional ≤ self.old.capacity → IsOk result }
         ensures capacity { self.old.capacity ≤ self.new.capacity }
@@ -222,9 +230,11 @@ impl MutableBitmap {
     /// After both the bitmap holds the items that it held.
     pub fn extend_from_slice(&mut self, slice: &[u8], offset: usize, length: usize) -> Result<()>
         requires inside { offset + length ≤ 8 * length' slice.now }
-        ensures ok { OnOk result (self.new.items ≡ self.old.items ++ part (bits slice.now) offset length) }
+        ensures ok { OnOk result (self.new.items ≡ self.old.items
+            ++ part (bits slice.now) offset length) }
         ensures err { OnErr result (self.new.items ≡ self.old.items) }
-        ensures overflow { IsErrOf result Error.Overflow ↔ (2 ^ 64 ≤ length' self.old.items + length) }
+        ensures overflow { IsErrOf result Error.Overflow ↔
+            (2 ^ 64 ≤ length' self.old.items + length) }
         ensures only { IfErr result (λ e. (e ≡ Error.Overflow) ⊎ (e ≡ Error.OutOfMemory)) }
         ensures room { length' self.old.items + length ≤ self.old.capacity → IsOk result }
         ensures capacity { self.old.capacity ≤ self.new.capacity }
@@ -249,9 +259,11 @@ impl MutableBitmap {
     pub fn extend_from_bitmap(&mut self, bitmap: &Bitmap) -> Result<()>
         ensures ok { OnOk result (self.new.items ≡ self.old.items ++ items_of bitmap.now) }
         ensures err { OnErr result (self.new.items ≡ self.old.items) }
-        ensures overflow { IsErrOf result Error.Overflow ↔ (2 ^ 64 ≤ length self.old.items + length (items_of bitmap.now)) }
+        ensures overflow { IsErrOf result Error.Overflow ↔
+            (2 ^ 64 ≤ length self.old.items + length (items_of bitmap.now)) }
         ensures only { IfErr result (λ e. (e ≡ Error.Overflow) ⊎ (e ≡ Error.OutOfMemory)) }
-        ensures room { length self.old.items + length (items_of bitmap.now) ≤ self.old.capacity → IsOk result }
+        ensures room { length self.old.items + length (items_of bitmap.now)
+            ≤ self.old.capacity → IsOk result }
         ensures capacity { self.old.capacity ≤ self.new.capacity }
     {
         let (slice, offset, _) = bitmap.as_slice();
@@ -266,7 +278,8 @@ impl MutableBitmap {
     pub fn reserve(&mut self, additional: usize) -> Result<()>
         ensures items { self.new.items ≡ self.old.items }
         ensures ok { OnOk result (length self.old.items + additional ≤ self.new.capacity) }
-        ensures overflow { IsErrOf result Error.Overflow ↔ (2 ^ 64 ≤ length self.old.items + additional) }
+        ensures overflow { IsErrOf result Error.Overflow ↔
+            (2 ^ 64 ≤ length self.old.items + additional) }
         ensures only { IfErr result (λ e. (e ≡ Error.Overflow) ⊎ (e ≡ Error.OutOfMemory)) }
         ensures room { length self.old.items + additional ≤ self.old.capacity → IsOk result }
         ensures capacity { self.old.capacity ≤ self.new.capacity }
@@ -297,7 +310,12 @@ impl MutableBitmap {
     pub fn into_validity(self) -> Result<Option<Bitmap>>
         ensures none { IfOk result (λ validity. IsNone validity ↔ (falses self.items ≡ 0)) }
         ensures items { IfOk result (λ validity. IfSome validity (λ b. items_of b ≡ self.items)) }
-        ensures storage { IfOk result (λ validity. IfSome validity (λ b. b ≡ record { bytes = canonical_bytes self.items; offset = 0; len = length self.items })) }
+        ensures storage { IfOk result (λ validity.
+            IfSome validity (λ b. b ≡ record {
+              bytes = canonical_bytes self.items;
+              offset = 0;
+              len = length self.items;
+            })) }
         ensures only { IfErr result (λ e. e ≡ Error.OutOfMemory) }
         ensures room { falses self.items ≡ 0 → IsOk result }
     {
@@ -311,7 +329,8 @@ impl MutableBitmap {
 
     /// Takes the last item off and gives it back, or `None` where there is none.
     pub fn pop(&mut self) -> Option<bool>
-        ensures last { MatchOption result (self.old.items ≡ []) (λ item. self.old.items ≡ self.new.items ++ item ∷ []) }
+        ensures last { MatchOption result (self.old.items ≡ []) (λ item.
+            self.old.items ≡ self.new.items ++ item ∷ []) }
         ensures none { IfNone result (self.new.items ≡ []) }
         ensures capacity { self.new.capacity ≡ self.old.capacity }
     {
@@ -440,8 +459,14 @@ impl MutableBitmap {
         requires callable { F.IsAlwaysCallable op }
         requires alike { S.alike rows }
         requires length { S.length rows ≡ length self.old.items }
-        ensures kernel { (f : List ℕ → ℕ) (lists : List (List Bool)) → IsOwnRowFunction T.BitChunk.WIDTH S.words T.BitChunk.number (F.post op) f → ((j : ℕ) → S.row_at rows j ≡ words_at T.BitChunk.WIDTH lists j) → self.new.items ≡ kernel T.BitChunk.WIDTH f (self.old.items ∷ lists) }
-        ensures table { (t : ℕ) (lists : List (List Bool)) → ActsBesideRows T.BitChunk.WIDTH S.words T.BitChunk.number (F.post op) t → ((j : ℕ) → S.row_at rows j ≡ words_at T.BitChunk.WIDTH lists j) → self.new.items ≡ each t (self.old.items ∷ lists) }
+        ensures kernel { (f : List ℕ → ℕ) (lists : List (List Bool)) →
+            IsOwnRowFunction T.BitChunk.WIDTH S.words T.BitChunk.number (F.post op) f →
+            ((j : ℕ) → S.row_at rows j ≡ words_at T.BitChunk.WIDTH lists j) →
+            self.new.items ≡ kernel T.BitChunk.WIDTH f (self.old.items ∷ lists) }
+        ensures table { (t : ℕ) (lists : List (List Bool)) →
+            ActsBesideRows T.BitChunk.WIDTH S.words T.BitChunk.number (F.post op) t →
+            ((j : ℕ) → S.row_at rows j ≡ words_at T.BitChunk.WIDTH lists j) →
+            self.new.items ≡ each t (self.old.items ∷ lists) }
         ensures len { length self.new.items ≡ length self.old.items }
         ensures capacity { self.new.capacity ≡ self.old.capacity }
     {
@@ -452,7 +477,8 @@ impl MutableBitmap {
     /// memory. Asks for as many bits.
     pub(crate) fn answer_beside(&mut self, other: &[u8], t: u8)
         requires inside { length self.old.items ≤ 8 * length other.now }
-        ensures items { self.new.items ≡ each t (self.old.items ∷ take (length self.old.items) (bits other.now) ∷ []) }
+        ensures items { self.new.items ≡ each t (self.old.items
+            ∷ take (length self.old.items) (bits other.now) ∷ []) }
         ensures capacity { self.new.capacity ≡ self.old.capacity }
     {
         write_beside(&mut self.buffer, self.length, other, t);
@@ -574,7 +600,8 @@ fn clear_bit(buffer: &mut Vec<u8>, length: usize, index: usize) -> bool
     requires within { index < length }
     ensures item { result ≡ slice_index_or (bits buffer.old.items) index false }
     ensures canonical { IsCanonical buffer.new.items length }
-    ensures items { take length (bits buffer.new.items) ≡ slice_set (take length (bits buffer.old.items)) index false }
+    ensures items { take length (bits buffer.new.items)
+        ≡ slice_set (take length (bits buffer.old.items)) index false }
     ensures capacity { vec_capacity buffer.new ≡ vec_capacity buffer.old }
 {
     take_bit(buffer.as_mut_slice(), index)
@@ -586,7 +613,8 @@ fn write_bit(buffer: &mut Vec<u8>, length: usize, index: usize, value: bool)
     requires canonical { IsCanonical buffer.old.items length }
     requires within { index < length }
     ensures canonical { IsCanonical buffer.new.items length }
-    ensures items { take length (bits buffer.new.items) ≡ slice_set (take length (bits buffer.old.items)) index value }
+    ensures items { take length (bits buffer.new.items)
+        ≡ slice_set (take length (bits buffer.old.items)) index value }
     ensures capacity { vec_capacity buffer.new ≡ vec_capacity buffer.old }
 {
     set_bit(buffer.as_mut_slice(), index, value);
@@ -605,7 +633,12 @@ fn write_rows<T: BitChunk, S: WordRows<T>, F: Fn(T, S::Row) -> T>(
     requires length { S.length rows ≡ length }
     requires canonical { IsCanonical buffer.old.items length }
     ensures canonical { IsCanonical buffer.new.items length }
-    ensures items { (f : List ℕ → ℕ) → IsOwnRowFunction T.BitChunk.WIDTH S.words T.BitChunk.number (F.post op) f → take length (bits buffer.new.items) ≡ joined T.BitChunk.WIDTH (λ j. f (word T.BitChunk.WIDTH (take length (bits buffer.old.items)) j ∷ S.row_at rows j)) length }
+    ensures items { (f : List ℕ → ℕ) →
+        IsOwnRowFunction T.BitChunk.WIDTH S.words T.BitChunk.number (F.post op) f →
+        take length (bits buffer.new.items)
+        ≡ joined T.BitChunk.WIDTH (λ j.
+        f (word T.BitChunk.WIDTH (take length (bits buffer.old.items)) j
+        ∷ S.row_at rows j)) length }
     ensures capacity { vec_capacity buffer.new ≡ vec_capacity buffer.old }
 {
     assign_rows(buffer.as_mut_slice(), length, rows, op);
@@ -616,7 +649,8 @@ fn write_beside(buffer: &mut Vec<u8>, length: usize, other: &[u8], t: u8)
     requires canonical { IsCanonical buffer.old.items length }
     requires inside { length ≤ 8 * length' other.now }
     ensures canonical { IsCanonical buffer.new.items length }
-    ensures items { take length (bits buffer.new.items) ≡ each t (take length (bits buffer.old.items) ∷ take length (bits other.now) ∷ []) }
+    ensures items { take length (bits buffer.new.items)
+        ≡ each t (take length (bits buffer.old.items) ∷ take length (bits other.now) ∷ []) }
     ensures capacity { vec_capacity buffer.new ≡ vec_capacity buffer.old }
 {
     assign_binary(buffer.as_mut_slice(), other, length, t);
@@ -626,7 +660,8 @@ fn write_beside(buffer: &mut Vec<u8>, length: usize, other: &[u8], t: u8)
 fn write_answers(buffer: &mut Vec<u8>, length: usize, t: u8)
     requires canonical { IsCanonical buffer.old.items length }
     ensures canonical { IsCanonical buffer.new.items length }
-    ensures items { take length (bits buffer.new.items) ≡ each t (take length (bits buffer.old.items) ∷ []) }
+    ensures items { take length (bits buffer.new.items)
+        ≡ each t (take length (bits buffer.old.items) ∷ []) }
     ensures capacity { vec_capacity buffer.new ≡ vec_capacity buffer.old }
 {
     assign_unary(buffer.as_mut_slice(), length, t);
@@ -644,7 +679,8 @@ fn fill_bytes(buffer: &mut Vec<u8>, byte: u8)
 fn push_bit(buffer: &mut Vec<u8>, length: usize, value: bool) -> std::result::Result<(), AllocError>
     requires { IsCanonical buffer.old.items length }
     ensures canonical { OnOk result (IsCanonical buffer.new.items (length + 1)) }
-    ensures items { OnOk result (take (length + 1) (bits buffer.new.items) ≡ take length (bits buffer.old.items) ++ value ∷ []) }
+    ensures items { OnOk result (take (length + 1) (bits buffer.new.items)
+        ≡ take length (bits buffer.old.items) ++ value ∷ []) }
     ensures err { OnErr result (buffer.new.items ≡ buffer.old.items) }
     ensures room { length < 8 * vec_capacity buffer.old → IsOk result }
     ensures capacity { vec_capacity buffer.old ≤ vec_capacity buffer.new }

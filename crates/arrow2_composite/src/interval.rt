@@ -43,7 +43,8 @@ impl days_ms {
 
 /// As `1d -1ms`.
 impl fmt::Display for days_ms {
-    ghost output = { λ x. Some (signed_decimal x.0 ++ (codes "d " ++ (signed_decimal x.1 ++ codes "ms"))) };
+    ghost output = { λ x. Some (signed_decimal x.0
+        ++ (codes "d " ++ (signed_decimal x.1 ++ codes "ms"))) };
 
     fn fmt<W: fmt::Write>(&self, f: &mut fmt::Formatter<W>) -> fmt::Result {
         write!(f, "{}d {}ms", self.days(), self.milliseconds())
@@ -73,9 +74,15 @@ impl NativeType for days_ms {
 
     ghost be_digits = { λ x. reverse (digits 4 x.0) ++ reverse (digits 4 x.1) };
 
-    ghost of_le = { λ bytes. record { 0 = integer_from 4 (take 4 bytes); 1 = integer_from 4 (take 4 (drop 4 bytes)) } };
+    ghost of_le = { λ bytes. record {
+      0 = integer_from 4 (take 4 bytes);
+      1 = integer_from 4 (take 4 (drop 4 bytes));
+    } };
 
-    ghost of_be = { λ bytes. record { 0 = integer_from 4 (reverse (take 4 bytes)); 1 = integer_from 4 (reverse (take 4 (drop 4 bytes))) } };
+    ghost of_be = { λ bytes. record {
+      0 = integer_from 4 (reverse (take 4 bytes));
+      1 = integer_from 4 (reverse (take 4 (drop 4 bytes)));
+    } };
 
     ghost le_law = { digits_of_pair };
 
@@ -164,7 +171,9 @@ impl months_days_ns {
 
 /// As `1m 2d 3ns`.
 impl fmt::Display for months_days_ns {
-    ghost output = { λ x. Some (signed_decimal x.0 ++ (codes "m " ++ (signed_decimal x.1 ++ (codes "d " ++ (signed_decimal x.2 ++ codes "ns"))))) };
+    ghost output = { λ x. Some (signed_decimal x.0
+        ++ (codes "m " ++ (signed_decimal x.1
+        ++ (codes "d " ++ (signed_decimal x.2 ++ codes "ns"))))) };
 
     fn fmt<W: fmt::Write>(&self, f: &mut fmt::Formatter<W>) -> fmt::Result {
         write!(f, "{}m {}d {}ns", self.months(), self.days(), self.ns())
@@ -175,7 +184,8 @@ impl fmt::Display for months_days_ns {
 impl Neg for months_days_ns {
     type Output = months_days_ns;
 
-    ghost can_neg = { λ x. (x.0 ≢ neg_ℤ (pos (2 ^ 31))) × (x.1 ≢ neg_ℤ (pos (2 ^ 31))) × (x.2 ≢ neg_ℤ (pos (2 ^ 63))) };
+    ghost can_neg = { λ x. (x.0 ≢ neg_ℤ (pos (2 ^ 31))) × (x.1 ≢ neg_ℤ (pos (2 ^ 31)))
+        × (x.2 ≢ neg_ℤ (pos (2 ^ 63))) };
 
     ghost neg_gives = { λ x r. (r.0 ≡ neg_ℤ x.0) × (r.1 ≡ neg_ℤ x.1) × (r.2 ≡ neg_ℤ x.2) };
 
@@ -192,11 +202,20 @@ impl NativeType for months_days_ns {
 
     ghost le_digits = { λ x. digits 4 x.0 ++ (digits 4 x.1 ++ digits 8 x.2) };
 
-    ghost be_digits = { λ x. reverse (digits 4 x.0) ++ (reverse (digits 4 x.1) ++ reverse (digits 8 x.2)) };
+    ghost be_digits = { λ x. reverse (digits 4 x.0)
+        ++ (reverse (digits 4 x.1) ++ reverse (digits 8 x.2)) };
 
-    ghost of_le = { λ bytes. record { 0 = integer_from 4 (take 4 bytes); 1 = integer_from 4 (take 4 (drop 4 bytes)); 2 = integer_from 8 (take 8 (drop 8 bytes)) } };
+    ghost of_le = { λ bytes. record {
+      0 = integer_from 4 (take 4 bytes);
+      1 = integer_from 4 (take 4 (drop 4 bytes));
+      2 = integer_from 8 (take 8 (drop 8 bytes));
+    } };
 
-    ghost of_be = { λ bytes. record { 0 = integer_from 4 (reverse (take 4 bytes)); 1 = integer_from 4 (reverse (take 4 (drop 4 bytes))); 2 = integer_from 8 (reverse (take 8 (drop 8 bytes))) } };
+    ghost of_be = { λ bytes. record {
+      0 = integer_from 4 (reverse (take 4 bytes));
+      1 = integer_from 4 (reverse (take 4 (drop 4 bytes)));
+      2 = integer_from 8 (reverse (take 8 (drop 8 bytes)));
+    } };
 
     ghost le_law = { digits_of_triple };
 

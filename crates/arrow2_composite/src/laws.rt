@@ -11,12 +11,15 @@ use std::hash::Hash;
 
 /// Equal spans of time hash alike.
 pub fn equal_spans_hash_alike()
-    ensures days { (a b : days_ms) → IsTrue (⟦<days_ms as PartialEq>⟧.eq a b) → ⟦<days_ms as Hash>⟧.hash_input a ≡ ⟦<days_ms as Hash>⟧.hash_input b }
-    ensures months { (a b : months_days_ns) → IsTrue (⟦<months_days_ns as PartialEq>⟧.eq a b) → ⟦<months_days_ns as Hash>⟧.hash_input a ≡ ⟦<months_days_ns as Hash>⟧.hash_input b }
+    ensures days { (a b : days_ms) → IsTrue (⟦<days_ms as PartialEq>⟧.eq a b) →
+        ⟦<days_ms as Hash>⟧.hash_input a ≡ ⟦<days_ms as Hash>⟧.hash_input b }
+    ensures months { (a b : months_days_ns) → IsTrue (⟦<months_days_ns as PartialEq>⟧.eq a b) →
+        ⟦<months_days_ns as Hash>⟧.hash_input a ≡ ⟦<months_days_ns as Hash>⟧.hash_input b }
 {}
 
 /// Numbers of 256 bits that are equal are neither below the other, and hash alike; others are ordered.
 pub fn equality_order_and_hash_of_wide_numbers_agree()
     ensures order { (a b : ℤ) → ⟦<i256 as PartialEq>⟧.eq a b ≡ is_eq (⟦<i256 as Ord>⟧.cmp a b) }
-    ensures hash { (a b : ℤ) → IsTrue (⟦<i256 as PartialEq>⟧.eq a b) → ⟦<i256 as Hash>⟧.hash_input a ≡ ⟦<i256 as Hash>⟧.hash_input b }
+    ensures hash { (a b : ℤ) → IsTrue (⟦<i256 as PartialEq>⟧.eq a b) →
+        ⟦<i256 as Hash>⟧.hash_input a ≡ ⟦<i256 as Hash>⟧.hash_input b }
 {}

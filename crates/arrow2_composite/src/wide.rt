@@ -45,7 +45,8 @@ impl Model for i256 {
 
     ghost inverse = { λ v. record { high = high_word v; low = low_word v } };
 
-    ghost inverse_ok = { λ n fits. Prim.rw (high_word-words n.high n.low, low_word-words n.high n.low fits.1) refl };
+    ghost inverse_ok = { λ n fits. Prim.rw
+        (high_word-words n.high n.low, low_word-words n.high n.low fits.1) refl };
 }
 
 impl i256 {
@@ -109,7 +110,8 @@ impl Ord for i256 {
 impl PartialOrd for i256 {
     ghost partial_cmp = { as_partial_cmp int_cmp };
 
-    ghost laws = { partial_order_from_own_ties (Prim.search (comparing, rules)) (Prim.search (comparing, rules)) };
+    ghost laws = { partial_order_from_own_ties (Prim.search (comparing, rules))
+        (Prim.search (comparing, rules)) };
 
     fn partial_cmp(&self, other: &i256) -> Option<Ordering> {
         Some(self.cmp(other))
@@ -120,7 +122,8 @@ impl PartialOrd for i256 {
 impl Hash for i256 {
     ghost hash_input = { λ v. fed.i128 (high_word v) ++ fed.i128 (low_word v) };
 
-    ghost respects_eq = { (same_Alike (λ v. fed.i128 (high_word v) ++ fed.i128 (low_word v)) Decides-int_eq).fed };
+    ghost respects_eq = { (same_Alike (λ v. fed.i128 (high_word v)
+        ++ fed.i128 (low_word v)) Decides-int_eq).fed };
 
     fn hash<H: Hasher>(&self, state: &mut H) {
         self.high.hash(state);
@@ -162,9 +165,11 @@ impl NativeType for i256 {
 
     ghost be_digits = { λ v. reverse (digits 32 v) };
 
-    ghost of_le = { λ bytes. words_value (integer_from 16 (drop 16 bytes)) (integer_from 16 bytes) };
+    ghost of_le = { λ bytes. words_value (integer_from 16 (drop 16 bytes))
+        (integer_from 16 bytes) };
 
-    ghost of_be = { λ bytes. words_value (integer_from 16 (drop 16 (reverse bytes))) (integer_from 16 (reverse bytes)) };
+    ghost of_be = { λ bytes. words_value (integer_from 16 (drop 16 (reverse bytes)))
+        (integer_from 16 (reverse bytes)) };
 
     ghost le_law = { digits_of_words };
 

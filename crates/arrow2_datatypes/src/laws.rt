@@ -29,6 +29,8 @@ pub fn a_logical_type_is_its_own()
 
 /// Equal types and equal fields hash alike.
 pub fn equal_types_hash_alike()
-    ensures types { (a b : DataType) → IsTrue (⟦<DataType as PartialEq>⟧.eq a b) → ⟦<DataType as Hash>⟧.hash_input a ≡ ⟦<DataType as Hash>⟧.hash_input b }
-    ensures fields { (a b : Field) → IsTrue (⟦<Field as PartialEq>⟧.eq a b) → ⟦<Field as Hash>⟧.hash_input a ≡ ⟦<Field as Hash>⟧.hash_input b }
+    ensures types { (a b : DataType) → IsTrue (⟦<DataType as PartialEq>⟧.eq a b) →
+        ⟦<DataType as Hash>⟧.hash_input a ≡ ⟦<DataType as Hash>⟧.hash_input b }
+    ensures fields { (a b : Field) → IsTrue (⟦<Field as PartialEq>⟧.eq a b) →
+        ⟦<Field as Hash>⟧.hash_input a ≡ ⟦<Field as Hash>⟧.hash_input b }
 {}

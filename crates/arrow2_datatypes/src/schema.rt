@@ -46,7 +46,8 @@ impl Schema {
     /// The metadata stays. Takes no memory. Asks that the predicate may be called.
     pub fn filter<F: Fn(usize, &Field) -> bool>(self, predicate: F) -> Schema
         requires { F.IsAlwaysCallable predicate }
-        ensures fields { (accepts : ℕ → Field → Bool) → AnswersAs (F.post predicate) accepts → result.fields.items ≡ accepted accepts self.fields.items }
+        ensures fields { (accepts : ℕ → Field → Bool) → AnswersAs (F.post predicate) accepts →
+            result.fields.items ≡ accepted accepts self.fields.items }
         ensures metadata { result.metadata ≡ self.metadata }
     {
         let mut fields = self.fields;

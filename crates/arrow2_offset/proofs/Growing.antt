@@ -5,20 +5,15 @@ use Rattle.std.specs.Int as integers
 use Rattle.std.specs.Int.Signed.{lt_z}
 use Rattle.std.proofs.Common.{to_z, of_z}
 use Rattle.std.proofs.lemmas.Int.{ints}
-use Rattle.std.proofs.lemmas.List.{append-nil, length-map, map-append, get_or-map, take-map, take_all, take-append-le}
+use Rattle.std.proofs.lemmas.List.{append-nil, length-map, map-append, take-map, take_all}
 use Rattle.std.proofs.lemmas.List.Sums.{sum_by-append, sum_by-cons}
 use Rattle.std.proofs.Math.Seq.{take-add}
 use Rattle.arrow2_model.specs.Parts.{part}
 use Rattle.arrow2_model.specs.Buffers.{BufferStorage, buffer_items, whole_buffer}
 use Rattle.arrow2_offset.specs.Offsets.{running_sums, offsets_list, numbers_of, AreOffsets, AreOffsetsUpTo, start_of, lengths_of, offset_at, last_of}
-use Rattle.arrow2_offset.proofs.OffsetLists.{Spells, spells, spelled, length-lengths_of, get_or-offsets, get_or-last, push_spells, repeat_spells, take_spells, part_spells, map-replicate}
+use Rattle.arrow2_offset.proofs.OffsetLists.{Spells, spells, spelled, length-lengths_of, get_or-offsets, repeat_spells, take_spells, part_spells, map-replicate}
 use Rattle.arrow2_model.proofs.Parts.{part-map}
 use Rattle.arrow2_offset.proofs.Appending.{pushed as pushed_one, last_grown, same_naturals, value_at, value_last}
-
--- ---- fronts
-
-pub take_front : {X : Type 0} (xs ys : List X) (n : ℕ) → n ≡ length xs → take n (xs ++ ys) ≡ xs
-take_front xs ys n e = take-append-le n xs ys (omega arith) ∙ take_all n xs (omega arith)
 
 -- ---- sums
 

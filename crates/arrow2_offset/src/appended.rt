@@ -29,10 +29,13 @@ pub(crate) fn append_lengths<O: Offset, I: Iterator<Item = usize> + Drop>(
     requires can { I.can_next lengths }
     requires ends { IsFinite (I.remaining lengths) }
     ensures are { AreOffsetsUpTo O.MAX (map O.value offsets.new.items) }
-    ensures ok { OnOk result (WholeRun I.next_gives lengths (λ p. LengthenedBy p.items (map O.value offsets.old.items) (map O.value offsets.new.items))) }
+    ensures ok { OnOk result (WholeRun I.next_gives lengths (λ p.
+        LengthenedBy p.items (map O.value offsets.old.items) (map O.value offsets.new.items))) }
     ensures err { OnErr result (offsets.new.items ≡ offsets.old.items) }
-    ensures overflow { IsErrOf result refusal.Overflow → GivesPast O.MAX (last_of (map O.value offsets.old.items)) I.next_gives lengths }
-    ensures room { IsErrOf result refusal.OutOfMemory → GivesMoreThan (vec_capacity offsets.old - vec_len offsets.old) I.next_gives lengths }
+    ensures overflow { IsErrOf result refusal.Overflow →
+        GivesPast O.MAX (last_of (map O.value offsets.old.items)) I.next_gives lengths }
+    ensures room { IsErrOf result refusal.OutOfMemory →
+        GivesMoreThan (vec_capacity offsets.old - vec_len offsets.old) I.next_gives lengths }
     ensures capacity { vec_capacity offsets.old ≤ vec_capacity offsets.new }
 {
     let count = offsets.len();
@@ -60,9 +63,12 @@ fn appended<O: Offset, I: Iterator<Item = usize> + Drop>(
     requires ends { IsFinite (I.remaining lengths) }
     ensures are { OnOk result.1 (AreOffsetsUpTo O.MAX (map O.value result.0.items)) }
     ensures front { take (length offsets.items) result.0.items ≡ offsets.items }
-    ensures ok { OnOk result.1 (WholeRun I.next_gives lengths (λ p. LengthenedBy p.items (map O.value offsets.items) (map O.value result.0.items))) }
-    ensures overflow { IsErrOf result.1 refusal.Overflow → GivesPast O.MAX (last_of (map O.value offsets.items)) I.next_gives lengths }
-    ensures room { IsErrOf result.1 refusal.OutOfMemory → GivesMoreThan (vec_capacity offsets - vec_len offsets) I.next_gives lengths }
+    ensures ok { OnOk result.1 (WholeRun I.next_gives lengths (λ p.
+        LengthenedBy p.items (map O.value offsets.items) (map O.value result.0.items))) }
+    ensures overflow { IsErrOf result.1 refusal.Overflow →
+        GivesPast O.MAX (last_of (map O.value offsets.items)) I.next_gives lengths }
+    ensures room { IsErrOf result.1 refusal.OutOfMemory →
+        GivesMoreThan (vec_capacity offsets - vec_len offsets) I.next_gives lengths }
     ensures capacity { vec_capacity offsets ≤ vec_capacity result.0 }
 {
     let greatest = O::MAX as u128;

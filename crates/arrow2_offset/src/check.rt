@@ -43,7 +43,8 @@ pub fn broken_rule<O: Offset>(offsets: &[O]) -> Option<BrokenRule>
 pub(crate) fn try_check_offsets<O: Offset>(alloc: Global, offsets: &[O]) -> Result<()>
     ensures ok { OnOk result (AreOffsetsUpTo O.MAX (map O.value offsets.now)) }
     ensures accepted { AreOffsets (map O.value offsets.now) → IsOk result }
-    ensures refused { IfErr result (λ e. IsOutOfSpec e (why_not_offsets (map O.value offsets.now))) }
+    ensures refused { IfErr result (λ e.
+        IsOutOfSpec e (why_not_offsets (map O.value offsets.now))) }
 {
     match broken_rule(offsets) {
         None => Ok(()),
@@ -74,7 +75,9 @@ fn out_of_spec(alloc: Global, text: &str) -> Error
 
 /// Whether no item is below the one before it. Reads all of them, with no branch.
 fn is_rising<O: Offset>(offsets: &[O]) -> bool
-    ensures { IsTrue result ↔ ((k : ℕ) → k + 1 < length offsets.now → slice_index_or (map O.value offsets.now) k (pos 0) ≤ℤ slice_index_or (map O.value offsets.now) (k + 1) (pos 0)) }
+    ensures { IsTrue result ↔ ((k : ℕ) → k + 1 < length offsets.now →
+        slice_index_or (map O.value offsets.now) k (pos 0) ≤ℤ slice_index_or
+        (map O.value offsets.now) (k + 1) (pos 0)) }
 {
     let mut rising = true;
     for i in 1..offsets.len() {

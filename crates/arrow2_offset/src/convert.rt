@@ -20,7 +20,8 @@ use std::alloc::{AllocError, Global};
 impl TryFrom<Offsets<i32>> for Offsets<i64> {
     type Error = Error;
 
-    ghost try_from_gives = { λ offsets r. MatchResult r (λ o. SameOffsets offsets o × (last_of_growing o ≤ 2147483647)) (λ e. e ≡ OutOfMemory) };
+    ghost try_from_gives = { λ offsets r. MatchResult r (λ o. SameOffsets offsets o
+        × (last_of_growing o ≤ 2147483647)) (λ e. e ≡ OutOfMemory) };
 
     fn try_from(offsets: Offsets<i32>) -> Result<Self> {
         let offsets = offsets.into_inner();
@@ -37,7 +38,9 @@ impl TryFrom<Offsets<i32>> for Offsets<i64> {
 impl TryFrom<Offsets<i64>> for Offsets<i32> {
     type Error = Error;
 
-    ghost try_from_gives = { λ offsets r. MatchResult r (SameOffsets offsets) (λ e. (e ≡ Overflow) ⊎ (e ≡ OutOfMemory)) × (IsErrOf r Overflow ↔ (2147483647 < last_of_growing offsets)) };
+    ghost try_from_gives = { λ offsets r. MatchResult r (SameOffsets offsets) (λ e.
+        (e ≡ Overflow) ⊎ (e ≡ OutOfMemory))
+        × (IsErrOf r Overflow ↔ (2147483647 < last_of_growing offsets)) };
 
     fn try_from(offsets: Offsets<i64>) -> Result<Self> {
         if *offsets.last() > i64::from(i32::MAX) {
@@ -59,7 +62,9 @@ impl TryFrom<Offsets<i64>> for Offsets<i32> {
 impl<'a> TryFrom<&'a OffsetsBuffer<i32>> for OffsetsBuffer<i64> {
     type Error = Error;
 
-    ghost try_from_gives = { λ offsets r. MatchResult r (λ b. (b ≡ whole_buffer (buffer_items offsets.now)) × (last_of (buffer_items offsets.now) ≤ 2147483647)) (λ e. e ≡ OutOfMemory) };
+    ghost try_from_gives = { λ offsets r. MatchResult r (λ b.
+        (b ≡ whole_buffer (buffer_items offsets.now))
+        × (last_of (buffer_items offsets.now) ≤ 2147483647)) (λ e. e ≡ OutOfMemory) };
 
     fn try_from(offsets: &'a OffsetsBuffer<i32>) -> Result<Self> {
         let wide = widened(offsets.buffer().allocator(), offsets.as_slice())?;
@@ -75,7 +80,9 @@ impl<'a> TryFrom<&'a OffsetsBuffer<i32>> for OffsetsBuffer<i64> {
 impl<'a> TryFrom<&'a OffsetsBuffer<i64>> for OffsetsBuffer<i32> {
     type Error = Error;
 
-    ghost try_from_gives = { λ offsets r. MatchResult r (λ b. b ≡ whole_buffer (buffer_items offsets.now)) (λ e. (e ≡ Overflow) ⊎ (e ≡ OutOfMemory)) × (IsErrOf r Overflow ↔ (2147483647 < last_of (buffer_items offsets.now))) };
+    ghost try_from_gives = { λ offsets r. MatchResult r (λ b.
+        b ≡ whole_buffer (buffer_items offsets.now)) (λ e. (e ≡ Overflow) ⊎ (e ≡ OutOfMemory))
+        × (IsErrOf r Overflow ↔ (2147483647 < last_of (buffer_items offsets.now))) };
 
     fn try_from(offsets: &'a OffsetsBuffer<i64>) -> Result<Self> {
         if *offsets.last() > i64::from(i32::MAX) {

@@ -64,7 +64,9 @@ impl<O: Offset> OffsetsBuffer<O> {
     ///
     /// Differs from arrow2, which gives the whole storage of sliced offsets.
     pub fn into_mut(self) -> Either<Self, Offsets<O>>
-        ensures same { MatchEither result (λ b. b ≡ self) (λ o. (map pos (offsets_of o) ≡ buffer_items self) × (o.start ≡ start_of (buffer_items self)) × (o.lengths ≡ lengths_of (buffer_items self))) }
+        ensures same { MatchEither result (λ b. b ≡ self) (λ o.
+            (map pos (offsets_of o) ≡ buffer_items self) × (o.start ≡ start_of (buffer_items self))
+            × (o.lengths ≡ lengths_of (buffer_items self))) }
         ensures whole { MatchEither result (λ _. ⊤) (λ o. map pos (offsets_of o) ≡ self.storage) }
     {
         let OffsetsBuffer { buffer } = self;
@@ -103,7 +105,9 @@ impl<O: Offset> OffsetsBuffer<O> {
     pub fn as_slice(&self) -> &[O]
         ensures offsets { map O.value result.now ≡ buffer_items self.now }
         ensures valid { AreOffsets (buffer_items self.now) }
-        ensures spelled { buffer_items self.now ≡ map pos (offsets_list (start_of (buffer_items self.now)) (lengths_of (buffer_items self.now))) }
+        ensures spelled { buffer_items self.now
+            ≡ map pos (offsets_list (start_of (buffer_items self.now))
+            (lengths_of (buffer_items self.now))) }
         ensures fits { last_of (buffer_items self.now) ≤ O.MAX }
         ensures len { length result.now ≡ self.now.len }
     {
@@ -114,7 +118,8 @@ impl<O: Offset> OffsetsBuffer<O> {
 
     /// How far the last offset is above the first.
     pub fn range(&self) -> O
-        ensures value { O.value result ≡ pos (last_of (buffer_items self.now) - start_of (buffer_items self.now)) }
+        ensures value { O.value result ≡ pos (last_of (buffer_items self.now)
+            - start_of (buffer_items self.now)) }
         ensures lengths { O.value result ≡ pos (sum (lengths_of (buffer_items self.now))) }
     {
         O::from_as_usize(self.first().distance_to(*self.last()))
@@ -142,8 +147,10 @@ impl<O: Offset> OffsetsBuffer<O> {
     /// arrow2's documentation says [`OffsetsBuffer::len`].
     pub fn start_end(&self, index: usize) -> (usize, usize)
         requires { index < length (lengths_of (buffer_items self.now)) }
-        ensures start { result.0 ≡ offset_at (start_of (buffer_items self.now)) (lengths_of (buffer_items self.now)) index }
-        ensures end { result.1 ≡ result.0 + slice_index_or (lengths_of (buffer_items self.now)) index 0 }
+        ensures start { result.0 ≡ offset_at (start_of (buffer_items self.now))
+            (lengths_of (buffer_items self.now)) index }
+        ensures end { result.1 ≡ result.0
+            + slice_index_or (lengths_of (buffer_items self.now)) index 0 }
         ensures within { result.1 ≤ last_of (buffer_items self.now) }
     {
         let offsets = self.as_slice();
@@ -158,9 +165,15 @@ impl<O: Offset> OffsetsBuffer<O> {
         requires some { 0 < length }
         requires inside { offset + length ≤ count_of (buffer_items self.old) }
         ensures offsets { buffer_items self.new ≡ part (buffer_items self.old) offset length }
-        ensures storage { self.new ≡ record self.old { offset = self.old.offset + offset; len = length } }
-        ensures start { start_of (buffer_items self.new) ≡ offset_at (start_of (buffer_items self.old)) (lengths_of (buffer_items self.old)) offset }
-        ensures lengths { lengths_of (buffer_items self.new) ≡ part (lengths_of (buffer_items self.old)) offset (length - 1) }
+        ensures storage { self.new ≡ record self.old {
+          offset = self.old.offset + offset;
+          len = length;
+        } }
+        ensures start { start_of (buffer_items self.new)
+            ≡ offset_at (start_of (buffer_items self.old))
+            (lengths_of (buffer_items self.old)) offset }
+        ensures lengths { lengths_of (buffer_items self.new)
+            ≡ part (lengths_of (buffer_items self.old)) offset (length - 1) }
     {
         prove!(length <= self.buffer.len());
         self.buffer.slice(offset, length);
@@ -191,7 +204,10 @@ impl<O: Offset> OffsetsBuffer<O> {
 impl<O: Offset> TryFrom<Buffer<O>> for OffsetsBuffer<O> {
     type Error = Error;
 
-    ghost try_from_gives = { λ buffer r. MatchResult r (λ b. AreOffsets (buffer_items b) × (b ≡ numbers_of O.value buffer)) (λ e. (AreOffsets (map O.value (buffer_items buffer)) → ⊥) × IsOutOfSpec e (why_not_offsets (map O.value (buffer_items buffer)))) };
+    ghost try_from_gives = { λ buffer r. MatchResult r (λ b. AreOffsets (buffer_items b)
+        × (b ≡ numbers_of O.value buffer)) (λ e.
+        (AreOffsets (map O.value (buffer_items buffer)) → ⊥)
+        × IsOutOfSpec e (why_not_offsets (map O.value (buffer_items buffer)))) };
 
     fn try_from(buffer: Buffer<O>) -> Result<Self> {
         try_check_offsets(buffer.allocator(), buffer.as_slice())?;
@@ -208,7 +224,10 @@ impl<O: Offset> TryFrom<Buffer<O>> for OffsetsBuffer<O> {
 impl<O: Offset> TryFrom<Vec<O>> for OffsetsBuffer<O> {
     type Error = Error;
 
-    ghost try_from_gives = { λ items r. MatchResult r (λ b. AreOffsets (buffer_items b) × (b ≡ whole_buffer (map O.value items.items))) (λ e. IsOutOfSpec e (why_not_offsets (map O.value items.items)) × (AreOffsets (map O.value items.items) → e ≡ OutOfMemory)) };
+    ghost try_from_gives = { λ items r. MatchResult r (λ b. AreOffsets (buffer_items b)
+        × (b ≡ whole_buffer (map O.value items.items))) (λ e.
+        IsOutOfSpec e (why_not_offsets (map O.value items.items))
+        × (AreOffsets (map O.value items.items) → e ≡ OutOfMemory)) };
 
     fn try_from(offsets: Vec<O>) -> Result<Self> {
         OffsetsBuffer::try_from(Offsets::try_from(offsets)?)
@@ -225,7 +244,10 @@ impl<O: Offset> TryFrom<Vec<O>> for OffsetsBuffer<O> {
 impl<O: Offset> TryFrom<Offsets<O>> for OffsetsBuffer<O> {
     type Error = Error;
 
-    ghost try_from_gives = { λ offsets r. MatchResult r (λ b. (b ≡ whole_buffer (map pos (offsets_of offsets))) × (start_of (buffer_items b) ≡ offsets.start) × (lengths_of (buffer_items b) ≡ offsets.lengths)) (λ e. e ≡ OutOfMemory) };
+    ghost try_from_gives = { λ offsets r. MatchResult r (λ b.
+        (b ≡ whole_buffer (map pos (offsets_of offsets)))
+        × (start_of (buffer_items b) ≡ offsets.start)
+        × (lengths_of (buffer_items b) ≡ offsets.lengths)) (λ e. e ≡ OutOfMemory) };
 
     fn try_from(offsets: Offsets<O>) -> Result<Self> {
         let buffer = Buffer::try_from(offsets.into_inner())?;
@@ -254,7 +276,10 @@ impl<O: Offset> PartialEq for OffsetsBuffer<O> {
     fn eq(&self, other: &Self) -> bool
         ensures value { result ≡ on buffer_items (pointwise int_eq) self.now other.now }
         ensures lists { IsTrue result ↔ (buffer_items self.now ≡ buffer_items other.now) }
-        ensures spelled { result ≡ pointwise nat_eq (offsets_list (start_of (buffer_items self.now)) (lengths_of (buffer_items self.now))) (offsets_list (start_of (buffer_items other.now)) (lengths_of (buffer_items other.now))) }
+        ensures spelled { result ≡ pointwise nat_eq
+            (offsets_list (start_of (buffer_items self.now)) (lengths_of (buffer_items self.now)))
+            (offsets_list (start_of (buffer_items other.now))
+            (lengths_of (buffer_items other.now))) }
     {
         self.as_slice() == other.as_slice()
     }

@@ -6,35 +6,46 @@ ghost use Rattle.arrow2_offset.specs.Offsets.{running_sums, offsets_list, offset
 /// they spell.
 #[tactic(auto, using(crate::proofs::Listed::listed))]
 pub fn offsets_are_a_start_and_lengths()
-    ensures list { (xs : List ℤ) → AreOffsets xs → xs ≡ map pos (offsets_list (start_of xs) (lengths_of xs)) }
-    ensures offsets { (start : ℕ) (lengths : List ℕ) → AreOffsets (map pos (offsets_list start lengths)) }
-    ensures start { (start : ℕ) (lengths : List ℕ) → start_of (map pos (offsets_list start lengths)) ≡ start }
-    ensures lengths { (start : ℕ) (lengths : List ℕ) → lengths_of (map pos (offsets_list start lengths)) ≡ lengths }
+    ensures list { (xs : List ℤ) → AreOffsets xs →
+        xs ≡ map pos (offsets_list (start_of xs) (lengths_of xs)) }
+    ensures offsets { (start : ℕ) (lengths : List ℕ) →
+        AreOffsets (map pos (offsets_list start lengths)) }
+    ensures start { (start : ℕ) (lengths : List ℕ) →
+        start_of (map pos (offsets_list start lengths)) ≡ start }
+    ensures lengths { (start : ℕ) (lengths : List ℕ) →
+        lengths_of (map pos (offsets_list start lengths)) ≡ lengths }
 {}
 
 /// Offset k is the start and the sum of the first k lengths, and no offset is above the last one.
 #[tactic(auto, using(crate::proofs::Listed::listed))]
 pub fn offset_is_a_sum()
-    ensures sum { (start : ℕ) (lengths : List ℕ) (k : ℕ) → k ≤ length lengths → slice_index_or (offsets_list start lengths) k 0 ≡ offset_at start lengths k }
-    ensures last { (start : ℕ) (lengths : List ℕ) (k : ℕ) → offset_at start lengths k ≤ last_offset start lengths }
-    ensures count { (start : ℕ) (lengths : List ℕ) → length (offsets_list start lengths) ≡ length lengths + 1 }
+    ensures sum { (start : ℕ) (lengths : List ℕ) (k : ℕ) → k ≤ length lengths →
+        slice_index_or (offsets_list start lengths) k 0 ≡ offset_at start lengths k }
+    ensures last { (start : ℕ) (lengths : List ℕ) (k : ℕ) →
+        offset_at start lengths k ≤ last_offset start lengths }
+    ensures count { (start : ℕ) (lengths : List ℕ) →
+        length (offsets_list start lengths) ≡ length lengths + 1 }
 {}
 
 /// Appended lengths append the running sums from the last offset on, and change no other offset.
 #[tactic(auto, using(crate::proofs::Listed::listed))]
 pub fn appended_lengths_append_offsets()
-    ensures { (start : ℕ) (lengths others : List ℕ) → offsets_list start (lengths ++ others) ≡ offsets_list start lengths ++ running_sums (last_offset start lengths) others }
+    ensures { (start : ℕ) (lengths others : List ℕ) →
+        offsets_list start (lengths ++ others) ≡ offsets_list start lengths
+        ++ running_sums (last_offset start lengths) others }
 {}
 
 /// Lists of offsets are equal exactly if their starts and their lengths are.
 #[tactic(auto, using(crate::proofs::Listed::listed))]
 pub fn lists_tell_starts_and_lengths_apart()
-    ensures { (a b : ℕ) (ms ns : List ℕ) → offsets_list a ms ≡ offsets_list b ns ↔ ((a ≡ b) × (ms ≡ ns)) }
+    ensures { (a b : ℕ) (ms ns : List ℕ) →
+        offsets_list a ms ≡ offsets_list b ns ↔ ((a ≡ b) × (ms ≡ ns)) }
 {}
 
 /// What holds the same offsets as what holds the same offsets has the same list: so offsets of 32 bits, as
 /// offsets of 64 bits and back, are the same list.
 #[tactic(auto, using(crate::proofs::Listed::listed))]
 pub fn there_and_back_is_the_same_list()
-    ensures { (narrow wide back : GrowingOffsets) → SameOffsets narrow wide → SameOffsets wide back → offsets_of back ≡ offsets_of narrow }
+    ensures { (narrow wide back : GrowingOffsets) → SameOffsets narrow wide →
+        SameOffsets wide back → offsets_of back ≡ offsets_of narrow }
 {}

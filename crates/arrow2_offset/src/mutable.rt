@@ -42,7 +42,11 @@ impl<O: Offset> Model for Offsets<O> {
 
     ghost Value = { GrowingOffsets };
 
-    ghost view = { λ o. record { start = start_of (map O.value o.offsets.items); lengths = lengths_of (map O.value o.offsets.items); capacity = vec_capacity o.offsets - 1 } };
+    ghost view = { λ o. record {
+      start = start_of (map O.value o.offsets.items);
+      lengths = lengths_of (map O.value o.offsets.items);
+      capacity = vec_capacity o.offsets - 1;
+    } };
 
     ghost invariant = { λ o. AreOffsetsUpTo O.MAX (map O.value o.offsets.items) };
 }
@@ -103,10 +107,14 @@ impl<O: Offset> Offsets<O> {
     ///
     /// `Overflow` only where the sum of the lengths that came passes `O::MAX`, else `OutOfMemory` alone.
     pub fn try_from_iter<I: IntoIterator<Item = usize>>(alloc: Global, iter: I) -> Result<Self>
-        requires { (it : I.IntoIter) → I.into_iter_gives iter it → I.IntoIter.can_next it × IsFinite (I.IntoIter.remaining it) }
-        ensures ok { IfOk result (λ o. (it : I.IntoIter) × I.into_iter_gives iter it × WholeRun I.IntoIter.next_gives it (λ p. (o.start ≡ 0) × (o.lengths ≡ p.items))) }
+        requires { (it : I.IntoIter) → I.into_iter_gives iter it →
+            I.IntoIter.can_next it × IsFinite (I.IntoIter.remaining it) }
+        ensures ok { IfOk result (λ o. (it : I.IntoIter) × I.into_iter_gives iter it
+            × WholeRun I.IntoIter.next_gives it (λ p. (o.start ≡ 0) × (o.lengths ≡ p.items))) }
         ensures fits { IfOk result (λ o. last_of_growing o ≤ O.MAX) }
-        ensures overflow { IsErrOf result Error.Overflow → (it : I.IntoIter) × I.into_iter_gives iter it × GivesPast O.MAX 0 I.IntoIter.next_gives it }
+        ensures overflow { IsErrOf result Error.Overflow →
+            (it : I.IntoIter) × I.into_iter_gives iter it
+            × GivesPast O.MAX 0 I.IntoIter.next_gives it }
         ensures only { IfErr result (λ e. (e ≡ Error.Overflow) ⊎ (e ≡ Error.OutOfMemory)) }
     {
         Offsets::try_from_lengths(alloc, iter.into_iter())
@@ -123,7 +131,8 @@ impl<O: Offset> Offsets<O> {
     ) -> Result<Self>
         requires can { I.can_next lengths }
         requires ends { IsFinite (I.remaining lengths) }
-        ensures ok { IfOk result (λ o. WholeRun I.next_gives lengths (λ p. (o.start ≡ 0) × (o.lengths ≡ p.items))) }
+        ensures ok { IfOk result (λ o.
+            WholeRun I.next_gives lengths (λ p. (o.start ≡ 0) × (o.lengths ≡ p.items))) }
         ensures fits { IfOk result (λ o. last_of_growing o ≤ O.MAX) }
         ensures overflow { IsErrOf result Error.Overflow → GivesPast O.MAX 0 I.next_gives lengths }
         ensures only { IfErr result (λ e. (e ≡ Error.Overflow) ⊎ (e ≡ Error.OutOfMemory)) }
@@ -180,9 +189,11 @@ impl<O: Offset> Offsets<O> {
         requires { pos 0 ≤ℤ O.value length }
         ensures ok { OnOk result (GrownBy (unsigned_abs (O.value length) ∷ []) self.old self.new) }
         ensures err { OnErr result (SameOffsets self.old self.new) }
-        ensures overflow { IsErrOf result Error.Overflow ↔ (O.MAX < last_of_growing self.old + unsigned_abs (O.value length)) }
+        ensures overflow { IsErrOf result Error.Overflow ↔
+            (O.MAX < last_of_growing self.old + unsigned_abs (O.value length)) }
         ensures only { IfErr result (λ e. (e ≡ Error.Overflow) ⊎ (e ≡ Error.OutOfMemory)) }
-        ensures room { slots self.old < self.old.capacity → last_of_growing self.old + unsigned_abs (O.value length) ≤ O.MAX → IsOk result }
+        ensures room { slots self.old < self.old.capacity →
+            last_of_growing self.old + unsigned_abs (O.value length) ≤ O.MAX → IsOk result }
         ensures capacity { self.old.capacity ≤ self.new.capacity }
     {
         self.push_length(length.to_usize())?;
@@ -198,9 +209,11 @@ impl<O: Offset> Offsets<O> {
     pub fn try_push_usize(&mut self, length: usize) -> Result<()>
         ensures ok { OnOk result (GrownBy (length ∷ []) self.old self.new) }
         ensures err { OnErr result (SameOffsets self.old self.new) }
-        ensures overflow { IsErrOf result Error.Overflow ↔ (O.MAX < last_of_growing self.old + length) }
+        ensures overflow { IsErrOf result Error.Overflow ↔
+            (O.MAX < last_of_growing self.old + length) }
         ensures only { IfErr result (λ e. (e ≡ Error.Overflow) ⊎ (e ≡ Error.OutOfMemory)) }
-        ensures room { slots self.old < self.old.capacity → last_of_growing self.old + length ≤ O.MAX → IsOk result }
+        ensures room { slots self.old < self.old.capacity →
+            last_of_growing self.old + length ≤ O.MAX → IsOk result }
         ensures capacity { self.old.capacity ≤ self.new.capacity }
     {
         self.push_length(length)?;
@@ -222,11 +235,14 @@ impl<O: Offset> Offsets<O> {
     ) -> Result<()>
         requires can { I.can_next lengths }
         requires ends { IsFinite (I.remaining lengths) }
-        ensures ok { OnOk result (WholeRun I.next_gives lengths (λ p. GrownBy p.items self.old self.new)) }
+        ensures ok { OnOk result (WholeRun I.next_gives lengths (λ p.
+            GrownBy p.items self.old self.new)) }
         ensures fits { OnOk result (last_of_growing self.new ≤ O.MAX) }
         ensures err { OnErr result (SameOffsets self.old self.new) }
-        ensures overflow { IsErrOf result Error.Overflow → GivesPast O.MAX (last_of_growing self.old) I.next_gives lengths }
-        ensures room { IsErrOf result Error.OutOfMemory → GivesMoreThan (self.old.capacity - slots self.old) I.next_gives lengths }
+        ensures overflow { IsErrOf result Error.Overflow →
+            GivesPast O.MAX (last_of_growing self.old) I.next_gives lengths }
+        ensures room { IsErrOf result Error.OutOfMemory →
+            GivesMoreThan (self.old.capacity - slots self.old) I.next_gives lengths }
         ensures capacity { self.old.capacity ≤ self.new.capacity }
         ensures only { IfErr result (λ e. (e ≡ Error.Overflow) ⊎ (e ≡ Error.OutOfMemory)) }
     {
@@ -245,9 +261,11 @@ impl<O: Offset> Offsets<O> {
     pub fn try_extend_from_self(&mut self, other: &Self) -> Result<()>
         ensures ok { OnOk result (GrownBy other.now.lengths self.old self.new) }
         ensures err { OnErr result (SameOffsets self.old self.new) }
-        ensures overflow { IsErrOf result Error.Overflow ↔ (O.MAX < last_of_growing self.old + sum other.now.lengths) }
+        ensures overflow { IsErrOf result Error.Overflow ↔
+            (O.MAX < last_of_growing self.old + sum other.now.lengths) }
         ensures only { IfErr result (λ e. (e ≡ Error.Overflow) ⊎ (e ≡ Error.OutOfMemory)) }
-        ensures room { slots self.old + slots other.now ≤ self.old.capacity → last_of_growing self.old + sum other.now.lengths ≤ O.MAX → IsOk result }
+        ensures room { slots self.old + slots other.now ≤ self.old.capacity →
+            last_of_growing self.old + sum other.now.lengths ≤ O.MAX → IsOk result }
         ensures capacity { self.old.capacity ≤ self.new.capacity }
     {
         self.append(other.as_slice())?;
@@ -270,11 +288,16 @@ impl<O: Offset> Offsets<O> {
         length: usize,
     ) -> Result<()>
         requires inside { (length ≡ 0) ⊎ (start + length < count_of (buffer_items other.now)) }
-        ensures ok { OnOk result (GrownBy (part (lengths_of (buffer_items other.now)) start length) self.old self.new) }
+        ensures ok { OnOk result (GrownBy
+            (part (lengths_of (buffer_items other.now)) start length) self.old self.new) }
         ensures err { OnErr result (SameOffsets self.old self.new) }
-        ensures overflow { IsErrOf result Error.Overflow ↔ (O.MAX < last_of_growing self.old + sum (part (lengths_of (buffer_items other.now)) start length)) }
+        ensures overflow { IsErrOf result Error.Overflow ↔
+            (O.MAX < last_of_growing self.old
+            + sum (part (lengths_of (buffer_items other.now)) start length)) }
         ensures only { IfErr result (λ e. (e ≡ Error.Overflow) ⊎ (e ≡ Error.OutOfMemory)) }
-        ensures room { slots self.old + length ≤ self.old.capacity → last_of_growing self.old + sum (part (lengths_of (buffer_items other.now)) start length) ≤ O.MAX → IsOk result }
+        ensures room { slots self.old + length ≤ self.old.capacity →
+            last_of_growing self.old
+            + sum (part (lengths_of (buffer_items other.now)) start length) ≤ O.MAX → IsOk result }
         ensures capacity { self.old.capacity ≤ self.new.capacity }
     {
         // The field is read for what the type keeps: the last offset is at most `O::MAX`.
@@ -295,9 +318,11 @@ impl<O: Offset> Offsets<O> {
     pub fn extend_constant(&mut self, additional: usize) -> Result<()>
         ensures ok { OnOk result (GrownBy (replicate additional 0) self.old self.new) }
         ensures err { OnErr result (SameOffsets self.old self.new) }
-        ensures overflow { IsErrOf result Error.Overflow ↔ (2 ^ 64 ≤ slots self.old + 1 + additional) }
+        ensures overflow { IsErrOf result Error.Overflow ↔
+            (2 ^ 64 ≤ slots self.old + 1 + additional) }
         ensures only { IfErr result (λ e. (e ≡ Error.Overflow) ⊎ (e ≡ Error.OutOfMemory)) }
-        ensures room { slots self.old + additional ≤ self.old.capacity → 1 + slots self.old + additional < 2 ^ 64 → IsOk result }
+        ensures room { slots self.old + additional ≤ self.old.capacity →
+            1 + slots self.old + additional < 2 ^ 64 → IsOk result }
         ensures capacity { self.old.capacity ≤ self.new.capacity }
     {
         let Some(count) = self.offsets.len().checked_add(additional) else {
@@ -359,7 +384,8 @@ impl<O: Offset> Offsets<O> {
 
     /// Takes the last offset off and gives it back, or `None` where only the first is left.
     pub fn pop(&mut self) -> Option<O>
-        ensures last { MatchOption result (self.old.lengths ≡ []) (λ offset. (0 < slots self.old) × (O.value offset ≡ pos (last_of_growing self.old))) }
+        ensures last { MatchOption result (self.old.lengths ≡ []) (λ offset.
+            (0 < slots self.old) × (O.value offset ≡ pos (last_of_growing self.old))) }
         ensures start { self.new.start ≡ self.old.start }
         ensures lengths { self.new.lengths ≡ take (slots self.old - 1) self.old.lengths }
         ensures capacity { self.new.capacity ≡ self.old.capacity }
@@ -395,8 +421,10 @@ impl<O: Offset> Offsets<O> {
         ensures ok { OnOk result (GrownBy (length ∷ []) self.old self.new) }
         ensures fits { last_of_growing self.new ≤ O.MAX }
         ensures err { OnErr result (SameOffsets self.old self.new) }
-        ensures overflow { IsErrOf result refusal.Overflow ↔ (O.MAX < last_of_growing self.old + length) }
-        ensures room { slots self.old < self.old.capacity → last_of_growing self.old + length ≤ O.MAX → IsOk result }
+        ensures overflow { IsErrOf result refusal.Overflow ↔
+            (O.MAX < last_of_growing self.old + length) }
+        ensures room { slots self.old < self.old.capacity →
+            last_of_growing self.old + length ≤ O.MAX → IsOk result }
         ensures capacity { self.old.capacity ≤ self.new.capacity }
     {
         let last = self.last().to_usize();
@@ -445,11 +473,14 @@ impl<O: Offset> Offsets<O> {
     ) -> std::result::Result<(), Refusal>
         requires can { I.can_next lengths }
         requires ends { IsFinite (I.remaining lengths) }
-        ensures ok { OnOk result (WholeRun I.next_gives lengths (λ p. GrownBy p.items self.old self.new)) }
+        ensures ok { OnOk result (WholeRun I.next_gives lengths (λ p.
+            GrownBy p.items self.old self.new)) }
         ensures fits { OnOk result (last_of_growing self.new ≤ O.MAX) }
         ensures err { OnErr result (SameOffsets self.old self.new) }
-        ensures overflow { IsErrOf result refusal.Overflow → GivesPast O.MAX (last_of_growing self.old) I.next_gives lengths }
-        ensures room { IsErrOf result refusal.OutOfMemory → GivesMoreThan (self.old.capacity - slots self.old) I.next_gives lengths }
+        ensures overflow { IsErrOf result refusal.Overflow →
+            GivesPast O.MAX (last_of_growing self.old) I.next_gives lengths }
+        ensures room { IsErrOf result refusal.OutOfMemory →
+            GivesMoreThan (self.old.capacity - slots self.old) I.next_gives lengths }
         ensures capacity { self.old.capacity ≤ self.new.capacity }
     {
         append_lengths(&mut self.offsets, lengths)
@@ -458,10 +489,15 @@ impl<O: Offset> Offsets<O> {
     /// Appends the lengths between the offsets. Tests their sum before it asks for memory.
     fn append(&mut self, offsets: &[O]) -> std::result::Result<(), Refusal>
         requires { AreOffsets (map O.value offsets.now) }
-        ensures ok { OnOk result (GrownBy (lengths_of (map O.value offsets.now)) self.old self.new) }
+        ensures ok { OnOk result (GrownBy
+            (lengths_of (map O.value offsets.now)) self.old self.new) }
         ensures err { OnErr result (SameOffsets self.old self.new) }
-        ensures overflow { IsErrOf result refusal.Overflow ↔ (O.MAX < last_of_growing self.old + sum (lengths_of (map O.value offsets.now))) }
-        ensures room { slots self.old + length (lengths_of (map O.value offsets.now)) ≤ self.old.capacity → last_of_growing self.old + sum (lengths_of (map O.value offsets.now)) ≤ O.MAX → IsOk result }
+        ensures overflow { IsErrOf result refusal.Overflow ↔
+            (O.MAX < last_of_growing self.old + sum (lengths_of (map O.value offsets.now))) }
+        ensures room { slots self.old + length (lengths_of (map O.value offsets.now))
+            ≤ self.old.capacity →
+            last_of_growing self.old + sum (lengths_of (map O.value offsets.now)) ≤ O.MAX →
+            IsOk result }
         ensures capacity { self.old.capacity ≤ self.new.capacity }
     {
         let count = offsets.len() - 1;
@@ -486,7 +522,10 @@ impl<O: Offset> Offsets<O> {
 impl<O: Offset> TryFrom<Vec<O>> for Offsets<O> {
     type Error = Error;
 
-    ghost try_from_gives = { λ items r. MatchResult r (λ o. AreOffsets (map O.value items.items) × (o ≡ made_of (map O.value items.items) (vec_capacity items))) (λ e. (AreOffsets (map O.value items.items) → ⊥) × IsOutOfSpec e (why_not_offsets (map O.value items.items))) };
+    ghost try_from_gives = { λ items r. MatchResult r (λ o. AreOffsets (map O.value items.items)
+        × (o ≡ made_of (map O.value items.items) (vec_capacity items))) (λ e.
+        (AreOffsets (map O.value items.items) → ⊥)
+        × IsOutOfSpec e (why_not_offsets (map O.value items.items))) };
 
     fn try_from(offsets: Vec<O>) -> Result<Self> {
         try_check_offsets(*offsets.allocator(), offsets.as_slice())?;

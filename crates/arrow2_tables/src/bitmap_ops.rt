@@ -29,10 +29,18 @@ pub fn ternary<F: Fn(u64, u64, u64) -> u64>(
     requires callable { F.IsAlwaysCallable op }
     requires same_length2 { length' (items_of a1.now) ≡ length' (items_of a2.now) }
     requires same_length3 { length' (items_of a1.now) ≡ length' (items_of a3.now) }
-    ensures kernel { (f : ℕ → ℕ → ℕ → ℕ) → IsTernary 64 (λ x. x) (F.post op) f → IfOk result (λ b. items_of b ≡ ternary_kernel 64 f (items_of a1.now) (items_of a2.now) (items_of a3.now)) }
-    ensures table { (t : ℕ) → ActsTernary 64 (λ x. x) (F.post op) t → IfOk result (λ b. items_of b ≡ each t (items_of a1.now ∷ items_of a2.now ∷ items_of a3.now ∷ [])) }
+    ensures kernel { (f : ℕ → ℕ → ℕ → ℕ) → IsTernary 64 (λ x. x) (F.post op) f →
+        IfOk result (λ b.
+        items_of b ≡ ternary_kernel 64 f (items_of a1.now) (items_of a2.now) (items_of a3.now)) }
+    ensures table { (t : ℕ) → ActsTernary 64 (λ x. x) (F.post op) t →
+        IfOk result (λ b.
+        items_of b ≡ each t (items_of a1.now ∷ items_of a2.now ∷ items_of a3.now ∷ [])) }
     ensures len { IfOk result (λ b. length' (items_of b) ≡ length' (items_of a1.now)) }
-    ensures storage { IfOk result (λ b. b ≡ record { bytes = canonical_bytes (items_of b); offset = 0; len = length' (items_of a1.now) }) }
+    ensures storage { IfOk result (λ b. b ≡ record {
+      bytes = canonical_bytes (items_of b);
+      offset = 0;
+      len = length' (items_of a1.now);
+    }) }
     ensures only { IfErr result (λ e. e ≡ Error.OutOfMemory) }
 {
     let a1_words = OneList {
@@ -74,10 +82,20 @@ pub fn quaternary<F: Fn(u64, u64, u64, u64) -> u64>(
     requires same_length2 { length' (items_of a1.now) ≡ length' (items_of a2.now) }
     requires same_length3 { length' (items_of a1.now) ≡ length' (items_of a3.now) }
     requires same_length4 { length' (items_of a1.now) ≡ length' (items_of a4.now) }
-    ensures kernel { (f : ℕ → ℕ → ℕ → ℕ → ℕ) → IsQuaternary 64 (λ x. x) (F.post op) f → IfOk result (λ b. items_of b ≡ quaternary_kernel 64 f (items_of a1.now) (items_of a2.now) (items_of a3.now) (items_of a4.now)) }
-    ensures table { (t : ℕ) → ActsQuaternary 64 (λ x. x) (F.post op) t → IfOk result (λ b. items_of b ≡ each t (items_of a1.now ∷ items_of a2.now ∷ items_of a3.now ∷ items_of a4.now ∷ [])) }
+    ensures kernel { (f : ℕ → ℕ → ℕ → ℕ → ℕ) → IsQuaternary 64 (λ x. x) (F.post op) f →
+        IfOk result (λ b.
+        items_of b ≡ quaternary_kernel 64 f (items_of a1.now) (items_of a2.now)
+        (items_of a3.now) (items_of a4.now)) }
+    ensures table { (t : ℕ) → ActsQuaternary 64 (λ x. x) (F.post op) t →
+        IfOk result (λ b.
+        items_of b ≡ each t (items_of a1.now ∷ items_of a2.now ∷ items_of a3.now
+        ∷ items_of a4.now ∷ [])) }
     ensures len { IfOk result (λ b. length' (items_of b) ≡ length' (items_of a1.now)) }
-    ensures storage { IfOk result (λ b. b ≡ record { bytes = canonical_bytes (items_of b); offset = 0; len = length' (items_of a1.now) }) }
+    ensures storage { IfOk result (λ b. b ≡ record {
+      bytes = canonical_bytes (items_of b);
+      offset = 0;
+      len = length' (items_of a1.now);
+    }) }
     ensures only { IfErr result (λ e. e ≡ Error.OutOfMemory) }
 {
     let rows = Beside {
@@ -116,7 +134,8 @@ pub fn unary_table(a1: &Bitmap, t: u8) -> Result<Bitmap>
 pub fn binary_table(a1: &Bitmap, a2: &Bitmap, t: u8) -> Result<Bitmap>
     requires table { t < 16 }
     requires same_length { length' (items_of a1.now) ≡ length' (items_of a2.now) }
-    ensures items { IfOk result (λ b. items_of b ≡ each t (items_of a1.now ∷ items_of a2.now ∷ [])) }
+    ensures items { IfOk result (λ b. items_of b
+        ≡ each t (items_of a1.now ∷ items_of a2.now ∷ [])) }
     ensures len { IfOk result (λ b. length' (items_of b) ≡ length' (items_of a1.now)) }
     ensures only { IfErr result (λ e. e ≡ Error.OutOfMemory) }
 {
@@ -133,7 +152,8 @@ pub fn binary_table(a1: &Bitmap, a2: &Bitmap, t: u8) -> Result<Bitmap>
 pub fn ternary_table(a1: &Bitmap, a2: &Bitmap, a3: &Bitmap, t: u8) -> Result<Bitmap>
     requires same_length2 { length' (items_of a1.now) ≡ length' (items_of a2.now) }
     requires same_length3 { length' (items_of a1.now) ≡ length' (items_of a3.now) }
-    ensures items { IfOk result (λ b. items_of b ≡ each t (items_of a1.now ∷ items_of a2.now ∷ items_of a3.now ∷ [])) }
+    ensures items { IfOk result (λ b. items_of b
+        ≡ each t (items_of a1.now ∷ items_of a2.now ∷ items_of a3.now ∷ [])) }
     ensures len { IfOk result (λ b. length' (items_of b) ≡ length' (items_of a1.now)) }
     ensures only { IfErr result (λ e. e ≡ Error.OutOfMemory) }
 {
@@ -157,7 +177,8 @@ pub fn quaternary_table(
     requires same_length2 { length' (items_of a1.now) ≡ length' (items_of a2.now) }
     requires same_length3 { length' (items_of a1.now) ≡ length' (items_of a3.now) }
     requires same_length4 { length' (items_of a1.now) ≡ length' (items_of a4.now) }
-    ensures items { IfOk result (λ b. items_of b ≡ each t (items_of a1.now ∷ items_of a2.now ∷ items_of a3.now ∷ items_of a4.now ∷ [])) }
+    ensures items { IfOk result (λ b. items_of b
+        ≡ each t (items_of a1.now ∷ items_of a2.now ∷ items_of a3.now ∷ items_of a4.now ∷ [])) }
     ensures len { IfOk result (λ b. length' (items_of b) ≡ length' (items_of a1.now)) }
     ensures only { IfErr result (λ e. e ≡ Error.OutOfMemory) }
 {

@@ -39,7 +39,8 @@ impl<'a> WordRows<u64> for Pair<'a> {
 
     ghost length = { λ p. length p.lists.left.chunks.items };
 
-    ghost row_at = { λ p j. word 64 p.lists.left.chunks.items j ∷ word 64 p.lists.right.chunks.items j ∷ [] };
+    ghost row_at = { λ p j. word 64 p.lists.left.chunks.items j
+        ∷ word 64 p.lists.right.chunks.items j ∷ [] };
 
     ghost alike = { λ p. length p.lists.left.chunks.items ≡ length p.lists.right.chunks.items };
 

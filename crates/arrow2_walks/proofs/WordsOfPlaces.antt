@@ -84,7 +84,3 @@ module _ (items : List Bool) (offset at end place w held : ℕ) (value : Bool) (
             let e : place + (passed + i) ≡ place + passed + i = omega arith in
             bit_behind passed w i ∙ (read.same (passed + i) (omega arith) ∙ ap (λ t. get_or items (offset + t) false) e);
       }
-
--- nothing was read
-pub none_read : (items : List Bool) (offset end at w held : ℕ) → held ≡ 0 → at ≤ end → IsRead items offset end at w held
-none_read items offset end at w held none within = record { few = omega arith; within = omega arith; same = λ i l. absurd (omega arith) }

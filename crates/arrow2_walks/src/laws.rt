@@ -13,8 +13,16 @@ ghost use Rattle.arrow2_walks.specs.Slots.{slots_of_both, slots_of};
 /// slots from both ends, and stay of one length. `view` is what an item shows of the list, as for references.
 #[tactic(auto, using(crate::proofs::Slots::slots))]
 pub fn a_zip_walks_over_its_slots<I: Iterator, V: Iterator<Item = bool>, X>()
-    ensures first { (view : I.Item → X) (rest : I → List X) (valid : V → List Bool) (s t : ZipValidityIter I V) (r : Option (Option I.Item)) → HasEqualLengths rest valid s → zip_validity_steps (YieldsFirstBy view rest) (YieldsFirst valid) s r t → YieldsFirstBy (option_map view) (slots_of_both rest valid) s r t × HasEqualLengths rest valid t }
-    ensures last { (view : I.Item → X) (rest : I → List X) (valid : V → List Bool) (s t : ZipValidityIter I V) (r : Option (Option I.Item)) → HasEqualLengths rest valid s → zip_validity_steps (YieldsLastBy view rest) (YieldsLast valid) s r t → YieldsLastBy (option_map view) (slots_of_both rest valid) s r t × HasEqualLengths rest valid t }
+    ensures first { (view : I.Item → X) (rest : I → List X) (valid : V → List Bool)
+        (s t : ZipValidityIter I V) (r : Option (Option I.Item)) → HasEqualLengths rest valid s →
+        zip_validity_steps (YieldsFirstBy view rest) (YieldsFirst valid) s r t →
+        YieldsFirstBy (option_map view) (slots_of_both rest valid) s r t
+        × HasEqualLengths rest valid t }
+    ensures last { (view : I.Item → X) (rest : I → List X) (valid : V → List Bool)
+        (s t : ZipValidityIter I V) (r : Option (Option I.Item)) → HasEqualLengths rest valid s →
+        zip_validity_steps (YieldsLastBy view rest) (YieldsLast valid) s r t →
+        YieldsLastBy (option_map view) (slots_of_both rest valid) s r t
+        × HasEqualLengths rest valid t }
 {}
 
 /// The same where the validity may be missing: then each value makes a slot of its own.
@@ -24,8 +32,18 @@ pub fn a_zip_with_or_without_validity_walks_over_its_slots<
     V: Iterator<Item = bool>,
     X,
 >()
-    ensures first { (view : I.Item → X) (rest : I → List X) (valid : V → List Bool) (s t : ZipValidity I V) (r : Option (Option I.Item)) → MatchZip s (λ _. Unit {0}) (HasEqualLengths rest valid) → either_steps (YieldsFirstBy view rest) (YieldsFirst valid) s r t → YieldsFirstBy (option_map view) (slots_of rest valid) s r t × MatchZip t (λ _. Unit {0}) (HasEqualLengths rest valid) }
-    ensures last { (view : I.Item → X) (rest : I → List X) (valid : V → List Bool) (s t : ZipValidity I V) (r : Option (Option I.Item)) → MatchZip s (λ _. Unit {0}) (HasEqualLengths rest valid) → either_steps (YieldsLastBy view rest) (YieldsLast valid) s r t → YieldsLastBy (option_map view) (slots_of rest valid) s r t × MatchZip t (λ _. Unit {0}) (HasEqualLengths rest valid) }
+    ensures first { (view : I.Item → X) (rest : I → List X) (valid : V → List Bool)
+        (s t : ZipValidity I V) (r : Option (Option I.Item)) →
+        MatchZip s (λ _. Unit {0}) (HasEqualLengths rest valid) →
+        either_steps (YieldsFirstBy view rest) (YieldsFirst valid) s r t →
+        YieldsFirstBy (option_map view) (slots_of rest valid) s r t
+        × MatchZip t (λ _. Unit {0}) (HasEqualLengths rest valid) }
+    ensures last { (view : I.Item → X) (rest : I → List X) (valid : V → List Bool)
+        (s t : ZipValidity I V) (r : Option (Option I.Item)) →
+        MatchZip s (λ _. Unit {0}) (HasEqualLengths rest valid) →
+        either_steps (YieldsLastBy view rest) (YieldsLast valid) s r t →
+        YieldsLastBy (option_map view) (slots_of rest valid) s r t
+        × MatchZip t (λ _. Unit {0}) (HasEqualLengths rest valid) }
 {}
 
 /// The runs of a list are its maximal runs of true items, all of them, each once and rising; no other list is that.
@@ -38,7 +56,9 @@ pub fn runs_are_the_maximal_ones()
 /// A run ends before any later one begins, with a place between them: runs are disjoint, rising and not adjacent.
 #[tactic(auto, using(crate::proofs::RunLaws::runs_of_a_list))]
 pub fn runs_lie_apart()
-    ensures { (items : List Bool) (i j : ℕ) → i < j → j < length (runs items) → (slice_index_or (runs items) i (0, 0)).0 + (slice_index_or (runs items) i (0, 0)).1 < (slice_index_or (runs items) j (0, 0)).0 }
+    ensures { (items : List Bool) (i j : ℕ) → i < j → j < length (runs items) →
+        (slice_index_or (runs items) i (0, 0)).0 + (slice_index_or (runs items) i (0, 0)).1
+        < (slice_index_or (runs items) j (0, 0)).0 }
 {}
 
 /// The places in runs are those of the true items.

@@ -56,7 +56,8 @@ impl Pieces {
     pub fn len(&self) -> usize
         ensures pieces { result ≡ length self.now.pieces }
         ensures some { 0 < result }
-        ensures bound { let n = length (joined self.now.pieces) in 8 * self.now.reads ≤ 2 * (n * lg n) + 30 * (result - 1) }
+        ensures bound { let n = length (joined self.now.pieces) in
+            8 * self.now.reads ≤ 2 * (n * lg n) + 30 * (result - 1) }
     {
         let _ = &self.reads;
         self.bitmaps.len()
@@ -80,9 +81,11 @@ impl Pieces {
         requires below { p < length self.old.pieces }
         requires inside { i ≤ length (piece_at self.old.pieces p).items }
         ensures ok { OnOk result (self.new.pieces ≡ cut_at self.old.pieces p i) }
-        ensures reads { OnOk result (let old = piece_at self.old.pieces p in self.new.reads ≡ self.old.reads + cut_reads old.offset (length old.items) i) }
+        ensures reads { OnOk result (let old = piece_at self.old.pieces p in
+            self.new.reads ≡ self.old.reads + cut_reads old.offset (length old.items) i) }
         ensures joined { joined self.new.pieces ≡ joined self.old.pieces }
-        ensures bound { let n = length (joined self.old.pieces) in 8 * self.new.reads ≤ 2 * (n * lg n) + 30 * (length self.new.pieces - 1) }
+        ensures bound { let n = length (joined self.old.pieces) in
+            8 * self.new.reads ≤ 2 * (n * lg n) + 30 * (length self.new.pieces - 1) }
         ensures err { OnErr result (self.new ≡ self.old) }
         ensures only { IfErr result (λ e. e ≡ Error.OutOfMemory) }
     {
@@ -95,10 +98,14 @@ impl Pieces {
 fn cut_in_two(bitmaps: &mut Vec<Bitmap>, p: usize, i: usize, reads: &mut Reads) -> Result<()>
     requires below { p < length bitmaps.old.items }
     requires inside { i ≤ length (piece_at (map piece_of bitmaps.old.items) p).items }
-    ensures ok { OnOk result (map piece_of bitmaps.new.items ≡ cut_at (map piece_of bitmaps.old.items) p i) }
-    ensures reads { OnOk result (let old = piece_at (map piece_of bitmaps.old.items) p in reads.new ≡ reads.old + cut_reads old.offset (length old.items) i) }
-    ensures joined { joined (map piece_of bitmaps.new.items) ≡ joined (map piece_of bitmaps.old.items) }
-    ensures paid { IsPaid (map piece_of bitmaps.old.items) reads.old → IsPaid (map piece_of bitmaps.new.items) reads.new }
+    ensures ok { OnOk result (map piece_of bitmaps.new.items
+        ≡ cut_at (map piece_of bitmaps.old.items) p i) }
+    ensures reads { OnOk result (let old = piece_at (map piece_of bitmaps.old.items) p in
+        reads.new ≡ reads.old + cut_reads old.offset (length old.items) i) }
+    ensures joined { joined (map piece_of bitmaps.new.items)
+        ≡ joined (map piece_of bitmaps.old.items) }
+    ensures paid { IsPaid (map piece_of bitmaps.old.items) reads.old →
+        IsPaid (map piece_of bitmaps.new.items) reads.new }
     ensures err { OnErr result (bitmaps.new.items ≡ bitmaps.old.items) }
     ensures uncounted { OnErr result (reads.new ≡ reads.old) }
     ensures only { IfErr result (λ e. e ≡ Error.OutOfMemory) }

@@ -31,9 +31,14 @@ impl<'a> Model for SlicesIterator<'a> {
 
     ghost Value = { RunsLeft };
 
-    ghost view = { λ i. record { runs = runs_from (part (bits i.bytes.now) i.offset i.end) i.place.index; slots = i.slots } };
+    ghost view = { λ i. record {
+      runs = runs_from (part (bits i.bytes.now) i.offset i.end)
+          i.place.index;
+      slots = i.slots;
+    } };
 
-    ghost invariant = { λ i. IsRead (bits i.bytes.now) i.offset i.end i.place.index i.place.word i.place.held × (i.offset + i.end ≤ 8 * length i.bytes.now) };
+    ghost invariant = { λ i. IsRead (bits i.bytes.now) i.offset i.end i.place.index i.place.word
+        i.place.held × (i.offset + i.end ≤ 8 * length i.bytes.now) };
 }
 
 #[tactic(auto, using(crate::proofs::TakenRuns::taking_runs))]
@@ -41,7 +46,8 @@ impl<'a> SlicesIterator<'a> {
     /// The walk over all runs of the bitmap.
     pub fn new(values: &'a Bitmap) -> SlicesIterator<'a>
         ensures runs { result.runs ≡ runs (items_of values.entry.now) }
-        ensures slots { result.slots + falses (items_of values.entry.now) ≡ length (items_of values.entry.now) }
+        ensures slots { result.slots + falses (items_of values.entry.now)
+            ≡ length (items_of values.entry.now) }
     {
         let (bytes, offset, end) = values.as_slice();
         SlicesIterator {

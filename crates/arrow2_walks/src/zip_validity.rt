@@ -34,7 +34,9 @@ impl<I: Iterator, V: Iterator<Item = bool>> ZipValidityIter<I, V> {
 
 /// What a value and its validity make. `None` where either walk has ended.
 fn zip<X: Drop>(value: Option<X>, is_valid: Option<bool>) -> Option<Option<X>>
-    ensures { MatchOption result ((value ≡ None) ⊎ (is_valid ≡ None)) (λ item. (x : X) × (valid : Bool) × (value ≡ Some x) × (is_valid ≡ Some valid) × (item ≡ slot x valid)) }
+    ensures { MatchOption result ((value ≡ None) ⊎ (is_valid ≡ None)) (λ item.
+        (x : X) × (valid : Bool) × (value ≡ Some x) × (is_valid ≡ Some valid)
+        × (item ≡ slot x valid)) }
 {
     let value = value?;
     Some(is_valid?.then_some(value))
@@ -104,8 +106,10 @@ pub enum ZipValidity<I, V> {
 impl<I: Iterator, V: Iterator<Item = bool>> ZipValidity<I, V> {
     /// `Optional` exactly where a validity is given. Asks that it has equally many items.
     pub fn new(values: I, validity: Option<V>) -> ZipValidity<I, V>
-        requires same_length { ForSome validity (λ v. GiveEquallyMany I.next_gives V.next_gives values v) }
-        ensures { MatchOption validity (IsRequiredAnd result (λ i. i ≡ values)) (λ v. IsOptionalAnd result (λ both. (values_of both ≡ values) × (validity_of both ≡ v))) }
+        requires same_length { ForSome validity (λ v.
+            GiveEquallyMany I.next_gives V.next_gives values v) }
+        ensures { MatchOption validity (IsRequiredAnd result (λ i. i ≡ values)) (λ v.
+            IsOptionalAnd result (λ both. (values_of both ≡ values) × (validity_of both ≡ v))) }
     {
         match validity {
             Some(validity) => ZipValidity::Optional(ZipValidityIter::new(values, validity)),
@@ -149,10 +153,14 @@ impl<'a, I: Iterator> ZipValidity<I, BitmapIter<'a>> {
         values: I,
         validity: Option<&'a Bitmap>,
     ) -> ZipValidity<I, BitmapIter<'a>>
-        requires same_length { ForSome validity (λ b. GivesAsMany I.next_gives values (length (items_of b.now))) }
+        requires same_length { ForSome validity (λ b.
+            GivesAsMany I.next_gives values (length (items_of b.now))) }
         ensures none { validity.entry ≡ None → IsRequiredAnd result (λ i. i ≡ values) }
-        ensures all_set { ForSome validity.entry (λ b. falses (items_of b.now) ≡ 0 → IsRequiredAnd result (λ i. i ≡ values)) }
-        ensures some_unset { ForSome validity.entry (λ b. 0 < falses (items_of b.now) → IsOptionalAnd result (λ both. (values_of both ≡ values) × (validity_of both ≡ items_of b.now))) }
+        ensures all_set { ForSome validity.entry (λ b. falses (items_of b.now) ≡ 0 →
+            IsRequiredAnd result (λ i. i ≡ values)) }
+        ensures some_unset { ForSome validity.entry (λ b. 0 < falses (items_of b.now) →
+            IsOptionalAnd result (λ both. (values_of both ≡ values)
+            × (validity_of both ≡ items_of b.now))) }
     {
         match validity {
             Some(validity) if validity.unset_bits() > 0 => {
@@ -169,7 +177,8 @@ where
 {
     type Item = Option<I::Item>;
 
-    ghost can_next = { λ s. MatchZip s I.can_next (λ both. I.can_next (values_of both) × V.can_next (validity_of both)) };
+    ghost can_next = { λ s. MatchZip s I.can_next (λ both. I.can_next (values_of both)
+        × V.can_next (validity_of both)) };
 
     ghost next_gives = { either_steps I.next_gives V.next_gives };
 
@@ -196,7 +205,8 @@ impl<I: DoubleEndedIterator, V: DoubleEndedIterator<Item = bool>> DoubleEndedIte
 where
     I::Item: Drop,
 {
-    ghost can_next_back = { λ s. MatchZip s I.can_next_back (λ both. I.can_next_back (values_of both) × V.can_next_back (validity_of both)) };
+    ghost can_next_back = { λ s. MatchZip s I.can_next_back (λ both.
+        I.can_next_back (values_of both) × V.can_next_back (validity_of both)) };
 
     ghost next_back_gives = { either_steps I.next_back_gives V.next_back_gives };
 
