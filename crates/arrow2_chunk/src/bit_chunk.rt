@@ -134,7 +134,8 @@ pub trait BitChunk: PrimInt + NativeType {
     // The bytes of `NativeType` are those of the number.
     ghost digits_law: { (x : Self) → Self.le_digits x ≡ digits Self.SIZE (pos (number x)) };
 
-    ghost number_law: { (bytes : List ℕ) → number (Self.of_le bytes) ≡ natural_from Self.SIZE bytes };
+    ghost number_law: { (bytes : List ℕ) → number (Self.of_le bytes)
+        ≡ natural_from Self.SIZE bytes };
 }
 
 #[tactic(auto, using(arrow2_model::proofs::Chunks::chunks, arrow2_model::proofs::Chunks::chunk_bytes, crate::proofs::Ones::set_bits, arrow2_model::proofs::Counts::counted_words, arrow2_model::proofs::Digits::u8_bytes))]

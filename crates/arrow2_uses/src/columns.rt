@@ -73,7 +73,8 @@ impl<T: NativeType> Column<T> {
     /// `OutOfMemory`, or `Overflow` where the places are more than bits can be.
     pub fn take(&self, places: &[usize]) -> Result<Column<T>>
         requires inside { All (λ place. place < length' self.now) places.now }
-        ensures ok { IfOk result (λ c. c ≡ map (λ place. slice_index_or self.now place None) places.now) }
+        ensures ok { IfOk result (λ c.
+            c ≡ map (λ place. slice_index_or self.now place None) places.now) }
         ensures only { IfErr result (λ e. (e ≡ Error.Overflow) ⊎ (e ≡ Error.OutOfMemory)) }
     {
         let mut taken = ColumnBuilder::new(self.validity.allocator());

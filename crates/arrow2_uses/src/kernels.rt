@@ -14,7 +14,8 @@ use arrow2::error::{Error, Result};
 /// `OutOfMemory` alone.
 pub fn without(bitmap: &Bitmap, other: &Bitmap) -> Result<Bitmap>
     requires same_length { length (items_of bitmap.now) ≡ length (items_of other.now) }
-    ensures items { IfOk result (λ b. items_of b ≡ each 2 (items_of bitmap.now ∷ items_of other.now ∷ [])) }
+    ensures items { IfOk result (λ b. items_of b
+        ≡ each 2 (items_of bitmap.now ∷ items_of other.now ∷ [])) }
     ensures only { IfErr result (λ e. e ≡ Error.OutOfMemory) }
 {
     binary_table(bitmap, other, 2)
@@ -34,7 +35,8 @@ pub fn remove(bitmap: &mut MutableBitmap, other: &Bitmap)
 ///
 /// `OutOfMemory` alone.
 pub fn next_words(bitmap: &Bitmap) -> Result<Bitmap>
-    ensures items { IfOk result (λ b. items_of b ≡ unary_kernel 64 (λ x. (x + 1) % 2 ^ 64) (items_of bitmap.now)) }
+    ensures items { IfOk result (λ b. items_of b
+        ≡ unary_kernel 64 (λ x. (x + 1) % 2 ^ 64) (items_of bitmap.now)) }
     ensures only { IfErr result (λ e. e ≡ Error.OutOfMemory) }
 {
     unary(bitmap, |x| x.wrapping_add(1))

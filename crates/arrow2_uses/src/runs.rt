@@ -18,7 +18,8 @@ use std::alloc::Global;
 /// `OutOfMemory` alone.
 pub fn valid_values(alloc: Global, values: &[i64], validity: &Bitmap) -> Result<Vec<i64>>
     requires same_length { length (items_of validity.now) ≡ length values.now }
-    ensures ok { IfOk result (λ valid. valid.items ≡ flat_map (λ run. part values.now run.0 run.1) (runs (items_of validity.now))) }
+    ensures ok { IfOk result (λ valid. valid.items
+        ≡ flat_map (λ run. part values.now run.0 run.1) (runs (items_of validity.now))) }
     ensures only { IfErr result (λ e. e ≡ Error.OutOfMemory) }
 {
     laws::walks::runs_lie_inside();

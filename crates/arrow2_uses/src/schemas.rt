@@ -8,7 +8,8 @@ use arrow2::laws;
 
 /// The first `count` columns, or all where there are fewer.
 pub fn first_columns(schema: Schema, count: usize) -> Schema
-    ensures columns { result.fields.items ≡ accepted (λ place _. nat_lt place count) schema.fields.items }
+    ensures columns { result.fields.items ≡ accepted (λ place _.
+        nat_lt place count) schema.fields.items }
     ensures metadata { result.metadata ≡ schema.metadata }
 {
     schema.filter(|place, _| place < count)
@@ -16,7 +17,8 @@ pub fn first_columns(schema: Schema, count: usize) -> Schema
 
 /// The columns in which nulls may stand.
 pub fn nullable_columns(schema: Schema) -> Schema
-    ensures columns { result.fields.items ≡ accepted (λ _ field. field.is_nullable) schema.fields.items }
+    ensures columns { result.fields.items ≡ accepted (λ _ field.
+        field.is_nullable) schema.fields.items }
     ensures metadata { result.metadata ≡ schema.metadata }
 {
     schema.filter(|_, field| field.is_nullable)

@@ -21,7 +21,8 @@ use std::alloc::Global;
 /// `Overflow` where the bytes are too many for offsets of 32 bits, else `OutOfMemory`.
 pub fn gather(alloc: Global, texts: &[&str]) -> Result<(OffsetsBuffer<i32>, Buffer<u8>)>
     ensures offsets { IfOk result (λ r. start_of (buffer_items r.0) ≡ 0) }
-    ensures lengths { IfOk result (λ r. lengths_of (buffer_items r.0) ≡ map (λ text. length text.now) texts.now) }
+    ensures lengths { IfOk result (λ r. lengths_of (buffer_items r.0)
+        ≡ map (λ text. length text.now) texts.now) }
     ensures bytes { IfOk result (λ r. buffer_items r.1 ≡ flat_map (λ text. text.now) texts.now) }
     ensures inside { IfOk result (λ r. last_of (buffer_items r.0) ≡ length (buffer_items r.1)) }
     ensures only { IfErr result (λ e. (e ≡ Error.Overflow) ⊎ (e ≡ Error.OutOfMemory)) }
@@ -39,7 +40,9 @@ pub fn gather(alloc: Global, texts: &[&str]) -> Result<(OffsetsBuffer<i32>, Buff
 pub fn text_at<'a>(offsets: &OffsetsBuffer<i32>, bytes: &'a Buffer<u8>, index: usize) -> &'a [u8]
     requires below { index < length (lengths_of (buffer_items offsets.now)) }
     requires inside { last_of (buffer_items offsets.now) ≤ length (buffer_items bytes.now) }
-    ensures { result.now ≡ part (buffer_items bytes.now) (offset_at (start_of (buffer_items offsets.now)) (lengths_of (buffer_items offsets.now)) index) (slice_index_or (lengths_of (buffer_items offsets.now)) index 0) }
+    ensures { result.now ≡ part (buffer_items bytes.now)
+        (offset_at (start_of (buffer_items offsets.now)) (lengths_of (buffer_items offsets.now))
+        index) (slice_index_or (lengths_of (buffer_items offsets.now)) index 0) }
 {
     let (start, end) = offsets.start_end(index);
     &bytes.as_slice()[start..end]
@@ -55,8 +58,10 @@ pub fn valid_lengths(
     offsets: &OffsetsBuffer<i32>,
     validity: &Bitmap,
 ) -> Result<Vec<Option<usize>>>
-    requires same_length { length (lengths_of (buffer_items offsets.now)) ≡ length (items_of validity.now) }
-    ensures lengths { IfOk result (λ v. v.items ≡ zipped (lengths_of (buffer_items offsets.now)) (items_of validity.now)) }
+    requires same_length { length (lengths_of (buffer_items offsets.now))
+        ≡ length (items_of validity.now) }
+    ensures lengths { IfOk result (λ v.
+        v.items ≡ zipped (lengths_of (buffer_items offsets.now)) (items_of validity.now)) }
     ensures only { IfErr result (λ e. e ≡ Error.OutOfMemory) }
 {
     let slots = ZipValidityIter::new(offsets.lengths(), validity.iter());
