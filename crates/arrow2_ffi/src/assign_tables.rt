@@ -123,7 +123,8 @@ pub extern "C" fn arrow2_quaternary_assign_table(
     ensures only { (result ≡ ARROW2_OK) ⊎ (result ≡ ARROW2_RANGE) ⊎ (result ≡ ARROW2_LENGTH) }
     ensures ok { result ≡ ARROW2_OK → take length (bits bytes.new) ≡ each table
         (take length (bits bytes.old) ∷ part (bits second.now) second_offset length
-        ∷ part (bits third.now) third_offset length ∷ part (bits fourth.now) fourth_offset length ∷ []) }
+        ∷ part (bits third.now) third_offset length
+        ∷ part (bits fourth.now) fourth_offset length ∷ []) }
     ensures canonical { result ≡ ARROW2_OK → IsCanonical bytes.new length }
     ensures refused { result ≢ ARROW2_OK → bytes.new ≡ bytes.old }
 {

@@ -31,17 +31,24 @@ pub extern "C" fn arrow2_and_kleene(
     validity: &mut [u8],
 ) -> u32
     ensures range { result ≡ ARROW2_RANGE ↔ ¬ (
-        IsInside left.now left_offset length × IsInside left_validity.now left_validity_offset length
-        × IsInside right.now right_offset length × IsInside right_validity.now right_validity_offset length) }
+        IsInside left.now left_offset length
+        × IsInside left_validity.now left_validity_offset length
+        × IsInside right.now right_offset length
+        × IsInside right_validity.now right_validity_offset length) }
     ensures length { result ≡ ARROW2_LENGTH ↔
         ((result ≢ ARROW2_RANGE) × ¬ (Holds values.old length × Holds validity.old length)) }
     ensures only { (result ≡ ARROW2_OK) ⊎ (result ≡ ARROW2_RANGE) ⊎ (result ≡ ARROW2_LENGTH) }
     ensures ok { result ≡ ARROW2_OK →
-        zipped (take length (bits values.new)) (take length (bits validity.new)) ≡ by_items kleene_and
-        (zipped (part (bits left.now) left_offset length) (part (bits left_validity.now) left_validity_offset length))
-        (zipped (part (bits right.now) right_offset length) (part (bits right_validity.now) right_validity_offset length)) }
-    ensures canonical { result ≡ ARROW2_OK → IsCanonical values.new length × IsCanonical validity.new length }
-    ensures refused { result ≢ ARROW2_OK → (values.new ≡ values.old) × (validity.new ≡ validity.old) }
+        zipped (take length (bits values.new)) (take length (bits validity.new))
+        ≡ by_items kleene_and
+        (zipped (part (bits left.now) left_offset length)
+        (part (bits left_validity.now) left_validity_offset length))
+        (zipped (part (bits right.now) right_offset length)
+        (part (bits right_validity.now) right_validity_offset length)) }
+    ensures canonical { result ≡ ARROW2_OK → IsCanonical values.new length
+        × IsCanonical validity.new length }
+    ensures refused { result ≢ ARROW2_OK → (values.new ≡ values.old)
+        × (validity.new ≡ validity.old) }
 {
     by_tables(
         left,
@@ -77,17 +84,24 @@ pub extern "C" fn arrow2_or_kleene(
     validity: &mut [u8],
 ) -> u32
     ensures range { result ≡ ARROW2_RANGE ↔ ¬ (
-        IsInside left.now left_offset length × IsInside left_validity.now left_validity_offset length
-        × IsInside right.now right_offset length × IsInside right_validity.now right_validity_offset length) }
+        IsInside left.now left_offset length
+        × IsInside left_validity.now left_validity_offset length
+        × IsInside right.now right_offset length
+        × IsInside right_validity.now right_validity_offset length) }
     ensures length { result ≡ ARROW2_LENGTH ↔
         ((result ≢ ARROW2_RANGE) × ¬ (Holds values.old length × Holds validity.old length)) }
     ensures only { (result ≡ ARROW2_OK) ⊎ (result ≡ ARROW2_RANGE) ⊎ (result ≡ ARROW2_LENGTH) }
     ensures ok { result ≡ ARROW2_OK →
-        zipped (take length (bits values.new)) (take length (bits validity.new)) ≡ by_items kleene_or
-        (zipped (part (bits left.now) left_offset length) (part (bits left_validity.now) left_validity_offset length))
-        (zipped (part (bits right.now) right_offset length) (part (bits right_validity.now) right_validity_offset length)) }
-    ensures canonical { result ≡ ARROW2_OK → IsCanonical values.new length × IsCanonical validity.new length }
-    ensures refused { result ≢ ARROW2_OK → (values.new ≡ values.old) × (validity.new ≡ validity.old) }
+        zipped (take length (bits values.new)) (take length (bits validity.new))
+        ≡ by_items kleene_or
+        (zipped (part (bits left.now) left_offset length)
+        (part (bits left_validity.now) left_validity_offset length))
+        (zipped (part (bits right.now) right_offset length)
+        (part (bits right_validity.now) right_validity_offset length)) }
+    ensures canonical { result ≡ ARROW2_OK → IsCanonical values.new length
+        × IsCanonical validity.new length }
+    ensures refused { result ≢ ARROW2_OK → (values.new ≡ values.old)
+        × (validity.new ≡ validity.old) }
 {
     by_tables(
         left,
@@ -124,17 +138,25 @@ fn by_tables(
     known: u16,
 ) -> u32
     ensures range { result ≡ ARROW2_RANGE ↔ ¬ (
-        IsInside left.now left_offset length × IsInside left_validity.now left_validity_offset length
-        × IsInside right.now right_offset length × IsInside right_validity.now right_validity_offset length) }
+        IsInside left.now left_offset length
+        × IsInside left_validity.now left_validity_offset length
+        × IsInside right.now right_offset length
+        × IsInside right_validity.now right_validity_offset length) }
     ensures length { result ≡ ARROW2_LENGTH ↔
         ((result ≢ ARROW2_RANGE) × ¬ (Holds values.old length × Holds validity.old length)) }
     ensures only { (result ≡ ARROW2_OK) ⊎ (result ≡ ARROW2_RANGE) ⊎ (result ≡ ARROW2_LENGTH) }
-    ensures ok { (f : Option Bool → Option Bool → Option Bool) → Spells t known f → result ≡ ARROW2_OK →
-        zipped (take length (bits values.new)) (take length (bits validity.new)) ≡ by_items f
-        (zipped (part (bits left.now) left_offset length) (part (bits left_validity.now) left_validity_offset length))
-        (zipped (part (bits right.now) right_offset length) (part (bits right_validity.now) right_validity_offset length)) }
-    ensures canonical { result ≡ ARROW2_OK → IsCanonical values.new length × IsCanonical validity.new length }
-    ensures refused { result ≢ ARROW2_OK → (values.new ≡ values.old) × (validity.new ≡ validity.old) }
+    ensures ok { (f : Option Bool → Option Bool → Option Bool) → Spells t known f →
+        result ≡ ARROW2_OK →
+        zipped (take length (bits values.new)) (take length (bits validity.new))
+        ≡ by_items f
+        (zipped (part (bits left.now) left_offset length)
+        (part (bits left_validity.now) left_validity_offset length))
+        (zipped (part (bits right.now) right_offset length)
+        (part (bits right_validity.now) right_validity_offset length)) }
+    ensures canonical { result ≡ ARROW2_OK → IsCanonical values.new length
+        × IsCanonical validity.new length }
+    ensures refused { result ≢ ARROW2_OK → (values.new ≡ values.old)
+        × (validity.new ≡ validity.old) }
 {
     if !are_inside(left, left_offset, length)
         || !are_inside(left_validity, left_validity_offset, length)

@@ -12,7 +12,8 @@ use arrow2_index::offset::Offset;
 /// Whether the numbers are offsets, and else which rule they break first.
 pub(crate) fn check<O: Offset>(offsets: &[O]) -> u32
     ensures ok { result ≡ ARROW2_OK ↔ AreOffsets (map O.value offsets.now) }
-    ensures broken { result ≢ ARROW2_OK → result ≡ rule_code (first_broken (map O.value offsets.now)) }
+    ensures broken { result ≢ ARROW2_OK →
+        result ≡ rule_code (first_broken (map O.value offsets.now)) }
 {
     match refusal(offsets) {
         None => ARROW2_OK,
@@ -47,7 +48,8 @@ pub(crate) fn sums<O: Offset>(start: usize, lengths: &[usize], offsets: &mut [O]
     ensures overflow { result ≡ ARROW2_OVERFLOW ↔
         ((result ≢ ARROW2_LENGTH) × (O.MAX < last_offset start lengths.now)) }
     ensures only { (result ≡ ARROW2_OK) ⊎ (result ≡ ARROW2_LENGTH) ⊎ (result ≡ ARROW2_OVERFLOW) }
-    ensures ok { result ≡ ARROW2_OK → map O.value offsets.new ≡ map pos (offsets_list start lengths.now) }
+    ensures ok { result ≡ ARROW2_OK → map O.value offsets.new
+        ≡ map pos (offsets_list start lengths.now) }
     ensures refused { result ≢ ARROW2_OK → offsets.new ≡ offsets.old }
 {
     if offsets.is_empty() || offsets.len() - 1 != lengths.len() {

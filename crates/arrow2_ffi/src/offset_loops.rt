@@ -13,7 +13,8 @@ use arrow2_offset::{BrokenRule, broken_rule};
 pub(crate) fn refusal<O: Offset>(offsets: &[O]) -> Option<u32>
     ensures none { IfNone result (AreOffsetsUpTo O.MAX (map O.value offsets.now)) }
     ensures accepted { AreOffsets (map O.value offsets.now) → IsNone result }
-    ensures broken { IfSome result (λ code. code ≡ rule_code (first_broken (map O.value offsets.now))) }
+    ensures broken { IfSome result (λ code.
+        code ≡ rule_code (first_broken (map O.value offsets.now))) }
 {
     match broken_rule(offsets) {
         None => None,
@@ -74,7 +75,9 @@ pub(crate) fn write_part<O: Offset>(offsets: &[O], from: usize, out: &mut [O])
     requires are { AreOffsetsUpTo O.MAX (map O.value offsets.now) }
     requires some { 0 < length out.old }
     requires inside { from + length out.old ≤ length offsets.now }
-    ensures { map O.value out.new ≡ map pos (offsets_list 0 (part (lengths_of (map O.value offsets.now)) from (length out.old - 1))) }
+    ensures { map O.value out.new
+        ≡ map pos (offsets_list 0
+        (part (lengths_of (map O.value offsets.now)) from (length out.old - 1))) }
 {
     let first = offsets[from];
     for i in 0..out.len() {

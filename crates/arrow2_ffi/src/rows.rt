@@ -38,7 +38,10 @@ fn assign_answers<S: WordRows<u64>, F: Fn(u64, S::Row) -> u64>(
     requires length { S.length rows ≡ length }
     requires exact { Holds bytes.old length }
     ensures canonical { IsCanonical bytes.new length }
-    ensures items { (t : ℕ) (lists : List (List Bool)) → ActsBesideRows 64 S.words (λ x. x) (F.post op) t → ((j : ℕ) → S.row_at rows j ≡ words_at 64 lists j) → take length (bits bytes.new) ≡ each t (take length (bits bytes.old) ∷ lists) }
+    ensures items { (t : ℕ) (lists : List (List Bool)) →
+        ActsBesideRows 64 S.words (λ x. x) (F.post op) t →
+        ((j : ℕ) → S.row_at rows j ≡ words_at 64 lists j) →
+        take length (bits bytes.new) ≡ each t (take length (bits bytes.old) ∷ lists) }
 {
     assign_rows(bytes, length, rows, op);
 }
@@ -65,7 +68,8 @@ pub(crate) fn assign_two(bytes: &mut [u8], length: usize, other: &[u8], offset: 
     requires exact { Holds bytes.old length }
     requires inside { IsInside other.now offset length }
     ensures canonical { IsCanonical bytes.new length }
-    ensures items { take length (bits bytes.new) ≡ each t (take length (bits bytes.old) ∷ part (bits other.now) offset length ∷ []) }
+    ensures items { take length (bits bytes.new)
+        ≡ each t (take length (bits bytes.old) ∷ part (bits other.now) offset length ∷ []) }
 {
     if offset % 8 == 0 {
         assign_binary(bytes, &other[offset / 8..], length, t);
@@ -95,7 +99,9 @@ pub(crate) fn assign_three(
     requires second { IsInside second.now second_offset length }
     requires third { IsInside third.now third_offset length }
     ensures canonical { IsCanonical bytes.new length }
-    ensures items { take length (bits bytes.new) ≡ each t (take length (bits bytes.old) ∷ part (bits second.now) second_offset length ∷ part (bits third.now) third_offset length ∷ []) }
+    ensures items { take length (bits bytes.new)
+        ≡ each t (take length (bits bytes.old) ∷ part (bits second.now) second_offset length
+        ∷ part (bits third.now) third_offset length ∷ []) }
 {
     let left = words(second, second_offset, length);
     let right = words(third, third_offset, length);
@@ -124,7 +130,10 @@ pub(crate) fn assign_four(
     requires third { IsInside third.now third_offset length }
     requires fourth { IsInside fourth.now fourth_offset length }
     ensures canonical { IsCanonical bytes.new length }
-    ensures items { take length (bits bytes.new) ≡ each t (take length (bits bytes.old) ∷ part (bits second.now) second_offset length ∷ part (bits third.now) third_offset length ∷ part (bits fourth.now) fourth_offset length ∷ []) }
+    ensures items { take length (bits bytes.new)
+        ≡ each t (take length (bits bytes.old) ∷ part (bits second.now) second_offset length
+        ∷ part (bits third.now) third_offset length
+        ∷ part (bits fourth.now) fourth_offset length ∷ []) }
 {
     let left = words(second, second_offset, length);
     let middle = words(third, third_offset, length);

@@ -22,7 +22,8 @@ pub extern "C" fn arrow2_runs(
     lengths: &mut [usize],
     count: &mut usize,
 ) -> u32
-    ensures range { result ≡ ARROW2_RANGE ↔ ¬ (IsInside bytes.now offset length × (at.old ≤ length)) }
+    ensures range { result ≡ ARROW2_RANGE ↔
+        ¬ (IsInside bytes.now offset length × (at.old ≤ length)) }
     ensures length { result ≡ ARROW2_LENGTH ↔
         ((result ≢ ARROW2_RANGE) × (length' starts.old ≢ length' lengths.old)) }
     ensures only { (result ≡ ARROW2_OK) ⊎ (result ≡ ARROW2_RANGE) ⊎ (result ≡ ARROW2_LENGTH) }
@@ -65,7 +66,8 @@ fn write_runs(
         ++ runs_from (part (bits bytes.now) offset end) result.1
         ≡ runs_from (part (bits bytes.now) offset end) at }
     ensures most { result.0 ≤ length' starts.old }
-    ensures last { result.0 < length' starts.old → runs_from (part (bits bytes.now) offset end) result.1 ≡ [] }
+    ensures last { result.0 < length' starts.old →
+        runs_from (part (bits bytes.now) offset end) result.1 ≡ [] }
     ensures goes_on { result.1 ≤ end }
 {
     let mut place = Place {

@@ -58,7 +58,8 @@ pub extern "C" fn arrow2_binary_table(
     ensures length { result ≡ ARROW2_LENGTH ↔ ((result ≢ ARROW2_RANGE) × ¬ Holds out.old length) }
     ensures only { (result ≡ ARROW2_OK) ⊎ (result ≡ ARROW2_RANGE) ⊎ (result ≡ ARROW2_LENGTH) }
     ensures ok { result ≡ ARROW2_OK → take length (bits out.new) ≡ each table
-        (part (bits first.now) first_offset length ∷ part (bits second.now) second_offset length ∷ []) }
+        (part (bits first.now) first_offset length
+        ∷ part (bits second.now) second_offset length ∷ []) }
     ensures canonical { result ≡ ARROW2_OK → IsCanonical out.new length }
     ensures refused { result ≢ ARROW2_OK → out.new ≡ out.old }
 {
@@ -145,7 +146,8 @@ pub extern "C" fn arrow2_quaternary_table(
     ensures only { (result ≡ ARROW2_OK) ⊎ (result ≡ ARROW2_RANGE) ⊎ (result ≡ ARROW2_LENGTH) }
     ensures ok { result ≡ ARROW2_OK → take length (bits out.new) ≡ each table
         (part (bits first.now) first_offset length ∷ part (bits second.now) second_offset length
-        ∷ part (bits third.now) third_offset length ∷ part (bits fourth.now) fourth_offset length ∷ []) }
+        ∷ part (bits third.now) third_offset length
+        ∷ part (bits fourth.now) fourth_offset length ∷ []) }
     ensures canonical { result ≡ ARROW2_OK → IsCanonical out.new length }
     ensures refused { result ≢ ARROW2_OK → out.new ≡ out.old }
 {
