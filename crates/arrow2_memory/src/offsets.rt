@@ -71,12 +71,11 @@ fn buffer(shared: &OffsetsBuffer<i32>) -> [Row<Buffer<i32>>; 1] {
     )]
 }
 
-/// Offsets that are frozen, a buffer that is offsets, and one that is none.
-fn moved(
-    offsets: Offsets<i32>,
-    buffer: Buffer<i32>,
-    empty: Buffer<i32>,
-) -> [Row<OffsetsBuffer<i32>>; 3] {
+/// Offsets, a buffer that is offsets, and one that is none.
+type Moved = (Offsets<i32>, Buffer<i32>, Buffer<i32>);
+
+/// They are frozen, or refused.
+fn moved((offsets, buffer, empty): Moved) -> [Row<OffsetsBuffer<i32>>; 3] {
     [
         (
             "TryFrom<Offsets<O>> for OffsetsBuffer<O>",
@@ -239,8 +238,8 @@ fn five_shared_wide(alloc: Global) -> Result<OffsetsBuffer<i64>> {
     OffsetsBuffer::try_from(five_wide(alloc)?)
 }
 
-/// Offsets, a buffer that is offsets, and one that is none.
-fn to_move(alloc: Global) -> Result<(Offsets<i32>, Buffer<i32>, Buffer<i32>)> {
+/// What is moved.
+fn to_move(alloc: Global) -> Result<Moved> {
     Ok((
         five(alloc)?,
         five_shared(alloc)?.into_inner(),
@@ -262,10 +261,9 @@ fn of_items<R: Print + Eprint>(rt: &R, alloc: Global) -> Result<()> {
 
 /// Offsets that are frozen, and buffers that are offsets or not.
 fn frozen_or_refused<R: Print + Eprint>(rt: &R, alloc: Global) -> Result<()> {
-    let (offsets, buffer, empty) = to_move(alloc).or(to_move(alloc))?;
-    let first = moved(offsets, buffer, empty);
-    let (offsets, buffer, empty) = to_move(alloc).or(to_move(alloc))?;
-    made(rt, &first, &moved(offsets, buffer, empty));
+    let first = to_move(alloc).or(to_move(alloc))?;
+    let second = to_move(alloc).or(to_move(alloc))?;
+    made(rt, &moved(first), &moved(second));
     Ok(())
 }
 
