@@ -11,29 +11,42 @@ ghost use Rattle.arrow2_script.specs.declared.words.Width.{Width};
 /// A script's lines hold no line end, and each followed by one they are the script; no other lines are.
 pub fn lines_of_a_script()
     ensures are { (script : List ℕ) → AreLines script (lines_of script) }
-    ensures only { (script : List ℕ) (lines : List (List ℕ)) → AreLines script lines → lines ≡ lines_of script }
+    ensures only { (script : List ℕ) (lines : List (List ℕ)) → AreLines script lines →
+        lines ≡ lines_of script }
 {}
 
 /// A line's words are not empty, hold no space, and joined by one space they are the line; no other words are.
 pub fn words_of_a_line()
-    ensures { (line : List ℕ) (words : List (List ℕ)) → 0 < length words → (words_of line ≡ words) ↔ AreWords line words }
+    ensures { (line : List ℕ) (words : List (List ℕ)) → 0 < length words →
+        (words_of line ≡ words) ↔ AreWords line words }
 {}
 
 /// A word says a number, a slot, a slot or none, a table, a bit, a text of bits, a list of numbers, bytes or a width
 /// exactly where it is the one word that spells it.
 pub fn one_word_of_a_value()
-    ensures number { (word : List ℕ) (n : ℕ) → (number_of word ≡ Some n) ↔ ((n < 2 ^ 64) × (decimal n ≡ word)) }
-    ensures slot { (word : List ℕ) (n : ℕ) → (slot_of word ≡ Some n) ↔ ((n < 16) × (decimal n ≡ word)) }
-    ensures optional_slot { (word : List ℕ) (slot : Option ℕ) → (optional_slot_of word ≡ Some slot) ↔ (IfSome slot (λ n. n < 16) × (optional_slot_word slot ≡ word)) }
-    ensures table { (bound : ℕ) (word : List ℕ) (n : ℕ) → bound ≤ 2 ^ 64 → (below_of bound word ≡ Some n) ↔ ((n < bound) × (decimal n ≡ word)) }
-    ensures bit { (word : List ℕ) (bit : Bool) → (bit_of word ≡ Some bit) ↔ (bit_byte bit ∷ [] ≡ word) }
-    ensures bits { (word : List ℕ) (items : List Bool) → (bits_of word ≡ Some items) ↔ (bits_text items ≡ word) }
-    ensures numbers { (word ns : List ℕ) → (numbers_of word ≡ Some ns) ↔ (All (λ n. n < 2 ^ 64) ns × (numbers_text ns ≡ word)) }
-    ensures bytes { (word bytes : List ℕ) → (bytes_of word ≡ Some bytes) ↔ (All (λ b. b < 256) bytes × (hex_text bytes ≡ word)) }
-    ensures width { (word : List ℕ) (width : Width) → (width_of word ≡ Some width) ↔ (width_word width ≡ word) }
+    ensures number { (word : List ℕ) (n : ℕ) → (number_of word ≡ Some n) ↔
+        ((n < 2 ^ 64) × (decimal n ≡ word)) }
+    ensures slot { (word : List ℕ) (n : ℕ) → (slot_of word ≡ Some n) ↔
+        ((n < 16) × (decimal n ≡ word)) }
+    ensures optional_slot { (word : List ℕ) (slot : Option ℕ) →
+        (optional_slot_of word ≡ Some slot) ↔
+        (IfSome slot (λ n. n < 16) × (optional_slot_word slot ≡ word)) }
+    ensures table { (bound : ℕ) (word : List ℕ) (n : ℕ) → bound ≤ 2 ^ 64 →
+        (below_of bound word ≡ Some n) ↔ ((n < bound) × (decimal n ≡ word)) }
+    ensures bit { (word : List ℕ) (bit : Bool) → (bit_of word ≡ Some bit) ↔
+        (bit_byte bit ∷ [] ≡ word) }
+    ensures bits { (word : List ℕ) (items : List Bool) → (bits_of word ≡ Some items) ↔
+        (bits_text items ≡ word) }
+    ensures numbers { (word ns : List ℕ) → (numbers_of word ≡ Some ns) ↔
+        (All (λ n. n < 2 ^ 64) ns × (numbers_text ns ≡ word)) }
+    ensures bytes { (word bytes : List ℕ) → (bytes_of word ≡ Some bytes) ↔
+        (All (λ b. b < 256) bytes × (hex_text bytes ≡ word)) }
+    ensures width { (word : List ℕ) (width : Width) → (width_of word ≡ Some width) ↔
+        (width_word width ≡ word) }
 {}
 
 /// A line says a command exactly where it is that command's words, joined by one space.
 pub fn one_line_of_a_command()
-    ensures { (line : List ℕ) (command : Command) → (command_in line ≡ Some command) ↔ IsSpelling line command }
+    ensures { (line : List ℕ) (command : Command) → (command_in line ≡ Some command) ↔
+        IsSpelling line command }
 {}

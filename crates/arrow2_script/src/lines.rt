@@ -10,7 +10,8 @@ use std::marker::Model;
 /// The bytes before the first `byte`, and those behind it where there is one.
 fn cut_at(bytes: &[u8], byte: u8) -> (&[u8], Option<&[u8]>)
     ensures free { All (λ b. b ≢ byte) result.0.now }
-    ensures joined { MatchOption result.1 (bytes.now ≡ result.0.now) (λ after. bytes.now ≡ result.0.now ++ byte ∷ after.now) }
+    ensures joined { MatchOption result.1 (bytes.now ≡ result.0.now) (λ after.
+        bytes.now ≡ result.0.now ++ byte ∷ after.now) }
 {
     match memchr(byte, bytes) {
         Some(at) => (&bytes[..at], Some(&bytes[at + 1..])),

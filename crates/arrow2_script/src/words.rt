@@ -20,7 +20,8 @@ pub trait Word<'a>: Drop {
 
 /// Whether a sign or a leading zero keeps a word from being a number.
 fn is_padded(word: &[u8]) -> bool
-    ensures { IsTrue result ↔ ((0 < length word.now × slice_index word.now 0 ≡ 43) ⊎ (1 < length word.now × slice_index word.now 0 ≡ 48)) }
+    ensures { IsTrue result ↔ ((0 < length word.now × slice_index word.now 0 ≡ 43)
+        ⊎ (1 < length word.now × slice_index word.now 0 ≡ 48)) }
 {
     (!word.is_empty() && word[0] == b'+') || (word.len() > 1 && word[0] == b'0')
 }

@@ -23,7 +23,8 @@ fn zeros(alloc: Global, len: usize) -> Result<Vec<u8>, AllocError>
 ///
 /// `Read` exactly where a call of the reader failed, else `Memory`.
 pub fn read_all<R: Read>(alloc: Global, reader: &mut Watched<R>) -> Result<Vec<u8>, ReplayFault>
-    ensures bytes { IfOk result (λ v. Consumes (R.remaining reader.old.inner) (R.remaining reader.new.inner) v.items) }
+    ensures bytes { IfOk result (λ v.
+        Consumes (R.remaining reader.old.inner) (R.remaining reader.new.inner) v.items) }
     ensures end { OnOk result (IsAtEnd (R.remaining reader.new.inner)) }
     ensures fault { IsErrOf result ReplayFault.Read ↔ reader.old.failed < reader.new.failed }
     ensures only { IfErr result (λ e. e ≢ ReplayFault.Write) }
@@ -39,7 +40,8 @@ fn read_through<R: Read>(
     buffer: &mut [u8],
 ) -> Result<Vec<u8>, ReplayFault>
     requires { 0 < length buffer.old }
-    ensures bytes { IfOk result (λ v. Consumes (R.remaining reader.old.inner) (R.remaining reader.new.inner) v.items) }
+    ensures bytes { IfOk result (λ v.
+        Consumes (R.remaining reader.old.inner) (R.remaining reader.new.inner) v.items) }
     ensures end { OnOk result (IsAtEnd (R.remaining reader.new.inner)) }
     ensures fault { IsErrOf result ReplayFault.Read ↔ reader.old.failed < reader.new.failed }
     ensures only { IfErr result (λ e. e ≢ ReplayFault.Write) }
@@ -62,8 +64,10 @@ fn read_through<R: Read>(
 ///
 /// `Write` exactly where a call of the writer failed. What was written is a beginning of the bytes then.
 pub fn write_all<W: Write>(writer: &mut Watched<W>, bytes: &[u8]) -> Result<(), ReplayFault>
-    ensures ok { OnOk result (Appends (W.contents writer.old.inner) (W.contents writer.new.inner) bytes.now) }
-    ensures begins { (n : ℕ) × Appends (W.contents writer.old.inner) (W.contents writer.new.inner) (take n bytes.now) }
+    ensures ok { OnOk result (Appends (W.contents writer.old.inner)
+        (W.contents writer.new.inner) bytes.now) }
+    ensures begins { (n : ℕ) × Appends (W.contents writer.old.inner)
+        (W.contents writer.new.inner) (take n bytes.now) }
     ensures flushed { OnOk result (writer.new.unflushed ≡ 0) }
     ensures fault { IsErrOf result ReplayFault.Write ↔ writer.old.failed < writer.new.failed }
     ensures only { IfErr result (λ e. e ≡ ReplayFault.Write) }

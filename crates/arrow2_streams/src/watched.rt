@@ -60,7 +60,8 @@ impl<R: Read> Read for Watched<R> {
 
     fn read(&mut self, buf: &mut [u8]) -> io::Result<usize>
         ensures bound { ReadsAtMost result buf.new }
-        ensures bytes { ReadConsumes (R.remaining self.old.inner) (R.remaining self.new.inner) result buf.new }
+        ensures bytes { ReadConsumes (R.remaining self.old.inner)
+            (R.remaining self.new.inner) result buf.new }
         ensures failed { self.new.failed ≡ self.old.failed + (if is_err result then 1 else 0) }
     {
         let result = self.inner.read(buf);
@@ -76,8 +77,10 @@ impl<W: Write> Write for Watched<W> {
 
     fn write(&mut self, buf: &[u8]) -> io::Result<usize>
         ensures bound { WritesAtMost result buf.now }
-        ensures bytes { WriteAppends (W.contents self.old.inner) (W.contents self.new.inner) result buf.now }
-        ensures failed { self.new.failed ≡ self.old.failed + (if write_failed result (length buf.now) then 1 else 0) }
+        ensures bytes { WriteAppends (W.contents self.old.inner)
+            (W.contents self.new.inner) result buf.now }
+        ensures failed { self.new.failed ≡ self.old.failed
+            + (if write_failed result (length buf.now) then 1 else 0) }
         ensures unflushed { self.new.unflushed ≡ self.old.unflushed + 1 }
     {
         self.unflushed.add(1);
