@@ -21,9 +21,11 @@ pub(crate) fn run(
     command: ArrayCommand,
     reply: &mut Vec<u8>,
 ) -> Result<(), CommandError>
-    ensures ok { OnOk result (IsOkAnd (array_outcome slots.old command) (λ after. (slots.new ≡ after.0) × (reply.new.items ≡ reply.old.items ++ after.1))) }
+    ensures ok { OnOk result (IsOkAnd (array_outcome slots.old command) (λ after.
+        (slots.new ≡ after.0) × (reply.new.items ≡ reply.old.items ++ after.1))) }
     ensures refused { IfErr result (λ e. Fails e (array_outcome slots.old command)) }
-    ensures err { IfErr result (λ e. e ≢ CommandError.OutOfMemory → (slots.new ≡ slots.old) × (reply.new.items ≡ reply.old.items)) }
+    ensures err { IfErr result (λ e. e ≢ CommandError.OutOfMemory →
+        (slots.new ≡ slots.old) × (reply.new.items ≡ reply.old.items)) }
 {
     match command {
         ArrayCommand::New(to, values, validity) => {
@@ -66,7 +68,8 @@ fn array_of(
     values: SlotIndex,
     validity: Option<SlotIndex>,
 ) -> Result<BooleanArray, CommandError>
-    ensures { Gives (λ array. array) result (arrayed (at slots.now values) (option_map (at slots.now) validity)) }
+    ensures { Gives (λ array. array) result
+        (arrayed (at slots.now values) (option_map (at slots.now) validity)) }
 {
     let array = match validity {
         Some(validity) => {
@@ -88,7 +91,8 @@ fn both_true(
     left: SlotIndex,
     right: SlotIndex,
 ) -> Result<BooleanArray, CommandError>
-    ensures { Gives (λ array. array) result (both_true_of (at slots.now left) (at slots.now right)) }
+    ensures { Gives (λ array. array) result
+        (both_true_of (at slots.now left) (at slots.now right)) }
 {
     let (left, right) = two_of(slots, left, right)?;
     Ok(left.and_kleene(right)?)
@@ -120,7 +124,8 @@ fn two_of(
     first: SlotIndex,
     second: SlotIndex,
 ) -> Result<(&BooleanArray, &BooleanArray), CommandError>
-    ensures gives { Gives (λ a. (a.0.now, a.1.now)) result (two_arrays (at slots.now first) (at slots.now second)) }
+    ensures gives { Gives (λ a. (a.0.now, a.1.now)) result
+        (two_arrays (at slots.now first) (at slots.now second)) }
     ensures same_length { IfOk result (λ a. count_of a.0.now ≡ count_of a.1.now) }
     ensures only { IfErr result (λ e. e ≢ CommandError.OutOfMemory) }
 {
@@ -155,9 +160,11 @@ impl Slot {
     ///
     /// `Kind`, which changes nothing, or `OutOfMemory`, after which a part of the text may be there.
     pub fn write_array(&self, out: &mut Vec<u8>) -> Result<(), CommandError>
-        ensures ok { OnOk result (IsOkAnd (array_text self.now) (λ text. out.new.items ≡ out.old.items ++ text)) }
+        ensures ok { OnOk result (IsOkAnd (array_text self.now) (λ text.
+            out.new.items ≡ out.old.items ++ text)) }
         ensures refused { IfErr result (λ e. Fails e (array_text self.now)) }
-        ensures err { IfErr result (λ e. e ≢ CommandError.OutOfMemory → out.new.items ≡ out.old.items) }
+        ensures err { IfErr result (λ e. e ≢ CommandError.OutOfMemory →
+            out.new.items ≡ out.old.items) }
     {
         write_array_items(self.array()?.iter(), out)?;
         Ok(())

@@ -26,9 +26,11 @@ pub(crate) fn run(
     command: BitmapCommand<'_>,
     reply: &mut Vec<u8>,
 ) -> Result<(), CommandError>
-    ensures ok { OnOk result (IsOkAnd (bitmap_outcome slots.old command.entry) (λ after. (slots.new ≡ after.0) × (reply.new.items ≡ reply.old.items ++ after.1))) }
+    ensures ok { OnOk result (IsOkAnd (bitmap_outcome slots.old command.entry) (λ after.
+        (slots.new ≡ after.0) × (reply.new.items ≡ reply.old.items ++ after.1))) }
     ensures refused { IfErr result (λ e. Fails e (bitmap_outcome slots.old command.entry)) }
-    ensures err { IfErr result (λ e. e ≢ CommandError.OutOfMemory → (slots.new ≡ slots.old) × (reply.new.items ≡ reply.old.items)) }
+    ensures err { IfErr result (λ e. e ≢ CommandError.OutOfMemory →
+        (slots.new ≡ slots.old) × (reply.new.items ≡ reply.old.items)) }
 {
     match command {
         BitmapCommand::New(slot, bits) => slots[slot.get()] = Slot::with_bits(alloc, &bits)?,
@@ -193,9 +195,11 @@ impl Slot {
     ///
     /// `Kind`, which changes nothing, or `OutOfMemory`, after which a part of the text may be there.
     pub fn write_bits(&self, out: &mut Vec<u8>) -> Result<(), CommandError>
-        ensures ok { OnOk result (IsOkAnd (item_text self.now) (λ text. out.new.items ≡ out.old.items ++ text)) }
+        ensures ok { OnOk result (IsOkAnd (item_text self.now) (λ text.
+            out.new.items ≡ out.old.items ++ text)) }
         ensures refused { IfErr result (λ e. Fails e (item_text self.now)) }
-        ensures err { IfErr result (λ e. e ≢ CommandError.OutOfMemory → out.new.items ≡ out.old.items) }
+        ensures err { IfErr result (λ e. e ≢ CommandError.OutOfMemory →
+            out.new.items ≡ out.old.items) }
     {
         match &self.contents {
             Contents::Frozen(bitmap) => write_items(bitmap.iter(), out)?,

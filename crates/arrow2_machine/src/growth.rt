@@ -17,9 +17,11 @@ pub(crate) fn run(
     command: GrowthCommand,
     reply: &mut Vec<u8>,
 ) -> Result<(), CommandError>
-    ensures ok { OnOk result (IsOkAnd (growth_outcome slots.old command) (λ after. (slots.new ≡ after.0) × (reply.new.items ≡ reply.old.items ++ after.1))) }
+    ensures ok { OnOk result (IsOkAnd (growth_outcome slots.old command) (λ after.
+        (slots.new ≡ after.0) × (reply.new.items ≡ reply.old.items ++ after.1))) }
     ensures refused { IfErr result (λ e. Fails e (growth_outcome slots.old command)) }
-    ensures err { IfErr result (λ e. e ≢ CommandError.OutOfMemory → (slots.new ≡ slots.old) × (reply.new.items ≡ reply.old.items)) }
+    ensures err { IfErr result (λ e. e ≢ CommandError.OutOfMemory →
+        (slots.new ≡ slots.old) × (reply.new.items ≡ reply.old.items)) }
 {
     match command {
         GrowthCommand::Fill(slot, additional, bit) => slots[slot.get()].fill(additional, bit)?,

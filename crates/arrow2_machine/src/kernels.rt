@@ -23,9 +23,11 @@ pub(crate) fn run(
     command: KernelCommand,
     reply: &mut Vec<u8>,
 ) -> Result<(), CommandError>
-    ensures ok { OnOk result (IsOkAnd (kernel_outcome slots.old command) (λ after. (slots.new ≡ after.0) × (reply.new.items ≡ reply.old.items ++ after.1))) }
+    ensures ok { OnOk result (IsOkAnd (kernel_outcome slots.old command) (λ after.
+        (slots.new ≡ after.0) × (reply.new.items ≡ reply.old.items ++ after.1))) }
     ensures refused { IfErr result (λ e. Fails e (kernel_outcome slots.old command)) }
-    ensures err { IfErr result (λ e. e ≢ CommandError.OutOfMemory → (slots.new ≡ slots.old) × (reply.new.items ≡ reply.old.items)) }
+    ensures err { IfErr result (λ e. e ≢ CommandError.OutOfMemory →
+        (slots.new ≡ slots.old) × (reply.new.items ≡ reply.old.items)) }
 {
     match command {
         KernelCommand::Make(to, kernel) => {
@@ -98,7 +100,8 @@ pub(crate) fn two(
     first: SlotIndex,
     second: SlotIndex,
 ) -> Result<(&Bitmap, &Bitmap), CommandError>
-    ensures gives { Gives (λ b. (items_of b.0.now, items_of b.1.now)) result (two_lists (at slots.now first) (at slots.now second)) }
+    ensures gives { Gives (λ b. (items_of b.0.now, items_of b.1.now)) result
+        (two_lists (at slots.now first) (at slots.now second)) }
     ensures same_length { IfOk result (λ b. length (items_of b.0.now) ≡ length (items_of b.1.now)) }
     ensures only { IfErr result (λ e. e ≢ CommandError.OutOfMemory) }
 {
@@ -122,9 +125,12 @@ fn three(
     second: SlotIndex,
     third: SlotIndex,
 ) -> Result<(&Bitmap, &Bitmap, &Bitmap), CommandError>
-    ensures gives { Gives (λ b. (items_of b.0.now, items_of b.1.now, items_of b.2.now)) result (three_lists (at slots.now first) (at slots.now second) (at slots.now third)) }
-    ensures same_length2 { IfOk result (λ b. length (items_of b.0.now) ≡ length (items_of b.1.now)) }
-    ensures same_length3 { IfOk result (λ b. length (items_of b.0.now) ≡ length (items_of b.2.now)) }
+    ensures gives { Gives (λ b. (items_of b.0.now, items_of b.1.now, items_of b.2.now)) result
+        (three_lists (at slots.now first) (at slots.now second) (at slots.now third)) }
+    ensures same_length2 { IfOk result (λ b. length (items_of b.0.now)
+        ≡ length (items_of b.1.now)) }
+    ensures same_length3 { IfOk result (λ b. length (items_of b.0.now)
+        ≡ length (items_of b.2.now)) }
     ensures only { IfErr result (λ e. e ≢ CommandError.OutOfMemory) }
 {
     let first = slots[first.get()].frozen()?;
@@ -149,10 +155,19 @@ fn four(
     third: SlotIndex,
     fourth: SlotIndex,
 ) -> Result<(&Bitmap, &Bitmap, &Bitmap, &Bitmap), CommandError>
-    ensures gives { Gives (λ b. (items_of b.0.now, items_of b.1.now, items_of b.2.now, items_of b.3.now)) result (four_lists (at slots.now first) (at slots.now second) (at slots.now third) (at slots.now fourth)) }
-    ensures same_length2 { IfOk result (λ b. length (items_of b.0.now) ≡ length (items_of b.1.now)) }
-    ensures same_length3 { IfOk result (λ b. length (items_of b.0.now) ≡ length (items_of b.2.now)) }
-    ensures same_length4 { IfOk result (λ b. length (items_of b.0.now) ≡ length (items_of b.3.now)) }
+    ensures gives { Gives (λ b. (
+      items_of b.0.now,
+      items_of b.1.now,
+      items_of b.2.now,
+      items_of b.3.now,
+    )) result (four_lists (at slots.now first) (at slots.now second)
+        (at slots.now third) (at slots.now fourth)) }
+    ensures same_length2 { IfOk result (λ b. length (items_of b.0.now)
+        ≡ length (items_of b.1.now)) }
+    ensures same_length3 { IfOk result (λ b. length (items_of b.0.now)
+        ≡ length (items_of b.2.now)) }
+    ensures same_length4 { IfOk result (λ b. length (items_of b.0.now)
+        ≡ length (items_of b.3.now)) }
     ensures only { IfErr result (λ e. e ≢ CommandError.OutOfMemory) }
 {
     let first = slots[first.get()].frozen()?;
@@ -213,7 +228,8 @@ impl Slot {
         width: Width,
         other: &Bitmap,
     ) -> Result<(), CommandError>
-        ensures gives { Gives (λ _. self.new) result (assigned_beside self.old table (items_of other.now)) }
+        ensures gives { Gives (λ _. self.new) result
+            (assigned_beside self.old table (items_of other.now)) }
         ensures err { OnErr result (self.new ≡ self.old) }
         ensures only { IfErr result (λ e. e ≢ CommandError.OutOfMemory) }
     {

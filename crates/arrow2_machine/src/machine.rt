@@ -47,9 +47,11 @@ impl Machine {
         command: Command<'_>,
         reply: &mut Vec<u8>,
     ) -> Result<(), CommandError>
-        ensures ok { OnOk result (IsOkAnd (outcome self.old command.entry) (λ after. (self.new ≡ after.0) × (reply.new.items ≡ reply.old.items ++ after.1))) }
+        ensures ok { OnOk result (IsOkAnd (outcome self.old command.entry) (λ after.
+            (self.new ≡ after.0) × (reply.new.items ≡ reply.old.items ++ after.1))) }
         ensures refused { IfErr result (λ e. Fails e (outcome self.old command.entry)) }
-        ensures err { IfErr result (λ e. e ≢ CommandError.OutOfMemory → (self.new ≡ self.old) × (reply.new.items ≡ reply.old.items)) }
+        ensures err { IfErr result (λ e. e ≢ CommandError.OutOfMemory →
+            (self.new ≡ self.old) × (reply.new.items ≡ reply.old.items)) }
     {
         match command {
             Command::Bitmap(command) => bitmaps::run(&mut self.slots, alloc, command, reply),
@@ -75,7 +77,8 @@ impl Machine {
         reply: &mut Vec<u8>,
     ) -> Result<(), AllocError>
         ensures slots { OnOk result (self.new ≡ (step self.old line.now).0) }
-        ensures reply { OnOk result (reply.new.items ≡ reply.old.items ++ ended (step self.old line.now).1) }
+        ensures reply { OnOk result (reply.new.items ≡ reply.old.items
+            ++ ended (step self.old line.now).1) }
     {
         let outcome = match parse(line) {
             Some(command) => self.run(alloc, command, reply),

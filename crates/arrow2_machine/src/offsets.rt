@@ -29,9 +29,11 @@ pub(crate) fn run(
     command: OffsetCommand<'_>,
     reply: &mut Vec<u8>,
 ) -> Result<(), CommandError>
-    ensures ok { OnOk result (IsOkAnd (offset_outcome slots.old command.entry) (λ after. (slots.new ≡ after.0) × (reply.new.items ≡ reply.old.items ++ after.1))) }
+    ensures ok { OnOk result (IsOkAnd (offset_outcome slots.old command.entry) (λ after.
+        (slots.new ≡ after.0) × (reply.new.items ≡ reply.old.items ++ after.1))) }
     ensures refused { IfErr result (λ e. Fails e (offset_outcome slots.old command.entry)) }
-    ensures err { IfErr result (λ e. e ≢ CommandError.OutOfMemory → (slots.new ≡ slots.old) × (reply.new.items ≡ reply.old.items)) }
+    ensures err { IfErr result (λ e. e ≢ CommandError.OutOfMemory →
+        (slots.new ≡ slots.old) × (reply.new.items ≡ reply.old.items)) }
 {
     match command {
         OffsetCommand::New(slot, first) => slots[slot.get()] = Slot::with_offset(alloc, first)?,
@@ -109,7 +111,8 @@ impl Slot {
     ///
     /// `Kind` alone, which changes nothing.
     pub fn pop_offset(&mut self) -> Result<Option<i32>, CommandError>
-        ensures gives { Gives (λ offset. (self.new, offset_said offset)) result (shortened self.old) }
+        ensures gives { Gives (λ offset.
+            (self.new, offset_said offset)) result (shortened self.old) }
         ensures err { OnErr result (self.new ≡ self.old) }
         ensures only { IfErr result (λ e. e ≢ CommandError.OutOfMemory) }
     {
@@ -125,9 +128,11 @@ impl Slot {
     ///
     /// `Kind`, which changes nothing, or `OutOfMemory`, after which a part of the text may be there.
     pub fn write_offsets(&self, out: &mut Vec<u8>) -> Result<(), CommandError>
-        ensures ok { OnOk result (IsOkAnd (offset_text self.now) (λ text. out.new.items ≡ out.old.items ++ text)) }
+        ensures ok { OnOk result (IsOkAnd (offset_text self.now) (λ text.
+            out.new.items ≡ out.old.items ++ text)) }
         ensures refused { IfErr result (λ e. Fails e (offset_text self.now)) }
-        ensures err { IfErr result (λ e. e ≢ CommandError.OutOfMemory → out.new.items ≡ out.old.items) }
+        ensures err { IfErr result (λ e. e ≢ CommandError.OutOfMemory →
+            out.new.items ≡ out.old.items) }
     {
         match &self.contents {
             Contents::FrozenOffsets(offsets) => write_offsets(offsets.as_slice(), out),
@@ -180,9 +185,11 @@ impl Slot {
     ///
     /// `Kind` or `Length`, which change nothing, or `OutOfMemory`, after which a part of the text may be there.
     pub fn write_zipped(&self, validity: &Slot, out: &mut Vec<u8>) -> Result<(), CommandError>
-        ensures ok { OnOk result (IsOkAnd (zip_text self.now validity.now) (λ text. out.new.items ≡ out.old.items ++ text)) }
+        ensures ok { OnOk result (IsOkAnd (zip_text self.now validity.now) (λ text.
+            out.new.items ≡ out.old.items ++ text)) }
         ensures refused { IfErr result (λ e. Fails e (zip_text self.now validity.now)) }
-        ensures err { IfErr result (λ e. e ≢ CommandError.OutOfMemory → out.new.items ≡ out.old.items) }
+        ensures err { IfErr result (λ e. e ≢ CommandError.OutOfMemory →
+            out.new.items ≡ out.old.items) }
     {
         match (&self.contents, &validity.contents) {
             (Contents::FrozenOffsets(offsets), Contents::Frozen(validity)) => {
@@ -211,7 +218,8 @@ fn extend(offsets: &mut Offsets<i32>, lengths: NumberText<'_>) -> error::Result<
     ensures ok { OnOk result (GrownBy lengths.entry offsets.old offsets.new) }
     ensures fits { OnOk result (last_of_growing offsets.old + sum lengths.entry ≤ 2147483647) }
     ensures err { OnErr result (SameOffsets offsets.old offsets.new) }
-    ensures overflow { IsErrOf result Error.Overflow → 2147483647 < last_of_growing offsets.old + sum lengths.entry }
+    ensures overflow { IsErrOf result Error.Overflow →
+        2147483647 < last_of_growing offsets.old + sum lengths.entry }
     ensures only { IfErr result (λ e. (e ≡ Error.Overflow) ⊎ (e ≡ Error.OutOfMemory)) }
 {
     offsets.try_extend_from_lengths(lengths)
@@ -219,9 +227,13 @@ fn extend(offsets: &mut Offsets<i32>, lengths: NumberText<'_>) -> error::Result<
 
 /// Cuts offsets to `count` of them from offset `first` on, where that is one or more and they are inside.
 fn cut(offsets: &mut OffsetsBuffer<i32>, first: u64, count: u64) -> Result<(), CommandError>
-    ensures inside { IsOk result ↔ ((0 < count) × (first + count ≤ count_of (lengths_of (buffer_items offsets.old)) + 1)) }
-    ensures start { OnOk result (start_of (buffer_items offsets.new) ≡ offset_at (start_of (buffer_items offsets.old)) (lengths_of (buffer_items offsets.old)) first) }
-    ensures lengths { OnOk result (lengths_of (buffer_items offsets.new) ≡ part (lengths_of (buffer_items offsets.old)) first (count - 1)) }
+    ensures inside { IsOk result ↔ ((0 < count)
+        × (first + count ≤ count_of (lengths_of (buffer_items offsets.old)) + 1)) }
+    ensures start { OnOk result (start_of (buffer_items offsets.new)
+        ≡ offset_at (start_of (buffer_items offsets.old))
+        (lengths_of (buffer_items offsets.old)) first) }
+    ensures lengths { OnOk result (lengths_of (buffer_items offsets.new)
+        ≡ part (lengths_of (buffer_items offsets.old)) first (count - 1)) }
     ensures err { OnErr result (offsets.new ≡ offsets.old) }
     ensures only { IfErr result (λ e. e ≡ CommandError.Refused Refusal.Range) }
 {

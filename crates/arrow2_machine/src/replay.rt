@@ -39,9 +39,12 @@ pub fn replay<R: Read, W: Write>(
     reader: &mut Watched<R>,
     writer: &mut Watched<W>,
 ) -> Result<(), ReplayFault>
-    ensures ok { OnOk result (IfSome (R.remaining reader.old.inner) (λ script. Appends (W.contents writer.old.inner) (W.contents writer.new.inner) (text script))) }
+    ensures ok { OnOk result (IfSome (R.remaining reader.old.inner) (λ script.
+        Appends (W.contents writer.old.inner) (W.contents writer.new.inner) (text script))) }
     ensures end { OnOk result (IsAtEnd (R.remaining reader.new.inner)) }
-    ensures begins { IfSome (R.remaining reader.old.inner) (λ script. (n : ℕ) × Appends (W.contents writer.old.inner) (W.contents writer.new.inner) (take n (text script))) }
+    ensures begins { IfSome (R.remaining reader.old.inner) (λ script.
+        (n : ℕ) × Appends (W.contents writer.old.inner) (W.contents writer.new.inner)
+        (take n (text script))) }
     ensures untouched { IfErr result (λ e. e ≢ ReplayFault.Write → writer.new ≡ writer.old) }
     ensures flushed { OnOk result (writer.new.unflushed ≡ 0) }
     ensures read { IsErrOf result ReplayFault.Read ↔ reader.old.failed < reader.new.failed }

@@ -79,7 +79,8 @@ pub(crate) fn write_offset(offset: Option<i32>, reply: &mut Vec<u8>) -> Result<(
 /// Appends the text of a list of offsets.
 #[tactic(auto, unfolding(crate::specs::Replies::words_text))]
 pub(crate) fn write_offsets(offsets: &[i32], out: &mut Vec<u8>) -> Result<(), CommandError>
-    ensures ok { OnOk result (out.new.items ≡ out.old.items ++ words_text (map (λ x. decimal (unsigned_abs x)) offsets.now)) }
+    ensures ok { OnOk result (out.new.items ≡ out.old.items
+        ++ words_text (map (λ x. decimal (unsigned_abs x)) offsets.now)) }
     ensures only { IfErr result (λ e. e ≡ CommandError.OutOfMemory) }
 {
     let Some((first, others)) = offsets.split_first() else {
@@ -114,7 +115,8 @@ pub(crate) fn write_slots(
     out: &mut Vec<u8>,
 ) -> Result<(), CommandError>
     requires { length lengths ≡ length validity }
-    ensures ok { OnOk result (out.new.items ≡ out.old.items ++ words_text (map slot_word (zipped lengths.entry validity.entry))) }
+    ensures ok { OnOk result (out.new.items ≡ out.old.items
+        ++ words_text (map slot_word (zipped lengths.entry validity.entry))) }
     ensures only { IfErr result (λ e. e ≡ CommandError.OutOfMemory) }
 {
     let mut slots = lengths.zip(validity);
@@ -149,7 +151,8 @@ pub(crate) fn write_words<T: BitChunk, F: Fn(T) -> usize>(
 ) -> Result<(), CommandError>
     requires callable { F.IsAlwaysCallable number }
     requires number { (x : T) (n : ℕ) → F.post number x n → n ≡ T.BitChunk.number x }
-    ensures ok { OnOk result (out.new.items ≡ out.old.items ++ words_text (map decimal (words T.BitChunk.WIDTH chunks.entry.items))) }
+    ensures ok { OnOk result (out.new.items ≡ out.old.items
+        ++ words_text (map decimal (words T.BitChunk.WIDTH chunks.entry.items))) }
     ensures only { IfErr result (λ e. e ≡ CommandError.OutOfMemory) }
 {
     let mut chunks = chunks;
@@ -180,7 +183,8 @@ fn write_run(start: usize, length: usize, out: &mut Vec<u8>) -> Result<(), Comma
 
 /// Appends the text of the runs that a walk still has.
 pub(crate) fn write_runs(runs: SlicesIterator<'_>, out: &mut Vec<u8>) -> Result<(), CommandError>
-    ensures ok { OnOk result (out.new.items ≡ out.old.items ++ words_text (map run_word runs.entry.runs)) }
+    ensures ok { OnOk result (out.new.items ≡ out.old.items
+        ++ words_text (map run_word runs.entry.runs)) }
     ensures only { IfErr result (λ e. e ≡ CommandError.OutOfMemory) }
 {
     let mut runs = runs;

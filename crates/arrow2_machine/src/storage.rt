@@ -21,9 +21,11 @@ pub(crate) fn run(
     command: StorageCommand<'_>,
     reply: &mut Vec<u8>,
 ) -> Result<(), CommandError>
-    ensures ok { OnOk result (IsOkAnd (storage_outcome slots.old command.entry) (λ after. (slots.new ≡ after.0) × (reply.new.items ≡ reply.old.items ++ after.1))) }
+    ensures ok { OnOk result (IsOkAnd (storage_outcome slots.old command.entry) (λ after.
+        (slots.new ≡ after.0) × (reply.new.items ≡ reply.old.items ++ after.1))) }
     ensures refused { IfErr result (λ e. Fails e (storage_outcome slots.old command.entry)) }
-    ensures err { IfErr result (λ e. e ≢ CommandError.OutOfMemory → (slots.new ≡ slots.old) × (reply.new.items ≡ reply.old.items)) }
+    ensures err { IfErr result (λ e. e ≢ CommandError.OutOfMemory →
+        (slots.new ≡ slots.old) × (reply.new.items ≡ reply.old.items)) }
 {
     match command {
         StorageCommand::Raw(slot, bytes, offset, length) => {
@@ -90,9 +92,11 @@ impl Slot {
     ///
     /// `Kind`, which changes nothing, or `OutOfMemory`, after which a part of the text may be there.
     pub fn write_words(&self, width: Width, out: &mut Vec<u8>) -> Result<(), CommandError>
-        ensures ok { OnOk result (IsOkAnd (word_text self.now width) (λ text. out.new.items ≡ out.old.items ++ text)) }
+        ensures ok { OnOk result (IsOkAnd (word_text self.now width) (λ text.
+            out.new.items ≡ out.old.items ++ text)) }
         ensures refused { IfErr result (λ e. Fails e (word_text self.now width)) }
-        ensures err { IfErr result (λ e. e ≢ CommandError.OutOfMemory → out.new.items ≡ out.old.items) }
+        ensures err { IfErr result (λ e. e ≢ CommandError.OutOfMemory →
+            out.new.items ≡ out.old.items) }
     {
         let Contents::Frozen(bitmap) = &self.contents else {
             return Err(Refused(Refusal::Kind));
@@ -111,9 +115,11 @@ impl Slot {
     ///
     /// `Kind`, which changes nothing, or `OutOfMemory`, after which a part of the text may be there.
     pub fn write_runs(&self, out: &mut Vec<u8>) -> Result<(), CommandError>
-        ensures ok { OnOk result (IsOkAnd (run_text self.now) (λ text. out.new.items ≡ out.old.items ++ text)) }
+        ensures ok { OnOk result (IsOkAnd (run_text self.now) (λ text.
+            out.new.items ≡ out.old.items ++ text)) }
         ensures refused { IfErr result (λ e. Fails e (run_text self.now)) }
-        ensures err { IfErr result (λ e. e ≢ CommandError.OutOfMemory → out.new.items ≡ out.old.items) }
+        ensures err { IfErr result (λ e. e ≢ CommandError.OutOfMemory →
+            out.new.items ≡ out.old.items) }
     {
         write_runs(SlicesIterator::new(self.frozen()?), out)
     }

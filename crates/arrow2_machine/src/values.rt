@@ -16,9 +16,11 @@ pub(crate) fn run(
     command: ValueCommand,
     reply: &mut Vec<u8>,
 ) -> Result<(), CommandError>
-    ensures ok { OnOk result (IsOkAnd (value_outcome slots.old command) (λ after. (slots.new ≡ after.0) × (reply.new.items ≡ reply.old.items ++ after.1))) }
+    ensures ok { OnOk result (IsOkAnd (value_outcome slots.old command) (λ after.
+        (slots.new ≡ after.0) × (reply.new.items ≡ reply.old.items ++ after.1))) }
     ensures refused { IfErr result (λ e. Fails e (value_outcome slots.old command)) }
-    ensures err { IfErr result (λ e. e ≢ CommandError.OutOfMemory → (slots.new ≡ slots.old) × (reply.new.items ≡ reply.old.items)) }
+    ensures err { IfErr result (λ e. e ≢ CommandError.OutOfMemory →
+        (slots.new ≡ slots.old) × (reply.new.items ≡ reply.old.items)) }
 {
     match command {
         ValueCommand::Copy(from, to) => slots[to.get()] = slots[from.get()].copy()?,
