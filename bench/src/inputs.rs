@@ -37,6 +37,8 @@ impl Random {
 pub struct Inputs {
     /// Bytes whose bits are random, some more than a long bitmap has.
     pub bytes: Vec<u8>,
+    /// The same bytes elsewhere.
+    pub bytes_again: Vec<u8>,
     /// The same bits from bit 3 and from bit 5 on.
     pub bytes_from_3: Vec<u8>,
     pub bytes_from_5: Vec<u8>,
@@ -70,6 +72,7 @@ impl Inputs {
             bytes_from_3: moved(&bytes, 3),
             bytes_from_5: moved(&bytes, 5),
             bytes_of_runs: long_runs(bytes.len()),
+            bytes_again: bytes.clone(),
             bytes,
             trues: vec![true; items.len()],
             items,

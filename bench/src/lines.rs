@@ -4,7 +4,7 @@
 //! an entry here, in the list of the crate whose call it measures. A new crate has a list of its own, which
 //! [`all`] names.
 use crate::inputs::{again, near_parts, parts, Inputs, Part, LONG, MANY, NUMBERS};
-use crate::{original, ours};
+use crate::{exports, original, ours};
 use std::rc::Rc;
 
 /// How many of the runs a call makes.
@@ -31,7 +31,7 @@ pub type Side<'a> = Box<dyn Fn(Runs) -> usize + 'a>;
 
 /// A call of the layer beside the call of the original that it ports.
 pub struct Line<'a> {
-    pub name: &'static str,
+    pub name: String,
     /// How many elements all runs have, and what they are.
     pub elements: usize,
     pub unit: &'static str,
@@ -40,8 +40,8 @@ pub struct Line<'a> {
 }
 
 impl<'a> Line<'a> {
-    fn new<R: 'a>(
-        name: &'static str,
+    pub fn new<R: 'a>(
+        name: impl Into<String>,
         (elements, unit): (usize, &'static str),
         runs: Vec<R>,
         ours: impl Fn(&[R]) -> usize + 'a,
@@ -50,7 +50,7 @@ impl<'a> Line<'a> {
         let runs = Rc::new(runs);
         let same = Rc::clone(&runs);
         Line {
-            name,
+            name: name.into(),
             elements,
             unit,
             ours: Box::new(move |chosen| ours(chosen.of(&runs))),
@@ -86,6 +86,7 @@ pub fn all(inputs: &Inputs) -> impl Iterator<Item = (&'static str, Line<'_>)> {
         ("arrow2_kernels", kernels(inputs)),
         ("arrow2_buffer", buffers(inputs)),
         ("arrow2_offset", offsets(inputs)),
+        ("arrow2_ffi", exports::lines(inputs)),
     ];
     crates.into_iter().flat_map(|(name, lines)| lines.into_iter().map(move |line| (name, line)))
 }

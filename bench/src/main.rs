@@ -5,9 +5,11 @@
 //!     arrow2_speed program OURS ORIGINAL FOLDER       the row of the replay programs
 //!     arrow2_speed print ROWS..               rows of several runs, merged, as text
 //!     arrow2_speed write FACTS DOCS ROWS..    the same as a page and a picture
+mod exports;
 mod inputs;
 mod lines;
 mod measure;
+mod notes;
 mod original;
 mod ours;
 mod picture;
@@ -75,7 +77,7 @@ fn measure(seconds: f64, words: &[&str]) -> Answer {
         let name = format!("{group}: {}", line.name);
         if words.is_empty() || words.iter().any(|word| name.contains(word)) {
             let times = measure::measure(&line, seconds);
-            println!("{}", Row::new(group, line.name, line.elements, line.unit, &times));
+            println!("{}", Row::new(group, &line.name, line.elements, line.unit, &times));
         }
     }
     Ok(())

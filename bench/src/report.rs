@@ -1,4 +1,5 @@
 //! The table as a page, and as text.
+use crate::notes;
 use crate::table::Row;
 use std::fmt::Write;
 
@@ -9,18 +10,26 @@ Written by `bench/run`, which measures each line anew ([bench/README.md](../benc
 
 Each line is a call of the layer beside the call of arrow2 that it ports, on the same inputs, in one process.
 The ratio is our time over arrow2's: below 1 the layer is faster. Both sides gave the same answers.
+";
 
-![Our time over arrow2's, line by line](speed.svg)
+const WORST_COLUMNS: &str = "\
+| The slowest lines | Ratio | Why |
+|---|--:|---|
 ";
 
 const COLUMNS: &str = "\
-| Call | Elements | Ours, a nanosecond | arrow2, a nanosecond | Ratio | Ratios of the link orders |
-|---|---|--:|--:|--:|--:|
+| Call | Elements | Ours, elements per nanosecond | arrow2, elements per nanosecond | Ratio | Ratios of the link orders | Why above 1 |
+|---|---|--:|--:|--:|--:|---|
 ";
 
-/// The page: on what was measured, and a table for each crate.
+/// How many of the slowest lines stand at the head.
+const WORST: usize = 5;
+
+/// The page: how many lines are fast, the slowest ones, on what was measured, and a table for each crate.
 pub fn page(rows: &[Row], facts: &str) -> String {
-    let mut page = format!("{HEAD}\n| | |\n|---|---|\n");
+    let mut page = format!("{HEAD}\n{}\n", sum(rows));
+    add_worst(&mut page, rows);
+    page.push_str("\n![Our time over arrow2's, line by line](speed.svg)\n\n| | |\n|---|---|\n");
     for (what, value) in facts.lines().filter_map(|fact| fact.split_once(": ")) {
         let _ = writeln!(page, "| {what} | {value} |");
     }
@@ -30,19 +39,53 @@ pub fn page(rows: &[Row], facts: &str) -> String {
             group = &row.group;
             let _ = write!(page, "\n## {group}\n\n{COLUMNS}");
         }
-        let (ours, original) = row.speeds();
-        let _ = writeln!(
-            page,
-            "| {} | {} | {} | {} | {} | {} |",
-            row.name,
-            row.unit,
-            number(ours),
-            number(original),
-            ratio(row.ratio()),
-            spread(row),
-        );
+        add_row(&mut page, row);
     }
     page
+}
+
+/// Which share of the lines is at most as slow as the original.
+fn sum(rows: &[Row]) -> String {
+    let fast = rows.iter().filter(|row| !row.is_slower()).count();
+    let share = 100 * fast / rows.len().max(1);
+    format!("**{fast} of {} lines, {share} %, are at or below 1.0.**\n", rows.len())
+}
+
+fn add_worst(page: &mut String, rows: &[Row]) {
+    let mut slower: Vec<&Row> = rows.iter().filter(|row| row.is_slower()).collect();
+    slower.sort_by(|a, b| b.ratio().total_cmp(&a.ratio()));
+    if slower.is_empty() {
+        return;
+    }
+    page.push_str(WORST_COLUMNS);
+    for row in slower.into_iter().take(WORST) {
+        let Row { group, name, .. } = row;
+        let _ = writeln!(page, "| {group}: {name} | {} | {} |", ratio(row.ratio()), why(row));
+    }
+}
+
+fn add_row(page: &mut String, row: &Row) {
+    let (ours, original) = row.speeds();
+    let _ = writeln!(
+        page,
+        "| {} | {} | {} | {} | {} | {} | {} |",
+        row.name,
+        row.unit,
+        number(ours),
+        number(original),
+        ratio(row.ratio()),
+        spread(row),
+        why(row),
+    );
+}
+
+/// Why a row is above 1, where it is.
+fn why(row: &Row) -> &'static str {
+    if row.is_slower() {
+        notes::of(&row.group, &row.name).unwrap_or("")
+    } else {
+        ""
+    }
 }
 
 /// The rows as lines of text.
@@ -54,7 +97,7 @@ pub fn text(rows: &[Row]) -> String {
         let (ours, original) = (number(ours), number(original));
         let _ = writeln!(
             text,
-            "{:>7}  {name:<55} {ours:>8} {original:>8} {}/ns  {}",
+            "{:>7}  {name:<65} {ours:>8} {original:>8} {}/ns  {}",
             ratio(row.ratio()),
             row.unit,
             spread(row)

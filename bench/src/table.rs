@@ -51,6 +51,11 @@ impl Row {
         ours / original
     }
 
+    /// Whether ours is slower, by more than what two digits of a ratio show as 1.
+    pub fn is_slower(&self) -> bool {
+        self.ratio() >= 1.005
+    }
+
     /// The least and the greatest ratio of one order, where there are several.
     pub fn spread(&self) -> Option<(f64, f64)> {
         let ratios = || self.times.iter().map(|(ours, original)| ours / original);

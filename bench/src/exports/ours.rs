@@ -1,0 +1,285 @@
+//! Our side: the calls of crate `arrow2-proved`, as users of Rust have them.
+//!
+//! Each function makes what its call needs, and then makes one call for each run, which is the length that it takes.
+//! What was written is read once, behind the runs.
+use super::inputs::{digest, digest_of_bytes, FourBits, Slots, CHOICE, KNOWN};
+use arrow2_proved::{bytes_for, Bits, Nullable, Offset, Refusal, NOT, XOR};
+use std::hint::black_box;
+
+/// The answers of a call for each run, added up.
+fn added(runs: &[usize], call: impl Fn(usize) -> Result<usize, Refusal>) -> usize {
+    let mut sum = 0usize;
+    for run in runs {
+        sum = sum.wrapping_add(call(*run).unwrap_or(0));
+    }
+    sum
+}
+
+/// What a call leaves in bytes for so many bits, once it was made for each run.
+fn written(
+    length: usize,
+    runs: &[usize],
+    call: impl Fn(usize, &mut [u8]) -> Result<(), Refusal>,
+) -> usize {
+    changed(vec![0; bytes_for(length)], runs, call)
+}
+
+/// What a call makes of these bytes, once it was made for each run.
+fn changed(
+    mut bytes: Vec<u8>,
+    runs: &[usize],
+    call: impl Fn(usize, &mut [u8]) -> Result<(), Refusal>,
+) -> usize {
+    let mut refused = 0;
+    for run in runs {
+        refused += usize::from(call(*run, black_box(&mut bytes)).is_err());
+    }
+    digest_of_bytes(&bytes).wrapping_add(refused)
+}
+
+pub fn count_zeros(on: &FourBits, runs: &[usize]) -> usize {
+    let [Bits { bytes, offset }, ..] = on.inputs;
+    added(runs, |length| arrow2_proved::count_zeros(bytes, offset, length))
+}
+
+pub fn equal_bits(on: &FourBits, runs: &[usize]) -> usize {
+    let [left, right, ..] = on.inputs;
+    added(runs, |length| arrow2_proved::equal_bits(left, right, length).map(usize::from))
+}
+
+pub fn get_bit(on: &FourBits, places: &[usize]) -> usize {
+    let [Bits { bytes, .. }, ..] = on.inputs;
+    added(places, |place| arrow2_proved::get_bit(bytes, place).map(usize::from))
+}
+
+pub fn set_bit(on: &FourBits, places: &[usize]) -> usize {
+    changed(on.inputs[0].bytes.to_vec(), places, |place, bytes| {
+        arrow2_proved::set_bit(bytes, place, place % 3 == 0)
+    })
+}
+
+pub fn copy_bits(on: &FourBits, runs: &[usize]) -> usize {
+    let [Bits { bytes, offset }, ..] = on.inputs;
+    written(on.length, runs, |length, out| arrow2_proved::copy_bits(bytes, offset, length, out))
+}
+
+pub fn unary_table(on: &FourBits, runs: &[usize]) -> usize {
+    let [input, ..] = on.inputs;
+    written(on.length, runs, |length, out| arrow2_proved::unary_table(input, length, NOT, out))
+}
+
+pub fn binary_table(on: &FourBits, runs: &[usize]) -> usize {
+    let [first, second, ..] = on.inputs;
+    written(on.length, runs, |length, out| {
+        arrow2_proved::binary_table(first, second, length, XOR, out)
+    })
+}
+
+pub fn ternary_table(on: &FourBits, runs: &[usize]) -> usize {
+    let [first, second, third, _] = on.inputs;
+    written(on.length, runs, |length, out| {
+        arrow2_proved::ternary_table(first, second, third, length, CHOICE, out)
+    })
+}
+
+pub fn quaternary_table(on: &FourBits, runs: &[usize]) -> usize {
+    let [first, second, third, fourth] = on.inputs;
+    written(on.length, runs, |length, out| {
+        arrow2_proved::quaternary_table(first, second, third, fourth, length, KNOWN, out)
+    })
+}
+
+/// The bits of the first input as bytes of their own.
+fn own(on: &FourBits) -> Vec<u8> {
+    let [Bits { bytes, offset }, ..] = on.inputs;
+    let mut own = vec![0; bytes_for(on.length)];
+    arrow2_proved::copy_bits(bytes, offset, on.length, &mut own).expect("the bits are inside");
+    own
+}
+
+pub fn unary_assign_table(on: &FourBits, runs: &[usize]) -> usize {
+    changed(own(on), runs, |length, bytes| arrow2_proved::unary_assign_table(bytes, length, NOT))
+}
+
+pub fn binary_assign_table(on: &FourBits, runs: &[usize]) -> usize {
+    let [_, second, ..] = on.inputs;
+    changed(own(on), runs, |length, bytes| {
+        arrow2_proved::binary_assign_table(bytes, second, length, XOR)
+    })
+}
+
+pub fn ternary_assign_table(on: &FourBits, runs: &[usize]) -> usize {
+    let [_, second, third, _] = on.inputs;
+    changed(own(on), runs, |length, bytes| {
+        arrow2_proved::ternary_assign_table(bytes, second, third, length, CHOICE)
+    })
+}
+
+pub fn quaternary_assign_table(on: &FourBits, runs: &[usize]) -> usize {
+    let [_, second, third, fourth] = on.inputs;
+    changed(own(on), runs, |length, bytes| {
+        arrow2_proved::quaternary_assign_table(bytes, second, third, fourth, length, KNOWN)
+    })
+}
+
+/// Two arrays: the first input is valid where the second one is set, and so the other two.
+fn arrays<'a>(on: &'a FourBits) -> [Nullable<'a>; 2] {
+    let [left, left_validity, right, right_validity] = on.inputs;
+    [
+        Nullable { values: left, validity: left_validity },
+        Nullable { values: right, validity: right_validity },
+    ]
+}
+
+/// What a call leaves in values and in their validity, once it was made for each run.
+fn both_written(
+    length: usize,
+    runs: &[usize],
+    call: impl Fn(usize, &mut [u8], &mut [u8]) -> Result<(), Refusal>,
+) -> usize {
+    let mut validity = vec![0; bytes_for(length)];
+    let mut values = vec![0; bytes_for(length)];
+    let mut refused = 0;
+    for run in runs {
+        let answer = call(*run, black_box(&mut values), black_box(&mut validity));
+        refused += usize::from(answer.is_err());
+    }
+    (digest_of_bytes(&values) ^ digest_of_bytes(&validity)).wrapping_add(refused)
+}
+
+pub fn and_kleene(on: &FourBits, runs: &[usize]) -> usize {
+    let [left, right] = arrays(on);
+    both_written(on.length, runs, |length, values, validity| {
+        arrow2_proved::and_kleene(left, right, length, values, validity)
+    })
+}
+
+pub fn or_kleene(on: &FourBits, runs: &[usize]) -> usize {
+    let [left, right] = arrays(on);
+    both_written(on.length, runs, |length, values, validity| {
+        arrow2_proved::or_kleene(left, right, length, values, validity)
+    })
+}
+
+pub fn runs(on: &FourBits, runs: &[usize]) -> usize {
+    let [input, ..] = on.inputs;
+    let room = on.length / 2 + 1;
+    let (mut starts, mut lengths) = (vec![0; room], vec![0; room]);
+    let mut count = 0usize;
+    for run in runs {
+        let (starts, lengths) = (black_box(&mut starts), black_box(&mut lengths));
+        let written = arrow2_proved::runs(input, *run, &mut 0, starts, lengths);
+        count = count.wrapping_add(written.unwrap_or(0));
+    }
+    digest(starts.into_iter().chain(lengths)).wrapping_add(count)
+}
+
+pub fn set_places(on: &FourBits, runs: &[usize]) -> usize {
+    let [input, ..] = on.inputs;
+    let mut places = vec![0; on.length];
+    let mut count = 0usize;
+    for run in runs {
+        let written = arrow2_proved::set_places(input, *run, &mut 0, black_box(&mut places));
+        count = count.wrapping_add(written.unwrap_or(0));
+    }
+    digest(places).wrapping_add(count)
+}
+
+pub fn pack(items: &[bool], runs: &[usize]) -> usize {
+    written(items.len(), runs, |length, out| arrow2_proved::pack(&items[..length], out))
+}
+
+pub fn unpack(on: &FourBits, runs: &[usize]) -> usize {
+    let [input, ..] = on.inputs;
+    let mut items = vec![false; on.length];
+    let mut refused = 0;
+    for run in runs {
+        let items = &mut black_box(&mut items)[..*run];
+        refused += usize::from(arrow2_proved::unpack(input, items).is_err());
+    }
+    digest(items.into_iter().map(usize::from)).wrapping_add(refused)
+}
+
+/// What a call leaves in room for so many numbers, once it was made for each run.
+fn numbers_written<T: Copy + Default + Into<i64>>(
+    length: usize,
+    runs: &[usize],
+    call: impl Fn(usize, &mut [T]) -> Result<(), Refusal>,
+) -> usize {
+    let mut out = vec![T::default(); length];
+    let mut refused = 0;
+    for run in runs {
+        refused += usize::from(call(*run, black_box(&mut out)).is_err());
+    }
+    digest(out.into_iter().map(|number| number.into() as usize)).wrapping_add(refused)
+}
+
+fn check<O: Offset>(offsets: &[O], runs: &[usize]) -> usize {
+    added(runs, |count| O::check(&offsets[..count]).map(|()| count))
+}
+
+fn lengths<O: Offset>(offsets: &[O], runs: &[usize]) -> usize {
+    let mut out = vec![0; offsets.len() - 1];
+    let mut refused = 0;
+    for run in runs {
+        let answer = O::lengths(&offsets[..*run], black_box(&mut out));
+        refused += usize::from(answer.is_err());
+    }
+    digest(out).wrapping_add(refused)
+}
+
+fn from_lengths<O: Offset + Default + Into<i64>>(lengths: &[usize], runs: &[usize]) -> usize {
+    numbers_written(lengths.len() + 1, runs, |count, out: &mut [O]| {
+        O::from_lengths(0, &lengths[..count - 1], out)
+    })
+}
+
+fn from_zero<O: Offset + Default + Into<i64>>(offsets: &[O], runs: &[usize]) -> usize {
+    numbers_written(offsets.len() - 1, runs, |count, out: &mut [O]| {
+        O::from_zero(&offsets[..count], 1, out)
+    })
+}
+
+pub fn offsets32_check(on: &Slots, runs: &[usize]) -> usize {
+    check(&on.offsets32, runs)
+}
+
+pub fn offsets64_check(on: &Slots, runs: &[usize]) -> usize {
+    check(&on.offsets64, runs)
+}
+
+pub fn offsets32_lengths(on: &Slots, runs: &[usize]) -> usize {
+    lengths(&on.offsets32, runs)
+}
+
+pub fn offsets64_lengths(on: &Slots, runs: &[usize]) -> usize {
+    lengths(&on.offsets64, runs)
+}
+
+pub fn offsets32_from_lengths(on: &Slots, runs: &[usize]) -> usize {
+    from_lengths::<i32>(&on.lengths, runs)
+}
+
+pub fn offsets64_from_lengths(on: &Slots, runs: &[usize]) -> usize {
+    from_lengths::<i64>(&on.lengths, runs)
+}
+
+pub fn offsets32_from_zero(on: &Slots, runs: &[usize]) -> usize {
+    from_zero(&on.offsets32, runs)
+}
+
+pub fn offsets64_from_zero(on: &Slots, runs: &[usize]) -> usize {
+    from_zero(&on.offsets64, runs)
+}
+
+pub fn offsets_widen(on: &Slots, runs: &[usize]) -> usize {
+    numbers_written(on.offsets32.len(), runs, |count, out| {
+        arrow2_proved::widen(&on.offsets32[..count], out)
+    })
+}
+
+pub fn offsets_narrow(on: &Slots, runs: &[usize]) -> usize {
+    numbers_written(on.offsets64.len(), runs, |count, out| {
+        arrow2_proved::narrow(&on.offsets64[..count], out)
+    })
+}
