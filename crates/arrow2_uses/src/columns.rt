@@ -1,8 +1,10 @@
 //! A column of one's own: values beside their validity, and a builder that survives refused memory.
-ghost use Rattle.std.specs.Prelude.{◌≡◌, ◌+◌, ◌<◌, ◌≤◌, ◌++◌, ◌⊎◌, [], ◌∷◌, All, None, length as length', map, count_by, slice_index_or, IfOk, IfErr, OnOk, OnErr};
+ghost use Rattle.std.specs.Prelude.{◌≡◌, ◌+◌, ◌<◌, ◌≤◌, ◌++◌, ◌⊎◌, [], ◌∷◌, All, None, length as length', map, count_by, slice_index_or, if◌then◌else◌, IfOk, IfErr, OnOk, OnErr};
 ghost use Rattle.std.specs.Option.{is_none};
 ghost use Rattle.std.specs.List.{flat_map};
 ghost use Rattle.arrow2.specs.Parts.{part};
+ghost use Rattle.arrow2.specs.Storage.{items_of};
+ghost use Rattle.arrow2_uses.specs.Selected.{selected, chosen};
 
 use arrow2::bitmap::{Bitmap, MutableBitmap};
 use arrow2::buffer::Buffer;
@@ -83,6 +85,24 @@ impl<T: NativeType> Column<T> {
         }
         taken.finish()
     }
+
+    /// The items at whose place the mask is true. Asks that it has one item for each of the column's.
+    ///
+    /// # Errors
+    ///
+    /// `OutOfMemory`, or `Overflow` where bits cannot be more.
+    #[tactic(auto, using(arrow2::proofs::Columns::columns, crate::proofs::Selected::selections))]
+    pub fn filter(&self, mask: &Bitmap) -> Result<Column<T>>
+        requires same_length { length' (items_of mask.now) ≡ length' self.now }
+        ensures ok { IfOk result (λ c. c ≡ selected self.now (items_of mask.now)) }
+        ensures only { IfErr result (λ e. (e ≡ Error.Overflow) ⊎ (e ≡ Error.OutOfMemory)) }
+    {
+        let mut kept = ColumnBuilder::new(self.validity.allocator());
+        for place in 0..self.len() {
+            kept.push_if(mask.get_bit(place), self.get(place))?;
+        }
+        kept.finish()
+    }
 }
 
 /// A column that grows: contracts see the list of its items.
@@ -131,6 +151,17 @@ impl<T: NativeType> ColumnBuilder<T> {
         Ok(())
     }
 
+    /// Appends an item where it is to be kept.
+    fn push_if(&mut self, keep: bool, item: Option<T>) -> Result<()>
+        ensures ok { OnOk result (self.new ≡ self.old ++ (if keep then item ∷ [] else [])) }
+        ensures only { IfErr result (λ e. (e ≡ Error.Overflow) ⊎ (e ≡ Error.OutOfMemory)) }
+    {
+        if keep {
+            self.push(item)?;
+        }
+        Ok(())
+    }
+
     /// Appends the items of a column. After an error the items are as they were.
     ///
     /// # Errors
@@ -176,4 +207,33 @@ pub fn concat<T: NativeType>(alloc: Global, columns: &[Column<T>]) -> Result<Col
         joined.extend(column)?;
     }
     joined.finish()
+}
+
+/// Item by item, that of the first column where the mask is true, and that of the other elsewhere. Asks that all have
+/// one length.
+///
+/// # Errors
+///
+/// `OutOfMemory`, or `Overflow` where bits cannot be more.
+#[tactic(auto, using(crate::proofs::Selected::selections))]
+pub fn if_then_else<T: NativeType>(
+    mask: &Bitmap,
+    lhs: &Column<T>,
+    rhs: &Column<T>,
+) -> Result<Column<T>>
+    requires left { length' (items_of mask.now) ≡ length' lhs.now }
+    requires right { length' (items_of mask.now) ≡ length' rhs.now }
+    ensures ok { IfOk result (λ c. c ≡ chosen (items_of mask.now) lhs.now rhs.now) }
+    ensures only { IfErr result (λ e. (e ≡ Error.Overflow) ⊎ (e ≡ Error.OutOfMemory)) }
+{
+    let mut items = ColumnBuilder::new(mask.allocator());
+    for place in 0..mask.len() {
+        let item = if mask.get_bit(place) {
+            lhs.get(place)
+        } else {
+            rhs.get(place)
+        };
+        items.push(item)?;
+    }
+    items.finish()
 }

@@ -2,7 +2,10 @@
 #![tactic(auto)]
 
 pub mod columns;
+pub mod first;
+pub mod generic;
 pub mod kernels;
+pub mod loops;
 pub mod runs;
 pub mod schemas;
 pub mod texts;

@@ -1,5 +1,5 @@
 //! Which values are there.
-ghost use Rattle.std.specs.Prelude.{◌≡◌, ◌+◌, ◌⊎◌, length, map, not, is_some, IfOk, IfErr, true, false, [], ◌∷◌};
+ghost use Rattle.std.specs.Prelude.{◌≡◌, ◌+◌, length, map, is_some, IfOk, IfErr, true, false, [], ◌∷◌};
 ghost use Rattle.arrow2.specs.Parts.{falses};
 ghost use Rattle.arrow2.specs.Storage.{items_of};
 
@@ -21,14 +21,6 @@ pub fn validity_of(alloc: Global, values: &[Option<i64>]) -> Result<Bitmap>
         validity.push(value.is_some())?;
     }
     Bitmap::try_from(validity)
-}
-
-/// Each item turned.
-pub fn invert(b: &Bitmap) -> Result<Bitmap>
-    ensures items { IfOk result (λ r. items_of r ≡ map not (items_of b.now)) }
-    ensures only { IfErr result (λ e. (e ≡ Error.Overflow) ⊎ (e ≡ Error.OutOfMemory)) }
-{
-    Bitmap::try_from_iter(b.allocator(), b.iter().map(|item| !item))
 }
 
 /// How many of the values are there.

@@ -1,0 +1,18 @@
+//! A first function.
+ghost use Rattle.std.specs.Prelude.{◌≡◌, ◌⊎◌, map, not, IfOk, IfErr};
+ghost use Rattle.arrow2.specs.Storage.{items_of};
+
+use arrow2::bitmap::Bitmap;
+use arrow2::error::{Error, Result};
+
+/// Each item turned.
+///
+/// # Errors
+///
+/// `OutOfMemory`, or `Overflow` where bits cannot be more.
+pub fn invert(b: &Bitmap) -> Result<Bitmap>
+    ensures items { IfOk result (λ r. items_of r ≡ map not (items_of b.now)) }
+    ensures only { IfErr result (λ e. (e ≡ Error.Overflow) ⊎ (e ≡ Error.OutOfMemory)) }
+{
+    Bitmap::try_from_iter(b.allocator(), b.iter().map(|item| !item))
+}

@@ -1,0 +1,37 @@
+//! Functions over any type of value and of index.
+ghost use Rattle.std.specs.Prelude.{◌≡◌, ◌↔◌, ◌≤ℤ◌, ◌<ℤ◌, pos, All, IfOk, IfErr, IsTrue};
+ghost use Rattle.std.specs.List.{flat_map};
+
+use arrow2::error::{Error, Result};
+use arrow2::types::{Index, NativeType};
+use std::alloc::Global;
+use std::convert::AsSlice;
+
+/// The bytes of the values one behind the other, the lowest byte of each first.
+///
+/// # Errors
+///
+/// `OutOfMemory` alone.
+pub fn low_first<T: NativeType>(alloc: Global, values: &[T]) -> Result<Vec<u8>>
+    ensures bytes { IfOk result (λ v. v.items ≡ flat_map T.le_digits values.now) }
+    ensures only { IfErr result (λ e. e ≡ Error.OutOfMemory) }
+{
+    let mut bytes = Vec::new(alloc);
+    for value in values {
+        bytes.extend_from_slice(value.to_le_bytes().as_slice())?;
+    }
+    Ok(bytes)
+}
+
+/// Whether each index is below `bound`. Asks that none is negative.
+pub fn all_below<I: Index>(indices: &[I], bound: usize) -> bool
+    requires natural { All (λ x. pos 0 ≤ℤ I.value x) indices.now }
+    ensures { IsTrue result ↔ All (λ x. I.value x <ℤ pos bound) indices.now }
+{
+    for index in indices {
+        if index.to_usize() >= bound {
+            return false;
+        }
+    }
+    true
+}
