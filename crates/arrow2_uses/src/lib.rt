@@ -5,6 +5,7 @@ pub mod columns;
 pub mod first;
 pub mod generic;
 pub mod kernels;
+pub mod lists;
 pub mod loops;
 pub mod runs;
 pub mod schemas;
