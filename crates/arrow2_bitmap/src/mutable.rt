@@ -14,8 +14,8 @@ ghost use Rattle.arrow2_model.specs.Shown.{shown};
 ghost use Rattle.arrow2_model.specs.Storage.{GrowingBitmap, items_of};
 ghost use Rattle.arrow2_model.specs.Tables.{each};
 ghost use Rattle.arrow2_model.specs.Rows.{ActsBesideRows, IsOwnRowFunction};
-ghost use Rattle.arrow2_types.specs.Refusals.{IsInvalidArgument};
-ghost use Rattle.arrow2_types.specs.declared.refusal.Refusal.TheVariants as refusal;
+ghost use Rattle.arrow2_types.specs.Refusals.{IsInvalidArgument, error_of};
+ghost use Rattle.arrow2_growth.specs.Growth.{Appends};
 ghost use Rattle.arrow2_bitmap.specs.Collected.{GivesTooMany};
 ghost use Rattle.arrow2_bitmap.specs.Refused.{too_long};
 ghost use Rattle.std.specs.declared.alloc.Global.{Global};
@@ -23,15 +23,12 @@ ghost use Rattle.std.specs.declared.alloc.Global.{Global};
 use crate::check::check_length;
 use crate::immutable::Bitmap;
 use arrow2_bits::iterator::BitmapIter;
-use arrow2_bits::{bytes_for, count_zeros, get_bit, set_bit, take_bit};
+use arrow2_bits::{bytes_for, count_zeros, get_bit};
 use arrow2_chunk::bit_chunk::BitChunk;
-use arrow2_growth::extended;
 use arrow2_growth::packed::{collected, packed};
-use arrow2_kernels::assigned::assign_rows;
-use arrow2_kernels::lane_assigned::{assign_binary, assign_unary};
+use arrow2_growth::packed_bits::PackedBits;
 use arrow2_kernels::rows::WordRows;
 use arrow2_types::error::{Error, Result};
-use arrow2_types::refusal::Refusal;
 use std::alloc::{AllocError, Global};
 use std::convert::TryFrom;
 use std::fmt;
@@ -43,35 +40,24 @@ use std::marker::Model;
 /// In arrow2 spare bytes and spare bits of a vector that was handed in stay.
 #[derive(Drop)]
 pub struct MutableBitmap {
-    buffer: Vec<u8>,
-    length: usize,
+    bits: PackedBits,
 }
 
 impl Model for MutableBitmap {
-    ghost use Rattle.std.specs.Prelude.{◌-◌, ◌*◌, ◌^◌, vec_capacity, min, take};
-    ghost use Rattle.arrow2_model.specs.Bits.{bits};
-    ghost use Rattle.arrow2_model.specs.Canonical.{IsCanonical};
     ghost use Rattle.arrow2_model.specs.Storage.{GrowingBitmap};
 
     ghost Value = { GrowingBitmap };
 
-    ghost view = { λ m. record {
-      items = take m.length (bits m.buffer.items);
-      capacity = min (8 * vec_capacity m.buffer) (2 ^ 64 - 1);
-    } };
-
-    ghost invariant = { λ m. IsCanonical m.buffer.items m.length };
+    ghost view = { λ m. m.bits };
 }
 
-#[tactic(auto, using(crate::proofs::Buffer::buffers))]
 impl MutableBitmap {
     /// An empty bitmap. Takes no memory.
     pub fn new(alloc: Global) -> MutableBitmap
         ensures { result.items ≡ [] }
     {
         MutableBitmap {
-            buffer: Vec::new(alloc),
-            length: 0,
+            bits: PackedBits::new(alloc),
         }
     }
 
@@ -100,9 +86,9 @@ impl MutableBitmap {
         ensures len { length' result.items ≡ length }
     {
         prove!(length / 8 + usize::from(length % 8 != 0) <= bytes.len());
-        let mut buffer = bytes;
-        cut(&mut buffer, length);
-        MutableBitmap { buffer, length }
+        MutableBitmap {
+            bits: PackedBits::from_vec(bytes, length),
+        }
     }
 
     /// An empty bitmap with room for `capacity` bits.
@@ -115,8 +101,8 @@ impl MutableBitmap {
         ensures room { IfOk result (λ m. capacity ≤ m.capacity) }
         ensures only { IfErr result (λ e. e ≡ Error.OutOfMemory) }
     {
-        let buffer = Vec::with_capacity(alloc, bytes_for(capacity))?;
-        Ok(MutableBitmap { buffer, length: 0 })
+        let bits = PackedBits::with_capacity(alloc, capacity)?;
+        Ok(MutableBitmap { bits })
     }
 
     /// `length` items, all false.
@@ -124,7 +110,7 @@ impl MutableBitmap {
     /// # Errors
     ///
     /// `OutOfMemory` alone.
-    #[tactic(auto, using(crate::proofs::Filled::filling))]
+    #[tactic(auto, using(arrow2_growth::proofs::Filled::filling))]
     pub fn from_len_zeroed(alloc: Global, length: usize) -> Result<MutableBitmap>
         ensures ok { IfOk result (λ m. m.items ≡ replicate length false) }
         ensures only { IfErr result (λ e. e ≡ Error.OutOfMemory) }
@@ -138,7 +124,7 @@ impl MutableBitmap {
     /// # Errors
     ///
     /// `OutOfMemory` alone.
-    #[tactic(auto, using(crate::proofs::Filled::filling))]
+    #[tactic(auto, using(arrow2_growth::proofs::Filled::filling))]
     pub fn from_len_set(alloc: Global, length: usize) -> Result<MutableBitmap>
         ensures ok { IfOk result (λ m. m.items ≡ replicate length true) }
         ensures only { IfErr result (λ e. e ≡ Error.OutOfMemory) }
@@ -190,14 +176,9 @@ impl MutableBitmap {
     /// `Overflow` exactly where the length is `usize::MAX`, else `OutOfMemory` alone.
     /// After both the bitmap holds the items that it held.
     pub fn push(&mut self, value: bool) -> Result<()>
-        ensures ok { OnOk result (self.new.items ≡ self.old.items ++ value ∷ []) }
-        ensures err { OnErr result (self.new.items ≡ self.old.items) }
-        ensures overflow { IsErrOf result Error.Overflow ↔ (length self.old.items ≡ 2 ^ 64 - 1) }
-        ensures only { IfErr result (λ e. (e ≡ Error.Overflow) ⊎ (e ≡ Error.OutOfMemory)) }
-        ensures room { length self.old.items < self.old.capacity → IsOk result }
-        ensures capacity { self.old.capacity ≤ self.new.capacity }
+        ensures { Appends error_of result self.old self.new (value ∷ []) }
     {
-        self.push_item(value)?;
+        self.bits.push(value)?;
         Ok(())
     }
 
@@ -209,15 +190,9 @@ impl MutableBitmap {
     /// `Overflow` exactly where the new length would pass `usize::MAX`, else `OutOfMemory` alone.
     /// After both the bitmap holds the items that it held.
     pub fn extend_constant(&mut self, additional: usize, value: bool) -> Result<()>
-        ensures ok { OnOk result (self.new.items ≡ self.old.items ++ replicate additional value) }
-        ensures err { OnErr result (self.new.items ≡ self.old.items) }
-        ensures overflow { IsErrOf result Error.Overflow ↔
-            (2 ^ 64 ≤ length self.old.items + additional) }
-        ensures only { IfErr result (λ e. (e ≡ Error.Overflow) ⊎ (e ≡ Error.OutOfMemory)) }
-        ensures room { length self.old.items + additional ≤ self.old.capacity → IsOk result }
-        ensures capacity { self.old.capacity ≤ self.new.capacity }
+        ensures { Appends error_of result self.old self.new (replicate additional value) }
     {
-        self.length = extended::extend_constant(&mut self.buffer, self.length, additional, value)?;
+        self.bits.extend_constant(additional, value)?;
         Ok(())
     }
 
@@ -230,22 +205,9 @@ impl MutableBitmap {
     /// After both the bitmap holds the items that it held.
     pub fn extend_from_slice(&mut self, slice: &[u8], offset: usize, length: usize) -> Result<()>
         requires inside { offset + length ≤ 8 * length' slice.now }
-        ensures ok { OnOk result (self.new.items ≡ self.old.items
-            ++ part (bits slice.now) offset length) }
-        ensures err { OnErr result (self.new.items ≡ self.old.items) }
-        ensures overflow { IsErrOf result Error.Overflow ↔
-            (2 ^ 64 ≤ length' self.old.items + length) }
-        ensures only { IfErr result (λ e. (e ≡ Error.Overflow) ⊎ (e ≡ Error.OutOfMemory)) }
-        ensures room { length' self.old.items + length ≤ self.old.capacity → IsOk result }
-        ensures capacity { self.old.capacity ≤ self.new.capacity }
+        ensures { Appends error_of result self.old self.new (part (bits slice.now) offset length) }
     {
-        self.length = extended::extend_from_slice(
-            &mut self.buffer,
-            self.length,
-            slice,
-            offset,
-            length,
-        )?;
+        self.bits.extend_from_slice(slice, offset, length)?;
         Ok(())
     }
 
@@ -257,14 +219,7 @@ impl MutableBitmap {
     /// `Overflow` exactly where the new length would pass `usize::MAX`, else `OutOfMemory` alone.
     /// After both the bitmap holds the items that it held.
     pub fn extend_from_bitmap(&mut self, bitmap: &Bitmap) -> Result<()>
-        ensures ok { OnOk result (self.new.items ≡ self.old.items ++ items_of bitmap.now) }
-        ensures err { OnErr result (self.new.items ≡ self.old.items) }
-        ensures overflow { IsErrOf result Error.Overflow ↔
-            (2 ^ 64 ≤ length self.old.items + length (items_of bitmap.now)) }
-        ensures only { IfErr result (λ e. (e ≡ Error.Overflow) ⊎ (e ≡ Error.OutOfMemory)) }
-        ensures room { length self.old.items + length (items_of bitmap.now)
-            ≤ self.old.capacity → IsOk result }
-        ensures capacity { self.old.capacity ≤ self.new.capacity }
+        ensures { Appends error_of result self.old self.new (items_of bitmap.now) }
     {
         let (slice, offset, _) = bitmap.as_slice();
         self.extend_from_slice(slice, offset, bitmap.len())
@@ -284,7 +239,7 @@ impl MutableBitmap {
         ensures room { length self.old.items + additional ≤ self.old.capacity → IsOk result }
         ensures capacity { self.old.capacity ≤ self.new.capacity }
     {
-        extended::reserve(&mut self.buffer, self.length, additional)?;
+        self.bits.reserve(additional)?;
         Ok(())
     }
 
@@ -296,7 +251,7 @@ impl MutableBitmap {
         ensures items { self.new.items ≡ self.old.items }
         ensures capacity { self.new.capacity ≤ self.old.capacity }
     {
-        self.buffer.shrink_to_fit();
+        self.bits.shrink_to_fit();
         Ok(())
     }
 
@@ -334,13 +289,7 @@ impl MutableBitmap {
         ensures none { IfNone result (self.new.items ≡ []) }
         ensures capacity { self.new.capacity ≡ self.old.capacity }
     {
-        if self.length == 0 {
-            return None;
-        }
-        let last = self.length - 1;
-        let item = drop_bit(&mut self.buffer, self.length, last);
-        self.length = last;
-        Some(item)
+        self.bits.pop()
     }
 
     /// Item `index`. Asks that it is below the length.
@@ -348,8 +297,8 @@ impl MutableBitmap {
         requires below { index < length self.now.items }
         ensures { result ≡ slice_index_or self.now.items index false }
     {
-        prove!(index < self.length);
-        get_bit(self.buffer.as_slice(), index)
+        prove!(index < self.len());
+        get_bit(self.as_slice(), index)
     }
 
     /// Writes item `index`, and leaves every other. Asks that it is below the length.
@@ -358,8 +307,8 @@ impl MutableBitmap {
         ensures items { self.new.items ≡ slice_set self.old.items index value }
         ensures capacity { self.new.capacity ≡ self.old.capacity }
     {
-        prove!(index < self.length);
-        write_bit(&mut self.buffer, self.length, index, value);
+        prove!(index < self.len());
+        self.bits.set(index, value);
     }
 
     /// Takes all items off.
@@ -367,8 +316,7 @@ impl MutableBitmap {
         ensures items { self.new.items ≡ [] }
         ensures capacity { self.new.capacity ≡ self.old.capacity }
     {
-        self.buffer.clear();
-        self.length = 0;
+        self.bits.clear();
     }
 
     /// The items, from both ends.
@@ -376,21 +324,21 @@ impl MutableBitmap {
         ensures items { result ≡ self.now.items }
         ensures fits { length self.now.items < 2 ^ 64 }
     {
-        BitmapIter::within(self.buffer.as_slice(), 0, self.length)
+        BitmapIter::within(self.as_slice(), 0, self.len())
     }
 
     /// How many items it can hold before it asks for memory, at most `usize::MAX`.
     pub fn capacity(&self) -> usize
         ensures { result ≡ self.now.capacity }
     {
-        self.buffer.capacity().saturating_mul(8)
+        self.bits.capacity()
     }
 
     /// How many items it has.
     pub fn len(&self) -> usize
         ensures { result ≡ length self.now.items }
     {
-        self.length
+        self.bits.len()
     }
 
     /// The allocator of its bytes: what a new bitmap beside it is made with.
@@ -399,7 +347,7 @@ impl MutableBitmap {
     pub fn allocator(&self) -> Global
         ensures { (only : Global) → result ≡ only }
     {
-        *self.buffer.allocator()
+        self.bits.allocator()
     }
 
     /// Whether it has no item.
@@ -413,7 +361,7 @@ impl MutableBitmap {
     pub fn unset_bits(&self) -> usize
         ensures { result ≡ falses self.now.items }
     {
-        count_zeros(self.buffer.as_slice(), 0, self.length)
+        count_zeros(self.as_slice(), 0, self.len())
     }
 
     /// The same as [`MutableBitmap::unset_bits`].
@@ -430,23 +378,7 @@ impl MutableBitmap {
         ensures items { take (length self.now.items) (bits result.now) ≡ self.now.items }
         ensures len { length result.now ≡ (length self.now.items + 7) / 8 }
     {
-        self.buffer.as_slice()
-    }
-
-    /// Adds one item at the end. The error is one byte.
-    fn push_item(&mut self, value: bool) -> std::result::Result<(), Refusal>
-        ensures ok { OnOk result (self.new.items ≡ self.old.items ++ value ∷ []) }
-        ensures err { OnErr result (self.new.items ≡ self.old.items) }
-        ensures overflow { IsErrOf result refusal.Overflow ↔ (length self.old.items ≡ 2 ^ 64 - 1) }
-        ensures room { length self.old.items < self.old.capacity → IsOk result }
-        ensures capacity { self.old.capacity ≤ self.new.capacity }
-    {
-        if self.length == usize::MAX {
-            return Err(Refusal::Overflow);
-        }
-        push_bit(&mut self.buffer, self.length, value)?;
-        self.length += 1;
-        Ok(())
+        self.bits.as_slice()
     }
 
     /// Writes what `op` answers to each word of the items, and to the row of words beside it, in place of that word.
@@ -470,7 +402,7 @@ impl MutableBitmap {
         ensures len { length self.new.items ≡ length self.old.items }
         ensures capacity { self.new.capacity ≡ self.old.capacity }
     {
-        write_rows(&mut self.buffer, self.length, rows, op);
+        self.bits.assign_rows(rows, op);
     }
 
     /// Makes each item the answer of table `t` for it and the bit of `other` at its place, 32 bytes at a time. Takes no
@@ -481,7 +413,7 @@ impl MutableBitmap {
             ∷ take (length self.old.items) (bits other.now) ∷ []) }
         ensures capacity { self.new.capacity ≡ self.old.capacity }
     {
-        write_beside(&mut self.buffer, self.length, other, t);
+        self.bits.answer_beside(other, t);
     }
 
     /// Makes each item the answer of table `t` for it, 32 bytes at a time. Takes no memory.
@@ -489,7 +421,7 @@ impl MutableBitmap {
         ensures items { self.new.items ≡ each t (self.old.items ∷ []) }
         ensures capacity { self.new.capacity ≡ self.old.capacity }
     {
-        write_answers(&mut self.buffer, self.length, t);
+        self.bits.answer(t);
     }
 
     /// Makes each item `value`. Takes no memory.
@@ -497,8 +429,7 @@ impl MutableBitmap {
         ensures items { self.new.items ≡ replicate (length self.old.items) value }
         ensures capacity { self.new.capacity ≡ self.old.capacity }
     {
-        fill_bytes(&mut self.buffer, if value { u8::MAX } else { 0 });
-        cut(&mut self.buffer, self.length);
+        self.bits.fill(value);
     }
 
     /// Its bytes, and how many items they hold.
@@ -508,8 +439,8 @@ impl MutableBitmap {
         ensures len { result.1 ≡ length self.items }
         ensures fits { result.1 ≤ 8 * vec_len result.0 }
     {
-        let MutableBitmap { buffer, length } = self;
-        (buffer, length)
+        let MutableBitmap { bits } = self;
+        bits.into_parts()
     }
 }
 
@@ -518,10 +449,8 @@ impl Clone for MutableBitmap {
     ghost is_clone = { λ a b. b.items ≡ a.items };
 
     fn clone(&self) -> std::result::Result<MutableBitmap, AllocError> {
-        let copy = Vec::from_slice(*self.buffer.allocator(), self.buffer.as_slice())?;
         Ok(MutableBitmap {
-            buffer: copy,
-            length: self.length,
+            bits: self.bits.clone()?,
         })
     }
 }
@@ -548,7 +477,7 @@ impl PartialEq for MutableBitmap {
         ensures told { result ≡ pointwise beq self.now.items other.now.items }
         ensures same { IsTrue result ↔ (self.now.items ≡ other.now.items) }
     {
-        self.length == other.length && self.as_slice() == other.as_slice()
+        self.len() == other.len() && self.as_slice() == other.as_slice()
     }
 }
 
@@ -563,142 +492,11 @@ fn filled(alloc: Global, byte: u8, count: usize) -> std::result::Result<Vec<u8>,
     vec![in alloc; byte; count]
 }
 
-/// Cuts what lies behind the first `length` bits: spare bytes, and spare bits of the last byte.
-fn cut(buffer: &mut Vec<u8>, length: usize)
-    requires { length ≤ 8 * vec_len buffer.old }
-    ensures canonical { IsCanonical buffer.new.items length }
-    ensures items { take length (bits buffer.new.items) ≡ take length (bits buffer.old.items) }
-    ensures capacity { vec_capacity buffer.new ≡ vec_capacity buffer.old }
-{
-    buffer.truncate(bytes_for(length));
-    if length % 8 != 0 {
-        buffer[length / 8] %= 1 << (length % 8);
-    }
-}
-
-/// Drops bit `last`, the last of the first `length` bits, which are all that the bytes hold, and gives it back. Its
-/// byte goes with it where it is alone there.
-fn drop_bit(buffer: &mut Vec<u8>, length: usize, last: usize) -> bool
-    requires canonical { IsCanonical buffer.old.items length }
-    requires last { last + 1 ≡ length }
-    ensures item { result ≡ slice_index_or (bits buffer.old.items) last false }
-    ensures canonical { IsCanonical buffer.new.items last }
-    ensures items { take last (bits buffer.new.items) ≡ take last (bits buffer.old.items) }
-    ensures capacity { vec_capacity buffer.new ≡ vec_capacity buffer.old }
-{
-    let item = clear_bit(buffer, length, last);
-    if last % 8 == 0 {
-        buffer.truncate(last / 8);
-    }
-    item
-}
-
-/// Clears bit `index` of the first `length` bits, which are all that the bytes hold, and gives back what it was.
-#[tactic(auto, using(crate::proofs::Buffer::writes))]
-fn clear_bit(buffer: &mut Vec<u8>, length: usize, index: usize) -> bool
-    requires canonical { IsCanonical buffer.old.items length }
-    requires within { index < length }
-    ensures item { result ≡ slice_index_or (bits buffer.old.items) index false }
-    ensures canonical { IsCanonical buffer.new.items length }
-    ensures items { take length (bits buffer.new.items)
-        ≡ slice_set (take length (bits buffer.old.items)) index false }
-    ensures capacity { vec_capacity buffer.new ≡ vec_capacity buffer.old }
-{
-    take_bit(buffer.as_mut_slice(), index)
-}
-
-/// Writes bit `index` of the first `length` bits, which are all that the bytes hold.
-#[tactic(auto, using(crate::proofs::Buffer::writes))]
-fn write_bit(buffer: &mut Vec<u8>, length: usize, index: usize, value: bool)
-    requires canonical { IsCanonical buffer.old.items length }
-    requires within { index < length }
-    ensures canonical { IsCanonical buffer.new.items length }
-    ensures items { take length (bits buffer.new.items)
-        ≡ slice_set (take length (bits buffer.old.items)) index value }
-    ensures capacity { vec_capacity buffer.new ≡ vec_capacity buffer.old }
-{
-    set_bit(buffer.as_mut_slice(), index, value);
-}
-
-/// Writes what `op` answers to each word of the first `length` bits, which are all that the bytes hold, and to the row
-/// of words beside it, in place of that word.
-fn write_rows<T: BitChunk, S: WordRows<T>, F: Fn(T, S::Row) -> T>(
-    buffer: &mut Vec<u8>,
-    length: usize,
-    rows: S,
-    op: F,
-)
-    requires callable { F.IsAlwaysCallable op }
-    requires alike { S.alike rows }
-    requires length { S.length rows ≡ length }
-    requires canonical { IsCanonical buffer.old.items length }
-    ensures canonical { IsCanonical buffer.new.items length }
-    ensures items { (f : List ℕ → ℕ) →
-        IsOwnRowFunction T.BitChunk.WIDTH S.words T.BitChunk.number (F.post op) f →
-        take length (bits buffer.new.items)
-        ≡ joined T.BitChunk.WIDTH (λ j.
-        f (word T.BitChunk.WIDTH (take length (bits buffer.old.items)) j
-        ∷ S.row_at rows j)) length }
-    ensures capacity { vec_capacity buffer.new ≡ vec_capacity buffer.old }
-{
-    assign_rows(buffer.as_mut_slice(), length, rows, op);
-}
-
-/// Writes the answers of table `t` for the first `length` bits and those of `other` in place.
-fn write_beside(buffer: &mut Vec<u8>, length: usize, other: &[u8], t: u8)
-    requires canonical { IsCanonical buffer.old.items length }
-    requires inside { length ≤ 8 * length' other.now }
-    ensures canonical { IsCanonical buffer.new.items length }
-    ensures items { take length (bits buffer.new.items)
-        ≡ each t (take length (bits buffer.old.items) ∷ take length (bits other.now) ∷ []) }
-    ensures capacity { vec_capacity buffer.new ≡ vec_capacity buffer.old }
-{
-    assign_binary(buffer.as_mut_slice(), other, length, t);
-}
-
-/// Writes the answers of table `t` for the first `length` bits in place.
-fn write_answers(buffer: &mut Vec<u8>, length: usize, t: u8)
-    requires canonical { IsCanonical buffer.old.items length }
-    ensures canonical { IsCanonical buffer.new.items length }
-    ensures items { take length (bits buffer.new.items)
-        ≡ each t (take length (bits buffer.old.items) ∷ []) }
-    ensures capacity { vec_capacity buffer.new ≡ vec_capacity buffer.old }
-{
-    assign_unary(buffer.as_mut_slice(), length, t);
-}
-
-/// Makes each byte `byte`.
-fn fill_bytes(buffer: &mut Vec<u8>, byte: u8)
-    ensures items { buffer.new.items ≡ replicate (vec_len buffer.old) byte }
-    ensures capacity { vec_capacity buffer.new ≡ vec_capacity buffer.old }
-{
-    buffer.as_mut_slice().fill(byte);
-}
-
-/// Adds one bit behind the first `length` bits, which are all that the bytes hold.
-fn push_bit(buffer: &mut Vec<u8>, length: usize, value: bool) -> std::result::Result<(), AllocError>
-    requires { IsCanonical buffer.old.items length }
-    ensures canonical { OnOk result (IsCanonical buffer.new.items (length + 1)) }
-    ensures items { OnOk result (take (length + 1) (bits buffer.new.items)
-        ≡ take length (bits buffer.old.items) ++ value ∷ []) }
-    ensures err { OnErr result (buffer.new.items ≡ buffer.old.items) }
-    ensures room { length < 8 * vec_capacity buffer.old → IsOk result }
-    ensures capacity { vec_capacity buffer.old ≤ vec_capacity buffer.new }
-{
-    let place = length % 8;
-    if place == 0 {
-        buffer.push(u8::from(value))?;
-    } else {
-        buffer[length / 8] |= u8::from(value) << place;
-    }
-    Ok(())
-}
-
 /// The text of its bytes from bit 0 on by [`arrow2_bits::fmt::fmt`].
 impl fmt::Debug for MutableBitmap {
     ghost debug_output = { λ m. Some (shown (canonical_bytes m.items) 0 (length m.items)) };
 
     fn fmt<W: fmt::Write>(&self, f: &mut fmt::Formatter<W>) -> fmt::Result {
-        arrow2_bits::fmt::fmt(self.buffer.as_slice(), 0, self.length, f)
+        arrow2_bits::fmt::fmt(self.as_slice(), 0, self.len(), f)
     }
 }

@@ -1,3 +1,5 @@
+pub mod Buffer
+pub mod Filled
 pub mod Packing
 pub mod Pushed
 pub mod Whole

@@ -8,13 +8,9 @@ use Rattle.arrow2_model.specs.Bits.{bit, bits, unnum}
 use Rattle.arrow2_model.specs.Canonical.{IsCanonical}
 use Rattle.arrow2_model.proofs.Bits.{length-unnum, get_or-unnum, bits-append, length-bits, get_or-bits, get_or-bits_at}
 use Rattle.arrow2_model.proofs.Bytes.{take-bits}
-use Rattle.arrow2_model.proofs.Canonical.{bytes_fit}
 use Rattle.arrow2_model.proofs.Parts.{get_or-padded}
 use Rattle.arrow2_model.proofs.Tables.{bit-zip2}
-
--- what a vector of bytes knows of its items
-abbrev pub AreBytes : List ℕ → Type 0
-AreBytes bytes = (i d : ℕ) → i < length bytes → get_or bytes i d < 256
+use Rattle.arrow2_growth.proofs.Buffer.{AreBytes, append_fits, take_fits, set_fits}
 
 -- bytes that hold these items and nothing else
 abbrev pub Hold : List ℕ → ℕ → List Bool → Type 0
@@ -26,7 +22,7 @@ held bytes n items fits size exact same =
     let l = length-bits bytes in
     let t = length-take-le n (bits bytes) (omega (arith, l, exact)) in (
       record {
-        fits = bytes_fit bytes fits;
+        fits = fits;
         exact = exact;
         clear = λ k h. elim (cases_lt k (8 * length bytes)) [
           | inl lt ↦ same k lt ∙ get_or_past items k false (omega (arith, size, h))
@@ -84,7 +80,7 @@ word_size word m of = omega (arith, length-bits word, length-unnum 64 m, ap leng
 
 -- where the items end a byte
 pub pushed_whole : (bytes after word : List ℕ) (n c k m x : ℕ) → IsCanonical bytes n → n % 8 ≡ 0 → c ≤ 64 → k ≡ (c + 7) / 8 → after ≡ bytes ++ take k word → bits word ≡ unnum 64 m
-    → unnum 64 m ≡ take c (unnum 64 x) ++ replicate (64 - c) false → AreBytes after → Hold after (n + c) (take n (bits bytes) ++ take c (unnum 64 x))
+    → unnum 64 m ≡ take c (unnum 64 x) ++ replicate (64 - c) false → AreBytes word → Hold after (n + c) (take n (bits bytes) ++ take c (unnum 64 x))
 pushed_whole bytes after word n c k m x canonical whole few size e of mask fits =
     let own : List Bool = take n (bits bytes) in
     let new : List Bool = take c (unnum 64 x) in
@@ -94,7 +90,8 @@ pushed_whole bytes after word n c k m x canonical whole few size e of mask fits 
     let v = length-take-le c (unnum 64 x) (omega (arith, length-unnum 64 x)) in
     let t = length-take-le k word (omega (arith, wide)) in
     let a = length-append bytes (take k word) in
-    held after (n + c) (own ++ new) fits (omega (arith, length-append own new, u, v)) (omega (arith, ap length e, a, t, canonical.exact)) (λ i i<. elim (cases_lt i n) [
+    let low : AreBytes after = rw e (append_fits bytes (take k word) canonical.fits (take_fits k word fits)) in
+    held after (n + c) (own ++ new) low (omega (arith, length-append own new, u, v)) (omega (arith, ap length e, a, t, canonical.exact)) (λ i i<. elim (cases_lt i n) [
       | inl lt ↦ before bytes after (take k word) i e (omega (arith, canonical.exact)) ∙ sym (get_or_append_left own new false i (omega (arith, u)) ∙ get_or-take n (bits bytes) i false lt)
       | inr ge ↦
           let at : i - 8 * length bytes ≡ i - n = omega (arith, canonical.exact) in
@@ -117,8 +114,8 @@ last_clear bytes grown more n z i canonical some e is h h' =
 -- where they end within a byte
 pub pushed_within : (bytes grown after word : List ℕ) (n c k m r x y z : ℕ) → IsCanonical bytes n → 0 < n % 8 → c ≤ 64 → k ≡ (n % 8 + c + 7) / 8 - 1 → grown ≡ bytes ++ take k word → bits word ≡ unnum 64 r
     → unnum 64 r ≡ drop (8 - n % 8) (unnum 64 m) ++ replicate (8 - n % 8) false → unnum 64 m ≡ take c (unnum 64 x) ++ replicate (64 - c) false → z ≡ get_or grown (n / 8) z
-    → ((i : ℕ) → i < n % 8 → bit y i ≡ bit z i) → ((i : ℕ) → n % 8 + i < 8 → bit y (n % 8 + i) ≡ bit m i) → after ≡ set grown (n / 8) y → AreBytes after → Hold after (n + c) (take n (bits bytes) ++ take c (unnum 64 x))
-pushed_within bytes grown after word n c k m r x y z canonical some few size e of down mask is kept written was fits =
+    → ((i : ℕ) → i < n % 8 → bit y i ≡ bit z i) → ((i : ℕ) → n % 8 + i < 8 → bit y (n % 8 + i) ≡ bit m i) → after ≡ set grown (n / 8) y → AreBytes word → y < 256 → Hold after (n + c) (take n (bits bytes) ++ take c (unnum 64 x))
+pushed_within bytes grown after word n c k m r x y z canonical some few size e of down mask is kept written was fits y< =
     let own : List Bool = take n (bits bytes) in
     let new : List Bool = take c (unnum 64 x) in
     let l = length-bits bytes in
@@ -138,7 +135,8 @@ pushed_within bytes grown after word n c k m r x y z canonical some few size e o
     λ i ne lt. get_or-bits_at after i false lt ∙ (ap (λ (b : ℕ). bit b (i % 8)) (ap (λ (b : List ℕ). get_or b (i / 8) 0) was ∙ get_or-set_other grown (n / 8) (i / 8) y 0 ne) ∙ sym (get_or-bits_at grown i false (omega (arith, s)))) in
     let same : (i : ℕ) → i / 8 ≡ n / 8 → get_or (bits after) i false ≡ bit y (i % 8) =
     λ i eq. get_or-bits_at after i false (omega (arith, s, j<, eq)) ∙ ap (λ (b : ℕ). bit b (i % 8)) (ap (λ (b : List ℕ). get_or b (i / 8) 0) was ∙ (ap (λ j. get_or (set grown (n / 8) y) j 0) eq ∙ get_or-set_same grown (n / 8) y 0 j<)) in
-    held after (n + c) (own ++ new) fits (omega (arith, length-append own new, u, v)) (omega (arith, s, g, size, canonical.exact)) (λ i i<. elim (cases_eq (i / 8) (n / 8)) [
+    let low : AreBytes after = rw was (set_fits grown (n / 8) y (rw e (append_fits bytes (take k word) canonical.fits (take_fits k word fits))) y<) in
+    held after (n + c) (own ++ new) low (omega (arith, length-append own new, u, v)) (omega (arith, s, g, size, canonical.exact)) (λ i i<. elim (cases_eq (i / 8) (n / 8)) [
       | inl eq ↦ elim (cases_lt i n) [
         | inl lt ↦
             same i eq ∙ (kept (i % 8) (omega arith) ∙ (ap (λ (b : ℕ). bit b (i % 8)) last

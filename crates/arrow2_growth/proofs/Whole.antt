@@ -1,7 +1,7 @@
 -- Many items behind those that bytes hold.
-use Rattle.std.proofs.Common.{◌≡◌, inl, inr, ℕ, ◌+◌, ◌-◌, ◌*◌, ◌/◌, ◌%◌, ◌<◌, ◌≤◌, List, ◌++◌, Bool, true, false, take, drop, replicate, length, get_or, refl, ap, sym, ◌∙◌, arith}
+use Rattle.std.proofs.Common.{◌≡◌, inl, inr, ℕ, ◌+◌, ◌-◌, ◌*◌, ◌/◌, ◌%◌, ◌<◌, ◌≤◌, List, ◌++◌, Bool, true, false, take, drop, replicate, length, get_or, refl, subst, ap, sym, ◌∙◌, arith}
 use Rattle.std.proofs.lemmas.Bool.{cases_lt}
-use Rattle.std.proofs.lemmas.List.{length-append, length-take-le, length-drop, get_or-take, get_or_append_left, get_or-append_right, get_or_past, ext_get_or, take_all, take-append-le, drop_more, append_assoc, take-replicate, replicate-append-replicate}
+use Rattle.std.proofs.lemmas.List.{length-append, length-take-le, length-drop, length-replicate, get_or-take, get_or_append_left, get_or-append_right, get_or_past, ext_get_or, take_all, take-append-le, drop_more, append_assoc, take-replicate, replicate-append-replicate}
 use Rattle.std.proofs.lemmas.Slice.{take-put_mid}
 use Rattle.std.proofs.Math.Seq.{take-add}
 use borrow.Rule.Slice.PartMut.{put_mid}
@@ -10,8 +10,9 @@ use Rattle.arrow2_model.specs.Canonical.{IsCanonical}
 use Rattle.arrow2_model.specs.Parts.{part}
 use Rattle.arrow2_model.proofs.Bits.{length-unnum, get_or-unnum, bits-cons, bits-append, length-bits}
 use Rattle.arrow2_model.proofs.Bytes.{take-bits, drop-bits, bits-ones, bits-zeros, part-bits-drop}
-use Rattle.arrow2_model.proofs.Parts.{part-add}
-use Rattle.arrow2_growth.proofs.Pushed.{AreBytes, Hold, held, before}
+use Rattle.arrow2_model.proofs.Parts.{part-add, length-part}
+use Rattle.arrow2_growth.proofs.Buffer.{AreBytes, append_fits, copies_fit}
+use Rattle.arrow2_growth.proofs.Pushed.{Hold, held, before}
 
 -- ---- whole bytes
 
@@ -19,7 +20,7 @@ behind : (bytes grown more : List ℕ) (k : ℕ) → grown ≡ bytes ++ more →
 behind bytes grown more k e h = ap (λ (b : List Bool). get_or b k false) (ap bits e ∙ bits-append bytes more) ∙ get_or-append_right (bits bytes) (bits more) (8 * length bytes) k false (length-bits bytes) h
 
 -- all bits of bytes behind items that end a byte
-pub pushed_bytes : (bytes after more : List ℕ) (n : ℕ) → IsCanonical bytes n → (0 < length more → n % 8 ≡ 0) → after ≡ bytes ++ more → AreBytes after → Hold after (n + 8 * length more) (take n (bits bytes) ++ bits more)
+pub pushed_bytes : (bytes after more : List ℕ) (n : ℕ) → IsCanonical bytes n → (0 < length more → n % 8 ≡ 0) → after ≡ bytes ++ more → AreBytes more → Hold after (n + 8 * length more) (take n (bits bytes) ++ bits more)
 pushed_bytes bytes after more n canonical whole e fits =
     let own : List Bool = take n (bits bytes) in
     let l = length-bits bytes in
@@ -31,7 +32,7 @@ pushed_bytes bytes after more n canonical whole e fits =
       | inl some ↦ omega (arith, ap length e, a, canonical.exact, whole some)
       | inr none ↦ omega (arith, ap length e, a, canonical.exact, none)
     ] in
-    held after (n + 8 * length more) (own ++ bits more) fits (omega (arith, b, u, m)) size (λ k k<. elim (cases_lt k (8 * length bytes)) [
+    held after (n + 8 * length more) (own ++ bits more) (rw e (append_fits bytes more canonical.fits fits)) (omega (arith, b, u, m)) size (λ k k<. elim (cases_lt k (8 * length bytes)) [
       | inl lt ↦ before bytes after more k e lt ∙ (elim (cases_lt k n) [
         | inl own< ↦ sym (get_or_append_left own (bits more) false k (omega (arith, u)) ∙ get_or-take n (bits bytes) k false own<)
         | inr past ↦ canonical.clear k past ∙ sym (get_or_past (own ++ bits more) k false (elim (cases_lt 0 (length more)) [
@@ -51,6 +52,13 @@ pub filled_up : (bytes after : List ℕ) (l m c b : ℕ) → after ≡ take (l +
 filled_up bytes after l m c b e is-l is-m =
     let count : l + c - m ≡ c = omega arith in
     e ∙ (ap (λ (t : List ℕ). t ++ replicate (l + c - m) b) (take_all (l + c) bytes (omega (arith, is-l))) ∙ ap (λ k. bytes ++ replicate k b) count)
+
+-- all bits of one byte so many times behind items that end a byte
+pub pushed_copies : (bytes after : List ℕ) (n l m c b : ℕ) → IsCanonical bytes n → (0 < c → n % 8 ≡ 0) → after ≡ take (l + c) bytes ++ replicate (l + c - m) b → l ≡ length bytes → m ≡ length bytes → b < 256 → Hold after (n + 8 * c) (take n (bits bytes) ++ bits (replicate c b))
+pushed_copies bytes after n l m c b canonical whole e is-l is-m fits =
+    let count : length (replicate c b) ≡ c = length-replicate c b in
+    subst (λ k. Hold after (n + 8 * k) (take n (bits bytes) ++ bits (replicate c b))) count
+    (pushed_bytes bytes after (replicate c b) n canonical (λ some. whole (omega (arith, count, some))) (filled_up bytes after l m c b e is-l is-m) (copies_fit c b fits))
 
 -- the lowest bits of a byte, as those of a word
 low_bits : (b r : ℕ) → r ≤ 8 → take r (unnum 8 b) ≡ take r (unnum 64 b)
@@ -75,25 +83,18 @@ front_of_bits bytes c h some =
     ap (λ k. take k (bits bytes)) at ∙ (take-add (8 * w) r (bits bytes) ∙ (ap (λ (t : List Bool). t ++ take r (drop (8 * w) (bits bytes))) (take-bits bytes w (omega arith)) ∙ ap (λ (t : List Bool). bits (take w bytes) ++ t) last))
 
 -- a front of bits behind items, the last byte of it by a word
-pub pushed_front : (slice grown after : List ℕ) (own : List Bool) (n c x : ℕ) → c ≤ 8 * length slice → 0 < c % 8 → take (n + 8 * length (take (c / 8) slice)) (bits grown) ≡ own ++ bits (take (c / 8) slice)
-    → take (n + 8 * (c / 8) + c % 8) (bits after) ≡ take (n + 8 * (c / 8)) (bits grown) ++ take (c % 8) (unnum 64 x) → x ≡ get_or slice (c / 8) 0 → take (n + c) (bits after) ≡ own ++ take c (bits slice)
-pushed_front slice grown after own n c x inside some first last is =
-    let t = length-take-le (c / 8) slice (omega arith) in
-    let at : n + c ≡ n + 8 * (c / 8) + c % 8 = omega arith in
-    let same : n + 8 * (c / 8) ≡ n + 8 * length (take (c / 8) slice) = omega (arith, t) in
-    ap (λ k. take k (bits after)) at
-    ∙ (last ∙ (ap (λ k. take k (bits grown) ++ take (c % 8) (unnum 64 x)) same
-    ∙ (ap (λ (t : List Bool). t ++ take (c % 8) (unnum 64 x)) first
+pub pushed_front : (slice : List ℕ) (own first after : List Bool) (c x : ℕ) → c ≤ 8 * length slice → 0 < c % 8 → first ≡ own ++ bits (take (c / 8) slice) → after ≡ first ++ take (c % 8) (unnum 64 x) → x ≡ get_or slice (c / 8) 0 → after ≡ own ++ take c (bits slice)
+pushed_front slice own first after c x inside some front last is =
+    last
+    ∙ (ap (λ (t : List Bool). t ++ take (c % 8) (unnum 64 x)) front
     ∙ (append_assoc own (bits (take (c / 8) slice)) (take (c % 8) (unnum 64 x))
-    ∙ ap (λ (t : List Bool). own ++ t) (ap (λ y. bits (take (c / 8) slice) ++ take (c % 8) (unnum 64 y)) is ∙ sym (front_of_bits slice c inside some))))))
+    ∙ ap (λ (t : List Bool). own ++ t) (ap (λ y. bits (take (c / 8) slice) ++ take (c % 8) (unnum 64 y)) is ∙ sym (front_of_bits slice c inside some))))
 
 -- the same where it ends a byte
-pub pushed_whole_front : (slice after : List ℕ) (own : List Bool) (n c : ℕ) → c ≤ 8 * length slice → c % 8 ≡ 0 → take (n + 8 * length (take (c / 8) slice)) (bits after) ≡ own ++ bits (take (c / 8) slice) → take (n + c) (bits after) ≡ own ++ take c (bits slice)
-pushed_whole_front slice after own n c inside whole first =
-    let t = length-take-le (c / 8) slice (omega arith) in
-    let at : n + c ≡ n + 8 * length (take (c / 8) slice) = omega (arith, t) in
+pub pushed_whole_front : (slice : List ℕ) (own after : List Bool) (c : ℕ) → c ≤ 8 * length slice → c % 8 ≡ 0 → after ≡ own ++ bits (take (c / 8) slice) → after ≡ own ++ take c (bits slice)
+pushed_whole_front slice own after c inside whole front =
     let count : 8 * (c / 8) ≡ c = omega arith in
-    ap (λ k. take k (bits after)) at ∙ (first ∙ ap (λ (t : List Bool). own ++ t) (sym (take-bits slice (c / 8) (omega arith)) ∙ ap (λ k. take k (bits slice)) count))
+    front ∙ ap (λ (t : List Bool). own ++ t) (sym (take-bits slice (c / 8) (omega arith)) ∙ ap (λ k. take k (bits slice)) count)
 
 -- ---- one value
 
@@ -116,30 +117,36 @@ pub are_false : Are false 0 0
 are_false = (unnum-none, bits-zeros)
 
 -- a value behind items: by a word up to the end of the byte, by bytes, and by a word
-pub constant_items : (first second third : List ℕ) (own : List Bool) (v : Bool) (n a h q r t word byte : ℕ) → Are v word byte → a ≡ h + 8 * q + r → h ≤ 64 → r ≤ 64 → t ≡ n + a → take (n + h) (bits first) ≡ own ++ take h (unnum 64 word)
-    → take (n + h + 8 * q) (bits second) ≡ take (n + h) (bits first) ++ bits (replicate q byte) → take (t - r + r) (bits third) ≡ take (t - r) (bits second) ++ take r (unnum 64 word) → take (n + a) (bits third) ≡ own ++ replicate a v
-constant_items first second third own v n a h q r t word byte are sum few less total f s l =
+pub constant_items : (own first second third : List Bool) (v : Bool) (a h q r word byte : ℕ) → Are v word byte → a ≡ h + 8 * q + r → h ≤ 64 → r ≤ 64 → first ≡ own ++ take h (unnum 64 word) → second ≡ first ++ bits (replicate q byte) → third ≡ second ++ take r (unnum 64 word) → third ≡ own ++ replicate a v
+constant_items own first second third v a h q r word byte are sum few less f s l =
     let head : take h (unnum 64 word) ≡ replicate h v = ap (take h) are.0 ∙ take-replicate h 64 v few in
     let last : take r (unnum 64 word) ≡ replicate r v = ap (take r) are.0 ∙ take-replicate r 64 v less in
-    let one : take (n + h) (bits first) ≡ own ++ replicate h v = f ∙ ap (λ (x : List Bool). own ++ x) head in
-    let two : take (n + h + 8 * q) (bits second) ≡ own ++ replicate (h + 8 * q) v =
+    let one : first ≡ own ++ replicate h v = f ∙ ap (λ (x : List Bool). own ++ x) head in
+    let two : second ≡ own ++ replicate (h + 8 * q) v =
     s ∙ (ap (λ (x : List Bool). x ++ bits (replicate q byte)) one ∙ (append_assoc own (replicate h v) (bits (replicate q byte)) ∙ ap (λ (x : List Bool). own ++ x) (ap (λ (x : List Bool). replicate h v ++ x) (are.1 q) ∙ replicate-append-replicate h (8 * q) v))) in
-    let at : n + a ≡ t - r + r = omega (arith, total, sum) in
-    let mid : t - r ≡ n + h + 8 * q = omega (arith, total, sum) in
-    let all : h + 8 * q + r ≡ a = omega (arith, sum) in
-    ap (λ k. take k (bits third)) at
-    ∙ (l ∙ (ap (λ k. take k (bits second) ++ take r (unnum 64 word)) mid
+    l
     ∙ (ap (λ (x : List Bool). x ++ take r (unnum 64 word)) two
-    ∙ (append_assoc own (replicate (h + 8 * q) v) (take r (unnum 64 word)) ∙ ap (λ (x : List Bool). own ++ x) (ap (λ (x : List Bool). replicate (h + 8 * q) v ++ x) last ∙ (replicate-append-replicate (h + 8 * q) r v ∙ ap (λ k. replicate k v) all))))))
+    ∙ (append_assoc own (replicate (h + 8 * q) v) (take r (unnum 64 word)) ∙ ap (λ (x : List Bool). own ++ x) (ap (λ (x : List Bool). replicate (h + 8 * q) v ++ x) last ∙ (replicate-append-replicate (h + 8 * q) r v ∙ ap (λ k. replicate k v) (sym sum)))))
 
 -- ---- the items of a walk
 
--- one word more
-pub word_pushed : (bytes after : List ℕ) (n x : ℕ) (items left all : List Bool) → take n (bits bytes) ++ items ≡ all → items ≡ unnum 64 x ++ left → take (n + 64) (bits after) ≡ take n (bits bytes) ++ take 64 (unnum 64 x) → take (n + 64) (bits after) ++ left ≡ all
-word_pushed bytes after n x items left all so first pushed =
-    let whole : take 64 (unnum 64 x) ≡ unnum 64 x = take_all 64 (unnum 64 x) (omega (arith, length-unnum 64 x)) in
-    ap (λ (t : List Bool). t ++ left) (pushed ∙ ap (λ (t : List Bool). take n (bits bytes) ++ t) whole)
-    ∙ (append_assoc (take n (bits bytes)) (unnum 64 x) left ∙ (ap (λ (t : List Bool). take n (bits bytes) ++ t) (sym first) ∙ so))
+-- what was first of the items still to come stands behind the others
+pub moved_on : (own new items more left all : List Bool) → own ++ items ≡ all → items ≡ more ++ left → new ≡ own ++ more → new ++ left ≡ all
+moved_on own new items more left all so first pushed =
+    ap (λ (t : List Bool). t ++ left) pushed ∙ (append_assoc own more left ∙ (ap (λ (t : List Bool). own ++ t) (sym first) ∙ so))
+
+-- all items of a word
+pub whole_word : (x : ℕ) → take 64 (unnum 64 x) ≡ unnum 64 x
+whole_word x = take_all 64 (unnum 64 x) (omega (arith, length-unnum 64 x))
+
+-- the rest stands behind the others
+pub rest_pushed : (own new items left all : List Bool) (k x : ℕ) → own ++ items ≡ all → left ≡ items → take (length left) (unnum 64 x) ≡ left → k ≡ length left → new ≡ own ++ take k (unnum 64 x) → new ≡ all
+rest_pushed own new items left all k x so is front size pushed =
+    pushed ∙ (ap (λ n. own ++ take n (unnum 64 x)) size ∙ (ap (λ (t : List Bool). own ++ t) (front ∙ is) ∙ so))
+
+-- lists that are joined to one are as long
+pub length-joined : (xs ys us vs : List Bool) → xs ++ ys ≡ us ++ vs → length xs + length ys ≡ length us + length vs
+length-joined xs ys us vs e = omega (arith, ap length e, length-append xs ys, length-append us vs)
 
 -- how many items a first word leaves
 pub length-word : (x : ℕ) (items left : List Bool) → items ≡ unnum 64 x ++ left → length items ≡ 64 + length left
@@ -161,31 +168,32 @@ length-word_in_block block after word i k x was of inside is =
     let rest : List ℕ = drop k (drop (8 * i) block) in
     omega (arith, ap length was, length-append (take (8 * i) block) (word ++ rest), length-append word rest, length-take-le (8 * i) block (omega arith), length-drop k (drop (8 * i) block), length-drop (8 * i) block, size, is)
 
--- eight words more
-pub block_pushed : (bytes after block : List ℕ) (n : ℕ) (items left all : List Bool) → take n (bits bytes) ++ items ≡ all → items ≡ bits block ++ left → length block ≡ 64 → take (n + 8 * length block) (bits after) ≡ take n (bits bytes) ++ bits block → take (n + 512) (bits after) ++ left ≡ all
-block_pushed bytes after block n items left all so first size pushed =
-    let at : n + 512 ≡ n + 8 * length block = omega (arith, size) in
-    ap (λ k. take k (bits after) ++ left) at
-    ∙ (ap (λ (t : List Bool). t ++ left) pushed
-    ∙ (append_assoc (take n (bits bytes)) (bits block) left ∙ (ap (λ (t : List Bool). take n (bits bytes) ++ t) (sym first) ∙ so)))
-
 -- how many items eight words leave
 pub length-block : (block : List ℕ) (items left : List Bool) → items ≡ bits block ++ left → length block ≡ 64 → length items ≡ 512 + length left
 length-block block items left e size = ap length e ∙ (length-append (bits block) left ∙ omega (arith, length-bits block, size))
 
 -- a part of bits behind items, its head first
-pub pushed_in_two : (slice first second : List ℕ) (own items : List Bool) (n offset count head j k : ℕ) → head ≤ count → j ≤ length slice → 8 * j + k ≡ offset + head → items ≡ part (bits slice) offset head → length items ≡ head
-    → take (n + length items) (bits first) ≡ own ++ items → take (n + head + (count - head)) (bits second) ≡ take (n + head) (bits first) ++ part (bits (take (length slice - j) (drop j slice))) k (count - head)
-    → take (n + count) (bits second) ≡ own ++ part (bits slice) offset count
-pushed_in_two slice first second own items n offset count head j k few inside at is size one two =
+pub pushed_in_two : (slice : List ℕ) (own first second items : List Bool) (offset count head j k : ℕ) → head ≤ count → j ≤ length slice → 8 * j + k ≡ offset + head → items ≡ part (bits slice) offset head → first ≡ own ++ items
+    → second ≡ first ++ part (bits (take (length slice - j) (drop j slice))) k (count - head) → second ≡ own ++ part (bits slice) offset count
+pushed_in_two slice own first second items offset count head j k few inside at is one two =
     let all : take (length slice - j) (drop j slice) ≡ drop j slice = take_all (length slice - j) (drop j slice) (omega (arith, length-drop j slice)) in
-    let end : n + count ≡ n + head + (count - head) = omega arith in
-    let same : n + head ≡ n + length items = omega (arith, size) in
     let whole : head + (count - head) ≡ count = omega arith in
     let rest : part (bits (take (length slice - j) (drop j slice))) k (count - head) ≡ part (bits slice) (offset + head) (count - head) =
     ap (λ (s : List ℕ). part (bits s) k (count - head)) all ∙ (part-bits-drop slice j k (count - head) inside ∙ ap (λ a. part (bits slice) a (count - head)) at) in
-    ap (λ m. take m (bits second)) end
-    ∙ (two ∙ (ap (λ m. take m (bits first) ++ part (bits (take (length slice - j) (drop j slice))) k (count - head)) same
+    two
     ∙ (ap (λ (t : List Bool). t ++ part (bits (take (length slice - j) (drop j slice))) k (count - head)) (one ∙ ap (λ (t : List Bool). own ++ t) is)
     ∙ (append_assoc own (part (bits slice) offset head) (part (bits (take (length slice - j) (drop j slice))) k (count - head))
-    ∙ ap (λ (t : List Bool). own ++ t) (ap (λ (t : List Bool). part (bits slice) offset head ++ t) rest ∙ (sym (part-add (bits slice) offset head (count - head)) ∙ ap (part (bits slice) offset) whole))))))
+    ∙ ap (λ (t : List Bool). own ++ t) (ap (λ (t : List Bool). part (bits slice) offset head ++ t) rest ∙ (sym (part-add (bits slice) offset head (count - head)) ∙ ap (part (bits slice) offset) whole))))
+
+-- ---- lengths
+
+pub length-append_word : (xs : List Bool) (k x : ℕ) → k ≤ 64 → length (xs ++ take k (unnum 64 x)) ≡ length xs + k
+length-append_word xs k x few = omega (arith, length-append xs (take k (unnum 64 x)), length-take-le k (unnum 64 x) (omega (arith, length-unnum 64 x)))
+
+pub length-append_bits : (xs : List Bool) (bytes : List ℕ) → length (xs ++ bits bytes) ≡ length xs + 8 * length bytes
+length-append_bits xs bytes = omega (arith, length-append xs (bits bytes), length-bits bytes)
+
+pub length-bits_part : (bytes : List ℕ) (offset count : ℕ) → offset + count ≤ 8 * length bytes → length (part (bits bytes) offset count) ≡ count
+length-bits_part bytes offset count inside = length-part (bits bytes) offset count (omega (arith, length-bits bytes))
+
+pub ruleset extending = (length-append_word, length-append_bits, length-bits_part, length-append, length-replicate, length-bits, length-word, length-block)

@@ -3,4 +3,4 @@
 
 pub mod extended;
 pub mod packed;
-pub mod words;
+pub mod packed_bits;

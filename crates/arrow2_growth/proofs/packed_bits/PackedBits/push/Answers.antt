@@ -1,0 +1,41 @@
+use Rattle.std.proofs.Common.{◌∙◌, ◌≤◌, ◌<◌, ◌+◌, ◌^◌, [], ◌∷◌, ◌++◌, ap, take, refl, arith, rules, vec_capacity, length}
+use Rattle.arrow2_model.specs.Bits.{bits}
+use Rattle.arrow2_growth.proofs.Buffer.{length_items, push_byte, push_place}
+use Rattle.arrow2_growth.proofs.Pushed.{Hold}
+use Rattle.arrow2_growth.proofs.packed_bits.PackedBits.push.Goals as goal
+use Rattle.arrow2_growth.proofs.packed_bits.PackedBits.push.Goals.{then-place-eq0+in_ok-push, else-place-eq0}
+
+-- the bytes hold one item more, and there is no less room
+pushed : (c : goal.After-self-2-1) →
+    (vec_capacity c.self.inside.bytes ≤ vec_capacity c.if-place-eq0.self-inside.bytes)
+    × Hold c.if-place-eq0.self-inside.bytes.items (c.if-place-eq0.self-inside.length + 1) (take c.self.inside.length (bits c.self.inside.bytes.items) ++ c.args.item ∷ [])
+pushed c =
+    let b = c.self.inside in
+    elim c.if-place-eq0.branch [
+      | then-place-eq0+in_ok-push w ↦ rw w.self-inside-is (
+        w.in_ok-push.ensures.capacity,
+        push_byte b.bytes.items w.push.new.self.items b.length w.from.result c.args.item c.self.invariant w.if-place-eq0.true w.in_ok-push.ensures.items w.from.ensures,
+      )
+      | else-place-eq0 w ↦ rw w.self-inside-is (
+        omega arith,
+        push_place b.bytes.items _ b.length w.index_mut.result.now w.from-else-place-eq0.result c.args.item c.self.invariant (omega (arith, w.if-place-eq0.false)) w.index_mut.ensures.value w.from-else-place-eq0.ensures refl,
+      )
+    ]
+
+pub invariant_of-self-2 : goal.invariant_of-self-2
+invariant_of-self-2 c = (pushed c).1.0
+
+pub returns : goal.returns
+returns c =
+    let b = c.self.inside in
+    let size = length_items b.bytes.items b.length c.self.invariant ∙ refl in
+    let seen = ap (λ m. length m.items) c.self.view_is in
+    let short : length c.args.self.now.items + 1 < 2 ^ 64 = omega (arith, size, seen, c.if-self.false, c.self.ranges) in
+    record {
+      ok = (pushed c).1.1 ∙ ap (λ m. m.items ++ c.args.item ∷ []) c.self.view_is;
+      err = search rules;
+      overflow = (search rules, λ h. absurd (omega (arith, short, h)));
+      only = search rules;
+      room = search rules;
+      capacity = omega (arith, (pushed c).0, ap (λ m. m.capacity) c.self.view_is);
+    }

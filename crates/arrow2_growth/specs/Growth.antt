@@ -1,0 +1,29 @@
+-- What growth by bits says.
+use Rattle.std.specs.Prelude.{◌≡◌, ◌+◌, ◌≤◌, ◌^◌, ◌↔◌, ◌⊎◌, List, ◌++◌, Bool, length, Result, OnOk, OnErr, IsOk, IfErr, IsErrOf}
+use Rattle.arrow2_model.specs.Storage.{GrowingBitmap}
+use Rattle.arrow2_types.specs.declared.refusal.Refusal.{Refusal}
+use Rattle.arrow2_types.specs.declared.refusal.Refusal.TheVariants.{Overflow, OutOfMemory}
+
+-- growth by these items, all of them or none. A refusal is told as an error
+pub record Appends {T E : Type 0} (told : Refusal → E) (r : Result T E) (old new : GrowingBitmap) (more : List Bool) : Type 0 where
+  -- they stand behind the others
+  pub ok : OnOk r (new.items ≡ old.items ++ more)
+  -- a refusal leaves the items
+  pub err : OnErr r (new.items ≡ old.items)
+  -- it overflows exactly where there would be more items than a usize counts
+  pub overflow : IsErrOf r (told Overflow) ↔ (2 ^ 64 ≤ length old.items + length more)
+  -- there is no other error but want of memory
+  pub only : IfErr r (λ e. (e ≡ told Overflow) ⊎ (e ≡ told OutOfMemory))
+  -- within the capacity it takes no memory
+  pub room : length old.items + length more ≤ old.capacity → IsOk r
+  -- the capacity never falls
+  pub capacity : old.capacity ≤ new.capacity
+
+-- these items are written behind the others, of which there are not too many with them
+pub record Pushes {T E : Type 0} (r : Result T E) (old new : GrowingBitmap) (more : List Bool) : Type 0 where
+  -- they stand behind the others
+  pub ok : OnOk r (new.items ≡ old.items ++ more)
+  -- within the capacity it takes no memory
+  pub room : length old.items + length more ≤ old.capacity → IsOk r
+  -- the capacity never falls
+  pub capacity : old.capacity ≤ new.capacity

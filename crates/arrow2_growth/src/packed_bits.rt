@@ -1,0 +1,377 @@
+//! Booleans packed into bytes, which grow.
+ghost use Rattle.std.specs.Prelude.{◌≡◌, ◌+◌, ◌-◌, ◌*◌, ◌/◌, ◌%◌, ◌<◌, ◌≤◌, ◌^◌, ◌↔◌, ℕ, IsTrue, List, Bool, [], ◌∷◌, ◌++◌, false, length, length as length', take, replicate, slice_index_or, slice_set, OnOk, OnErr, IsOk, IfOk, IfNone, IsErrOf, MatchOption, vec_len, vec_capacity};
+ghost use Rattle.arrow2_model.specs.Bits.{bit, bits, unnum};
+ghost use Rattle.arrow2_model.specs.Canonical.{canonical_bytes, IsCanonical};
+ghost use Rattle.arrow2_model.specs.Kernels.{joined, kernel, word, words_at};
+ghost use Rattle.arrow2_model.specs.Rows.{ActsBesideRows, IsOwnRowFunction};
+ghost use Rattle.arrow2_model.specs.Tables.{each};
+ghost use Rattle.arrow2_growth.specs.Growth.{Appends, Pushes};
+ghost use Rattle.arrow2_types.specs.declared.refusal.Refusal.TheVariants as refusal;
+ghost use Rattle.std.specs.declared.alloc.Global.{Global};
+
+use arrow2_bits::{bytes_for, get_bit, set};
+use arrow2_chunk::bit_chunk::BitChunk;
+use arrow2_kernels::assigned::assign_rows;
+use arrow2_kernels::lane_assigned::{assign_binary, assign_unary};
+use arrow2_kernels::rows::WordRows;
+use arrow2_types::refusal::Refusal;
+use std::alloc::{AllocError, Global};
+use std::marker::Model;
+
+/// Booleans packed into bytes, which grow: contracts see the items, and how many it has room for.
+///
+/// There is no spare byte, and every spare bit is false.
+#[derive(Drop)]
+pub struct PackedBits {
+    bytes: Vec<u8>,
+    length: usize,
+}
+
+impl Model for PackedBits {
+    ghost use Rattle.std.specs.Prelude.{◌-◌, ◌*◌, ◌^◌, vec_capacity, min, take};
+    ghost use Rattle.arrow2_model.specs.Bits.{bits};
+    ghost use Rattle.arrow2_model.specs.Canonical.{IsCanonical};
+    ghost use Rattle.arrow2_model.specs.Storage.{GrowingBitmap};
+
+    ghost Value = { GrowingBitmap };
+
+    ghost view = { λ b. record {
+      items = take b.length (bits b.bytes.items);
+      capacity = min (8 * vec_capacity b.bytes) (2 ^ 64 - 1);
+    } };
+
+    ghost invariant = { λ b. IsCanonical b.bytes.items b.length };
+}
+
+#[tactic(auto, using(crate::proofs::Buffer::buffers))]
+impl PackedBits {
+    /// No items. Takes no memory.
+    pub fn new(alloc: Global) -> PackedBits
+        ensures { result.items ≡ [] }
+    {
+        PackedBits {
+            bytes: Vec::new(alloc),
+            length: 0,
+        }
+    }
+
+    /// No items, with room for `capacity`.
+    pub fn with_capacity(alloc: Global, capacity: usize) -> Result<PackedBits, AllocError>
+        ensures items { IfOk result (λ b. b.items ≡ []) }
+        ensures room { IfOk result (λ b. capacity ≤ b.capacity) }
+    {
+        let bytes = Vec::with_capacity(alloc, bytes_for(capacity))?;
+        Ok(PackedBits { bytes, length: 0 })
+    }
+
+    /// The first `length` bits of the bytes. Spare bytes are cut and spare bits cleared, in place. Asks that there are as
+    /// many. Takes no memory.
+    pub fn from_vec(bytes: Vec<u8>, length: usize) -> PackedBits
+        requires fits { length ≤ 8 * vec_len bytes }
+        ensures items { result.items ≡ take length (bits bytes.items) }
+        ensures len { length' result.items ≡ length }
+    {
+        let mut bytes = bytes;
+        cut(&mut bytes, length);
+        PackedBits { bytes, length }
+    }
+
+    /// How many items there are.
+    pub fn len(&self) -> usize
+        ensures { result ≡ length self.now.items }
+    {
+        self.length
+    }
+
+    /// Whether there is none.
+    pub fn is_empty(&self) -> bool
+        ensures { IsTrue result ↔ (length self.now.items ≡ 0) }
+    {
+        self.length == 0
+    }
+
+    /// How many items there is room for before memory is asked for, at most `usize::MAX`.
+    pub fn capacity(&self) -> usize
+        ensures { result ≡ self.now.capacity }
+    {
+        self.bytes.capacity().saturating_mul(8)
+    }
+
+    /// The allocator of the bytes.
+    pub fn allocator(&self) -> Global
+        ensures { (only : Global) → result ≡ only }
+    {
+        *self.bytes.allocator()
+    }
+
+    /// The bytes of the items: as many as they need, with spare bits false.
+    pub fn as_slice(&self) -> &[u8]
+        ensures bytes { result.now ≡ canonical_bytes self.now.items }
+        ensures items { take (length self.now.items) (bits result.now) ≡ self.now.items }
+        ensures len { length result.now ≡ (length self.now.items + 7) / 8 }
+    {
+        self.bytes.as_slice()
+    }
+
+    /// The bytes of the items, and how many items they hold.
+    pub fn into_parts(self) -> (Vec<u8>, usize)
+        ensures bytes { result.0.items ≡ canonical_bytes self.items }
+        ensures items { take result.1 (bits result.0.items) ≡ self.items }
+        ensures len { result.1 ≡ length self.items }
+        ensures fits { result.1 ≤ 8 * vec_len result.0 }
+    {
+        let PackedBits { bytes, length } = self;
+        (bytes, length)
+    }
+
+    /// Makes room for `additional` items more.
+    ///
+    /// # Errors
+    ///
+    /// `Overflow` exactly where they would be more than `usize::MAX`, else `OutOfMemory` alone.
+    pub fn reserve(&mut self, additional: usize) -> Result<(), Refusal>
+        ensures items { self.new.items ≡ self.old.items }
+        ensures ok { OnOk result (length self.old.items + additional ≤ self.new.capacity) }
+        ensures overflow { IsErrOf result refusal.Overflow ↔
+            (2 ^ 64 ≤ length self.old.items + additional) }
+        ensures room { length self.old.items + additional ≤ self.old.capacity → IsOk result }
+        ensures capacity { self.old.capacity ≤ self.new.capacity }
+    {
+        let Some(total) = self.length.checked_add(additional) else {
+            return Err(Refusal::Overflow);
+        };
+        self.bytes.reserve(bytes_for(total) - self.bytes.len())?;
+        Ok(())
+    }
+
+    /// Gives back room that is not used, where the allocator takes it.
+    pub fn shrink_to_fit(&mut self)
+        ensures items { self.new.items ≡ self.old.items }
+        ensures capacity { self.new.capacity ≤ self.old.capacity }
+    {
+        self.bytes.shrink_to_fit();
+    }
+
+    /// Takes all items off.
+    pub fn clear(&mut self)
+        ensures items { self.new.items ≡ [] }
+        ensures capacity { self.new.capacity ≡ self.old.capacity }
+    {
+        self.bytes.clear();
+        self.length = 0;
+    }
+
+    /// Adds one item. Below the capacity it takes no memory.
+    ///
+    /// # Errors
+    ///
+    /// `Overflow` exactly where there are `usize::MAX` items, else `OutOfMemory` alone. After both the items are as before.
+    pub fn push(&mut self, item: bool) -> Result<(), Refusal>
+        ensures { Appends (λ refusal. refusal) result self.old self.new (item ∷ []) }
+    {
+        if self.length == usize::MAX {
+            return Err(Refusal::Overflow);
+        }
+        let place = self.length % 8;
+        if place == 0 {
+            self.bytes.push(u8::from(item))?;
+        } else {
+            self.bytes[self.length / 8] |= u8::from(item) << place;
+        }
+        self.length += 1;
+        Ok(())
+    }
+
+    /// Appends the first `count` items of `word`: what fits into the last byte goes there, and what is left behind it.
+    /// Spare bits stay false, whatever the word has behind these items. Asks that `count` is at most 64, and that all
+    /// items are no more than `usize::MAX`.
+    ///
+    /// # Errors
+    ///
+    /// Where memory is refused. The items are as before then.
+    pub(crate) fn push_word(&mut self, word: u64, count: usize) -> Result<(), AllocError>
+        requires few { count ≤ 64 }
+        requires fits { length self.old.items + count < 2 ^ 64 }
+        ensures pushes { Pushes result self.old self.new (take count (unnum 64 word)) }
+        ensures err { OnErr result (self.new.items ≡ self.old.items) }
+    {
+        let word = BitChunk::masked(word, count);
+        let place = self.length % 8;
+        if place == 0 {
+            push_first(
+                &mut self.bytes,
+                &BitChunk::to_ne_bytes(word),
+                bytes_for(count),
+            )?;
+        } else {
+            let behind = BitChunk::to_ne_bytes(BitChunk::down(word, 8 - place));
+            push_first(&mut self.bytes, &behind, bytes_for(place + count) - 1)?;
+            let last = &mut self.bytes[self.length / 8];
+            *last = merged(*last, word, place);
+        }
+        self.length += count;
+        Ok(())
+    }
+
+    /// Appends all bits of `slice`. Asks that the items end a byte, where a bit is appended at all, and that all items
+    /// are no more than `usize::MAX`.
+    pub(crate) fn push_bytes(&mut self, slice: &[u8]) -> Result<(), AllocError>
+        requires whole { 0 < length' slice.now → length self.old.items % 8 ≡ 0 }
+        requires fits { length self.old.items + 8 * length' slice.now < 2 ^ 64 }
+        ensures pushes { Pushes result self.old self.new (bits slice.now) }
+        ensures err { OnErr result (self.new.items ≡ self.old.items) }
+    {
+        self.bytes.extend_from_slice(slice)?;
+        self.length += 8 * slice.len();
+        Ok(())
+    }
+
+    /// Appends all bits of `byte` `count` times. Asks that the items end a byte, where it is appended at all, and that
+    /// all items are no more than `usize::MAX`.
+    pub(crate) fn push_copies(&mut self, byte: u8, count: usize) -> Result<(), AllocError>
+        requires whole { 0 < count → length self.old.items % 8 ≡ 0 }
+        requires fits { length self.old.items + 8 * count < 2 ^ 64 }
+        ensures pushes { Pushes result self.old self.new (bits (replicate count byte)) }
+        ensures err { OnErr result (self.new.items ≡ self.old.items) }
+    {
+        self.bytes.resize(self.bytes.len() + count, byte)?;
+        self.length += 8 * count;
+        Ok(())
+    }
+
+    /// Takes the last item off and gives it back, or `None` where there is none.
+    pub fn pop(&mut self) -> Option<bool>
+        ensures last { MatchOption result (self.old.items ≡ []) (λ item.
+            self.old.items ≡ self.new.items ++ item ∷ []) }
+        ensures none { IfNone result (self.new.items ≡ []) }
+        ensures capacity { self.new.capacity ≡ self.old.capacity }
+    {
+        let last = self.length.checked_sub(1)?;
+        let item = get_bit(self.bytes.as_slice(), last);
+        cut(&mut self.bytes, last);
+        self.length = last;
+        Some(item)
+    }
+
+    /// Writes item `index`, and leaves every other. Asks that there is one.
+    pub fn set(&mut self, index: usize, value: bool)
+        requires below { index < length self.old.items }
+        ensures items { self.new.items ≡ slice_set self.old.items index value }
+        ensures capacity { self.new.capacity ≡ self.old.capacity }
+    {
+        let byte = &mut self.bytes[index / 8];
+        *byte = set(*byte, index % 8, value);
+    }
+
+    /// Writes what `op` answers to each word of the items, and to the row of words beside it, in place of that word.
+    /// Takes no memory. Asks for rows of as many items.
+    pub fn assign_rows<T: BitChunk, S: WordRows<T>, F: Fn(T, S::Row) -> T>(
+        &mut self,
+        rows: S,
+        op: F,
+    )
+        requires callable { F.IsAlwaysCallable op }
+        requires alike { S.alike rows }
+        requires length { S.length rows ≡ length' self.old.items }
+        ensures kernel { (f : List ℕ → ℕ) (lists : List (List Bool)) →
+            IsOwnRowFunction T.BitChunk.WIDTH S.words T.BitChunk.number (F.post op) f →
+            ((j : ℕ) → S.row_at rows j ≡ words_at T.BitChunk.WIDTH lists j) →
+            self.new.items ≡ kernel T.BitChunk.WIDTH f (self.old.items ∷ lists) }
+        ensures table { (t : ℕ) (lists : List (List Bool)) →
+            ActsBesideRows T.BitChunk.WIDTH S.words T.BitChunk.number (F.post op) t →
+            ((j : ℕ) → S.row_at rows j ≡ words_at T.BitChunk.WIDTH lists j) →
+            self.new.items ≡ each t (self.old.items ∷ lists) }
+        ensures len { length' self.new.items ≡ length' self.old.items }
+        ensures capacity { self.new.capacity ≡ self.old.capacity }
+    {
+        assign_rows(self.bytes.as_mut_slice(), self.length, rows, op);
+    }
+
+    /// Makes each item the answer of table `t` for it and the bit of `other` at its place, 32 bytes at a time. Takes no
+    /// memory. Asks for as many bits.
+    pub fn answer_beside(&mut self, other: &[u8], t: u8)
+        requires inside { length self.old.items ≤ 8 * length other.now }
+        ensures items { self.new.items ≡ each t (self.old.items
+            ∷ take (length self.old.items) (bits other.now) ∷ []) }
+        ensures capacity { self.new.capacity ≡ self.old.capacity }
+    {
+        assign_binary(self.bytes.as_mut_slice(), other, self.length, t);
+    }
+
+    /// Makes each item the answer of table `t` for it, 32 bytes at a time. Takes no memory.
+    pub fn answer(&mut self, t: u8)
+        ensures items { self.new.items ≡ each t (self.old.items ∷ []) }
+        ensures capacity { self.new.capacity ≡ self.old.capacity }
+    {
+        assign_unary(self.bytes.as_mut_slice(), self.length, t);
+    }
+
+    /// Makes each item `value`. Takes no memory.
+    pub fn fill(&mut self, value: bool)
+        ensures items { self.new.items ≡ replicate (length self.old.items) value }
+        ensures capacity { self.new.capacity ≡ self.old.capacity }
+    {
+        fill_bytes(&mut self.bytes, if value { u8::MAX } else { 0 });
+        cut(&mut self.bytes, self.length);
+    }
+}
+
+/// Cuts what lies behind the first `length` bits: spare bytes, and spare bits of the last byte.
+fn cut(bytes: &mut Vec<u8>, length: usize)
+    requires { length ≤ 8 * vec_len bytes.old }
+    ensures canonical { IsCanonical bytes.new.items length }
+    ensures items { take length (bits bytes.new.items) ≡ take length (bits bytes.old.items) }
+    ensures capacity { vec_capacity bytes.new ≡ vec_capacity bytes.old }
+{
+    bytes.truncate(bytes_for(length));
+    if length % 8 != 0 {
+        bytes[length / 8] %= 1 << (length % 8);
+    }
+}
+
+/// A copy of the items.
+impl Clone for PackedBits {
+    ghost is_clone = { λ a b. b.items ≡ a.items };
+
+    fn clone(&self) -> std::result::Result<PackedBits, AllocError> {
+        let bytes = Vec::from_slice(*self.bytes.allocator(), self.bytes.as_slice())?;
+        Ok(PackedBits {
+            bytes,
+            length: self.length,
+        })
+    }
+}
+
+/// Makes each byte `byte`.
+fn fill_bytes(bytes: &mut Vec<u8>, byte: u8)
+    ensures items { bytes.new.items ≡ replicate (vec_len bytes.old) byte }
+    ensures capacity { vec_capacity bytes.new ≡ vec_capacity bytes.old }
+{
+    bytes.as_mut_slice().fill(byte);
+}
+
+/// Appends the first `count` of eight bytes. All of them, as most often, are one store. Asks that `count` is at most 8.
+fn push_first(bytes: &mut Vec<u8>, eight: &[u8; 8], count: usize) -> Result<(), AllocError>
+    requires { count ≤ 8 }
+    ensures ok { OnOk result (bytes.new.items ≡ bytes.old.items ++ take count eight.now) }
+    ensures err { OnErr result (bytes.new.items ≡ bytes.old.items) }
+    ensures room { vec_len bytes.old + count ≤ vec_capacity bytes.old → IsOk result }
+    ensures capacity { vec_capacity bytes.old ≤ vec_capacity bytes.new }
+{
+    if count == 8 {
+        bytes.extend_from_slice(eight)
+    } else {
+        bytes.extend_from_slice(&eight[..count])
+    }
+}
+
+/// The byte with the first items of `word` from bit `place` on. Asks that none of its bits is set there.
+fn merged(byte: u8, word: u64, place: usize) -> u8
+    requires place { place < 8 }
+    requires clear { (i : ℕ) → place ≤ i → i < 8 → bit byte i ≡ false }
+    ensures kept { (i : ℕ) → i < place → bit result i ≡ bit byte i }
+    ensures written { (i : ℕ) → place + i < 8 → bit result (place + i) ≡ bit word i }
+{
+    let low = BitChunk::to_ne_bytes(BitChunk::up(word, place));
+    BitChunk::bit_or(byte, low[0])
+}
