@@ -5,7 +5,7 @@ use Rattle.std.specs.Int as integers
 use Rattle.std.specs.Int.Signed.{lt_z}
 use Rattle.std.proofs.Common.{to_z, of_z}
 use Rattle.std.proofs.lemmas.Int.{ints}
-use Rattle.std.proofs.lemmas.List.{append-nil, length-map, map-append, take-map, take_all}
+use Rattle.std.proofs.lemmas.List.{append-nil, length-map, length-replicate, map-append, take-map, take_all}
 use Rattle.std.proofs.lemmas.List.Sums.{sum_by-append, sum_by-cons}
 use Rattle.std.proofs.Math.Seq.{take-add}
 use Rattle.arrow2_model.specs.Parts.{part}
@@ -210,4 +210,4 @@ module _ {X : Type 0} (value : X → ℤ) where
       let t = sum-take-le (lengths_of xs) (n - 1) in
       (up_to max (map value kept) (start_of xs) (take (n - 1) (lengths_of xs)) s (omega (arith, h.1)), s.from, by)
 
-pub ruleset growing = (spelled, length-lengths_of, length-map, map-append)
+pub ruleset growing = (spelled, length-lengths_of, length-map, length-replicate, map-append)

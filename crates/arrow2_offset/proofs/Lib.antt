@@ -1,6 +1,7 @@
 pub mod Appending
 pub mod Frozen
 pub mod Growing
+pub mod Grown
 pub mod Listed
 pub mod OffsetLists
 pub mod Order

@@ -1,4 +1,5 @@
 pub mod Collected
+pub mod Growth
 pub mod Lengthened
 pub mod Made
 pub mod Offsets

@@ -116,6 +116,16 @@ impl<O: Offset> OffsetsBuffer<O> {
         offsets
     }
 
+    /// The offsets of `length` slots from slot `start` on: one more than slots. Asks that they are inside.
+    pub(crate) fn offsets_of_slots(&self, start: usize, length: usize) -> &[O]
+        requires { start + length < count_of (buffer_items self.now) }
+        ensures valid { AreOffsets (map O.value result.now) }
+        ensures lengths { lengths_of (map O.value result.now)
+            ≡ part (lengths_of (buffer_items self.now)) start length }
+    {
+        &self.as_slice()[start..start + length + 1]
+    }
+
     /// How far the last offset is above the first.
     pub fn range(&self) -> O
         ensures value { O.value result ≡ pos (last_of (buffer_items self.now)

@@ -10,8 +10,10 @@ ghost use Rattle.arrow2_model.specs.Parts.{part};
 ghost use Rattle.arrow2_model.specs.Buffers.{buffer_items};
 ghost use Rattle.arrow2_offset.specs.Offsets.{AreOffsets, offset_at, AreOffsetsUpTo, offsets_of, last_of_growing, start_of, lengths_of, slots, SameOffsets, GrownBy};
 ghost use Rattle.arrow2_offset.specs.Collected.{GivesMoreThan, GivesPast};
+ghost use Rattle.arrow2_offset.specs.Growth.{Grows, GrowsUpTo};
 ghost use Rattle.arrow2_offset.specs.Made.{made_of};
 ghost use Rattle.arrow2_offset.specs.Refused.{IsOutOfSpec, why_not_offsets};
+ghost use Rattle.arrow2_types.specs.Refusals.{error_of};
 ghost use Rattle.arrow2_types.specs.declared.refusal.Refusal.TheVariants as refusal;
 
 use crate::appended::append_lengths;
@@ -187,14 +189,8 @@ impl<O: Offset> Offsets<O> {
     /// both the offsets are as they were.
     pub fn try_push(&mut self, length: O) -> Result<()>
         requires { pos 0 ≤ℤ O.value length }
-        ensures ok { OnOk result (GrownBy (unsigned_abs (O.value length) ∷ []) self.old self.new) }
-        ensures err { OnErr result (SameOffsets self.old self.new) }
-        ensures overflow { IsErrOf result Error.Overflow ↔
-            (O.MAX < last_of_growing self.old + unsigned_abs (O.value length)) }
-        ensures only { IfErr result (λ e. (e ≡ Error.Overflow) ⊎ (e ≡ Error.OutOfMemory)) }
-        ensures room { slots self.old < self.old.capacity →
-            last_of_growing self.old + unsigned_abs (O.value length) ≤ O.MAX → IsOk result }
-        ensures capacity { self.old.capacity ≤ self.new.capacity }
+        ensures { GrowsUpTo O.MAX error_of result self.old self.new
+            (unsigned_abs (O.value length) ∷ []) }
     {
         self.push_length(length.to_usize())?;
         Ok(())
@@ -207,14 +203,7 @@ impl<O: Offset> Offsets<O> {
     /// `Overflow` exactly where the last offset would pass `O::MAX`, else `OutOfMemory` alone. After
     /// both the offsets are as they were.
     pub fn try_push_usize(&mut self, length: usize) -> Result<()>
-        ensures ok { OnOk result (GrownBy (length ∷ []) self.old self.new) }
-        ensures err { OnErr result (SameOffsets self.old self.new) }
-        ensures overflow { IsErrOf result Error.Overflow ↔
-            (O.MAX < last_of_growing self.old + length) }
-        ensures only { IfErr result (λ e. (e ≡ Error.Overflow) ⊎ (e ≡ Error.OutOfMemory)) }
-        ensures room { slots self.old < self.old.capacity →
-            last_of_growing self.old + length ≤ O.MAX → IsOk result }
-        ensures capacity { self.old.capacity ≤ self.new.capacity }
+        ensures { GrowsUpTo O.MAX error_of result self.old self.new (length ∷ []) }
     {
         self.push_length(length)?;
         Ok(())
@@ -259,14 +248,7 @@ impl<O: Offset> Offsets<O> {
     /// `Overflow` exactly where the last offset and the sum of the lengths pass `O::MAX`, else
     /// `OutOfMemory` alone. After both the offsets are as they were.
     pub fn try_extend_from_self(&mut self, other: &Self) -> Result<()>
-        ensures ok { OnOk result (GrownBy other.now.lengths self.old self.new) }
-        ensures err { OnErr result (SameOffsets self.old self.new) }
-        ensures overflow { IsErrOf result Error.Overflow ↔
-            (O.MAX < last_of_growing self.old + sum other.now.lengths) }
-        ensures only { IfErr result (λ e. (e ≡ Error.Overflow) ⊎ (e ≡ Error.OutOfMemory)) }
-        ensures room { slots self.old + slots other.now ≤ self.old.capacity →
-            last_of_growing self.old + sum other.now.lengths ≤ O.MAX → IsOk result }
-        ensures capacity { self.old.capacity ≤ self.new.capacity }
+        ensures { GrowsUpTo O.MAX error_of result self.old self.new other.now.lengths }
     {
         self.append(other.as_slice())?;
         Ok(())
@@ -288,24 +270,15 @@ impl<O: Offset> Offsets<O> {
         length: usize,
     ) -> Result<()>
         requires inside { (length ≡ 0) ⊎ (start + length < count_of (buffer_items other.now)) }
-        ensures ok { OnOk result (GrownBy
-            (part (lengths_of (buffer_items other.now)) start length) self.old self.new) }
-        ensures err { OnErr result (SameOffsets self.old self.new) }
-        ensures overflow { IsErrOf result Error.Overflow ↔
-            (O.MAX < last_of_growing self.old
-            + sum (part (lengths_of (buffer_items other.now)) start length)) }
-        ensures only { IfErr result (λ e. (e ≡ Error.Overflow) ⊎ (e ≡ Error.OutOfMemory)) }
-        ensures room { slots self.old + length ≤ self.old.capacity →
-            last_of_growing self.old
-            + sum (part (lengths_of (buffer_items other.now)) start length) ≤ O.MAX → IsOk result }
-        ensures capacity { self.old.capacity ≤ self.new.capacity }
+        ensures { GrowsUpTo O.MAX error_of result self.old self.new
+            (part (lengths_of (buffer_items other.now)) start length) }
     {
         // The field is read for what the type keeps: the last offset is at most `O::MAX`.
         let _ = &self.offsets;
         if length == 0 {
             return Ok(());
         }
-        self.append(&other.as_slice()[start..start + length + 1])?;
+        self.append(other.offsets_of_slots(start, length))?;
         Ok(())
     }
 
@@ -316,14 +289,9 @@ impl<O: Offset> Offsets<O> {
     /// `Overflow` exactly where the number of offsets would pass `usize::MAX`, else `OutOfMemory`
     /// alone. After both the offsets are as they were. arrow2 wraps there, and shrinks.
     pub fn extend_constant(&mut self, additional: usize) -> Result<()>
-        ensures ok { OnOk result (GrownBy (replicate additional 0) self.old self.new) }
-        ensures err { OnErr result (SameOffsets self.old self.new) }
-        ensures overflow { IsErrOf result Error.Overflow ↔
-            (2 ^ 64 ≤ slots self.old + 1 + additional) }
-        ensures only { IfErr result (λ e. (e ≡ Error.Overflow) ⊎ (e ≡ Error.OutOfMemory)) }
-        ensures room { slots self.old + additional ≤ self.old.capacity →
-            1 + slots self.old + additional < 2 ^ 64 → IsOk result }
-        ensures capacity { self.old.capacity ≤ self.new.capacity }
+        // The number of offsets may reach the greatest `usize`.
+        ensures { Grows error_of (slots self.old + 1 + additional) (2 ^ 64 - 1) result
+            self.old self.new (replicate additional 0) }
     {
         let Some(count) = self.offsets.len().checked_add(additional) else {
             return Err(Error::Overflow);
@@ -416,18 +384,19 @@ impl<O: Offset> Offsets<O> {
         Offsets { offsets }
     }
 
+    /// The last offset, as a number.
+    fn last_number(&self) -> usize
+        ensures value { result ≡ last_of_growing self.now }
+        ensures fits { last_of_growing self.now ≤ O.MAX }
+    {
+        self.last().to_usize()
+    }
+
     /// Appends one length. The error is one byte.
     fn push_length(&mut self, length: usize) -> std::result::Result<(), Refusal>
-        ensures ok { OnOk result (GrownBy (length ∷ []) self.old self.new) }
-        ensures fits { last_of_growing self.new ≤ O.MAX }
-        ensures err { OnErr result (SameOffsets self.old self.new) }
-        ensures overflow { IsErrOf result refusal.Overflow ↔
-            (O.MAX < last_of_growing self.old + length) }
-        ensures room { slots self.old < self.old.capacity →
-            last_of_growing self.old + length ≤ O.MAX → IsOk result }
-        ensures capacity { self.old.capacity ≤ self.new.capacity }
+        ensures { GrowsUpTo O.MAX (λ refusal. refusal) result self.old self.new (length ∷ []) }
     {
-        let last = self.last().to_usize();
+        let last = self.last_number();
         if length > O::MAX - last {
             return Err(Refusal::Overflow);
         }
@@ -452,7 +421,7 @@ impl<O: Offset> Offsets<O> {
         ensures grown { GrownBy (length ∷ []) self.old self.new }
         ensures capacity { self.new.capacity ≡ self.old.capacity }
     {
-        let last = self.last().to_usize();
+        let last = self.last_number();
         self.offsets.push_reserved(O::from_as_usize(last + length));
     }
 
@@ -489,20 +458,12 @@ impl<O: Offset> Offsets<O> {
     /// Appends the lengths between the offsets. Tests their sum before it asks for memory.
     fn append(&mut self, offsets: &[O]) -> std::result::Result<(), Refusal>
         requires { AreOffsets (map O.value offsets.now) }
-        ensures ok { OnOk result (GrownBy
-            (lengths_of (map O.value offsets.now)) self.old self.new) }
-        ensures err { OnErr result (SameOffsets self.old self.new) }
-        ensures overflow { IsErrOf result refusal.Overflow ↔
-            (O.MAX < last_of_growing self.old + sum (lengths_of (map O.value offsets.now))) }
-        ensures room { slots self.old + length (lengths_of (map O.value offsets.now))
-            ≤ self.old.capacity →
-            last_of_growing self.old + sum (lengths_of (map O.value offsets.now)) ≤ O.MAX →
-            IsOk result }
-        ensures capacity { self.old.capacity ≤ self.new.capacity }
+        ensures { GrowsUpTo O.MAX (λ refusal. refusal) result self.old self.new
+            (lengths_of (map O.value offsets.now)) }
     {
         let count = offsets.len() - 1;
-        let total = offsets[0].distance_to(offsets[count]);
-        if total > O::MAX - self.last().to_usize() {
+        let total = total_length(offsets);
+        if total > O::MAX - self.last_number() {
             return Err(Refusal::Overflow);
         }
         self.reserve_room(count)?;
@@ -511,6 +472,14 @@ impl<O: Offset> Offsets<O> {
         }
         Ok(())
     }
+}
+
+/// The sum of the lengths between the offsets.
+fn total_length<O: Offset>(offsets: &[O]) -> usize
+    requires { AreOffsets (map O.value offsets.now) }
+    ensures { result ≡ sum (lengths_of (map O.value offsets.now)) }
+{
+    offsets[0].distance_to(offsets[offsets.len() - 1])
 }
 
 /// The vector itself, which is moved and not copied.

@@ -1,0 +1,25 @@
+-- How offsets grow.
+use Rattle.std.specs.Prelude.{◌≡◌, ℕ, ◌+◌, ◌<◌, ◌≤◌, ◌↔◌, ◌⊎◌, List, length, sum, Result, OnOk, OnErr, IsOk, IfErr, IsErrOf}
+use Rattle.arrow2_types.specs.declared.refusal.Refusal.{Refusal}
+use Rattle.arrow2_types.specs.declared.refusal.Refusal.TheVariants.{Overflow, OutOfMemory}
+use Rattle.arrow2_offset.specs.Offsets.{GrowingOffsets, slots, last_of_growing, SameOffsets, GrownBy}
+
+-- growth by some lengths, all of them or none, where some number may reach the greatest one and not pass it. A refusal
+-- is told as an error
+pub record Grows {T E : Type 0} (told : Refusal → E) (reached greatest : ℕ) (r : Result T E) (old new : GrowingOffsets) (more : List ℕ) : Type 0 where
+  -- the lengths stand behind the others, from the same start
+  pub ok : OnOk r (GrownBy more old new)
+  -- a refusal leaves the start and the lengths as they were
+  pub err : OnErr r (SameOffsets old new)
+  -- it overflows exactly where the number passes the greatest one
+  pub overflow : IsErrOf r (told Overflow) ↔ (greatest < reached)
+  -- there is no other error but want of memory
+  pub only : IfErr r (λ e. (e ≡ told Overflow) ⊎ (e ≡ told OutOfMemory))
+  -- within the capacity there is no want of memory
+  pub room : slots old + length more ≤ old.capacity → reached ≤ greatest → IsOk r
+  -- the capacity never falls
+  pub capacity : old.capacity ≤ new.capacity
+
+-- growth by some lengths, where the last offset may reach the greatest one and not pass it
+abbrev pub GrowsUpTo : {T E : Type 0} → ℕ → (Refusal → E) → Result T E → GrowingOffsets → GrowingOffsets → List ℕ → Type 0
+GrowsUpTo greatest told r old new more = Grows told (last_of_growing old + sum more) greatest r old new more
