@@ -1,7 +1,9 @@
 -- How offsets grow.
-use Rattle.std.specs.Prelude.{◌≡◌, ℕ, ◌+◌, ◌<◌, ◌≤◌, ◌↔◌, ◌⊎◌, List, length, sum, Result, OnOk, OnErr, IsOk, IfErr, IsErrOf}
+use Rattle.std.specs.Prelude.{◌≡◌, ℕ, ◌+◌, ◌-◌, ◌<◌, ◌≤◌, ◌↔◌, ◌⊎◌, List, length, sum, Option, Result, OnOk, OnErr, IsOk, IfErr, IsErrOf}
+use Rattle.std.specs.Iterator.Runs.{WholeRun}
 use Rattle.arrow2_types.specs.declared.refusal.Refusal.{Refusal}
 use Rattle.arrow2_types.specs.declared.refusal.Refusal.TheVariants.{Overflow, OutOfMemory}
+use Rattle.arrow2_offset.specs.Collected.{GivesMoreThan, GivesPast}
 use Rattle.arrow2_offset.specs.Offsets.{GrowingOffsets, slots, last_of_growing, SameOffsets, GrownBy}
 
 -- growth by some lengths, all of them or none, where some number may reach the greatest one and not pass it. A refusal
@@ -23,3 +25,21 @@ pub record Grows {T E : Type 0} (told : Refusal → E) (reached greatest : ℕ) 
 -- growth by some lengths, where the last offset may reach the greatest one and not pass it
 abbrev pub GrowsUpTo : {T E : Type 0} → ℕ → (Refusal → E) → Result T E → GrowingOffsets → GrowingOffsets → List ℕ → Type 0
 GrowsUpTo greatest told r old new more = Grows told (last_of_growing old + sum more) greatest r old new more
+
+-- growth by all lengths that an iterator gives, all of them or none, where the last offset may reach the greatest one and
+-- not pass it. A refusal is told as an error
+pub record GrowsByRun {S T E : Type 0} (greatest : ℕ) (told : Refusal → E) (r : Result T E) (old new : GrowingOffsets) (steps : S → Option ℕ → S → Type 0) (lengths : S) : Type 0 where
+  -- what it gave stands behind the others, from the same start
+  pub ok : OnOk r (WholeRun steps lengths (λ run. GrownBy run.items old new))
+  -- the last offset does not pass the greatest one
+  pub fits : OnOk r (last_of_growing new ≤ greatest)
+  -- a refusal leaves the start and the lengths as they were
+  pub err : OnErr r (SameOffsets old new)
+  -- it overflows only where lengths came by which the last offset passes the greatest one
+  pub overflow : IsErrOf r (told Overflow) → GivesPast greatest (last_of_growing old) steps lengths
+  -- memory is wanted only where more lengths came than there was room for
+  pub room : IsErrOf r (told OutOfMemory) → GivesMoreThan (old.capacity - slots old) steps lengths
+  -- there is no other error
+  pub only : IfErr r (λ e. (e ≡ told Overflow) ⊎ (e ≡ told OutOfMemory))
+  -- the capacity never falls
+  pub capacity : old.capacity ≤ new.capacity

@@ -2,9 +2,11 @@
 ghost use Rattle.std.specs.Prelude.{◌≡◌, ◌-◌, ◌<◌, ◌≤◌, length, map, take, OnOk, OnErr, IsErrOf, vec_len, vec_capacity};
 ghost use Rattle.std.specs.Iterator.{IsFinite};
 ghost use Rattle.std.specs.Iterator.Runs.{WholeRun};
-ghost use Rattle.arrow2_offset.specs.Offsets.{AreOffsetsUpTo, last_of};
+ghost use Rattle.arrow2_offset.specs.Offsets.{AreOffsetsUpTo, last_of, lengths_of};
 ghost use Rattle.arrow2_offset.specs.Collected.{GivesMoreThan, GivesPast};
+ghost use Rattle.arrow2_offset.specs.Growth.{GrowsByRun};
 ghost use Rattle.arrow2_offset.specs.Lengthened.{LengthenedBy};
+ghost use Rattle.arrow2_offset.specs.Made.{made_of};
 ghost use Rattle.arrow2_types.specs.declared.refusal.Refusal.TheVariants as refusal;
 
 use arrow2_index::offset::Offset;
@@ -29,14 +31,10 @@ pub(crate) fn append_lengths<O: Offset, I: Iterator<Item = usize> + Drop>(
     requires can { I.can_next lengths }
     requires ends { IsFinite (I.remaining lengths) }
     ensures are { AreOffsetsUpTo O.MAX (map O.value offsets.new.items) }
-    ensures ok { OnOk result (WholeRun I.next_gives lengths (λ p.
-        LengthenedBy p.items (map O.value offsets.old.items) (map O.value offsets.new.items))) }
-    ensures err { OnErr result (offsets.new.items ≡ offsets.old.items) }
-    ensures overflow { IsErrOf result refusal.Overflow →
-        GivesPast O.MAX (last_of (map O.value offsets.old.items)) I.next_gives lengths }
-    ensures room { IsErrOf result refusal.OutOfMemory →
-        GivesMoreThan (vec_capacity offsets.old - vec_len offsets.old) I.next_gives lengths }
-    ensures capacity { vec_capacity offsets.old ≤ vec_capacity offsets.new }
+    ensures grows { GrowsByRun O.MAX (λ refusal. refusal) result
+        (made_of (map O.value offsets.old.items) (vec_capacity offsets.old))
+        (made_of (map O.value offsets.new.items) (vec_capacity offsets.new))
+        I.next_gives lengths }
 {
     let count = offsets.len();
     let empty = Vec::new(*offsets.allocator());
@@ -68,7 +66,8 @@ fn appended<O: Offset, I: Iterator<Item = usize> + Drop>(
     ensures overflow { IsErrOf result.1 refusal.Overflow →
         GivesPast O.MAX (last_of (map O.value offsets.items)) I.next_gives lengths }
     ensures room { IsErrOf result.1 refusal.OutOfMemory →
-        GivesMoreThan (vec_capacity offsets - vec_len offsets) I.next_gives lengths }
+        GivesMoreThan (vec_capacity offsets - 1
+        - length (lengths_of (map O.value offsets.items))) I.next_gives lengths }
     ensures capacity { vec_capacity offsets ≤ vec_capacity result.0 }
 {
     let greatest = O::MAX as u128;

@@ -10,7 +10,7 @@ ghost use Rattle.arrow2_model.specs.Parts.{part};
 ghost use Rattle.arrow2_model.specs.Buffers.{buffer_items};
 ghost use Rattle.arrow2_offset.specs.Offsets.{AreOffsets, offset_at, AreOffsetsUpTo, offsets_of, last_of_growing, start_of, lengths_of, slots, SameOffsets, GrownBy};
 ghost use Rattle.arrow2_offset.specs.Collected.{GivesMoreThan, GivesPast};
-ghost use Rattle.arrow2_offset.specs.Growth.{Grows, GrowsUpTo};
+ghost use Rattle.arrow2_offset.specs.Growth.{Grows, GrowsUpTo, GrowsByRun};
 ghost use Rattle.arrow2_offset.specs.Made.{made_of};
 ghost use Rattle.arrow2_offset.specs.Refused.{IsOutOfSpec, why_not_offsets};
 ghost use Rattle.arrow2_types.specs.Refusals.{error_of};
@@ -224,16 +224,7 @@ impl<O: Offset> Offsets<O> {
     ) -> Result<()>
         requires can { I.can_next lengths }
         requires ends { IsFinite (I.remaining lengths) }
-        ensures ok { OnOk result (WholeRun I.next_gives lengths (λ p.
-            GrownBy p.items self.old self.new)) }
-        ensures fits { OnOk result (last_of_growing self.new ≤ O.MAX) }
-        ensures err { OnErr result (SameOffsets self.old self.new) }
-        ensures overflow { IsErrOf result Error.Overflow →
-            GivesPast O.MAX (last_of_growing self.old) I.next_gives lengths }
-        ensures room { IsErrOf result Error.OutOfMemory →
-            GivesMoreThan (self.old.capacity - slots self.old) I.next_gives lengths }
-        ensures capacity { self.old.capacity ≤ self.new.capacity }
-        ensures only { IfErr result (λ e. (e ≡ Error.Overflow) ⊎ (e ≡ Error.OutOfMemory)) }
+        ensures { GrowsByRun O.MAX error_of result self.old self.new I.next_gives lengths }
     {
         self.extend_lengths(lengths)?;
         Ok(())
@@ -442,15 +433,8 @@ impl<O: Offset> Offsets<O> {
     ) -> std::result::Result<(), Refusal>
         requires can { I.can_next lengths }
         requires ends { IsFinite (I.remaining lengths) }
-        ensures ok { OnOk result (WholeRun I.next_gives lengths (λ p.
-            GrownBy p.items self.old self.new)) }
-        ensures fits { OnOk result (last_of_growing self.new ≤ O.MAX) }
-        ensures err { OnErr result (SameOffsets self.old self.new) }
-        ensures overflow { IsErrOf result refusal.Overflow →
-            GivesPast O.MAX (last_of_growing self.old) I.next_gives lengths }
-        ensures room { IsErrOf result refusal.OutOfMemory →
-            GivesMoreThan (self.old.capacity - slots self.old) I.next_gives lengths }
-        ensures capacity { self.old.capacity ≤ self.new.capacity }
+        ensures { GrowsByRun O.MAX (λ refusal. refusal) result self.old self.new
+            I.next_gives lengths }
     {
         append_lengths(&mut self.offsets, lengths)
     }

@@ -6,6 +6,7 @@ use Rattle.std.proofs.iter.runs.Made.{run_of_exit}
 use Rattle.std.specs.Iterator.{Yields}
 use Rattle.arrow2_offset.specs.Offsets.{start_of, lengths_of}
 use Rattle.arrow2_offset.proofs.Appending.{same_naturals, value_last, pushed, front_stays, sum-push}
+use Rattle.arrow2_offset.proofs.Growing.{length_slots}
 use Rattle.arrow2_offset.proofs.appended.appended.Goals as goal
 use Rattle.arrow2_offset.proofs.appended.appended.Goals.{then-len-capacity+else-last-greatest+else-is_err, else-len-capacity}
 
@@ -73,5 +74,6 @@ returns-then-is_err-clause-room g c = λ _.
     let kept = c.loop-length.invariant in
     let more = Yields-more g.I.Iterator.next_gives c.into_iter-length-iterator.result c.loop-length.yielded c.loop-length.length-iterator c.in-Some.length c.next.new.self c.loop-length.yielded_by c.in-Some.ensures.steps in
     let n = length-append c.loop-length.yielded (c.in-Some.length ∷ []) in
+    let slots = length_slots g.O.Number.value c.args.offsets.items (length c.args.offsets.items) c.requires.are.0 refl in
     let full = c.if-len-capacity.true in
-    (c.loop-length.yielded ++ c.in-Some.length ∷ [], c.next.new.self, subst (λ s. Yields g.I.Iterator.next_gives s (c.loop-length.yielded ++ c.in-Some.length ∷ []) c.next.new.self) c.into_iter-length-iterator.ensures.into_iter_gives more, omega (arith, n, kept.more, kept.room, full, c.capacity.ensures, c.len-in-loop-length.ensures, c.loop-length.offsets.ok.0, c.args.offsets.ok.0))
+    (c.loop-length.yielded ++ c.in-Some.length ∷ [], c.next.new.self, subst (λ s. Yields g.I.Iterator.next_gives s (c.loop-length.yielded ++ c.in-Some.length ∷ []) c.next.new.self) c.into_iter-length-iterator.ensures.into_iter_gives more, omega (arith, n, slots, kept.more, kept.room, full, c.capacity.ensures, c.len-in-loop-length.ensures, c.loop-length.offsets.ok.0, c.args.offsets.ok.0))
