@@ -3,19 +3,18 @@ use Rattle.std.proofs.Common.{◌≡◌, ℕ, ◌+◌, ◌-◌, ◌<◌, ◌≤�
 use Rattle.std.specs.Prelude.{ℤ, pos, ◌≤ℤ◌, unsigned_abs}
 use Rattle.std.proofs.lemmas.Int.{ints}
 use Rattle.std.proofs.lemmas.List.{length-map, map-append, append_assoc, get_or-map, take-append-le}
-use Rattle.std.proofs.lemmas.List.Sums.{sum_by-append}
 use Rattle.arrow2_offset.specs.Offsets.{AreOffsets, start_of, lengths_of, last_of, offset_at}
-use Rattle.arrow2_offset.proofs.OffsetLists.{Spells, get_or-last, get_or-offsets, push_spells}
+use Rattle.arrow2_offset.proofs.OffsetLists.{Spells, get_or-last, get_or-offsets, push_spells, sum-append}
 use Rattle.arrow2_offset.specs.Lengthened.{LengthenedBy}
 
 pub same_naturals : (a b : ℕ) (x : ℤ) → pos a ≡ x → x ≡ pos b → a ≡ b
 same_naturals a b x e h = ap unsigned_abs (e ∙ h)
 
-pub natural_as_whole : (n : ℕ) (x : ℤ) → x ≡ pos n → pos 0 ≤ℤ x
+natural_as_whole : (n : ℕ) (x : ℤ) → x ≡ pos n → pos 0 ≤ℤ x
 natural_as_whole n x e = rw e (omega (arith, ints))
 
 pub sum-push : (ns : List ℕ) (n : ℕ) → sum (ns ++ n ∷ []) ≡ sum ns + n
-sum-push ns n = let e = sum_by-append (λ x. x) ns (n ∷ []) in omega (arith, e)
+sum-push ns n = omega (arith, sum-append ns (n ∷ []))
 
 -- offsets that have grown by some lengths are offsets
 abbrev pub AreLengthened : List ℕ → List ℤ → List ℤ → Type 0
@@ -25,7 +24,7 @@ AreLengthened ns old new = AreOffsets new × LengthenedBy ns old new
 pub last_grown : (ns : List ℕ) (old new : List ℤ) → LengthenedBy ns old new → last_of new ≡ last_of old + sum ns
 last_grown ns old new by =
     let start = by.0 in
-    let e : sum (lengths_of new) ≡ sum (lengths_of old) + sum ns = ap sum by.1 ∙ sum_by-append (λ x. x) (lengths_of old) ns in
+    let e : sum (lengths_of new) ≡ sum (lengths_of old) + sum ns = ap sum by.1 ∙ sum-append (lengths_of old) ns in
     omega (arith, start, e)
 
 module _ {X : Type 0} (value : X → ℤ) where

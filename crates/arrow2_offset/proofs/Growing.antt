@@ -6,38 +6,26 @@ use Rattle.std.specs.Int.Signed.{lt_z}
 use Rattle.std.proofs.Common.{to_z, of_z}
 use Rattle.std.proofs.lemmas.Int.{ints}
 use Rattle.std.proofs.lemmas.List.{append-nil, length-map, length-replicate, map-append, take-map, take_all}
-use Rattle.std.proofs.lemmas.List.Sums.{sum_by-append, sum_by-cons}
 use Rattle.std.proofs.Math.Seq.{take-add}
 use Rattle.arrow2_model.specs.Parts.{part}
 use Rattle.arrow2_model.specs.Buffers.{BufferStorage, buffer_items, whole_buffer}
 use Rattle.arrow2_offset.specs.Offsets.{running_sums, offsets_list, numbers_of, AreOffsets, AreOffsetsUpTo, start_of, lengths_of, offset_at, last_of}
-use Rattle.arrow2_offset.proofs.OffsetLists.{Spells, spells, spelled, length-lengths_of, get_or-offsets, repeat_spells, take_spells, part_spells, map-replicate}
+use Rattle.arrow2_offset.proofs.OffsetLists.{Spells, spells, spelled, length-lengths_of, get_or-offsets, repeat_spells, take_spells, part_spells, map-replicate, sum-append, sum-cons}
 use Rattle.arrow2_model.proofs.Parts.{part-map}
 use Rattle.arrow2_offset.proofs.Appending.{pushed as pushed_one, last_grown, same_naturals, value_at, value_last}
 
 -- ---- sums
 
-pub sum-append : (ns ms : List ℕ) → sum (ns ++ ms) ≡ sum ns + sum ms
-sum-append ns ms = sum_by-append (λ x. x) ns ms
-
 pub sum-take-le : (ns : List ℕ) (k : ℕ) → sum (take k ns) ≤ sum ns
 sum-take-le ns zero = omega arith
 sum-take-le [] (suc k) = omega arith
-sum-take-le (n ∷ ns) (suc k) =
-    let a : sum (n ∷ take k ns) ≡ n + sum (take k ns) = sum_by-cons (λ x. x) n (take k ns) in
-    let b : sum (n ∷ ns) ≡ n + sum ns = sum_by-cons (λ x. x) n ns in
-    let h = sum-take-le ns k in
-    omega arith
+sum-take-le (n ∷ ns) (suc k) = omega (arith, sum-cons n (take k ns), sum-cons n ns, sum-take-le ns k)
 
 pub sum-take-next : (ns : List ℕ) (k : ℕ) → sum (take (suc k) ns) ≡ sum (take k ns) + get_or ns k 0
 sum-take-next [] zero = refl
 sum-take-next [] (suc k) = refl
 sum-take-next (n ∷ ns) zero = refl
-sum-take-next (n ∷ ns) (suc k) =
-    let a : sum (n ∷ take (suc k) ns) ≡ n + sum (take (suc k) ns) = sum_by-cons (λ x. x) n (take (suc k) ns) in
-    let b : sum (n ∷ take k ns) ≡ n + sum (take k ns) = sum_by-cons (λ x. x) n (take k ns) in
-    let h = sum-take-next ns k in
-    omega arith
+sum-take-next (n ∷ ns) (suc k) = omega (arith, sum-cons n (take (suc k) ns), sum-cons n (take k ns), sum-take-next ns k)
 
 -- those before a part, and the part
 pub sum-part-le : (ns : List ℕ) (a n : ℕ) → sum (take a ns) + sum (part ns a n) ≤ sum ns
@@ -48,10 +36,7 @@ sum-part-le ns a n =
 
 sum-zeros : (k : ℕ) → sum (replicate k 0) ≡ 0
 sum-zeros zero = refl
-sum-zeros (suc k) =
-    let a : sum (0 ∷ replicate k 0) ≡ 0 + sum (replicate k 0) = sum_by-cons (λ x. x) 0 (replicate k 0) in
-    let h = sum-zeros k in
-    omega arith
+sum-zeros (suc k) = omega (arith, sum-cons 0 (replicate k 0), sum-zeros k)
 
 -- ---- what a list spells
 

@@ -3,8 +3,9 @@ use Rattle.std.proofs.Common.{◌≡◌, ℕ, zero, suc, ◌+◌, ◌-◌, ◌<�
 use Rattle.std.specs.Prelude.{ℤ, pos, negsuc, ◌≤ℤ◌, unsigned_abs, slice_index_or}
 use Rattle.std.specs.Int.{int_gap}
 use Rattle.std.proofs.lemmas.Int.{ints}
-use Rattle.std.proofs.lemmas.List.{length-map, map-append, get_or-map, take_all}
-use Rattle.std.proofs.lemmas.List.Sums.{sum_by-cons}
+use Rattle.std.proofs.lemmas.List.{length-map, map-append, get_or-map}
+use Rattle.std.proofs.lemmas.List.Sums.{sum_by-append, sum_by-cons}
+use Rattle.std.proofs.Math.Seq.{take-length}
 use Rattle.arrow2_model.specs.Parts.{part}
 use Rattle.arrow2_model.proofs.Parts.{part-map}
 use Rattle.arrow2_offset.specs.Offsets.{running_sums, offsets_list, offset_at, AreOffsets, start_of, lengths_behind, lengths_of, last_of}
@@ -13,8 +14,11 @@ use Rattle.arrow2_offset.specs.Offsets.{running_sums, offsets_list, offset_at, A
 pub get_or-next : {X : Type 0} (x : X) (xs : List X) (k : ℕ) (d : X) → get_or (x ∷ xs) (k + 1) d ≡ get_or xs k d
 get_or-next x xs k d = rw add-one refl
 
-sum-cons : (n : ℕ) (ns : List ℕ) → sum (n ∷ ns) ≡ n + sum ns
+pub sum-cons : (n : ℕ) (ns : List ℕ) → sum (n ∷ ns) ≡ n + sum ns
 sum-cons n ns = sum_by-cons (λ x. x) n ns
+
+pub sum-append : (ns ms : List ℕ) → sum (ns ++ ms) ≡ sum ns + sum ms
+sum-append ns ms = sum_by-append (λ x. x) ns ms
 
 -- ---- running sums
 
@@ -132,20 +136,17 @@ get_or-offsets xs k h l =
     let m = length-running_sums (start_of xs) (lengths_of xs) in
     ap (λ ys. get_or ys k (pos 0)) (spelled xs h) ∙ (get_or-map pos (offsets_list (start_of xs) (lengths_of xs)) k 0 (pos 0) (omega arith) ∙ ap pos (get_or-offsets_list (start_of xs) (lengths_of xs) k (omega arith)))
 
-take_all_lengths : (ns : List ℕ) → take (length ns) ns ≡ ns
-take_all_lengths ns = take_all (length ns) ns (omega arith)
-
 -- the last offset
 pub get_or-last : (xs : List ℤ) (n : ℕ) → AreOffsets xs → n ≡ length xs → get_or xs (n - 1) (pos 0) ≡ pos (last_of xs)
 get_or-last xs n h e =
     let l = length-lengths_of xs h in
     let m : n - 1 ≡ length (lengths_of xs) = omega arith in
-    rw m (get_or-offsets xs (length (lengths_of xs)) h (omega arith) ∙ ap (λ ns. pos (start_of xs + sum ns)) (take_all_lengths (lengths_of xs)))
+    rw m (get_or-offsets xs (length (lengths_of xs)) h (omega arith) ∙ ap (λ ns. pos (start_of xs + sum ns)) (take-length (lengths_of xs)))
 
 -- ---- growing
 
 -- others behind the last one
-pub append_spells : (xs ys : List ℤ) (ns : List ℕ) → AreOffsets xs → ys ≡ map pos (running_sums (last_of xs) ns) → Spells (xs ++ ys) (start_of xs) (lengths_of xs ++ ns)
+append_spells : (xs ys : List ℤ) (ns : List ℕ) → AreOffsets xs → ys ≡ map pos (running_sums (last_of xs) ns) → Spells (xs ++ ys) (start_of xs) (lengths_of xs ++ ns)
 append_spells xs ys ns h e =
     let s = start_of xs in
     let ls = lengths_of xs in

@@ -39,7 +39,7 @@ and_makes true c e f = f
 and_makes false c e f = let no : ⊥ = cc in absurd no
 
 -- up to place n no item is below the one before it
-abbrev pub RisesTo : List ℤ → ℕ → Type 0
+abbrev RisesTo : List ℤ → ℕ → Type 0
 RisesTo xs n = (k : ℕ) → k + 1 < n → slice_index_or xs k (pos 0) ≤ℤ slice_index_or xs (k + 1) (pos 0)
 
 -- one more item

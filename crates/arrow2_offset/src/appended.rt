@@ -27,10 +27,10 @@ pub(crate) fn append_lengths<O: Offset, I: Iterator<Item = usize> + Drop>(
     offsets: &mut Vec<O>,
     lengths: I,
 ) -> Result<(), Refusal>
-    requires are { AreOffsetsUpTo O.MAX (map O.value offsets.old.items) }
+    requires valid { AreOffsetsUpTo O.MAX (map O.value offsets.old.items) }
     requires can { I.can_next lengths }
     requires ends { IsFinite (I.remaining lengths) }
-    ensures are { AreOffsetsUpTo O.MAX (map O.value offsets.new.items) }
+    ensures valid { AreOffsetsUpTo O.MAX (map O.value offsets.new.items) }
     ensures grows { GrowsByRun O.MAX (λ refusal. refusal) result
         (made_of (map O.value offsets.old.items) (vec_capacity offsets.old))
         (made_of (map O.value offsets.new.items) (vec_capacity offsets.new))
@@ -56,10 +56,10 @@ fn appended<O: Offset, I: Iterator<Item = usize> + Drop>(
     mut offsets: Vec<O>,
     lengths: I,
 ) -> (Vec<O>, Result<(), Refusal>)
-    requires are { AreOffsetsUpTo O.MAX (map O.value offsets.items) }
+    requires valid { AreOffsetsUpTo O.MAX (map O.value offsets.items) }
     requires can { I.can_next lengths }
     requires ends { IsFinite (I.remaining lengths) }
-    ensures are { OnOk result.1 (AreOffsetsUpTo O.MAX (map O.value result.0.items)) }
+    ensures valid { OnOk result.1 (AreOffsetsUpTo O.MAX (map O.value result.0.items)) }
     ensures front { take (length offsets.items) result.0.items ≡ offsets.items }
     ensures ok { OnOk result.1 (WholeRun I.next_gives lengths (λ p.
         LengthenedBy p.items (map O.value offsets.items) (map O.value result.0.items))) }

@@ -91,7 +91,7 @@ impl<O: Offset> Offsets<O> {
     /// `OutOfMemory` alone. arrow2 wraps there.
     pub fn with_capacity(alloc: Global, capacity: usize) -> Result<Self>
         ensures ok { IfOk result (λ o. (o.start ≡ 0) × (o.lengths ≡ [])) }
-        ensures room { IfOk result (λ o. capacity ≤ o.capacity) }
+        ensures capacity { IfOk result (λ o. capacity ≤ o.capacity) }
         ensures overflow { IsErrOf result Error.Overflow ↔ (2 ^ 64 ≤ capacity + 1) }
         ensures only { IfErr result (λ e. (e ≡ Error.Overflow) ⊎ (e ≡ Error.OutOfMemory)) }
     {

@@ -14,12 +14,12 @@ pub loop-length-init : goal.loop-length-init
 loop-length-init g c =
     let v = g.O.Number.value in
     let items = c.args.offsets.items in
-    let is = value_last v items c.index.result.now c.len.result c.requires.are.0 (c.len.ensures ∙ c.args.offsets.ok.0) c.index.ensures in
-    let some = c.requires.are.0.some in
+    let is = value_last v items c.index.result.now c.len.result c.requires.valid.0 (c.len.ensures ∙ c.args.offsets.ok.0) c.index.ensures in
+    let some = c.requires.valid.0.some in
     let many = length-map items v in
     record {
       last = same_naturals c.to_usize-last.result _ _ c.to_usize-last.ensures.value is ∙ omega arith;
-      grown = λ _. (c.requires.are.0, (refl {a = start_of (map v items)}, sym (append-nil (lengths_of (map v items)))));
+      grown = λ _. (c.requires.valid.0, (refl {a = start_of (map v items)}, sym (append-nil (lengths_of (map v items)))));
       front = take_all (length items) items (omega arith);
       more = omega arith;
       room = omega arith;
@@ -74,6 +74,6 @@ returns-then-is_err-clause-room g c = λ _.
     let kept = c.loop-length.invariant in
     let more = Yields-more g.I.Iterator.next_gives c.into_iter-length-iterator.result c.loop-length.yielded c.loop-length.length-iterator c.in-Some.length c.next.new.self c.loop-length.yielded_by c.in-Some.ensures.steps in
     let n = length-append c.loop-length.yielded (c.in-Some.length ∷ []) in
-    let slots = length_slots g.O.Number.value c.args.offsets.items (length c.args.offsets.items) c.requires.are.0 refl in
+    let slots = length_slots g.O.Number.value c.args.offsets.items (length c.args.offsets.items) c.requires.valid.0 refl in
     let full = c.if-len-capacity.true in
     (c.loop-length.yielded ++ c.in-Some.length ∷ [], c.next.new.self, subst (λ s. Yields g.I.Iterator.next_gives s (c.loop-length.yielded ++ c.in-Some.length ∷ []) c.next.new.self) c.into_iter-length-iterator.ensures.into_iter_gives more, omega (arith, n, slots, kept.more, kept.room, full, c.capacity.ensures, c.len-in-loop-length.ensures, c.loop-length.offsets.ok.0, c.args.offsets.ok.0))
