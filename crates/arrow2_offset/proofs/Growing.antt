@@ -79,13 +79,13 @@ module _ {X : Type 0} (value : X → ℤ) where
       omega arith
 
   -- where slot k starts and ends, from the two offsets that were read
-  pub slot_read : (max : ℕ) (items : List X) (x y : X) (k m n : ℕ) → AreOffsetsUpTo max (map value items) → k < length (lengths_of (map value items)) → x ≡ get_or items k x → y ≡ get_or items (k + 1) y → pos m ≡ value x → pos n ≡ value y → (m ≡ offset_at (start_of (map value items)) (lengths_of (map value items)) k) × (n ≡ m + get_or (lengths_of (map value items)) k 0) × (n ≤ last_of (map value items))
-  slot_read max items x y k m n h l is-x is-y e f =
+  pub slot_read : (items : List X) (x y : X) (k m n : ℕ) → AreOffsets (map value items) → k < length (lengths_of (map value items)) → x ≡ get_or items k x → y ≡ get_or items (k + 1) y → pos m ≡ value x → pos n ≡ value y → (m ≡ offset_at (start_of (map value items)) (lengths_of (map value items)) k) × (n ≡ m + get_or (lengths_of (map value items)) k 0) × (n ≤ last_of (map value items))
+  slot_read items x y k m n h l is-x is-y e f =
       let xs = map value items in
       let ns = lengths_of xs in
-      let len = length_slots items (length items) h.0 refl in
-      let p : m ≡ offset_at (start_of xs) ns k = same_naturals m _ (value x) e (value_at value items x k h.0 (omega arith) is-x) in
-      let q : n ≡ offset_at (start_of xs) ns (k + 1) = same_naturals n _ (value y) f (value_at value items y (k + 1) h.0 (omega arith) is-y) in
+      let len = length_slots items (length items) h refl in
+      let p : m ≡ offset_at (start_of xs) ns k = same_naturals m _ (value x) e (value_at value items x k h (omega arith) is-x) in
+      let q : n ≡ offset_at (start_of xs) ns (k + 1) = same_naturals n _ (value y) f (value_at value items y (k + 1) h (omega arith) is-y) in
       let s : sum (take (k + 1) ns) ≡ sum (take k ns) + get_or ns k 0 = rw add-one (sum-take-next ns k) in
       let t = sum-take-le ns (k + 1) in
       (p, omega arith, omega arith)
@@ -93,9 +93,6 @@ module _ {X : Type 0} (value : X → ℤ) where
   -- in the words of a buffer that the offsets were read from
   pub value_last_of : (items : List X) (xs : List ℤ) (x : X) → map value items ≡ xs → AreOffsets xs → x ≡ get_or items (length items - 1) x → value x ≡ pos (last_of xs)
   value_last_of items xs x e h is = rw (← e) (value_last value items x (length items) (rw e h) refl is)
-
-  pub slot_read_of : (max : ℕ) (items : List X) (xs : List ℤ) (x y : X) (k m n : ℕ) → map value items ≡ xs → AreOffsetsUpTo max xs → k < length (lengths_of xs) → x ≡ get_or items k x → y ≡ get_or items (k + 1) y → pos m ≡ value x → pos n ≡ value y → (m ≡ offset_at (start_of xs) (lengths_of xs) k) × (n ≡ m + get_or (lengths_of xs) k 0) × (n ≤ last_of xs)
-  slot_read_of max items xs x y k m n e h l is-x is-y f g = rw (← e) (slot_read max items x y k m n (rw e h) (rw e l) is-x is-y f g)
 
   -- the first and the last offset
   pub ends_in_order : (items : List X) (a b : X) → AreOffsets (map value items) → a ≡ get_or items 0 a → b ≡ get_or items (length items - 1) b → value a ≤ℤ value b

@@ -13,6 +13,7 @@ ghost use Rattle.arrow2_offset.specs.Offsets.{AreOffsets, offset_at, offsets_of,
 use crate::check::try_check_offsets;
 use crate::iterator::Lengths;
 use crate::mutable::Offsets;
+use crate::spans::slot_span;
 use arrow2_buffer::Buffer;
 use arrow2_index::offset::Offset;
 use arrow2_types::error::{Error, Result};
@@ -163,8 +164,7 @@ impl<O: Offset> OffsetsBuffer<O> {
             + slice_index_or (lengths_of (buffer_items self.now)) index 0 }
         ensures within { result.1 ≤ last_of (buffer_items self.now) }
     {
-        let offsets = self.as_slice();
-        (offsets[index].to_usize(), offsets[index + 1].to_usize())
+        slot_span(self.as_slice(), index)
     }
 
     /// Keeps `length` offsets from offset `offset` on, over the same storage. Takes no memory.

@@ -8,6 +8,7 @@ pub mod immutable;
 pub mod iterator;
 pub mod laws;
 pub mod mutable;
+mod spans;
 
 pub use check::{BrokenRule, broken_rule};
 pub use immutable::OffsetsBuffer;

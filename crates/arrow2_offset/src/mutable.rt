@@ -20,6 +20,7 @@ use crate::appended::append_lengths;
 use crate::check::try_check_offsets;
 use crate::immutable::OffsetsBuffer;
 use crate::iterator::Lengths;
+use crate::spans::{slot_span, total_length};
 use arrow2_index::offset::Offset;
 use arrow2_types::error::{Error, Result};
 use arrow2_types::refusal::Refusal;
@@ -310,10 +311,7 @@ impl<O: Offset> Offsets<O> {
         ensures end { result.1 ≡ result.0 + slice_index_or self.now.lengths index 0 }
         ensures within { result.1 ≤ last_of_growing self.now }
     {
-        (
-            self.offsets[index].to_usize(),
-            self.offsets[index + 1].to_usize(),
-        )
+        slot_span(self.as_slice(), index)
     }
 
     /// How many slots there are: as many as lengths.
@@ -456,14 +454,6 @@ impl<O: Offset> Offsets<O> {
         }
         Ok(())
     }
-}
-
-/// The sum of the lengths between the offsets.
-fn total_length<O: Offset>(offsets: &[O]) -> usize
-    requires { AreOffsets (map O.value offsets.now) }
-    ensures { result ≡ sum (lengths_of (map O.value offsets.now)) }
-{
-    offsets[0].distance_to(offsets[offsets.len() - 1])
 }
 
 /// The vector itself, which is moved and not copied.

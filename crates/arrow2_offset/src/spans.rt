@@ -1,0 +1,27 @@
+//! What lists of offsets span.
+ghost use Rattle.std.specs.Prelude.{◌≡◌, ◌+◌, ◌<◌, ◌≤◌, length, map, sum, slice_index_or};
+ghost use Rattle.arrow2_offset.specs.Offsets.{AreOffsets, offset_at, start_of, lengths_of, last_of};
+
+use arrow2_index::offset::Offset;
+
+/// The sum of the lengths between the offsets.
+pub(crate) fn total_length<O: Offset>(offsets: &[O]) -> usize
+    requires { AreOffsets (map O.value offsets.now) }
+    ensures { result ≡ sum (lengths_of (map O.value offsets.now)) }
+{
+    offsets[0].distance_to(offsets[offsets.len() - 1])
+}
+
+/// Where slot `index` starts and where it ends. Asks that it is one of the slots.
+#[tactic(auto, using(crate::proofs::Frozen::frozen))]
+pub(crate) fn slot_span<O: Offset>(offsets: &[O], index: usize) -> (usize, usize)
+    requires valid { AreOffsets (map O.value offsets.now) }
+    requires inside { index < length (lengths_of (map O.value offsets.now)) }
+    ensures start { result.0 ≡ offset_at (start_of (map O.value offsets.now))
+        (lengths_of (map O.value offsets.now)) index }
+    ensures end { result.1 ≡ result.0
+        + slice_index_or (lengths_of (map O.value offsets.now)) index 0 }
+    ensures within { result.1 ≤ last_of (map O.value offsets.now) }
+{
+    (offsets[index].to_usize(), offsets[index + 1].to_usize())
+}
