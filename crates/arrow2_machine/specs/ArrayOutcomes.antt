@@ -1,15 +1,15 @@
 -- What each command on boolean arrays does to the machine of lists.
-use Rattle.std.specs.Prelude.{ℕ, ◌+◌, ◌==◌, nat_lt, Bool, List, length, map, slice_set, codes, Option, Some, None, option_map, Result, Ok, Err, if◌then◌else◌}
+use Rattle.std.specs.Prelude.{ℕ, ◌==◌, Bool, List, length, map, slice_set, codes, Option, Some, None, option_map, Result, Ok, Err, if◌then◌else◌}
 use Rattle.std.specs.Fmt.{decimal}
 use Rattle.arrow2.specs.Items.{nulls}
 use Rattle.arrow2.specs.Kleene.{kleene_and, kleene_or, by_items}
-use Rattle.arrow2.specs.Parts.{part}
 use Rattle.arrow2.specs.Zipped.{zipped}
 use Rattle.arrow2_script.specs.declared.array_command.ArrayCommand.{ArrayCommand}
 use Rattle.arrow2_script.specs.declared.array_command.ArrayCommand.TheVariants as command
 use Rattle.arrow2_machine.specs.declared.refusal.Refusal.{Refusal}
-use Rattle.arrow2_machine.specs.declared.refusal.Refusal.TheVariants.{Range, Length}
+use Rattle.arrow2_machine.specs.declared.refusal.Refusal.TheVariants.{Length}
 use Rattle.arrow2_machine.specs.Held.{Held, Array, ◌>>=◌, at, frozen, array}
+use Rattle.arrow2_machine.specs.BitmapOutcomes.{part_inside}
 use Rattle.arrow2_machine.specs.KernelOutcomes.{two_lists}
 use Rattle.arrow2_machine.specs.Replies.{array_items_text}
 
@@ -38,7 +38,8 @@ counted_nulls held = do
 abbrev pub sliced_array : Held → ℕ → ℕ → Result Held Refusal
 sliced_array held i n = do
   items ← array held
-  if nat_lt (length items) (i + n) then Err Range else Ok (Array (part items i n))
+  inside ← part_inside items i n
+  Ok (Array inside)
 
 -- two boolean arrays of one length
 abbrev pub two_arrays : Held → Held → Result (List (Option Bool) × List (Option Bool)) Refusal

@@ -40,11 +40,16 @@ thawed held = do
   items ← frozen held
   Ok (Growing items)
 
+-- the n items of a list from item i on, where they are inside
+abbrev pub part_inside : {X : Type 0} → List X → ℕ → ℕ → Result (List X) Refusal
+part_inside items i n = if nat_lt (length items) (i + n) then Err Range else Ok (part items i n)
+
 -- what a slot holds after it is cut to its n items from item i on
 abbrev pub sliced : Held → ℕ → ℕ → Result Held Refusal
 sliced held i n = do
   items ← frozen held
-  if nat_lt (length items) (i + n) then Err Range else Ok (Frozen (part items i n))
+  inside ← part_inside items i n
+  Ok (Frozen inside)
 
 -- how many items of a slot are false
 abbrev pub counted : Held → Result ℕ Refusal

@@ -47,11 +47,16 @@ froze_offsets held = do
   o ← growing_offsets held
   Ok (FrozenOffsets o)
 
--- what a slot holds after it is cut to its n offsets from offset i on: it has one offset more than lengths
+-- n offsets from offset i on, where they are inside: there is one offset more than lengths
+abbrev pub offsets_inside : Offsets → ℕ → ℕ → Result Offsets Refusal
+offsets_inside o i n = if n == 0 || nat_lt (length o.lengths + 1) (i + n) then Err Range else Ok (record { start = offset_at o.start o.lengths i; lengths = part o.lengths i (n - 1) })
+
+-- what a slot holds after it is cut to its n offsets from offset i on
 abbrev pub sliced_offsets : Held → ℕ → ℕ → Result Held Refusal
 sliced_offsets held i n = do
   o ← frozen_offsets held
-  if n == 0 || nat_lt (length o.lengths + 1) (i + n) then Err Range else Ok (FrozenOffsets (record { start = offset_at o.start o.lengths i; lengths = part o.lengths i (n - 1) }))
+  inside ← offsets_inside o i n
+  Ok (FrozenOffsets inside)
 
 -- the text of a slot's lengths by another slot's items
 abbrev pub zip_text : Held → Held → Result (List ℕ) Refusal

@@ -1,10 +1,11 @@
 -- What the program's steps answer, against the machine of lists.
-use Rattle.std.specs.Prelude.{◌≡◌, Result, Ok, Err}
+use Rattle.std.specs.Prelude.{◌≡◌, ◌≢◌, ◌++◌, ℕ, List, Result, Ok, Err, OnOk, IfErr, IsOkAnd}
 use Rattle.arrow2.specs.Errors as errors
 use Rattle.arrow2_machine.specs.declared.refusal.Refusal.{Refusal}
 use Rattle.arrow2_machine.specs.declared.refusal.Refusal.TheVariants.{Range, Overflow}
 use Rattle.arrow2_machine.specs.declared.refusal.CommandError.{CommandError}
 use Rattle.arrow2_machine.specs.declared.refusal.CommandError.TheVariants.{Refused, OutOfMemory}
+use Rattle.arrow2_machine.specs.Held.{Held}
 
 -- the error of a command, by the error of the call that it made
 abbrev pub command_error : errors.Error → CommandError
@@ -26,3 +27,26 @@ Fails (Refused refusal) answer = answer ≡ Err refusal
 abbrev pub Gives : {X Y : Type 0} → (X → Y) → Result X CommandError → Result Y Refusal → Type 0
 Gives view (Ok x) answer = answer ≡ Ok (view x)
 Gives view (Err e) answer = Fails e answer
+
+-- what was returned, seen by view, is what the machine answers, its refusals included
+abbrev pub Answers : {X Y : Type 0} → (X → Y) → Result X Refusal → Result Y Refusal → Type 0
+Answers view (Ok x) answer = answer ≡ Ok (view x)
+Answers view (Err refusal) answer = answer ≡ Err refusal
+
+-- a command is carried out as the machine does it: only where memory was refused is nothing said of the slots and the reply
+pub record Carries (r : Result Unit CommandError) (old new : List Held) (before after : List ℕ) (machine : Result (List Held × List ℕ) Refusal) : Type 0 where
+  -- the slots are the machine's, and its reply is appended
+  pub ok : OnOk r (IsOkAnd machine (λ a. (new ≡ a.0) × (after ≡ before ++ a.1)))
+  -- the machine refuses for the same reason
+  pub refused : IfErr r (λ e. Fails e machine)
+  -- a refusal changes nothing
+  pub err : IfErr r (λ e. e ≢ OutOfMemory → (new ≡ old) × (after ≡ before))
+
+-- the text that the machine says is appended: where memory was refused, a part of it may be
+pub record Writes (r : Result Unit CommandError) (before after : List ℕ) (machine : Result (List ℕ) Refusal) : Type 0 where
+  -- it is the machine's
+  pub ok : OnOk r (IsOkAnd machine (λ text. after ≡ before ++ text))
+  -- the machine refuses for the same reason
+  pub refused : IfErr r (λ e. Fails e machine)
+  -- a refusal changes nothing
+  pub err : IfErr r (λ e. e ≢ OutOfMemory → after ≡ before)

@@ -1,4 +1,5 @@
 -- What a slot of the program holds, as the machine of lists sees it.
+use Rattle.std.specs.Prelude.{ℤ, List}
 use Rattle.arrow2.specs.Buffers.{buffer_items}
 use Rattle.arrow2.specs.Offsets.{start_of, lengths_of}
 use Rattle.arrow2.specs.Storage.{items_of}
@@ -7,11 +8,15 @@ use Rattle.arrow2_machine.specs.Held as machine
 use Rattle.arrow2_machine.specs.declared.slot.Contents.{Contents}
 use Rattle.arrow2_machine.specs.declared.slot.Contents.TheVariants.{Nothing, Frozen, Growing, FrozenOffsets, GrowingOffsets, Array}
 
+-- the offsets that a list of them is: the first one and the lengths
+abbrev pub offsets_in : List ℤ → machine.Offsets
+offsets_in offsets = record { start = start_of offsets; lengths = lengths_of offsets }
+
 -- a bitmap and a boolean array are their lists, and offsets are their first one and their lengths
 abbrev pub held_in : Contents → Held
 held_in Nothing = machine.Nothing
 held_in (Frozen bitmap) = machine.Frozen (items_of bitmap)
 held_in (Growing bitmap) = machine.Growing bitmap.items
-held_in (FrozenOffsets offsets) = machine.FrozenOffsets (record { start = start_of (buffer_items offsets); lengths = lengths_of (buffer_items offsets) })
+held_in (FrozenOffsets offsets) = machine.FrozenOffsets (offsets_in (buffer_items offsets))
 held_in (GrowingOffsets offsets) = machine.GrowingOffsets (record { start = offsets.start; lengths = offsets.lengths })
 held_in (Array array) = machine.Array array

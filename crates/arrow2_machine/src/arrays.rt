@@ -1,12 +1,11 @@
 //! The commands on boolean arrays: what each does to its slots, and its reply.
-ghost use Rattle.std.specs.Prelude.{◌≡◌, ◌≢◌, ◌++◌, ◌+◌, ◌≤◌, ◌↔◌, length as count_of, option_map, IsOk, OnOk, OnErr, IfErr, IfOk, IsOkAnd};
-ghost use Rattle.arrow2.specs.Parts.{part};
+ghost use Rattle.std.specs.Prelude.{◌≡◌, length as count_of, option_map, OnErr, IfOk};
+ghost use Rattle.arrow2_machine.specs.BitmapOutcomes.{part_inside};
 ghost use Rattle.arrow2_machine.specs.Held.{at, array as array_in};
 ghost use Rattle.arrow2_machine.specs.ArrayOutcomes.{arrayed, array_text, counted_nulls, sliced_array, two_arrays, both_true as both_true_of, one_true as one_true_of, array_outcome};
-ghost use Rattle.arrow2_machine.specs.Outcomes.{Gives, Fails};
+ghost use Rattle.arrow2_machine.specs.Outcomes.{Gives, Carries, Writes, Answers};
 
 use crate::kernels::two;
-use crate::refusal::CommandError::Refused;
 use crate::refusal::{CommandError, Refusal};
 use crate::replies::{write_array_items, write_number};
 use crate::slot::{Contents, Slot};
@@ -21,11 +20,8 @@ pub(crate) fn run(
     command: ArrayCommand,
     reply: &mut Vec<u8>,
 ) -> Result<(), CommandError>
-    ensures ok { OnOk result (IsOkAnd (array_outcome slots.old command) (λ after.
-        (slots.new ≡ after.0) × (reply.new.items ≡ reply.old.items ++ after.1))) }
-    ensures refused { IfErr result (λ e. Fails e (array_outcome slots.old command)) }
-    ensures err { IfErr result (λ e. e ≢ CommandError.OutOfMemory →
-        (slots.new ≡ slots.old) × (reply.new.items ≡ reply.old.items)) }
+    ensures { Carries result slots.old slots.new reply.old.items reply.new.items
+        (array_outcome slots.old command) }
 {
     match command {
         ArrayCommand::New(to, values, validity) => {
@@ -36,7 +32,7 @@ pub(crate) fn run(
         }
         ArrayCommand::List(slot) => return slots[slot.get()].write_array(reply),
         ArrayCommand::Nulls(slot) => {
-            return write_number(slots[slot.get()].count_nulls()?, reply);
+            return Ok(write_number(slots[slot.get()].count_nulls()?, reply)?);
         }
         ArrayCommand::Slice(slot, offset, length) => {
             slots[slot.get()].slice_array(offset, length)?;
@@ -123,18 +119,17 @@ fn two_of(
     slots: &[Slot; 16],
     first: SlotIndex,
     second: SlotIndex,
-) -> Result<(&BooleanArray, &BooleanArray), CommandError>
-    ensures gives { Gives (λ a. (a.0.now, a.1.now)) result
+) -> Result<(&BooleanArray, &BooleanArray), Refusal>
+    ensures gives { Answers (λ a. (a.0.now, a.1.now)) result
         (two_arrays (at slots.now first) (at slots.now second)) }
     ensures same_length { IfOk result (λ a. count_of a.0.now ≡ count_of a.1.now) }
-    ensures only { IfErr result (λ e. e ≢ CommandError.OutOfMemory) }
 {
     let first = slots[first.get()].array()?;
     let second = slots[second.get()].array()?;
     if first.len() == second.len() {
         Ok((first, second))
     } else {
-        Err(Refused(Refusal::Length))
+        Err(Refusal::Length)
     }
 }
 
@@ -144,13 +139,12 @@ impl Slot {
     /// # Errors
     ///
     /// `Kind` alone.
-    fn array(&self) -> Result<&BooleanArray, CommandError>
-        ensures gives { Gives (λ array. array.now) result (array_in self.now) }
-        ensures only { IfErr result (λ e. e ≢ CommandError.OutOfMemory) }
+    fn array(&self) -> Result<&BooleanArray, Refusal>
+        ensures { Answers (λ array. array.now) result (array_in self.now) }
     {
         match &self.contents {
             Contents::Array(array) => Ok(array),
-            _ => Err(Refused(Refusal::Kind)),
+            _ => Err(Refusal::Kind),
         }
     }
 
@@ -160,11 +154,7 @@ impl Slot {
     ///
     /// `Kind`, which changes nothing, or `OutOfMemory`, after which a part of the text may be there.
     pub fn write_array(&self, out: &mut Vec<u8>) -> Result<(), CommandError>
-        ensures ok { OnOk result (IsOkAnd (array_text self.now) (λ text.
-            out.new.items ≡ out.old.items ++ text)) }
-        ensures refused { IfErr result (λ e. Fails e (array_text self.now)) }
-        ensures err { IfErr result (λ e. e ≢ CommandError.OutOfMemory →
-            out.new.items ≡ out.old.items) }
+        ensures { Writes result out.old.items out.new.items (array_text self.now) }
     {
         write_array_items(self.array()?.iter(), out)?;
         Ok(())
@@ -175,9 +165,8 @@ impl Slot {
     /// # Errors
     ///
     /// `Kind` alone.
-    pub fn count_nulls(&self) -> Result<usize, CommandError>
-        ensures gives { Gives (λ number. number) result (counted_nulls self.now) }
-        ensures only { IfErr result (λ e. e ≢ CommandError.OutOfMemory) }
+    pub fn count_nulls(&self) -> Result<usize, Refusal>
+        ensures { result ≡ counted_nulls self.now }
     {
         Ok(self.array()?.null_count())
     }
@@ -187,30 +176,27 @@ impl Slot {
     /// # Errors
     ///
     /// `Kind` or `Range`. They change nothing.
-    pub fn slice_array(&mut self, offset: u64, length: u64) -> Result<(), CommandError>
-        ensures gives { Gives (λ _. self.new) result (sliced_array self.old offset length) }
+    pub fn slice_array(&mut self, offset: u64, length: u64) -> Result<(), Refusal>
+        ensures gives { Answers (λ _. self.new) result (sliced_array self.old offset length) }
         ensures err { OnErr result (self.new ≡ self.old) }
-        ensures only { IfErr result (λ e. e ≢ CommandError.OutOfMemory) }
     {
         match &mut self.contents {
             Contents::Array(array) => cut(array, offset, length),
-            _ => Err(Refused(Refusal::Kind)),
+            _ => Err(Refusal::Kind),
         }
     }
 }
 
 /// Cuts a boolean array to its `length` items from item `offset` on, where they are inside.
-fn cut(array: &mut BooleanArray, offset: u64, length: u64) -> Result<(), CommandError>
-    ensures inside { IsOk result ↔ (offset + length ≤ count_of array.old) }
-    ensures ok { OnOk result (array.new ≡ part array.old offset length) }
+fn cut(array: &mut BooleanArray, offset: u64, length: u64) -> Result<(), Refusal>
+    ensures gives { Answers (λ _. array.new) result (part_inside array.old offset length) }
     ensures err { OnErr result (array.new ≡ array.old) }
-    ensures only { IfErr result (λ e. e ≡ CommandError.Refused Refusal.Range) }
 {
     let len = array.len() as u64;
     if offset <= len && length <= len - offset {
         array.slice(offset as usize, length as usize);
         Ok(())
     } else {
-        Err(Refused(Refusal::Range))
+        Err(Refusal::Range)
     }
 }

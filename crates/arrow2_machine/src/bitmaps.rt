@@ -1,11 +1,10 @@
 //! The commands on bitmaps: what each does to its slots, and its reply.
-ghost use Rattle.std.specs.Prelude.{◌≡◌, ◌≢◌, ◌++◌, ◌+◌, ◌≤◌, ◌↔◌, slice_get, length as count_of, IsOk, OnOk, OnErr, IfErr, IfOk, IsOkAnd, IsErrOf};
-ghost use Rattle.arrow2.specs.Parts.{part};
+ghost use Rattle.std.specs.Prelude.{◌≡◌, ◌≢◌, slice_get, OnErr, IfErr, IsErrOf};
 ghost use Rattle.arrow2.specs.Storage.{items_of};
 ghost use Rattle.arrow2_machine.specs.Held.{Nothing, Growing};
 ghost use Rattle.arrow2_machine.specs.Replies.{item_said};
-ghost use Rattle.arrow2_machine.specs.BitmapOutcomes.{pushed, popped, got, froze, thawed, sliced, counted, item_text, bitmap_outcome};
-ghost use Rattle.arrow2_machine.specs.Outcomes.{Gives, Fails};
+ghost use Rattle.arrow2_machine.specs.BitmapOutcomes.{pushed, popped, got, froze, thawed, sliced, counted, item_text, part_inside, bitmap_outcome};
+ghost use Rattle.arrow2_machine.specs.Outcomes.{Gives, Carries, Writes, Answers};
 
 use crate::refusal::CommandError::Refused;
 use crate::refusal::{CommandError, Refusal};
@@ -26,21 +25,22 @@ pub(crate) fn run(
     command: BitmapCommand<'_>,
     reply: &mut Vec<u8>,
 ) -> Result<(), CommandError>
-    ensures ok { OnOk result (IsOkAnd (bitmap_outcome slots.old command.entry) (λ after.
-        (slots.new ≡ after.0) × (reply.new.items ≡ reply.old.items ++ after.1))) }
-    ensures refused { IfErr result (λ e. Fails e (bitmap_outcome slots.old command.entry)) }
-    ensures err { IfErr result (λ e. e ≢ CommandError.OutOfMemory →
-        (slots.new ≡ slots.old) × (reply.new.items ≡ reply.old.items)) }
+    ensures { Carries result slots.old slots.new reply.old.items reply.new.items
+        (bitmap_outcome slots.old command.entry) }
 {
     match command {
         BitmapCommand::New(slot, bits) => slots[slot.get()] = Slot::with_bits(alloc, &bits)?,
         BitmapCommand::Push(slot, bit) => slots[slot.get()].push(bit)?,
-        BitmapCommand::Pop(slot) => return write_item(slots[slot.get()].pop()?, reply),
-        BitmapCommand::Get(slot, index) => return write_item(slots[slot.get()].get(index)?, reply),
+        BitmapCommand::Pop(slot) => return Ok(write_item(slots[slot.get()].pop()?, reply)?),
+        BitmapCommand::Get(slot, index) => {
+            return Ok(write_item(slots[slot.get()].get(index)?, reply)?);
+        }
         BitmapCommand::Freeze(slot) => slots[slot.get()].freeze()?,
         BitmapCommand::Thaw(slot) => slots[slot.get()].thaw()?,
         BitmapCommand::Slice(slot, offset, length) => slots[slot.get()].slice(offset, length)?,
-        BitmapCommand::Count(slot) => return write_number(slots[slot.get()].count()?, reply),
+        BitmapCommand::Count(slot) => {
+            return Ok(write_number(slots[slot.get()].count()?, reply)?);
+        }
         BitmapCommand::Bits(slot) => return slots[slot.get()].write_bits(reply),
     }
     reply.extend_from_slice(b"ok")?;
@@ -54,8 +54,7 @@ impl Slot {
     ///
     /// `OutOfMemory` alone.
     pub fn with_bits(alloc: Global, text: &BitText<'_>) -> Result<Slot, CommandError>
-        ensures ok { IfOk result (λ slot. slot ≡ Growing text.now) }
-        ensures only { IfErr result (λ e. e ≡ CommandError.OutOfMemory) }
+        ensures { Gives (λ slot. slot) result (Ok (Growing text.now)) }
     {
         Ok(Slot {
             contents: Contents::Growing(bitmap_of(alloc, text)?),
@@ -86,14 +85,13 @@ impl Slot {
     ///
     /// `Kind` alone, which changes nothing.
     #[tactic(auto, using(crate::proofs::SlotLemmas::popping))]
-    pub fn pop(&mut self) -> Result<Option<bool>, CommandError>
-        ensures gives { Gives (λ item. (self.new, item_said item)) result (popped self.old) }
+    pub fn pop(&mut self) -> Result<Option<bool>, Refusal>
+        ensures gives { Answers (λ item. (self.new, item_said item)) result (popped self.old) }
         ensures err { OnErr result (self.new ≡ self.old) }
-        ensures only { IfErr result (λ e. e ≢ CommandError.OutOfMemory) }
     {
         match &mut self.contents {
             Contents::Growing(bitmap) => Ok(bitmap.pop()),
-            _ => Err(Refused(Refusal::Kind)),
+            _ => Err(Refusal::Kind),
         }
     }
 
@@ -102,14 +100,13 @@ impl Slot {
     /// # Errors
     ///
     /// `Kind` alone.
-    pub fn get(&self, index: u64) -> Result<Option<bool>, CommandError>
-        ensures gives { Gives (λ item. item_said item) result (got self.now index) }
-        ensures only { IfErr result (λ e. e ≢ CommandError.OutOfMemory) }
+    pub fn get(&self, index: u64) -> Result<Option<bool>, Refusal>
+        ensures { Answers item_said result (got self.now index) }
     {
         match &self.contents {
             Contents::Frozen(bitmap) => Ok(bitmap.get(index as usize)),
             Contents::Growing(bitmap) => Ok(item_at(bitmap, index)),
-            _ => Err(Refused(Refusal::Kind)),
+            _ => Err(Refusal::Kind),
         }
     }
 
@@ -162,14 +159,13 @@ impl Slot {
     /// # Errors
     ///
     /// `Kind` or `Range`. They change nothing.
-    pub fn slice(&mut self, offset: u64, length: u64) -> Result<(), CommandError>
-        ensures gives { Gives (λ _. self.new) result (sliced self.old offset length) }
+    pub fn slice(&mut self, offset: u64, length: u64) -> Result<(), Refusal>
+        ensures gives { Answers (λ _. self.new) result (sliced self.old offset length) }
         ensures err { OnErr result (self.new ≡ self.old) }
-        ensures only { IfErr result (λ e. e ≢ CommandError.OutOfMemory) }
     {
         match &mut self.contents {
             Contents::Frozen(bitmap) => cut(bitmap, offset, length),
-            _ => Err(Refused(Refusal::Kind)),
+            _ => Err(Refusal::Kind),
         }
     }
 
@@ -178,14 +174,13 @@ impl Slot {
     /// # Errors
     ///
     /// `Kind` alone.
-    pub fn count(&self) -> Result<usize, CommandError>
-        ensures gives { Gives (λ number. number) result (counted self.now) }
-        ensures only { IfErr result (λ e. e ≢ CommandError.OutOfMemory) }
+    pub fn count(&self) -> Result<usize, Refusal>
+        ensures { result ≡ counted self.now }
     {
         match &self.contents {
             Contents::Frozen(bitmap) => Ok(bitmap.unset_bits()),
             Contents::Growing(bitmap) => Ok(bitmap.unset_bits()),
-            _ => Err(Refused(Refusal::Kind)),
+            _ => Err(Refusal::Kind),
         }
     }
 
@@ -195,11 +190,7 @@ impl Slot {
     ///
     /// `Kind`, which changes nothing, or `OutOfMemory`, after which a part of the text may be there.
     pub fn write_bits(&self, out: &mut Vec<u8>) -> Result<(), CommandError>
-        ensures ok { OnOk result (IsOkAnd (item_text self.now) (λ text.
-            out.new.items ≡ out.old.items ++ text)) }
-        ensures refused { IfErr result (λ e. Fails e (item_text self.now)) }
-        ensures err { IfErr result (λ e. e ≢ CommandError.OutOfMemory →
-            out.new.items ≡ out.old.items) }
+        ensures { Writes result out.old.items out.new.items (item_text self.now) }
     {
         match &self.contents {
             Contents::Frozen(bitmap) => write_items(bitmap.iter(), out)?,
@@ -212,8 +203,7 @@ impl Slot {
 
 /// The growing bitmap of a text of bits.
 fn bitmap_of(alloc: Global, text: &BitText<'_>) -> Result<MutableBitmap, CommandError>
-    ensures ok { IfOk result (λ bitmap. bitmap.items ≡ text.now) }
-    ensures only { IfErr result (λ e. e ≡ CommandError.OutOfMemory) }
+    ensures { Gives (λ bitmap. bitmap.items) result (Ok text.now) }
 {
     let digits = text.digits();
     let mut bitmap = MutableBitmap::with_capacity(alloc, digits.len())?;
@@ -224,18 +214,17 @@ fn bitmap_of(alloc: Global, text: &BitText<'_>) -> Result<MutableBitmap, Command
 }
 
 /// Cuts a bitmap to its `length` items from item `offset` on, where they are inside.
-fn cut(bitmap: &mut Bitmap, offset: u64, length: u64) -> Result<(), CommandError>
-    ensures inside { IsOk result ↔ (offset + length ≤ count_of (items_of bitmap.old)) }
-    ensures ok { OnOk result (items_of bitmap.new ≡ part (items_of bitmap.old) offset length) }
+fn cut(bitmap: &mut Bitmap, offset: u64, length: u64) -> Result<(), Refusal>
+    ensures gives { Answers (λ _. items_of bitmap.new) result
+        (part_inside (items_of bitmap.old) offset length) }
     ensures err { OnErr result (bitmap.new ≡ bitmap.old) }
-    ensures only { IfErr result (λ e. e ≡ CommandError.Refused Refusal.Range) }
 {
     let len = bitmap.len() as u64;
     if offset <= len && length <= len - offset {
         bitmap.slice(offset as usize, length as usize);
         Ok(())
     } else {
-        Err(Refused(Refusal::Range))
+        Err(Refusal::Range)
     }
 }
 

@@ -1,8 +1,8 @@
 //! The commands by which bitmaps grow by many items: what each does to its slots, and its reply.
-ghost use Rattle.std.specs.Prelude.{◌≡◌, ◌≢◌, ◌++◌, OnOk, OnErr, IfErr, IsOkAnd};
+ghost use Rattle.std.specs.Prelude.{◌≡◌, OnErr};
 ghost use Rattle.arrow2.specs.Storage.{items_of};
 ghost use Rattle.arrow2_machine.specs.GrowthOutcomes.{filled, appended, growth_outcome};
-ghost use Rattle.arrow2_machine.specs.Outcomes.{Gives, Fails};
+ghost use Rattle.arrow2_machine.specs.Outcomes.{Gives, Carries};
 
 use crate::refusal::CommandError::Refused;
 use crate::refusal::{CommandError, Refusal};
@@ -17,11 +17,8 @@ pub(crate) fn run(
     command: GrowthCommand,
     reply: &mut Vec<u8>,
 ) -> Result<(), CommandError>
-    ensures ok { OnOk result (IsOkAnd (growth_outcome slots.old command) (λ after.
-        (slots.new ≡ after.0) × (reply.new.items ≡ reply.old.items ++ after.1))) }
-    ensures refused { IfErr result (λ e. Fails e (growth_outcome slots.old command)) }
-    ensures err { IfErr result (λ e. e ≢ CommandError.OutOfMemory →
-        (slots.new ≡ slots.old) × (reply.new.items ≡ reply.old.items)) }
+    ensures { Carries result slots.old slots.new reply.old.items reply.new.items
+        (growth_outcome slots.old command) }
 {
     match command {
         GrowthCommand::Fill(slot, additional, bit) => slots[slot.get()].fill(additional, bit)?,

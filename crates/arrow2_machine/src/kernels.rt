@@ -1,12 +1,11 @@
 //! The commands that combine bitmaps: what each does to its slots, and its reply.
-ghost use Rattle.std.specs.Prelude.{◌≡◌, ◌≢◌, ◌++◌, ◌↔◌, [], ◌∷◌, length, IsOk, OnOk, OnErr, IfErr, IfOk, IsOkAnd};
+ghost use Rattle.std.specs.Prelude.{◌≡◌, [], ◌∷◌, length, OnErr, IfOk};
 ghost use Rattle.arrow2.specs.Storage.{items_of};
 ghost use Rattle.arrow2.specs.Tables.{each};
 ghost use Rattle.arrow2_machine.specs.Held.{at, frozen as frozen_in};
 ghost use Rattle.arrow2_machine.specs.KernelOutcomes.{two_lists, three_lists, four_lists, made as made_of, assigned, assigned_beside, kernel_outcome};
-ghost use Rattle.arrow2_machine.specs.Outcomes.{Gives, Fails};
+ghost use Rattle.arrow2_machine.specs.Outcomes.{Gives, Carries, Answers};
 
-use crate::refusal::CommandError::Refused;
 use crate::refusal::{CommandError, Refusal};
 use crate::slot::{Contents, Slot};
 use arrow2::bitmap::{
@@ -23,11 +22,8 @@ pub(crate) fn run(
     command: KernelCommand,
     reply: &mut Vec<u8>,
 ) -> Result<(), CommandError>
-    ensures ok { OnOk result (IsOkAnd (kernel_outcome slots.old command) (λ after.
-        (slots.new ≡ after.0) × (reply.new.items ≡ reply.old.items ++ after.1))) }
-    ensures refused { IfErr result (λ e. Fails e (kernel_outcome slots.old command)) }
-    ensures err { IfErr result (λ e. e ≢ CommandError.OutOfMemory →
-        (slots.new ≡ slots.old) × (reply.new.items ≡ reply.old.items)) }
+    ensures { Carries result slots.old slots.new reply.old.items reply.new.items
+        (kernel_outcome slots.old command) }
 {
     match command {
         KernelCommand::Make(to, kernel) => {
@@ -99,18 +95,17 @@ pub(crate) fn two(
     slots: &[Slot; 16],
     first: SlotIndex,
     second: SlotIndex,
-) -> Result<(&Bitmap, &Bitmap), CommandError>
-    ensures gives { Gives (λ b. (items_of b.0.now, items_of b.1.now)) result
+) -> Result<(&Bitmap, &Bitmap), Refusal>
+    ensures gives { Answers (λ b. (items_of b.0.now, items_of b.1.now)) result
         (two_lists (at slots.now first) (at slots.now second)) }
     ensures same_length { IfOk result (λ b. length (items_of b.0.now) ≡ length (items_of b.1.now)) }
-    ensures only { IfErr result (λ e. e ≢ CommandError.OutOfMemory) }
 {
     let first = slots[first.get()].frozen()?;
     let second = slots[second.get()].frozen()?;
     if first.len() == second.len() {
         Ok((first, second))
     } else {
-        Err(Refused(Refusal::Length))
+        Err(Refusal::Length)
     }
 }
 
@@ -124,14 +119,13 @@ fn three(
     first: SlotIndex,
     second: SlotIndex,
     third: SlotIndex,
-) -> Result<(&Bitmap, &Bitmap, &Bitmap), CommandError>
-    ensures gives { Gives (λ b. (items_of b.0.now, items_of b.1.now, items_of b.2.now)) result
+) -> Result<(&Bitmap, &Bitmap, &Bitmap), Refusal>
+    ensures gives { Answers (λ b. (items_of b.0.now, items_of b.1.now, items_of b.2.now)) result
         (three_lists (at slots.now first) (at slots.now second) (at slots.now third)) }
     ensures same_length2 { IfOk result (λ b. length (items_of b.0.now)
         ≡ length (items_of b.1.now)) }
     ensures same_length3 { IfOk result (λ b. length (items_of b.0.now)
         ≡ length (items_of b.2.now)) }
-    ensures only { IfErr result (λ e. e ≢ CommandError.OutOfMemory) }
 {
     let first = slots[first.get()].frozen()?;
     let second = slots[second.get()].frozen()?;
@@ -139,7 +133,7 @@ fn three(
     if first.len() == second.len() && first.len() == third.len() {
         Ok((first, second, third))
     } else {
-        Err(Refused(Refusal::Length))
+        Err(Refusal::Length)
     }
 }
 
@@ -154,8 +148,8 @@ fn four(
     second: SlotIndex,
     third: SlotIndex,
     fourth: SlotIndex,
-) -> Result<(&Bitmap, &Bitmap, &Bitmap, &Bitmap), CommandError>
-    ensures gives { Gives (λ b. (
+) -> Result<(&Bitmap, &Bitmap, &Bitmap, &Bitmap), Refusal>
+    ensures gives { Answers (λ b. (
       items_of b.0.now,
       items_of b.1.now,
       items_of b.2.now,
@@ -168,7 +162,6 @@ fn four(
         ≡ length (items_of b.2.now)) }
     ensures same_length4 { IfOk result (λ b. length (items_of b.0.now)
         ≡ length (items_of b.3.now)) }
-    ensures only { IfErr result (λ e. e ≢ CommandError.OutOfMemory) }
 {
     let first = slots[first.get()].frozen()?;
     let second = slots[second.get()].frozen()?;
@@ -177,7 +170,7 @@ fn four(
     if first.len() == second.len() && first.len() == third.len() && first.len() == fourth.len() {
         Ok((first, second, third, fourth))
     } else {
-        Err(Refused(Refusal::Length))
+        Err(Refusal::Length)
     }
 }
 
@@ -187,13 +180,12 @@ impl Slot {
     /// # Errors
     ///
     /// `Kind` alone.
-    pub(crate) fn frozen(&self) -> Result<&Bitmap, CommandError>
-        ensures gives { Gives (λ bitmap. items_of bitmap.now) result (frozen_in self.now) }
-        ensures only { IfErr result (λ e. e ≢ CommandError.OutOfMemory) }
+    pub(crate) fn frozen(&self) -> Result<&Bitmap, Refusal>
+        ensures { Answers (λ bitmap. items_of bitmap.now) result (frozen_in self.now) }
     {
         match &self.contents {
             Contents::Frozen(bitmap) => Ok(bitmap),
-            _ => Err(Refused(Refusal::Kind)),
+            _ => Err(Refusal::Kind),
         }
     }
 
@@ -202,17 +194,16 @@ impl Slot {
     /// # Errors
     ///
     /// `Kind` alone, which changes nothing.
-    pub fn assign(&mut self, table: Below<4>, width: Width) -> Result<(), CommandError>
-        ensures gives { Gives (λ _. self.new) result (assigned self.old table) }
+    pub fn assign(&mut self, table: Below<4>, width: Width) -> Result<(), Refusal>
+        ensures gives { Answers (λ _. self.new) result (assigned self.old table) }
         ensures err { OnErr result (self.new ≡ self.old) }
-        ensures only { IfErr result (λ e. e ≢ CommandError.OutOfMemory) }
     {
         match &mut self.contents {
             Contents::Growing(bitmap) => {
                 assign_table(bitmap, table, width);
                 Ok(())
             }
-            _ => Err(Refused(Refusal::Kind)),
+            _ => Err(Refusal::Kind),
         }
     }
 
@@ -227,11 +218,10 @@ impl Slot {
         table: Below<16>,
         width: Width,
         other: &Bitmap,
-    ) -> Result<(), CommandError>
-        ensures gives { Gives (λ _. self.new) result
+    ) -> Result<(), Refusal>
+        ensures gives { Answers (λ _. self.new) result
             (assigned_beside self.old table (items_of other.now)) }
         ensures err { OnErr result (self.new ≡ self.old) }
-        ensures only { IfErr result (λ e. e ≢ CommandError.OutOfMemory) }
     {
         match &mut self.contents {
             Contents::Growing(bitmap) => {
@@ -239,10 +229,10 @@ impl Slot {
                     assign_table_beside(bitmap, table, width, other);
                     Ok(())
                 } else {
-                    Err(Refused(Refusal::Length))
+                    Err(Refusal::Length)
                 }
             }
-            _ => Err(Refused(Refusal::Kind)),
+            _ => Err(Refusal::Kind),
         }
     }
 }

@@ -1,9 +1,9 @@
 //! The machine: sixteen slots, and what a line does to them.
-ghost use Rattle.std.specs.Prelude.{◌≡◌, ◌≢◌, ◌++◌, OnOk, IfErr, IsOkAnd, replicate};
+ghost use Rattle.std.specs.Prelude.{◌≡◌, ◌++◌, OnOk, replicate};
 ghost use Rattle.arrow2_script.specs.Lines.{ended};
 ghost use Rattle.arrow2_machine.specs.Held.{Nothing};
 ghost use Rattle.arrow2_machine.specs.Machine.{outcome, step};
-ghost use Rattle.arrow2_machine.specs.Outcomes.{Fails};
+ghost use Rattle.arrow2_machine.specs.Outcomes.{Carries};
 
 use crate::refusal::CommandError::Refused;
 use crate::refusal::{CommandError, Refusal};
@@ -47,11 +47,8 @@ impl Machine {
         command: Command<'_>,
         reply: &mut Vec<u8>,
     ) -> Result<(), CommandError>
-        ensures ok { OnOk result (IsOkAnd (outcome self.old command.entry) (λ after.
-            (self.new ≡ after.0) × (reply.new.items ≡ reply.old.items ++ after.1))) }
-        ensures refused { IfErr result (λ e. Fails e (outcome self.old command.entry)) }
-        ensures err { IfErr result (λ e. e ≢ CommandError.OutOfMemory →
-            (self.new ≡ self.old) × (reply.new.items ≡ reply.old.items)) }
+        ensures { Carries result self.old self.new reply.old.items reply.new.items
+            (outcome self.old command.entry) }
     {
         match command {
             Command::Bitmap(command) => bitmaps::run(&mut self.slots, alloc, command, reply),

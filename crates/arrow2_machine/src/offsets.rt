@@ -1,12 +1,12 @@
 //! The commands on offsets: what each does to its slots, and its reply.
-ghost use Rattle.std.specs.Prelude.{◌≡◌, ◌≢◌, ◌<◌, ◌≤◌, ◌+◌, ◌-◌, ◌++◌, ◌↔◌, [], ◌∷◌, ◌≤ℤ◌, pos, unsigned_abs, length as count_of, sum, ◌⊎◌, IsOk, OnOk, OnErr, IfErr, IfOk, IsOkAnd, IsErrOf};
-ghost use Rattle.arrow2.specs.Parts.{part};
+ghost use Rattle.std.specs.Prelude.{◌≡◌, ◌≢◌, ◌<◌, ◌≤◌, ◌+◌, [], ◌∷◌, ◌≤ℤ◌, pos, unsigned_abs, sum, ◌⊎◌, OnOk, OnErr, IfErr, IfOk, IsErrOf};
 ghost use Rattle.arrow2.specs.Buffers.{buffer_items};
-ghost use Rattle.arrow2.specs.Offsets.{offset_at, start_of, lengths_of, last_of_growing, GrownBy, SameOffsets};
+ghost use Rattle.arrow2.specs.Offsets.{last_of_growing, GrownBy, SameOffsets};
 ghost use Rattle.arrow2_machine.specs.Held.{Nothing};
+ghost use Rattle.arrow2_machine.specs.Slots.{offsets_in};
 ghost use Rattle.arrow2_machine.specs.Replies.{offset_said};
-ghost use Rattle.arrow2_machine.specs.OffsetOutcomes.{begun, grown, shortened, offset_text, froze_offsets, sliced_offsets, zip_text, offset_outcome};
-ghost use Rattle.arrow2_machine.specs.Outcomes.{Gives, Fails};
+ghost use Rattle.arrow2_machine.specs.OffsetOutcomes.{begun, grown, shortened, offset_text, froze_offsets, offsets_inside, sliced_offsets, zip_text, offset_outcome};
+ghost use Rattle.arrow2_machine.specs.Outcomes.{Gives, Carries, Writes, Answers};
 
 use crate::refusal::CommandError::Refused;
 use crate::refusal::{CommandError, Refusal};
@@ -17,7 +17,7 @@ use arrow2::error::Error;
 use arrow2::offset::{Offsets, OffsetsBuffer};
 use arrow2_script::offset_command::OffsetCommand;
 use arrow2_script::words::NumberText;
-use std::alloc::Global;
+use std::alloc::{AllocError, Global};
 use std::convert::TryFrom;
 use std::mem;
 
@@ -29,16 +29,15 @@ pub(crate) fn run(
     command: OffsetCommand<'_>,
     reply: &mut Vec<u8>,
 ) -> Result<(), CommandError>
-    ensures ok { OnOk result (IsOkAnd (offset_outcome slots.old command.entry) (λ after.
-        (slots.new ≡ after.0) × (reply.new.items ≡ reply.old.items ++ after.1))) }
-    ensures refused { IfErr result (λ e. Fails e (offset_outcome slots.old command.entry)) }
-    ensures err { IfErr result (λ e. e ≢ CommandError.OutOfMemory →
-        (slots.new ≡ slots.old) × (reply.new.items ≡ reply.old.items)) }
+    ensures { Carries result slots.old slots.new reply.old.items reply.new.items
+        (offset_outcome slots.old command.entry) }
 {
     match command {
         OffsetCommand::New(slot, first) => slots[slot.get()] = Slot::with_offset(alloc, first)?,
         OffsetCommand::Push(slot, length) => slots[slot.get()].push_length(length)?,
-        OffsetCommand::Pop(slot) => return write_offset(slots[slot.get()].pop_offset()?, reply),
+        OffsetCommand::Pop(slot) => {
+            return Ok(write_offset(slots[slot.get()].pop_offset()?, reply)?);
+        }
         OffsetCommand::Extend(slot, lengths) => slots[slot.get()].extend_lengths(lengths)?,
         OffsetCommand::Offsets(slot) => return slots[slot.get()].write_offsets(reply),
         OffsetCommand::Freeze(slot) => slots[slot.get()].freeze_offsets()?,
@@ -110,15 +109,14 @@ impl Slot {
     /// # Errors
     ///
     /// `Kind` alone, which changes nothing.
-    pub fn pop_offset(&mut self) -> Result<Option<i32>, CommandError>
-        ensures gives { Gives (λ offset.
+    pub fn pop_offset(&mut self) -> Result<Option<i32>, Refusal>
+        ensures gives { Answers (λ offset.
             (self.new, offset_said offset)) result (shortened self.old) }
         ensures err { OnErr result (self.new ≡ self.old) }
-        ensures only { IfErr result (λ e. e ≢ CommandError.OutOfMemory) }
     {
         match &mut self.contents {
             Contents::GrowingOffsets(offsets) => Ok(offsets.pop()),
-            _ => Err(Refused(Refusal::Kind)),
+            _ => Err(Refusal::Kind),
         }
     }
 
@@ -128,17 +126,14 @@ impl Slot {
     ///
     /// `Kind`, which changes nothing, or `OutOfMemory`, after which a part of the text may be there.
     pub fn write_offsets(&self, out: &mut Vec<u8>) -> Result<(), CommandError>
-        ensures ok { OnOk result (IsOkAnd (offset_text self.now) (λ text.
-            out.new.items ≡ out.old.items ++ text)) }
-        ensures refused { IfErr result (λ e. Fails e (offset_text self.now)) }
-        ensures err { IfErr result (λ e. e ≢ CommandError.OutOfMemory →
-            out.new.items ≡ out.old.items) }
+        ensures { Writes result out.old.items out.new.items (offset_text self.now) }
     {
         match &self.contents {
-            Contents::FrozenOffsets(offsets) => write_offsets(offsets.as_slice(), out),
-            Contents::GrowingOffsets(offsets) => write_offsets(offsets.as_slice(), out),
-            _ => Err(Refused(Refusal::Kind)),
+            Contents::FrozenOffsets(offsets) => write_offsets(offsets.as_slice(), out)?,
+            Contents::GrowingOffsets(offsets) => write_offsets(offsets.as_slice(), out)?,
+            _ => return Err(Refused(Refusal::Kind)),
         }
+        Ok(())
     }
 
     /// Freezes growing offsets.
@@ -168,14 +163,13 @@ impl Slot {
     /// # Errors
     ///
     /// `Kind`, or `Range` where `count` is 0 or they are not inside. They change nothing.
-    pub fn slice_offsets(&mut self, first: u64, count: u64) -> Result<(), CommandError>
-        ensures gives { Gives (λ _. self.new) result (sliced_offsets self.old first count) }
+    pub fn slice_offsets(&mut self, first: u64, count: u64) -> Result<(), Refusal>
+        ensures gives { Answers (λ _. self.new) result (sliced_offsets self.old first count) }
         ensures err { OnErr result (self.new ≡ self.old) }
-        ensures only { IfErr result (λ e. e ≢ CommandError.OutOfMemory) }
     {
         match &mut self.contents {
             Contents::FrozenOffsets(offsets) => cut(offsets, first, count),
-            _ => Err(Refused(Refusal::Kind)),
+            _ => Err(Refusal::Kind),
         }
     }
 
@@ -185,18 +179,15 @@ impl Slot {
     ///
     /// `Kind` or `Length`, which change nothing, or `OutOfMemory`, after which a part of the text may be there.
     pub fn write_zipped(&self, validity: &Slot, out: &mut Vec<u8>) -> Result<(), CommandError>
-        ensures ok { OnOk result (IsOkAnd (zip_text self.now validity.now) (λ text.
-            out.new.items ≡ out.old.items ++ text)) }
-        ensures refused { IfErr result (λ e. Fails e (zip_text self.now validity.now)) }
-        ensures err { IfErr result (λ e. e ≢ CommandError.OutOfMemory →
-            out.new.items ≡ out.old.items) }
+        ensures { Writes result out.old.items out.new.items (zip_text self.now validity.now) }
     {
         match (&self.contents, &validity.contents) {
             (Contents::FrozenOffsets(offsets), Contents::Frozen(validity)) => {
                 if offsets.len_proxy() != validity.len() {
                     return Err(Refused(Refusal::Length));
                 }
-                write_slots(offsets.lengths(), validity.iter(), out)
+                write_slots(offsets.lengths(), validity.iter(), out)?;
+                Ok(())
             }
             _ => Err(Refused(Refusal::Kind)),
         }
@@ -204,13 +195,12 @@ impl Slot {
 }
 
 /// Growing offsets with one offset alone. Asks that it is not negative.
-fn offsets_of(alloc: Global, first: i32) -> Result<Offsets<i32>, CommandError>
+fn offsets_of(alloc: Global, first: i32) -> Result<Offsets<i32>, AllocError>
     requires { pos 0 ≤ℤ first }
-    ensures ok { IfOk result (λ o. (o.start ≡ unsigned_abs first) × (o.lengths ≡ [])) }
-    ensures only { IfErr result (λ e. e ≡ CommandError.OutOfMemory) }
+    ensures { IfOk result (λ o. (o.start ≡ unsigned_abs first) × (o.lengths ≡ [])) }
 {
     let offsets = vec![in alloc; first]?;
-    Ok(Offsets::try_from(offsets)?)
+    Ok(Offsets::try_from(offsets).unwrap())
 }
 
 /// Appends lengths to offsets, all of them or none.
@@ -226,22 +216,16 @@ fn extend(offsets: &mut Offsets<i32>, lengths: NumberText<'_>) -> error::Result<
 }
 
 /// Cuts offsets to `count` of them from offset `first` on, where that is one or more and they are inside.
-fn cut(offsets: &mut OffsetsBuffer<i32>, first: u64, count: u64) -> Result<(), CommandError>
-    ensures inside { IsOk result ↔ ((0 < count)
-        × (first + count ≤ count_of (lengths_of (buffer_items offsets.old)) + 1)) }
-    ensures start { OnOk result (start_of (buffer_items offsets.new)
-        ≡ offset_at (start_of (buffer_items offsets.old))
-        (lengths_of (buffer_items offsets.old)) first) }
-    ensures lengths { OnOk result (lengths_of (buffer_items offsets.new)
-        ≡ part (lengths_of (buffer_items offsets.old)) first (count - 1)) }
+fn cut(offsets: &mut OffsetsBuffer<i32>, first: u64, count: u64) -> Result<(), Refusal>
+    ensures gives { Answers (λ _. offsets_in (buffer_items offsets.new)) result
+        (offsets_inside (offsets_in (buffer_items offsets.old)) first count) }
     ensures err { OnErr result (offsets.new ≡ offsets.old) }
-    ensures only { IfErr result (λ e. e ≡ CommandError.Refused Refusal.Range) }
 {
     let len = offsets.len() as u64;
     if 0 < count && first <= len && count <= len - first {
         offsets.slice(first as usize, count as usize);
         Ok(())
     } else {
-        Err(Refused(Refusal::Range))
+        Err(Refusal::Range)
     }
 }

@@ -1,12 +1,11 @@
 //! The parts of replies.
-ghost use Rattle.std.specs.Prelude.{◌≡◌, ◌++◌, ℕ, length, map, unsigned_abs, OnOk, IfErr};
+ghost use Rattle.std.specs.Prelude.{◌≡◌, ◌++◌, ℕ, length, map, unsigned_abs, OnOk};
 ghost use Rattle.std.specs.Fmt.{decimal};
 ghost use Rattle.arrow2.specs.Zipped.{slot, zipped};
 ghost use Rattle.arrow2.specs.Words.{words};
 ghost use Rattle.arrow2_script.specs.Words.{bit_byte as byte_of, bits_text};
 ghost use Rattle.arrow2_machine.specs.Replies.{array_byte as array_byte_of, array_items_text, item_said, listed_word, offset_said, run_word, slot_word, words_text};
 
-use crate::refusal::CommandError;
 use arrow2::array::BooleanIter;
 use arrow2::bitmap::utils::{BitChunk, BitChunks, BitmapIter, SlicesIterator};
 use arrow2::offset::Lengths;
@@ -20,19 +19,16 @@ fn bit_byte(bit: bool) -> u8
 }
 
 /// Appends a number's digits.
-pub(crate) fn write_number(number: usize, reply: &mut Vec<u8>) -> Result<(), CommandError>
-    ensures ok { OnOk result (reply.new.items ≡ reply.old.items ++ decimal number) }
-    ensures only { IfErr result (λ e. e ≡ CommandError.OutOfMemory) }
+pub(crate) fn write_number(number: usize, reply: &mut Vec<u8>) -> Result<(), AllocError>
+    ensures { OnOk result (reply.new.items ≡ reply.old.items ++ decimal number) }
 {
     let text = number.to_string(*reply.allocator())?;
-    reply.extend_from_slice(text.as_bytes())?;
-    Ok(())
+    reply.extend_from_slice(text.as_bytes())
 }
 
 /// Appends the reply that tells an item, or that there is none.
-pub(crate) fn write_item(item: Option<bool>, reply: &mut Vec<u8>) -> Result<(), CommandError>
-    ensures ok { OnOk result (reply.new.items ≡ reply.old.items ++ item_said item) }
-    ensures only { IfErr result (λ e. e ≡ CommandError.OutOfMemory) }
+pub(crate) fn write_item(item: Option<bool>, reply: &mut Vec<u8>) -> Result<(), AllocError>
+    ensures { OnOk result (reply.new.items ≡ reply.old.items ++ item_said item) }
 {
     match item {
         Some(item) => reply.push(bit_byte(item))?,
@@ -57,17 +53,15 @@ pub(crate) fn write_items(items: BitmapIter<'_>, out: &mut Vec<u8>) -> Result<()
 }
 
 /// Appends the digits of a number without its sign, which an offset doesn't have.
-fn write_magnitude(number: &i32, out: &mut Vec<u8>) -> Result<(), CommandError>
-    ensures ok { OnOk result (out.new.items ≡ out.old.items ++ decimal (unsigned_abs number.now)) }
-    ensures only { IfErr result (λ e. e ≡ CommandError.OutOfMemory) }
+fn write_magnitude(number: &i32, out: &mut Vec<u8>) -> Result<(), AllocError>
+    ensures { OnOk result (out.new.items ≡ out.old.items ++ decimal (unsigned_abs number.now)) }
 {
     write_number(number.unsigned_abs() as usize, out)
 }
 
 /// Appends the reply that tells an offset, or that there is none.
-pub(crate) fn write_offset(offset: Option<i32>, reply: &mut Vec<u8>) -> Result<(), CommandError>
-    ensures ok { OnOk result (reply.new.items ≡ reply.old.items ++ offset_said offset) }
-    ensures only { IfErr result (λ e. e ≡ CommandError.OutOfMemory) }
+pub(crate) fn write_offset(offset: Option<i32>, reply: &mut Vec<u8>) -> Result<(), AllocError>
+    ensures { OnOk result (reply.new.items ≡ reply.old.items ++ offset_said offset) }
 {
     match offset {
         Some(offset) => write_magnitude(&offset, reply)?,
@@ -78,10 +72,9 @@ pub(crate) fn write_offset(offset: Option<i32>, reply: &mut Vec<u8>) -> Result<(
 
 /// Appends the text of a list of offsets.
 #[tactic(auto, unfolding(crate::specs::Replies::words_text))]
-pub(crate) fn write_offsets(offsets: &[i32], out: &mut Vec<u8>) -> Result<(), CommandError>
-    ensures ok { OnOk result (out.new.items ≡ out.old.items
+pub(crate) fn write_offsets(offsets: &[i32], out: &mut Vec<u8>) -> Result<(), AllocError>
+    ensures { OnOk result (out.new.items ≡ out.old.items
         ++ words_text (map (λ x. decimal (unsigned_abs x)) offsets.now)) }
-    ensures only { IfErr result (λ e. e ≡ CommandError.OutOfMemory) }
 {
     let Some((first, others)) = offsets.split_first() else {
         out.extend_from_slice(b"-")?;
@@ -96,15 +89,13 @@ pub(crate) fn write_offsets(offsets: &[i32], out: &mut Vec<u8>) -> Result<(), Co
 }
 
 /// Appends the word that tells the length of a slot, or `null` where the slot is not valid.
-fn write_slot(length: usize, valid: bool, out: &mut Vec<u8>) -> Result<(), CommandError>
-    ensures ok { OnOk result (out.new.items ≡ out.old.items ++ slot_word (slot length valid)) }
-    ensures only { IfErr result (λ e. e ≡ CommandError.OutOfMemory) }
+fn write_slot(length: usize, valid: bool, out: &mut Vec<u8>) -> Result<(), AllocError>
+    ensures { OnOk result (out.new.items ≡ out.old.items ++ slot_word (slot length valid)) }
 {
     if valid {
         write_number(length, out)
     } else {
-        out.extend_from_slice(b"null")?;
-        Ok(())
+        out.extend_from_slice(b"null")
     }
 }
 
@@ -113,11 +104,10 @@ pub(crate) fn write_slots(
     lengths: Lengths<'_, i32>,
     validity: BitmapIter<'_>,
     out: &mut Vec<u8>,
-) -> Result<(), CommandError>
+) -> Result<(), AllocError>
     requires { length lengths ≡ length validity }
-    ensures ok { OnOk result (out.new.items ≡ out.old.items
+    ensures { OnOk result (out.new.items ≡ out.old.items
         ++ words_text (map slot_word (zipped lengths.entry validity.entry))) }
-    ensures only { IfErr result (λ e. e ≡ CommandError.OutOfMemory) }
 {
     let mut slots = lengths.zip(validity);
     let Some((length, valid)) = slots.next() else {
@@ -133,9 +123,8 @@ pub(crate) fn write_slots(
 }
 
 /// Appends a number's digits, behind a space unless it is the first one of a list.
-fn write_listed(number: usize, first: bool, out: &mut Vec<u8>) -> Result<(), CommandError>
-    ensures ok { OnOk result (out.new.items ≡ out.old.items ++ listed_word first (decimal number)) }
-    ensures only { IfErr result (λ e. e ≡ CommandError.OutOfMemory) }
+fn write_listed(number: usize, first: bool, out: &mut Vec<u8>) -> Result<(), AllocError>
+    ensures { OnOk result (out.new.items ≡ out.old.items ++ listed_word first (decimal number)) }
 {
     if !first {
         out.push(b' ')?;
@@ -148,12 +137,11 @@ pub(crate) fn write_words<T: BitChunk, F: Fn(T) -> usize>(
     chunks: BitChunks<'_, T>,
     number: F,
     out: &mut Vec<u8>,
-) -> Result<(), CommandError>
+) -> Result<(), AllocError>
     requires callable { F.IsAlwaysCallable number }
     requires number { (x : T) (n : ℕ) → F.post number x n → n ≡ T.BitChunk.number x }
-    ensures ok { OnOk result (out.new.items ≡ out.old.items
+    ensures { OnOk result (out.new.items ≡ out.old.items
         ++ words_text (map decimal (words T.BitChunk.WIDTH chunks.entry.items))) }
-    ensures only { IfErr result (λ e. e ≡ CommandError.OutOfMemory) }
 {
     let mut chunks = chunks;
     let mut first = true;
@@ -172,9 +160,8 @@ pub(crate) fn write_words<T: BitChunk, F: Fn(T) -> usize>(
 }
 
 /// Appends the word that tells a run of `length` items from place `start` on.
-fn write_run(start: usize, length: usize, out: &mut Vec<u8>) -> Result<(), CommandError>
-    ensures ok { OnOk result (out.new.items ≡ out.old.items ++ run_word (start, length)) }
-    ensures only { IfErr result (λ e. e ≡ CommandError.OutOfMemory) }
+fn write_run(start: usize, length: usize, out: &mut Vec<u8>) -> Result<(), AllocError>
+    ensures { OnOk result (out.new.items ≡ out.old.items ++ run_word (start, length)) }
 {
     write_number(start, out)?;
     out.push(b':')?;
@@ -182,10 +169,9 @@ fn write_run(start: usize, length: usize, out: &mut Vec<u8>) -> Result<(), Comma
 }
 
 /// Appends the text of the runs that a walk still has.
-pub(crate) fn write_runs(runs: SlicesIterator<'_>, out: &mut Vec<u8>) -> Result<(), CommandError>
-    ensures ok { OnOk result (out.new.items ≡ out.old.items
+pub(crate) fn write_runs(runs: SlicesIterator<'_>, out: &mut Vec<u8>) -> Result<(), AllocError>
+    ensures { OnOk result (out.new.items ≡ out.old.items
         ++ words_text (map run_word runs.entry.runs)) }
-    ensures only { IfErr result (λ e. e ≡ CommandError.OutOfMemory) }
 {
     let mut runs = runs;
     let Some((start, length)) = runs.next_run() else {

@@ -1,7 +1,7 @@
 //! The commands on the bits in which bitmaps stand: what each does to its slots, and its reply.
-ghost use Rattle.std.specs.Prelude.{◌≡◌, ◌≢◌, ◌++◌, OnOk, OnErr, IfErr, IfOk, IsOkAnd};
+ghost use Rattle.std.specs.Prelude.{◌≡◌, OnErr, IfOk};
 ghost use Rattle.arrow2_machine.specs.StorageOutcomes.{stored, item_set, word_text, run_text, storage_outcome};
-ghost use Rattle.arrow2_machine.specs.Outcomes.{Gives, Fails};
+ghost use Rattle.arrow2_machine.specs.Outcomes.{Gives, Carries, Writes, Answers};
 
 use crate::refusal::CommandError::Refused;
 use crate::refusal::{CommandError, Refusal};
@@ -11,7 +11,7 @@ use arrow2::bitmap::Bitmap;
 use arrow2::bitmap::utils::SlicesIterator;
 use arrow2_script::storage_command::StorageCommand;
 use arrow2_script::words::{HexText, Width};
-use std::alloc::Global;
+use std::alloc::{AllocError, Global};
 
 /// Carries a command on stored bits out, and appends its reply.
 #[tactic(auto, unfolding(crate::specs::StorageOutcomes::storage_outcome))]
@@ -21,11 +21,8 @@ pub(crate) fn run(
     command: StorageCommand<'_>,
     reply: &mut Vec<u8>,
 ) -> Result<(), CommandError>
-    ensures ok { OnOk result (IsOkAnd (storage_outcome slots.old command.entry) (λ after.
-        (slots.new ≡ after.0) × (reply.new.items ≡ reply.old.items ++ after.1))) }
-    ensures refused { IfErr result (λ e. Fails e (storage_outcome slots.old command.entry)) }
-    ensures err { IfErr result (λ e. e ≢ CommandError.OutOfMemory →
-        (slots.new ≡ slots.old) × (reply.new.items ≡ reply.old.items)) }
+    ensures { Carries result slots.old slots.new reply.old.items reply.new.items
+        (storage_outcome slots.old command.entry) }
 {
     match command {
         StorageCommand::Raw(slot, bytes, offset, length) => {
@@ -68,10 +65,9 @@ impl Slot {
     /// # Errors
     ///
     /// `Kind` or `Range`. They change nothing.
-    pub fn set(&mut self, index: u64, bit: bool) -> Result<(), CommandError>
-        ensures gives { Gives (λ _. self.new) result (item_set self.old index bit) }
+    pub fn set(&mut self, index: u64, bit: bool) -> Result<(), Refusal>
+        ensures gives { Answers (λ _. self.new) result (item_set self.old index bit) }
         ensures err { OnErr result (self.new ≡ self.old) }
-        ensures only { IfErr result (λ e. e ≢ CommandError.OutOfMemory) }
     {
         match &mut self.contents {
             Contents::Growing(bitmap) => {
@@ -79,10 +75,10 @@ impl Slot {
                     bitmap.set(index as usize, bit);
                     Ok(())
                 } else {
-                    Err(Refused(Refusal::Range))
+                    Err(Refusal::Range)
                 }
             }
-            _ => Err(Refused(Refusal::Kind)),
+            _ => Err(Refusal::Kind),
         }
     }
 
@@ -92,21 +88,18 @@ impl Slot {
     ///
     /// `Kind`, which changes nothing, or `OutOfMemory`, after which a part of the text may be there.
     pub fn write_words(&self, width: Width, out: &mut Vec<u8>) -> Result<(), CommandError>
-        ensures ok { OnOk result (IsOkAnd (word_text self.now width) (λ text.
-            out.new.items ≡ out.old.items ++ text)) }
-        ensures refused { IfErr result (λ e. Fails e (word_text self.now width)) }
-        ensures err { IfErr result (λ e. e ≢ CommandError.OutOfMemory →
-            out.new.items ≡ out.old.items) }
+        ensures { Writes result out.old.items out.new.items (word_text self.now width) }
     {
         let Contents::Frozen(bitmap) = &self.contents else {
             return Err(Refused(Refusal::Kind));
         };
         match width {
-            Width::Bits8 => write_words(bitmap.chunks::<u8>(), |word| word as usize, out),
-            Width::Bits16 => write_words(bitmap.chunks::<u16>(), |word| word as usize, out),
-            Width::Bits32 => write_words(bitmap.chunks::<u32>(), |word| word as usize, out),
-            Width::Bits64 => write_words(bitmap.chunks::<u64>(), |word| word as usize, out),
+            Width::Bits8 => write_words(bitmap.chunks::<u8>(), |word| word as usize, out)?,
+            Width::Bits16 => write_words(bitmap.chunks::<u16>(), |word| word as usize, out)?,
+            Width::Bits32 => write_words(bitmap.chunks::<u32>(), |word| word as usize, out)?,
+            Width::Bits64 => write_words(bitmap.chunks::<u64>(), |word| word as usize, out)?,
         }
+        Ok(())
     }
 
     /// Appends the runs of set items of a frozen bitmap, each as its first place and its length.
@@ -115,20 +108,16 @@ impl Slot {
     ///
     /// `Kind`, which changes nothing, or `OutOfMemory`, after which a part of the text may be there.
     pub fn write_runs(&self, out: &mut Vec<u8>) -> Result<(), CommandError>
-        ensures ok { OnOk result (IsOkAnd (run_text self.now) (λ text.
-            out.new.items ≡ out.old.items ++ text)) }
-        ensures refused { IfErr result (λ e. Fails e (run_text self.now)) }
-        ensures err { IfErr result (λ e. e ≢ CommandError.OutOfMemory →
-            out.new.items ≡ out.old.items) }
+        ensures { Writes result out.old.items out.new.items (run_text self.now) }
     {
-        write_runs(SlicesIterator::new(self.frozen()?), out)
+        write_runs(SlicesIterator::new(self.frozen()?), out)?;
+        Ok(())
     }
 }
 
 /// The bytes that a text of hexadecimal digits says.
-fn gather(alloc: Global, bytes: HexText<'_>) -> Result<Vec<u8>, CommandError>
-    ensures ok { IfOk result (λ vec. vec.items ≡ bytes.entry) }
-    ensures only { IfErr result (λ e. e ≡ CommandError.OutOfMemory) }
+fn gather(alloc: Global, bytes: HexText<'_>) -> Result<Vec<u8>, AllocError>
+    ensures { IfOk result (λ vec. vec.items ≡ bytes.entry) }
 {
     let mut gathered = Vec::with_capacity(alloc, bytes.len())?;
     for byte in bytes {

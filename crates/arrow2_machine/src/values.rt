@@ -1,7 +1,7 @@
 //! The commands on values of any kind: what each does to its slots, and its reply.
-ghost use Rattle.std.specs.Prelude.{◌≡◌, ◌≢◌, ◌++◌, OnOk, IfErr, IsOkAnd};
+ghost use Rattle.std.specs.Prelude.{◌≡◌};
 ghost use Rattle.arrow2_machine.specs.ValueOutcomes.{copied, compared, value_outcome};
-ghost use Rattle.arrow2_machine.specs.Outcomes.{Gives, Fails};
+ghost use Rattle.arrow2_machine.specs.Outcomes.{Gives, Carries};
 
 use crate::refusal::CommandError::Refused;
 use crate::refusal::{CommandError, Refusal};
@@ -16,18 +16,15 @@ pub(crate) fn run(
     command: ValueCommand,
     reply: &mut Vec<u8>,
 ) -> Result<(), CommandError>
-    ensures ok { OnOk result (IsOkAnd (value_outcome slots.old command) (λ after.
-        (slots.new ≡ after.0) × (reply.new.items ≡ reply.old.items ++ after.1))) }
-    ensures refused { IfErr result (λ e. Fails e (value_outcome slots.old command)) }
-    ensures err { IfErr result (λ e. e ≢ CommandError.OutOfMemory →
-        (slots.new ≡ slots.old) × (reply.new.items ≡ reply.old.items)) }
+    ensures { Carries result slots.old slots.new reply.old.items reply.new.items
+        (value_outcome slots.old command) }
 {
     match command {
         ValueCommand::Copy(from, to) => slots[to.get()] = slots[from.get()].copy()?,
         ValueCommand::Compare(left, right) => {
             let slots: &[Slot; 16] = slots;
             let same = slots[left.get()].compare(&slots[right.get()])?;
-            return write_item(Some(same), reply);
+            return Ok(write_item(Some(same), reply)?);
         }
     }
     reply.extend_from_slice(b"ok")?;
@@ -57,9 +54,8 @@ impl Slot {
     /// # Errors
     ///
     /// `Kind` alone, where they hold different kinds, boolean arrays or nothing.
-    pub fn compare(&self, other: &Slot) -> Result<bool, CommandError>
-        ensures gives { Gives (λ same. same) result (compared self.now other.now) }
-        ensures only { IfErr result (λ e. e ≢ CommandError.OutOfMemory) }
+    pub fn compare(&self, other: &Slot) -> Result<bool, Refusal>
+        ensures { result ≡ compared self.now other.now }
     {
         match (&self.contents, &other.contents) {
             (Contents::Frozen(a), Contents::Frozen(b)) => Ok(a == b),
@@ -67,7 +63,7 @@ impl Slot {
             // By the method, since its contract speaks of the starts and the lengths.
             (Contents::FrozenOffsets(a), Contents::FrozenOffsets(b)) => Ok(a.eq(b)),
             (Contents::GrowingOffsets(a), Contents::GrowingOffsets(b)) => Ok(a == b),
-            _ => Err(Refused(Refusal::Kind)),
+            _ => Err(Refusal::Kind),
         }
     }
 }

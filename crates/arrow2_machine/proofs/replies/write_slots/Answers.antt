@@ -12,7 +12,7 @@ loop-length-init c =
     let left = c.next.new.self in
     let slots = zipped_next c.args.lengths (zip_first left) c.args.validity (zip_second left) c.in-Some.length c.in-Some.valid a b in
     rw c.into_iter-length-iterator.ensures.into_iter_gives (record {
-      so_far = first_written slot_word c.write_slot.new.out.items c.args.out.now.items (slot c.in-Some.length c.in-Some.valid) (zipped (zip_first left) (zip_second left)) (zipped c.args.lengths c.args.validity) slots c.in_ok-write_slot.ensures.ok;
+      so_far = first_written slot_word c.write_slot.new.out.items c.args.out.now.items (slot c.in-Some.length c.in-Some.valid) (zipped (zip_first left) (zip_second left)) (zipped c.args.lengths c.args.validity) slots c.in_ok-write_slot.ensures;
       same = omega (arith, ap length a, ap length b, c.requires);
     })
 
@@ -23,13 +23,13 @@ loop-length-preserved c =
     let steps = c.in-Some-2.ensures.steps in
     let slots = zipped_next (zip_first now) (zip_first left) (zip_second now) (zip_second left) c.in-Some-2.length c.in-Some-2.valid steps.0 steps.1 in
     record {
-      so_far = next_written slot_word c.write_slot-in-loop-length.new.out.items c.push.new.self.items c.loop-length.out.items (slot c.in-Some-2.length c.in-Some-2.valid) (zipped (zip_first left) (zip_second left)) (zipped (zip_first now) (zip_second now)) slots c.in_ok-push.ensures.items c.in_ok-write_slot-2.ensures.ok ∙ c.loop-length.invariant.so_far;
+      so_far = next_written slot_word c.write_slot-in-loop-length.new.out.items c.push.new.self.items c.loop-length.out.items (slot c.in-Some-2.length c.in-Some-2.valid) (zipped (zip_first left) (zip_second left)) (zipped (zip_first now) (zip_second now)) slots c.in_ok-push.ensures.items c.in_ok-write_slot-2.ensures ∙ c.loop-length.invariant.so_far;
       same = omega (arith, ap length steps.0, ap length steps.1, c.loop-length.invariant.same);
     }
 
-pub returns-in_default-clause-ok : goal.returns-in_default-clause-ok
+pub returns-in_default : goal.returns-in_default
 unfolding words_text
-returns-in_default-clause-ok c =
+returns-in_default c =
     let slots = c.zip-slots.result in
     let first = c.zip-slots.ensures.first in
     let second = c.zip-slots.ensures.second in
@@ -37,8 +37,8 @@ returns-in_default-clause-ok c =
     let none : zipped c.args.lengths c.args.validity ≡ [] = rw (← first, ← second) (ended_together (zip_first slots) (zip_second slots) same c.in_default.ensures.steps) in
     rw none c.in_ok-extend_from_slice.ensures.items
 
-pub returns-clause-ok : goal.returns-clause-ok
-returns-clause-ok c =
+pub returns : goal.returns
+returns c =
     let now = c.loop-length.length-iterator in
     let none = ended_together (zip_first now) (zip_second now) c.loop-length.invariant.same c.in-None.ensures.steps in
     sym (append-nil c.loop-length.out.items) ∙ rw none at c.loop-length.invariant.so_far

@@ -1,18 +1,18 @@
-use Rattle.std.proofs.Common.{◌∙◌}
+use Rattle.std.proofs.Common.{◌∙◌, rules}
 use Rattle.arrow2.specs.Buffers.{buffer_items}
 use Rattle.arrow2.specs.Offsets.{offsets_of, offsets_list, start_of, lengths_of}
 use Rattle.arrow2_machine.proofs.OffsetLemmas.{offsets_said}
 use Rattle.arrow2_machine.proofs.slot.Slot.write_offsets.Goals as goal
 
-pub returns-in-FrozenOffsets-clause-ok : goal.returns-in-FrozenOffsets-clause-ok
-returns-in-FrozenOffsets-clause-ok c =
+pub returns-in_ok-write_offsets-in-FrozenOffsets : goal.returns-in_ok-write_offsets-in-FrozenOffsets
+returns-in_ok-write_offsets-in-FrozenOffsets c =
     let s = c.as_slice in
     let xs = buffer_items c.in-FrozenOffsets.offsets in
     let words = offsets_said s.result.now (offsets_list (start_of xs) (lengths_of xs)) (s.ensures.offsets ∙ s.ensures.spelled) in
-    rw (← c.self.view_is, c.in-FrozenOffsets.is, ← words) c.write_offsets.ensures.ok
+    record { ok = rw (← c.self.view_is, c.in-FrozenOffsets.is, ← words) c.in_ok-write_offsets-in-FrozenOffsets.ensures; refused = search rules; err = search rules }
 
-pub returns-in-GrowingOffsets-clause-ok : goal.returns-in-GrowingOffsets-clause-ok
-returns-in-GrowingOffsets-clause-ok c =
+pub returns-in_ok-write_offsets-in-GrowingOffsets : goal.returns-in_ok-write_offsets-in-GrowingOffsets
+returns-in_ok-write_offsets-in-GrowingOffsets c =
     let s = c.as_slice-in-GrowingOffsets in
     let words = offsets_said s.result.now (offsets_of c.in-GrowingOffsets.offsets) s.ensures.offsets in
-    rw (← c.self.view_is, c.in-GrowingOffsets.is, ← words) c.write_offsets-in-GrowingOffsets.ensures.ok
+    record { ok = rw (← c.self.view_is, c.in-GrowingOffsets.is, ← words) c.in_ok-write_offsets-in-GrowingOffsets.ensures; refused = search rules; err = search rules }
