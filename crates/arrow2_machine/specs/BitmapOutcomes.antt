@@ -1,5 +1,5 @@
 -- What each command on bitmaps does to the machine of lists.
-use Rattle.std.specs.Prelude.{ℕ, ◌+◌, ◌-◌, ◌^◌, ◌==◌, nat_lt, Bool, List, [], ◌∷◌, ◌++◌, length, slice_set, slice_get, take, codes, Result, Ok, Err, if◌then◌else◌}
+use Rattle.std.specs.Prelude.{ℕ, ◌+◌, ◌-◌, ◌^◌, ◌==◌, nat_lt, Bool, List, [], ◌∷◌, ◌++◌, length, slice_set, slice_get, take, Result, Ok, Err, if◌then◌else◌}
 use Rattle.std.specs.Fmt.{decimal}
 use Rattle.arrow2.specs.Parts.{part, falses}
 use Rattle.arrow2_script.specs.Words.{bits_text}
@@ -7,7 +7,7 @@ use Rattle.arrow2_script.specs.declared.bitmap_command.BitmapCommand.{BitmapComm
 use Rattle.arrow2_script.specs.declared.bitmap_command.BitmapCommand.TheVariants.{New, Push, Pop, Get, Freeze, Thaw, Slice, Count, Bits}
 use Rattle.arrow2_machine.specs.declared.refusal.Refusal.{Refusal}
 use Rattle.arrow2_machine.specs.declared.refusal.Refusal.TheVariants.{Range, Overflow}
-use Rattle.arrow2_machine.specs.Held.{Held, Frozen, Growing, ◌>>=◌, at, growing, frozen, listed}
+use Rattle.arrow2_machine.specs.Held.{Held, Frozen, Growing, ◌>>=◌, at, growing, frozen, listed, replaced, told}
 use Rattle.arrow2_machine.specs.Replies.{item_said}
 
 -- what a slot holds after a bit is pushed to it: a length of 2 ^ 64 is too great
@@ -65,28 +65,16 @@ item_text held = do
 
 -- the slots after a command on bitmaps, and its reply
 unfoldable pub bitmap_outcome : List Held → BitmapCommand → Result (List Held × List ℕ) Refusal
-bitmap_outcome slots (New s bits) = Ok (slice_set slots s (Growing bits), codes "ok")
-bitmap_outcome slots (Push s bit) = do
-  held ← pushed (at slots s) bit
-  Ok (slice_set slots s held, codes "ok")
+bitmap_outcome slots (New s bits) = replaced slots s (Ok (Growing bits))
+bitmap_outcome slots (Push s bit) = replaced slots s (pushed (at slots s) bit)
 bitmap_outcome slots (Pop s) = do
   after ← popped (at slots s)
   Ok (slice_set slots s after.0, after.1)
-bitmap_outcome slots (Get s i) = do
-  said ← got (at slots s) i
-  Ok (slots, said)
-bitmap_outcome slots (Freeze s) = do
-  held ← froze (at slots s)
-  Ok (slice_set slots s held, codes "ok")
-bitmap_outcome slots (Thaw s) = do
-  held ← thawed (at slots s)
-  Ok (slice_set slots s held, codes "ok")
-bitmap_outcome slots (Slice s i n) = do
-  held ← sliced (at slots s) i n
-  Ok (slice_set slots s held, codes "ok")
+bitmap_outcome slots (Get s i) = told slots (got (at slots s) i)
+bitmap_outcome slots (Freeze s) = replaced slots s (froze (at slots s))
+bitmap_outcome slots (Thaw s) = replaced slots s (thawed (at slots s))
+bitmap_outcome slots (Slice s i n) = replaced slots s (sliced (at slots s) i n)
 bitmap_outcome slots (Count s) = do
   number ← counted (at slots s)
   Ok (slots, decimal number)
-bitmap_outcome slots (Bits s) = do
-  said ← item_text (at slots s)
-  Ok (slots, said)
+bitmap_outcome slots (Bits s) = told slots (item_text (at slots s))

@@ -1,10 +1,10 @@
 -- What each command by which a bitmap grows does to the machine of lists.
-use Rattle.std.specs.Prelude.{ℕ, ◌+◌, ◌-◌, ◌^◌, nat_lt, Bool, List, ◌++◌, length, replicate, slice_set, codes, Result, Ok, Err, if◌then◌else◌}
+use Rattle.std.specs.Prelude.{ℕ, ◌+◌, ◌-◌, ◌^◌, nat_lt, Bool, List, ◌++◌, length, replicate, Result, Ok, Err, if◌then◌else◌}
 use Rattle.arrow2_script.specs.declared.growth_command.GrowthCommand.{GrowthCommand}
 use Rattle.arrow2_script.specs.declared.growth_command.GrowthCommand.TheVariants.{Fill, Append}
 use Rattle.arrow2_machine.specs.declared.refusal.Refusal.{Refusal}
 use Rattle.arrow2_machine.specs.declared.refusal.Refusal.TheVariants.{Overflow}
-use Rattle.arrow2_machine.specs.Held.{Held, Growing, ◌>>=◌, at, growing, frozen}
+use Rattle.arrow2_machine.specs.Held.{Held, Growing, ◌>>=◌, at, growing, frozen, replaced}
 
 -- what a slot holds after a bit is appended to it so many times: a length of 2 ^ 64 or more is too great
 abbrev pub filled : Held → ℕ → Bool → Result Held Refusal
@@ -20,10 +20,7 @@ appended held others = do
 
 -- the slots after a command by which a bitmap grows, and its reply
 unfoldable pub growth_outcome : List Held → GrowthCommand → Result (List Held × List ℕ) Refusal
-growth_outcome slots (Fill s n bit) = do
-  held ← filled (at slots s) n bit
-  Ok (slice_set slots s held, codes "ok")
+growth_outcome slots (Fill s n bit) = replaced slots s (filled (at slots s) n bit)
 growth_outcome slots (Append d s) = do
   others ← frozen (at slots s)
-  held ← appended (at slots d) others
-  Ok (slice_set slots d held, codes "ok")
+  replaced slots d (appended (at slots d) others)

@@ -1,5 +1,5 @@
 -- What a slot of the machine holds.
-use Rattle.std.specs.Prelude.{ℕ, Bool, List, Option, slice_index_or, Result, Ok, Err}
+use Rattle.std.specs.Prelude.{ℕ, Bool, List, Option, slice_index_or, slice_set, codes, Result, Ok, Err}
 use Rattle.arrow2.specs.Offsets.{offsets_list}
 use Rattle.arrow2_machine.specs.declared.refusal.Refusal.{Refusal}
 use Rattle.arrow2_machine.specs.declared.refusal.Refusal.TheVariants.{Kind}
@@ -28,6 +28,18 @@ abbrev pub ◌>>=◌ : {A B : Type 0} → Result A Refusal → (A → Result B R
 -- what slot s holds
 abbrev pub at : List Held → ℕ → Held
 at slots s = slice_index_or slots s Nothing
+
+-- the slots after slot s becomes what was made for it, and the reply `ok`
+abbrev pub replaced : List Held → ℕ → Result Held Refusal → Result (List Held × List ℕ) Refusal
+replaced slots s made = do
+  held ← made
+  Ok (slice_set slots s held, codes "ok")
+
+-- the same slots, and a reply that tells something of them
+abbrev pub told : List Held → Result (List ℕ) Refusal → Result (List Held × List ℕ) Refusal
+told slots text = do
+  said ← text
+  Ok (slots, said)
 
 -- a list of booleans that grows
 abbrev pub growing : Held → Result (List Bool) Refusal

@@ -1,5 +1,5 @@
 -- What each command that combines bitmaps does to the machine of lists.
-use Rattle.std.specs.Prelude.{ℕ, ◌==◌, ◌&&◌, Bool, List, [], ◌∷◌, length, slice_set, codes, Result, Ok, Err, if◌then◌else◌}
+use Rattle.std.specs.Prelude.{ℕ, ◌==◌, ◌&&◌, Bool, List, [], ◌∷◌, length, Result, Ok, Err, if◌then◌else◌}
 use Rattle.arrow2.specs.Tables.{each}
 use Rattle.arrow2_script.specs.declared.kernel_command.KernelCommand.{KernelCommand}
 use Rattle.arrow2_script.specs.declared.kernel_command.KernelCommand.TheVariants.{Make, AssignUnary, AssignBinary}
@@ -7,7 +7,7 @@ use Rattle.arrow2_script.specs.declared.kernel_command.Kernel.{Kernel}
 use Rattle.arrow2_script.specs.declared.kernel_command.Kernel.TheVariants as kernel
 use Rattle.arrow2_machine.specs.declared.refusal.Refusal.{Refusal}
 use Rattle.arrow2_machine.specs.declared.refusal.Refusal.TheVariants.{Length}
-use Rattle.arrow2_machine.specs.Held.{Held, Frozen, Growing, ◌>>=◌, at, growing, frozen}
+use Rattle.arrow2_machine.specs.Held.{Held, Frozen, Growing, ◌>>=◌, at, growing, frozen, replaced}
 
 -- two frozen lists of one length
 abbrev pub two_lists : Held → Held → Result (List Bool × List Bool) Refusal
@@ -76,11 +76,8 @@ assigned_beside held t others = do
 unfoldable pub kernel_outcome : List Held → KernelCommand → Result (List Held × List ℕ) Refusal
 kernel_outcome slots (Make d kernel) = do
   items ← made slots kernel
-  Ok (slice_set slots d (Frozen items), codes "ok")
-kernel_outcome slots (AssignUnary s t width) = do
-  held ← assigned (at slots s) t
-  Ok (slice_set slots s held, codes "ok")
+  replaced slots d (Ok (Frozen items))
+kernel_outcome slots (AssignUnary s t width) = replaced slots s (assigned (at slots s) t)
 kernel_outcome slots (AssignBinary s t width a) = do
   others ← frozen (at slots a)
-  held ← assigned_beside (at slots s) t others
-  Ok (slice_set slots s held, codes "ok")
+  replaced slots s (assigned_beside (at slots s) t others)

@@ -8,7 +8,7 @@ use Rattle.arrow2_script.specs.declared.offset_command.OffsetCommand.{OffsetComm
 use Rattle.arrow2_script.specs.declared.offset_command.OffsetCommand.TheVariants as command
 use Rattle.arrow2_machine.specs.declared.refusal.Refusal.{Refusal}
 use Rattle.arrow2_machine.specs.declared.refusal.Refusal.TheVariants.{Range, Length, Overflow}
-use Rattle.arrow2_machine.specs.Held.{Offsets, Held, FrozenOffsets, GrowingOffsets, ◌>>=◌, at, frozen, growing_offsets, frozen_offsets, spelled_offsets, offset_list}
+use Rattle.arrow2_machine.specs.Held.{Offsets, Held, FrozenOffsets, GrowingOffsets, ◌>>=◌, at, frozen, growing_offsets, frozen_offsets, spelled_offsets, offset_list, replaced, told}
 use Rattle.arrow2_machine.specs.Replies.{words_text, slot_word}
 
 -- the greatest offset
@@ -67,27 +67,13 @@ zip_text offsets validity = do
 
 -- the slots after a command on offsets, and its reply
 unfoldable pub offset_outcome : List Held → OffsetCommand → Result (List Held × List ℕ) Refusal
-offset_outcome slots (command.New s first) = do
-  held ← begun first
-  Ok (slice_set slots s held, codes "ok")
-offset_outcome slots (command.Push s n) = do
-  held ← grown (at slots s) (n ∷ [])
-  Ok (slice_set slots s held, codes "ok")
+offset_outcome slots (command.New s first) = replaced slots s (begun first)
+offset_outcome slots (command.Push s n) = replaced slots s (grown (at slots s) (n ∷ []))
 offset_outcome slots (command.Pop s) = do
   after ← shortened (at slots s)
   Ok (slice_set slots s after.0, after.1)
-offset_outcome slots (command.Extend s lengths) = do
-  held ← grown (at slots s) lengths
-  Ok (slice_set slots s held, codes "ok")
-offset_outcome slots (command.Offsets s) = do
-  said ← offset_text (at slots s)
-  Ok (slots, said)
-offset_outcome slots (command.Freeze s) = do
-  held ← froze_offsets (at slots s)
-  Ok (slice_set slots s held, codes "ok")
-offset_outcome slots (command.Slice s i n) = do
-  held ← sliced_offsets (at slots s) i n
-  Ok (slice_set slots s held, codes "ok")
-offset_outcome slots (command.Zip s v) = do
-  said ← zip_text (at slots s) (at slots v)
-  Ok (slots, said)
+offset_outcome slots (command.Extend s lengths) = replaced slots s (grown (at slots s) lengths)
+offset_outcome slots (command.Offsets s) = told slots (offset_text (at slots s))
+offset_outcome slots (command.Freeze s) = replaced slots s (froze_offsets (at slots s))
+offset_outcome slots (command.Slice s i n) = replaced slots s (sliced_offsets (at slots s) i n)
+offset_outcome slots (command.Zip s v) = told slots (zip_text (at slots s) (at slots v))

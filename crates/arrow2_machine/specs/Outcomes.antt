@@ -5,7 +5,7 @@ use Rattle.arrow2_machine.specs.declared.refusal.Refusal.{Refusal}
 use Rattle.arrow2_machine.specs.declared.refusal.Refusal.TheVariants.{Range, Overflow}
 use Rattle.arrow2_machine.specs.declared.refusal.CommandError.{CommandError}
 use Rattle.arrow2_machine.specs.declared.refusal.CommandError.TheVariants.{Refused, OutOfMemory}
-use Rattle.arrow2_machine.specs.Held.{Held}
+use Rattle.arrow2_machine.specs.Held.{Held, Nothing}
 
 -- the error of a command, by the error of the call that it made
 abbrev pub command_error : errors.Error → CommandError
@@ -50,3 +50,12 @@ pub record Writes (r : Result Unit CommandError) (before after : List ℕ) (mach
   pub refused : IfErr r (λ e. Fails e machine)
   -- a refusal changes nothing
   pub err : IfErr r (λ e. e ≢ OutOfMemory → after ≡ before)
+
+-- a slot turns into what the machine makes of it: where memory was refused, what it held is gone
+pub record Turns (r : Result Unit CommandError) (old new : Held) (machine : Result Held Refusal) : Type 0 where
+  -- it holds what the machine's holds
+  pub gives : Gives (λ _. new) r machine
+  -- a refusal changes nothing
+  pub err : IfErr r (λ e. e ≢ OutOfMemory → new ≡ old)
+  -- it holds nothing where memory was refused
+  pub memory : r ≡ Err OutOfMemory → new ≡ Nothing

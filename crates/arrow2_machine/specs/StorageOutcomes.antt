@@ -1,5 +1,5 @@
 -- What each command on stored bits does to the machine of lists.
-use Rattle.std.specs.Prelude.{ℕ, ◌+◌, ◌-◌, ◌*◌, ◌^◌, ◌||◌, nat_lt, Bool, List, length, map, slice_set, codes, Result, Ok, Err, if◌then◌else◌}
+use Rattle.std.specs.Prelude.{ℕ, ◌+◌, ◌-◌, ◌*◌, ◌^◌, ◌||◌, nat_lt, Bool, List, length, map, slice_set, Result, Ok, Err, if◌then◌else◌}
 use Rattle.std.specs.Fmt.{decimal}
 use Rattle.arrow2.specs.Bits.{bits}
 use Rattle.arrow2.specs.Parts.{part}
@@ -11,7 +11,7 @@ use Rattle.arrow2_script.specs.declared.storage_command.StorageCommand.{StorageC
 use Rattle.arrow2_script.specs.declared.storage_command.StorageCommand.TheVariants.{Raw, Set, Words, Runs}
 use Rattle.arrow2_machine.specs.declared.refusal.Refusal.{Refusal}
 use Rattle.arrow2_machine.specs.declared.refusal.Refusal.TheVariants.{Range}
-use Rattle.arrow2_machine.specs.Held.{Held, Frozen, Growing, ◌>>=◌, at, growing, frozen}
+use Rattle.arrow2_machine.specs.Held.{Held, Frozen, Growing, ◌>>=◌, at, growing, frozen, replaced, told}
 use Rattle.arrow2_machine.specs.Replies.{run_word, words_text}
 
 -- what a slot holds with the n bits of some bytes from bit o on: they are inside, and o + n is below 2 ^ 64
@@ -38,15 +38,7 @@ run_text held = do
 
 -- the slots after a command on stored bits, and its reply
 unfoldable pub storage_outcome : List Held → StorageCommand → Result (List Held × List ℕ) Refusal
-storage_outcome slots (Raw s bytes o n) = do
-  held ← stored bytes o n
-  Ok (slice_set slots s held, codes "ok")
-storage_outcome slots (Set s i bit) = do
-  held ← item_set (at slots s) i bit
-  Ok (slice_set slots s held, codes "ok")
-storage_outcome slots (Words s width) = do
-  said ← word_text (at slots s) width
-  Ok (slots, said)
-storage_outcome slots (Runs s) = do
-  said ← run_text (at slots s)
-  Ok (slots, said)
+storage_outcome slots (Raw s bytes o n) = replaced slots s (stored bytes o n)
+storage_outcome slots (Set s i bit) = replaced slots s (item_set (at slots s) i bit)
+storage_outcome slots (Words s width) = told slots (word_text (at slots s) width)
+storage_outcome slots (Runs s) = told slots (run_text (at slots s))

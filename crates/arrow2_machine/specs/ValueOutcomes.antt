@@ -1,5 +1,5 @@
 -- What each command on values of any kind does to the machine of lists.
-use Rattle.std.specs.Prelude.{ℕ, Bool, nat_eq, List, [], ◌∷◌, slice_set, codes, Result, Ok, Err}
+use Rattle.std.specs.Prelude.{ℕ, Bool, nat_eq, List, [], ◌∷◌, Result, Ok, Err}
 use Rattle.std.specs.Bool.{beq}
 use Rattle.std.specs.Cmp.Lexicographic.{pointwise}
 use Rattle.arrow2_script.specs.Words.{bit_byte}
@@ -7,7 +7,7 @@ use Rattle.arrow2_script.specs.declared.value_command.ValueCommand.{ValueCommand
 use Rattle.arrow2_script.specs.declared.value_command.ValueCommand.TheVariants.{Copy, Compare}
 use Rattle.arrow2_machine.specs.declared.refusal.Refusal.{Refusal}
 use Rattle.arrow2_machine.specs.declared.refusal.Refusal.TheVariants.{Kind}
-use Rattle.arrow2_machine.specs.Held.{Held, Frozen, Growing, FrozenOffsets, GrowingOffsets, Array, ◌>>=◌, at, offset_list}
+use Rattle.arrow2_machine.specs.Held.{Held, Frozen, Growing, FrozenOffsets, GrowingOffsets, Array, ◌>>=◌, at, offset_list, replaced}
 
 -- what a copy of a slot holds: the same, where it is frozen or a boolean array
 abbrev pub copied : Held → Result Held Refusal
@@ -26,9 +26,7 @@ compared _ _ = Err Kind
 
 -- the slots after a command on values, and its reply
 unfoldable pub value_outcome : List Held → ValueCommand → Result (List Held × List ℕ) Refusal
-value_outcome slots (Copy s d) = do
-  held ← copied (at slots s)
-  Ok (slice_set slots d held, codes "ok")
+value_outcome slots (Copy s d) = replaced slots d (copied (at slots s))
 value_outcome slots (Compare a b) = do
   same ← compared (at slots a) (at slots b)
   Ok (slots, bit_byte same ∷ [])

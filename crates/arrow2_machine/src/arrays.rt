@@ -1,8 +1,8 @@
 //! The commands on boolean arrays: what each does to its slots, and its reply.
 ghost use Rattle.std.specs.Prelude.{◌≡◌, length as count_of, option_map, OnErr, IfOk};
 ghost use Rattle.arrow2_machine.specs.BitmapOutcomes.{part_inside};
-ghost use Rattle.arrow2_machine.specs.Held.{at, array as array_in};
-ghost use Rattle.arrow2_machine.specs.ArrayOutcomes.{arrayed, array_text, counted_nulls, sliced_array, two_arrays, both_true as both_true_of, one_true as one_true_of, array_outcome};
+ghost use Rattle.arrow2_machine.specs.Held.{at, array as array_in, Array};
+ghost use Rattle.arrow2_machine.specs.ArrayOutcomes.{arrayed, array_text, counted_nulls, sliced_array, two_arrays, array_outcome};
 ghost use Rattle.arrow2_machine.specs.Outcomes.{Gives, Carries, Writes, Answers};
 
 use crate::kernels::two;
@@ -25,10 +25,7 @@ pub(crate) fn run(
 {
     match command {
         ArrayCommand::New(to, values, validity) => {
-            let array = array_of(slots, values, validity)?;
-            slots[to.get()] = Slot {
-                contents: Contents::Array(array),
-            };
+            slots[to.get()] = Slot::with_array(array_of(slots, values, validity)?);
         }
         ArrayCommand::List(slot) => return slots[slot.get()].write_array(reply),
         ArrayCommand::Nulls(slot) => {
@@ -38,16 +35,12 @@ pub(crate) fn run(
             slots[slot.get()].slice_array(offset, length)?;
         }
         ArrayCommand::And(to, left, right) => {
-            let array = both_true(slots, left, right)?;
-            slots[to.get()] = Slot {
-                contents: Contents::Array(array),
-            };
+            let (left, right) = two_of(slots, left, right)?;
+            slots[to.get()] = Slot::with_array(left.and_kleene(right)?);
         }
         ArrayCommand::Or(to, left, right) => {
-            let array = one_true(slots, left, right)?;
-            slots[to.get()] = Slot {
-                contents: Contents::Array(array),
-            };
+            let (left, right) = two_of(slots, left, right)?;
+            slots[to.get()] = Slot::with_array(left.or_kleene(right)?);
         }
     }
     reply.extend_from_slice(b"ok")?;
@@ -64,7 +57,7 @@ fn array_of(
     values: SlotIndex,
     validity: Option<SlotIndex>,
 ) -> Result<BooleanArray, CommandError>
-    ensures { Gives (λ array. array) result
+    ensures { Gives (λ array. Array array) result
         (arrayed (at slots.now values) (option_map (at slots.now) validity)) }
 {
     let array = match validity {
@@ -75,39 +68,6 @@ fn array_of(
         None => BooleanArray::try_new(slots[values.get()].frozen()?.clone()?, None)?,
     };
     Ok(array)
-}
-
-/// Item by item, whether two boolean arrays are both true, by Kleene's logic.
-///
-/// # Errors
-///
-/// `Kind`, `Length` or `OutOfMemory`.
-fn both_true(
-    slots: &[Slot; 16],
-    left: SlotIndex,
-    right: SlotIndex,
-) -> Result<BooleanArray, CommandError>
-    ensures { Gives (λ array. array) result
-        (both_true_of (at slots.now left) (at slots.now right)) }
-{
-    let (left, right) = two_of(slots, left, right)?;
-    Ok(left.and_kleene(right)?)
-}
-
-/// Item by item, whether one of two boolean arrays is true, or both, by Kleene's logic.
-///
-/// # Errors
-///
-/// `Kind`, `Length` or `OutOfMemory`.
-fn one_true(
-    slots: &[Slot; 16],
-    left: SlotIndex,
-    right: SlotIndex,
-) -> Result<BooleanArray, CommandError>
-    ensures { Gives (λ array. array) result (one_true_of (at slots.now left) (at slots.now right)) }
-{
-    let (left, right) = two_of(slots, left, right)?;
-    Ok(left.or_kleene(right)?)
 }
 
 /// Two boolean arrays of one length.
@@ -134,6 +94,15 @@ fn two_of(
 }
 
 impl Slot {
+    /// A slot with a boolean array.
+    fn with_array(array: BooleanArray) -> Slot
+        ensures { result ≡ Array array }
+    {
+        Slot {
+            contents: Contents::Array(array),
+        }
+    }
+
     /// The boolean array of a slot.
     ///
     /// # Errors

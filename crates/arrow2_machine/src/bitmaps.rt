@@ -1,10 +1,10 @@
 //! The commands on bitmaps: what each does to its slots, and its reply.
-ghost use Rattle.std.specs.Prelude.{◌≡◌, ◌≢◌, slice_get, OnErr, IfErr, IsErrOf};
+ghost use Rattle.std.specs.Prelude.{◌≡◌, slice_get, OnErr};
 ghost use Rattle.arrow2.specs.Storage.{items_of};
-ghost use Rattle.arrow2_machine.specs.Held.{Nothing, Growing};
+ghost use Rattle.arrow2_machine.specs.Held.{Growing};
 ghost use Rattle.arrow2_machine.specs.Replies.{item_said};
 ghost use Rattle.arrow2_machine.specs.BitmapOutcomes.{pushed, popped, got, froze, thawed, sliced, counted, item_text, part_inside, bitmap_outcome};
-ghost use Rattle.arrow2_machine.specs.Outcomes.{Gives, Carries, Writes, Answers};
+ghost use Rattle.arrow2_machine.specs.Outcomes.{Gives, Carries, Writes, Answers, Turns};
 
 use crate::refusal::CommandError::Refused;
 use crate::refusal::{CommandError, Refusal};
@@ -116,9 +116,7 @@ impl Slot {
     ///
     /// `Kind`, which changes nothing, or `OutOfMemory`, which leaves nothing in the slot.
     pub fn freeze(&mut self) -> Result<(), CommandError>
-        ensures gives { Gives (λ _. self.new) result (froze self.old) }
-        ensures err { IfErr result (λ e. e ≢ CommandError.OutOfMemory → self.new ≡ self.old) }
-        ensures memory { IsErrOf result CommandError.OutOfMemory → self.new ≡ Nothing }
+        ensures { Turns result self.old self.new (froze self.old) }
     {
         match mem::replace(&mut self.contents, Contents::Nothing) {
             Contents::Growing(bitmap) => {
@@ -138,9 +136,7 @@ impl Slot {
     ///
     /// `Kind`, which changes nothing, or `OutOfMemory`, which leaves nothing in the slot.
     pub fn thaw(&mut self) -> Result<(), CommandError>
-        ensures gives { Gives (λ _. self.new) result (thawed self.old) }
-        ensures err { IfErr result (λ e. e ≢ CommandError.OutOfMemory → self.new ≡ self.old) }
-        ensures memory { IsErrOf result CommandError.OutOfMemory → self.new ≡ Nothing }
+        ensures { Turns result self.old self.new (thawed self.old) }
     {
         match mem::replace(&mut self.contents, Contents::Nothing) {
             Contents::Frozen(bitmap) => {

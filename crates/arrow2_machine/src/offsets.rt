@@ -1,12 +1,11 @@
 //! The commands on offsets: what each does to its slots, and its reply.
-ghost use Rattle.std.specs.Prelude.{◌≡◌, ◌≢◌, ◌<◌, ◌≤◌, ◌+◌, [], ◌∷◌, ◌≤ℤ◌, pos, unsigned_abs, sum, ◌⊎◌, OnOk, OnErr, IfErr, IfOk, IsErrOf};
+ghost use Rattle.std.specs.Prelude.{◌≡◌, ◌<◌, ◌≤◌, ◌+◌, [], ◌∷◌, ◌≤ℤ◌, pos, unsigned_abs, sum, ◌⊎◌, OnOk, OnErr, IfErr, IfOk, IsErrOf};
 ghost use Rattle.arrow2.specs.Buffers.{buffer_items};
 ghost use Rattle.arrow2.specs.Offsets.{last_of_growing, GrownBy, SameOffsets};
-ghost use Rattle.arrow2_machine.specs.Held.{Nothing};
 ghost use Rattle.arrow2_machine.specs.Slots.{offsets_in};
 ghost use Rattle.arrow2_machine.specs.Replies.{offset_said};
 ghost use Rattle.arrow2_machine.specs.OffsetOutcomes.{begun, grown, shortened, offset_text, froze_offsets, offsets_inside, sliced_offsets, zip_text, offset_outcome};
-ghost use Rattle.arrow2_machine.specs.Outcomes.{Gives, Carries, Writes, Answers};
+ghost use Rattle.arrow2_machine.specs.Outcomes.{Gives, Carries, Writes, Answers, Turns};
 
 use crate::refusal::CommandError::Refused;
 use crate::refusal::{CommandError, Refusal};
@@ -142,9 +141,7 @@ impl Slot {
     ///
     /// `Kind`, which changes nothing, or `OutOfMemory`, which leaves nothing in the slot.
     pub fn freeze_offsets(&mut self) -> Result<(), CommandError>
-        ensures gives { Gives (λ _. self.new) result (froze_offsets self.old) }
-        ensures err { IfErr result (λ e. e ≢ CommandError.OutOfMemory → self.new ≡ self.old) }
-        ensures memory { IsErrOf result CommandError.OutOfMemory → self.new ≡ Nothing }
+        ensures { Turns result self.old self.new (froze_offsets self.old) }
     {
         match mem::replace(&mut self.contents, Contents::Nothing) {
             Contents::GrowingOffsets(offsets) => {
