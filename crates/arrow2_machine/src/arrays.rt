@@ -122,7 +122,7 @@ impl Slot {
     /// # Errors
     ///
     /// `Kind`, which changes nothing, or `OutOfMemory`, after which a part of the text may be there.
-    pub fn write_array(&self, out: &mut Vec<u8>) -> Result<(), CommandError>
+    fn write_array(&self, out: &mut Vec<u8>) -> Result<(), CommandError>
         ensures { Writes result out.old.items out.new.items (array_text self.now) }
     {
         write_array_items(self.array()?.iter(), out)?;
@@ -134,7 +134,7 @@ impl Slot {
     /// # Errors
     ///
     /// `Kind` alone.
-    pub fn count_nulls(&self) -> Result<usize, Refusal>
+    fn count_nulls(&self) -> Result<usize, Refusal>
         ensures { result ≡ counted_nulls self.now }
     {
         Ok(self.array()?.null_count())
@@ -145,7 +145,7 @@ impl Slot {
     /// # Errors
     ///
     /// `Kind` or `Range`. They change nothing.
-    pub fn slice_array(&mut self, offset: u64, length: u64) -> Result<(), Refusal>
+    fn slice_array(&mut self, offset: u64, length: u64) -> Result<(), Refusal>
         ensures gives { Answers (λ _. self.new) result (sliced_array self.old offset length) }
         ensures err { OnErr result (self.new ≡ self.old) }
     {

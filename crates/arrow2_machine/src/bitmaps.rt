@@ -53,7 +53,7 @@ impl Slot {
     /// # Errors
     ///
     /// `OutOfMemory` alone.
-    pub fn with_bits(alloc: Global, text: &BitText<'_>) -> Result<Slot, CommandError>
+    fn with_bits(alloc: Global, text: &BitText<'_>) -> Result<Slot, CommandError>
         ensures { Gives (λ slot. slot) result (Ok (Growing text.now)) }
     {
         Ok(Slot {
@@ -66,7 +66,7 @@ impl Slot {
     /// # Errors
     ///
     /// `Kind`, `Overflow` or `OutOfMemory`. They change nothing.
-    pub fn push(&mut self, bit: bool) -> Result<(), CommandError>
+    fn push(&mut self, bit: bool) -> Result<(), CommandError>
         ensures gives { Gives (λ _. self.new) result (pushed self.old bit) }
         ensures err { OnErr result (self.new ≡ self.old) }
     {
@@ -85,7 +85,7 @@ impl Slot {
     ///
     /// `Kind` alone, which changes nothing.
     #[tactic(auto, using(crate::proofs::SlotLemmas::popping))]
-    pub fn pop(&mut self) -> Result<Option<bool>, Refusal>
+    fn pop(&mut self) -> Result<Option<bool>, Refusal>
         ensures gives { Answers (λ item. (self.new, item_said item)) result (popped self.old) }
         ensures err { OnErr result (self.new ≡ self.old) }
     {
@@ -100,7 +100,7 @@ impl Slot {
     /// # Errors
     ///
     /// `Kind` alone.
-    pub fn get(&self, index: u64) -> Result<Option<bool>, Refusal>
+    fn get(&self, index: u64) -> Result<Option<bool>, Refusal>
         ensures { Answers item_said result (got self.now index) }
     {
         match &self.contents {
@@ -115,7 +115,7 @@ impl Slot {
     /// # Errors
     ///
     /// `Kind`, which changes nothing, or `OutOfMemory`, which leaves nothing in the slot.
-    pub fn freeze(&mut self) -> Result<(), CommandError>
+    fn freeze(&mut self) -> Result<(), CommandError>
         ensures { Turns result self.old self.new (froze self.old) }
     {
         match mem::replace(&mut self.contents, Contents::Nothing) {
@@ -135,7 +135,7 @@ impl Slot {
     /// # Errors
     ///
     /// `Kind`, which changes nothing, or `OutOfMemory`, which leaves nothing in the slot.
-    pub fn thaw(&mut self) -> Result<(), CommandError>
+    fn thaw(&mut self) -> Result<(), CommandError>
         ensures { Turns result self.old self.new (thawed self.old) }
     {
         match mem::replace(&mut self.contents, Contents::Nothing) {
@@ -155,7 +155,7 @@ impl Slot {
     /// # Errors
     ///
     /// `Kind` or `Range`. They change nothing.
-    pub fn slice(&mut self, offset: u64, length: u64) -> Result<(), Refusal>
+    fn slice(&mut self, offset: u64, length: u64) -> Result<(), Refusal>
         ensures gives { Answers (λ _. self.new) result (sliced self.old offset length) }
         ensures err { OnErr result (self.new ≡ self.old) }
     {
@@ -170,7 +170,7 @@ impl Slot {
     /// # Errors
     ///
     /// `Kind` alone.
-    pub fn count(&self) -> Result<usize, Refusal>
+    fn count(&self) -> Result<usize, Refusal>
         ensures { result ≡ counted self.now }
     {
         match &self.contents {
@@ -185,7 +185,7 @@ impl Slot {
     /// # Errors
     ///
     /// `Kind`, which changes nothing, or `OutOfMemory`, after which a part of the text may be there.
-    pub fn write_bits(&self, out: &mut Vec<u8>) -> Result<(), CommandError>
+    fn write_bits(&self, out: &mut Vec<u8>) -> Result<(), CommandError>
         ensures { Writes result out.old.items out.new.items (item_text self.now) }
     {
         match &self.contents {

@@ -37,7 +37,7 @@ impl Slot {
     /// # Errors
     ///
     /// `Kind`, `Overflow` or `OutOfMemory`. They change nothing.
-    pub fn fill(&mut self, additional: u64, bit: bool) -> Result<(), CommandError>
+    fn fill(&mut self, additional: u64, bit: bool) -> Result<(), CommandError>
         ensures gives { Gives (λ _. self.new) result (filled self.old additional bit) }
         ensures err { OnErr result (self.new ≡ self.old) }
     {
@@ -55,7 +55,7 @@ impl Slot {
     /// # Errors
     ///
     /// `Kind`, `Overflow` or `OutOfMemory`. They change nothing.
-    pub fn append(&mut self, other: &Bitmap) -> Result<(), CommandError>
+    fn append(&mut self, other: &Bitmap) -> Result<(), CommandError>
         ensures gives { Gives (λ _. self.new) result (appended self.old (items_of other.now)) }
         ensures err { OnErr result (self.new ≡ self.old) }
     {

@@ -194,7 +194,7 @@ impl Slot {
     /// # Errors
     ///
     /// `Kind` alone, which changes nothing.
-    pub fn assign(&mut self, table: Below<4>, width: Width) -> Result<(), Refusal>
+    fn assign(&mut self, table: Below<4>, width: Width) -> Result<(), Refusal>
         ensures gives { Answers (λ _. self.new) result (assigned self.old table) }
         ensures err { OnErr result (self.new ≡ self.old) }
     {
@@ -213,7 +213,7 @@ impl Slot {
     /// # Errors
     ///
     /// `Kind`, or else `Length`. They change nothing.
-    pub fn assign_beside(
+    fn assign_beside(
         &mut self,
         table: Below<16>,
         width: Width,

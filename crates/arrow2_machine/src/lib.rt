@@ -10,6 +10,6 @@ mod offsets;
 pub mod refusal;
 pub mod replay;
 mod replies;
-pub mod slot;
+mod slot;
 mod storage;
 mod values;

@@ -56,7 +56,7 @@ impl Slot {
     /// # Errors
     ///
     /// `Range` where `first` is above 2147483647, else `OutOfMemory` alone.
-    pub fn with_offset(alloc: Global, first: u64) -> Result<Slot, CommandError>
+    fn with_offset(alloc: Global, first: u64) -> Result<Slot, CommandError>
         ensures { Gives (λ slot. slot) result (begun first) }
     {
         let Ok(first) = i32::try_from(first) else {
@@ -72,7 +72,7 @@ impl Slot {
     /// # Errors
     ///
     /// `Kind`, `Overflow` or `OutOfMemory`. They change nothing.
-    pub fn push_length(&mut self, length: u64) -> Result<(), CommandError>
+    fn push_length(&mut self, length: u64) -> Result<(), CommandError>
         ensures gives { Gives (λ _. self.new) result (grown self.old (length ∷ [])) }
         ensures err { OnErr result (self.new ≡ self.old) }
     {
@@ -90,7 +90,7 @@ impl Slot {
     /// # Errors
     ///
     /// `Kind`, `Overflow` or `OutOfMemory`. They change nothing.
-    pub fn extend_lengths(&mut self, lengths: NumberText<'_>) -> Result<(), CommandError>
+    fn extend_lengths(&mut self, lengths: NumberText<'_>) -> Result<(), CommandError>
         ensures gives { Gives (λ _. self.new) result (grown self.old lengths.entry) }
         ensures err { OnErr result (self.new ≡ self.old) }
     {
@@ -108,7 +108,7 @@ impl Slot {
     /// # Errors
     ///
     /// `Kind` alone, which changes nothing.
-    pub fn pop_offset(&mut self) -> Result<Option<i32>, Refusal>
+    fn pop_offset(&mut self) -> Result<Option<i32>, Refusal>
         ensures gives { Answers (λ offset.
             (self.new, offset_said offset)) result (shortened self.old) }
         ensures err { OnErr result (self.new ≡ self.old) }
@@ -124,7 +124,7 @@ impl Slot {
     /// # Errors
     ///
     /// `Kind`, which changes nothing, or `OutOfMemory`, after which a part of the text may be there.
-    pub fn write_offsets(&self, out: &mut Vec<u8>) -> Result<(), CommandError>
+    fn write_offsets(&self, out: &mut Vec<u8>) -> Result<(), CommandError>
         ensures { Writes result out.old.items out.new.items (offset_text self.now) }
     {
         match &self.contents {
@@ -140,7 +140,7 @@ impl Slot {
     /// # Errors
     ///
     /// `Kind`, which changes nothing, or `OutOfMemory`, which leaves nothing in the slot.
-    pub fn freeze_offsets(&mut self) -> Result<(), CommandError>
+    fn freeze_offsets(&mut self) -> Result<(), CommandError>
         ensures { Turns result self.old self.new (froze_offsets self.old) }
     {
         match mem::replace(&mut self.contents, Contents::Nothing) {
@@ -160,7 +160,7 @@ impl Slot {
     /// # Errors
     ///
     /// `Kind`, or `Range` where `count` is 0 or they are not inside. They change nothing.
-    pub fn slice_offsets(&mut self, first: u64, count: u64) -> Result<(), Refusal>
+    fn slice_offsets(&mut self, first: u64, count: u64) -> Result<(), Refusal>
         ensures gives { Answers (λ _. self.new) result (sliced_offsets self.old first count) }
         ensures err { OnErr result (self.new ≡ self.old) }
     {
@@ -175,7 +175,7 @@ impl Slot {
     /// # Errors
     ///
     /// `Kind` or `Length`, which change nothing, or `OutOfMemory`, after which a part of the text may be there.
-    pub fn write_zipped(&self, validity: &Slot, out: &mut Vec<u8>) -> Result<(), CommandError>
+    fn write_zipped(&self, validity: &Slot, out: &mut Vec<u8>) -> Result<(), CommandError>
         ensures { Writes result out.old.items out.new.items (zip_text self.now validity.now) }
     {
         match (&self.contents, &validity.contents) {

@@ -26,7 +26,7 @@ pub(crate) enum Contents {
 
 /// A slot, which contracts see as what it holds in the machine of lists.
 #[derive(Drop)]
-pub struct Slot {
+pub(crate) struct Slot {
     pub(crate) contents: Contents,
 }
 
@@ -42,7 +42,7 @@ impl Model for Slot {
 
 impl Slot {
     /// A slot that holds nothing.
-    pub fn new() -> Slot
+    pub(crate) fn new() -> Slot
         ensures { result ≡ Nothing }
     {
         Slot {

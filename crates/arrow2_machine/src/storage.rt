@@ -42,7 +42,7 @@ impl Slot {
     /// # Errors
     ///
     /// `Range` or `OutOfMemory`.
-    pub fn with_stored(
+    fn with_stored(
         alloc: Global,
         bytes: HexText<'_>,
         offset: u64,
@@ -65,7 +65,7 @@ impl Slot {
     /// # Errors
     ///
     /// `Kind` or `Range`. They change nothing.
-    pub fn set(&mut self, index: u64, bit: bool) -> Result<(), Refusal>
+    fn set(&mut self, index: u64, bit: bool) -> Result<(), Refusal>
         ensures gives { Answers (λ _. self.new) result (item_set self.old index bit) }
         ensures err { OnErr result (self.new ≡ self.old) }
     {
@@ -87,7 +87,7 @@ impl Slot {
     /// # Errors
     ///
     /// `Kind`, which changes nothing, or `OutOfMemory`, after which a part of the text may be there.
-    pub fn write_words(&self, width: Width, out: &mut Vec<u8>) -> Result<(), CommandError>
+    fn write_words(&self, width: Width, out: &mut Vec<u8>) -> Result<(), CommandError>
         ensures { Writes result out.old.items out.new.items (word_text self.now width) }
     {
         let Contents::Frozen(bitmap) = &self.contents else {
@@ -107,7 +107,7 @@ impl Slot {
     /// # Errors
     ///
     /// `Kind`, which changes nothing, or `OutOfMemory`, after which a part of the text may be there.
-    pub fn write_runs(&self, out: &mut Vec<u8>) -> Result<(), CommandError>
+    fn write_runs(&self, out: &mut Vec<u8>) -> Result<(), CommandError>
         ensures { Writes result out.old.items out.new.items (run_text self.now) }
     {
         write_runs(SlicesIterator::new(self.frozen()?), out)?;

@@ -37,7 +37,7 @@ impl Slot {
     /// # Errors
     ///
     /// `Kind` or `OutOfMemory`.
-    pub fn copy(&self) -> Result<Slot, CommandError>
+    fn copy(&self) -> Result<Slot, CommandError>
         ensures { Gives (λ slot. slot) result (copied self.now) }
     {
         let contents = match &self.contents {
@@ -54,7 +54,7 @@ impl Slot {
     /// # Errors
     ///
     /// `Kind` alone, where they hold different kinds, boolean arrays or nothing.
-    pub fn compare(&self, other: &Slot) -> Result<bool, Refusal>
+    fn compare(&self, other: &Slot) -> Result<bool, Refusal>
         ensures { result ≡ compared self.now other.now }
     {
         match (&self.contents, &other.contents) {
