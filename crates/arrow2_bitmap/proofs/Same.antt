@@ -1,9 +1,8 @@
 -- What `==` of bitmaps answers.
-use Rattle.std.proofs.Common.{◌≡◌, ◌≢◌, ◌↔◌, ℕ, List, Bool, length, ap, sym, ◌∙◌}
+use Rattle.std.proofs.Common.{◌≡◌, ◌↔◌, ℕ, List, Bool, length, ap, sym, ◌∙◌}
 use Rattle.std.specs.Bool.{beq, IsTrue}
 use Rattle.std.specs.Prelude.{nat_eq}
 use Rattle.std.specs.Cmp.Lexicographic.{pointwise}
-use Rattle.std.proofs.lemmas.Bool.{eqb-true}
 use Rattle.std.proofs.lemmas.Bool.Decides.{same_from_decides, Decides-eqb}
 use Rattle.std.proofs.lemmas.Slice.Eq.{slice_eq-Decides}
 use Rattle.arrow2_model.specs.Canonical.{canonical_bytes}
@@ -22,8 +21,3 @@ same_bytes_told xs ys a b r size is-a is-b is =
       (λ h. same_from_canonical_bytes xs ys size (sym is-a ∙ (told.0 h ∙ is-b))),
       λ same. told.1 (is-a ∙ (ap canonical_bytes same ∙ sym is-b)),
     )
-
--- lengths that differ
-pub different_told : (xs ys : List Bool) (m n : ℕ) → length xs ≡ m → length ys ≡ n → m ≢ n → nat_eq m n ≡ pointwise beq xs ys
-different_told xs ys m n is-m is-n differ =
-    same_told xs ys (nat_eq m n) ((λ e. absurd (differ (eqb-true m n e))), λ same. absurd (differ (sym is-m ∙ (ap length same ∙ is-n))))

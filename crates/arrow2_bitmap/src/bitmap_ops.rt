@@ -9,6 +9,7 @@ ghost use Rattle.arrow2_model.specs.Rows.{AreRowsOf, ActsOnRows, IsRowFunction};
 
 use crate::immutable::Bitmap;
 use crate::mutable::MutableBitmap;
+use arrow2_bits::bytes_for;
 use arrow2_bits::chunk_iterator::BitChunks;
 use arrow2_bits::chunks_exact::BitChunksExact;
 use arrow2_kernels::lane_mapped::{map_binary, map_unary};
@@ -52,7 +53,7 @@ pub fn from_rows<S: WordRows<u64>, F: Fn(S::Row) -> u64>(
     ensures only { IfErr result (λ e. e ≡ Error.OutOfMemory) }
 {
     let bytes = map_rows(alloc, length, rows, op)?;
-    prove!(length / 8 + usize::from(length % 8 != 0) <= bytes.len());
+    prove!(bytes_for(length) <= bytes.len());
     Bitmap::from_u8_vec(bytes, length)
 }
 
@@ -142,7 +143,7 @@ pub fn unary_by_table(lhs: &Bitmap, t: u8) -> Result<Bitmap>
     let (bytes, offset, length) = lhs.as_slice();
     if offset == 0 {
         let answers = map_unary(lhs.allocator(), bytes, length, t)?;
-        prove!(length / 8 + usize::from(length % 8 != 0) <= answers.len());
+        prove!(bytes_for(length) <= answers.len());
         Bitmap::from_u8_vec(answers, length)
     } else {
         unary(lhs, |x| unary_answers(u16::from(t), x))
@@ -169,7 +170,7 @@ pub fn binary_by_table(lhs: &Bitmap, rhs: &Bitmap, t: u8) -> Result<Bitmap>
     let (right, right_offset, _right_length) = rhs.as_slice();
     if left_offset + right_offset == 0 {
         let answers = map_binary(lhs.allocator(), left, right, length, t)?;
-        prove!(length / 8 + usize::from(length % 8 != 0) <= answers.len());
+        prove!(bytes_for(length) <= answers.len());
         Bitmap::from_u8_vec(answers, length)
     } else {
         binary(lhs, rhs, |x, y| binary_answers(u16::from(t), x, y))

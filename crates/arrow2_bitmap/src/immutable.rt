@@ -117,7 +117,7 @@ impl Bitmap {
         ensures len { IfOk result (λ b. length' (items_of b) ≡ length) }
         ensures only { IfErr result (λ e. e ≡ Error.OutOfMemory) }
     {
-        prove!(length / 8 + usize::from(length % 8 != 0) <= bytes.len());
+        prove!(bytes_for(length) <= bytes.len());
         let unset_bits = count_zeros(bytes.as_slice(), 0, length);
         Bitmap::from_counted(bytes, length, unset_bits)
     }

@@ -85,7 +85,7 @@ impl MutableBitmap {
         ensures items { result.items ≡ take length (bits bytes.items) }
         ensures len { length' result.items ≡ length }
     {
-        prove!(length / 8 + usize::from(length % 8 != 0) <= bytes.len());
+        prove!(bytes_for(length) <= bytes.len());
         MutableBitmap {
             bits: PackedBits::from_vec(bytes, length),
         }
