@@ -7,8 +7,6 @@ use arrow2_bitmap::bitmap_ops::unary;
 use arrow2_bitmap::immutable::Bitmap;
 use arrow2_bitmap::iterator::IntoIter;
 use arrow2_bitmap::mutable::MutableBitmap;
-use arrow2_bits::chunk_iterator::BitChunkIterExact;
-use arrow2_chunk::bit_chunk::BitChunk;
 use arrow2_walks::slice_iterator::SlicesIterator;
 use std::alloc::Global;
 use std::convert::TryFrom;
@@ -233,9 +231,18 @@ fn a_walk_is_taken_from_both_ends(rt: HostRuntime) {
 
 #[test]
 fn a_walk_past_its_end_is_at_its_end(rt: HostRuntime) {
-    let mut walk = bitmap_of(&rt, rt.alloc(), &[0b00101101], 6).into_iter();
-    assert!(rt; matches!(walk.next(), Some(true)));
-    assert!(rt; walk.nth(usize::MAX).is_none());
+    ends_past(
+        &rt,
+        bitmap_of(&rt, rt.alloc(), &[0b00101101], 6),
+        usize::MAX,
+    );
+}
+
+/// A walk whose first item is true, and which is asked for one so many items further on, is at its end.
+fn ends_past(rt: &impl Abort, bitmap: Bitmap, past: usize) {
+    assert!(rt; bitmap.len() <= past);
+    let mut walk = bitmap.into_iter();
+    assert!(rt; walk.next() == Some(true) && walk.nth(past).is_none());
     assert!(rt; walk.next().is_none() && walk.next_back().is_none());
 }
 
@@ -264,62 +271,4 @@ fn items_are_collected_in_order(rt: HostRuntime) {
     assert!(rt; again == grown);
     let taken = collect_taken(alloc, frozen).expect(&rt, "no memory");
     assert!(rt; taken.len() == 130 && taken.unset_bits() == 104);
-}
-
-/// Whether the words of the bitmap hold its items one by one, the rest included.
-fn words_hold_items<T: BitChunk>(bitmap: &Bitmap) -> bool {
-    let mut items = bitmap.iter();
-    let words = bitmap.chunks::<T>();
-    let rest = words.remainder_iter();
-    for word in words {
-        for i in 0..T::WIDTH {
-            if items.next() != Some(word.bit(i)) {
-                return false;
-            }
-        }
-    }
-    rest.eq(items)
-}
-
-/// Whether the bitmap equals those of the items, and not the one whose last item is another.
-fn equals_its_items(rt: &impl Abort, alloc: Global, bitmap: Bitmap, items: &[bool]) -> bool {
-    let mut grown = MutableBitmap::from_bools(alloc, items).expect(rt, "no memory");
-    let alike = Bitmap::from_bools(alloc, items).expect(rt, "no memory");
-    let same = bitmap == alike && bitmap.make_mut().expect(rt, "no memory") == grown;
-    let Some(last) = grown.pop() else {
-        return same;
-    };
-    let other = Bitmap::try_from(pushed(rt, grown, !last)).expect(rt, "no memory");
-    same && other != alike
-}
-
-/// Whether counts, words and equality of the bitmap go by its items.
-fn goes_by_its_items(rt: &impl Abort, alloc: Global, bitmap: Bitmap) -> bool {
-    let items: Vec<bool> = bitmap.iter().collect(alloc).expect(rt, "no memory");
-    let unset = items.iter().filter(|item| !**item).count();
-    bitmap.unset_bits() == unset
-        && words_hold_items::<u8>(&bitmap)
-        && words_hold_items::<u16>(&bitmap)
-        && words_hold_items::<u32>(&bitmap)
-        && words_hold_items::<u64>(&bitmap)
-        && equals_its_items(rt, alloc, bitmap, items.as_slice())
-}
-
-#[test]
-fn counts_words_and_equality_go_by_items(rt: HostRuntime) {
-    let alloc = rt.alloc();
-    let dirty = [0xa5, 0xff, 0x00, 0x3c, 0x81, 0x7e, 0x0f, 0xf0, 0x55].repeat(alloc, 4);
-    let whole = bitmap_of(&rt, alloc, dirty.expect(&rt, "no memory").as_slice(), 288);
-    for offset in 0..16usize {
-        for length in 0..201usize {
-            let part = whole
-                .clone()
-                .expect(&rt, "no memory")
-                .sliced(offset, length);
-            assert!(rt;
-                goes_by_its_items(&rt, alloc, part),
-                "{length} bits from {offset} on"
-            );
-        }
-    }
 }

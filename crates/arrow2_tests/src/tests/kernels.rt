@@ -1,5 +1,5 @@
 //! Worked rows of kernels, tables and operators, and callers of their clauses.
-ghost use Rattle.std.specs.Prelude.{◌≡◌, ◌+◌, ◌%◌, ◌^◌, ◌≤◌, ◌<◌, [], ◌∷◌, length as count, IfOk};
+ghost use Rattle.std.specs.Prelude.{◌≡◌, ◌+◌, ◌%◌, ◌^◌, ◌<◌, [], ◌∷◌, length as count, IfOk};
 ghost use Rattle.arrow2_model.specs.Kernels.{unary_kernel, binary_kernel};
 ghost use Rattle.arrow2_model.specs.Storage.{items_of};
 ghost use Rattle.arrow2_model.specs.Tables.{each};
@@ -10,13 +10,8 @@ use arrow2_bitmap::bitmap_ops::{and, binary, or, unary, xor};
 use arrow2_bitmap::immutable::Bitmap;
 use arrow2_bitmap::mutable::MutableBitmap;
 use arrow2_kernels::tables::{binary_answers, unary_answers};
-use arrow2_tables::assign_ops::{binary_assign_table, unary_assign_table};
-use arrow2_tables::bitmap_ops::{
-    binary_table, quaternary, quaternary_table, ternary, ternary_table, unary_table,
-};
 use arrow2_types::error::Result;
 use std::alloc::Global;
-use std::convert::TryFrom;
 use std::process::Abort;
 
 /// A caller that knows what its function makes of each word knows the list.

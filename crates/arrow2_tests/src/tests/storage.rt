@@ -20,7 +20,9 @@ use arrow2_walks::slice_iterator::SlicesIterator;
 use arrow2_walks::zip_validity::ZipValidity;
 use std::alloc::{AllocError, Global};
 use std::convert::TryFrom;
+use std::iter::Copied;
 use std::process::Abort;
+use std::slice;
 
 /// A list that plain code gives, where it found memory.
 type Given = std::result::Result<Vec<bool>, AllocError>;
@@ -135,11 +137,26 @@ fn has_words<T: BitChunk>(rt: &impl Abort, bitmap: &Bitmap, list: &[bool]) {
     let words = bitmap.chunks::<T>();
     let rest = words.remainder_iter();
     for word in words {
-        for i in 0..T::WIDTH {
-            assert!(rt; items.next() == Some(word.bit(i)));
-        }
+        has_bits(rt, word, &mut items);
     }
     assert!(rt; rest.eq(items));
+}
+
+/// The word holds the next items.
+fn has_bits<T: BitChunk>(rt: &impl Abort, word: T, items: &mut Copied<slice::Iter<'_, bool>>) {
+    for i in 0..T::WIDTH {
+        assert!(rt; items.next() == Some(word.bit(i)));
+    }
+}
+
+/// Counts, words of each width and equality go by the items.
+fn goes_by_its_items(rt: &impl Abort, alloc: Global, bitmap: &Bitmap, list: &[bool]) {
+    assert!(rt; bitmap.unset_bits() == lists::falses(list));
+    has_words::<u8>(rt, bitmap, list);
+    has_words::<u16>(rt, bitmap, list);
+    has_words::<u32>(rt, bitmap, list);
+    has_words::<u64>(rt, bitmap, list);
+    is_equal(rt, alloc, bitmap, list);
 }
 
 /// The runs are those of the list.
@@ -163,12 +180,6 @@ fn goes_by_words(
     makes(rt, unary(bitmap, |x| x << 1), &one);
     let two = lists::mixed(alloc, lists.0, lists.1, 64);
     makes(rt, binary(bitmap, other, |x, y| x ^ y << 1), &two);
-    let three = ternary(bitmap, other, other, |x, y, z| x ^ (y & z) << 1);
-    makes(rt, three, &two);
-    let four = quaternary(bitmap, other, other, bitmap, |x, y, z, v| {
-        (x & v) ^ (y & z) << 1
-    });
-    makes(rt, four, &two);
 }
 
 /// In place, functions of words of this width answer by the words of the lists.
@@ -192,7 +203,7 @@ fn changes_by_words<T: BitChunk>(
     );
 }
 
-/// Table `t` answers by the items: its lowest bits for one, for two and for three inputs.
+/// Table `t` answers by the items: its lowest bits for one and for two inputs.
 fn goes_by_table(
     rt: &impl Abort,
     alloc: Global,
@@ -207,10 +218,41 @@ fn goes_by_table(
     makes(rt, one, &lists::looked_up(alloc, t % 4, [a, &[], &[], &[]]));
     let two = binary_table(bitmap, other, (t % 16) as u8);
     makes(rt, two, &lists::looked_up(alloc, t % 16, [a, b, &[], &[]]));
-    let three = ternary_table(bitmap, other, bitmap, (t % 256) as u8);
-    makes(rt, three, &lists::looked_up(alloc, t % 256, [a, b, a, &[]]));
-    let four = quaternary_table(bitmap, other, bitmap, other, t);
-    makes(rt, four, &lists::looked_up(alloc, t, [a, b, a, b]));
+}
+
+/// Functions of three and of four words answer by the words of the lists.
+fn goes_by_more_words(rt: &impl Abort, alloc: Global, inputs: [&Bitmap; 4], lists: [&[bool]; 4]) {
+    let [a, b, c, d] = inputs;
+    assert!(rt; a.len() == b.len() && a.len() == c.len() && a.len() == d.len());
+    let [first, second, third, fourth] = lists;
+    let left = lists::looked_up(alloc, 0b0010, [first, fourth, &[], &[]]).expect(rt, "no memory");
+    let right = lists::looked_up(alloc, 0b0010, [second, third, &[], &[]]).expect(rt, "no memory");
+    let three = ternary(a, b, c, |x, y, z| x ^ (y & !z) << 1);
+    makes(rt, three, &lists::mixed(alloc, first, right.as_slice(), 64));
+    let four = quaternary(a, b, c, d, |x, y, z, v| (x & !v) ^ (y & !z) << 1);
+    makes(
+        rt,
+        four,
+        &lists::mixed(alloc, left.as_slice(), right.as_slice(), 64),
+    );
+}
+
+/// Table `t` answers by the items: its lowest bits for three inputs, all of them for four.
+fn goes_by_wide_table(
+    rt: &impl Abort,
+    alloc: Global,
+    inputs: [&Bitmap; 4],
+    lists: [&[bool]; 4],
+    t: u16,
+) {
+    let [a, b, c, d] = inputs;
+    assert!(rt; a.len() == b.len() && a.len() == c.len() && a.len() == d.len());
+    let [first, second, third, _] = lists;
+    let three = ternary_table(a, b, c, (t % 256) as u8);
+    let items = lists::looked_up(alloc, t % 256, [first, second, third, &[]]);
+    makes(rt, three, &items);
+    let four = quaternary_table(a, b, c, d, t);
+    makes(rt, four, &lists::looked_up(alloc, t, lists));
 }
 
 /// So it does in place.
@@ -409,11 +451,7 @@ fn is_its_list(rt: &impl Abort, alloc: Global, bitmap: &Bitmap, list: &[bool]) {
         is_counted_from(rt, bitmap, list, start);
         is_cut_from(rt, bitmap, list, start);
     }
-    is_equal(rt, alloc, bitmap, list);
-    has_words::<u8>(rt, bitmap, list);
-    has_words::<u16>(rt, bitmap, list);
-    has_words::<u32>(rt, bitmap, list);
-    has_words::<u64>(rt, bitmap, list);
+    goes_by_its_items(rt, alloc, bitmap, list);
     has_runs(rt, alloc, bitmap, list);
     has_none(rt, alloc, bitmap, list);
     changes_at_its_end(rt, alloc, bitmap, list);
@@ -448,6 +486,14 @@ fn answers_beside(
     is_array(rt, bitmap, other, lists);
 }
 
+/// So does everything that is asked of it and of three others.
+fn answers_beside_three(rt: &impl Abort, alloc: Global, inputs: [&Bitmap; 4], lists: [&[bool]; 4]) {
+    goes_by_more_words(rt, alloc, inputs, lists);
+    for t in [27030, 38505, 1234, 60875] {
+        goes_by_wide_table(rt, alloc, inputs, lists, t);
+    }
+}
+
 /// The list as a bitmap: from a bit offset on, all spare bits alike, with some bytes more behind it.
 fn stored(
     rt: &impl Abort,
@@ -469,26 +515,39 @@ fn in_each_storage(rt: &impl Abort, alloc: Global, list: &[bool]) {
     let others = lists::reversed(alloc, list).expect(rt, "no memory");
     let others = others.as_slice();
     let other = Bitmap::from_bools(alloc, others).expect(rt, "no memory");
+    let more = lists::scattered(alloc, 3, list.len()).expect(rt, "no memory");
+    let more = more.as_slice();
+    let third = Bitmap::from_bools(alloc, more).expect(rt, "no memory");
     for case in 0..48usize {
         let (offset, spare, behind) = (case % 8, case / 8 % 2 == 1, case / 16);
         let bitmap = stored(rt, alloc, list, offset, spare, behind);
         is_its_list(rt, alloc, &bitmap, list);
         answers_beside(rt, alloc, &bitmap, &other, (list, others));
         answers_beside(rt, alloc, &other, &bitmap, (others, list));
+        let inputs = [&third, &bitmap, &other, &bitmap];
+        answers_beside_three(rt, alloc, inputs, [more, list, others, list]);
     }
 }
 
-/// Lists without a pattern answer beside each other, at each bit offset of the one and two of the other.
+/// Lists without a pattern answer beside each other, at each bit offset of the first one.
 fn at_each_offset(rt: &impl Abort, alloc: Global, length: usize) {
     let list = lists::scattered(alloc, 1, length).expect(rt, "no memory");
     let others = lists::scattered(alloc, 2, length).expect(rt, "no memory");
+    let thirds = lists::scattered(alloc, 3, length).expect(rt, "no memory");
+    let fourths = lists::scattered(alloc, 4, length).expect(rt, "no memory");
     let (list, others) = (list.as_slice(), others.as_slice());
+    let (thirds, fourths) = (thirds.as_slice(), fourths.as_slice());
     for offset in 0..16 {
         let bitmap = stored(rt, alloc, list, offset, true, 1);
+        goes_by_its_items(rt, alloc, &bitmap, list);
         let alike = stored(rt, alloc, others, offset, true, 0);
         answers_beside(rt, alloc, &bitmap, &alike, (list, others));
         let apart = stored(rt, alloc, others, (offset * 5 + 3) % 16, true, 1);
         answers_beside(rt, alloc, &bitmap, &apart, (list, others));
+        let third = stored(rt, alloc, thirds, (offset * 3 + 1) % 16, true, 1);
+        let fourth = stored(rt, alloc, fourths, 15 - offset, true, 1);
+        let inputs = [&bitmap, &apart, &third, &fourth];
+        answers_beside_three(rt, alloc, inputs, [list, others, thirds, fourths]);
     }
 }
 
@@ -508,7 +567,7 @@ fn what_stands_behind_a_list_changes_no_answer(rt: HostRuntime) {
 }
 
 #[test]
-fn two_lists_answer_at_each_length_and_offset(rt: HostRuntime) {
+fn lists_answer_beside_each_other_at_each_length_and_offset(rt: HostRuntime) {
     for length in 0..=600 {
         at_each_offset(&rt, rt.alloc(), length);
     }
