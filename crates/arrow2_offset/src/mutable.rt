@@ -1,5 +1,5 @@
 //! Offsets that grow.
-ghost use Rattle.std.specs.Prelude.{◌≡◌, ◌+◌, ◌-◌, ◌<◌, ◌≤◌, ◌^◌, ◌≤ℤ◌, ◌↔◌, ◌⊎◌, [], ◌∷◌, ◌++◌, length, length as count_of, map, sum, take, pos, replicate, slice_index_or, unsigned_abs, OnOk, OnErr, IsOk, IfOk, IfErr, IsErrOf, IsTrue, MatchOption, MatchResult, vec_capacity};
+ghost use Rattle.std.specs.Prelude.{◌≡◌, ◌+◌, ◌-◌, ◌<◌, ◌≤◌, ◌^◌, ◌≤ℤ◌, ◌↔◌, ◌⊎◌, [], ◌∷◌, length, length as count_of, map, sum, take, pos, replicate, slice_index_or, unsigned_abs, OnOk, IsOk, IfOk, IfErr, IsErrOf, IsTrue, MatchOption, MatchResult, vec_capacity};
 ghost use Rattle.std.specs.Iterator.{IsFinite};
 ghost use Rattle.std.specs.Iterator.Runs.{WholeRun};
 ghost use Rattle.std.specs.Ordering.{on};
@@ -9,7 +9,7 @@ ghost use Rattle.std.specs.Cmp.Lexicographic.{pointwise, lists_equiv};
 ghost use Rattle.arrow2_model.specs.Parts.{part};
 ghost use Rattle.arrow2_model.specs.Buffers.{buffer_items};
 ghost use Rattle.arrow2_offset.specs.Offsets.{AreOffsets, offset_at, AreOffsetsUpTo, offsets_of, last_of_growing, start_of, lengths_of, slots, SameOffsets, GrownBy};
-ghost use Rattle.arrow2_offset.specs.Collected.{GivesMoreThan, GivesPast};
+ghost use Rattle.arrow2_offset.specs.Collected.{GivesPast};
 ghost use Rattle.arrow2_offset.specs.Growth.{Grows, GrowsUpTo, GrowsByRun};
 ghost use Rattle.arrow2_offset.specs.Made.{made_of};
 ghost use Rattle.arrow2_offset.specs.Refused.{IsOutOfSpec, why_not_offsets};
