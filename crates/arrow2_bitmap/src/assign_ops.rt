@@ -1,7 +1,7 @@
 //! Bitmaps that grow, changed in place by functions of words, and their operators. None of these calls takes memory.
-ghost use Rattle.std.specs.Prelude.{◌≡◌, ◌<◌, ℕ, [], ◌∷◌, length};
+ghost use Rattle.std.specs.Prelude.{◌≡◌, ℕ, [], ◌∷◌, length};
 ghost use Rattle.arrow2_model.specs.Kernels.{unary_kernel, binary_kernel, IsUnary, IsBinary};
-ghost use Rattle.arrow2_model.specs.Storage.{BitmapStorage, GrowingBitmap, items_of};
+ghost use Rattle.arrow2_model.specs.Storage.{items_of};
 ghost use Rattle.arrow2_model.specs.Tables.{each, ActsUnary, ActsBinary};
 
 use crate::bitmap_ops::are_all;

@@ -1,8 +1,8 @@
 //! New bitmaps from functions of words, and the operators on shared bitmaps.
-ghost use Rattle.std.specs.Prelude.{◌≡◌, ◌<◌, ℕ, List, Bool, [], ◌∷◌, length as length', replicate, IfOk, IfErr, IfSome, IsTrue, MatchResult, ◌⊎◌};
+ghost use Rattle.std.specs.Prelude.{◌≡◌, ℕ, List, Bool, [], ◌∷◌, length as length', replicate, IfOk, IfErr, IfSome, IsTrue, MatchResult, ◌⊎◌};
 ghost use Rattle.arrow2_model.specs.Canonical.{canonical_bytes};
 ghost use Rattle.arrow2_model.specs.Kernels.{kernel, unary_kernel, binary_kernel, IsUnary, IsBinary};
-ghost use Rattle.arrow2_model.specs.Storage.{BitmapStorage, items_of};
+ghost use Rattle.arrow2_model.specs.Storage.{items_of};
 ghost use Rattle.arrow2_model.specs.Tables.{each, ActsUnary, ActsBinary};
 ghost use Rattle.arrow2_types.specs.declared.error.Error.TheVariants.{OutOfMemory};
 ghost use Rattle.arrow2_model.specs.Rows.{AreRowsOf, ActsOnRows, IsRowFunction};

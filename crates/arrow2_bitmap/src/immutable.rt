@@ -1,5 +1,5 @@
 //! A bitmap over shared bytes.
-ghost use Rattle.std.specs.Prelude.{◌≡◌, ◌+◌, ◌*◌, ◌/◌, ◌%◌, ◌<◌, ◌≤◌, ◌↔◌, [], false, length, length as length', replicate, slice_index_or, take, OnOk, IsOk, IfOk, IfErr, IsTrue, Some, MatchResult, vec_len, codes, IsErrOf, ◌^◌, ◌⊎◌, List, Bool};
+ghost use Rattle.std.specs.Prelude.{◌≡◌, ◌+◌, ◌*◌, ◌/◌, ◌%◌, ◌<◌, ◌≤◌, ◌↔◌, [], false, length, length as length', replicate, slice_index_or, take, OnOk, IfOk, IfErr, IsTrue, Some, MatchResult, vec_len, codes, IsErrOf, ◌^◌, ◌⊎◌};
 ghost use Rattle.std.specs.Bool.{beq};
 ghost use Rattle.std.specs.Ordering.{on};
 ghost use Rattle.std.specs.Cmp.{partial_equiv_from_equiv, bool_eq_equiv, on_equiv};

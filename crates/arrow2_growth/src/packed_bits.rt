@@ -1,8 +1,8 @@
 //! Booleans packed into bytes, which grow.
-ghost use Rattle.std.specs.Prelude.{◌≡◌, ◌+◌, ◌-◌, ◌*◌, ◌/◌, ◌%◌, ◌<◌, ◌≤◌, ◌^◌, ◌↔◌, ℕ, IsTrue, List, Bool, [], ◌∷◌, ◌++◌, false, length, length as length', take, replicate, slice_index_or, slice_set, OnOk, OnErr, IsOk, IfOk, IfNone, IsErrOf, MatchOption, vec_len, vec_capacity};
+ghost use Rattle.std.specs.Prelude.{◌≡◌, ◌+◌, ◌-◌, ◌*◌, ◌/◌, ◌%◌, ◌<◌, ◌≤◌, ◌^◌, ◌↔◌, ℕ, IsTrue, List, Bool, [], ◌∷◌, ◌++◌, false, length, length as length', take, replicate, slice_set, OnOk, OnErr, IsOk, IfOk, IfNone, IsErrOf, MatchOption, vec_len, vec_capacity};
 ghost use Rattle.arrow2_model.specs.Bits.{bit, bits, unnum};
 ghost use Rattle.arrow2_model.specs.Canonical.{canonical_bytes, IsCanonical};
-ghost use Rattle.arrow2_model.specs.Kernels.{joined, kernel, word, words_at};
+ghost use Rattle.arrow2_model.specs.Kernels.{kernel, word, words_at};
 ghost use Rattle.arrow2_model.specs.Rows.{ActsBesideRows, IsOwnRowFunction};
 ghost use Rattle.arrow2_model.specs.Tables.{each};
 ghost use Rattle.arrow2_growth.specs.Growth.{Appends, Pushes};

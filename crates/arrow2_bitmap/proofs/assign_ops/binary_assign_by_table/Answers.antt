@@ -1,4 +1,4 @@
-use Rattle.std.proofs.Common.{◌∙◌, ◌≡◌, ℕ, List, [], ◌∷◌, Bool, ap, sym, take, length}
+use Rattle.std.proofs.Common.{◌∙◌, ℕ, List, [], ◌∷◌, Bool, ap, take}
 use Rattle.arrow2_model.specs.Bits.{bits}
 use Rattle.arrow2_model.specs.Storage.{items_of}
 use Rattle.arrow2_model.specs.Tables.{each}

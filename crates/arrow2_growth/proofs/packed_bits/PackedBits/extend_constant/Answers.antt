@@ -1,8 +1,8 @@
-use Rattle.std.proofs.Common.{◌≡◌, ◌∙◌, ◌++◌, ◌-◌, ◌/◌, ◌%◌, List, Bool, ℕ, take, replicate, length, ap, arith, rules}
+use Rattle.std.proofs.Common.{◌∙◌, ◌++◌, ◌-◌, ◌/◌, ◌%◌, List, Bool, ℕ, take, replicate, length, ap, arith, rules}
 use Rattle.std.proofs.lemmas.Bool.{false≢true}
-use Rattle.std.proofs.lemmas.List.{length-append, length-replicate, length-take-le}
-use Rattle.arrow2_model.specs.Bits.{bits, unnum}
-use Rattle.arrow2_model.proofs.Bits.{length-bits, length-unnum}
+use Rattle.std.proofs.lemmas.List.{length-replicate, length-take-le}
+use Rattle.arrow2_model.specs.Bits.{unnum}
+use Rattle.arrow2_model.proofs.Bits.{length-unnum}
 use Rattle.arrow2_growth.proofs.Whole.{Are, are_true, are_false, constant_items, length-append_word, length-append_bits}
 use Rattle.arrow2_growth.proofs.packed_bits.PackedBits.extend_constant.Goals as goal
 use Rattle.arrow2_growth.proofs.packed_bits.PackedBits.extend_constant.Goals.{then-value, else-value}

@@ -1,4 +1,4 @@
-use Rattle.std.proofs.Common.{◌∙◌, arith}
+use Rattle.std.proofs.Common.{arith}
 use Rattle.arrow2_growth.proofs.Buffer.{popped}
 use Rattle.arrow2_growth.proofs.packed_bits.PackedBits.pop.Goals as goal
 

@@ -1,4 +1,4 @@
-use Rattle.std.proofs.Common.{◌≡◌, ◌∙◌, ◌++◌, ◌/◌, ◌%◌, ap, arith, rules, length, take}
+use Rattle.std.proofs.Common.{◌∙◌, ◌/◌, ◌%◌, ap, arith, rules, length, take}
 use Rattle.std.proofs.lemmas.Bool.{false≢true}
 use Rattle.std.proofs.lemmas.List.{length-take-le}
 use Rattle.arrow2_model.specs.Bits.{bits, unnum}

@@ -1,4 +1,4 @@
-use Rattle.std.proofs.Common.{◌≡◌, ◌∙◌, ◌++◌, ◌≤◌, ◌+◌, List, Bool, ap, refl, subst, arith, rules, length, take, OnOk}
+use Rattle.std.proofs.Common.{◌≡◌, ◌∙◌, ◌++◌, List, Bool, ap, refl, subst, arith, rules, length, take, OnOk}
 use Rattle.std.proofs.lemmas.Bool.{false≢true}
 use Rattle.arrow2_model.specs.Bits.{unnum}
 use Rattle.std.proofs.lemmas.List.{length-append}

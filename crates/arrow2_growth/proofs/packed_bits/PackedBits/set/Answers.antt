@@ -1,4 +1,4 @@
-use Rattle.std.proofs.Common.{◌≡◌, ◌∙◌, ◌%◌, ◌/◌, ap, subst, set, take, get_or, length, refl, arith}
+use Rattle.std.proofs.Common.{◌∙◌, ◌%◌, ◌/◌, ap, set, take, length, refl, arith}
 use Rattle.std.proofs.lemmas.Grind.{get_or_default_zero}
 use Rattle.arrow2_model.specs.Bits.{bits, unnum}
 use Rattle.arrow2_growth.proofs.Buffer.{length_items, bit_written}
