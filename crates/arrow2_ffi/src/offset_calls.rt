@@ -3,6 +3,7 @@ ghost use Rattle.std.specs.Prelude.{◌≡◌, ◌≢◌, ◌+◌, ◌-◌, ◌<
 ghost use Rattle.arrow2_offset.specs.Offsets.{AreOffsets, last_offset, lengths_of, offsets_list};
 ghost use Rattle.arrow2_model.specs.Parts.{part};
 ghost use Rattle.arrow2_offset.specs.Refused.{first_broken};
+ghost use Rattle.arrow2_ffi.specs.OffsetWrites.{WritesFromOffsets, WritesFromOffsetsOr};
 ghost use Rattle.arrow2_ffi.specs.Rules.{rule_code};
 
 use crate::codes::{ARROW2_LENGTH, ARROW2_OK, ARROW2_OVERFLOW, ARROW2_RANGE};
@@ -23,14 +24,9 @@ pub(crate) fn check<O: Offset>(offsets: &[O]) -> u32
 
 /// Writes how far each offset is from the next one.
 pub(crate) fn lengths<O: Offset>(offsets: &[O], lengths: &mut [usize]) -> u32
-    ensures broken { ¬ AreOffsets (map O.value offsets.now) →
-        result ≡ rule_code (first_broken (map O.value offsets.now)) }
-    ensures length { AreOffsets (map O.value offsets.now) →
-        (result ≡ ARROW2_LENGTH ↔ (length offsets.now ≢ length lengths.old + 1)) }
-    ensures only { AreOffsets (map O.value offsets.now) →
-        (result ≡ ARROW2_OK) ⊎ (result ≡ ARROW2_LENGTH) }
-    ensures ok { result ≡ ARROW2_OK → lengths.new ≡ lengths_of (map O.value offsets.now) }
-    ensures refused { result ≢ ARROW2_OK → lengths.new ≡ lengths.old }
+    ensures { WritesFromOffsets (map O.value offsets.now) result
+        (length offsets.now ≢ length lengths.old + 1)
+        (lengths.new ≡ lengths_of (map O.value offsets.now)) (lengths.new ≡ lengths.old) }
 {
     if let Some(code) = refusal(offsets) {
         return code;
@@ -64,17 +60,11 @@ pub(crate) fn sums<O: Offset>(start: usize, lengths: &[usize], offsets: &mut [O]
 
 /// Writes as many offsets as `out` has, from offset `from` on, each less the first of them.
 pub(crate) fn from_zero<O: Offset>(offsets: &[O], from: usize, out: &mut [O]) -> u32
-    ensures broken { ¬ AreOffsets (map O.value offsets.now) →
-        result ≡ rule_code (first_broken (map O.value offsets.now)) }
-    ensures length { AreOffsets (map O.value offsets.now) →
-        (result ≡ ARROW2_LENGTH ↔ (length out.old ≡ 0)) }
-    ensures range { AreOffsets (map O.value offsets.now) →
-        (result ≡ ARROW2_RANGE ↔ ((result ≢ ARROW2_LENGTH) × (length offsets.now < from + length out.old))) }
-    ensures only { AreOffsets (map O.value offsets.now) →
-        (result ≡ ARROW2_OK) ⊎ (result ≡ ARROW2_LENGTH) ⊎ (result ≡ ARROW2_RANGE) }
-    ensures ok { result ≡ ARROW2_OK → map O.value out.new ≡ map pos
-        (offsets_list 0 (part (lengths_of (map O.value offsets.now)) from (length out.old - 1))) }
-    ensures refused { result ≢ ARROW2_OK → out.new ≡ out.old }
+    ensures { WritesFromOffsetsOr ARROW2_RANGE (map O.value offsets.now) result
+        (length out.old ≡ 0) (length offsets.now < from + length out.old)
+        (map O.value out.new ≡ map pos
+        (offsets_list 0 (part (lengths_of (map O.value offsets.now)) from (length out.old - 1))))
+        (out.new ≡ out.old) }
 {
     if let Some(code) = refusal(offsets) {
         return code;

@@ -1,8 +1,7 @@
 //! Offsets of 32 bits as offsets of 64 bits, and back.
-ghost use Rattle.std.specs.Prelude.{◌≡◌, ◌≢◌, ◌<◌, ◌↔◌, ◌⊎◌, length};
+ghost use Rattle.std.specs.Prelude.{◌≡◌, ◌≢◌, ◌<◌, length};
 ghost use Rattle.arrow2_offset.specs.Offsets.{AreOffsets, AreOffsetsUpTo, last_of};
-ghost use Rattle.arrow2_offset.specs.Refused.{first_broken};
-ghost use Rattle.arrow2_ffi.specs.Rules.{rule_code};
+ghost use Rattle.arrow2_ffi.specs.OffsetWrites.{WritesFromOffsets, WritesFromOffsetsOr};
 
 use crate::codes::{ARROW2_LENGTH, ARROW2_OK, ARROW2_OVERFLOW};
 use crate::offset_loops::{last, refusal};
@@ -10,12 +9,8 @@ use crate::offset_loops::{last, refusal};
 /// Writes the same numbers, in 64 bits each.
 #[unsafe(no_mangle)]
 pub extern "C" fn arrow2_offsets_widen(offsets: &[i32], out: &mut [i64]) -> u32
-    ensures broken { ¬ AreOffsets offsets.now → result ≡ rule_code (first_broken offsets.now) }
-    ensures length { AreOffsets offsets.now →
-        (result ≡ ARROW2_LENGTH ↔ (length out.old ≢ length offsets.now)) }
-    ensures only { AreOffsets offsets.now → (result ≡ ARROW2_OK) ⊎ (result ≡ ARROW2_LENGTH) }
-    ensures ok { result ≡ ARROW2_OK → out.new ≡ offsets.now }
-    ensures refused { result ≢ ARROW2_OK → out.new ≡ out.old }
+    ensures { WritesFromOffsets offsets.now result (length out.old ≢ length offsets.now)
+        (out.new ≡ offsets.now) (out.new ≡ out.old) }
 {
     if let Some(code) = refusal(offsets) {
         return code;
@@ -30,15 +25,9 @@ pub extern "C" fn arrow2_offsets_widen(offsets: &[i32], out: &mut [i64]) -> u32
 /// Writes the same numbers, in 32 bits each.
 #[unsafe(no_mangle)]
 pub extern "C" fn arrow2_offsets_narrow(offsets: &[i64], out: &mut [i32]) -> u32
-    ensures broken { ¬ AreOffsets offsets.now → result ≡ rule_code (first_broken offsets.now) }
-    ensures length { AreOffsets offsets.now →
-        (result ≡ ARROW2_LENGTH ↔ (length out.old ≢ length offsets.now)) }
-    ensures overflow { AreOffsets offsets.now → (result ≡ ARROW2_OVERFLOW ↔
-        ((result ≢ ARROW2_LENGTH) × (2147483647 < last_of offsets.now))) }
-    ensures only { AreOffsets offsets.now →
-        (result ≡ ARROW2_OK) ⊎ (result ≡ ARROW2_LENGTH) ⊎ (result ≡ ARROW2_OVERFLOW) }
-    ensures ok { result ≡ ARROW2_OK → out.new ≡ offsets.now }
-    ensures refused { result ≢ ARROW2_OK → out.new ≡ out.old }
+    ensures { WritesFromOffsetsOr ARROW2_OVERFLOW offsets.now result
+        (length out.old ≢ length offsets.now) (2147483647 < last_of offsets.now)
+        (out.new ≡ offsets.now) (out.new ≡ out.old) }
 {
     if let Some(code) = refusal(offsets) {
         return code;

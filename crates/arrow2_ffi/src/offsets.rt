@@ -1,9 +1,10 @@
 //! Offsets of 32 and of 64 bits: where the value of each slot begins. There is one offset more than slots, none is
 //! negative, and none is below the one before it.
 ghost use Rattle.std.specs.Prelude.{◌≡◌, ◌≢◌, ◌+◌, ◌-◌, ◌<◌, ◌↔◌, ◌⊎◌, pos, map, length};
-ghost use Rattle.arrow2_offset.specs.Offsets.{AreOffsets, last_offset, last_of, lengths_of, offsets_list};
+ghost use Rattle.arrow2_offset.specs.Offsets.{AreOffsets, last_offset, lengths_of, offsets_list};
 ghost use Rattle.arrow2_model.specs.Parts.{part};
 ghost use Rattle.arrow2_offset.specs.Refused.{first_broken};
+ghost use Rattle.arrow2_ffi.specs.OffsetWrites.{WritesFromOffsets, WritesFromOffsetsOr};
 ghost use Rattle.arrow2_ffi.specs.Rules.{rule_code};
 
 use crate::codes::{ARROW2_LENGTH, ARROW2_OK, ARROW2_OVERFLOW, ARROW2_RANGE};
@@ -21,12 +22,8 @@ pub extern "C" fn arrow2_offsets32_check(offsets: &[i32]) -> u32
 /// Writes how far each offset of 32 bits is from the next one: as many lengths as slots.
 #[unsafe(no_mangle)]
 pub extern "C" fn arrow2_offsets32_lengths(offsets: &[i32], out: &mut [usize]) -> u32
-    ensures broken { ¬ AreOffsets offsets.now → result ≡ rule_code (first_broken offsets.now) }
-    ensures length { AreOffsets offsets.now →
-        (result ≡ ARROW2_LENGTH ↔ (length offsets.now ≢ length out.old + 1)) }
-    ensures only { AreOffsets offsets.now → (result ≡ ARROW2_OK) ⊎ (result ≡ ARROW2_LENGTH) }
-    ensures ok { result ≡ ARROW2_OK → out.new ≡ lengths_of offsets.now }
-    ensures refused { result ≢ ARROW2_OK → out.new ≡ out.old }
+    ensures { WritesFromOffsets offsets.now result (length offsets.now ≢ length out.old + 1)
+        (out.new ≡ lengths_of offsets.now) (out.new ≡ out.old) }
 {
     lengths(offsets, out)
 }
@@ -52,15 +49,11 @@ pub extern "C" fn arrow2_offsets32_from_lengths(
 /// 0 and span the same slots.
 #[unsafe(no_mangle)]
 pub extern "C" fn arrow2_offsets32_from_zero(offsets: &[i32], from: usize, out: &mut [i32]) -> u32
-    ensures broken { ¬ AreOffsets offsets.now → result ≡ rule_code (first_broken offsets.now) }
-    ensures length { AreOffsets offsets.now → (result ≡ ARROW2_LENGTH ↔ (length out.old ≡ 0)) }
-    ensures range { AreOffsets offsets.now → (result ≡ ARROW2_RANGE ↔
-        ((result ≢ ARROW2_LENGTH) × (length offsets.now < from + length out.old))) }
-    ensures only { AreOffsets offsets.now →
-        (result ≡ ARROW2_OK) ⊎ (result ≡ ARROW2_LENGTH) ⊎ (result ≡ ARROW2_RANGE) }
-    ensures ok { result ≡ ARROW2_OK → out.new ≡
-        map pos (offsets_list 0 (part (lengths_of offsets.now) from (length out.old - 1))) }
-    ensures refused { result ≢ ARROW2_OK → out.new ≡ out.old }
+    ensures { WritesFromOffsetsOr ARROW2_RANGE offsets.now result (length out.old ≡ 0)
+        (length offsets.now < from + length out.old)
+        (out.new ≡ map pos
+        (offsets_list 0 (part (lengths_of offsets.now) from (length out.old - 1))))
+        (out.new ≡ out.old) }
 {
     from_zero(offsets, from, out)
 }
@@ -77,12 +70,8 @@ pub extern "C" fn arrow2_offsets64_check(offsets: &[i64]) -> u32
 /// Writes how far each offset of 64 bits is from the next one: as many lengths as slots.
 #[unsafe(no_mangle)]
 pub extern "C" fn arrow2_offsets64_lengths(offsets: &[i64], out: &mut [usize]) -> u32
-    ensures broken { ¬ AreOffsets offsets.now → result ≡ rule_code (first_broken offsets.now) }
-    ensures length { AreOffsets offsets.now →
-        (result ≡ ARROW2_LENGTH ↔ (length offsets.now ≢ length out.old + 1)) }
-    ensures only { AreOffsets offsets.now → (result ≡ ARROW2_OK) ⊎ (result ≡ ARROW2_LENGTH) }
-    ensures ok { result ≡ ARROW2_OK → out.new ≡ lengths_of offsets.now }
-    ensures refused { result ≢ ARROW2_OK → out.new ≡ out.old }
+    ensures { WritesFromOffsets offsets.now result (length offsets.now ≢ length out.old + 1)
+        (out.new ≡ lengths_of offsets.now) (out.new ≡ out.old) }
 {
     lengths(offsets, out)
 }
@@ -108,15 +97,11 @@ pub extern "C" fn arrow2_offsets64_from_lengths(
 /// 0 and span the same slots.
 #[unsafe(no_mangle)]
 pub extern "C" fn arrow2_offsets64_from_zero(offsets: &[i64], from: usize, out: &mut [i64]) -> u32
-    ensures broken { ¬ AreOffsets offsets.now → result ≡ rule_code (first_broken offsets.now) }
-    ensures length { AreOffsets offsets.now → (result ≡ ARROW2_LENGTH ↔ (length out.old ≡ 0)) }
-    ensures range { AreOffsets offsets.now → (result ≡ ARROW2_RANGE ↔
-        ((result ≢ ARROW2_LENGTH) × (length offsets.now < from + length out.old))) }
-    ensures only { AreOffsets offsets.now →
-        (result ≡ ARROW2_OK) ⊎ (result ≡ ARROW2_LENGTH) ⊎ (result ≡ ARROW2_RANGE) }
-    ensures ok { result ≡ ARROW2_OK → out.new ≡
-        map pos (offsets_list 0 (part (lengths_of offsets.now) from (length out.old - 1))) }
-    ensures refused { result ≢ ARROW2_OK → out.new ≡ out.old }
+    ensures { WritesFromOffsetsOr ARROW2_RANGE offsets.now result (length out.old ≡ 0)
+        (length offsets.now < from + length out.old)
+        (out.new ≡ map pos
+        (offsets_list 0 (part (lengths_of offsets.now) from (length out.old - 1))))
+        (out.new ≡ out.old) }
 {
     from_zero(offsets, from, out)
 }
