@@ -2,3 +2,4 @@ mod OffsetSteps
 mod RunSteps
 mod BoolSteps
 mod PlaceSteps
+mod WriteSteps

@@ -1,5 +1,8 @@
 -- What an export tests of the ranges and slices that it is given.
-use Rattle.std.specs.Prelude.{◌≡◌, ℕ, ◌+◌, ◌*◌, ◌/◌, ◌≤◌, List, length}
+use Rattle.std.specs.Prelude.{◌≡◌, ℕ, ◌+◌, ◌*◌, ◌/◌, ◌≤◌, List, Bool, length}
+use Rattle.arrow2_model.specs.Bits.{bits}
+use Rattle.arrow2_model.specs.Parts.{part}
+use Rattle.arrow2_ffi.specs.declared.ranges.Bits.{Bits}
 
 -- the n bits from bit o on are inside the bytes
 abbrev pub IsInside : List ℕ → ℕ → ℕ → Type 0
@@ -8,3 +11,11 @@ IsInside bytes o n = o + n ≤ 8 * length bytes
 -- there are as many bytes as n bits need
 abbrev pub Holds : List ℕ → ℕ → Type 0
 Holds bytes n = length bytes ≡ (n + 7) / 8
+
+-- the first n bits of these
+abbrev pub first_bits : Bits → ℕ → List Bool
+first_bits b n = part (bits b.0.now) b.1 n
+
+-- there are n
+abbrev pub HasBits : Bits → ℕ → Type 0
+HasBits b n = IsInside b.0.now b.1 n

@@ -1,27 +1,23 @@
 //! Truth tables in place: the first input stands from bit 0 on in bytes that are as many as hold it, and the answers are
 //! written over it. Spare bits become 0, whatever they were.
-ghost use Rattle.std.specs.Prelude.{◌≡◌, ◌≢◌, ◌<◌, ◌↔◌, ◌⊎◌, [], ◌∷◌, take};
+ghost use Rattle.std.specs.Prelude.{◌≡◌, ◌<◌, [], ◌∷◌, take};
 ghost use Rattle.arrow2_model.specs.Bits.{bits};
-ghost use Rattle.arrow2_model.specs.Canonical.{IsCanonical};
 ghost use Rattle.arrow2_model.specs.Parts.{part};
 ghost use Rattle.arrow2_model.specs.Tables.{each};
 ghost use Rattle.arrow2_ffi.specs.Ranges.{IsInside, Holds};
+ghost use Rattle.arrow2_ffi.specs.Writes.{Stores, Writes};
 
 use crate::codes::{ARROW2_LENGTH, ARROW2_OK, ARROW2_RANGE};
-use crate::ranges::{are_inside, hold};
+use crate::ranges::{Bits, are_inside, hold};
 use crate::rows::{assign_four, assign_three, assign_two};
 use arrow2_kernels::lane_assigned::assign_unary;
 
 /// Writes the answers of a table of one input for the first `length` bits in their place.
 #[unsafe(no_mangle)]
 pub extern "C" fn arrow2_unary_assign_table(bytes: &mut [u8], length: usize, table: u16) -> u32
-    ensures range { result ≡ ARROW2_RANGE ↔ ¬ (table < 4) }
-    ensures length { result ≡ ARROW2_LENGTH ↔ ((result ≢ ARROW2_RANGE) × ¬ Holds bytes.old length) }
-    ensures only { (result ≡ ARROW2_OK) ⊎ (result ≡ ARROW2_RANGE) ⊎ (result ≡ ARROW2_LENGTH) }
-    ensures ok { result ≡ ARROW2_OK →
-        take length (bits bytes.new) ≡ each table (take length (bits bytes.old) ∷ []) }
-    ensures canonical { result ≡ ARROW2_OK → IsCanonical bytes.new length }
-    ensures refused { result ≢ ARROW2_OK → bytes.new ≡ bytes.old }
+    ensures { Writes result (table < 4) (Holds bytes.old length)
+        (Stores bytes.new length (each table (take length (bits bytes.old) ∷ [])))
+        (bytes.new ≡ bytes.old) }
 {
     if table >= 4 {
         return ARROW2_RANGE;
@@ -43,22 +39,20 @@ pub extern "C" fn arrow2_binary_assign_table(
     length: usize,
     table: u16,
 ) -> u32
-    ensures range { result ≡ ARROW2_RANGE ↔
-        ¬ ((table < 16) × IsInside second.now second_offset length) }
-    ensures length { result ≡ ARROW2_LENGTH ↔ ((result ≢ ARROW2_RANGE) × ¬ Holds bytes.old length) }
-    ensures only { (result ≡ ARROW2_OK) ⊎ (result ≡ ARROW2_RANGE) ⊎ (result ≡ ARROW2_LENGTH) }
-    ensures ok { result ≡ ARROW2_OK → take length (bits bytes.new) ≡ each table
-        (take length (bits bytes.old) ∷ part (bits second.now) second_offset length ∷ []) }
-    ensures canonical { result ≡ ARROW2_OK → IsCanonical bytes.new length }
-    ensures refused { result ≢ ARROW2_OK → bytes.new ≡ bytes.old }
+    ensures { Writes result ((table < 16) × IsInside second.now second_offset length)
+        (Holds bytes.old length)
+        (Stores bytes.new length (each table
+        (take length (bits bytes.old) ∷ part (bits second.now) second_offset length ∷ [])))
+        (bytes.new ≡ bytes.old) }
 {
-    if table >= 16 || !are_inside(second, second_offset, length) {
+    let second = Bits(second, second_offset);
+    if table >= 16 || !are_inside(second, length) {
         return ARROW2_RANGE;
     }
     if !hold(bytes, length) {
         return ARROW2_LENGTH;
     }
-    assign_two(bytes, length, second, second_offset, table as u8);
+    assign_two(bytes, length, second, table as u8);
     ARROW2_OK
 }
 
@@ -73,34 +67,24 @@ pub extern "C" fn arrow2_ternary_assign_table(
     length: usize,
     table: u16,
 ) -> u32
-    ensures range { result ≡ ARROW2_RANGE ↔ ¬ ((table < 256)
-        × IsInside second.now second_offset length × IsInside third.now third_offset length) }
-    ensures length { result ≡ ARROW2_LENGTH ↔ ((result ≢ ARROW2_RANGE) × ¬ Holds bytes.old length) }
-    ensures only { (result ≡ ARROW2_OK) ⊎ (result ≡ ARROW2_RANGE) ⊎ (result ≡ ARROW2_LENGTH) }
-    ensures ok { result ≡ ARROW2_OK → take length (bits bytes.new) ≡ each table
+    ensures { Writes result
+        ((table < 256) × IsInside second.now second_offset length
+        × IsInside third.now third_offset length)
+        (Holds bytes.old length)
+        (Stores bytes.new length (each table
         (take length (bits bytes.old) ∷ part (bits second.now) second_offset length
-        ∷ part (bits third.now) third_offset length ∷ []) }
-    ensures canonical { result ≡ ARROW2_OK → IsCanonical bytes.new length }
-    ensures refused { result ≢ ARROW2_OK → bytes.new ≡ bytes.old }
+        ∷ part (bits third.now) third_offset length ∷ [])))
+        (bytes.new ≡ bytes.old) }
 {
-    if table >= 256
-        || !are_inside(second, second_offset, length)
-        || !are_inside(third, third_offset, length)
-    {
+    let second = Bits(second, second_offset);
+    let third = Bits(third, third_offset);
+    if table >= 256 || !are_inside(second, length) || !are_inside(third, length) {
         return ARROW2_RANGE;
     }
     if !hold(bytes, length) {
         return ARROW2_LENGTH;
     }
-    assign_three(
-        bytes,
-        length,
-        second,
-        second_offset,
-        third,
-        third_offset,
-        table as u8,
-    );
+    assign_three(bytes, length, second, third, table as u8);
     ARROW2_OK
 }
 
@@ -117,36 +101,25 @@ pub extern "C" fn arrow2_quaternary_assign_table(
     length: usize,
     table: u16,
 ) -> u32
-    ensures range { result ≡ ARROW2_RANGE ↔ ¬ (IsInside second.now second_offset length
-        × IsInside third.now third_offset length × IsInside fourth.now fourth_offset length) }
-    ensures length { result ≡ ARROW2_LENGTH ↔ ((result ≢ ARROW2_RANGE) × ¬ Holds bytes.old length) }
-    ensures only { (result ≡ ARROW2_OK) ⊎ (result ≡ ARROW2_RANGE) ⊎ (result ≡ ARROW2_LENGTH) }
-    ensures ok { result ≡ ARROW2_OK → take length (bits bytes.new) ≡ each table
+    ensures { Writes result
+        (IsInside second.now second_offset length × IsInside third.now third_offset length
+        × IsInside fourth.now fourth_offset length)
+        (Holds bytes.old length)
+        (Stores bytes.new length (each table
         (take length (bits bytes.old) ∷ part (bits second.now) second_offset length
         ∷ part (bits third.now) third_offset length
-        ∷ part (bits fourth.now) fourth_offset length ∷ []) }
-    ensures canonical { result ≡ ARROW2_OK → IsCanonical bytes.new length }
-    ensures refused { result ≢ ARROW2_OK → bytes.new ≡ bytes.old }
+        ∷ part (bits fourth.now) fourth_offset length ∷ [])))
+        (bytes.new ≡ bytes.old) }
 {
-    if !are_inside(second, second_offset, length)
-        || !are_inside(third, third_offset, length)
-        || !are_inside(fourth, fourth_offset, length)
-    {
+    let second = Bits(second, second_offset);
+    let third = Bits(third, third_offset);
+    let fourth = Bits(fourth, fourth_offset);
+    if !are_inside(second, length) || !are_inside(third, length) || !are_inside(fourth, length) {
         return ARROW2_RANGE;
     }
     if !hold(bytes, length) {
         return ARROW2_LENGTH;
     }
-    assign_four(
-        bytes,
-        length,
-        second,
-        second_offset,
-        third,
-        third_offset,
-        fourth,
-        fourth_offset,
-        table,
-    );
+    assign_four(bytes, length, second, third, fourth, table);
     ARROW2_OK
 }

@@ -1,13 +1,13 @@
 //! Booleans, one byte each, as bits and back.
-ghost use Rattle.std.specs.Prelude.{◌≡◌, ◌≢◌, ◌↔◌, ◌⊎◌, take, length};
+ghost use Rattle.std.specs.Prelude.{◌≡◌, length};
 ghost use Rattle.arrow2_model.specs.Bits.{bits};
-ghost use Rattle.arrow2_model.specs.Canonical.{IsCanonical};
 ghost use Rattle.arrow2_model.specs.Parts.{part};
 ghost use Rattle.arrow2_ffi.specs.Ranges.{IsInside, Holds};
+ghost use Rattle.arrow2_ffi.specs.Writes.{Stores, WritesWhere};
 
 use crate::bool_words::BoolWords;
 use crate::codes::{ARROW2_LENGTH, ARROW2_OK, ARROW2_RANGE};
-use crate::ranges::{are_inside, hold};
+use crate::ranges::{Bits, are_inside, hold};
 use arrow2_bits::get_bit_from;
 use arrow2_kernels::assigned::assign_rows;
 
@@ -15,11 +15,8 @@ use arrow2_kernels::assigned::assign_rows;
 /// 0.
 #[unsafe(no_mangle)]
 pub extern "C" fn arrow2_pack(items: &[bool], out: &mut [u8]) -> u32
-    ensures length { result ≡ ARROW2_LENGTH ↔ ¬ Holds out.old (length items.now) }
-    ensures only { (result ≡ ARROW2_OK) ⊎ (result ≡ ARROW2_LENGTH) }
-    ensures ok { result ≡ ARROW2_OK → take (length items.now) (bits out.new) ≡ items.now }
-    ensures canonical { result ≡ ARROW2_OK → IsCanonical out.new (length items.now) }
-    ensures refused { result ≢ ARROW2_OK → out.new ≡ out.old }
+    ensures { WritesWhere ARROW2_LENGTH result (Holds out.old (length items.now))
+        (Stores out.new (length items.now) items.now) (out.new ≡ out.old) }
 {
     if !hold(out, items.len()) {
         return ARROW2_LENGTH;
@@ -31,12 +28,10 @@ pub extern "C" fn arrow2_pack(items: &[bool], out: &mut [u8]) -> u32
 /// Writes as many bits as `out` has items, from bit `offset` on, as booleans.
 #[unsafe(no_mangle)]
 pub extern "C" fn arrow2_unpack(bytes: &[u8], offset: usize, out: &mut [bool]) -> u32
-    ensures range { result ≡ ARROW2_RANGE ↔ ¬ IsInside bytes.now offset (length out.old) }
-    ensures only { (result ≡ ARROW2_OK) ⊎ (result ≡ ARROW2_RANGE) }
-    ensures ok { result ≡ ARROW2_OK → out.new ≡ part (bits bytes.now) offset (length out.old) }
-    ensures refused { result ≢ ARROW2_OK → out.new ≡ out.old }
+    ensures { WritesWhere ARROW2_RANGE result (IsInside bytes.now offset (length out.old))
+        (out.new ≡ part (bits bytes.now) offset (length out.old)) (out.new ≡ out.old) }
 {
-    if !are_inside(bytes, offset, out.len()) {
+    if !are_inside(Bits(bytes, offset), out.len()) {
         return ARROW2_RANGE;
     }
     write_unpacked(bytes, offset, out);
@@ -46,8 +41,7 @@ pub extern "C" fn arrow2_unpack(bytes: &[u8], offset: usize, out: &mut [bool]) -
 /// Writes the booleans as bits, by words. Asks for as many bytes as hold them.
 fn write_packed(items: &[bool], out: &mut [u8])
     requires exact { Holds out.old (length items.now) }
-    ensures items { take (length items.now) (bits out.new) ≡ items.now }
-    ensures canonical { IsCanonical out.new (length items.now) }
+    ensures { Stores out.new (length items.now) items.now }
 {
     assign_rows(
         out,

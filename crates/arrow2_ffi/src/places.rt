@@ -1,12 +1,13 @@
 //! The places of set bits.
-ghost use Rattle.std.specs.Prelude.{◌≡◌, ◌≢◌, ◌<◌, ◌≤◌, ◌↔◌, ◌⊎◌, [], ◌++◌, take, length as length'};
+ghost use Rattle.std.specs.Prelude.{◌≡◌, ◌≤◌, take, length as length'};
 ghost use Rattle.arrow2_model.specs.Bits.{bits};
 ghost use Rattle.arrow2_model.specs.Parts.{part};
 ghost use Rattle.arrow2_ffi.specs.Places.{ones_from};
 ghost use Rattle.arrow2_ffi.specs.Ranges.{IsInside};
+ghost use Rattle.arrow2_ffi.specs.Writes.{GoesOn, WritesWhere};
 
 use crate::codes::{ARROW2_OK, ARROW2_RANGE};
-use crate::ranges::are_inside;
+use crate::ranges::{Bits, are_inside};
 use arrow2_walks::places::{Place, first_place};
 
 /// Writes the places of set bits among the `length` bits from bit `offset` on, from place `at` of them on, rising, as
@@ -20,20 +21,14 @@ pub extern "C" fn arrow2_set_places(
     places: &mut [usize],
     count: &mut usize,
 ) -> u32
-    ensures range { result ≡ ARROW2_RANGE ↔
-        ¬ (IsInside bytes.now offset length × (at.old ≤ length)) }
-    ensures only { (result ≡ ARROW2_OK) ⊎ (result ≡ ARROW2_RANGE) }
-    ensures ok { result ≡ ARROW2_OK →
-        take count.new places.new ++ ones_from (part (bits bytes.now) offset length) at.new
-        ≡ ones_from (part (bits bytes.now) offset length) at.old }
-    ensures most { result ≡ ARROW2_OK → count.new ≤ length' places.old }
-    ensures last { result ≡ ARROW2_OK → count.new < length' places.old →
-        ones_from (part (bits bytes.now) offset length) at.new ≡ [] }
-    ensures goes_on { result ≡ ARROW2_OK → at.new ≤ length }
-    ensures refused { result ≢ ARROW2_OK → places.new ≡ places.old }
-    ensures kept { result ≢ ARROW2_OK → (at.new ≡ at.old) × (count.new ≡ count.old) }
+    ensures { WritesWhere ARROW2_RANGE result (IsInside bytes.now offset length × (at.old ≤ length))
+        (GoesOn (take count.new places.new)
+        (ones_from (part (bits bytes.now) offset length) at.old)
+        (ones_from (part (bits bytes.now) offset length) at.new)
+        count.new (length' places.old) at.new length)
+        ((places.new ≡ places.old) × (at.new ≡ at.old) × (count.new ≡ count.old)) }
 {
-    if !are_inside(bytes, offset, length) || *at > length {
+    if !are_inside(Bits(bytes, offset), length) || *at > length {
         return ARROW2_RANGE;
     }
     let (written, next) = write_places(bytes, offset, length, *at, places);
@@ -53,13 +48,10 @@ fn write_places(
 ) -> (usize, usize)
     requires inside { IsInside bytes.now offset end }
     requires within { at ≤ end }
-    ensures places { take result.0 places.new
-        ++ ones_from (part (bits bytes.now) offset end) result.1
-        ≡ ones_from (part (bits bytes.now) offset end) at }
-    ensures most { result.0 ≤ length' places.old }
-    ensures last { result.0 < length' places.old →
-        ones_from (part (bits bytes.now) offset end) result.1 ≡ [] }
-    ensures goes_on { result.1 ≤ end }
+    ensures { GoesOn (take result.0 places.new)
+        (ones_from (part (bits bytes.now) offset end) at)
+        (ones_from (part (bits bytes.now) offset end) result.1)
+        result.0 (length' places.old) result.1 end }
 {
     let mut place = Place {
         index: at,

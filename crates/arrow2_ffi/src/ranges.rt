@@ -1,18 +1,23 @@
-//! Whether ranges are inside, and whether slices are as long as they need to be.
-ghost use Rattle.std.specs.Prelude.{◌≡◌, ◌+◌, ◌*◌, ◌/◌, ◌<◌, ◌≤◌, ◌↔◌, length as length', IsTrue};
+//! Bits that are named by their bytes and the first of them, and whether these and slices are as a call needs.
+ghost use Rattle.std.specs.Prelude.{◌≡◌, ◌↔◌, IsTrue};
+ghost use Rattle.arrow2_ffi.specs.Ranges.{HasBits, Holds};
 
 use arrow2_bits::bytes_for;
 
-/// Whether the `length` bits from bit `offset` on are inside the bytes.
-pub(crate) fn are_inside(bytes: &[u8], offset: usize, length: usize) -> bool
-    ensures { IsTrue result ↔ (offset + length ≤ 8 * length' bytes.now) }
+/// The bits of bytes, from a bit on: the bytes, and the number of that bit.
+#[derive(Clone, Copy)]
+pub(crate) struct Bits<'a>(pub(crate) &'a [u8], pub(crate) usize);
+
+/// Whether there are `length` bits.
+pub(crate) fn are_inside(bits: Bits<'_>, length: usize) -> bool
+    ensures { IsTrue result ↔ HasBits bits.entry length }
 {
-    offset as u128 + length as u128 <= 8 * bytes.len() as u128
+    bits.1 as u128 + length as u128 <= 8 * bits.0.len() as u128
 }
 
 /// Whether the bytes are as many as hold so many bits.
 pub(crate) fn hold(bytes: &[u8], length: usize) -> bool
-    ensures { IsTrue result ↔ (length' bytes.now ≡ (length + 7) / 8) }
+    ensures { IsTrue result ↔ Holds bytes.now length }
 {
     bytes.len() == bytes_for(length)
 }

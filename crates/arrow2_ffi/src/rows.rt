@@ -1,27 +1,28 @@
 //! Bits copied, and the answers of truth tables for them, in memory of the caller.
-ghost use Rattle.std.specs.Prelude.{◌≡◌, ◌+◌, ◌*◌, ◌/◌, ◌<◌, ◌≤◌, ℕ, List, Bool, [], ◌∷◌, take, length as length'};
+ghost use Rattle.std.specs.Prelude.{◌≡◌, ℕ, List, Bool, [], ◌∷◌, take, length as length'};
 ghost use Rattle.arrow2_model.specs.Bits.{bits};
 ghost use Rattle.arrow2_model.specs.Canonical.{IsCanonical};
 ghost use Rattle.arrow2_model.specs.Kernels.{words_at};
-ghost use Rattle.arrow2_model.specs.Parts.{part};
 ghost use Rattle.arrow2_model.specs.Rows.{ActsBesideRows};
 ghost use Rattle.arrow2_model.specs.Tables.{each};
-ghost use Rattle.arrow2_ffi.specs.Ranges.{IsInside, Holds};
+ghost use Rattle.arrow2_ffi.specs.Ranges.{HasBits, first_bits, Holds};
+ghost use Rattle.arrow2_ffi.specs.Writes.{Stores};
 
+use crate::ranges::Bits;
 use arrow2_bits::chunk_iterator::BitChunks;
 use arrow2_kernels::assigned::assign_rows;
 use arrow2_kernels::lane_assigned::assign_binary;
 use arrow2_kernels::rows::{Beside, OneList, WordRows};
 use arrow2_kernels::tables::{binary_answers, quaternary_answers, ternary_answers};
 
-/// The `length` bits from bit `offset` on, word by word. Asks that they are inside.
-fn words(bytes: &[u8], offset: usize, length: usize) -> OneList<BitChunks<'_, u64>>
-    requires inside { IsInside bytes.now offset length }
-    ensures items { result.chunks.items ≡ part (bits bytes.entry.now) offset length }
+/// The first `length` bits, word by word. Asks that there are so many.
+fn words(bits: Bits<'_>, length: usize) -> OneList<BitChunks<'_, u64>>
+    requires inside { HasBits bits length }
+    ensures items { result.chunks.items ≡ first_bits bits.entry length }
     ensures count { length' result.chunks.items ≡ length }
 {
     OneList {
-        chunks: BitChunks::new(bytes, offset, length),
+        chunks: BitChunks::new(bits.0, bits.1, length),
     }
 }
 
@@ -46,65 +47,52 @@ fn assign_answers<S: WordRows<u64>, F: Fn(u64, S::Row) -> u64>(
     assign_rows(bytes, length, rows, op);
 }
 
-/// Writes the `length` bits from bit `offset` on over `out`, from bit 0 on. Asks that they are inside, and for as many
-/// bytes as hold so many bits.
-pub(crate) fn copy(bytes: &[u8], offset: usize, length: usize, out: &mut [u8])
-    requires inside { IsInside bytes.now offset length }
+/// Writes the first `length` bits over `out`, from bit 0 on. Asks that there are so many, and for as many bytes as hold
+/// them.
+pub(crate) fn copy(bits: Bits<'_>, length: usize, out: &mut [u8])
+    requires inside { HasBits bits length }
     requires exact { Holds out.old length }
-    ensures canonical { IsCanonical out.new length }
-    ensures items { take length (bits out.new) ≡ part (bits bytes.now) offset length }
+    ensures { Stores out.new length (first_bits bits.entry length) }
 {
-    assign_rows(
-        out,
-        length,
-        words(bytes, offset, length),
-        |_own: u64, word| word,
-    );
+    assign_rows(out, length, words(bits, length), |_own: u64, word| word);
 }
 
-/// Writes the answers of table `t` for the first `length` bits, and for as many of `other` from bit `offset` on, in
-/// place. Asks for as many bytes as hold so many bits, and that the others are inside.
-pub(crate) fn assign_two(bytes: &mut [u8], length: usize, other: &[u8], offset: usize, t: u8)
+/// Writes the answers of table `t` for the first `length` bits, and for as many of the second input, in place. Asks for
+/// as many bytes as hold so many bits, and that the second input has as many.
+pub(crate) fn assign_two(bytes: &mut [u8], length: usize, second: Bits<'_>, t: u8)
     requires exact { Holds bytes.old length }
-    requires inside { IsInside other.now offset length }
-    ensures canonical { IsCanonical bytes.new length }
-    ensures items { take length (bits bytes.new)
-        ≡ each t (take length (bits bytes.old) ∷ part (bits other.now) offset length ∷ []) }
+    requires second { HasBits second length }
+    ensures { Stores bytes.new length
+        (each t (take length (bits bytes.old) ∷ first_bits second.entry length ∷ [])) }
 {
-    if offset % 8 == 0 {
-        assign_binary(bytes, &other[offset / 8..], length, t);
+    if second.1 % 8 == 0 {
+        assign_binary(bytes, &second.0[second.1 / 8..], length, t);
     } else {
-        let rows = words(other, offset, length);
         assign_answers(
             bytes,
             length,
-            rows,
+            words(second, length),
             |x: u64, y| binary_answers(u16::from(t), x, y),
         );
     }
 }
 
-/// The same of a table of three inputs: the bits of `bytes`, and as many of `second` and of `third` from their offsets
-/// on.
+/// The same of a table of three inputs.
 pub(crate) fn assign_three(
     bytes: &mut [u8],
     length: usize,
-    second: &[u8],
-    second_offset: usize,
-    third: &[u8],
-    third_offset: usize,
+    second: Bits<'_>,
+    third: Bits<'_>,
     t: u8,
 )
     requires exact { Holds bytes.old length }
-    requires second { IsInside second.now second_offset length }
-    requires third { IsInside third.now third_offset length }
-    ensures canonical { IsCanonical bytes.new length }
-    ensures items { take length (bits bytes.new)
-        ≡ each t (take length (bits bytes.old) ∷ part (bits second.now) second_offset length
-        ∷ part (bits third.now) third_offset length ∷ []) }
+    requires second { HasBits second length }
+    requires third { HasBits third length }
+    ensures { Stores bytes.new length (each t (take length (bits bytes.old)
+        ∷ first_bits second.entry length ∷ first_bits third.entry length ∷ [])) }
 {
-    let left = words(second, second_offset, length);
-    let right = words(third, third_offset, length);
+    let left = words(second, length);
+    let right = words(third, length);
     assign_answers(
         bytes,
         length,
@@ -117,27 +105,22 @@ pub(crate) fn assign_three(
 pub(crate) fn assign_four(
     bytes: &mut [u8],
     length: usize,
-    second: &[u8],
-    second_offset: usize,
-    third: &[u8],
-    third_offset: usize,
-    fourth: &[u8],
-    fourth_offset: usize,
+    second: Bits<'_>,
+    third: Bits<'_>,
+    fourth: Bits<'_>,
     t: u16,
 )
     requires exact { Holds bytes.old length }
-    requires second { IsInside second.now second_offset length }
-    requires third { IsInside third.now third_offset length }
-    requires fourth { IsInside fourth.now fourth_offset length }
-    ensures canonical { IsCanonical bytes.new length }
-    ensures items { take length (bits bytes.new)
-        ≡ each t (take length (bits bytes.old) ∷ part (bits second.now) second_offset length
-        ∷ part (bits third.now) third_offset length
-        ∷ part (bits fourth.now) fourth_offset length ∷ []) }
+    requires second { HasBits second length }
+    requires third { HasBits third length }
+    requires fourth { HasBits fourth length }
+    ensures { Stores bytes.new length (each t (take length (bits bytes.old)
+        ∷ first_bits second.entry length ∷ first_bits third.entry length
+        ∷ first_bits fourth.entry length ∷ [])) }
 {
-    let left = words(second, second_offset, length);
-    let middle = words(third, third_offset, length);
-    let right = words(fourth, fourth_offset, length);
+    let left = words(second, length);
+    let middle = words(third, length);
+    let right = words(fourth, length);
     let two = Beside {
         left,
         right: middle,

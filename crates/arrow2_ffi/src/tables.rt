@@ -2,15 +2,15 @@
 //! inputs `a1` to `a4`.
 //!
 //! The answers are written over `out` from bit 0 on. It has as many bytes as hold them, and its spare bits become 0.
-ghost use Rattle.std.specs.Prelude.{◌≡◌, ◌≢◌, ◌<◌, ◌↔◌, ◌⊎◌, [], ◌∷◌, take};
+ghost use Rattle.std.specs.Prelude.{◌≡◌, ◌<◌, [], ◌∷◌};
 ghost use Rattle.arrow2_model.specs.Bits.{bits};
-ghost use Rattle.arrow2_model.specs.Canonical.{IsCanonical};
 ghost use Rattle.arrow2_model.specs.Parts.{part};
 ghost use Rattle.arrow2_model.specs.Tables.{each};
 ghost use Rattle.arrow2_ffi.specs.Ranges.{IsInside, Holds};
+ghost use Rattle.arrow2_ffi.specs.Writes.{Stores, Writes};
 
 use crate::codes::{ARROW2_LENGTH, ARROW2_OK, ARROW2_RANGE};
-use crate::ranges::{are_inside, hold};
+use crate::ranges::{Bits, are_inside, hold};
 use crate::rows::{assign_four, assign_three, assign_two, copy};
 use arrow2_kernels::lane_assigned::assign_unary;
 
@@ -23,21 +23,18 @@ pub extern "C" fn arrow2_unary_table(
     table: u16,
     out: &mut [u8],
 ) -> u32
-    ensures range { result ≡ ARROW2_RANGE ↔ ¬ ((table < 4) × IsInside bytes.now offset length) }
-    ensures length { result ≡ ARROW2_LENGTH ↔ ((result ≢ ARROW2_RANGE) × ¬ Holds out.old length) }
-    ensures only { (result ≡ ARROW2_OK) ⊎ (result ≡ ARROW2_RANGE) ⊎ (result ≡ ARROW2_LENGTH) }
-    ensures ok { result ≡ ARROW2_OK →
-        take length (bits out.new) ≡ each table (part (bits bytes.now) offset length ∷ []) }
-    ensures canonical { result ≡ ARROW2_OK → IsCanonical out.new length }
-    ensures refused { result ≢ ARROW2_OK → out.new ≡ out.old }
+    ensures { Writes result ((table < 4) × IsInside bytes.now offset length) (Holds out.old length)
+        (Stores out.new length (each table (part (bits bytes.now) offset length ∷ [])))
+        (out.new ≡ out.old) }
 {
-    if table >= 4 || !are_inside(bytes, offset, length) {
+    let first = Bits(bytes, offset);
+    if table >= 4 || !are_inside(first, length) {
         return ARROW2_RANGE;
     }
     if !hold(out, length) {
         return ARROW2_LENGTH;
     }
-    copy(bytes, offset, length, out);
+    copy(first, length, out);
     assign_unary(out, length, table as u8);
     ARROW2_OK
 }
@@ -53,27 +50,25 @@ pub extern "C" fn arrow2_binary_table(
     table: u16,
     out: &mut [u8],
 ) -> u32
-    ensures range { result ≡ ARROW2_RANGE ↔ ¬ ((table < 16)
-        × IsInside first.now first_offset length × IsInside second.now second_offset length) }
-    ensures length { result ≡ ARROW2_LENGTH ↔ ((result ≢ ARROW2_RANGE) × ¬ Holds out.old length) }
-    ensures only { (result ≡ ARROW2_OK) ⊎ (result ≡ ARROW2_RANGE) ⊎ (result ≡ ARROW2_LENGTH) }
-    ensures ok { result ≡ ARROW2_OK → take length (bits out.new) ≡ each table
+    ensures { Writes result
+        ((table < 16) × IsInside first.now first_offset length
+        × IsInside second.now second_offset length)
+        (Holds out.old length)
+        (Stores out.new length (each table
         (part (bits first.now) first_offset length
-        ∷ part (bits second.now) second_offset length ∷ []) }
-    ensures canonical { result ≡ ARROW2_OK → IsCanonical out.new length }
-    ensures refused { result ≢ ARROW2_OK → out.new ≡ out.old }
+        ∷ part (bits second.now) second_offset length ∷ [])))
+        (out.new ≡ out.old) }
 {
-    if table >= 16
-        || !are_inside(first, first_offset, length)
-        || !are_inside(second, second_offset, length)
-    {
+    let first = Bits(first, first_offset);
+    let second = Bits(second, second_offset);
+    if table >= 16 || !are_inside(first, length) || !are_inside(second, length) {
         return ARROW2_RANGE;
     }
     if !hold(out, length) {
         return ARROW2_LENGTH;
     }
-    copy(first, first_offset, length, out);
-    assign_two(out, length, second, second_offset, table as u8);
+    copy(first, length, out);
+    assign_two(out, length, second, table as u8);
     ARROW2_OK
 }
 
@@ -90,37 +85,30 @@ pub extern "C" fn arrow2_ternary_table(
     table: u16,
     out: &mut [u8],
 ) -> u32
-    ensures range { result ≡ ARROW2_RANGE ↔ ¬ ((table < 256)
-        × IsInside first.now first_offset length × IsInside second.now second_offset length
-        × IsInside third.now third_offset length) }
-    ensures length { result ≡ ARROW2_LENGTH ↔ ((result ≢ ARROW2_RANGE) × ¬ Holds out.old length) }
-    ensures only { (result ≡ ARROW2_OK) ⊎ (result ≡ ARROW2_RANGE) ⊎ (result ≡ ARROW2_LENGTH) }
-    ensures ok { result ≡ ARROW2_OK → take length (bits out.new) ≡ each table
+    ensures { Writes result
+        ((table < 256) × IsInside first.now first_offset length
+        × IsInside second.now second_offset length × IsInside third.now third_offset length)
+        (Holds out.old length)
+        (Stores out.new length (each table
         (part (bits first.now) first_offset length ∷ part (bits second.now) second_offset length
-        ∷ part (bits third.now) third_offset length ∷ []) }
-    ensures canonical { result ≡ ARROW2_OK → IsCanonical out.new length }
-    ensures refused { result ≢ ARROW2_OK → out.new ≡ out.old }
+        ∷ part (bits third.now) third_offset length ∷ [])))
+        (out.new ≡ out.old) }
 {
+    let first = Bits(first, first_offset);
+    let second = Bits(second, second_offset);
+    let third = Bits(third, third_offset);
     if table >= 256
-        || !are_inside(first, first_offset, length)
-        || !are_inside(second, second_offset, length)
-        || !are_inside(third, third_offset, length)
+        || !are_inside(first, length)
+        || !are_inside(second, length)
+        || !are_inside(third, length)
     {
         return ARROW2_RANGE;
     }
     if !hold(out, length) {
         return ARROW2_LENGTH;
     }
-    copy(first, first_offset, length, out);
-    assign_three(
-        out,
-        length,
-        second,
-        second_offset,
-        third,
-        third_offset,
-        table as u8,
-    );
+    copy(first, length, out);
+    assign_three(out, length, second, third, table as u8);
     ARROW2_OK
 }
 
@@ -139,39 +127,31 @@ pub extern "C" fn arrow2_quaternary_table(
     table: u16,
     out: &mut [u8],
 ) -> u32
-    ensures range { result ≡ ARROW2_RANGE ↔ ¬ (
-        IsInside first.now first_offset length × IsInside second.now second_offset length
-        × IsInside third.now third_offset length × IsInside fourth.now fourth_offset length) }
-    ensures length { result ≡ ARROW2_LENGTH ↔ ((result ≢ ARROW2_RANGE) × ¬ Holds out.old length) }
-    ensures only { (result ≡ ARROW2_OK) ⊎ (result ≡ ARROW2_RANGE) ⊎ (result ≡ ARROW2_LENGTH) }
-    ensures ok { result ≡ ARROW2_OK → take length (bits out.new) ≡ each table
+    ensures { Writes result
+        (IsInside first.now first_offset length × IsInside second.now second_offset length
+        × IsInside third.now third_offset length × IsInside fourth.now fourth_offset length)
+        (Holds out.old length)
+        (Stores out.new length (each table
         (part (bits first.now) first_offset length ∷ part (bits second.now) second_offset length
         ∷ part (bits third.now) third_offset length
-        ∷ part (bits fourth.now) fourth_offset length ∷ []) }
-    ensures canonical { result ≡ ARROW2_OK → IsCanonical out.new length }
-    ensures refused { result ≢ ARROW2_OK → out.new ≡ out.old }
+        ∷ part (bits fourth.now) fourth_offset length ∷ [])))
+        (out.new ≡ out.old) }
 {
-    if !are_inside(first, first_offset, length)
-        || !are_inside(second, second_offset, length)
-        || !are_inside(third, third_offset, length)
-        || !are_inside(fourth, fourth_offset, length)
+    let first = Bits(first, first_offset);
+    let second = Bits(second, second_offset);
+    let third = Bits(third, third_offset);
+    let fourth = Bits(fourth, fourth_offset);
+    if !are_inside(first, length)
+        || !are_inside(second, length)
+        || !are_inside(third, length)
+        || !are_inside(fourth, length)
     {
         return ARROW2_RANGE;
     }
     if !hold(out, length) {
         return ARROW2_LENGTH;
     }
-    copy(first, first_offset, length, out);
-    assign_four(
-        out,
-        length,
-        second,
-        second_offset,
-        third,
-        third_offset,
-        fourth,
-        fourth_offset,
-        table,
-    );
+    copy(first, length, out);
+    assign_four(out, length, second, third, fourth, table);
     ARROW2_OK
 }

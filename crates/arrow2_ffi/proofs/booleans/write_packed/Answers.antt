@@ -4,8 +4,12 @@ use Rattle.arrow2_model.proofs.Joined.{joined_from}
 use Rattle.arrow2_model.proofs.Kernels.{bit-word}
 use Rattle.arrow2_ffi.proofs.booleans.write_packed.Goals as goal
 
-pub returns-clause-items : goal.returns-clause-items
-returns-clause-items c =
+pub returns : goal.returns
+returns c =
     let items : List Bool = c.args.items.now in
-    c.assign_rows.ensures.items (λ xs. slice_index xs 1) (λ x row r fits words post. search rules)
-    ∙ sym (joined_from 64 (word 64 items) (length items) items (omega arith) refl (λ k h. sym (bit-word 64 items k (omega arith))))
+    record {
+      items =
+          c.assign_rows.ensures.items (λ xs. slice_index xs 1) (λ x row r fits words post. search rules)
+          ∙ sym (joined_from 64 (word 64 items) (length items) items (omega arith) refl (λ k h. sym (bit-word 64 items k (omega arith))));
+      canonical = c.assign_rows.ensures.canonical;
+    }

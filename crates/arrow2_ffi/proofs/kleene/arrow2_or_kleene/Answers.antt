@@ -1,6 +1,7 @@
 use Rattle.arrow2_array.specs.Kleene.{kleene_or}
 use Rattle.arrow2_array.proofs.Tables.{or_spelled}
+use Rattle.arrow2_ffi.proofs.WriteSteps.{told}
 use Rattle.arrow2_ffi.proofs.kleene.arrow2_or_kleene.Goals as goal
 
-pub returns-clause-ok : goal.returns-clause-ok
-returns-clause-ok c = c.by_tables.ensures.ok kleene_or or_spelled
+pub returns : goal.returns
+returns c = told c.by_tables.result (λ stores. stores kleene_or or_spelled) c.by_tables.ensures

@@ -1,35 +1,51 @@
-use Rattle.std.proofs.Common.{◌≡◌, ◌∙◌, ℕ, ◌+◌, ◌*◌, ◌≤◌, List, [], ◌∷◌, Bool, ap, sym, length}
+use Rattle.std.proofs.Common.{◌≡◌, ◌∙◌, ℕ, List, [], ◌∷◌, Bool, ap, sym, length, take}
 use Rattle.std.specs.Prelude.{Option, Some}
 use Rattle.std.specs.Option.{option_map_or}
+use Rattle.arrow2_model.specs.Bits.{bits}
 use Rattle.arrow2_model.specs.Storage.{BitmapStorage, items_of}
 use Rattle.arrow2_model.specs.Tables.{each}
 use Rattle.arrow2_model.proofs.Walks.{length-part_bits}
+use Rattle.arrow2_walks.specs.Zipped.{zipped}
+use Rattle.arrow2_array.specs.Kleene.{by_items, Spells}
 use Rattle.arrow2_array.proofs.Tables.{by_arrays}
+use Rattle.arrow2_ffi.specs.declared.ranges.Bits.{Bits}
+use Rattle.arrow2_ffi.specs.Ranges.{HasBits, first_bits}
+use Rattle.arrow2_ffi.proofs.WriteSteps.{wrote}
 use Rattle.arrow2_ffi.proofs.kleene.by_tables.Goals as goal
 
-stored : List ℕ → ℕ → ℕ → BitmapStorage
+abbrev stored : List ℕ → ℕ → ℕ → BitmapStorage
 stored bytes offset n = record { bytes = bytes; offset = offset; len = n }
 
-pub returns-clause-ok : goal.returns-clause-ok
-unfolding stored
-returns-clause-ok c f spelled is =
+-- what the two tables answer are the items that f makes
+tabled : (t known n : ℕ) (left left_known right right_known : Bits) (values validity : List ℕ) → HasBits left n → HasBits left_known n → HasBits right n → HasBits right_known n
+    → take n (bits values) ≡ each t (first_bits left n ∷ first_bits right n ∷ [])
+    → take n (bits validity) ≡ each known (first_bits left n ∷ first_bits left_known n ∷ first_bits right n ∷ first_bits right_known n ∷ [])
+    → (f : Option Bool → Option Bool → Option Bool) → Spells t known f
+    → zipped (take n (bits values)) (take n (bits validity)) ≡ by_items f (zipped (first_bits left n) (first_bits left_known n)) (zipped (first_bits right n) (first_bits right_known n))
+tabled t known n left left_known right right_known values validity a b d e is is_known f spelled =
+    let size : (bits : Bits) → HasBits bits n → length (first_bits bits n) ≡ n = λ bits all. length-part_bits bits.0.now bits.1 n all in
+    by_arrays t known f (stored left.0.now left.1 n) (stored right.0.now right.1 n) (stored values 0 n) (Some (stored left_known.0.now left_known.1 n)) (Some (stored right_known.0.now right_known.1 n)) (Some (stored validity 0 n)) spelled
+    (size left a ∙ sym (size right d))
+    (λ v same. ap (λ (o : Option BitmapStorage). length (option_map_or items_of o [])) (sym same) ∙ (size left_known b ∙ sym (size left a)))
+    (λ v same. ap (λ (o : Option BitmapStorage). length (option_map_or items_of o [])) (sym same) ∙ (size right_known e ∙ sym (size right d)))
+    is is_known
+
+pub returns : goal.returns
+returns c =
     let n : ℕ = c.args.length in
-    let left : BitmapStorage = stored c.args.left.now c.args.left_offset n in
-    let right : BitmapStorage = stored c.args.right.now c.args.right_offset n in
-    let known_left : BitmapStorage = stored c.args.left_validity.now c.args.left_validity_offset n in
-    let known_right : BitmapStorage = stored c.args.right_validity.now c.args.right_validity_offset n in
-    let values : BitmapStorage = stored c.assign_two.new.bytes 0 n in
-    let validity : BitmapStorage = stored c.assign_four.new.bytes 0 n in
-    let a : c.args.left_offset + n ≤ 8 * length c.args.left.now = c.are_inside.ensures.0 c.if-not-are_inside.false in
-    let b : c.args.left_validity_offset + n ≤ 8 * length c.args.left_validity.now = c.are_inside-else-not-are_inside.ensures.0 c.if-not-are_inside-2.false in
-    let d : c.args.right_offset + n ≤ 8 * length c.args.right.now = c.are_inside-else-not-are_inside-2.ensures.0 c.if-not-are_inside-3.false in
-    let e : c.args.right_validity_offset + n ≤ 8 * length c.args.right_validity.now = c.are_inside-else-not-are_inside-3.ensures.0 c.if-not-are_inside-4.false in
-    let la : length (items_of left) ≡ n = length-part_bits c.args.left.now c.args.left_offset n a in
-    let lb : length (items_of known_left) ≡ n = length-part_bits c.args.left_validity.now c.args.left_validity_offset n b in
-    let ld : length (items_of right) ≡ n = length-part_bits c.args.right.now c.args.right_offset n d in
-    let le : length (items_of known_right) ≡ n = length-part_bits c.args.right_validity.now c.args.right_validity_offset n e in
-    by_arrays c.args.t c.args.known f left right values (Some known_left) (Some known_right) (Some validity) spelled (la ∙ sym ld)
-    (λ v same. ap (λ (o : Option BitmapStorage). length (option_map_or items_of o [])) (sym same) ∙ (lb ∙ sym la))
-    (λ v same. ap (λ (o : Option BitmapStorage). length (option_map_or items_of o [])) (sym same) ∙ (le ∙ sym ld))
-    (c.assign_two.ensures.items ∙ ap (λ (items : List Bool). each c.args.t (items ∷ items_of right ∷ [])) c.copy.ensures.items)
-    (c.assign_four.ensures.items ∙ ap (λ (items : List Bool). each c.args.known (items ∷ items_of known_left ∷ items_of right ∷ items_of known_right ∷ [])) c.copy-2.ensures.items)
+    let left : Bits = c.args.left.values in
+    let right : Bits = c.args.right.values in
+    let left_known : Bits = c.args.left.validity in
+    let right_known : Bits = c.args.right.validity in
+    let a : HasBits left n = c.are_inside.ensures.0 c.if-not-are_inside.false in
+    let b : HasBits left_known n = c.are_inside-else-not-are_inside.ensures.0 c.if-not-are_inside-2.false in
+    let d : HasBits right n = c.are_inside-else-not-are_inside-2.ensures.0 c.if-not-are_inside-3.false in
+    let e : HasBits right_known n = c.are_inside-else-not-are_inside-3.ensures.0 c.if-not-are_inside-4.false in
+    wrote (a, b, d, e) (c.hold.ensures.0 c.if-not-hold.false, c.hold-else-not-hold.ensures.0 c.if-not-hold-2.false) (λ f spelled. record {
+      items =
+          tabled c.args.t c.args.known n left left_known right right_known c.assign_two.new.bytes c.assign_four.new.bytes a b d e
+          (c.assign_two.ensures.items ∙ ap (λ (items : List Bool). each c.args.t (items ∷ first_bits right n ∷ [])) c.copy.ensures.items)
+          (c.assign_four.ensures.items ∙ ap (λ (items : List Bool). each c.args.known (items ∷ first_bits left_known n ∷ first_bits right n ∷ first_bits right_known n ∷ [])) c.copy-2.ensures.items) f spelled;
+      values_canonical = c.assign_two.ensures.canonical;
+      validity_canonical = c.assign_four.ensures.canonical;
+    })

@@ -4,13 +4,15 @@ use Rattle.arrow2_model.specs.Bits.{bits}
 use Rattle.arrow2_ffi.proofs.PlaceSteps.{none_at_end, place_last, place_more, read_next}
 use Rattle.arrow2_ffi.proofs.places.write_places.Goals as goal
 
-pub returns-then-place-end-clause-places : goal.returns-then-place-end-clause-places
-returns-then-place-end-clause-places c =
-    place_last c.args.bytes.now c.args.offset c.args.end c.requires.inside c.args.at c.loop-k.place.index c.first_place-place.result.index (take c.loop-k.k c.loop-k.places)
-    c.loop-k.invariant.done c.first_place-place.ensures.first (omega (arith, c.if-place-end.true))
-
-pub returns-then-place-end-clause-last : goal.returns-then-place-end-clause-last
-returns-then-place-end-clause-last c = λ _. none_at_end c.args.bytes.now c.args.offset c.args.end c.requires.inside
+pub returns-then-place-end : goal.returns-then-place-end
+returns-then-place-end c = record {
+  items =
+      place_last c.args.bytes.now c.args.offset c.args.end c.requires.inside c.args.at c.loop-k.place.index c.first_place-place.result.index (take c.loop-k.k c.loop-k.places)
+      c.loop-k.invariant.done c.first_place-place.ensures.first (omega (arith, c.if-place-end.true));
+  most = omega (arith, c.loop-k-test.true, c.loop-k.invariant.many);
+  last = λ _. none_at_end c.args.bytes.now c.args.offset c.args.end c.requires.inside;
+  goes_on = omega arith;
+}
 
 pub loop-k-preserved : goal.loop-k-preserved
 loop-k-preserved c =

@@ -4,9 +4,13 @@ use Rattle.arrow2_model.proofs.Joined.{joined_from}
 use Rattle.arrow2_model.proofs.Kernels.{bit-word}
 use Rattle.arrow2_ffi.proofs.rows.copy.Goals as goal
 
-pub returns-clause-items : goal.returns-clause-items
-returns-clause-items c =
+pub returns : goal.returns
+returns c =
     let items : List Bool = c.words.result.chunks.items in
-    c.assign_rows.ensures.items (λ xs. slice_index xs 1) (λ x row r fits words post. search rules)
-    ∙ (sym (joined_from 64 (word 64 items) c.args.length items (omega arith) c.words.ensures.count (λ k h. sym (bit-word 64 items k (omega arith))))
-    ∙ c.words.ensures.items)
+    record {
+      items =
+          c.assign_rows.ensures.items (λ xs. slice_index xs 1) (λ x row r fits words post. search rules)
+          ∙ (sym (joined_from 64 (word 64 items) c.args.length items (omega arith) c.words.ensures.count (λ k h. sym (bit-word 64 items k (omega arith))))
+          ∙ c.words.ensures.items);
+      canonical = c.assign_rows.ensures.canonical;
+    }

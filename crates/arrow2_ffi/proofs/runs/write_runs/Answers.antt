@@ -5,11 +5,13 @@ use Rattle.arrow2_walks.proofs.TakenRuns.{none_at_end}
 use Rattle.arrow2_ffi.proofs.RunSteps.{run_last, run_more}
 use Rattle.arrow2_ffi.proofs.runs.write_runs.Goals as goal
 
-pub returns-then-start-end-clause-runs : goal.returns-then-start-end-clause-runs
-returns-then-start-end-clause-runs c = run_last c.args.bytes.now c.args.offset c.args.end c.args.at c.loop-k.place.index c.first_place-place.result.index (zip (take c.loop-k.k c.loop-k.starts) (take c.loop-k.k c.loop-k.lengths)) c.requires.inside c.loop-k.invariant.done c.first_place-place.ensures.first (omega (arith, c.if-start-end.true))
-
-pub returns-then-start-end-clause-last : goal.returns-then-start-end-clause-last
-returns-then-start-end-clause-last c = λ _. none_at_end c.args.bytes.now c.args.offset c.args.end c.args.end c.requires.inside refl
+pub returns-then-start-end : goal.returns-then-start-end
+returns-then-start-end c = record {
+  items = run_last c.args.bytes.now c.args.offset c.args.end c.args.at c.loop-k.place.index c.first_place-place.result.index (zip (take c.loop-k.k c.loop-k.starts) (take c.loop-k.k c.loop-k.lengths)) c.requires.inside c.loop-k.invariant.done c.first_place-place.ensures.first (omega (arith, c.if-start-end.true));
+  most = omega (arith, c.loop-k-test.true, c.loop-k.invariant.starts);
+  last = λ _. none_at_end c.args.bytes.now c.args.offset c.args.end c.args.end c.requires.inside refl;
+  goes_on = omega arith;
+}
 
 pub loop-k-preserved : goal.loop-k-preserved
 loop-k-preserved c =

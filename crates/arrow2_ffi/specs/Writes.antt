@@ -1,0 +1,57 @@
+-- What the code of an export says, and what it wrote.
+use Rattle.std.specs.Prelude.{◌≡◌, ◌≢◌, ℕ, ◌<◌, ◌≤◌, ◌↔◌, ◌⊎◌, List, [], ◌++◌, Bool, Option, take}
+use Rattle.arrow2_model.specs.Bits.{bits}
+use Rattle.arrow2_model.specs.Canonical.{IsCanonical}
+use Rattle.arrow2_walks.specs.Zipped.{zipped}
+use Rattle.arrow2_ffi.specs.declared.codes.TheConstants.{ARROW2_OK, ARROW2_RANGE, ARROW2_LENGTH}
+
+-- the code of a call that writes where all is inside and slices have as many items as it needs
+pub record Writes (code : ℕ) (inside holds done unchanged : Type 0) : Type 0 where
+  -- it is that of ranges exactly where something is not inside
+  pub range : (code ≡ ARROW2_RANGE) ↔ ¬ inside
+  -- it is that of lengths exactly where all is inside and a slice has not as many items
+  pub length : (code ≡ ARROW2_LENGTH) ↔ ((code ≢ ARROW2_RANGE) × ¬ holds)
+  -- else it says that the call did what it says
+  pub only : (code ≡ ARROW2_OK) ⊎ (code ≡ ARROW2_RANGE) ⊎ (code ≡ ARROW2_LENGTH)
+  -- and then it did
+  pub ok : code ≡ ARROW2_OK → done
+  -- with any other code nothing was written
+  pub refused : code ≢ ARROW2_OK → unchanged
+
+-- the code of a call that writes where one thing fits, and has one code for where it does not
+pub record WritesWhere (other code : ℕ) (fits done unchanged : Type 0) : Type 0 where
+  -- it is that one exactly where the thing does not fit
+  pub refusal : (code ≡ other) ↔ ¬ fits
+  -- else it says that the call did what it says
+  pub only : (code ≡ ARROW2_OK) ⊎ (code ≡ other)
+  -- and then it did
+  pub ok : code ≡ ARROW2_OK → done
+  -- with any other code nothing was written
+  pub refused : code ≢ ARROW2_OK → unchanged
+
+-- the first n bits of bytes are those of a list, there is no spare byte, and no spare bit is set
+pub record Stores (bytes : List ℕ) (n : ℕ) (list : List Bool) : Type 0 where
+  -- the bits
+  pub items : take n (bits bytes) ≡ list
+  -- the bytes and the bits to spare
+  pub canonical : IsCanonical bytes n
+
+-- the same of a list of items, of which some are null, and of bytes for their values and for their validity
+pub record StoresItems (values validity : List ℕ) (n : ℕ) (list : List (Option Bool)) : Type 0 where
+  -- the values beside their validity
+  pub items : zipped (take n (bits values)) (take n (bits validity)) ≡ list
+  -- the bytes and the bits to spare of the values
+  pub values_canonical : IsCanonical values n
+  -- and of the validity
+  pub validity_canonical : IsCanonical validity n
+
+-- some of the items that were left were written, as many as there was room for, and others are left now
+pub record GoesOn {X : Type 0} (written left_before left_now : List X) (count room at end : ℕ) : Type 0 where
+  -- those that were written come before those that are left
+  pub items : written ++ left_now ≡ left_before
+  -- there was room for them
+  pub most : count ≤ room
+  -- where room is left no item is
+  pub last : count < room → left_now ≡ []
+  -- the place where to go on is inside
+  pub goes_on : at ≤ end
