@@ -1,5 +1,6 @@
-mod OffsetSteps
-mod RunSteps
 mod BoolSteps
+mod OffsetCodes
+mod OffsetSteps
 mod PlaceSteps
+mod RunSteps
 mod WriteSteps

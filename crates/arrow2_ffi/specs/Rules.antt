@@ -1,11 +1,22 @@
 -- The code for a list that is not offsets.
-use Rattle.std.specs.Prelude.{ℕ}
+use Rattle.std.specs.Prelude.{◌≡◌, ◌≢◌, ℕ, ℤ, List}
+use Rattle.arrow2_offset.specs.Offsets.{AreOffsets}
+use Rattle.arrow2_offset.specs.Refused.{first_broken}
 use Rattle.arrow2_offset.specs.declared.check.BrokenRule.{BrokenRule}
 use Rattle.arrow2_offset.specs.declared.check.BrokenRule.TheVariants.{Empty, Negative, Falling}
-use Rattle.arrow2_ffi.specs.declared.codes.TheConstants.{ARROW2_SPEC_EMPTY, ARROW2_SPEC_NEGATIVE, ARROW2_SPEC_FALLING}
+use Rattle.arrow2_ffi.specs.declared.codes.TheConstants.{ARROW2_OK, ARROW2_SPEC_EMPTY, ARROW2_SPEC_NEGATIVE, ARROW2_SPEC_FALLING}
 
 -- that of the rule which it breaks first
 abbrev pub rule_code : BrokenRule → ℕ
 rule_code Empty = ARROW2_SPEC_EMPTY
 rule_code Negative = ARROW2_SPEC_NEGATIVE
 rule_code Falling = ARROW2_SPEC_FALLING
+
+-- the code is that for such a list
+pub record TellsBroken (code : ℕ) (xs : List ℤ) : Type 0 where
+  -- the list is not offsets
+  pub broken : ¬ AreOffsets xs
+  -- the code is that of the rule which it breaks first
+  pub rule : code ≡ rule_code (first_broken xs)
+  -- so it is not that of a call that did what it says
+  pub other : code ≢ ARROW2_OK

@@ -1,9 +1,8 @@
 //! Offsets of either width in memory of the caller: the loops.
-ghost use Rattle.std.specs.Prelude.{◌≡◌, ◌+◌, ◌-◌, ◌<◌, ◌≤◌, ℕ, pos, map, length, IfNone, IfSome, IsNone};
+ghost use Rattle.std.specs.Prelude.{◌≡◌, ◌+◌, ◌-◌, ◌<◌, ◌≤◌, ℕ, pos, map, length, IfNone, IfSome};
 ghost use Rattle.arrow2_offset.specs.Offsets.{AreOffsets, AreOffsetsUpTo, last_of, last_offset, lengths_of, offsets_list};
 ghost use Rattle.arrow2_model.specs.Parts.{part};
-ghost use Rattle.arrow2_offset.specs.Refused.{first_broken};
-ghost use Rattle.arrow2_ffi.specs.Rules.{rule_code};
+ghost use Rattle.arrow2_ffi.specs.Rules.{TellsBroken};
 
 use crate::codes::{ARROW2_SPEC_EMPTY, ARROW2_SPEC_FALLING, ARROW2_SPEC_NEGATIVE};
 use arrow2_index::offset::Offset;
@@ -12,9 +11,7 @@ use arrow2_offset::{BrokenRule, broken_rule};
 /// The code of the first rule that the numbers break, or `None` where they are offsets.
 pub(crate) fn refusal<O: Offset>(offsets: &[O]) -> Option<u32>
     ensures none { IfNone result (AreOffsetsUpTo O.MAX (map O.value offsets.now)) }
-    ensures accepted { AreOffsets (map O.value offsets.now) → IsNone result }
-    ensures broken { IfSome result (λ code.
-        code ≡ rule_code (first_broken (map O.value offsets.now))) }
+    ensures some { IfSome result (λ code. TellsBroken code (map O.value offsets.now)) }
 {
     match broken_rule(offsets) {
         None => None,

@@ -32,20 +32,14 @@ tabled t known n left left_known right right_known values validity a b d e is is
 
 pub returns : goal.returns
 returns c =
-    let n : ℕ = c.args.length in
-    let left : Bits = c.args.left.values in
-    let right : Bits = c.args.right.values in
-    let left_known : Bits = c.args.left.validity in
-    let right_known : Bits = c.args.right.validity in
-    let a : HasBits left n = c.are_inside.ensures.0 c.if-not-are_inside.false in
-    let b : HasBits left_known n = c.are_inside-else-not-are_inside.ensures.0 c.if-not-are_inside-2.false in
-    let d : HasBits right n = c.are_inside-else-not-are_inside-2.ensures.0 c.if-not-are_inside-3.false in
-    let e : HasBits right_known n = c.are_inside-else-not-are_inside-3.ensures.0 c.if-not-are_inside-4.false in
+    let a = c.are_inside.ensures.0 c.if-not-are_inside.false in
+    let b = c.are_inside-else-not-are_inside.ensures.0 c.if-not-are_inside-2.false in
+    let d = c.are_inside-else-not-are_inside-2.ensures.0 c.if-not-are_inside-3.false in
+    let e = c.are_inside-else-not-are_inside-3.ensures.0 c.if-not-are_inside-4.false in
+    let values = rw c.copy.ensures.items at c.assign_two.ensures in
+    let validity = rw c.copy-2.ensures.items at c.assign_four.ensures in
     wrote (a, b, d, e) (c.hold.ensures.0 c.if-not-hold.false, c.hold-else-not-hold.ensures.0 c.if-not-hold-2.false) (λ f spelled. record {
-      items =
-          tabled c.args.t c.args.known n left left_known right right_known c.assign_two.new.bytes c.assign_four.new.bytes a b d e
-          (c.assign_two.ensures.items ∙ ap (λ (items : List Bool). each c.args.t (items ∷ first_bits right n ∷ [])) c.copy.ensures.items)
-          (c.assign_four.ensures.items ∙ ap (λ (items : List Bool). each c.args.known (items ∷ first_bits left_known n ∷ first_bits right n ∷ first_bits right_known n ∷ [])) c.copy-2.ensures.items) f spelled;
-      values_canonical = c.assign_two.ensures.canonical;
-      validity_canonical = c.assign_four.ensures.canonical;
+      items = tabled c.args.t c.args.known c.args.length c.args.left.values c.args.left.validity c.args.right.values c.args.right.validity c.assign_two.new.bytes c.assign_four.new.bytes a b d e values.items validity.items f spelled;
+      values_canonical = values.canonical;
+      validity_canonical = validity.canonical;
     })
