@@ -7,7 +7,7 @@ ghost use Rattle.arrow2_ffi.specs.Ranges.{IsInside, Holds};
 ghost use Rattle.arrow2_ffi.specs.Writes.{Stores, Writes, WritesWhere};
 
 use crate::codes::{ARROW2_LENGTH, ARROW2_OK, ARROW2_RANGE};
-use crate::ranges::{Bits, are_inside, hold};
+use crate::ranges::{Bits, are_both_inside, are_inside, hold};
 use crate::rows::copy;
 
 /// Writes to `zeros` how many of the `length` bits from bit `offset` on are not set.
@@ -45,9 +45,7 @@ pub extern "C" fn arrow2_equal_bits(
         (part (bits left.now) left_offset length ≡ part (bits right.now) right_offset length))
         (equal.new ≡ equal.old) }
 {
-    if !are_inside(Bits(left, left_offset), length)
-        || !are_inside(Bits(right, right_offset), length)
-    {
+    if !are_both_inside(Bits(left, left_offset), Bits(right, right_offset), length) {
         return ARROW2_RANGE;
     }
     *equal = arrow2_bits::same_bits(left, left_offset, right, right_offset, length);

@@ -2,7 +2,7 @@
 ghost use Rattle.std.specs.Prelude.{◌≡◌, length};
 ghost use Rattle.arrow2_model.specs.Bits.{bits};
 ghost use Rattle.arrow2_model.specs.Parts.{part};
-ghost use Rattle.arrow2_ffi.specs.Ranges.{IsInside, Holds};
+ghost use Rattle.arrow2_ffi.specs.Ranges.{IsInside, HasBits, first_bits, Holds};
 ghost use Rattle.arrow2_ffi.specs.Writes.{Stores, WritesWhere};
 
 use crate::bool_words::BoolWords;
@@ -31,10 +31,11 @@ pub extern "C" fn arrow2_unpack(bytes: &[u8], offset: usize, out: &mut [bool]) -
     ensures { WritesWhere ARROW2_RANGE result (IsInside bytes.now offset (length out.old))
         (out.new ≡ part (bits bytes.now) offset (length out.old)) (out.new ≡ out.old) }
 {
-    if !are_inside(Bits(bytes, offset), out.len()) {
+    let items = Bits(bytes, offset);
+    if !are_inside(items, out.len()) {
         return ARROW2_RANGE;
     }
-    write_unpacked(bytes, offset, out);
+    write_unpacked(items, out);
     ARROW2_OK
 }
 
@@ -52,10 +53,11 @@ fn write_packed(items: &[bool], out: &mut [u8])
 }
 
 /// Writes as many bits as `out` has items as booleans. Asks that they are inside.
-fn write_unpacked(bytes: &[u8], offset: usize, out: &mut [bool])
-    requires inside { IsInside bytes.now offset (length out.old) }
-    ensures { out.new ≡ part (bits bytes.now) offset (length out.old) }
+fn write_unpacked(bits: Bits<'_>, out: &mut [bool])
+    requires inside { HasBits bits (length out.old) }
+    ensures { out.new ≡ first_bits bits.entry (length out.old) }
 {
+    let Bits(bytes, offset) = bits;
     for i in 0..out.len() {
         out[i] = get_bit_from(bytes, offset, i);
     }

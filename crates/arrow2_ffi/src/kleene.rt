@@ -11,7 +11,7 @@ ghost use Rattle.arrow2_ffi.specs.Ranges.{IsInside, HasBits, first_bits, Holds};
 ghost use Rattle.arrow2_ffi.specs.Writes.{StoresItems, Writes};
 
 use crate::codes::{ARROW2_LENGTH, ARROW2_OK, ARROW2_RANGE};
-use crate::ranges::{Bits, are_inside, hold};
+use crate::ranges::{Bits, are_both_inside, hold};
 use crate::rows::{assign_four, assign_two, copy};
 use arrow2_array::kleene::{AND_KNOWN, AND_VALUES, OR_KNOWN, OR_VALUES};
 
@@ -122,10 +122,8 @@ fn by_tables(
         (zipped (first_bits right.entry.values length) (first_bits right.entry.validity length))))
         ((values.new ≡ values.old) × (validity.new ≡ validity.old)) }
 {
-    if !are_inside(left.values, length)
-        || !are_inside(left.validity, length)
-        || !are_inside(right.values, length)
-        || !are_inside(right.validity, length)
+    if !are_both_inside(left.values, left.validity, length)
+        || !are_both_inside(right.values, right.validity, length)
     {
         return ARROW2_RANGE;
     }

@@ -3,7 +3,7 @@ ghost use Rattle.std.specs.Prelude.{◌≡◌, ◌≤◌, take, length as length
 ghost use Rattle.arrow2_model.specs.Bits.{bits};
 ghost use Rattle.arrow2_model.specs.Parts.{part};
 ghost use Rattle.arrow2_ffi.specs.Places.{ones_from};
-ghost use Rattle.arrow2_ffi.specs.Ranges.{IsInside};
+ghost use Rattle.arrow2_ffi.specs.Ranges.{IsInside, HasBits, first_bits};
 ghost use Rattle.arrow2_ffi.specs.Writes.{GoesOn, WritesWhere};
 
 use crate::codes::{ARROW2_OK, ARROW2_RANGE};
@@ -28,10 +28,11 @@ pub extern "C" fn arrow2_set_places(
         count.new (length' places.old) at.new length)
         ((places.new ≡ places.old) × (at.new ≡ at.old) × (count.new ≡ count.old)) }
 {
-    if !are_inside(Bits(bytes, offset), length) || *at > length {
+    let items = Bits(bytes, offset);
+    if !are_inside(items, length) || *at > length {
         return ARROW2_RANGE;
     }
-    let (written, next) = write_places(bytes, offset, length, *at, places);
+    let (written, next) = write_places(items, length, *at, places);
     *count = written;
     *at = next;
     ARROW2_OK
@@ -39,20 +40,15 @@ pub extern "C" fn arrow2_set_places(
 
 /// Writes the places of set bits from place `at` on, as many as fit, and answers how many these are and where to go on.
 /// Asks that the bits are inside, and the place too.
-fn write_places(
-    bytes: &[u8],
-    offset: usize,
-    end: usize,
-    at: usize,
-    places: &mut [usize],
-) -> (usize, usize)
-    requires inside { IsInside bytes.now offset end }
+fn write_places(bits: Bits<'_>, end: usize, at: usize, places: &mut [usize]) -> (usize, usize)
+    requires inside { HasBits bits end }
     requires within { at ≤ end }
     ensures { GoesOn (take result.0 places.new)
-        (ones_from (part (bits bytes.now) offset end) at)
-        (ones_from (part (bits bytes.now) offset end) result.1)
+        (ones_from (first_bits bits.entry end) at)
+        (ones_from (first_bits bits.entry end) result.1)
         result.0 (length' places.old) result.1 end }
 {
+    let Bits(bytes, offset) = bits;
     let mut place = Place {
         index: at,
         word: 0,

@@ -15,6 +15,13 @@ pub(crate) fn are_inside(bits: Bits<'_>, length: usize) -> bool
     bits.1 as u128 + length as u128 <= 8 * bits.0.len() as u128
 }
 
+/// Whether there are `length` bits of both.
+pub(crate) fn are_both_inside(first: Bits<'_>, second: Bits<'_>, length: usize) -> bool
+    ensures { IsTrue result ↔ (HasBits first.entry length × HasBits second.entry length) }
+{
+    are_inside(first, length) && are_inside(second, length)
+}
+
 /// Whether the bytes are as many as hold so many bits.
 pub(crate) fn hold(bytes: &[u8], length: usize) -> bool
     ensures { IsTrue result ↔ Holds bytes.now length }

@@ -4,7 +4,7 @@ ghost use Rattle.std.specs.List.{zip};
 ghost use Rattle.arrow2_model.specs.Bits.{bits};
 ghost use Rattle.arrow2_model.specs.Parts.{part};
 ghost use Rattle.arrow2_walks.specs.Runs.{runs_from};
-ghost use Rattle.arrow2_ffi.specs.Ranges.{IsInside};
+ghost use Rattle.arrow2_ffi.specs.Ranges.{IsInside, HasBits, first_bits};
 ghost use Rattle.arrow2_ffi.specs.Writes.{GoesOn, Writes};
 
 use crate::codes::{ARROW2_LENGTH, ARROW2_OK, ARROW2_RANGE};
@@ -32,13 +32,14 @@ pub extern "C" fn arrow2_runs(
         ((starts.new ≡ starts.old) × (lengths.new ≡ lengths.old)
         × (at.new ≡ at.old) × (count.new ≡ count.old)) }
 {
-    if !are_inside(Bits(bytes, offset), length) || *at > length {
+    let items = Bits(bytes, offset);
+    if !are_inside(items, length) || *at > length {
         return ARROW2_RANGE;
     }
     if starts.len() != lengths.len() {
         return ARROW2_LENGTH;
     }
-    let (written, next) = write_runs(bytes, offset, length, *at, starts, lengths);
+    let (written, next) = write_runs(items, length, *at, starts, lengths);
     *count = written;
     *at = next;
     ARROW2_OK
@@ -47,21 +48,21 @@ pub extern "C" fn arrow2_runs(
 /// Writes the runs from place `at` on, as many as fit, and answers how many these are and where to go on. Asks that the
 /// bits are inside, the place too, and for as many starts as lengths.
 fn write_runs(
-    bytes: &[u8],
-    offset: usize,
+    bits: Bits<'_>,
     end: usize,
     at: usize,
     starts: &mut [usize],
     lengths: &mut [usize],
 ) -> (usize, usize)
-    requires inside { IsInside bytes.now offset end }
+    requires inside { HasBits bits end }
     requires within { at ≤ end }
     requires alike { length' starts.old ≡ length' lengths.old }
     ensures { GoesOn (zip (take result.0 starts.new) (take result.0 lengths.new))
-        (runs_from (part (bits bytes.now) offset end) at)
-        (runs_from (part (bits bytes.now) offset end) result.1)
+        (runs_from (first_bits bits.entry end) at)
+        (runs_from (first_bits bits.entry end) result.1)
         result.0 (length' starts.old) result.1 end }
 {
+    let Bits(bytes, offset) = bits;
     let mut place = Place {
         index: at,
         word: 0,

@@ -10,7 +10,7 @@ ghost use Rattle.arrow2_ffi.specs.Ranges.{IsInside, Holds};
 ghost use Rattle.arrow2_ffi.specs.Writes.{Stores, Writes};
 
 use crate::codes::{ARROW2_LENGTH, ARROW2_OK, ARROW2_RANGE};
-use crate::ranges::{Bits, are_inside, hold};
+use crate::ranges::{Bits, are_both_inside, are_inside, hold};
 use crate::rows::{assign_four, assign_three, assign_two, copy};
 use arrow2_kernels::lane_assigned::assign_unary;
 
@@ -61,7 +61,7 @@ pub extern "C" fn arrow2_binary_table(
 {
     let first = Bits(first, first_offset);
     let second = Bits(second, second_offset);
-    if table >= 16 || !are_inside(first, length) || !are_inside(second, length) {
+    if table >= 16 || !are_both_inside(first, second, length) {
         return ARROW2_RANGE;
     }
     if !hold(out, length) {
@@ -97,11 +97,7 @@ pub extern "C" fn arrow2_ternary_table(
     let first = Bits(first, first_offset);
     let second = Bits(second, second_offset);
     let third = Bits(third, third_offset);
-    if table >= 256
-        || !are_inside(first, length)
-        || !are_inside(second, length)
-        || !are_inside(third, length)
-    {
+    if table >= 256 || !are_inside(first, length) || !are_both_inside(second, third, length) {
         return ARROW2_RANGE;
     }
     if !hold(out, length) {
@@ -141,11 +137,7 @@ pub extern "C" fn arrow2_quaternary_table(
     let second = Bits(second, second_offset);
     let third = Bits(third, third_offset);
     let fourth = Bits(fourth, fourth_offset);
-    if !are_inside(first, length)
-        || !are_inside(second, length)
-        || !are_inside(third, length)
-        || !are_inside(fourth, length)
-    {
+    if !are_both_inside(first, second, length) || !are_both_inside(third, fourth, length) {
         return ARROW2_RANGE;
     }
     if !hold(out, length) {

@@ -15,12 +15,12 @@ loop-i-preserved c =
     let l = length-set out i x in
     record {
       exact = omega (arith, l, c.loop-i.invariant.exact);
-      done = one_more out (λ k. get_or (bits c.args.bytes.now) (c.args.offset + k) false) false i x (omega (arith, c.loop-i-test.true, c.loop-i.invariant.exact)) c.get_bit_from.ensures c.loop-i.invariant.done;
+      done = one_more out (λ k. get_or (bits c.args.bits.0.now) (c.args.bits.1 + k) false) false i x (omega (arith, c.loop-i-test.true, c.loop-i.invariant.exact)) c.get_bit_from.ensures c.loop-i.invariant.done;
     }
 
 pub returns : goal.returns
 returns c =
     let n : ℕ = length c.args.out.now in
-    let l = length-part_bits c.args.bytes.now c.args.offset n c.requires.inside in
-    ext_get_or false c.loop-i.out (part (bits c.args.bytes.now) c.args.offset n) (c.loop-i.invariant.exact ∙ sym l) (
-    λ k h. c.loop-i.invariant.done k (omega (arith, h, c.loop-i.invariant.exact, c.loop-i-test.false)) ∙ sym (get_or-part (bits c.args.bytes.now) c.args.offset n k false (omega (arith, h, c.loop-i.invariant.exact))))
+    let l = length-part_bits c.args.bits.0.now c.args.bits.1 n c.requires.inside in
+    ext_get_or false c.loop-i.out (part (bits c.args.bits.0.now) c.args.bits.1 n) (c.loop-i.invariant.exact ∙ sym l) (
+    λ k h. c.loop-i.invariant.done k (omega (arith, h, c.loop-i.invariant.exact, c.loop-i-test.false)) ∙ sym (get_or-part (bits c.args.bits.0.now) c.args.bits.1 n k false (omega (arith, h, c.loop-i.invariant.exact))))

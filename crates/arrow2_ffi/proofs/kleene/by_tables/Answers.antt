@@ -32,14 +32,12 @@ tabled t known n left left_known right right_known values validity a b d e is is
 
 pub returns : goal.returns
 returns c =
-    let a = c.are_inside.ensures.0 c.if-not-are_inside.false in
-    let b = c.are_inside-else-not-are_inside.ensures.0 c.if-not-are_inside-2.false in
-    let d = c.are_inside-else-not-are_inside-2.ensures.0 c.if-not-are_inside-3.false in
-    let e = c.are_inside-else-not-are_inside-3.ensures.0 c.if-not-are_inside-4.false in
+    let left = c.are_both_inside.ensures.0 c.if-not-are_both_inside.false in
+    let right = c.are_both_inside-else-not-are_both_inside.ensures.0 c.if-not-are_both_inside-2.false in
     let values = rw c.copy.ensures.items at c.assign_two.ensures in
     let validity = rw c.copy-2.ensures.items at c.assign_four.ensures in
-    wrote (a, b, d, e) (c.hold.ensures.0 c.if-not-hold.false, c.hold-else-not-hold.ensures.0 c.if-not-hold-2.false) (λ f spelled. record {
-      items = tabled c.args.t c.args.known c.args.length c.args.left.values c.args.left.validity c.args.right.values c.args.right.validity c.assign_two.new.bytes c.assign_four.new.bytes a b d e values.items validity.items f spelled;
+    wrote (left.0, left.1, right.0, right.1) (c.hold.ensures.0 c.if-not-hold.false, c.hold-else-not-hold.ensures.0 c.if-not-hold-2.false) (λ f spelled. record {
+      items = tabled c.args.t c.args.known c.args.length c.args.left.values c.args.left.validity c.args.right.values c.args.right.validity c.assign_two.new.bytes c.assign_four.new.bytes left.0 left.1 right.0 right.1 values.items validity.items f spelled;
       values_canonical = values.canonical;
       validity_canonical = validity.canonical;
     })
