@@ -28,7 +28,7 @@ pub fn unary_assign<T: BitChunk, F: Fn(T) -> T>(bitmap: &mut MutableBitmap, op: 
     ensures capacity { bitmap.new.capacity ≡ bitmap.old.capacity }
 {
     let rows = NoList { left: bitmap.len() };
-    bitmap.assign_rows(rows, |own: T, _none: ()| op(own));
+    bitmap.bits.assign_rows(rows, |own: T, _none: ()| op(own));
 }
 
 /// Writes what `op` answers to each word of `T` and the word of `rhs` at its place. In the last words false stands
@@ -48,10 +48,10 @@ pub fn binary_assign<T: BitChunk, F: Fn(T, T) -> T>(lhs: &mut MutableBitmap, rhs
     let (bytes, offset, length) = rhs.as_slice();
     if offset == 0 {
         let chunks = BitChunksExact::<T>::new(bytes, length);
-        lhs.assign_rows(OneList { chunks }, op);
+        lhs.bits.assign_rows(OneList { chunks }, op);
     } else {
         let chunks = BitChunks::<T>::new(bytes, offset, length);
-        lhs.assign_rows(OneList { chunks }, op);
+        lhs.bits.assign_rows(OneList { chunks }, op);
     }
 }
 
@@ -63,7 +63,7 @@ pub fn unary_assign_by_table(bitmap: &mut MutableBitmap, t: u8)
     ensures items { bitmap.new.items ≡ each t (bitmap.old.items ∷ []) }
     ensures capacity { bitmap.new.capacity ≡ bitmap.old.capacity }
 {
-    bitmap.answer(t);
+    bitmap.bits.answer(t);
 }
 
 /// Makes each item the answer of table `t` for it and the item of `rhs`: bit `a1 + 2 * a2` of `t`. Goes by 32 bytes at a time
@@ -79,7 +79,7 @@ pub fn binary_assign_by_table<T: BitChunk>(lhs: &mut MutableBitmap, rhs: &Bitmap
 {
     let (bytes, offset, _length) = rhs.as_slice();
     if offset == 0 {
-        lhs.answer_beside(bytes, t);
+        lhs.bits.answer_beside(bytes, t);
     } else {
         binary_assign(lhs, rhs, |x: T, y: T| binary_answers(u16::from(t), x, y));
     }
@@ -189,7 +189,7 @@ fn and_assign(lhs: &mut MutableBitmap, rhs: &Bitmap)
     ensures capacity { lhs.new.capacity ≡ lhs.old.capacity }
 {
     if are_all(rhs, false) {
-        lhs.fill(false);
+        lhs.bits.fill(false);
     } else if !are_all(rhs, true) {
         binary_assign_by_table::<u64>(lhs, rhs, 0b1000);
     }
@@ -202,7 +202,7 @@ fn or_assign(lhs: &mut MutableBitmap, rhs: &Bitmap)
     ensures capacity { lhs.new.capacity ≡ lhs.old.capacity }
 {
     if are_all(rhs, true) {
-        lhs.fill(true);
+        lhs.bits.fill(true);
     } else if !are_all(rhs, false) {
         binary_assign_by_table::<u64>(lhs, rhs, 0b1110);
     }

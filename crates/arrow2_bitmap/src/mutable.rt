@@ -40,7 +40,7 @@ use std::marker::Model;
 /// In arrow2 spare bytes and spare bits of a vector that was handed in stay.
 #[derive(Drop)]
 pub struct MutableBitmap {
-    bits: PackedBits,
+    pub(crate) bits: PackedBits,
 }
 
 impl Model for MutableBitmap {
@@ -379,57 +379,6 @@ impl MutableBitmap {
         ensures len { length result.now ≡ (length self.now.items + 7) / 8 }
     {
         self.bits.as_slice()
-    }
-
-    /// Writes what `op` answers to each word of the items, and to the row of words beside it, in place of that word.
-    /// Takes no memory. Asks for rows of as many items.
-    pub(crate) fn assign_rows<T: BitChunk, S: WordRows<T>, F: Fn(T, S::Row) -> T>(
-        &mut self,
-        rows: S,
-        op: F,
-    )
-        requires callable { F.IsAlwaysCallable op }
-        requires alike { S.alike rows }
-        requires length { S.length rows ≡ length self.old.items }
-        ensures kernel { (f : List ℕ → ℕ) (lists : List (List Bool)) →
-            IsOwnRowFunction T.BitChunk.WIDTH S.words T.BitChunk.number (F.post op) f →
-            ((j : ℕ) → S.row_at rows j ≡ words_at T.BitChunk.WIDTH lists j) →
-            self.new.items ≡ kernel T.BitChunk.WIDTH f (self.old.items ∷ lists) }
-        ensures table { (t : ℕ) (lists : List (List Bool)) →
-            ActsBesideRows T.BitChunk.WIDTH S.words T.BitChunk.number (F.post op) t →
-            ((j : ℕ) → S.row_at rows j ≡ words_at T.BitChunk.WIDTH lists j) →
-            self.new.items ≡ each t (self.old.items ∷ lists) }
-        ensures len { length self.new.items ≡ length self.old.items }
-        ensures capacity { self.new.capacity ≡ self.old.capacity }
-    {
-        self.bits.assign_rows(rows, op);
-    }
-
-    /// Makes each item the answer of table `t` for it and the bit of `other` at its place, 32 bytes at a time. Takes no
-    /// memory. Asks for as many bits.
-    pub(crate) fn answer_beside(&mut self, other: &[u8], t: u8)
-        requires inside { length self.old.items ≤ 8 * length other.now }
-        ensures items { self.new.items ≡ each t (self.old.items
-            ∷ take (length self.old.items) (bits other.now) ∷ []) }
-        ensures capacity { self.new.capacity ≡ self.old.capacity }
-    {
-        self.bits.answer_beside(other, t);
-    }
-
-    /// Makes each item the answer of table `t` for it, 32 bytes at a time. Takes no memory.
-    pub(crate) fn answer(&mut self, t: u8)
-        ensures items { self.new.items ≡ each t (self.old.items ∷ []) }
-        ensures capacity { self.new.capacity ≡ self.old.capacity }
-    {
-        self.bits.answer(t);
-    }
-
-    /// Makes each item `value`. Takes no memory.
-    pub(crate) fn fill(&mut self, value: bool)
-        ensures items { self.new.items ≡ replicate (length self.old.items) value }
-        ensures capacity { self.new.capacity ≡ self.old.capacity }
-    {
-        self.bits.fill(value);
     }
 
     /// Its bytes, and how many items they hold.

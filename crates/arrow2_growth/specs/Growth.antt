@@ -1,5 +1,5 @@
 -- What growth by bits says.
-use Rattle.std.specs.Prelude.{◌≡◌, ◌+◌, ◌≤◌, ◌^◌, ◌↔◌, ◌⊎◌, List, ◌++◌, Bool, length, Result, OnOk, OnErr, IsOk, IfErr, IsErrOf}
+use Rattle.std.specs.Prelude.{◌≡◌, ◌+◌, ◌<◌, ◌≤◌, ◌^◌, ◌↔◌, ◌⊎◌, List, ◌++◌, Bool, length, Result, OnOk, OnErr, IsOk, IfErr, IsErrOf}
 use Rattle.arrow2_model.specs.Storage.{GrowingBitmap}
 use Rattle.arrow2_types.specs.declared.refusal.Refusal.{Refusal}
 use Rattle.arrow2_types.specs.declared.refusal.Refusal.TheVariants.{Overflow, OutOfMemory}
@@ -10,7 +10,9 @@ pub record Appends {T E : Type 0} (told : Refusal → E) (r : Result T E) (old n
   pub ok : OnOk r (new.items ≡ old.items ++ more)
   -- a refusal leaves the items
   pub err : OnErr r (new.items ≡ old.items)
-  -- it overflows exactly where there would be more items than a usize counts
+  -- a usize counts the items that were there
+  pub fits : length old.items < 2 ^ 64
+  -- it overflows exactly where there would be more items than that
   pub overflow : IsErrOf r (told Overflow) ↔ (2 ^ 64 ≤ length old.items + length more)
   -- there is no other error but want of memory
   pub only : IfErr r (λ e. (e ≡ told Overflow) ⊎ (e ≡ told OutOfMemory))

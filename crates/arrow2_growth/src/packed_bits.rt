@@ -132,6 +132,7 @@ impl PackedBits {
     pub fn reserve(&mut self, additional: usize) -> Result<(), Refusal>
         ensures items { self.new.items ≡ self.old.items }
         ensures ok { OnOk result (length self.old.items + additional ≤ self.new.capacity) }
+        ensures fits { length self.old.items < 2 ^ 64 }
         ensures overflow { IsErrOf result refusal.Overflow ↔
             (2 ^ 64 ≤ length self.old.items + additional) }
         ensures room { length self.old.items + additional ≤ self.old.capacity → IsOk result }

@@ -72,8 +72,6 @@ impl Slot {
     {
         match &mut self.contents {
             Contents::Growing(bitmap) => {
-                // The length is read for what its type keeps: there are no more items than `usize::MAX`.
-                let _ = bitmap.len();
                 bitmap.push(bit)?;
                 Ok(())
             }

@@ -7,7 +7,7 @@ use Rattle.arrow2_script.specs.BitmapCommands.{bitmap_named}
 use Rattle.arrow2_script.specs.OffsetCommands.{offset_named}
 use Rattle.arrow2_script.specs.ValueCommands.{value_named}
 use Rattle.arrow2_script.specs.StorageCommands.{storage_named}
-use Rattle.arrow2_script.specs.KernelCommands.{kernel_named}
+use Rattle.arrow2_script.specs.KernelCommands.{kernel_named, operator_named, table_named}
 use Rattle.arrow2_script.specs.GrowthCommands.{growth_named}
 use Rattle.arrow2_script.specs.ArrayCommands.{array_named, array_words, ArrayFits}
 use Rattle.arrow2_script.specs.Commands.{named, command_of}
@@ -37,7 +37,7 @@ array_says name words command =
 
 -- the words of a command on boolean arrays say it
 pub array_of-words : (command : ArrayCommand) → ArrayFits command → command_of (array_words command) ≡ Some (Kinds.Array command)
-unfolding command_of named bitmap_named offset_named value_named storage_named kernel_named growth_named array_named
+unfolding command_of named bitmap_named offset_named value_named storage_named kernel_named operator_named table_named growth_named array_named
 array_of-words (New to values validity) fits = rw (slot_of-decimal to fits.0, slot_of-decimal values fits.1, optional_slot_of-word validity fits.2) refl
 array_of-words (Items slot) fits = rw (slot_of-decimal slot fits) refl
 array_of-words (Nulls slot) fits = rw (slot_of-decimal slot fits) refl

@@ -7,7 +7,7 @@ use Rattle.arrow2_script.specs.BitmapCommands.{bitmap_named}
 use Rattle.arrow2_script.specs.OffsetCommands.{offset_named}
 use Rattle.arrow2_script.specs.ValueCommands.{value_named}
 use Rattle.arrow2_script.specs.StorageCommands.{storage_named}
-use Rattle.arrow2_script.specs.KernelCommands.{kernel_named, kernel_words, KernelFits}
+use Rattle.arrow2_script.specs.KernelCommands.{kernel_named, operator_named, table_named, kernel_words, KernelFits}
 use Rattle.arrow2_script.specs.Commands.{named, command_of}
 use Rattle.arrow2_script.specs.declared.kernel_command.KernelCommand.{KernelCommand}
 use Rattle.arrow2_script.specs.declared.kernel_command.KernelCommand.TheVariants.{Make, AssignUnary, AssignBinary}
@@ -23,9 +23,11 @@ Says name words command = KernelFits command × (name ∷ words ≡ kernel_words
 
 -- words that say a command that combines bitmaps are its words
 pub kernel_says : (name : List ℕ) (words : List (List ℕ)) (command : KernelCommand) → kernel_named name words ≡ Some command → Says name words command
-unfolding kernel_named is_word
+unfolding kernel_named operator_named table_named is_word
 kernel_says name words command =
     let says = Says in
+    at_row says (codes "inplace1") refl (more slots (more (tables 4 (omega arith)) (more widths no_more))) (λ p. AssignUnary p.0 p.1.0 p.1.1.0) (λ p f w. ((f.0, f.1.0), refl, w)) words name command _ (
+    at_row says (codes "inplace2") refl (more slots (more (tables 16 (omega arith)) (more widths (more slots no_more)))) (λ p. AssignBinary p.0 p.1.0 p.1.1.0 p.1.1.1.0) (λ p f w. ((f.0, f.1.0, f.1.1.1.0), refl, w)) words name command _ (
     at_row says (codes "and") refl (more slots (more slots (more slots no_more))) (λ p. Make p.0 (And p.1.0 p.1.1.0)) (λ p f w. ((f.0, (f.1.0, f.1.1.0)), refl, w)) words name command _ (
     at_row says (codes "or") refl (more slots (more slots (more slots no_more))) (λ p. Make p.0 (Or p.1.0 p.1.1.0)) (λ p f w. ((f.0, (f.1.0, f.1.1.0)), refl, w)) words name command _ (
     at_row says (codes "xor") refl (more slots (more slots (more slots no_more))) (λ p. Make p.0 (Xor p.1.0 p.1.1.0)) (λ p f w. ((f.0, (f.1.0, f.1.1.0)), refl, w)) words name command _ (
@@ -33,14 +35,12 @@ kernel_says name words command =
     at_row says (codes "table1") refl (more slots (more (tables 4 (omega arith)) (more slots no_more))) (λ p. Make p.0 (Unary p.1.0 p.1.1.0)) (λ p f w. ((f.0, (f.1.0, f.1.1.0)), refl, w)) words name command _ (
     at_row says (codes "table2") refl (more slots (more (tables 16 (omega arith)) (more slots (more slots no_more)))) (λ p. Make p.0 (Binary p.1.0 p.1.1.0 p.1.1.1.0)) (λ p f w. ((f.0, (f.1.0, f.1.1.0, f.1.1.1.0)), refl, w)) words name command _ (
     at_row says (codes "table3") refl (more slots (more (tables 256 (omega arith)) (more slots (more slots (more slots no_more))))) (λ p. Make p.0 (Ternary p.1.0 p.1.1.0 p.1.1.1.0 p.1.1.1.1.0)) (λ p f w. ((f.0, (f.1.0, f.1.1.0, f.1.1.1.0, f.1.1.1.1.0)), refl, w)) words name command _ (
-    at_row says (codes "table4") refl (more slots (more (tables 65536 (omega arith)) (more slots (more slots (more slots (more slots no_more)))))) (λ p. Make p.0 (Quaternary p.1.0 p.1.1.0 p.1.1.1.0 p.1.1.1.1.0 p.1.1.1.1.1.0)) (λ p f w. ((f.0, (f.1.0, f.1.1.0, f.1.1.1.0, f.1.1.1.1.0, f.1.1.1.1.1.0)), refl, w)) words name command _ (
-    at_row says (codes "inplace1") refl (more slots (more (tables 4 (omega arith)) (more widths no_more))) (λ p. AssignUnary p.0 p.1.0 p.1.1.0) (λ p f w. ((f.0, f.1.0), refl, w)) words name command _ (
-    at_row says (codes "inplace2") refl (more slots (more (tables 16 (omega arith)) (more widths (more slots no_more)))) (λ p. AssignBinary p.0 p.1.0 p.1.1.0 p.1.1.1.0) (λ p f w. ((f.0, f.1.0, f.1.1.1.0), refl, w)) words name command None (
+    at_row says (codes "table4") refl (more slots (more (tables 65536 (omega arith)) (more slots (more slots (more slots (more slots no_more)))))) (λ p. Make p.0 (Quaternary p.1.0 p.1.1.0 p.1.1.1.0 p.1.1.1.1.0 p.1.1.1.1.1.0)) (λ p f w. ((f.0, (f.1.0, f.1.1.0, f.1.1.1.0, f.1.1.1.1.0, f.1.1.1.1.1.0)), refl, w)) words name command None (
     λ e. absurd (none-some command e)))))))))))
 
 -- the words of a command that combines bitmaps say it
 pub kernel_of-words : (command : KernelCommand) → KernelFits command → command_of (kernel_words command) ≡ Some (Kinds.Kernel command)
-unfolding command_of named bitmap_named offset_named value_named storage_named kernel_named
+unfolding command_of named bitmap_named offset_named value_named storage_named kernel_named operator_named table_named
 kernel_of-words (Make to (And left right)) fits = rw (slot_of-decimal to fits.0, slot_of-decimal left fits.1.0, slot_of-decimal right fits.1.1) refl
 kernel_of-words (Make to (Or left right)) fits = rw (slot_of-decimal to fits.0, slot_of-decimal left fits.1.0, slot_of-decimal right fits.1.1) refl
 kernel_of-words (Make to (Xor left right)) fits = rw (slot_of-decimal to fits.0, slot_of-decimal left fits.1.0, slot_of-decimal right fits.1.1) refl

@@ -1,6 +1,6 @@
 //! The commands that combine bitmaps by truth tables, and which one the words of a line say.
 ghost use Rattle.std.specs.Prelude.{◌≡◌};
-ghost use Rattle.arrow2_script.specs.KernelCommands.{kernel_named};
+ghost use Rattle.arrow2_script.specs.KernelCommands.{kernel_named, operator_named, table_named};
 
 use crate::arguments::Values;
 use crate::lines::Parts;
@@ -45,6 +45,22 @@ impl KernelCommand {
     pub fn read(name: &[u8], parts: Parts<'_>) -> Option<KernelCommand>
         ensures { result ≡ kernel_named name.now parts.entry }
     {
+        if name == b"inplace1".as_slice() {
+            let (slot, (table, (width, ()))) = Values::read(parts)?;
+            Some(KernelCommand::AssignUnary(slot, table, width))
+        } else if name == b"inplace2".as_slice() {
+            let (slot, (table, (width, (other, ())))) = Values::read(parts)?;
+            Some(KernelCommand::AssignBinary(slot, table, width, other))
+        } else {
+            KernelCommand::read_operator(name, parts)
+        }
+    }
+
+    /// The command that makes a bitmap by the operator, or else the table, of this name.
+    #[tactic(auto, unfolding(crate::specs::KernelCommands::operator_named))]
+    fn read_operator(name: &[u8], parts: Parts<'_>) -> Option<KernelCommand>
+        ensures { result ≡ operator_named name.now parts.entry }
+    {
         if name == b"and".as_slice() {
             let (to, (left, (right, ()))) = Values::read(parts)?;
             Some(KernelCommand::Make(to, Kernel::And(left, right)))
@@ -57,7 +73,17 @@ impl KernelCommand {
         } else if name == b"not".as_slice() {
             let (to, (from, ())) = Values::read(parts)?;
             Some(KernelCommand::Make(to, Kernel::Not(from)))
-        } else if name == b"table1".as_slice() {
+        } else {
+            KernelCommand::read_table(name, parts)
+        }
+    }
+
+    /// The command that makes a bitmap by a table with as many inputs as this name says.
+    #[tactic(auto, unfolding(crate::specs::KernelCommands::table_named))]
+    fn read_table(name: &[u8], parts: Parts<'_>) -> Option<KernelCommand>
+        ensures { result ≡ table_named name.now parts.entry }
+    {
+        if name == b"table1".as_slice() {
             let (to, (table, (from, ()))) = Values::read(parts)?;
             Some(KernelCommand::Make(to, Kernel::Unary(table, from)))
         } else if name == b"table2".as_slice() {
@@ -69,12 +95,6 @@ impl KernelCommand {
         } else if name == b"table4".as_slice() {
             let (to, (table, (first, (second, (third, (fourth, ())))))) = Values::read(parts)?;
             Some(KernelCommand::Make(to, Kernel::Quaternary(table, first, second, third, fourth)))
-        } else if name == b"inplace1".as_slice() {
-            let (slot, (table, (width, ()))) = Values::read(parts)?;
-            Some(KernelCommand::AssignUnary(slot, table, width))
-        } else if name == b"inplace2".as_slice() {
-            let (slot, (table, (width, (other, ())))) = Values::read(parts)?;
-            Some(KernelCommand::AssignBinary(slot, table, width, other))
         } else {
             None
         }

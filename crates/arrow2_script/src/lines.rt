@@ -13,10 +13,11 @@ fn cut_at(bytes: &[u8], byte: u8) -> (&[u8], Option<&[u8]>)
     ensures joined { MatchOption result.1 (bytes.now ≡ result.0.now) (λ after.
         bytes.now ≡ result.0.now ++ byte ∷ after.now) }
 {
-    match memchr(byte, bytes) {
-        Some(at) => (&bytes[..at], Some(&bytes[at + 1..])),
-        None => (bytes, None),
-    }
+    let Some(at) = memchr(byte, bytes) else {
+        return (bytes, None);
+    };
+    let (before, rest) = bytes.split_at(at);
+    (before, Some(&rest[1..]))
 }
 
 /// The first line of a script that is not empty, and the rest of the script behind its line end.

@@ -23,7 +23,7 @@ fn is_padded(word: &[u8]) -> bool
     ensures { IsTrue result ↔ ((0 < length word.now × slice_index word.now 0 ≡ 43)
         ⊎ (1 < length word.now × slice_index word.now 0 ≡ 48)) }
 {
-    (!word.is_empty() && word[0] == b'+') || (word.len() > 1 && word[0] == b'0')
+    matches!(word, [b'+', ..] | [b'0', _, ..])
 }
 
 /// The number that a word says: decimal digits without a leading zero, except `0`, at most `u64::MAX`.
@@ -158,7 +158,7 @@ impl<'a> Word<'a> for Width {
 fn are_bits(bytes: &[u8]) -> bool
     ensures { result ≡ list_all is_bit_byte bytes.now }
 {
-    bytes.iter().all(|byte| *byte == b'0' || *byte == b'1')
+    bytes.iter().all(|byte| matches!(byte, b'0' | b'1'))
 }
 
 /// A text of bits: a byte `0` or `1` for each item, the first item first.
@@ -206,7 +206,7 @@ impl<'a> Word<'a> for BitText<'a> {
 fn are_hex_digits(bytes: &[u8]) -> bool
     ensures { result ≡ list_all is_hex_digit bytes.now }
 {
-    bytes.iter().all(|byte| (b'0' <= *byte && *byte <= b'9') || (b'a' <= *byte && *byte <= b'f'))
+    bytes.iter().all(|byte| matches!(byte, b'0'..=b'9' | b'a'..=b'f'))
 }
 
 /// What a hexadecimal digit stands for.

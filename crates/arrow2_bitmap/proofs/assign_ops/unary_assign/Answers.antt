@@ -1,5 +1,6 @@
-use Rattle.std.proofs.Common.{◌∙◌, ℕ, [], slice_index, ap, refl, rules}
+use Rattle.std.proofs.Common.{◌∙◌, ℕ, [], ◌∷◌, slice_index, ap, refl, rules}
 use Rattle.arrow2_model.specs.Bits.{unnum}
+use Rattle.arrow2_model.specs.Kernels.{kernel}
 use Rattle.arrow2_model.proofs.RowKernels.{unary_is}
 use Rattle.arrow2_bitmap.proofs.assign_ops.unary_assign.Goals as goal
 
@@ -7,4 +8,4 @@ pub returns-clause-kernel : goal.returns-clause-kernel
 returns-clause-kernel g c f is =
     let w : ℕ = g.T.BitChunk.WIDTH in
     c.assign_rows.ensures.kernel (λ xs. f (slice_index xs 0)) [] (λ x row r small fits post. ap (unnum w) (is x r small (search rules))) (λ j. refl)
-    ∙ unary_is w f c.args.bitmap.now.items
+    ∙ (ap (λ m. kernel w (λ xs. f (slice_index xs 0)) (m.items ∷ [])) c.bitmap.view_is ∙ unary_is w f c.args.bitmap.now.items)

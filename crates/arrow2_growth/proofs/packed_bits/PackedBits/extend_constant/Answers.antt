@@ -36,6 +36,7 @@ returns c =
       ok = constant_items own c.push_word.new.self.items c.push_copies.new.self.items c.push_word-2.new.self.items c.args.value a h ((a - h) / 8) ((a - h) % 8) word byte are
           (omega (arith, c.min-head.ensures)) (omega (arith, c.min-head.ensures)) (omega arith) first c.in_ok-push_copies.ensures.pushes.ok c.in_ok-push_word-2.ensures.pushes.ok;
       err = search rules;
+      fits = c.reserve.ensures.fits;
       overflow = rw size c.in_ok-reserve.ensures.overflow;
       only = search rules;
       room = search rules;

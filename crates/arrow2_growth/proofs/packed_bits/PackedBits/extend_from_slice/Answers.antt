@@ -12,6 +12,7 @@ returns c =
       ok = pushed_in_two c.args.slice.now c.args.self.now.items c.push_words.new.self.items c.push_part.new.self.items c.new.result.items offset c.args.count head (offset / 8) (offset % 8 + head)
           (omega (arith, c.min-head.ensures)) (omega (arith, c.requires.inside)) (omega arith) c.new.ensures.items first c.in_ok-push_part.ensures.ok;
       err = search rules;
+      fits = c.reserve.ensures.fits;
       overflow = rw size c.in_ok-reserve.ensures.overflow;
       only = search rules;
       room = search rules;

@@ -34,6 +34,7 @@ returns c =
     record {
       ok = (pushed c).1.1 ∙ ap (λ m. m.items ++ c.args.item ∷ []) c.self.view_is;
       err = search rules;
+      fits = omega (arith, short);
       overflow = (search rules, λ h. absurd (omega (arith, short, h)));
       only = search rules;
       room = search rules;
