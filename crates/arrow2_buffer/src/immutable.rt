@@ -281,13 +281,16 @@ impl<T: Drop> Buffer<T> {
     }
 }
 
-/// The items in a vector with room for one more. The vector is passed by value, so that how many items it has stays
+/// For how many items room is asked at least, so that few items ask for memory once.
+const LEAST_ROOM: usize = 64;
+
+/// The items in a vector with room for more. The vector is passed by value, so that how many items it has stays
 /// in a register from item to item.
 fn with_room<T: Drop>(mut items: Vec<T>) -> std::result::Result<Vec<T>, AllocError>
     ensures same { IfOk result (λ roomy. roomy.items ≡ items.items) }
     ensures room { IfOk result (λ roomy. vec_len roomy < vec_capacity roomy) }
 {
-    items.reserve(1)?;
+    items.reserve(LEAST_ROOM)?;
     Ok(items)
 }
 

@@ -116,11 +116,15 @@ are_true = (unnum-all, bits-ones)
 pub are_false : Are false 0 0
 are_false = (unnum-none, bits-zeros)
 
+-- the first items of a word that has one value alone
+pub constant_word : (v : Bool) (a word : ℕ) → unnum 64 word ≡ replicate 64 v → a ≤ 64 → take a (unnum 64 word) ≡ replicate a v
+constant_word v a word are few = ap (take a) are ∙ take-replicate a 64 v few
+
 -- a value behind items: by a word up to the end of the byte, by bytes, and by a word
 pub constant_items : (own first second third : List Bool) (v : Bool) (a h q r word byte : ℕ) → Are v word byte → a ≡ h + 8 * q + r → h ≤ 64 → r ≤ 64 → first ≡ own ++ take h (unnum 64 word) → second ≡ first ++ bits (replicate q byte) → third ≡ second ++ take r (unnum 64 word) → third ≡ own ++ replicate a v
 constant_items own first second third v a h q r word byte are sum few less f s l =
-    let head : take h (unnum 64 word) ≡ replicate h v = ap (take h) are.0 ∙ take-replicate h 64 v few in
-    let last : take r (unnum 64 word) ≡ replicate r v = ap (take r) are.0 ∙ take-replicate r 64 v less in
+    let head = constant_word v h word are.0 few in
+    let last = constant_word v r word are.0 less in
     let one : first ≡ own ++ replicate h v = f ∙ ap (λ (x : List Bool). own ++ x) head in
     let two : second ≡ own ++ replicate (h + 8 * q) v =
     s ∙ (ap (λ (x : List Bool). x ++ bits (replicate q byte)) one ∙ (append_assoc own (replicate h v) (bits (replicate q byte)) ∙ ap (λ (x : List Bool). own ++ x) (ap (λ (x : List Bool). replicate h v ++ x) (are.1 q) ∙ replicate-append-replicate h (8 * q) v))) in

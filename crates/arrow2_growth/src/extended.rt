@@ -47,12 +47,24 @@ impl PackedBits {
             (replicate additional value) }
     {
         self.reserve(additional)?;
-        let (word, byte) = if value { (u64::MAX, u8::MAX) } else { (0, 0) };
-        let head = additional.min((8 - self.len() % 8) % 8);
-        self.push_word(word, head)?;
-        self.push_copies(byte, (additional - head) / 8)?;
-        self.push_word(word, (additional - head) % 8)?;
+        if additional <= 64 {
+            self.push_word(if value { u64::MAX } else { 0 }, additional)?;
+        } else {
+            self.push_value(value, additional)?;
+        }
         Ok(())
+    }
+
+    /// Appends `value` `count` times: by a word up to the end of the last byte, by bytes, and by a word.
+    fn push_value(&mut self, value: bool, count: usize) -> Result<(), AllocError>
+        requires fits { length self.old.items + count < 2 ^ 64 }
+        ensures { Pushes result self.old self.new (replicate count value) }
+    {
+        let (word, byte) = if value { (u64::MAX, u8::MAX) } else { (0, 0) };
+        let head = count.min((8 - self.len() % 8) % 8);
+        self.push_word(word, head)?;
+        self.push_copies(byte, (count - head) / 8)?;
+        self.push_word(word, (count - head) % 8)
     }
 
     /// Appends the `count` bits from bit `offset` of `slice` on: by bytes where they begin a byte, else by words. Asks

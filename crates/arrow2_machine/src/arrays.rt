@@ -2,7 +2,8 @@
 ghost use Rattle.std.specs.Prelude.{◌≡◌, length as count_of, option_map, OnErr, IfOk};
 ghost use Rattle.arrow2_machine.specs.BitmapOutcomes.{part_inside};
 ghost use Rattle.arrow2_machine.specs.Held.{at, array as array_in, Array};
-ghost use Rattle.arrow2_machine.specs.ArrayOutcomes.{arrayed, array_text, counted_nulls, sliced_array, two_arrays, array_outcome};
+ghost use Rattle.arrow2_machine.specs.ArrayOutcomes.{arrayed, array_text, counted_nulls, sliced_array, two_arrays, combined, array_outcome};
+ghost use Rattle.arrow2.specs.Kleene.{kleene_and, kleene_or};
 ghost use Rattle.arrow2_machine.specs.Outcomes.{Gives, Carries, Writes, Answers};
 
 use crate::kernels::two;
@@ -35,12 +36,10 @@ pub(crate) fn run(
             slots[slot.get()].slice_array(offset, length)?;
         }
         ArrayCommand::And(to, left, right) => {
-            let (left, right) = two_of(slots, left, right)?;
-            slots[to.get()] = Slot::with_array(left.and_kleene(right)?);
+            slots[to.get()] = Slot::with_array(both(slots, left, right)?);
         }
         ArrayCommand::Or(to, left, right) => {
-            let (left, right) = two_of(slots, left, right)?;
-            slots[to.get()] = Slot::with_array(left.or_kleene(right)?);
+            slots[to.get()] = Slot::with_array(either(slots, left, right)?);
         }
     }
     reply.extend_from_slice(b"ok")?;
@@ -68,6 +67,36 @@ fn array_of(
         None => BooleanArray::try_new(slots[values.get()].frozen()?.clone()?, None)?,
     };
     Ok(array)
+}
+
+/// What Kleene's and makes of two boolean arrays of one length.
+///
+/// # Errors
+///
+/// `Kind`, `Length` or `OutOfMemory`.
+fn both(slots: &[Slot; 16], left: SlotIndex, right: SlotIndex) -> Result<BooleanArray, CommandError>
+    ensures { Gives (λ array. Array array) result
+        (combined kleene_and (at slots.now left) (at slots.now right)) }
+{
+    let (left, right) = two_of(slots, left, right)?;
+    Ok(left.and_kleene(right)?)
+}
+
+/// What Kleene's or makes of two boolean arrays of one length.
+///
+/// # Errors
+///
+/// `Kind`, `Length` or `OutOfMemory`.
+fn either(
+    slots: &[Slot; 16],
+    left: SlotIndex,
+    right: SlotIndex,
+) -> Result<BooleanArray, CommandError>
+    ensures { Gives (λ array. Array array) result
+        (combined kleene_or (at slots.now left) (at slots.now right)) }
+{
+    let (left, right) = two_of(slots, left, right)?;
+    Ok(left.or_kleene(right)?)
 }
 
 /// Two boolean arrays of one length.

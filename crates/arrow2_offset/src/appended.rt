@@ -14,8 +14,8 @@ use arrow2_types::refusal::Refusal;
 use std::alloc::AllocError;
 use std::mem;
 
-/// For how many lengths room is asked at least.
-const LEAST_ROOM: usize = 4;
+/// For how many lengths room is asked at least, so that few lengths ask for memory once.
+const LEAST_ROOM: usize = 64;
 
 /// Appends the lengths of an iterator that ends, and takes them off again where it refuses. Asks that the items
 /// are offsets. The iterator's size hint is not read.
