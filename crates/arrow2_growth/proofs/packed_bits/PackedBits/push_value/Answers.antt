@@ -20,7 +20,7 @@ returns c =
     let rest : List Bool = take ((n - h) % 8) (unnum 64 word) in
     let whole : c.push_copies.new.self.items ++ rest ≡ own ++ replicate n c.args.value =
     constant_items own c.push_word.new.self.items c.push_copies.new.self.items (c.push_copies.new.self.items ++ rest) c.args.value n h ((n - h) / 8) ((n - h) % 8) word byte are
-        (omega (arith, c.min-head.ensures)) (omega (arith, c.min-head.ensures)) (omega arith) c.in_ok-push_word.ensures.pushes.ok c.in_ok-push_copies.ensures.pushes.ok refl in
+    (omega (arith, c.min-head.ensures)) (omega (arith, c.min-head.ensures)) (omega arith) c.in_ok-push_word.ensures.pushes.ok c.in_ok-push_copies.ensures.pushes.ok refl in
     let joined = length-append c.push_copies.new.self.items rest in
     let all = length-append own (replicate n c.args.value) in
     let many = length-replicate n c.args.value in
