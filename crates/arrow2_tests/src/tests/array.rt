@@ -24,66 +24,76 @@ fn array_of(rt: &impl Abort, alloc: Global, values: [u8; 2], validity: [u8; 2]) 
     BooleanArray::try_new(values, Some(validity)).expect(rt, "equal lengths")
 }
 
-/// The array has these items, and as many nulls.
+/// The array has these items.
 fn has_items(rt: &impl Abort, alloc: Global, array: &BooleanArray, items: &[Option<bool>]) {
-    let given: Vec<Option<bool>> = array.iter().collect(alloc).expect(rt, "no memory");
+    let given: Vec<Option<bool>> = array.into_iter().collect(alloc).expect(rt, "no memory");
     assert!(rt; given.as_slice() == items);
-    let mut nulls = 0usize;
-    for item in array {
-        nulls = nulls.wrapping_add(usize::from(item.is_none()));
-    }
-    assert!(rt; array.null_count() == nulls && array.len() == items.len());
 }
 
 #[test]
 fn nulls_are_booleans_that_are_not_known(rt: HostRuntime) {
     let alloc = rt.alloc();
-    let (n, f, t) = (None, Some(false), Some(true));
     // Each four items: a null over false, a null over true, false and true; beside each of the four.
     let left = array_of(&rt, alloc, [0b10101010; 2], [0b11001100; 2]);
     let right = array_of(&rt, alloc, [0b11110000; 2], [0, 0b11111111]);
     let both = left.and_kleene(&right).expect(&rt, "no memory");
-    has_items(
-        &rt,
-        alloc,
-        &both,
-        &[n, n, f, n, n, n, f, n, f, f, f, f, n, n, f, t],
-    );
+    // Null, null, false, null twice; false four times; null, null, false, true.
+    let values = [0, 0b10000000];
+    let validity = [0b01000100, 0b11001111];
+    assert!(rt; both == array_of(&rt, alloc, values, validity));
     let one = left.or_kleene(&right).expect(&rt, "no memory");
-    has_items(
-        &rt,
-        alloc,
-        &one,
-        &[n, n, n, t, n, n, n, t, n, n, f, t, t, t, t, t],
-    );
+    // Null, null, null, true twice; null, null, false, true; true four times.
+    let values = [0b10001000, 0b11111000];
+    let validity = [0b10001000, 0b11111100];
+    assert!(rt; one == array_of(&rt, alloc, values, validity));
+}
+
+/// The array of the first four of 16 values, none of which is null.
+fn plain(rt: &impl Abort, alloc: Global, values: u8) -> BooleanArray
+    ensures { length result ≡ 4 }
+{
+    let values = bitmap_of(rt, alloc, [values, 0]).sliced(0, 4);
+    BooleanArray::try_new(values, None).expect(rt, "no validity")
+}
+
+/// Null, false, true, null.
+fn with_nulls(rt: &impl Abort, alloc: Global) -> BooleanArray
+    ensures { length result ≡ 4 }
+{
+    let mut array = array_of(rt, alloc, [0b10101010; 2], [0b11001100; 2]);
+    array.slice(1, 4);
+    array
 }
 
 #[test]
 fn arrays_without_validity_have_no_null(rt: HostRuntime) {
     let alloc = rt.alloc();
+    let left = plain(&rt, alloc, 0b00001100);
+    let both = left.and_kleene(&plain(&rt, alloc, 0b00001010));
+    let (f, t) = (Some(false), Some(true));
+    has_items(&rt, alloc, &both.expect(&rt, "no memory"), &[f, f, f, t]);
+}
+
+#[test]
+fn arrays_with_and_without_validity_are_joined(rt: HostRuntime) {
+    let alloc = rt.alloc();
     let (n, f, t) = (None, Some(false), Some(true));
-    let plain = |bytes| {
-        let array = BooleanArray::try_new(bitmap_of(&rt, alloc, bytes), None);
-        array.expect(&rt, "no validity")
-    };
-    let mut left = plain([0b00001100, 0]);
-    let mut right = plain([0b00001010, 0]);
-    left.slice(0, 4);
-    right.slice(0, 4);
-    has_items(&rt, alloc, &left, &[f, f, t, t]);
-    let both = left.and_kleene(&right).expect(&rt, "no memory");
-    has_items(&rt, alloc, &both, &[f, f, f, t]);
-    let mut nulls = array_of(&rt, alloc, [0b10101010; 2], [0b11001100; 2]);
-    nulls.slice(1, 4);
+    let nulls = with_nulls(&rt, alloc);
     has_items(&rt, alloc, &nulls, &[n, f, t, n]);
-    let mut one = left.or_kleene(&nulls).expect(&rt, "no memory");
-    has_items(&rt, alloc, &one, &[n, f, t, t]);
-    let copy = one.clone().expect(&rt, "no memory");
-    assert!(rt; copy.get(0).is_none() && copy.get(3) == t && !copy.is_empty());
-    assert!(rt; copy == one);
-    shows(&rt, alloc, &one, "BooleanArray[None, false, true, true]");
-    one.slice(0, 0);
-    shows(&rt, alloc, &one, "BooleanArray[]");
+    let one = plain(&rt, alloc, 0b00001100).or_kleene(&nulls);
+    has_items(&rt, alloc, &one.expect(&rt, "no memory"), &[n, f, t, t]);
+}
+
+#[test]
+fn arrays_are_read_and_shown(rt: HostRuntime) {
+    let alloc = rt.alloc();
+    let mut array = with_nulls(&rt, alloc);
+    let copy = array.clone().expect(&rt, "no memory");
+    assert!(rt; copy.get(0).is_none() && copy.get(2) == Some(true));
+    assert!(rt; copy == array && !copy.is_empty() && copy.null_count() == 2);
+    shows(&rt, alloc, &array, "BooleanArray[None, false, true, None]");
+    array.slice(0, 0);
+    shows(&rt, alloc, &array, "BooleanArray[]");
 }
 
 #[test]

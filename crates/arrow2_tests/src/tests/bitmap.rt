@@ -7,7 +7,6 @@ use arrow2_bitmap::bitmap_ops::unary;
 use arrow2_bitmap::immutable::Bitmap;
 use arrow2_bitmap::iterator::IntoIter;
 use arrow2_bitmap::mutable::MutableBitmap;
-use arrow2_walks::slice_iterator::SlicesIterator;
 use std::alloc::Global;
 use std::convert::TryFrom;
 use std::process::Abort;
@@ -67,6 +66,11 @@ fn bitmaps_are_parts_of_their_bytes(rt: HostRuntime) {
         "[0b___0110_]",
     );
     assert!(rt; whole.unset_bits() == 2 && part.null_count() == 2);
+}
+
+#[test]
+fn a_bitmap_keeps_its_spare_bits(rt: HostRuntime) {
+    let alloc = rt.alloc();
     let three = bitmap_of(&rt, alloc, &[255], 3);
     is_stored(&rt, alloc, &three, &[true; 3], &[255], 0, "[0b_____111]");
 }
@@ -130,7 +134,7 @@ fn a_length_past_the_bytes_is_refused(rt: HostRuntime) {
 }
 
 #[test]
-fn bytes_of_a_growing_bitmap_are_canonical(rt: HostRuntime) {
+fn bytes_that_grow_are_canonical(rt: HostRuntime) {
     let alloc = rt.alloc();
     let bytes = [0b11111101].to_vec(alloc).expect(&rt, "no memory");
     has(&rt, MutableBitmap::from_vec(bytes, 3).as_slice(), &[5]);
@@ -138,6 +142,11 @@ fn bytes_of_a_growing_bitmap_are_canonical(rt: HostRuntime) {
     let nine = MutableBitmap::try_new(bytes, 9).expect(&rt, "no memory");
     has(&rt, nine.as_slice(), &[255, 1]);
     has(&rt, popped(&rt, nine).as_slice(), &[255]);
+}
+
+#[test]
+fn items_of_one_value_have_canonical_bytes(rt: HostRuntime) {
+    let alloc = rt.alloc();
     let three = MutableBitmap::from_len_set(alloc, 3).expect(&rt, "no memory");
     has(&rt, three.as_slice(), &[7]);
     shows(&rt, alloc, &three, "[0b_____111]");
@@ -147,43 +156,43 @@ fn bytes_of_a_growing_bitmap_are_canonical(rt: HostRuntime) {
 }
 
 #[test]
-fn a_bitmap_is_changed_in_place_or_copied(rt: HostRuntime) {
+fn a_part_is_copied_to_be_changed(rt: HostRuntime) {
     let alloc = rt.alloc();
     let part = bitmap_of(&rt, alloc, &[0, 0, 0, 0b00010101], 27).sliced(22, 5);
-    has(
-        &rt,
-        part.make_mut().expect(&rt, "no memory").as_slice(),
-        &[20],
-    );
-    let unshared = bitmap_of(&rt, alloc, &[255], 3).into_mut();
-    has(
-        &rt,
-        unshared.right().expect(&rt, "it is not shared").as_slice(),
-        &[7],
-    );
+    let copy = part.make_mut().expect(&rt, "no memory");
+    has(&rt, copy.as_slice(), &[20]);
     let zeros = bitmap_of(&rt, alloc, &[0, 0], 16).sliced(0, 3);
     let grown = pushed(&rt, zeros.make_mut().expect(&rt, "no memory"), true);
     gives(&rt, alloc, grown.iter(), &[false, false, false, true]);
-    let shared = bitmap_of(&rt, alloc, &[0b10], 2);
+}
+
+#[test]
+fn a_bitmap_that_nobody_shares_is_changed_in_place(rt: HostRuntime) {
+    let unshared = bitmap_of(&rt, rt.alloc(), &[255], 3).into_mut();
+    let right = unshared.right().expect(&rt, "it is not shared");
+    has(&rt, right.as_slice(), &[7]);
+}
+
+#[test]
+fn a_bitmap_that_is_shared_or_moved_stays(rt: HostRuntime) {
+    let shared = bitmap_of(&rt, rt.alloc(), &[0b10], 2);
     let other = shared.clone().expect(&rt, "no memory");
     assert!(rt; shared.into_mut().is_left());
     assert!(rt; other.sliced(1, 1).into_mut().is_left());
 }
 
-/// Two of the four items are false, between two runs; the identity leaves them, and one more is pushed behind them.
-fn is_dirty_or_not(rt: &impl Abort, alloc: Global, bitmap: Bitmap) {
+/// Two of the four items are false, and the identity leaves them.
+fn has_two_of_four(rt: &impl Abort, bitmap: &Bitmap) {
     assert!(rt; bitmap.unset_bits() == 2);
-    let runs: Vec<(usize, usize)> = SlicesIterator::new(&bitmap)
-        .collect(alloc)
-        .expect(rt, "no memory");
-    assert!(rt; runs.as_slice() == [(1, 1), (3, 1)].as_slice());
-    let same = unary(&bitmap, |word| word).expect(rt, "no memory");
-    assert!(rt; same == bitmap);
-    for value in [false, true] {
-        let copy = bitmap.clone().expect(rt, "no memory");
-        let grown = pushed(rt, copy.make_mut().expect(rt, "no memory"), value);
-        gives(rt, alloc, grown.iter(), &[false, true, false, true, value]);
-    }
+    let same = unary(bitmap, |word| word).expect(rt, "no memory");
+    assert!(rt; same == *bitmap);
+}
+
+/// One more item stands behind the four.
+fn has_five(rt: &impl Abort, alloc: Global, bitmap: &Bitmap, value: bool) {
+    let copy = bitmap.clone().expect(rt, "no memory");
+    let grown = pushed(rt, copy.make_mut().expect(rt, "no memory"), value);
+    gives(rt, alloc, grown.iter(), &[false, true, false, true, value]);
 }
 
 #[test]
@@ -194,26 +203,37 @@ fn what_is_behind_a_list_changes_nothing(rt: HostRuntime) {
     let dirty = bitmap_of(&rt, alloc, &[0b11111010], 4);
     let moved = bitmap_of(&rt, alloc, &[0b11010111], 7).sliced(3, 4);
     assert!(rt; dirty == alike && moved == alike && dirty == moved);
-    for bitmap in [dirty, moved, alike] {
-        is_dirty_or_not(&rt, alloc, bitmap);
+    for bitmap in [&dirty, &moved, &alike] {
+        has_two_of_four(&rt, bitmap);
+        has_five(&rt, alloc, bitmap, false);
+        has_five(&rt, alloc, bitmap, true);
     }
 }
 
 #[test]
-fn items_are_read_and_written(rt: HostRuntime) {
-    let alloc = rt.alloc();
-    let frozen = bitmap_of(&rt, alloc, &[0b00001101], 5);
+fn items_are_read_and_counted(rt: HostRuntime) {
+    let frozen = bitmap_of(&rt, rt.alloc(), &[0b00001101], 5);
     assert!(rt; frozen.get_bit(2) && frozen.get(5).is_none());
     assert!(rt; frozen.null_count_range(1, 3) == 1 && frozen.null_count_range(5, 0) == 0);
+}
+
+#[test]
+fn an_empty_bitmap_has_room_and_no_item(rt: HostRuntime) {
+    let alloc = rt.alloc();
     let empty = MutableBitmap::with_capacity(alloc, 100).expect(&rt, "no memory");
     assert!(rt; empty.is_empty() && empty.capacity() >= 100);
-    let mut grown = MutableBitmap::from_len_zeroed(alloc, 9).expect(&rt, "no memory");
+    shows(&rt, alloc, &MutableBitmap::new(alloc), "[]");
+}
+
+#[test]
+fn items_are_written_and_taken_off(rt: HostRuntime) {
+    let zeros = MutableBitmap::from_len_zeroed(rt.alloc(), 9);
+    let mut grown = zeros.expect(&rt, "no memory");
     grown.set(8, true);
     assert!(rt; grown.get(8) && grown.unset_bits() == 8 && grown.null_count() == 8);
     let mut copy = grown.clone().expect(&rt, "no memory");
     copy.clear();
     assert!(rt; copy.pop().is_none() && grown.len() == 9);
-    shows(&rt, alloc, &MutableBitmap::new(alloc), "[]");
 }
 
 #[test]

@@ -66,9 +66,14 @@ fn many_bits_are_printed_whole(rt: HostRuntime) {
 }
 
 #[test]
+fn bits_stand_in_so_many_bytes(rt: HostRuntime) {
+    for (bits, bytes) in [(0, 0), (8, 1), (9, 2), (usize::MAX, 2305843009213693952)] {
+        assert!(rt; bytes_for(bits) == bytes);
+    }
+}
+
+#[test]
 fn single_bits_are_read_written_and_counted(rt: HostRuntime) {
-    assert!(rt; bytes_for(0) == 0 && bytes_for(8) == 1 && bytes_for(9) == 2);
-    assert!(rt; bytes_for(usize::MAX) == 2305843009213693952);
     assert!(rt; count_zeros(&[255, 0], 4, 8) == 4 && count_zeros(&[], 99, 0) == 0);
     assert!(rt; set(0, 3, true) == 8 && is_set(8, 3));
     let mut bytes = [0b00001101, 0];

@@ -99,7 +99,7 @@ fn operators_and_the_words_of_a_width(rt: HostRuntime) {
 }
 
 #[test]
-fn calls_by_their_clauses_and_assigning_operators(rt: HostRuntime) {
+fn callers_know_their_answers_by_the_clauses(rt: HostRuntime) {
     let alloc = rt.alloc();
     let left = of(&rt, alloc, &[true, true, false, false]);
     let right = of(&rt, alloc, &[true, false, true, false]);
@@ -111,15 +111,6 @@ fn calls_by_their_clauses_and_assigning_operators(rt: HostRuntime) {
     let mut changed = thawed(&rt, &left);
     flip(&mut changed);
     has(&rt, changed.as_slice(), &[12]);
-    let mut changed = thawed(&rt, &left);
-    changed |= &right;
-    has(&rt, changed.as_slice(), &[7]);
-    let mut changed = thawed(&rt, &left);
-    changed &= &right;
-    has(&rt, changed.as_slice(), &[1]);
-    let mut changed = thawed(&rt, &left);
-    changed ^= &right;
-    has(&rt, changed.as_slice(), &[6]);
 }
 
 /// The bitmap of 300 items that is true at the multiples of a number.

@@ -40,19 +40,6 @@ fn is_overflow<T: Drop>(answer: Result<T, Error>) -> bool {
     matches!(answer, Err(Error::Overflow))
 }
 
-/// The offset is this number.
-fn is_number<O: Offset>(rt: &impl Abort, offset: O, number: usize) {
-    assert!(rt; O::from_usize(number) == Some(offset));
-}
-
-/// The offsets are these numbers.
-fn are<O: Offset>(rt: &impl Abort, offsets: &[O], numbers: &[usize]) {
-    assert!(rt; offsets.len() == numbers.len());
-    for (offset, number) in offsets.iter().zip(numbers) {
-        is_number(rt, *offset, *number);
-    }
-}
-
 /// The list is this one.
 fn is<T: PartialEq + Debug>(rt: &impl Abort, items: &[T], wanted: &[T]) {
     assert_eq!(rt; items, wanted);
@@ -75,109 +62,113 @@ fn shared(rt: &impl Abort, alloc: Global, items: &[i32]) -> OffsetsBuffer<i32> {
 }
 
 /// Each call that makes offsets.
-fn makes<O: Offset>(rt: &impl Abort, alloc: Global) {
-    let zeros = Offsets::<O>::new_zeroed(alloc, 2).expect(rt, "no memory");
-    are(rt, zeros.as_slice(), &[0, 0, 0]);
-    let room = Offsets::<O>::with_capacity(alloc, 20).expect(rt, "no memory");
+fn makes(rt: &impl Abort, alloc: Global) {
+    let zeros = Offsets::<i32>::new_zeroed(alloc, 2).expect(rt, "no memory");
+    is(rt, zeros.as_slice(), &[0, 0, 0]);
+    let room = Offsets::<i32>::with_capacity(alloc, 20).expect(rt, "no memory");
     assert!(rt; room.capacity() >= 20);
-    let hinted = Offsets::<O>::try_from_iter(alloc, OneAndTwo { given: 0 });
-    are(rt, hinted.expect(rt, "no memory").as_slice(), &[0, 1, 3]);
+    let hinted = Offsets::<i32>::try_from_iter(alloc, OneAndTwo { given: 0 });
+    is(rt, hinted.expect(rt, "no memory").as_slice(), &[0, 1, 3]);
 }
 
 /// Each call by which offsets grow by lengths.
-fn grows<O: Offset>(rt: &impl Abort, alloc: Global) {
-    let mut offsets = grown::<O>(rt, alloc, &[3, 0]);
+fn grows(rt: &impl Abort, alloc: Global) {
+    let mut offsets = grown::<i32>(rt, alloc, &[3, 0]);
     offsets.reserve(8).expect(rt, "no memory");
     offsets.try_push_usize(4).expect(rt, "no memory");
-    offsets.try_push(O::zero()).expect(rt, "no memory");
+    offsets.try_push(0).expect(rt, "no memory");
     offsets.extend_constant(1).expect(rt, "no memory");
     let more = [2usize, 0].iter().copied();
     offsets
         .try_extend_from_lengths(more)
         .expect(rt, "no memory");
-    are(rt, offsets.as_slice(), &[0, 3, 3, 7, 7, 7, 9, 9]);
+    is(rt, offsets.as_slice(), &[0, 3, 3, 7, 7, 7, 9, 9]);
 }
 
-/// The call by which offsets grow by those of another, and each that reads, copies or takes away.
-fn reads<O: Offset>(rt: &impl Abort, alloc: Global) {
-    let mut offsets = grown::<O>(rt, alloc, &[3, 4]);
-    let other = grown::<O>(rt, alloc, &[1, 2]);
+/// The call by which offsets grow by those of another.
+fn grows_by_others(rt: &impl Abort, alloc: Global) {
+    let mut offsets = grown::<i32>(rt, alloc, &[3, 4]);
+    let other = grown::<i32>(rt, alloc, &[1, 2]);
     offsets.try_extend_from_self(&other).expect(rt, "no memory");
+    is(rt, offsets.as_slice(), &[0, 3, 7, 8, 10]);
+    assert!(rt; offsets != other);
+}
+
+/// Each call that reads, copies or takes away.
+fn reads(rt: &impl Abort, alloc: Global) {
+    let mut offsets = grown::<i32>(rt, alloc, &[3, 4, 1, 2]);
     let copy = offsets.clone().expect(rt, "no memory");
-    assert!(rt; copy == offsets && copy != other);
-    assert!(rt; offsets.pop() == O::from_usize(10));
-    is_number(rt, *offsets.last(), 8);
-    assert!(rt; offsets.len() == 4);
+    assert!(rt; copy == offsets && offsets.pop() == Some(10));
+    assert!(rt; *offsets.last() == 8 && offsets.len() == 4);
     assert!(rt; offsets.len_proxy() == 3);
     assert!(rt; matches!(offsets.start_end(1), (3, 7)));
     offsets.shrink_to_fit().expect(rt, "no memory");
-    are(rt, offsets.into_inner().as_slice(), &[0, 3, 7, 8]);
+    is(rt, offsets.into_inner().as_slice(), &[0, 3, 7, 8]);
 }
 
 /// Shared offsets have these lengths.
-fn gives<O: Offset>(rt: &impl Abort, alloc: Global, offsets: &OffsetsBuffer<O>, lengths: &[usize]) {
+fn gives(rt: &impl Abort, alloc: Global, offsets: &OffsetsBuffer<i32>, lengths: &[usize]) {
     let given: Vec<usize> = offsets.lengths().collect(alloc).expect(rt, "no memory");
     is(rt, given.as_slice(), lengths);
 }
 
 /// Shared offsets that begin at 0.
-fn kept<O: Offset>(rt: &impl Abort, alloc: Global, lengths: &[usize]) -> OffsetsBuffer<O> {
+fn kept(rt: &impl Abort, alloc: Global, lengths: &[usize]) -> OffsetsBuffer<i32> {
     OffsetsBuffer::try_from(grown(rt, alloc, lengths)).expect(rt, "no memory")
 }
 
 /// Each call that makes or slices shared offsets.
-fn slices<O: Offset>(rt: &impl Abort, alloc: Global) {
-    let empty = OffsetsBuffer::<O>::new(alloc).expect(rt, "no memory");
-    are(rt, empty.as_slice(), &[0]);
-    let mut part = kept::<O>(rt, alloc, &[5, 3, 0, 4]);
+fn slices(rt: &impl Abort, alloc: Global) {
+    let empty = OffsetsBuffer::<i32>::new(alloc).expect(rt, "no memory");
+    is(rt, empty.as_slice(), &[0]);
+    let mut part = kept(rt, alloc, &[5, 3, 0, 4]);
     assert!(rt; part.len() == 5);
     part.slice(1, 4);
     gives(rt, alloc, &part, &[3, 0, 4]);
 }
 
 /// Each call that reads shared offsets.
-fn reads_shared<O: Offset>(rt: &impl Abort, alloc: Global) {
-    let offsets = kept::<O>(rt, alloc, &[3, 0, 4]);
+fn reads_shared(rt: &impl Abort, alloc: Global) {
+    let offsets = kept(rt, alloc, &[3, 0, 4]);
     assert!(rt; offsets.len() == 4);
-    is_number(rt, offsets.range(), 7);
-    is_number(rt, *offsets.first(), 0);
-    is_number(rt, *offsets.last(), 7);
+    assert!(rt; offsets.range() == 7);
+    assert!(rt; *offsets.first() == 0);
+    assert!(rt; *offsets.last() == 7);
     assert!(rt; offsets.len_proxy() == 3);
     assert!(rt; matches!(offsets.start_end(1), (3, 3)));
 }
 
-/// Each call that shares offsets or takes them back, and the one that grows them by a shared part.
-fn shares<O: Offset>(rt: &impl Abort, alloc: Global) {
-    let mut all = grown::<O>(rt, alloc, &[5, 3, 0, 4]);
-    let items = kept::<O>(rt, alloc, &[5, 3, 0, 4]).into_inner();
+/// Each call that shares offsets or takes them back.
+fn shares(rt: &impl Abort, alloc: Global) {
+    let items = kept(rt, alloc, &[5, 3, 0, 4]).into_inner();
     let other = OffsetsBuffer::try_from(items).expect(rt, "no memory");
     let buffer = other.buffer().clone().expect(rt, "no memory");
-    let again = OffsetsBuffer::try_from(buffer).expect(rt, "no memory");
-    assert!(rt; again == other);
+    assert!(rt; OffsetsBuffer::try_from(buffer).expect(rt, "no memory") == other);
+    is(rt, other.into_inner().as_slice(), &[0, 5, 8, 8, 12]);
+}
+
+/// The call that shares a vector, and the one by which offsets grow by a part.
+fn grows_by_a_part(rt: &impl Abort, alloc: Global) {
+    let mut all = grown::<i32>(rt, alloc, &[5, 3, 0, 4]);
     let vector = all.clone().expect(rt, "no memory").into_inner();
-    assert!(rt; OffsetsBuffer::try_from(vector).expect(rt, "no memory") == other);
+    let other = OffsetsBuffer::try_from(vector).expect(rt, "no memory");
     assert!(rt; other.len() == 5);
     all.try_extend_from_slice(&other, 1, 2)
         .expect(rt, "no memory");
-    are(rt, all.as_slice(), &[0, 5, 8, 8, 12, 15, 15]);
-    are(rt, other.into_inner().as_slice(), &[0, 5, 8, 8, 12]);
+    is(rt, all.as_slice(), &[0, 5, 8, 8, 12, 15, 15]);
 }
 
 #[test]
-fn each_call_at_both_types(rt: HostRuntime) {
+fn each_call_finds_memory(rt: HostRuntime) {
     let alloc = rt.alloc();
-    makes::<i32>(&rt, alloc);
-    makes::<i64>(&rt, alloc);
-    grows::<i32>(&rt, alloc);
-    grows::<i64>(&rt, alloc);
-    reads::<i32>(&rt, alloc);
-    reads::<i64>(&rt, alloc);
-    slices::<i32>(&rt, alloc);
-    slices::<i64>(&rt, alloc);
-    reads_shared::<i32>(&rt, alloc);
-    reads_shared::<i64>(&rt, alloc);
-    shares::<i32>(&rt, alloc);
-    shares::<i64>(&rt, alloc);
+    makes(&rt, alloc);
+    grows(&rt, alloc);
+    grows_by_others(&rt, alloc);
+    reads(&rt, alloc);
+    slices(&rt, alloc);
+    reads_shared(&rt, alloc);
+    shares(&rt, alloc);
+    grows_by_a_part(&rt, alloc);
 }
 
 #[test]
@@ -228,11 +219,10 @@ fn growth_refuses_by_the_exact_sum(rt: HostRuntime) {
     grow_or_stay(&rt, alloc, &[2147483647], false, &[0, 2147483647]);
     let mut offsets = of(&rt, alloc, &[0, 2147483644]);
     let other = shared(&rt, alloc, &[0, 5, 7]);
-    if other.len() == 3 {
-        offsets
-            .try_extend_from_slice(&other, 1, 1)
-            .expect(&rt, "no memory");
-    }
+    assert!(rt; other.len() == 3);
+    offsets
+        .try_extend_from_slice(&other, 1, 1)
+        .expect(&rt, "no memory");
     is(&rt, offsets.as_slice(), &[0, 2147483644, 2147483646]);
 }
 

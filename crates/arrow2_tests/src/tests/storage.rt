@@ -182,8 +182,16 @@ fn goes_by_words(
     makes(rt, binary(bitmap, other, |x, y| x ^ y << 1), &two);
 }
 
-/// In place, functions of words of this width answer by the words of the lists.
-fn changes_by_words<T: BitChunk>(
+/// In place, a function of words of this width answers by the words of the list.
+fn changes_by_words<T: BitChunk>(rt: &impl Abort, alloc: Global, bitmap: &Bitmap, list: &[bool]) {
+    assert!(rt; T::WIDTH > 0);
+    let mut changed = thawed(rt, bitmap);
+    unary_assign(&mut changed, |x: T| x.up(1));
+    becomes(rt, changed, &lists::mixed(alloc, &[], list, T::WIDTH));
+}
+
+/// So does a function of two words.
+fn changes_by_words_beside<T: BitChunk>(
     rt: &impl Abort,
     alloc: Global,
     bitmap: &Bitmap,
@@ -192,15 +200,9 @@ fn changes_by_words<T: BitChunk>(
 ) {
     assert!(rt; bitmap.len() == other.len() && T::WIDTH > 0);
     let mut changed = thawed(rt, bitmap);
-    unary_assign(&mut changed, |x: T| x.up(1));
-    becomes(rt, changed, &lists::mixed(alloc, &[], lists.0, T::WIDTH));
-    let mut changed = thawed(rt, bitmap);
     binary_assign(&mut changed, other, |x: T, y: T| x.bit_xor(y.up(1)));
-    becomes(
-        rt,
-        changed,
-        &lists::mixed(alloc, lists.0, lists.1, T::WIDTH),
-    );
+    let items = lists::mixed(alloc, lists.0, lists.1, T::WIDTH);
+    becomes(rt, changed, &items);
 }
 
 /// Table `t` answers by the items: its lowest bits for one and for two inputs.
@@ -470,10 +472,14 @@ fn answers_beside(
     lists: (&[bool], &[bool]),
 ) {
     goes_by_words(rt, alloc, bitmap, other, lists);
-    changes_by_words::<u8>(rt, alloc, bitmap, other, lists);
-    changes_by_words::<u16>(rt, alloc, bitmap, other, lists);
-    changes_by_words::<u32>(rt, alloc, bitmap, other, lists);
-    changes_by_words::<u64>(rt, alloc, bitmap, other, lists);
+    changes_by_words::<u8>(rt, alloc, bitmap, lists.0);
+    changes_by_words::<u16>(rt, alloc, bitmap, lists.0);
+    changes_by_words::<u32>(rt, alloc, bitmap, lists.0);
+    changes_by_words::<u64>(rt, alloc, bitmap, lists.0);
+    changes_by_words_beside::<u8>(rt, alloc, bitmap, other, lists);
+    changes_by_words_beside::<u16>(rt, alloc, bitmap, other, lists);
+    changes_by_words_beside::<u32>(rt, alloc, bitmap, other, lists);
+    changes_by_words_beside::<u64>(rt, alloc, bitmap, other, lists);
     for t in [27030, 38505, 1234, 60875] {
         goes_by_table(rt, alloc, bitmap, other, lists, t);
         changes_by_table::<u8>(rt, alloc, bitmap, other, lists, t);

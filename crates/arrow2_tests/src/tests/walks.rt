@@ -56,6 +56,8 @@ fn runs_are_maximal_wherever_they_lie(rt: HostRuntime) {
     bits_have_runs(&rt, alloc, (&[0xff; 3], 5, 16), &[(0, 16)], 16);
     bits_have_runs(&rt, alloc, (&[], 0, 0), &[], 0);
     bits_have_runs(&rt, alloc, (&[0xff; 2], 5, 9), &[(0, 9)], 9);
+    bits_have_runs(&rt, alloc, (&[0b11111010], 0, 4), &[(1, 1), (3, 1)], 2);
+    bits_have_runs(&rt, alloc, (&[0b11010111], 3, 4), &[(1, 1), (3, 1)], 2);
     let bytes = [0b11110001, 0xff, 0xff];
     bits_have_runs(&rt, alloc, (&bytes, 0, 22), &[(0, 1), (4, 18)], 19);
     bits_have_runs(&rt, alloc, (&[0xff; 20], 3, 150), &[(0, 150)], 150);
@@ -143,15 +145,19 @@ fn a_zip_is_walked_from_both_ends(rt: HostRuntime) {
 }
 
 #[test]
-fn a_zip_is_made_with_validity_or_without(rt: HostRuntime) {
-    let alloc = rt.alloc();
+fn a_zip_without_validity_tells_none(rt: HostRuntime) {
     let values = [1u32, 2];
     let zip: ZipValidity<Copied<Iter<u32>>, BitmapIter> = ZipValidity::new(
         values.iter().copied(),
         None,
     );
     assert!(rt; matches!(zip.unwrap_required().next(), Some(1)));
+}
 
+#[test]
+fn a_zip_with_validity_tells_nulls(rt: HostRuntime) {
+    let alloc = rt.alloc();
+    let values = [1u32, 2];
     let validity = bitmap_from(&rt, alloc, &[false, true]);
     assert!(rt; validity.len() == 2);
     let mut zip = ZipValidity::new(values.iter().copied(), Some(validity.iter()));
