@@ -73,6 +73,9 @@ macro_rules! line {
     };
 }
 
+/// The runs of a line on short inputs: each is one call.
+const CALLS: (usize, &str) = (100_000, "calls");
+
 /// All lines, each with the crate whose call it is: crate by crate, lowest first.
 pub fn all(inputs: &Inputs) -> impl Iterator<Item = (&'static str, Line<'_>)> {
     let crates = [
@@ -113,6 +116,7 @@ fn bits(inputs: &Inputs) -> Vec<Line<'_>> {
         line!("count_zeros of 1,000 bits", counts, count_zeros(bytes), short(1_000)),
         line!("BitChunks of 64 bits", all, words(bytes), long(0)),
         line!("BitChunks of 64 bits, from bit 3", all, words(bytes), long(3)),
+        line!("BitChunks of 64 bits, of 1,000 bits", counts, words(bytes), short(1_000)),
     ]
 }
 
@@ -132,6 +136,7 @@ fn bitmaps(inputs: &Inputs) -> Vec<Line<'_>> {
     let lengths = || vec![LONG; 16];
     // Each run takes the first of the bitmaps.
     let runs = || vec![0; 16];
+    let calls = || vec![0; CALLS.0];
     let slices = |least, most, count| parts(LONG, least, most, count);
     vec![
         line!("from_u8_slice", all, from_u8_slice(bytes), lengths()),
@@ -157,6 +162,8 @@ fn bitmaps(inputs: &Inputs) -> Vec<Line<'_>> {
             equal(bytes_from_3, &FROM_3, bytes_from_5, &FROM_5),
             runs()
         ),
+        line!("== of 64 bits", CALLS, equal(bytes, &FIRST_64, bytes, &FIRST_64), calls()),
+        line!("== of 1,000 bits", CALLS, equal(bytes, &FIRST_1_000, bytes, &FIRST_1_000), calls()),
         line!("make_mut of a shared one", all, make_mut(bytes, &FROM_0), runs()),
         line!("make_mut of a shared one, from bit 3", all, make_mut(bytes, &FROM_3), runs()),
         line!("make_mut of a shared one, from bit 8", all, make_mut(bytes, &FROM_8), runs()),
@@ -186,9 +193,11 @@ fn growing(inputs: &Inputs) -> Vec<Line<'_>> {
     let Inputs { bytes, items, trues, numbers, .. } = inputs;
     let some = (MANY, "items");
     let runs = |times| vec![MANY; times];
+    let few = |length| vec![length; CALLS.0];
     vec![
         line!("push of random items", some, push(items), runs(1)),
         line!("push of trues", some, push(trues), runs(1)),
+        line!("push of 64 items", CALLS, push(items), few(64)),
         line!("pop", some, pop(bytes), runs(1)),
         line!(
             "extend_from_slice",
@@ -221,10 +230,17 @@ fn growing(inputs: &Inputs) -> Vec<Line<'_>> {
             near_parts(200, 10_000)
         ),
         line!("extend_constant", (16 * LONG, "bits"), extend_constant(&[5]), vec![LONG; 16]),
+        line!("extend_constant of 4 items", CALLS, extend_constant(&[5]), few(4)),
+        line!("extend_constant of 16 items", CALLS, extend_constant(&[5]), few(16)),
+        line!("extend_constant of 200 items", CALLS, extend_constant(&[5]), few(200)),
         line!("set of random items", some, set(bytes, items), runs(1)),
         line!("set of trues", some, set(bytes, trues), runs(1)),
         line!("from_bools", (4 * MANY, "items"), from_bools(items), runs(4)),
+        line!("from_bools of 64 items", CALLS, from_bools(items), few(64)),
+        line!("from_bools of 1,000 items", CALLS, from_bools(items), few(1_000)),
         line!("try_from_iter of booleans", some, try_from_iter(items), runs(1)),
+        line!("try_from_iter of 64 booleans", CALLS, try_from_iter(items), few(64)),
+        line!("try_from_iter of 1,000 booleans", CALLS, try_from_iter(items), few(1_000)),
         line!(
             "try_from_iter of comparisons",
             (8 * NUMBERS, "items"),
@@ -244,6 +260,7 @@ fn runs(inputs: &Inputs) -> Vec<Line<'_>> {
         line!("SlicesIterator, from bit 3", some, runs(bytes, &SOME_FROM_3), run()),
         line!("SlicesIterator of long runs", all, runs(bytes_of_runs, &FROM_0), run()),
         line!("SlicesIterator of long runs, from bit 3", all, runs(bytes_of_runs, &FROM_3), run()),
+        line!("SlicesIterator of 64 bits", CALLS, runs(bytes, &FIRST_64), vec![0; CALLS.0]),
     ]
 }
 
@@ -263,7 +280,7 @@ fn kernels(inputs: &Inputs) -> Vec<Line<'_>> {
     let own_of = |length: usize| &bytes_from_5[..length / 8];
     let all = (16 * LONG, "bits");
     let runs = || vec![0; 16];
-    let calls = (100_000, "calls");
+    let calls = CALLS;
     let short_runs = || vec![0; calls.0];
     vec![
         line!("and", all, and(bytes, &FROM_0, bytes_from_5, &FROM_0), runs()),
@@ -282,6 +299,8 @@ fn kernels(inputs: &Inputs) -> Vec<Line<'_>> {
         line!("and, from bits 3 and 5", all, and(bytes_from_3, &FROM_3, bytes, &FROM_5), runs()),
         line!("unary", all, unary(bytes, &FROM_0), runs()),
         line!("unary, from bit 3", all, unary(bytes, &FROM_3), runs()),
+        line!("unary of 64 bits", calls, unary(bytes, &FIRST_64), short_runs()),
+        line!("unary of 1,000 bits", calls, unary(bytes, &FIRST_1_000), short_runs()),
         line!("binary_assign", all, xor_assign(own, bytes, &FROM_0), runs()),
         line!("binary_assign, from bit 3", all, xor_assign(own, bytes, &FROM_3), runs()),
         line!("binary_assign of u8", all, xor_assign_by_bytes(own, bytes, &FROM_0), runs()),
@@ -340,6 +359,13 @@ fn buffers(inputs: &Inputs) -> Vec<Line<'_>> {
         line!("into_iter", all, buffer_into_iter(numbers), whole()),
         line!("as_slice, walked", all, buffer_as_slice(numbers), whole()),
         line!("try_from_iter", all, buffer_try_from_iter(numbers), vec![NUMBERS; 8]),
+        line!("try_from_iter of 8 items", CALLS, buffer_try_from_iter(numbers), vec![8; CALLS.0]),
+        line!(
+            "try_from_iter of 100 items",
+            CALLS,
+            buffer_try_from_iter(numbers),
+            vec![100; CALLS.0]
+        ),
     ]
 }
 
@@ -349,6 +375,13 @@ fn offsets(inputs: &Inputs) -> Vec<Line<'_>> {
     let runs = || vec![NUMBERS; 8];
     vec![
         line!("try_from_lengths", all, try_from_lengths(slots), runs()),
+        line!("try_from_lengths of 10 lengths", CALLS, try_from_lengths(slots), vec![10; CALLS.0]),
+        line!(
+            "try_from_lengths of 100 lengths",
+            CALLS,
+            try_from_lengths(slots),
+            vec![100; CALLS.0]
+        ),
         line!("try_extend_from_lengths, with room", all, extend_from_lengths(slots), runs()),
         line!("try_push", all, try_push(slots_of_64), runs()),
         line!("a vector, checked", all, check_offsets(offsets), runs()),

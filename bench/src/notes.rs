@@ -3,7 +3,67 @@
 /// A crate, how names of its lines begin, and why these lines are above 1. The first that fits counts.
 type Note = (&'static str, &'static str, &'static str);
 
-const NOTES: [Note; 2] = [("arrow2_ffi", "get_bit", INLINED), ("arrow2_ffi", "set_bit", INLINED)];
+const NOTES: [Note; 21] = [
+    (
+        "arrow2_chunk",
+        "BitChunkOnes",
+        "each step tests the word itself, where arrow2 counts its set bits once",
+    ),
+    ("arrow2_bits", "count_zeros of", ONCE),
+    ("arrow2_bitmap", "iter", "each bit is read by its place, with nothing read ahead"),
+    (
+        "arrow2_bitmap",
+        "pop",
+        "the bit that leaves is cleared, which arrow2 leaves set behind the items",
+    ),
+    ("arrow2_bitmap", "extend_constant of", FIRST),
+    ("arrow2_bitmap", "set of trues", "either value goes by tables and no branch"),
+    ("arrow2_bitmap", "sliced", "a count fetches each byte once"),
+    ("arrow2_kernels", "unary_assign_table", AT_RUN_TIME),
+    ("arrow2_kernels", "binary_assign_table", AT_RUN_TIME),
+    ("arrow2_buffer", "try_from_iter", HINTS),
+    ("arrow2_offset", "try_from_lengths", HINTS),
+    (
+        "arrow2_offset",
+        "try_extend_from_lengths",
+        "lengths are added up in 128 bits, so that the sum is exact",
+    ),
+    ("arrow2_ffi", "get_bit", INLINED),
+    ("arrow2_ffi", "set_bit", INLINED),
+    (
+        "arrow2_ffi",
+        "set_places",
+        "a walk that goes on from any place, where the twin takes whole words",
+    ),
+    ("arrow2_ffi", "unary_assign_table", AT_RUN_TIME),
+    ("arrow2_ffi", "binary_assign_table", AT_RUN_TIME),
+    (
+        "arrow2_ffi",
+        "offsets32_from_lengths",
+        "the sum of all lengths is tested before the first offset is written",
+    ),
+    (
+        "arrow2_ffi",
+        "offsets64_from_lengths",
+        "the sum of all lengths is tested before the first offset is written",
+    ),
+    (
+        "arrow2_ffi",
+        "offsets",
+        "numbers are tested to be offsets at each call, since no type of C keeps that they are",
+    ),
+    ("arrow2_ffi", "", "ranges and lengths are tested at each call"),
+];
+
+const ONCE: &str =
+    "each byte is fetched once, so what is behind the last 32 bytes goes by words of falling width";
+
+const FIRST: &str =
+    "room is asked for before anything is written, so that a refusal leaves the items";
+
+const AT_RUN_TIME: &str = "one loop for all tables, where arrow2's is compiled for the function";
+
+const HINTS: &str = "no size hint is believed, so room grows by doubling, where arrow2 asks once";
 
 const INLINED: &str =
     "a call into the library, where Rust's compiler writes arrow2's four instructions in its place";
