@@ -3,13 +3,16 @@
 /// A crate, how names of its lines begin, and why these lines are above 1. The first that fits counts.
 type Note = (&'static str, &'static str, &'static str);
 
-const NOTES: [Note; 21] = [
+const NOTES: [Note; 25] = [
     (
         "arrow2_chunk",
         "BitChunkOnes",
         "each step tests the word itself, where arrow2 counts its set bits once",
     ),
     ("arrow2_bits", "count_zeros of", ONCE),
+    ("arrow2_bits", "count_zeros", "both go at the speed of the processor's own count of bits"),
+    ("arrow2_bitmap", "from_u8_slice", COPIED),
+    ("arrow2_bitmap", "make_mut of a shared one", COPIED),
     ("arrow2_bitmap", "iter", "each bit is read by its place, with nothing read ahead"),
     (
         "arrow2_bitmap",
@@ -30,6 +33,11 @@ const NOTES: [Note; 21] = [
     ),
     ("arrow2_ffi", "get_bit", INLINED),
     ("arrow2_ffi", "set_bit", INLINED),
+    (
+        "arrow2_ffi",
+        "copy_bits",
+        "words are written over memory of the caller, where arrow2 copies bytes into its own",
+    ),
     (
         "arrow2_ffi",
         "set_places",
@@ -54,6 +62,8 @@ const NOTES: [Note; 21] = [
     ),
     ("arrow2_ffi", "", "ranges and lengths are tested at each call"),
 ];
+
+const COPIED: &str = "a copy of memory on both sides";
 
 const ONCE: &str =
     "each byte is fetched once, so what is behind the last 32 bytes goes by words of falling width";
