@@ -1,5 +1,5 @@
 //! A list that is shared, cloned and sliced in constant time.
-ghost use Rattle.std.specs.Prelude.{◌≡◌, ◌≢◌, ◌+◌, ◌-◌, ◌^◌, ◌<◌, ◌≤◌, ◌↔◌, List, [], length, length as length', IsTrue, IfOk, IfErr, IfSome, MatchResult, ⊤, vec_len, vec_capacity};
+ghost use Rattle.std.specs.Prelude.{◌≡◌, ◌≢◌, ◌+◌, ◌-◌, ◌^◌, ◌<◌, ◌≤◌, ◌↔◌, List, [], length, length as length', slice_index_or, IsTrue, IfOk, IfErr, IfSome, MatchResult, ⊤, vec_len, vec_capacity};
 ghost use Rattle.std.specs.Bool.{OnTrue, OnFalse};
 ghost use Rattle.std.specs.Borrow.{sem};
 ghost use Rattle.std.specs.Fmt.{debug_list};
@@ -7,6 +7,7 @@ ghost use Rattle.std.specs.Fn.{FnOnceReturnsAtMut};
 ghost use Rattle.std.specs.Iterator.{IsFinite};
 ghost use Rattle.std.specs.Iterator.Runs.{WholeRun};
 ghost use Rattle.std.specs.Ordering.{on};
+ghost use Rattle.std.specs.Slice.Iter.{iter_rest};
 ghost use Rattle.std.specs.Cmp.{on_per, on_equiv};
 ghost use Rattle.std.specs.Bool.{Decides};
 ghost use Rattle.std.specs.Cmp.Lexicographic.{pointwise, lists_per, lists_equiv};
@@ -23,7 +24,9 @@ use either::Either;
 use std::alloc::{AllocError, Global};
 use std::fmt;
 use std::marker::Model;
+use std::ops::Index;
 use std::rc::Rc;
+use std::slice::Iter;
 
 /// A list of items that several owners share.
 ///
@@ -96,6 +99,13 @@ impl<T> Buffer<T> {
         ensures { result.now ≡ buffer_items self.now }
     {
         &self.storage.as_slice()[self.offset..self.offset + self.len]
+    }
+
+    /// A walk over the items, each by reference, from both ends.
+    pub fn iter(&self) -> Iter<'_, T>
+        ensures items { iter_rest result ≡ buffer_items self.now }
+    {
+        self.as_slice().iter()
     }
 
     /// How many items of the storage stand before the first item.
@@ -282,7 +292,7 @@ impl<T: Drop> Buffer<T> {
 }
 
 /// For how many items room is asked at least, so that few items ask for memory once.
-const LEAST_ROOM: usize = 64;
+const LEAST_ROOM: usize = 128;
 
 /// The items in a vector with room for more. The vector is passed by value, so that how many items it has stays
 /// in a register from item to item.
@@ -314,6 +324,19 @@ impl<T: Drop> TryFrom<Vec<T>> for Buffer<T> {
             offset: 0,
             len,
         })
+    }
+}
+
+/// The item at a place. Asks that there is one.
+impl<T> Index<usize> for Buffer<T> {
+    type Output = T;
+
+    ghost can_index = { λ b place. place < length (buffer_items b) };
+
+    ghost index_gives = { λ b place item. item ≡ slice_index_or (buffer_items b) place item };
+
+    fn index(&self, place: usize) -> &T {
+        &self.as_slice()[place]
     }
 }
 

@@ -86,6 +86,13 @@ impl<T: Copy> DoubleEndedIterator for IntoIter<T> {
     }
 }
 
+#[tactic(auto, using(crate::proofs::Part::walking))]
+impl<T: Copy> ExactSizeIterator for IntoIter<T> {
+    fn len(&self) -> usize {
+        self.end - self.index
+    }
+}
+
 /// The same items still to come. Takes no memory: it is refused only where the count of the buffer's
 /// owners is full.
 impl<T: Copy> Clone for IntoIter<T> {

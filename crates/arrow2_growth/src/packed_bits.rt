@@ -249,7 +249,7 @@ impl PackedBits {
     {
         let last = self.length.checked_sub(1)?;
         let item = get_bit(self.bytes.as_slice(), last);
-        cut(&mut self.bytes, last);
+        cut_last(&mut self.bytes, last);
         self.length = last;
         Some(item)
     }
@@ -327,6 +327,20 @@ fn cut(bytes: &mut Vec<u8>, length: usize)
     bytes.truncate(bytes_for(length));
     if length % 8 != 0 {
         bytes[length / 8] %= 1 << (length % 8);
+    }
+}
+
+/// Cuts the last item, whose place is `last`: its byte where it stands there alone, else its bit.
+fn cut_last(bytes: &mut Vec<u8>, last: usize)
+    requires { IsCanonical bytes.old.items (last + 1) }
+    ensures canonical { IsCanonical bytes.new.items last }
+    ensures items { take last (bits bytes.new.items) ≡ take last (bits bytes.old.items) }
+    ensures capacity { vec_capacity bytes.new ≡ vec_capacity bytes.old }
+{
+    if last % 8 == 0 {
+        bytes.truncate(last / 8);
+    } else {
+        bytes[last / 8] %= 1 << (last % 8);
     }
 }
 

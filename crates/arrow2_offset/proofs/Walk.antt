@@ -1,11 +1,12 @@
 -- Steps of a walk over the lengths between offsets.
-use Rattle.std.proofs.Common.{◌≡◌, ℕ, ◌+◌, ◌-◌, ◌<◌, List, [], ◌∷◌, map, length, take, drop, get_or, ap, sym, ◌∙◌, refl, arith}
+use Rattle.std.proofs.Common.{◌≡◌, ℕ, ◌+◌, ◌-◌, ◌<◌, List, [], ◌∷◌, ◌++◌, map, length, take, drop, get_or, ap, sym, ◌∙◌, refl, arith}
 use Rattle.std.specs.Prelude.{ℤ, pos, ◌≤ℤ◌, ◌-ℤ◌, unsigned_abs}
 use Rattle.std.specs.Int.{int_gap}
-use Rattle.std.proofs.lemmas.List.{length-drop, take_all}
-use Rattle.arrow2_offset.specs.Offsets.{AreOffsets, lengths_of, lengths_behind}
+use Rattle.std.proofs.lemmas.List.{length-drop, take_all, take_more}
+use Rattle.arrow2_offset.specs.Offsets.{AreOffsets, lengths_of, lengths_behind, last_of}
 use Rattle.arrow2_index.proofs.Ranges.{gap_pos}
 use Rattle.arrow2_offset.proofs.OffsetLists.{get_or-next}
+use Rattle.arrow2_offset.proofs.Growing.{cut, length_slots}
 
 -- the offsets behind the first one
 offsets_behind : (x y : ℤ) (xs : List ℤ) → AreOffsets (x ∷ y ∷ xs) → AreOffsets (y ∷ xs)
@@ -46,3 +47,12 @@ module _ {X : Type 0} (value : X → ℤ) where
       let len = length-drop 1 items in
       let all : behind ≡ drop 1 items = is ∙ take_all (length items - 1) (drop 1 items) (omega (arith, len)) in
       rw all (first_of items a b n h l is-a is-b e)
+
+  -- the lengths in front of the last one, and that one
+  pub last_length : (items : List X) (k m n : ℕ) → AreOffsets (map value items) → length items ≡ k + 2 → n ≡ m + get_or (lengths_of (map value items)) k 0 → AreOffsets (map value (take (k + 1) items)) × (lengths_of (map value items) ≡ lengths_of (map value (take (k + 1) items)) ++ (n - m) ∷ [])
+  last_length items k m n h l e =
+      let all = lengths_of (map value items) in
+      let count = length_slots value items (length items) h refl in
+      let front = cut value (last_of (map value items)) items (take (k + 1) items) (k + 1) k (h, omega arith) refl (omega arith) refl in
+      let is : n - m ≡ get_or all k 0 = omega arith in
+      (front.0.0, sym (take_all (k + 1) all (omega arith)) ∙ (take_more all k 0 (omega arith) ∙ rw (front.2, is) refl))

@@ -15,7 +15,7 @@ use std::alloc::AllocError;
 use std::mem;
 
 /// For how many lengths room is asked at least, so that few lengths ask for memory once.
-const LEAST_ROOM: usize = 64;
+pub(crate) const LEAST_ROOM: usize = 128;
 
 /// Appends the lengths of an iterator that ends, and takes them off again where it refuses. Asks that the items
 /// are offsets. The iterator's size hint is not read.

@@ -20,6 +20,7 @@ use arrow2_types::error::{Error, Result};
 use either::Either;
 use std::alloc::{AllocError, Global};
 use std::marker::Model;
+use std::ops::Index;
 
 /// Offsets over a shared buffer: contracts see the numbers of its storage, the place of the first offset
 /// there, and how many offsets there are.
@@ -189,7 +190,24 @@ impl<O: Offset> OffsetsBuffer<O> {
         self.buffer.slice(offset, length);
     }
 
-    /// The lengths of the slots, one by one.
+    /// The `length` offsets from offset `offset` on, over the same storage. Takes no memory.
+    ///
+    /// Asks what [`OffsetsBuffer::slice`] asks. arrow2 has `slice` alone.
+    pub fn sliced(mut self, offset: usize, length: usize) -> Self
+        requires some { 0 < length }
+        requires inside { offset + length ≤ count_of (buffer_items self) }
+        ensures offsets { buffer_items result ≡ part (buffer_items self) offset length }
+        ensures storage { result ≡ record self { offset = self.offset + offset; len = length } }
+        ensures start { start_of (buffer_items result)
+            ≡ offset_at (start_of (buffer_items self)) (lengths_of (buffer_items self)) offset }
+        ensures lengths { lengths_of (buffer_items result)
+            ≡ part (lengths_of (buffer_items self)) offset (length - 1) }
+    {
+        self.slice(offset, length);
+        self
+    }
+
+    /// The lengths of the slots, one by one, from both ends.
     pub fn lengths(&self) -> Lengths<'_, O>
         ensures { result ≡ lengths_of (buffer_items self.now) }
     {
@@ -262,6 +280,20 @@ impl<O: Offset> TryFrom<Offsets<O>> for OffsetsBuffer<O> {
     fn try_from(offsets: Offsets<O>) -> Result<Self> {
         let buffer = Buffer::try_from(offsets.into_inner())?;
         Ok(OffsetsBuffer { buffer })
+    }
+}
+
+/// The offset at a place. Asks that there is one.
+impl<O: Offset> Index<usize> for OffsetsBuffer<O> {
+    type Output = O;
+
+    ghost can_index = { λ b place. place < count_of (buffer_items b) };
+
+    ghost index_gives = { λ b place offset.
+        O.value offset ≡ slice_index_or (buffer_items b) place (pos 0) };
+
+    fn index(&self, place: usize) -> &O {
+        &self.as_slice()[place]
     }
 }
 

@@ -1,9 +1,10 @@
 //! The lengths between offsets, one by one.
 ghost use Rattle.std.specs.Prelude.{◌≡◌, map, length, Some, IfSome};
-ghost use Rattle.std.specs.Iterator.{YieldsFirst, item_count, UpTo};
+ghost use Rattle.std.specs.Iterator.{YieldsFirst, YieldsLast, item_count, UpTo};
 ghost use Rattle.std.specs.Iterator.SizeHint.{IsWithinCount};
 ghost use Rattle.arrow2_offset.specs.Offsets.{AreOffsets, lengths_of};
 
+use crate::spans::slot_span;
 use arrow2_index::offset::Offset;
 use std::alloc::AllocError;
 use std::marker::Model;
@@ -74,5 +75,25 @@ impl<'a, O: Offset> Iterator for Lengths<'a, O> {
     {
         let left = self.offsets.len() - 1;
         (left, Some(left))
+    }
+}
+
+impl<'a, O: Offset> DoubleEndedIterator for Lengths<'a, O> {
+    ghost next_back_gives = { YieldsLast (λ s. s) };
+
+    fn next_back(&mut self) -> Option<usize> {
+        if self.offsets.len() == 1 {
+            return None;
+        }
+        let last = self.offsets.len() - 2;
+        let (start, end) = slot_span(self.offsets, last);
+        self.offsets = &self.offsets[..last + 1];
+        Some(end - start)
+    }
+}
+
+impl<'a, O: Offset> ExactSizeIterator for Lengths<'a, O> {
+    fn len(&self) -> usize {
+        self.offsets.len() - 1
     }
 }

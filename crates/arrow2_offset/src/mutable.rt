@@ -16,7 +16,7 @@ ghost use Rattle.arrow2_offset.specs.Refused.{IsOutOfSpec, why_not_offsets};
 ghost use Rattle.arrow2_types.specs.Refusals.{error_of};
 ghost use Rattle.arrow2_types.specs.declared.refusal.Refusal.TheVariants as refusal;
 
-use crate::appended::append_lengths;
+use crate::appended::{LEAST_ROOM, append_lengths};
 use crate::check::try_check_offsets;
 use crate::immutable::OffsetsBuffer;
 use crate::iterator::Lengths;
@@ -26,6 +26,7 @@ use arrow2_types::error::{Error, Result};
 use arrow2_types::refusal::Refusal;
 use std::alloc::{AllocError, Global};
 use std::marker::Model;
+use std::ops::Index;
 
 /// Offsets that grow: contracts see their start, their lengths, and for how many lengths there is room.
 ///
@@ -140,7 +141,7 @@ impl<O: Offset> Offsets<O> {
         ensures overflow { IsErrOf result Error.Overflow → GivesPast O.MAX 0 I.next_gives lengths }
         ensures only { IfErr result (λ e. (e ≡ Error.Overflow) ⊎ (e ≡ Error.OutOfMemory)) }
     {
-        let mut offsets = Offsets::new(alloc)?;
+        let mut offsets = Offsets::with_capacity(alloc, LEAST_ROOM)?;
         offsets.extend_lengths(lengths)?;
         Ok(offsets)
     }
@@ -483,6 +484,20 @@ impl<O: Offset> Clone for Offsets<O> {
     fn clone(&self) -> std::result::Result<Self, AllocError> {
         let offsets = Vec::from_slice(*self.offsets.allocator(), self.offsets.as_slice())?;
         Ok(Offsets { offsets })
+    }
+}
+
+/// The offset at a place. Asks that there is one.
+impl<O: Offset> Index<usize> for Offsets<O> {
+    type Output = O;
+
+    ghost can_index = { λ o place. place ≤ slots o };
+
+    ghost index_gives = { λ o place offset.
+        O.value offset ≡ pos (offset_at o.start o.lengths place) };
+
+    fn index(&self, place: usize) -> &O {
+        &self.as_slice()[place]
     }
 }
 
