@@ -73,3 +73,9 @@ impl<'a> DoubleEndedIterator for BooleanIter<'a> {
         self.items.next_back()
     }
 }
+
+impl<'a> ExactSizeIterator for BooleanIter<'a> {
+    fn len(&self) -> usize {
+        self.items.len()
+    }
+}

@@ -54,7 +54,24 @@ pub(crate) fn copy(bits: Bits<'_>, length: usize, out: &mut [u8])
     requires exact { Holds out.old length }
     ensures { Stores out.new length (first_bits bits.entry length) }
 {
-    assign_rows(out, length, words(bits, length), |_own: u64, word| word);
+    if bits.1 % 8 == 0 {
+        copy_bytes(&bits.0[bits.1 / 8..], length, out);
+    } else {
+        assign_rows(out, length, words(bits, length), |_own: u64, word| word);
+    }
+}
+
+/// Writes the first `length` bits of `bytes` over `out`, all bytes at once. Asks that there are so many, and for as many
+/// bytes as hold them.
+fn copy_bytes(bytes: &[u8], length: usize, out: &mut [u8])
+    requires inside { length ≤ 8 * length' bytes.now }
+    requires exact { Holds out.old length }
+    ensures { Stores out.new length (take length (bits bytes.now)) }
+{
+    out.copy_from_slice(&bytes[..out.len()]);
+    if length % 8 != 0 {
+        out[length / 8] %= 1 << (length % 8);
+    }
 }
 
 /// Writes the answers of table `t` for the first `length` bits, and for as many of the second input, in place. Asks for

@@ -71,6 +71,14 @@ impl Pieces {
         &self.bitmaps[p]
     }
 
+    /// The pieces, in order.
+    pub fn into_inner(self) -> Vec<Bitmap>
+        ensures { map piece_of result.items ≡ self.pieces }
+    {
+        let Pieces { bitmaps, reads: _ } = self;
+        bitmaps
+    }
+
     /// Cuts piece `p` in two: its first `i` items and the others take its place. Asks that there are such a piece and
     /// as many items. Takes its memory before it counts.
     ///
