@@ -89,7 +89,7 @@ fn arrays_are_read_and_shown(rt: HostRuntime) {
     let alloc = rt.alloc();
     let mut array = with_nulls(&rt, alloc);
     let copy = array.clone().expect(&rt, "no memory");
-    assert!(rt; copy.get(0).is_none() && copy.get(2) == Some(true));
+    assert!(rt; copy.get(0).is_none() && copy.get(2) == Some(true) && copy.iter().len() == 4);
     assert!(rt; copy == array && !copy.is_empty() && copy.null_count() == 2);
     shows(&rt, alloc, &array, "BooleanArray[None, false, true, None]");
     array.slice(0, 0);

@@ -48,6 +48,7 @@ fn a_slice_shares_its_storage(rt: HostRuntime) {
     part.slice(1, 1);
     has(&rt, whole.as_slice(), &[1, 2, 3]);
     has(&rt, part.as_slice(), &[2]);
+    assert!(rt; part[0] == 2 && whole.iter().len() == 3);
     assert!(rt; part.offset() == 1 && part.is_sliced() && !whole.is_sliced());
     shows(&rt, alloc, &part, "[2]");
     let (storage, offset, length) = part.into_inner();

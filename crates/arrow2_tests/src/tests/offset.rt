@@ -99,7 +99,7 @@ fn reads(rt: &impl Abort, alloc: Global) {
     let mut offsets = grown::<i32>(rt, alloc, &[3, 4, 1, 2]);
     let copy = offsets.clone().expect(rt, "no memory");
     assert!(rt; copy == offsets && offsets.pop() == Some(10));
-    assert!(rt; *offsets.last() == 8 && offsets.len() == 4);
+    assert!(rt; *offsets.last() == 8 && offsets.len() == 4 && offsets[1] == 3);
     assert!(rt; offsets.len_proxy() == 3);
     assert!(rt; matches!(offsets.start_end(1), (3, 7)));
     offsets.shrink_to_fit().expect(rt, "no memory");
@@ -122,9 +122,11 @@ fn slices(rt: &impl Abort, alloc: Global) {
     let empty = OffsetsBuffer::<i32>::new(alloc).expect(rt, "no memory");
     is(rt, empty.as_slice(), &[0]);
     let mut part = kept(rt, alloc, &[5, 3, 0, 4]);
-    assert!(rt; part.len() == 5);
+    assert!(rt; part.len() == 5 && part[2] == 8);
     part.slice(1, 4);
     gives(rt, alloc, &part, &[3, 0, 4]);
+    assert!(rt; part.lengths().len() == 3 && part.lengths().rev().next() == Some(4));
+    gives(rt, alloc, &part.sliced(0, 2), &[3]);
 }
 
 /// Each call that reads shared offsets.
