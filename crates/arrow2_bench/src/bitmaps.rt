@@ -1,6 +1,6 @@
 //! Shared bitmaps.
 
-use crate::part::Part;
+use crate::part::{Part, answers_on_pairs};
 use arrow2_bitmap::immutable::Bitmap;
 use arrow2_types::error::Result;
 use std::alloc::Global;
@@ -35,7 +35,7 @@ pub extern "C" fn bench_new_zeroed(alloc: Global, lengths: &[usize]) -> usize {
 }
 
 /// The bitmap of all bits of the bytes.
-fn whole(alloc: Global, bytes: &[u8]) -> Result<Bitmap> {
+pub fn whole(alloc: Global, bytes: &[u8]) -> Result<Bitmap> {
     Bitmap::from_u8_slice(alloc, bytes, bytes.len().saturating_mul(8))
 }
 
@@ -92,6 +92,27 @@ pub fn answers<F: Fn(&Bitmap) -> usize>(
     sum
 }
 
+/// The answers on the bitmaps of both bytes at the places that the runs choose, added up.
+pub fn answers_of_both<F: Fn(&Bitmap, &Bitmap) -> usize>(
+    alloc: Global,
+    left: &[u8],
+    left_parts: &[Part],
+    right: &[u8],
+    right_parts: &[Part],
+    runs: &[usize],
+    answer: F,
+) -> usize
+    requires { F.IsAlwaysCallable answer }
+{
+    let Ok(left) = bitmaps(alloc, left, left_parts) else {
+        return 0;
+    };
+    let Ok(right) = bitmaps(alloc, right, right_parts) else {
+        return 0;
+    };
+    answers_on_pairs(left.as_slice(), right.as_slice(), runs, answer)
+}
+
 /// How many of the bitmaps of the left bytes are equal to the one of the right bytes at the same place.
 #[unsafe(no_mangle)]
 pub extern "C" fn bench_equal(
@@ -102,19 +123,15 @@ pub extern "C" fn bench_equal(
     right_parts: &[Part],
     runs: &[usize],
 ) -> usize {
-    let Ok(left) = bitmaps(alloc, left, left_parts) else {
-        return 0;
-    };
-    let Ok(right) = bitmaps(alloc, right, right_parts) else {
-        return 0;
-    };
-    let mut same = 0usize;
-    for run in runs {
-        if left.get(*run) == right.get(*run) {
-            same = same.wrapping_add(1);
-        }
-    }
-    same
+    answers_of_both(
+        alloc,
+        left,
+        left_parts,
+        right,
+        right_parts,
+        runs,
+        |left, right| { usize::from(left == right) },
+    )
 }
 
 /// Copies of shared bitmaps that are to be changed.

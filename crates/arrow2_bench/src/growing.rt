@@ -56,7 +56,7 @@ pub extern "C" fn bench_try_from_comparisons(
 }
 
 /// How many items are false, or 0 where memory ran out.
-fn zeros(bitmap: Result<Bitmap>) -> usize {
+pub fn zeros(bitmap: Result<Bitmap>) -> usize {
     match bitmap {
         Ok(bitmap) => bitmap.unset_bits(),
         Err(_) => 0,

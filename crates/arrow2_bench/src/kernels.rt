@@ -1,7 +1,7 @@
 //! Functions of words over bitmaps, in new memory and in place.
 
-use crate::bitmaps::{answers, bitmaps};
-use crate::growing::growing;
+use crate::bitmaps::{answers, answers_of_both, bitmaps};
+use crate::growing::{growing, zeros};
 use crate::part::Part;
 use arrow2_bitmap::assign_ops::binary_assign;
 use arrow2_bitmap::bitmap_ops::{and, unary};
@@ -10,6 +10,17 @@ use arrow2_bitmap::mutable::MutableBitmap;
 use arrow2_chunk::bit_chunk::BitChunk;
 use arrow2_tables::assign_ops::{binary_assign_table, unary_assign_table};
 use std::alloc::Global;
+
+/// How many items of a new bitmap are false. 0 where the two that it is made of differ in length.
+macro_rules! zeros_of {
+    ($left:ident, $right:ident, $made:expr) => {
+        if $left.len() == $right.len() {
+            zeros($made)
+        } else {
+            0
+        }
+    };
+}
 
 /// New bitmaps of what is set in both bitmaps at the same place, each with its count.
 #[unsafe(no_mangle)]
@@ -21,30 +32,63 @@ pub extern "C" fn bench_and(
     right_parts: &[Part],
     runs: &[usize],
 ) -> usize {
-    let Ok(left) = bitmaps(alloc, left, left_parts) else {
-        return 0;
-    };
-    let Ok(right) = bitmaps(alloc, right, right_parts) else {
-        return 0;
-    };
-    let mut zeros = 0usize;
-    for run in runs {
-        if let (Some(left), Some(right)) = (left.get(*run), right.get(*run)) {
-            zeros = zeros.wrapping_add(zeros_of_and(left, right));
-        }
-    }
-    zeros
+    answers_of_both(
+        alloc,
+        left,
+        left_parts,
+        right,
+        right_parts,
+        runs,
+        |left, right| { zeros_of!(left, right, and(left, right)) },
+    )
 }
 
-/// How many items are not set in both. 0 where the bitmaps differ in length.
-fn zeros_of_and(left: &Bitmap, right: &Bitmap) -> usize {
-    if left.len() != right.len() {
-        return 0;
-    }
-    match and(left, right) {
-        Ok(both) => both.unset_bits(),
-        Err(_) => 0,
-    }
+/// The same of what is set in one of them, or in both.
+#[unsafe(no_mangle)]
+pub extern "C" fn bench_or(
+    alloc: Global,
+    left: &[u8],
+    left_parts: &[Part],
+    right: &[u8],
+    right_parts: &[Part],
+    runs: &[usize],
+) -> usize {
+    answers_of_both(
+        alloc,
+        left,
+        left_parts,
+        right,
+        right_parts,
+        runs,
+        |left, right| { zeros_of!(left, right, left | right) },
+    )
+}
+
+/// The same of what is set in one of them, and not in both.
+#[unsafe(no_mangle)]
+pub extern "C" fn bench_xor(
+    alloc: Global,
+    left: &[u8],
+    left_parts: &[Part],
+    right: &[u8],
+    right_parts: &[Part],
+    runs: &[usize],
+) -> usize {
+    answers_of_both(
+        alloc,
+        left,
+        left_parts,
+        right,
+        right_parts,
+        runs,
+        |left, right| { zeros_of!(left, right, left ^ right) },
+    )
+}
+
+/// New bitmaps of what is not set, each with its count.
+#[unsafe(no_mangle)]
+pub extern "C" fn bench_not(alloc: Global, bytes: &[u8], parts: &[Part], runs: &[usize]) -> usize {
+    answers(alloc, bytes, parts, runs, |bitmap| zeros(!bitmap))
 }
 
 /// New bitmaps of a function of words that is not one of bits, each with its count.
@@ -60,10 +104,7 @@ pub extern "C" fn bench_unary(
 
 /// How many items are not set once each word is rotated.
 fn zeros_of_rotated(bitmap: &Bitmap) -> usize {
-    match unary(bitmap, |word| word.rotate_left(1)) {
-        Ok(rotated) => rotated.unset_bits(),
-        Err(_) => 0,
-    }
+    zeros(unary(bitmap, |word| word.rotate_left(1)))
 }
 
 /// A growing bitmap that is changed in place by each of the bitmaps, in words of 64 bits.

@@ -9,6 +9,7 @@
 //! runs out.
 #![tactic(auto)]
 
+mod arrays;
 mod bitmaps;
 mod bits;
 mod buffers;
@@ -17,4 +18,7 @@ mod kernels;
 mod numbers;
 mod offsets;
 mod part;
+mod pieces;
+mod tables;
 mod walks;
+mod zips;
