@@ -82,13 +82,24 @@ pub fn all(inputs: &Inputs) -> impl Iterator<Item = (&'static str, Line<'_>)> {
         ("arrow2_index", index()),
         ("arrow2_chunk", chunk(inputs)),
         ("arrow2_bits", bits(inputs)),
+        ("arrow2_bits", single_bits(inputs)),
         ("arrow2_bitmap", bitmaps(inputs)),
+        ("arrow2_bitmap", equality(inputs)),
+        ("arrow2_bitmap", copies(inputs)),
         ("arrow2_bitmap", walks(inputs)),
         ("arrow2_bitmap", growing(inputs)),
+        ("arrow2_bitmap", appending(inputs)),
+        ("arrow2_bitmap", collected(inputs)),
         ("arrow2_walks", runs(inputs)),
-        ("arrow2_kernels", kernels(inputs)),
+        ("arrow2_walks", zips(inputs)),
+        ("arrow2_kernels", operators(inputs)),
+        ("arrow2_kernels", in_place(inputs)),
+        ("arrow2_kernels", tables_in_place(inputs)),
+        ("arrow2_tables", tables(inputs)),
+        ("arrow2_array", arrays(inputs)),
         ("arrow2_buffer", buffers(inputs)),
         ("arrow2_offset", offsets(inputs)),
+        ("arrow2_offset", shared_offsets(inputs)),
         ("arrow2_ffi", exports::lines(inputs)),
     ];
     crates.into_iter().flat_map(|(name, lines)| lines.into_iter().map(move |line| (name, line)))
@@ -117,6 +128,21 @@ fn bits(inputs: &Inputs) -> Vec<Line<'_>> {
         line!("BitChunks of 64 bits", all, words(bytes), long(0)),
         line!("BitChunks of 64 bits, from bit 3", all, words(bytes), long(3)),
         line!("BitChunks of 64 bits, of 1,000 bits", counts, words(bytes), short(1_000)),
+        line!("BitChunks of 32 bits, from bit 3", all, words_of_u32(bytes), long(3)),
+        line!("BitChunks of 8 bits, from bit 3", all, words_of_u8(bytes), long(3)),
+        line!("BitChunksExactMut, by change_next", all, change_next(bytes), vec![LONG; 16]),
+    ]
+}
+
+fn single_bits(inputs: &Inputs) -> Vec<Line<'_>> {
+    let Inputs { bytes, items, trues, places, .. } = inputs;
+    let some = (MANY, "bits");
+    let random = || places.clone();
+    vec![
+        line!("BitmapIter, added up", some, bitmap_iter(bytes), again(0, MANY, 1)),
+        line!("BitmapIter, added up, from bit 3", some, bitmap_iter(bytes), again(3, MANY, 1)),
+        line!("set_bit of random items, at random", some, set_bit(bytes, items), random()),
+        line!("set_bit of trues, at random", some, set_bit(bytes, trues), random()),
     ]
 }
 
@@ -131,16 +157,17 @@ static FROM_5: [Part; 1] = long_from(5);
 static FROM_8: [Part; 1] = long_from(8);
 
 fn bitmaps(inputs: &Inputs) -> Vec<Line<'_>> {
-    let Inputs { bytes, bytes_from_3, bytes_from_5, places, .. } = inputs;
-    let all = (16 * LONG, "bits");
-    let lengths = || vec![LONG; 16];
-    // Each run takes the first of the bitmaps.
-    let runs = || vec![0; 16];
-    let calls = || vec![0; CALLS.0];
+    let Inputs { bytes, places, .. } = inputs;
     let slices = |least, most, count| parts(LONG, least, most, count);
     vec![
-        line!("from_u8_slice", all, from_u8_slice(bytes), lengths()),
-        line!("new_zeroed", all, new_zeroed(), lengths()),
+        line!("from_u8_slice", (16 * LONG, "bits"), from_u8_slice(bytes), vec![LONG; 16]),
+        line!(
+            "from_u8_slice of 1,000 bits",
+            CALLS,
+            from_u8_slice(&bytes[..125]),
+            vec![1_000; CALLS.0]
+        ),
+        line!("new_zeroed", (16 * LONG, "bits"), new_zeroed(), vec![LONG; 16]),
         line!("sliced to any length", (1_000, "slices"), sliced(bytes), slices(0, LONG, 1_000)),
         line!(
             "sliced to 2,000 bits at most",
@@ -154,6 +181,17 @@ fn bitmaps(inputs: &Inputs) -> Vec<Line<'_>> {
             sliced(bytes),
             slices(LONG - 4_000, LONG, 5_000)
         ),
+        line!("get, at random", (MANY, "items"), get(bytes), places.clone()),
+    ]
+}
+
+/// Whether bitmaps are equal. Each run takes the first of them.
+fn equality(inputs: &Inputs) -> Vec<Line<'_>> {
+    let Inputs { bytes, bytes_from_3, bytes_from_5, .. } = inputs;
+    let all = (16 * LONG, "bits");
+    let runs = || vec![0; 16];
+    let calls = || vec![0; CALLS.0];
+    vec![
         line!("==", all, equal(bytes, &FROM_0, bytes, &FROM_0), runs()),
         line!("==, from bits 0 and 3", all, equal(bytes, &FROM_0, bytes_from_3, &FROM_3), runs()),
         line!(
@@ -164,10 +202,24 @@ fn bitmaps(inputs: &Inputs) -> Vec<Line<'_>> {
         ),
         line!("== of 64 bits", CALLS, equal(bytes, &FIRST_64, bytes, &FIRST_64), calls()),
         line!("== of 1,000 bits", CALLS, equal(bytes, &FIRST_1_000, bytes, &FIRST_1_000), calls()),
+    ]
+}
+
+/// Copies to be changed.
+fn copies(inputs: &Inputs) -> Vec<Line<'_>> {
+    let bytes = &inputs.bytes;
+    let all = (16 * LONG, "bits");
+    let runs = || vec![0; 16];
+    vec![
         line!("make_mut of a shared one", all, make_mut(bytes, &FROM_0), runs()),
         line!("make_mut of a shared one, from bit 3", all, make_mut(bytes, &FROM_3), runs()),
         line!("make_mut of a shared one, from bit 8", all, make_mut(bytes, &FROM_8), runs()),
-        line!("get, at random", (MANY, "items"), get(bytes), places.clone()),
+        line!(
+            "make_mut of a shared one of 1,000 bits",
+            CALLS,
+            make_mut(&bytes[..125], &FIRST_1_000),
+            vec![0; CALLS.0]
+        ),
     ]
 }
 
@@ -179,9 +231,12 @@ fn walks(inputs: &Inputs) -> Vec<Line<'_>> {
     let bytes = &inputs.bytes;
     let some = (MANY, "bits");
     let run = || vec![0];
+    let calls = || vec![0; CALLS.0];
     vec![
         line!("iter, added up", some, iter(bytes, &SOME_FROM_0), run()),
         line!("iter, added up, from bit 3", some, iter(bytes, &SOME_FROM_3), run()),
+        line!("iter of 64 bits", CALLS, iter(bytes, &FIRST_64), calls()),
+        line!("iter of 1,000 bits", CALLS, iter(bytes, &FIRST_1_000), calls()),
         line!("iter, places of trues", some, iter_places(bytes, &SOME_FROM_0), run()),
         line!("iter from the back", some, iter_back(bytes, &SOME_FROM_3), run()),
         line!("iter, each eighth by nth", (bytes.len(), "items"), iter_nth(bytes), vec![8]),
@@ -190,55 +245,55 @@ fn walks(inputs: &Inputs) -> Vec<Line<'_>> {
 }
 
 fn growing(inputs: &Inputs) -> Vec<Line<'_>> {
-    let Inputs { bytes, items, trues, numbers, .. } = inputs;
+    let Inputs { bytes, items, trues, .. } = inputs;
     let some = (MANY, "items");
-    let runs = |times| vec![MANY; times];
+    let run = || vec![MANY];
+    vec![
+        line!("push of random items", some, push(items), run()),
+        line!("push of trues", some, push(trues), run()),
+        line!("push of 64 items", CALLS, push(items), vec![64; CALLS.0]),
+        line!("pop", some, pop(bytes), run()),
+        line!("set of random items", some, set(bytes, items), run()),
+        line!("set of trues", some, set(bytes, trues), run()),
+    ]
+}
+
+/// Bits and items appended behind the first items.
+fn appending(inputs: &Inputs) -> Vec<Line<'_>> {
+    let bytes = &inputs.bytes;
+    let long = |name, own: &'static [usize], offset, times| {
+        let parts = again(offset, LONG, times);
+        line!(name, (times * LONG, "bits"), extend_from_slice(bytes, own), parts)
+    };
+    let short = |name, elements: (usize, &'static str), parts| {
+        line!(name, elements, extend_from_slice(bytes, &[5]), parts)
+    };
     let few = |length| vec![length; CALLS.0];
     vec![
-        line!("push of random items", some, push(items), runs(1)),
-        line!("push of trues", some, push(trues), runs(1)),
-        line!("push of 64 items", CALLS, push(items), few(64)),
-        line!("pop", some, pop(bytes), runs(1)),
-        line!(
-            "extend_from_slice",
-            (16 * LONG, "bits"),
-            extend_from_slice(bytes, &[0]),
-            again(0, LONG, 16)
-        ),
-        line!(
-            "extend_from_slice, from bit 3",
-            (LONG, "bits"),
-            extend_from_slice(bytes, &[0]),
-            again(3, LONG, 1)
-        ),
-        line!(
-            "extend_from_slice, within a byte",
-            (LONG, "bits"),
-            extend_from_slice(bytes, &[5]),
-            again(0, LONG, 1)
-        ),
-        line!(
-            "extend_from_slice, within a byte from bit 3",
-            (LONG, "bits"),
-            extend_from_slice(bytes, &[5]),
-            again(3, LONG, 1)
-        ),
-        line!(
-            "extend_from_slice of 200 bits",
-            (10_000, "parts"),
-            extend_from_slice(bytes, &[5]),
-            near_parts(200, 10_000)
-        ),
+        long("extend_from_slice", &[0], 0, 16),
+        long("extend_from_slice, from bit 3", &[0], 3, 1),
+        long("extend_from_slice, within a byte", &[5], 0, 1),
+        long("extend_from_slice, within a byte from bit 3", &[5], 3, 1),
+        short("extend_from_slice of 64 bits, within a byte", CALLS, again(0, 64, CALLS.0)),
+        short("extend_from_slice of 200 bits", (10_000, "parts"), near_parts(200, 10_000)),
         line!("extend_constant", (16 * LONG, "bits"), extend_constant(&[5]), vec![LONG; 16]),
         line!("extend_constant of 4 items", CALLS, extend_constant(&[5]), few(4)),
         line!("extend_constant of 16 items", CALLS, extend_constant(&[5]), few(16)),
         line!("extend_constant of 200 items", CALLS, extend_constant(&[5]), few(200)),
-        line!("set of random items", some, set(bytes, items), runs(1)),
-        line!("set of trues", some, set(bytes, trues), runs(1)),
-        line!("from_bools", (4 * MANY, "items"), from_bools(items), runs(4)),
+    ]
+}
+
+/// Bitmaps of booleans, and of the items of iterators.
+fn collected(inputs: &Inputs) -> Vec<Line<'_>> {
+    let Inputs { items, numbers, .. } = inputs;
+    let some = (MANY, "items");
+    let run = || vec![MANY];
+    let few = |length| vec![length; CALLS.0];
+    vec![
+        line!("from_bools", (4 * MANY, "items"), from_bools(items), vec![MANY; 4]),
         line!("from_bools of 64 items", CALLS, from_bools(items), few(64)),
         line!("from_bools of 1,000 items", CALLS, from_bools(items), few(1_000)),
-        line!("try_from_iter of booleans", some, try_from_iter(items), runs(1)),
+        line!("try_from_iter of booleans", some, try_from_iter(items), run()),
         line!("try_from_iter of 64 booleans", CALLS, try_from_iter(items), few(64)),
         line!("try_from_iter of 1,000 booleans", CALLS, try_from_iter(items), few(1_000)),
         line!(
@@ -261,6 +316,33 @@ fn runs(inputs: &Inputs) -> Vec<Line<'_>> {
         line!("SlicesIterator of long runs", all, runs(bytes_of_runs, &FROM_0), run()),
         line!("SlicesIterator of long runs, from bit 3", all, runs(bytes_of_runs, &FROM_3), run()),
         line!("SlicesIterator of 64 bits", CALLS, runs(bytes, &FIRST_64), vec![0; CALLS.0]),
+        line!("SlicesIterator of 1,000 bits", CALLS, runs(bytes, &FIRST_1_000), vec![0; CALLS.0]),
+    ]
+}
+
+/// The validity of all numbers.
+static VALID_FROM_0: [Part; 1] = first(NUMBERS);
+static VALID_FROM_3: [Part; 1] = [Part { offset: 3, length: NUMBERS }];
+
+fn zips(inputs: &Inputs) -> Vec<Line<'_>> {
+    let Inputs { bytes, numbers, .. } = inputs;
+    let all = (NUMBERS, "items");
+    let taken = |step| (NUMBERS / step, "items");
+    let run = || vec![0];
+    let cuts = 1_000;
+    vec![
+        line!("ZipValidity", all, zip_validity(numbers, bytes, &VALID_FROM_0), run()),
+        line!("ZipValidity, from bit 3", all, zip_validity(numbers, bytes, &VALID_FROM_3), run()),
+        line!("ZipValidityIter", all, zip_validity_iter(numbers, bytes, &VALID_FROM_0), run()),
+        line!(
+            "ZipValidityIter, from bit 3",
+            all,
+            zip_validity_iter(numbers, bytes, &VALID_FROM_3),
+            run()
+        ),
+        line!("ZipValidity by nth(1)", taken(2), zip_validity_nth(numbers, bytes), vec![2]),
+        line!("ZipValidity by nth(7)", taken(8), zip_validity_nth(numbers, bytes), vec![8]),
+        line!("Pieces, cut in halves", (cuts, "cuts"), pieces(bytes), vec![cuts]),
     ]
 }
 
@@ -274,33 +356,41 @@ static FIRST_64: [Part; 1] = first(64);
 static FIRST_1_000: [Part; 1] = first(1_000);
 static FIRST_8_192: [Part; 1] = first(8_192);
 
-fn kernels(inputs: &Inputs) -> Vec<Line<'_>> {
+/// New bitmaps of two, and of one.
+fn operators(inputs: &Inputs) -> Vec<Line<'_>> {
     let Inputs { bytes, bytes_from_3, bytes_from_5, .. } = inputs;
+    let all = (16 * LONG, "bits");
+    let runs = || vec![0; 16];
+    let few = || vec![0; CALLS.0];
+    vec![
+        line!("and", all, and(bytes, &FROM_0, bytes_from_5, &FROM_0), runs()),
+        line!("and of 64 bits", CALLS, and(bytes, &FIRST_64, bytes_from_5, &FIRST_64), few()),
+        line!(
+            "and of 1,000 bits",
+            CALLS,
+            and(bytes, &FIRST_1_000, bytes_from_5, &FIRST_1_000),
+            few()
+        ),
+        line!("and, from bits 3 and 5", all, and(bytes_from_3, &FROM_3, bytes, &FROM_5), runs()),
+        line!("|", all, or(bytes, &FROM_0, bytes_from_5, &FROM_0), runs()),
+        line!("^", all, xor(bytes, &FROM_0, bytes_from_5, &FROM_0), runs()),
+        line!("!", all, not(bytes, &FROM_0), runs()),
+        line!("unary", all, unary(bytes, &FROM_0), runs()),
+        line!("unary, from bit 3", all, unary(bytes, &FROM_3), runs()),
+        line!("unary of 64 bits", CALLS, unary(bytes, &FIRST_64), few()),
+        line!("unary of 1,000 bits", CALLS, unary(bytes, &FIRST_1_000), few()),
+    ]
+}
+
+/// Bitmaps changed in place by another one.
+fn in_place(inputs: &Inputs) -> Vec<Line<'_>> {
+    let Inputs { bytes, bytes_from_5, .. } = inputs;
     let own = &bytes_from_5[..LONG / 8];
     let own_of = |length: usize| &bytes_from_5[..length / 8];
     let all = (16 * LONG, "bits");
     let runs = || vec![0; 16];
-    let calls = CALLS;
-    let short_runs = || vec![0; calls.0];
+    let few = || vec![0; CALLS.0];
     vec![
-        line!("and", all, and(bytes, &FROM_0, bytes_from_5, &FROM_0), runs()),
-        line!(
-            "and of 64 bits",
-            calls,
-            and(bytes, &FIRST_64, bytes_from_5, &FIRST_64),
-            short_runs()
-        ),
-        line!(
-            "and of 1,000 bits",
-            calls,
-            and(bytes, &FIRST_1_000, bytes_from_5, &FIRST_1_000),
-            short_runs()
-        ),
-        line!("and, from bits 3 and 5", all, and(bytes_from_3, &FROM_3, bytes, &FROM_5), runs()),
-        line!("unary", all, unary(bytes, &FROM_0), runs()),
-        line!("unary, from bit 3", all, unary(bytes, &FROM_3), runs()),
-        line!("unary of 64 bits", calls, unary(bytes, &FIRST_64), short_runs()),
-        line!("unary of 1,000 bits", calls, unary(bytes, &FIRST_1_000), short_runs()),
         line!("binary_assign", all, xor_assign(own, bytes, &FROM_0), runs()),
         line!("binary_assign, from bit 3", all, xor_assign(own, bytes, &FROM_3), runs()),
         line!("binary_assign of u8", all, xor_assign_by_bytes(own, bytes, &FROM_0), runs()),
@@ -311,42 +401,73 @@ fn kernels(inputs: &Inputs) -> Vec<Line<'_>> {
             runs()
         ),
         line!("&=", all, and_assign(own, bytes, &FROM_0), runs()),
-        line!("&= of 40 bits", calls, and_assign(own_of(40), bytes, &FIRST_40), short_runs()),
-        line!("&= of 64 bits", calls, and_assign(own_of(64), bytes, &FIRST_64), short_runs()),
-        line!(
-            "&= of 1,000 bits",
-            calls,
-            and_assign(own_of(1_000), bytes, &FIRST_1_000),
-            short_runs()
-        ),
-        line!(
-            "&= of 8,192 bits",
-            calls,
-            and_assign(own_of(8_192), bytes, &FIRST_8_192),
-            short_runs()
-        ),
+        line!("&= of 40 bits", CALLS, and_assign(own_of(40), bytes, &FIRST_40), few()),
+        line!("&= of 64 bits", CALLS, and_assign(own_of(64), bytes, &FIRST_64), few()),
+        line!("&= of 1,000 bits", CALLS, and_assign(own_of(1_000), bytes, &FIRST_1_000), few()),
+        line!("&= of 8,192 bits", CALLS, and_assign(own_of(8_192), bytes, &FIRST_8_192), few()),
+    ]
+}
+
+/// Bitmaps changed in place by tables.
+fn tables_in_place(inputs: &Inputs) -> Vec<Line<'_>> {
+    let Inputs { bytes, bytes_from_5, .. } = inputs;
+    let own = &bytes_from_5[..LONG / 8];
+    let own_of = |length: usize| &bytes_from_5[..length / 8];
+    let all = (16 * LONG, "bits");
+    let runs = || vec![0; 16];
+    let few = || vec![0; CALLS.0];
+    vec![
         line!("binary_assign_table", all, binary_assign_table(own, bytes, &FROM_0), runs()),
         line!(
             "binary_assign_table of 40 bits",
-            calls,
+            CALLS,
             binary_assign_table(own_of(40), bytes, &FIRST_40),
-            short_runs()
+            few()
         ),
         line!(
             "binary_assign_table of 8,192 bits",
-            calls,
+            CALLS,
             binary_assign_table(own_of(8_192), bytes, &FIRST_8_192),
-            short_runs()
+            few()
         ),
         line!("unary_assign_table", all, unary_assign_table(own), runs()),
-        line!("unary_assign_table of 40 bits", calls, unary_assign_table(own_of(40)), short_runs()),
-        line!(
-            "unary_assign_table of 8,192 bits",
-            calls,
-            unary_assign_table(own_of(8_192)),
-            short_runs()
-        ),
+        line!("unary_assign_table of 40 bits", CALLS, unary_assign_table(own_of(40)), few()),
+        line!("unary_assign_table of 8,192 bits", CALLS, unary_assign_table(own_of(8_192)), few()),
     ]
+}
+
+fn tables(inputs: &Inputs) -> Vec<Line<'_>> {
+    let Inputs { bytes: a, bytes_from_3: b, bytes_from_5: c, bytes_of_runs: d, .. } = inputs;
+    let all = (4 * LONG, "bits");
+    let runs = || vec![0; 4];
+    vec![
+        line!("ternary_table", all, ternary_table(a, b, c, &FROM_0), runs()),
+        line!("ternary_table, from bit 3", all, ternary_table(a, b, c, &FROM_3), runs()),
+        line!("quaternary_table", all, quaternary_table(a, b, c, d, &FROM_0), runs()),
+        line!("quaternary_table, from bit 3", all, quaternary_table(a, b, c, d, &FROM_3), runs()),
+    ]
+}
+
+/// No validity of an array.
+const NONE: &[u8] = &[];
+
+fn arrays(inputs: &Inputs) -> Vec<Line<'_>> {
+    let Inputs { bytes: left, bytes_from_3: p, bytes_from_5: right, bytes_of_runs: q, .. } = inputs;
+    let sides =
+        [("both sides", &p[..], &q[..]), ("one side", p, NONE), ("neither side", NONE, NONE)];
+    let long = |name, p, q, parts: &'static [Part]| {
+        line!(name, (4 * LONG, "bits"), and_kleene(left, p, right, q, parts), vec![0; 4])
+    };
+    let short = |name, p, q| {
+        line!(name, CALLS, and_kleene(left, p, right, q, &FIRST_1_000), vec![0; CALLS.0])
+    };
+    let mut lines = vec![];
+    for (side, p, q) in sides {
+        lines.push(long(format!("and_kleene, validity on {side}"), p, q, &FROM_0));
+        lines.push(short(format!("and_kleene of 1,000 bits, validity on {side}"), p, q));
+    }
+    lines.push(long("and_kleene, validity on both sides, from bit 3".into(), p, q, &FROM_3));
+    lines
 }
 
 fn buffers(inputs: &Inputs) -> Vec<Line<'_>> {
@@ -384,6 +505,22 @@ fn offsets(inputs: &Inputs) -> Vec<Line<'_>> {
         ),
         line!("try_extend_from_lengths, with room", all, extend_from_lengths(slots), runs()),
         line!("try_push", all, try_push(slots_of_64), runs()),
+        line!("try_push of 64 lengths", CALLS, try_push(slots_of_64), vec![64; CALLS.0]),
         line!("a vector, checked", all, check_offsets(offsets), runs()),
+    ]
+}
+
+/// Calls on buffers of offsets.
+fn shared_offsets(inputs: &Inputs) -> Vec<Line<'_>> {
+    let Inputs { offsets, offsets_of_32, places, .. } = inputs;
+    let all = (8 * NUMBERS, "offsets");
+    let whole = || again(0, NUMBERS + 1, 8);
+    let slices = parts(NUMBERS, 1, NUMBERS, 100_000);
+    vec![
+        line!("try_extend_from_slice", all, offsets_extend_from_slice(offsets), whole()),
+        line!("lengths, added up", all, lengths(offsets), whole()),
+        line!("start_end, at random", (places.len(), "slots"), start_end(offsets), places.clone()),
+        line!("clone and sliced", (slices.len(), "slices"), offsets_sliced(offsets), slices),
+        line!("widened to 64 bits", all, widen(offsets_of_32), vec![0; 8]),
     ]
 }

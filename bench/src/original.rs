@@ -1,9 +1,12 @@
 //! The original's side: what the exports of crate `arrow2_bench` do, over the calls of arrow2.
 use crate::inputs::Part;
-use arrow2::bitmap::utils::{self, BitChunks, SlicesIterator};
+use arrow2::bitmap::utils::{
+    self, BitChunk, BitChunks, BitChunksExactMut, BitmapIter, SlicesIterator, ZipValidity,
+    ZipValidityIter,
+};
 use arrow2::bitmap::{self, Bitmap, MutableBitmap};
 use arrow2::buffer::Buffer;
-use arrow2::offset::Offsets;
+use arrow2::offset::{Offsets, OffsetsBuffer};
 use arrow2::types::{BitChunkOnes, Index};
 use std::hint::black_box;
 
@@ -25,16 +28,67 @@ pub fn count_zeros(bytes: &[u8], parts: &[Part]) -> usize {
 }
 
 pub fn words(bytes: &[u8], parts: &[Part]) -> usize {
+    words_added_up(bytes, parts, |word: u64| word)
+}
+
+pub fn words_of_u32(bytes: &[u8], parts: &[Part]) -> usize {
+    words_added_up(bytes, parts, |word: u32| u64::from(word))
+}
+
+pub fn words_of_u8(bytes: &[u8], parts: &[Part]) -> usize {
+    words_added_up(bytes, parts, |word: u8| u64::from(word))
+}
+
+/// The numbers of the full words of the parts, added up.
+fn words_added_up<T: BitChunk>(bytes: &[u8], parts: &[Part], number: impl Fn(T) -> u64) -> usize {
     let bits = bytes.len().saturating_mul(8);
     let mut sum = 0u64;
     for part in parts {
         if part.is_within(bits) {
-            for word in BitChunks::<u64>::new(bytes, part.offset, part.length) {
-                sum = sum.wrapping_add(word);
+            for word in BitChunks::<T>::new(bytes, part.offset, part.length) {
+                sum = sum.wrapping_add(number(word));
             }
         }
     }
     sum as usize
+}
+
+pub fn bitmap_iter(bytes: &[u8], parts: &[Part]) -> usize {
+    let bits = bytes.len().saturating_mul(8);
+    let mut ones = 0usize;
+    for part in parts {
+        if part.is_within(bits) {
+            for item in BitmapIter::new(bytes, part.offset, part.length) {
+                ones = ones.wrapping_add(usize::from(item));
+            }
+        }
+    }
+    ones
+}
+
+pub fn set_bit(bytes: &[u8], items: &[bool], places: &[usize]) -> usize {
+    let mut bytes = bytes.to_vec();
+    for (place, item) in places.iter().zip(items) {
+        if *place / 8 < bytes.len() {
+            utils::set_bit(&mut bytes, *place, *item);
+        }
+    }
+    utils::count_zeros(&bytes, 0, 8 * bytes.len())
+}
+
+/// By the iterator: arrow2 lends no chunk otherwise.
+pub fn change_next(bytes: &[u8], lengths: &[usize]) -> usize {
+    let mut bytes = bytes.to_vec();
+    for length in lengths {
+        if *length <= bytes.len().saturating_mul(8) {
+            for chunk in BitChunksExactMut::<u64>::new(&mut bytes, *length) {
+                for byte in chunk {
+                    *byte = !*byte;
+                }
+            }
+        }
+    }
+    utils::count_zeros(&bytes, 0, 8 * bytes.len())
 }
 
 pub fn ones(words: &[u64]) -> usize {
@@ -132,6 +186,34 @@ pub fn sliced(bytes: &[u8], parts: &[Part]) -> usize {
     zeros
 }
 
+/// The answers on the items of both lists at the places that the runs choose, added up.
+fn answers_on_pairs<T>(
+    left: &[T],
+    right: &[T],
+    runs: &[usize],
+    answer: impl Fn(&T, &T) -> usize,
+) -> usize {
+    let mut sum = 0usize;
+    for run in runs {
+        if let (Some(left), Some(right)) = (left.get(*run), right.get(*run)) {
+            sum = sum.wrapping_add(answer(left, right));
+        }
+    }
+    sum
+}
+
+/// The answers on the bitmaps of both bytes at the places that the runs choose, added up.
+fn answers_of_both(
+    left: &[u8],
+    left_parts: &[Part],
+    right: &[u8],
+    right_parts: &[Part],
+    runs: &[usize],
+    answer: impl Fn(&Bitmap, &Bitmap) -> usize,
+) -> usize {
+    answers_on_pairs(&bitmaps(left, left_parts), &bitmaps(right, right_parts), runs, answer)
+}
+
 pub fn equal(
     left: &[u8],
     left_parts: &[Part],
@@ -139,14 +221,18 @@ pub fn equal(
     right_parts: &[Part],
     runs: &[usize],
 ) -> usize {
-    let (left, right) = (bitmaps(left, left_parts), bitmaps(right, right_parts));
-    let mut same = 0usize;
-    for run in runs {
-        if left.get(*run) == right.get(*run) {
-            same = same.wrapping_add(1);
-        }
+    answers_of_both(left, left_parts, right, right_parts, runs, |left, right| {
+        usize::from(left == right)
+    })
+}
+
+/// How many items of a new bitmap are false. 0 where the two that it is made of differ in length.
+fn zeros_of(left: &Bitmap, right: &Bitmap, made: impl Fn(&Bitmap, &Bitmap) -> Bitmap) -> usize {
+    if left.len() == right.len() {
+        made(left, right).unset_bits()
+    } else {
+        0
     }
-    same
 }
 
 pub fn and(
@@ -156,16 +242,127 @@ pub fn and(
     right_parts: &[Part],
     runs: &[usize],
 ) -> usize {
-    let (left, right) = (bitmaps(left, left_parts), bitmaps(right, right_parts));
+    answers_of_both(left, left_parts, right, right_parts, runs, |left, right| {
+        zeros_of(left, right, bitmap::and)
+    })
+}
+
+pub fn or(
+    left: &[u8],
+    left_parts: &[Part],
+    right: &[u8],
+    right_parts: &[Part],
+    runs: &[usize],
+) -> usize {
+    answers_of_both(left, left_parts, right, right_parts, runs, |left, right| {
+        zeros_of(left, right, |left, right| left | right)
+    })
+}
+
+pub fn xor(
+    left: &[u8],
+    left_parts: &[Part],
+    right: &[u8],
+    right_parts: &[Part],
+    runs: &[usize],
+) -> usize {
+    answers_of_both(left, left_parts, right, right_parts, runs, |left, right| {
+        zeros_of(left, right, |left, right| left ^ right)
+    })
+}
+
+pub fn not(bytes: &[u8], parts: &[Part], runs: &[usize]) -> usize {
+    answers(bytes, parts, runs, |bitmap| (!bitmap).unset_bits())
+}
+
+/// The second input where the first is set, and else the third.
+pub fn ternary_table(
+    first: &[u8],
+    second: &[u8],
+    third: &[u8],
+    parts: &[Part],
+    runs: &[usize],
+) -> usize {
+    let inputs = inputs([first, second, third], parts);
     let mut zeros = 0usize;
-    for run in runs {
-        if let (Some(left), Some(right)) = (left.get(*run), right.get(*run)) {
-            if left.len() == right.len() {
-                zeros = zeros.wrapping_add(bitmap::and(left, right).unset_bits());
-            }
-        }
+    for _ in runs {
+        let [first, second, third] = black_box(&inputs);
+        let made = bitmap::ternary(first, second, third, |x, y, z| (x & y) | (!x & z));
+        zeros = zeros.wrapping_add(made.unset_bits());
     }
     zeros
+}
+
+pub fn quaternary_table(
+    first: &[u8],
+    second: &[u8],
+    third: &[u8],
+    fourth: &[u8],
+    parts: &[Part],
+    runs: &[usize],
+) -> usize {
+    let inputs = inputs([first, second, third, fourth], parts);
+    let mut zeros = 0usize;
+    for _ in runs {
+        let [first, second, third, fourth] = black_box(&inputs);
+        zeros = zeros.wrapping_add(known(first, second, third, fourth).unset_bits());
+    }
+    zeros
+}
+
+/// The bitmap of one part of each of these bytes.
+fn inputs<const N: usize>(all: [&[u8]; N], parts: &[Part]) -> [Bitmap; N] {
+    all.map(|bytes| bitmaps(bytes, parts).swap_remove(0))
+}
+
+/// For which items it is known whether two values, each before its validity, are both true.
+fn known(left: &Bitmap, left_validity: &Bitmap, right: &Bitmap, right_validity: &Bitmap) -> Bitmap {
+    bitmap::quaternary(left, left_validity, right, right_validity, |x, valid, y, other| {
+        (valid & other) | (valid & !x) | (other & !y)
+    })
+}
+
+/// The same where only one value has a validity: whatever it is, the other decides.
+fn known_beside(validity: &Bitmap, other: &Bitmap) -> Bitmap {
+    bitmap::binary(validity, other, |valid, y| valid | !y)
+}
+
+/// An array as arrow2 keeps it: its values and, where it has one, its validity.
+type Booleans = (Bitmap, Option<Bitmap>);
+
+/// As arrow2 has it for boolean arrays, over the calls of its bitmaps.
+pub fn and_kleene(
+    left: &[u8],
+    left_validity: &[u8],
+    right: &[u8],
+    right_validity: &[u8],
+    parts: &[Part],
+    runs: &[usize],
+) -> usize {
+    let (left, right) = (arrays(left, left_validity, parts), arrays(right, right_validity, parts));
+    answers_on_pairs(&left, &right, runs, zeros_of_and_kleene)
+}
+
+/// An array for each part of the bytes. No bytes of a validity make arrays without one.
+fn arrays(values: &[u8], validity: &[u8], parts: &[Part]) -> Vec<Booleans> {
+    let validities = match validity {
+        [] => vec![None; parts.len()],
+        _ => bitmaps(validity, parts).into_iter().map(Some).collect(),
+    };
+    bitmaps(values, parts).into_iter().zip(validities).collect()
+}
+
+/// How many values are false, and how many items are null.
+fn zeros_of_and_kleene(left: &Booleans, right: &Booleans) -> usize {
+    let values = bitmap::and(&left.0, &right.0);
+    let validity = match (&left.1, &right.1) {
+        (None, None) => None,
+        (Some(valid), None) => Some(known_beside(valid, &right.0)),
+        (None, Some(valid)) => Some(known_beside(valid, &left.0)),
+        (Some(valid), Some(other)) => Some(known(&left.0, valid, &right.0, other)),
+    };
+    let nulls = validity.map_or(0, |validity| validity.unset_bits());
+    values.unset_bits().wrapping_add(nulls)
 }
 
 pub fn unary(bytes: &[u8], parts: &[Part], runs: &[usize]) -> usize {
@@ -307,6 +504,92 @@ pub fn runs(bytes: &[u8], parts: &[Part], runs: &[usize]) -> usize {
         }
         sum
     })
+}
+
+pub fn zip_validity(numbers: &[u64], bytes: &[u8], parts: &[Part], runs: &[usize]) -> usize {
+    answers(bytes, parts, runs, |validity| {
+        if numbers.len() == validity.len() {
+            let values = numbers.iter().copied();
+            valid_added_up(ZipValidity::new_with_validity(values, Some(validity)))
+        } else {
+            0
+        }
+    })
+}
+
+pub fn zip_validity_iter(numbers: &[u64], bytes: &[u8], parts: &[Part], runs: &[usize]) -> usize {
+    answers(bytes, parts, runs, |validity| {
+        if numbers.len() == validity.len() {
+            valid_added_up(ZipValidityIter::new(numbers.iter().copied(), validity.iter()))
+        } else {
+            0
+        }
+    })
+}
+
+/// The numbers that are valid, added up.
+fn valid_added_up(slots: impl Iterator<Item = Option<u64>>) -> usize {
+    let mut sum = 0u64;
+    for slot in slots {
+        if let Some(number) = slot {
+            sum = sum.wrapping_add(number);
+        }
+    }
+    sum as usize
+}
+
+pub fn zip_validity_nth(numbers: &[u64], bytes: &[u8], steps: &[usize]) -> usize {
+    let validity = Bitmap::from_u8_slice(bytes, numbers.len());
+    let mut sum = 0u64;
+    for step in steps {
+        sum = sum.wrapping_add(sum_by_steps(numbers, &validity, *step));
+    }
+    sum as usize
+}
+
+/// The numbers of each `step`th slot that are valid, added up.
+fn sum_by_steps(numbers: &[u64], validity: &Bitmap, step: usize) -> u64 {
+    let Some(skipped) = step.checked_sub(1) else {
+        return 0;
+    };
+    let mut slots = ZipValidity::new_with_validity(numbers.iter().copied(), Some(validity));
+    let mut sum = 0u64;
+    for _ in 0..numbers.len() / step {
+        if let Some(Some(number)) = slots.nth(skipped) {
+            sum = sum.wrapping_add(number);
+        }
+    }
+    sum
+}
+
+pub fn pieces(bytes: &[u8], cuts: &[usize]) -> usize {
+    let whole = whole(bytes);
+    let mut sum = 0usize;
+    for cuts in cuts {
+        sum = sum.wrapping_add(counts_of_halves(&whole, *cuts));
+    }
+    sum
+}
+
+/// The counts of all pieces, mixed into one number. Each piece is halved in turn, from the first one on.
+fn counts_of_halves(whole: &Bitmap, cuts: usize) -> usize {
+    let mut pieces = vec![whole.clone()];
+    let mut place = 0usize;
+    for _ in 0..cuts {
+        if pieces.len() <= place {
+            place = 0;
+        }
+        let whole = pieces[place].clone();
+        let (length, half) = (whole.len(), whole.len() / 2);
+        pieces[place].slice(0, half);
+        pieces.insert(place + 1, whole.sliced(half, length - half));
+        place = place.wrapping_add(2);
+    }
+    let mut counts = 0usize;
+    for piece in pieces {
+        counts = counts.rotate_left(1) ^ piece.unset_bits();
+    }
+    counts
 }
 
 pub fn debug(bytes: &[u8], parts: &[Part], runs: &[usize]) -> usize {
@@ -493,6 +776,74 @@ pub fn check_offsets(items: &[i64], lengths: &[usize]) -> usize {
         };
         sum = sum.wrapping_add(offsets.len());
         items = offsets.into_inner();
+    }
+    sum
+}
+
+/// The answers on slices of one buffer of offsets, added up.
+fn answers_on_offsets(
+    items: &[i64],
+    parts: &[Part],
+    answer: impl Fn(OffsetsBuffer<i64>) -> usize,
+) -> usize {
+    let Ok(whole) = OffsetsBuffer::try_from(items.to_vec()) else {
+        return 0;
+    };
+    let mut sum = 0usize;
+    for part in parts {
+        if 0 < part.length && part.is_within(whole.len()) {
+            let mut slice = whole.clone();
+            slice.slice(part.offset, part.length);
+            sum = sum.wrapping_add(answer(slice));
+        }
+    }
+    sum
+}
+
+pub fn offsets_sliced(items: &[i64], parts: &[Part]) -> usize {
+    answers_on_offsets(items, parts, |slice| *slice.last() as usize)
+}
+
+pub fn lengths(items: &[i64], parts: &[Part]) -> usize {
+    answers_on_offsets(items, parts, |slice| {
+        let mut sum = 0usize;
+        for length in slice.lengths() {
+            sum = sum.wrapping_add(length);
+        }
+        sum
+    })
+}
+
+pub fn offsets_extend_from_slice(items: &[i64], parts: &[Part]) -> usize {
+    answers_on_offsets(items, parts, |slice| {
+        let mut offsets = Offsets::<i64>::new();
+        let extended = offsets.try_extend_from_slice(&slice, 0, slice.len() - 1);
+        extended.map_or(0, |()| *black_box(offsets).last() as usize)
+    })
+}
+
+pub fn widen(items: &[i32], runs: &[usize]) -> usize {
+    let Ok(offsets) = OffsetsBuffer::try_from(items.to_vec()) else {
+        return 0;
+    };
+    let mut sum = 0usize;
+    for _ in runs {
+        let wide = black_box(OffsetsBuffer::<i64>::from(&offsets));
+        sum = sum.wrapping_add(*wide.last() as usize);
+    }
+    sum
+}
+
+pub fn start_end(items: &[i64], places: &[usize]) -> usize {
+    let Ok(offsets) = OffsetsBuffer::try_from(items.to_vec()) else {
+        return 0;
+    };
+    let mut sum = 0usize;
+    for place in places {
+        if *place < offsets.len_proxy() {
+            let (start, end) = offsets.start_end(*place);
+            sum = sum.wrapping_add(start ^ end);
+        }
     }
     sum
 }
