@@ -3,7 +3,7 @@
 /// A crate, how names of its lines begin, and why these lines are above 1. The first that fits counts.
 type Note = (&'static str, &'static str, &'static str);
 
-const NOTES: [Note; 25] = [
+const NOTES: [Note; 31] = [
     (
         "arrow2_chunk",
         "BitChunkOnes",
@@ -11,6 +11,16 @@ const NOTES: [Note; 25] = [
     ),
     ("arrow2_bits", "count_zeros of", ONCE),
     ("arrow2_bits", "count_zeros", "both go at the speed of the processor's own count of bits"),
+    (
+        "arrow2_bits",
+        "BitChunksExactMut",
+        "each chunk's place is worked out and tested anew, so chunks are written one by one, where arrow2's iterator becomes a loop over 32 bytes",
+    ),
+    (
+        "arrow2_bits",
+        "set_bit of trues",
+        "the byte for either value is made and one is taken without a branch, where arrow2's branch always guesses right",
+    ),
     ("arrow2_bitmap", "from_u8_slice", COPIED),
     ("arrow2_bitmap", "make_mut of a shared one", COPIED),
     ("arrow2_bitmap", "iter", "each bit is read by its place, with nothing read ahead"),
@@ -22,6 +32,16 @@ const NOTES: [Note; 25] = [
     ("arrow2_bitmap", "extend_constant of", FIRST),
     ("arrow2_bitmap", "set of trues", "either value goes by tables and no branch"),
     ("arrow2_bitmap", "sliced", "a count fetches each byte once"),
+    (
+        "arrow2_walks",
+        "ZipValidity by nth",
+        "the standard library's `nth`, which steps over each slot, where arrow2's adds to the places",
+    ),
+    (
+        "arrow2_walks",
+        "Pieces",
+        "the counts take as long on both sides, but a piece is inserted by moving the later ones one by one, where Rust's `Vec` moves memory",
+    ),
     ("arrow2_kernels", "unary_assign_table", AT_RUN_TIME),
     ("arrow2_kernels", "binary_assign_table", AT_RUN_TIME),
     ("arrow2_buffer", "try_from_iter", HINTS),
@@ -30,6 +50,12 @@ const NOTES: [Note; 25] = [
         "arrow2_offset",
         "try_extend_from_lengths",
         "lengths are added up in 128 bits, so that the sum is exact",
+    ),
+    ("arrow2_offset", "lengths", "each length is an absolute difference, where arrow2 subtracts"),
+    (
+        "arrow2_offset",
+        "widened",
+        "each number is pushed with a test for room, where arrow2 collects a slice of known length",
     ),
     ("arrow2_ffi", "get_bit", INLINED),
     ("arrow2_ffi", "set_bit", INLINED),

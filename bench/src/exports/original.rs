@@ -3,6 +3,7 @@
 //! What they are called on is made before the runs. Where arrow2 has no such call, what its users write over its calls
 //! stands here. Calls of ours on offsets test them first, so here they are handed to `Offsets::try_from` first.
 use super::inputs::{digest, digest_of_bytes, FourBits, Slots};
+use crate::original::{choice, known};
 use arrow2::bitmap::utils::{self, SlicesIterator};
 use arrow2::bitmap::{self, Bitmap, MutableBitmap};
 use arrow2::error::Error;
@@ -102,18 +103,6 @@ pub fn ternary_table(on: &FourBits, runs: &[usize]) -> usize {
 pub fn quaternary_table(on: &FourBits, runs: &[usize]) -> usize {
     let [first, second, third, fourth] = on.bitmaps();
     made(on, runs, || known(black_box(&first), &second, &third, &fourth))
-}
-
-/// The second input where the first is set, and else the third.
-fn choice(first: &Bitmap, second: &Bitmap, third: &Bitmap) -> Bitmap {
-    bitmap::ternary(first, second, third, |x, y, z| (x & y) | (!x & z))
-}
-
-/// For which items it is known whether both values are true, as arrow2's `and_kleene` has it.
-fn known(left: &Bitmap, left_validity: &Bitmap, right: &Bitmap, right_validity: &Bitmap) -> Bitmap {
-    bitmap::quaternary(left, left_validity, right, right_validity, |x, valid, y, other| {
-        (valid & other) | (valid & !x) | (other & !y)
-    })
 }
 
 pub fn unary_assign_table(on: &FourBits, runs: &[usize]) -> usize {
