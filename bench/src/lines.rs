@@ -76,6 +76,9 @@ macro_rules! line {
 /// The runs of a line on short inputs: each is one call.
 const CALLS: (usize, &str) = (100_000, "calls");
 
+/// The bits of the runs of a line on three or four long inputs.
+const TABLES: (usize, &str) = (4 * LONG, "bits");
+
 /// All lines, each with the crate whose call it is: crate by crate, lowest first.
 pub fn all(inputs: &Inputs) -> impl Iterator<Item = (&'static str, Line<'_>)> {
     let crates = [
@@ -437,14 +440,25 @@ fn tables_in_place(inputs: &Inputs) -> Vec<Line<'_>> {
 }
 
 fn tables(inputs: &Inputs) -> Vec<Line<'_>> {
-    let Inputs { bytes: a, bytes_from_3: b, bytes_from_5: c, bytes_of_runs: d, .. } = inputs;
-    let all = (4 * LONG, "bits");
-    let runs = || vec![0; 4];
+    let Inputs { bytes, bytes_from_3, bytes_from_5, bytes_of_runs, .. } = inputs;
+    let three = |name, parts: &'static [Part]| {
+        let runs = vec![0; 4];
+        line!(name, TABLES, ternary_table(bytes, bytes_from_3, bytes_from_5, parts), runs)
+    };
+    let four = |name, parts: &'static [Part]| {
+        let runs = vec![0; 4];
+        line!(
+            name,
+            TABLES,
+            quaternary_table(bytes, bytes_from_3, bytes_from_5, bytes_of_runs, parts),
+            runs
+        )
+    };
     vec![
-        line!("ternary_table", all, ternary_table(a, b, c, &FROM_0), runs()),
-        line!("ternary_table, from bit 3", all, ternary_table(a, b, c, &FROM_3), runs()),
-        line!("quaternary_table", all, quaternary_table(a, b, c, d, &FROM_0), runs()),
-        line!("quaternary_table, from bit 3", all, quaternary_table(a, b, c, d, &FROM_3), runs()),
+        three("ternary_table", &FROM_0),
+        three("ternary_table, from bit 3", &FROM_3),
+        four("quaternary_table", &FROM_0),
+        four("quaternary_table, from bit 3", &FROM_3),
     ]
 }
 
@@ -452,22 +466,22 @@ fn tables(inputs: &Inputs) -> Vec<Line<'_>> {
 const NONE: &[u8] = &[];
 
 fn arrays(inputs: &Inputs) -> Vec<Line<'_>> {
-    let Inputs { bytes: left, bytes_from_3: p, bytes_from_5: right, bytes_of_runs: q, .. } = inputs;
-    let sides =
-        [("both sides", &p[..], &q[..]), ("one side", p, NONE), ("neither side", NONE, NONE)];
-    let long = |name, p, q, parts: &'static [Part]| {
-        line!(name, (4 * LONG, "bits"), and_kleene(left, p, right, q, parts), vec![0; 4])
+    let Inputs { bytes, bytes_from_3, bytes_from_5, bytes_of_runs, .. } = inputs;
+    let line = |name, left, right, elements, parts: &'static [Part], runs| {
+        line!(name, elements, and_kleene(bytes, left, bytes_from_5, right, parts), runs)
     };
-    let short = |name, p, q| {
-        line!(name, CALLS, and_kleene(left, p, right, q, &FIRST_1_000), vec![0; CALLS.0])
-    };
-    let mut lines = vec![];
-    for (side, p, q) in sides {
-        lines.push(long(format!("and_kleene, validity on {side}"), p, q, &FROM_0));
-        lines.push(short(format!("and_kleene of 1,000 bits, validity on {side}"), p, q));
-    }
-    lines.push(long("and_kleene, validity on both sides, from bit 3".into(), p, q, &FROM_3));
-    lines
+    let long = |name, left, right, parts| line(name, left, right, TABLES, parts, vec![0; 4]);
+    let short = |name, left, right| line(name, left, right, CALLS, &FIRST_1_000, vec![0; CALLS.0]);
+    let (left, right) = (&bytes_from_3[..], &bytes_of_runs[..]);
+    vec![
+        long("and_kleene, validity on both sides", left, right, &FROM_0),
+        long("and_kleene, validity on both sides, from bit 3", left, right, &FROM_3),
+        long("and_kleene, validity on one side", left, NONE, &FROM_0),
+        long("and_kleene, no validity", NONE, NONE, &FROM_0),
+        short("and_kleene of 1,000 bits, validity on both sides", left, right),
+        short("and_kleene of 1,000 bits, validity on one side", left, NONE),
+        short("and_kleene of 1,000 bits, no validity", NONE, NONE),
+    ]
 }
 
 fn buffers(inputs: &Inputs) -> Vec<Line<'_>> {

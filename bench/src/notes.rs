@@ -3,7 +3,7 @@
 /// A crate, how names of its lines begin, and why these lines are above 1. The first that fits counts.
 type Note = (&'static str, &'static str, &'static str);
 
-const NOTES: [Note; 31] = [
+const NOTES: [Note; 33] = [
     (
         "arrow2_chunk",
         "BitChunkOnes",
@@ -14,16 +14,22 @@ const NOTES: [Note; 31] = [
     (
         "arrow2_bits",
         "BitChunksExactMut",
-        "each chunk's place is worked out and tested anew, so chunks are written one by one, where arrow2's iterator becomes a loop over 32 bytes",
+        "each chunk's place is tested anew, where arrow2's iterator becomes a loop over 32 bytes",
     ),
     (
         "arrow2_bits",
         "set_bit of trues",
-        "the byte for either value is made and one is taken without a branch, where arrow2's branch always guesses right",
+        "one of two bytes is chosen without a branch, where arrow2's branch always guesses right",
     ),
+    ("arrow2_bits", "BitmapIter", SHIFTED),
     ("arrow2_bitmap", "from_u8_slice", COPIED),
     ("arrow2_bitmap", "make_mut of a shared one", COPIED),
-    ("arrow2_bitmap", "iter", "each bit is read by its place, with nothing read ahead"),
+    ("arrow2_bitmap", "iter", SHIFTED),
+    (
+        "arrow2_bitmap",
+        "extend_from_slice of 64",
+        "the bits that fill the last byte are a walk of their own, before that over the rest",
+    ),
     (
         "arrow2_bitmap",
         "pop",
@@ -40,7 +46,7 @@ const NOTES: [Note; 31] = [
     (
         "arrow2_walks",
         "Pieces",
-        "the counts take as long on both sides, but a piece is inserted by moving the later ones one by one, where Rust's `Vec` moves memory",
+        "a new piece moves the later ones one by one, where Rust's `Vec` moves their memory at once",
     ),
     ("arrow2_kernels", "unary_assign_table", AT_RUN_TIME),
     ("arrow2_kernels", "binary_assign_table", AT_RUN_TIME),
@@ -90,6 +96,9 @@ const NOTES: [Note; 31] = [
 ];
 
 const COPIED: &str = "a copy of memory on both sides";
+
+const SHIFTED: &str =
+    "each bit is found by a shift of its byte, where arrow2 looks its mask up in a table";
 
 const ONCE: &str =
     "each byte is fetched once, so what is behind the last 32 bytes goes by words of falling width";

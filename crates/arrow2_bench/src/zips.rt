@@ -26,7 +26,7 @@ pub extern "C" fn bench_zip_validity(
     })
 }
 
-/// The same walks, of a type that is there with validity alone.
+/// The same by the walk that always has a validity.
 #[unsafe(no_mangle)]
 pub extern "C" fn bench_zip_validity_iter(
     alloc: Global,
