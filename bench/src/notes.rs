@@ -3,7 +3,7 @@
 /// A crate, how names of its lines begin, and why these lines are above 1. The first that fits counts.
 type Note = (&'static str, &'static str, &'static str);
 
-const NOTES: [Note; 33] = [
+const NOTES: [Note; 34] = [
     (
         "arrow2_chunk",
         "BitChunkOnes",
@@ -50,6 +50,11 @@ const NOTES: [Note; 33] = [
     ),
     ("arrow2_kernels", "unary_assign_table", AT_RUN_TIME),
     ("arrow2_kernels", "binary_assign_table", AT_RUN_TIME),
+    (
+        "arrow2_array",
+        "and_kleene of 1,000 bits, validity on one side",
+        "the validity is a table of three inputs, where arrow2's side takes two of them",
+    ),
     ("arrow2_buffer", "try_from_iter", HINTS),
     ("arrow2_offset", "try_from_lengths", HINTS),
     (
