@@ -17,7 +17,7 @@ fn buffers(alloc: Global) -> [Row<Buffer<u32>>; 3] {
         ),
         (
             "Buffer::try_from_iter",
-            Buffer::try_from_iter(alloc, 0..100u32),
+            Buffer::try_from_iter(alloc, 0..200u32),
         ),
     ]
 }
@@ -34,11 +34,11 @@ fn given(alloc: Global) -> [Row<Offsets<i32>>; 6] {
         ),
         (
             "Offsets::try_from_iter",
-            Offsets::try_from_iter(alloc, 0..100usize),
+            Offsets::try_from_iter(alloc, 0..200usize),
         ),
         (
             "Offsets::try_from_lengths",
-            Offsets::try_from_lengths(alloc, 0..100usize),
+            Offsets::try_from_lengths(alloc, 0..200usize),
         ),
     ]
 }
@@ -149,7 +149,7 @@ impl Change<Offsets<i32>> for Growth {
             Growth::ExtendConstant => ("Offsets::extend_constant", offsets.extend_constant(90)),
             Growth::ExtendFromLengths => (
                 "Offsets::try_extend_from_lengths",
-                offsets.try_extend_from_lengths(0..100usize),
+                offsets.try_extend_from_lengths(0..200usize),
             ),
             Growth::Reserve => ("Offsets::reserve", offsets.reserve(90)),
             Growth::ShrinkToFit => ("Offsets::shrink_to_fit", offsets.shrink_to_fit()),
