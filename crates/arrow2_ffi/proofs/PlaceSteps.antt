@@ -1,15 +1,16 @@
--- Places of set bits written one by one.
-use Rattle.std.proofs.Common.{◌≡◌, ◌≢◌, ℕ, zero, suc, ◌+◌, ◌-◌, ◌*◌, ◌/◌, ◌^◌, ◌<◌, ◌≤◌, List, [], ◌∷◌, ◌++◌, Bool, true, false, length, map, take, drop, get_or, set, ap, sym, ◌∙◌, refl, arith}
+-- Places of set bits, written word by word.
+use Rattle.std.proofs.Common.{◌≡◌, ℕ, zero, suc, ◌+◌, ◌-◌, ◌*◌, ◌^◌, ◌<◌, ◌≤◌, List, [], ◌∷◌, ◌++◌, Bool, true, false, length, map, take, drop, get_or, replicate, ap, sym, subst, ◌∙◌, refl, arith}
 use Rattle.std.specs.Prelude.{cond}
-use Rattle.std.specs.List.{filter, range_with_len}
-use Rattle.std.proofs.lemmas.List.{append_assoc, get_or-drop, length-drop, take_more_set}
-use Rattle.arrow2_model.specs.Bits.{bits}
+use Rattle.std.specs.List.{All, filter, range_with_len}
+use Rattle.std.proofs.lemmas.List.{append-nil, get_or-drop, length-append, length-drop, length-take-le, get_or-take, get_or-replicate, get_or_append_left, get_or-append_right}
+use Rattle.std.proofs.lemmas.List.Elements.{All-filter}
+use Rattle.std.proofs.lemmas.List.FromFn.{get_or-range_with_len, length-range_with_len}
+use Rattle.arrow2_model.specs.Bits.{bit, bits, unnum}
 use Rattle.arrow2_model.specs.Parts.{part}
+use Rattle.arrow2_model.proofs.Bits.{get_or-unnum}
 use Rattle.arrow2_model.proofs.Parts.{get_or-part}
 use Rattle.arrow2_model.proofs.Walks.{length-part_bits}
 use Rattle.arrow2_chunk.specs.Ones.{ones}
-use Rattle.arrow2_walks.specs.Places.{IsFirst, IsRead}
-use Rattle.arrow2_walks.proofs.WordsOfPlaces.{bit_behind}
 use Rattle.arrow2_ffi.specs.Places.{ones_from}
 
 -- ---- the places of set items, by their numbers
@@ -36,93 +37,150 @@ ones_among items at =
     moved_filter (λ k. get_or items k false) (λ k. get_or (drop at items) k false) at 0 (length (drop at items)) (λ i. get_or-drop at items i false)
     ∙ (rw (length-drop at items, e) refl)
 
--- d places at which nothing is set
-skipped : (p : ℕ → Bool) (at d n : ℕ) → ((k : ℕ) → at ≤ k → k < at + d → p k ≡ false) → filter p (range_with_len at (d + n)) ≡ filter p (range_with_len (at + d) n)
-skipped p at zero n h =
-    let a : at + 0 ≡ at = omega arith in
-    let b : 0 + n ≡ n = omega arith in
-    rw (a, b) refl
-skipped p at (suc d) n h =
-    let more : suc d + n ≡ suc (d + n) = omega arith in
-    let here : p at ≡ false = h at (omega arith) (omega arith) in
-    let others = skipped p (at + 1) d n (λ k a b. h k (omega arith) (omega arith)) in
-    let e : at + 1 + d ≡ at + suc d = omega arith in
-    rw (more, here) (others ∙ ap (λ j. filter p (range_with_len j n)) e)
+-- ---- places in order
 
-found : (p : ℕ → Bool) (k n : ℕ) → p k ≡ true → filter p (range_with_len k (suc n)) ≡ k ∷ filter p (range_with_len (k + 1) n)
-found p k n h = rw h refl
+cond_append : (b : Bool) (x : ℕ) (xs ys : List ℕ) → cond b (x ∷ (xs ++ ys)) (xs ++ ys) ≡ cond b (x ∷ xs) xs ++ ys
+cond_append true x xs ys = refl
+cond_append false x xs ys = refl
+
+-- those among m places, and those among n behind them
+among_append : (p : ℕ → Bool) (a m n : ℕ) → filter p (range_with_len a (m + n)) ≡ filter p (range_with_len a m) ++ filter p (range_with_len (a + m) n)
+among_append p a zero n =
+    let e : a + 0 ≡ a = omega arith in
+    let l : 0 + n ≡ n = omega arith in
+    rw (e, l) refl
+among_append p a (suc m) n =
+    let l : suc m + n ≡ suc (m + n) = omega arith in
+    let e : a + suc m ≡ a + 1 + m = omega arith in
+    let others = among_append p (a + 1) m n in
+    rw (l, e, others) (cond_append (p a) a (filter p (range_with_len (a + 1) m)) (filter p (range_with_len (a + 1 + m) n)))
+
+-- tests that agree among n places
+same_among : (p q : ℕ → Bool) (a n : ℕ) → ((k : ℕ) → a ≤ k → k < a + n → p k ≡ q k) → filter p (range_with_len a n) ≡ filter q (range_with_len a n)
+same_among p q a zero h = refl
+same_among p q a (suc n) h =
+    let here = h a (omega arith) (omega arith) in
+    let others = same_among p q (a + 1) n (λ k l m. h k (omega arith) (omega arith)) in
+    rw (here, others) refl
+
+-- none is left where no test holds
+none_among : (p : ℕ → Bool) (a n : ℕ) → ((k : ℕ) → a ≤ k → k < a + n → p k ≡ false) → filter p (range_with_len a n) ≡ []
+none_among p a zero h = refl
+none_among p a (suc n) h =
+    let here = h a (omega arith) (omega arith) in
+    let others = none_among p (a + 1) n (λ k l m. h k (omega arith) (omega arith)) in
+    rw (here, others) refl
+
+-- those behind a place begin with it
+record Behind (p : ℕ → Bool) (a m x : ℕ) (others : List ℕ) : Type 0 where
+  from : a ≤ x
+  below : x < a + m
+  rest : filter p (range_with_len x (a + m - x)) ≡ x ∷ others
+
+head_is : (x y : ℕ) (xs ys : List ℕ) → x ∷ xs ≡ y ∷ ys → x ≡ y
+head_is x y xs ys e = ap (λ (zs : List ℕ). get_or zs 0 0) e
+
+tail_is : (x y : ℕ) (xs ys : List ℕ) → x ∷ xs ≡ y ∷ ys → xs ≡ ys
+tail_is x y xs ys e = ap (drop 1) e
+
+behind_test : (p : ℕ → Bool) (a m x : ℕ) (front others : List ℕ) (b : Bool) → p a ≡ b
+    → ((front : List ℕ) → filter p (range_with_len (a + 1) m) ≡ front ++ x ∷ others → Behind p (a + 1) m x others)
+    → cond b (a ∷ filter p (range_with_len (a + 1) m)) (filter p (range_with_len (a + 1) m)) ≡ front ++ x ∷ others → Behind p a (suc m) x others
+behind_test p a m x [] others true is later e =
+    let here : a ≡ x = head_is a x (filter p (range_with_len (a + 1) m)) others e in
+    let n : a + suc m - x ≡ suc m = omega (arith, here) in
+    record {
+      from = omega (arith, here);
+      below = omega (arith, here);
+      rest = rw (n, ← here, is) (ap (λ (zs : List ℕ). a ∷ zs) (tail_is a x (filter p (range_with_len (a + 1) m)) others e));
+    }
+behind_test p a m x (y ∷ front) others true is later e =
+    let b = later front (tail_is a y (filter p (range_with_len (a + 1) m)) (front ++ x ∷ others) e) in
+    let n : a + suc m - x ≡ a + 1 + m - x = omega arith in
+    record { from = omega (arith, b.from); below = omega (arith, b.below); rest = rw n b.rest }
+behind_test p a m x front others false is later e =
+    let b = later front e in
+    let n : a + suc m - x ≡ a + 1 + m - x = omega arith in
+    record { from = omega (arith, b.from); below = omega (arith, b.below); rest = rw n b.rest }
+
+behind : (p : ℕ → Bool) (a m x : ℕ) (front others : List ℕ) → filter p (range_with_len a m) ≡ front ++ x ∷ others → Behind p a m x others
+behind p a zero x front others e =
+    let l = ap length e ∙ length-append front (x ∷ others) in
+    let no : ⊥ = omega (arith, l) in
+    absurd no
+behind p a (suc m) x front others e = behind_test p a m x front others (p a) refl (λ f h. behind p (a + 1) m x f others h) e
+
+-- those from a place on begin with it
+pub from_place : (items : List Bool) (at x : ℕ) (front others : List ℕ) → at ≤ length items → ones_from items at ≡ front ++ x ∷ others → (x < length items) × (ones_from items x ≡ x ∷ others)
+from_place items at x front others within e =
+    let b = behind (λ k. get_or items k false) at (length items - at) x front others (sym (ones_among items at) ∙ e) in
+    let n : at + (length items - at) - x ≡ length items - x = omega arith in
+    (omega (arith, b.below), ones_among items x ∙ subst (λ m. set_among items x m ≡ x ∷ others) n b.rest)
+
+-- no place is left at the end
+pub none_from : (items : List Bool) (at : ℕ) → length items ≡ at → ones_from items at ≡ []
+none_from items at e =
+    let n : length items - at ≡ 0 = omega (arith, e) in
+    ones_among items at ∙ ap (set_among items at) n
+
+-- ---- places that fit a `usize`
+
+-- each is below the length
+pub below : (items : List Bool) (at : ℕ) → at ≤ length items → length items < 2 ^ 64 → All (λ place. place < 2 ^ 64) (ones_from items at)
+below items at within small = rw (ones_among items at) (All-filter (λ k. get_or items k false) (λ place. place < 2 ^ 64) (range_with_len at (length items - at))
+    (λ k d m. let n = length-range_with_len at (length items - at) in rw (get_or-range_with_len at (length items - at) k d (omega (arith, m, n))) (omega (arith, m, n))))
+
+-- those in front of others
+pub front_below : (xs ys : List ℕ) → All (λ place. place < 2 ^ 64) (xs ++ ys) → All (λ place. place < 2 ^ 64) xs
+front_below xs ys h k d m =
+    let n = length-append xs ys in
+    subst (λ x. x < 2 ^ 64) (get_or_append_left xs ys d k m) (h k d (omega (arith, m, n)))
+
+-- ---- the places in one word
 
 module _ (bytes : List ℕ) (offset end : ℕ) (inside : offset + end ≤ 8 * length bytes) where
-  -- an item that was passed
-  passed_item : (at p : ℕ) → IsFirst (bits bytes) offset at end true p → (k : ℕ) → at ≤ k → k < p → get_or (part (bits bytes) offset end) k false ≡ false
-  passed_item at p first k l h =
-      let within = first.within in
-      get_or-part (bits bytes) offset end k false (omega arith) ∙ first.others k l h
-
-  -- the next place
-  next_place : (at p : ℕ) → IsFirst (bits bytes) offset at end true p → p ≢ end → ones_from (part (bits bytes) offset end) at ≡ p ∷ ones_from (part (bits bytes) offset end) (p + 1)
-  next_place at p first some =
-      let l = length-part_bits bytes offset end inside in
-      let from = first.from in
-      let within = first.within in
-      let less : p < end = omega arith in
-      let test : ℕ → Bool = λ k. get_or (part (bits bytes) offset end) k false in
-      let left : length (part (bits bytes) offset end) - at ≡ (p - at) + suc (length (part (bits bytes) offset end) - (p + 1)) = omega (arith, l) in
-      let e : at + (p - at) ≡ p = omega arith in
-      let there : test p ≡ true = get_or-part (bits bytes) offset end p false less ∙ first.there less in
-      ones_among (part (bits bytes) offset end) at
-      ∙ (ap (λ n. filter test (range_with_len at n)) left
-      ∙ (skipped test at (p - at) (suc (length (part (bits bytes) offset end) - (p + 1))) (λ k a b. passed_item at p first k a (omega arith))
-      ∙ (ap (λ j. filter test (range_with_len j (suc (length (part (bits bytes) offset end) - (p + 1))))) e
-      ∙ (found test p (length (part (bits bytes) offset end) - (p + 1)) there
-      ∙ ap (λ (ps : List ℕ). p ∷ ps) (sym (ones_among (part (bits bytes) offset end) (p + 1)))))))
-
-  -- none is left
-  pub no_place : (at p : ℕ) → IsFirst (bits bytes) offset at end true p → p ≡ end → ones_from (part (bits bytes) offset end) at ≡ []
-  no_place at p first e =
-      let l = length-part_bits bytes offset end inside in
-      let from = first.from in
-      let test : ℕ → Bool = λ k. get_or (part (bits bytes) offset end) k false in
-      let left : length (part (bits bytes) offset end) - at ≡ (p - at) + 0 = omega (arith, l) in
-      ones_among (part (bits bytes) offset end) at
-      ∙ (ap (λ n. filter test (range_with_len at n)) left
-      ∙ skipped test at (p - at) 0 (λ k a b. passed_item at p first k a (omega arith)))
-
-  pub none_at_end : ones_from (part (bits bytes) offset end) end ≡ []
-  none_at_end =
-      let l = length-part_bits bytes offset end inside in
-      let left : length (part (bits bytes) offset end) - end ≡ 0 = omega (arith, l) in
-      ones_among (part (bits bytes) offset end) end ∙ ap (λ n. filter (λ k. get_or (part (bits bytes) offset end) k false) (range_with_len end n)) left
-
-  -- one place more
-  pub place_more : (begun at p k : ℕ) (places : List ℕ) → k < length places
-      → take k places ++ ones_from (part (bits bytes) offset end) at ≡ ones_from (part (bits bytes) offset end) begun
-      → IsFirst (bits bytes) offset at end true p → p ≢ end
-      → take (k + 1) (set places k p) ++ ones_from (part (bits bytes) offset end) (p + 1) ≡ ones_from (part (bits bytes) offset end) begun
-  place_more begun at p k places h done first some =
-      ap (λ (ps : List ℕ). ps ++ ones_from (part (bits bytes) offset end) (p + 1)) (take_more_set places k p h)
-      ∙ (append_assoc (take k places) (p ∷ []) (ones_from (part (bits bytes) offset end) (p + 1))
-      ∙ (ap (λ (ps : List ℕ). take k places ++ ps) (sym (next_place at p first some)) ∙ done))
-
-  -- no place is left, so the end will do as well
-  pub place_last : (begun at p : ℕ) (written : List ℕ)
-      → written ++ ones_from (part (bits bytes) offset end) at ≡ ones_from (part (bits bytes) offset end) begun
-      → IsFirst (bits bytes) offset at end true p → p ≡ end
-      → written ++ ones_from (part (bits bytes) offset end) end ≡ ones_from (part (bits bytes) offset end) begun
-  place_last begun at p written done first e =
-      ap (λ (ps : List ℕ). written ++ ps) (none_at_end ∙ sym (no_place at p first e)) ∙ done
-
--- ---- what was read
-
--- what is left of it behind its place
-pub read_next : (items : List Bool) (offset end p word held rest left : ℕ) → IsRead items offset end p word held → p < end → rest ≡ word / 2 ^ 1 → left ≡ held - 1 → IsRead items offset end (p + 1) rest left
-read_next items offset end p word held rest left read less is-rest is-left =
-    let few = read.few in
-    let within = read.within in
-    rw is-rest (record {
-      few = omega arith;
-      within = omega arith;
-      same = λ i l.
-          let e : p + (1 + i) ≡ p + 1 + i = omega arith in
-          bit_behind 1 word i ∙ (read.same (1 + i) (omega arith) ∙ ap (λ t. get_or items (offset + t) false) e);
-    })
+  -- those in a word of the bits from `base` on, and those behind it
+  pub word_step : (base held read word : ℕ) → base + held ≤ end → held ≤ 64
+      → ((i : ℕ) → i < 64 → bit read i ≡ get_or (bits bytes) (offset + (base + i)) false)
+      → unnum 64 word ≡ take held (unnum 64 read) ++ replicate (64 - held) false
+      → ones_from (part (bits bytes) offset end) base ≡ map (λ k. base + k) (ones (unnum 64 word)) ++ ones_from (part (bits bytes) offset end) (base + held)
+  unfolding ones unnum
+  word_step base held read word within few reads masked =
+      let items : List Bool = part (bits bytes) offset end in
+      let low : List Bool = take held (unnum 64 read) in
+      let size = length-part_bits bytes offset end inside in
+      let test : ℕ → Bool = λ k. get_or items k false in
+      let shown : ℕ → Bool = λ k. get_or (unnum 64 word) (k - base) false in
+      let wide : length (unnum 64 read) ≡ 64 = refl in
+      let short : length low ≡ held = length-take-le held (unnum 64 read) (omega (arith, wide)) in
+      let all : length items - base ≡ held + (length items - (base + held)) = omega (arith, size) in
+      let both : 64 ≡ held + (64 - held) = omega arith in
+      let start : base + 0 ≡ base = omega arith in
+      let moved : map (λ k. base + k) (ones (unnum 64 word)) ≡ filter shown (range_with_len base 64) =
+      moved_filter shown (λ k. get_or (unnum 64 word) k false) base 0 64 (λ i. let e : base + i - base ≡ i = omega arith in ap (λ j. get_or (unnum 64 word) j false) (sym e))
+      ∙ ap (λ a. filter shown (range_with_len a 64)) start in
+      let same : filter shown (range_with_len base held) ≡ filter test (range_with_len base held) =
+      same_among shown test base held (λ k l m.
+      let i : ℕ = k - base in
+      let e : base + i ≡ k = omega arith in
+      ap (λ (bs : List Bool). get_or bs i false) masked
+      ∙ (get_or_append_left low (replicate (64 - held) false) false i (omega (arith, short))
+      ∙ (get_or-take held (unnum 64 read) i false (omega arith)
+      ∙ (get_or-unnum 64 read i false (omega arith)
+      ∙ (reads i (omega arith)
+      ∙ (ap (λ j. get_or (bits bytes) (offset + j) false) e
+      ∙ sym (get_or-part (bits bytes) offset end k false (omega arith)))))))) in
+      let none : filter shown (range_with_len (base + held) (64 - held)) ≡ [] =
+      none_among shown (base + held) (64 - held) (λ k l m.
+      ap (λ (bs : List Bool). get_or bs (k - base) false) masked
+      ∙ (get_or-append_right low (replicate (64 - held) false) held (k - base) false short (omega arith)
+      ∙ get_or-replicate (64 - held) (k - base - held) false false (omega arith))) in
+      ones_among items base
+      ∙ (ap (set_among items base) all
+      ∙ (among_append test base held (length items - (base + held))
+      ∙ (ap (λ (ks : List ℕ). filter test (range_with_len base held) ++ ks) (sym (ones_among items (base + held)))
+      ∙ ap (λ (ks : List ℕ). ks ++ ones_from items (base + held)) (sym (moved
+      ∙ (ap (λ n. filter shown (range_with_len base n)) both
+      ∙ (among_append shown base held (64 - held)
+      ∙ (ap (λ (ks : List ℕ). filter shown (range_with_len base held) ++ ks) none
+      ∙ (append-nil (filter shown (range_with_len base held)) ∙ same)))))))))

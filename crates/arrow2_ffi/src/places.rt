@@ -1,14 +1,18 @@
 //! The places of set bits.
-ghost use Rattle.std.specs.Prelude.{◌≡◌, ◌≤◌, take, length as length'};
-ghost use Rattle.arrow2_model.specs.Bits.{bits};
+ghost use Rattle.std.specs.Prelude.{◌≡◌, ◌+◌, ◌<◌, ◌≤◌, ◌^◌, ℕ, List, ◌∷◌, ◌++◌, map, take, length as length', IfNone, IfSome};
+ghost use Rattle.std.specs.List.{All};
+ghost use Rattle.arrow2_model.specs.Bits.{bits, unnum};
 ghost use Rattle.arrow2_model.specs.Parts.{part};
+ghost use Rattle.arrow2_chunk.specs.Ones.{ones};
 ghost use Rattle.arrow2_ffi.specs.Places.{ones_from};
 ghost use Rattle.arrow2_ffi.specs.Ranges.{IsInside, HasBits, first_bits};
 ghost use Rattle.arrow2_ffi.specs.Writes.{GoesOn, WritesWhere};
 
 use crate::codes::{ARROW2_OK, ARROW2_RANGE};
 use crate::ranges::{Bits, are_inside};
-use arrow2_walks::places::{Place, first_place};
+use arrow2_bits::chunks::word_from;
+use arrow2_chunk::bit_chunk::BitChunk;
+use arrow2_chunk::bit_chunk_iter::BitChunkOnes;
 
 /// Writes the places of set bits among the `length` bits from bit `offset` on, from place `at` of them on, rising, as
 /// many as fit. Writes to `count` how many these are, and to `at` where to go on.
@@ -49,22 +53,42 @@ fn write_places(bits: Bits<'_>, end: usize, at: usize, places: &mut [usize]) -> 
         result.0 (length' places.old) result.1 end }
 {
     let Bits(bytes, offset) = bits;
-    let mut place = Place {
-        index: at,
-        word: 0,
-        held: 0,
-    };
-    for k in 0..places.len() {
-        place = first_place(bytes, offset, end, place, true);
-        if place.index == end {
-            return (k, end);
+    let mut count = 0;
+    let mut base = at;
+    'words: while base < end {
+        let held = (end - base).min(64);
+        let word = BitChunk::masked(word_from(bytes, offset, base), held);
+        let (written, next) = write_ones(word, base, count, places);
+        count = written;
+        match next {
+            Some(next) => return (count, next),
+            None => base += held,
         }
-        places[k] = place.index;
-        place = Place {
-            index: place.index + 1,
-            word: place.word >> 1,
-            held: place.held.saturating_sub(1),
-        };
     }
-    (places.len(), place.index)
+    (count, end)
+}
+
+/// Writes the places of the word's set bits, counted from `base` on, behind the first `count` places, as many as fit.
+/// Answers how many places there are then, and the first that did not fit. Asks for room for `count` places, and that
+/// each place fits a `usize`.
+fn write_ones(word: u64, base: usize, count: usize, places: &mut [usize]) -> (usize, Option<usize>)
+    requires few { count ≤ length' places.old }
+    requires fit { All (λ place. place < 2 ^ 64) (map (λ k. base + k) (ones (unnum 64 word))) }
+    ensures room { length' places.new ≡ length' places.old }
+    ensures few { result.0 ≤ length' places.old }
+    ensures all { IfNone result.1 (take result.0 places.new
+        ≡ take count places.old ++ map (λ k. base + k) (ones (unnum 64 word))) }
+    ensures next { IfSome result.1 (λ next. (result.0 ≡ length' places.old)
+        × (others : List ℕ) × (take result.0 places.new ++ next ∷ others
+        ≡ take count places.old ++ map (λ k. base + k) (ones (unnum 64 word)))) }
+{
+    let mut count = count;
+    for one in BitChunkOnes::new(word) {
+        if count == places.len() {
+            return (count, Some(base + one));
+        }
+        places[count] = base + one;
+        count += 1;
+    }
+    (count, None)
 }

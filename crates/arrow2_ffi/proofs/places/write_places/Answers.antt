@@ -1,31 +1,83 @@
-use Rattle.std.proofs.Common.{ℕ, ◌/◌, List, arith, refl, take}
-use Rattle.std.proofs.lemmas.List.{length-set}
-use Rattle.arrow2_model.specs.Bits.{bits}
-use Rattle.arrow2_ffi.proofs.PlaceSteps.{none_at_end, place_last, place_more, read_next}
+use Rattle.std.proofs.Common.{◌≡◌, ◌∙◌, ℕ, ◌+◌, ◌<◌, ◌^◌, List, ◌∷◌, ◌++◌, Bool, length, map, take, ap, sym, subst, arith}
+use Rattle.std.specs.Prelude.{IfNone, IfSome}
+use Rattle.std.specs.List.{All}
+use Rattle.std.proofs.lemmas.List.{append_assoc}
+use Rattle.arrow2_model.specs.Bits.{bits, unnum}
+use Rattle.arrow2_model.specs.Parts.{part}
+use Rattle.arrow2_model.proofs.Walks.{length-part_bits}
+use Rattle.arrow2_chunk.specs.Ones.{ones}
+use Rattle.arrow2_ffi.specs.Places.{ones_from}
+use Rattle.arrow2_ffi.proofs.PlaceSteps.{below, front_below, from_place, none_from, word_step}
 use Rattle.arrow2_ffi.proofs.places.write_places.Goals as goal
 
-pub returns-then-place-end : goal.returns-then-place-end
-returns-then-place-end c = record {
-  items =
-      place_last c.args.bits.0.now c.args.bits.1 c.args.end c.requires.inside c.args.at c.loop-k.place.index c.first_place-place.result.index (take c.loop-k.k c.loop-k.places)
-      c.loop-k.invariant.done c.first_place-place.ensures.first (omega (arith, c.if-place-end.true));
-  most = omega (arith, c.loop-k-test.true, c.loop-k.invariant.many);
-  last = λ _. none_at_end c.args.bits.0.now c.args.bits.1 c.args.end c.requires.inside;
-  goes_on = omega arith;
-}
+pub write_ones-written-requires-clause-fit : goal.write_ones-written-requires-clause-fit
+write_ones-written-requires-clause-fit c =
+    let items : List Bool = part (bits c.args.bits.0.now) c.args.bits.1 c.args.end in
+    let base : ℕ = c.words.base in
+    let held : ℕ = c.min-held.result in
+    let size = length-part_bits c.args.bits.0.now c.args.bits.1 c.args.end c.requires.inside in
+    let step = word_step c.args.bits.0.now c.args.bits.1 c.args.end c.requires.inside base held c.word_from.result c.masked-word.result (omega (arith, c.min-held.ensures, c.words-test.true)) (omega (arith, c.min-held.ensures)) c.word_from.ensures c.masked-word.ensures.bits in
+    let all = below items base (omega (arith, size, c.words-test.true)) (omega (arith, size, c.ranges.end.fits)) in
+    front_below (map (λ k. base + k) (ones (unnum 64 c.masked-word.result))) (ones_from items (base + held)) (subst (All (λ p. p < 2 ^ 64)) step all)
 
-pub loop-k-preserved : goal.loop-k-preserved
-loop-k-preserved c =
-    let k : ℕ = c.loop-k.k in
-    let p : ℕ = c.first_place-place.result.index in
-    let places : List ℕ = c.loop-k.places in
-    let n = length-set places k p in
-    let kept = c.loop-k.invariant in
-    let within = c.first_place-place.ensures.first.within in
+pub words-preserved : goal.words-preserved
+words-preserved c =
+    let items : List Bool = part (bits c.args.bits.0.now) c.args.bits.1 c.args.end in
+    let base : ℕ = c.words.base in
+    let held : ℕ = c.min-held.result in
+    let count : ℕ = c.write_ones-written.result.0 in
+    let places : List ℕ = c.write_ones-written.new.places in
+    let here : List ℕ = map (λ k. base + k) (ones (unnum 64 c.masked-word.result)) in
+    let kept = c.words.invariant in
+    let step = word_step c.args.bits.0.now c.args.bits.1 c.args.end c.requires.inside base held c.word_from.result c.masked-word.result (omega (arith, c.min-held.ensures, c.words-test.true)) (omega (arith, c.min-held.ensures)) c.word_from.ensures c.masked-word.ensures.bits in
+    let all : take count places ≡ take c.words.count c.words.places ++ here = subst (λ r. IfNone r (take count places ≡ take c.words.count c.words.places ++ here)) c.in-None.is c.write_ones-written.ensures.all in
+    let room = c.write_ones-written.ensures.room in
     record {
-      many = omega (arith, n, kept.many);
-      read = read_next (bits c.args.bits.0.now) c.args.bits.1 c.args.end p c.first_place-place.result.word c.first_place-place.result.held (c.first_place-place.result.word / 2) c.saturating_sub.result
-          c.first_place-place.ensures.read (omega (arith, within, c.if-place-end.false)) refl c.saturating_sub.ensures;
-      done = place_more c.args.bits.0.now c.args.bits.1 c.args.end c.requires.inside c.args.at c.loop-k.place.index p k places
-          (omega (arith, c.loop-k-test.true, kept.many)) kept.done c.first_place-place.ensures.first (λ e. omega (arith, e, c.if-place-end.false));
+      many = room ∙ kept.many;
+      few = omega (arith, room, c.write_ones-written.ensures.few);
+      inside = omega (arith, c.min-held.ensures, c.words-test.true);
+      done =
+          ap (λ (ps : List ℕ). ps ++ ones_from items (base + held)) all
+          ∙ (append_assoc (take c.words.count c.words.places) here (ones_from items (base + held))
+          ∙ (ap (λ (ps : List ℕ). take c.words.count c.words.places ++ ps) (sym step) ∙ kept.done));
+    }
+
+pub returns-in-Some : goal.returns-in-Some
+returns-in-Some c =
+    let items : List Bool = part (bits c.args.bits.0.now) c.args.bits.1 c.args.end in
+    let base : ℕ = c.words.base in
+    let held : ℕ = c.min-held.result in
+    let next : ℕ = c.in-Some.next in
+    let count : ℕ = c.write_ones-written.result.0 in
+    let places : List ℕ = c.write_ones-written.new.places in
+    let here : List ℕ = map (λ k. base + k) (ones (unnum 64 c.masked-word.result)) in
+    let kept = c.words.invariant in
+    let size = length-part_bits c.args.bits.0.now c.args.bits.1 c.args.end c.requires.inside in
+    let step = word_step c.args.bits.0.now c.args.bits.1 c.args.end c.requires.inside base held c.word_from.result c.masked-word.result (omega (arith, c.min-held.ensures, c.words-test.true)) (omega (arith, c.min-held.ensures)) c.word_from.ensures c.masked-word.ensures.bits in
+    let told = subst (λ r. IfSome r (λ next. (count ≡ length c.words.places) × (others : List ℕ) × (take count places ++ next ∷ others ≡ take c.words.count c.words.places ++ here))) c.in-Some.is c.write_ones-written.ensures.next in
+    let behind : List ℕ = told.1 ++ ones_from items (base + held) in
+    let all : take count places ++ next ∷ behind ≡ ones_from items c.args.at =
+    sym (append_assoc (take count places) (next ∷ told.1) (ones_from items (base + held)))
+    ∙ (ap (λ (ps : List ℕ). ps ++ ones_from items (base + held)) told.2
+    ∙ (append_assoc (take c.words.count c.words.places) here (ones_from items (base + held))
+    ∙ (ap (λ (ps : List ℕ). take c.words.count c.words.places ++ ps) (sym step) ∙ kept.done))) in
+    let from = from_place items c.args.at next (take count places) behind (omega (arith, size, c.requires.within)) (sym all) in
+    record {
+      items = ap (λ (ps : List ℕ). take count places ++ ps) from.1 ∙ all;
+      most = omega (arith, told.0, kept.many);
+      last = λ h. let no : ⊥ = omega (arith, h, told.0, kept.many) in absurd no;
+      goes_on = omega (arith, from.0, size);
+    }
+
+pub returns : goal.returns
+returns c =
+    let items : List Bool = part (bits c.args.bits.0.now) c.args.bits.1 c.args.end in
+    let kept = c.words.invariant in
+    let size = length-part_bits c.args.bits.0.now c.args.bits.1 c.args.end c.requires.inside in
+    let ended : c.words.base ≡ c.args.end = omega (arith, kept.inside, c.words-test.false) in
+    record {
+      items = ap (λ b. take c.words.count c.words.places ++ ones_from items b) (sym ended) ∙ kept.done;
+      most = omega (arith, kept.few, kept.many);
+      last = λ _. none_from items c.args.end size;
+      goes_on = omega arith;
     }
