@@ -1,6 +1,7 @@
 pub mod ArrayCommandLemmas
 pub mod BitmapCommandLemmas
 pub mod CommandLemmas
+pub mod DigitSteps
 pub mod GrowthCommandLemmas
 pub mod HexLemmas
 pub mod KernelCommandLemmas

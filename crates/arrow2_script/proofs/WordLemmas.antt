@@ -1,13 +1,11 @@
 -- What a word says, and the one word that says it.
 use Rattle.std.proofs.Common.{map, codes, eqb, ◌≡◌, ◌∙◌, sym, ap, refl, ◌<◌, ◌≤◌, ◌^◌, ℕ, zero, suc, List, [], ◌∷◌, length, get_or, Bool, true, false, cond, ◌&&◌, ◌⊎◌, inl, inr, arith, lit<}
-use Rattle.std.specs.Prelude.{Option, Some, None, option_map, IfSome, Result, Ok, Err, nat_lt}
-use Rattle.std.specs.Result.{result_ok}
-use Rattle.std.specs.Str.{bytes_eq, IsUtf8}
-use Rattle.std.specs.Str.Parse.{digits_value, AllDigits, ParsesUnsigned}
+use Rattle.std.specs.Prelude.{Option, Some, None, option_map, IfSome, IfNone, nat_lt}
+use Rattle.std.specs.Str.{bytes_eq}
+use Rattle.std.specs.Str.Parse.{digits_value, AllDigits}
 use Rattle.std.specs.Fmt.{decimal}
-use Rattle.std.proofs.lemmas.Fmt.{decimal_is_IsNumeral, decimal-digits_value, first_decimal, decimal_digit, IsAscii-decimal}
-use Rattle.std.proofs.lemmas.Str.{IsUtf8-from_ascii}
-use Rattle.std.proofs.lemmas.Str.Parse.{numerals_by_value, tells_digits, parse_plain, IsNumeralModel, digit_from_value}
+use Rattle.std.proofs.lemmas.Fmt.{decimal_is_IsNumeral, decimal-digits_value, first_decimal, decimal_digit}
+use Rattle.std.proofs.lemmas.Str.Parse.{numerals_by_value, tells_digits, IsNumeralModel, digit_from_value}
 use Rattle.std.proofs.lemmas.Slice.Eq.{bytes_eq-Decides}
 use Rattle.std.specs.List.{list_all}
 use Rattle.std.proofs.lemmas.Option.{option_and_then_some, cond_some, same_Some, none-some}
@@ -57,40 +55,36 @@ number_of-none word never = elim (some_or_none (number_of word)) [
   | inr e ↦ e
 ]
 
--- the first digit of a number is neither a sign nor, where more follow it, 0
-first_digit : (n : ℕ) → n < 2 ^ 64 → ((0 < length (decimal n)) × (get_or (decimal n) 0 0 ≡ 43)) ⊎ ((1 < length (decimal n)) × (get_or (decimal n) 0 0 ≡ 48)) → ⊥
-first_digit zero h padded = elim (rw (decimal_digit 0 (lit< tt)) at padded) [ inl p ↦ omega (arith, p.1) | inr p ↦ omega (arith, p.0) ]
-first_digit (suc n) h padded =
+-- the first digit of a number is not 0 where more follow it
+first_digit : (n : ℕ) → n < 2 ^ 64 → 1 < length (decimal n) → get_or (decimal n) 0 0 ≡ 48 → ⊥
+first_digit zero h more e = let l = ap length (decimal_digit 0 (lit< tt)) in omega (arith, l, more)
+first_digit (suc n) h more e =
     let above : 0 < suc n = omega arith in
     let first = first_decimal (suc n) above h in
-    elim padded [ inl p ↦ omega (arith, first, p.1) | inr p ↦ omega (arith, first, p.1) ]
+    omega (arith, first, e)
 
-pub number_of-padded : (word : List ℕ) → ((0 < length word) × (get_or word 0 0 ≡ 43)) ⊎ ((1 < length word) × (get_or word 0 0 ≡ 48)) → number_of word ≡ None
-number_of-padded word padded = number_of-none word (λ n h e. first_digit n h (rw e padded))
+pub number_of-leading_zero : (word : List ℕ) → 1 < length word → get_or word 0 0 ≡ 48 → number_of word ≡ None
+number_of-leading_zero word more is = number_of-none word (λ n h e. first_digit n h (rw e more) (rw e is))
 
-pub number_of-no_text : (word : List ℕ) → ¬ (IsUtf8 word) → number_of word ≡ None
-number_of-no_text word broken = number_of-none word (λ n h e. broken (rw (← e) (IsUtf8-from_ascii (decimal n) (IsAscii-decimal n h))))
+pub number_of-empty : (word : List ℕ) → length word ≡ 0 → number_of word ≡ None
+number_of-empty word empty = number_of-none word (λ n h e. let some = (decimal_is_IsNumeral n h).0.0 in let l = ap length e in omega (arith, some, l, empty))
 
 own : IsNumeralModel (AllDigits 10) (digits_value 10)
 own = numerals_by_value (AllDigits 10) tells_digits
 
--- a list that begins with a sign is not empty
-there : (word : List ℕ) → get_or word 0 0 ≡ 43 → 0 < length word
-there [] e = omega arith
-there (b ∷ bytes) e = omega arith
-
--- what parsing answers for a word without a sign or a leading zero
-pub number_of-parsed : {E : Type 0} (word : List ℕ) (r : Result ℕ E) → ¬ (((0 < length word) × (get_or word 0 0 ≡ 43)) ⊎ ((1 < length word) × (get_or word 0 0 ≡ 48))) → ParsesUnsigned 64 10 word r → result_ok r ≡ number_of word
-number_of-parsed {E} word (Ok x) plain parsed =
-    let q = parse_plain own {E = E} 64 word (Ok x) parsed (λ e. plain (inl (there word e, e))) in
-    let one : get_or word 0 0 ≡ 48 → length word ≡ 1 = λ e. let short : 1 < length word → ⊥ = λ l. plain (inr (l, e)) in omega (arith, short, q.0.1) in
-    let same = decimal-digits_value own word q.0.0 q.0.1 one q.0.2 in
-    ap Some q.1 ∙ sym (ap number_of (sym same) ∙ number_of-decimal (digits_value 10 word) q.0.2)
-number_of-parsed {E} word (Err d) plain parsed =
-    let refused = parse_plain own {E = E} 64 word (Err d) parsed (λ e. plain (inl (there word e, e))) in
+-- the number of a word's digits, where the first of several is not 0
+pub number_of-digits : (word : List ℕ) (r : Option ℕ) → 0 < length word → ¬ ((1 < length word) × (get_or word 0 0 ≡ 48))
+    → IfSome r (λ n. AllDigits 10 word × (n ≡ digits_value 10 word)) → IfSome r (λ n. n < 2 ^ 64)
+    → IfNone r (¬ (AllDigits 10 word × (digits_value 10 word < 2 ^ 64))) → r ≡ number_of word
+number_of-digits word (Some n) some plain said fits refused =
+    let one : get_or word 0 0 ≡ 48 → length word ≡ 1 = λ e. let short : 1 < length word → ⊥ = λ l. plain (l, e) in omega (arith, short, some) in
+    let small : digits_value 10 word < 2 ^ 64 = rw (← said.1) fits in
+    let same = decimal-digits_value own word said.0 some one small in
+    ap Some said.1 ∙ sym (ap number_of (sym same) ∙ number_of-decimal (digits_value 10 word) small)
+number_of-digits word None some plain said fits refused =
     sym (number_of-none word (λ n h e.
     let is = decimal_is_IsNumeral n h in
-    refused (rw e at is.0.1, rw e at is.0.0, let v : digits_value 10 word ≡ n = ap (digits_value 10) (sym e) ∙ is.1 in omega (arith, v, h))))
+    refused (rw e at is.0.1, let v : digits_value 10 word ≡ n = ap (digits_value 10) (sym e) ∙ is.1 in omega (arith, v, h))))
 
 -- the word of a number below a bound
 pub below_of-decimal : (bound n : ℕ) → bound ≤ 2 ^ 64 → n < bound → below_of bound (decimal n) ≡ Some n

@@ -1,12 +1,12 @@
 //! What a word of a line says.
-ghost use Rattle.std.specs.Prelude.{◌≡◌, ◌<◌, ◌↔◌, ◌⊎◌, List, Bool, Option, ℕ, length, slice_index, IsTrue};
+ghost use Rattle.std.specs.Prelude.{◌≡◌, ◌<◌, ◌^◌, ◌↔◌, IfSome, IfNone, List, Bool, Option, ℕ, length, slice_index, IsTrue};
 ghost use Rattle.arrow2_script.specs.Words.{number_of, below_of, width_of, optional_slot_of, bit_of, bits_of, is_bit_byte, items_said, is_number, numbers_of, is_hex_digit, hex_value, bytes_said, bytes_of};
 ghost use Rattle.std.specs.Iterator.{YieldsFirst, item_count};
 ghost use Rattle.std.specs.List.{list_all};
+ghost use Rattle.std.specs.Str.Parse.{AllDigits, digits_value};
 
 use crate::lines::Parts;
 use std::marker::Model;
-use std::str;
 
 /// A value that one word says.
 pub trait Word<'a>: Drop {
@@ -18,25 +18,39 @@ pub trait Word<'a>: Drop {
         ensures { result ≡ says word.entry.now };
 }
 
-/// Whether a sign or a leading zero keeps a word from being a number.
-fn is_padded(word: &[u8]) -> bool
-    ensures { IsTrue result ↔ ((0 < length word.now × slice_index word.now 0 ≡ 43)
-        ⊎ (1 < length word.now × slice_index word.now 0 ≡ 48)) }
+/// Whether the first of several digits is 0.
+fn has_leading_zero(word: &[u8]) -> bool
+    ensures { IsTrue result ↔ (1 < length word.now × slice_index word.now 0 ≡ 48) }
 {
-    matches!(word, [b'+', ..] | [b'0', _, ..])
+    matches!(word, [b'0', _, ..])
+}
+
+/// The number that decimal digits say, or `None` where a byte is no digit or the number is above `u64::MAX`.
+fn digits_number(digits: &[u8]) -> Option<u64>
+    ensures some { IfSome result (λ n. AllDigits 10 digits.now × (n ≡ digits_value 10 digits.now)) }
+    ensures fits { IfSome result (λ n. n < 2 ^ 64) }
+    ensures none { IfNone result (¬ (AllDigits 10 digits.now × digits_value 10 digits.now < 2 ^ 64)) }
+{
+    let mut number = 0u64;
+    for byte in digits {
+        if !byte.is_ascii_digit() {
+            return None;
+        }
+        number = number
+            .checked_mul(10)?
+            .checked_add(u64::from(*byte - b'0'))?;
+    }
+    Some(number)
 }
 
 /// The number that a word says: decimal digits without a leading zero, except `0`, at most `u64::MAX`.
 fn number(word: &[u8]) -> Option<u64>
     ensures { result ≡ number_of word.now }
 {
-    if is_padded(word) {
+    if word.is_empty() || has_leading_zero(word) {
         return None;
     }
-    match str::from_utf8(word) {
-        Ok(digits) => digits.parse().ok(),
-        Err(_) => None,
-    }
+    digits_number(word)
 }
 
 /// A number: decimal digits without a leading zero, except `0`, at most `u64::MAX`.
