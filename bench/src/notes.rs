@@ -70,15 +70,11 @@ const NOTES: [Note; 34] = [
     ),
     ("arrow2_ffi", "get_bit", INLINED),
     ("arrow2_ffi", "set_bit", INLINED),
-    (
-        "arrow2_ffi",
-        "copy_bits",
-        "words are written over memory of the caller, where arrow2 copies bytes into its own",
-    ),
+    ("arrow2_ffi", "copy_bits", COPIED),
     (
         "arrow2_ffi",
         "set_places",
-        "a walk that goes on from any place, where the twin takes whole words",
+        "each place is written behind a test for room, since a slice of the caller may end anywhere",
     ),
     ("arrow2_ffi", "unary_assign_table", AT_RUN_TIME),
     ("arrow2_ffi", "binary_assign_table", AT_RUN_TIME),
