@@ -3,7 +3,7 @@
 /// A crate, how names of its lines begin, and why these lines are above 1. The first that fits counts.
 type Note = (&'static str, &'static str, &'static str);
 
-const NOTES: [Note; 34] = [
+const NOTES: [Note; 39] = [
     (
         "arrow2_chunk",
         "BitChunkOnes",
@@ -22,6 +22,8 @@ const NOTES: [Note; 34] = [
         "one of two bytes is chosen without a branch, where arrow2's branch always guesses right",
     ),
     ("arrow2_bits", "BitmapIter", SHIFTED),
+    ("arrow2_bitmap", "new_zeroed", "zeros are asked of the allocator on both sides"),
+    ("arrow2_bitmap", "try_from_iter of comparisons", LAID),
     ("arrow2_bitmap", "from_u8_slice", COPIED),
     ("arrow2_bitmap", "make_mut of a shared one", COPIED),
     ("arrow2_bitmap", "iter", SHIFTED),
@@ -48,6 +50,8 @@ const NOTES: [Note; 34] = [
         "Pieces",
         "a new piece moves the later ones one by one, where Rust's `Vec` moves their memory at once",
     ),
+    ("arrow2_kernels", "!", LAID),
+    ("arrow2_kernels", "and of 64 bits", LAID),
     ("arrow2_kernels", "unary_assign_table", AT_RUN_TIME),
     ("arrow2_kernels", "binary_assign_table", AT_RUN_TIME),
     (
@@ -56,6 +60,7 @@ const NOTES: [Note; 34] = [
         "the validity is a table of three inputs, where arrow2's side takes two of them",
     ),
     ("arrow2_buffer", "try_from_iter", HINTS),
+    ("arrow2_offset", "start_end", "both read two offsets at a place that no cache foresees"),
     ("arrow2_offset", "try_from_lengths", HINTS),
     (
         "arrow2_offset",
@@ -95,6 +100,8 @@ const NOTES: [Note; 34] = [
     ),
     ("arrow2_ffi", "", "ranges and lengths are tested at each call"),
 ];
+
+const LAID: &str = "by where the linker lays the loop: in another order the line is below 1";
 
 const COPIED: &str = "a copy of memory on both sides";
 
