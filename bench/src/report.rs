@@ -59,7 +59,7 @@ fn add_worst(page: &mut String, rows: &[Row]) {
     }
     page.push_str(WORST_COLUMNS);
     for row in slower.into_iter().take(WORST) {
-        let Row { group, name, .. } = row;
+        let (group, name) = (&row.group, cell(&row.name));
         let _ = writeln!(page, "| {group}: {name} | {} | {} |", ratio(row.ratio()), why(row));
     }
 }
@@ -69,7 +69,7 @@ fn add_row(page: &mut String, row: &Row) {
     let _ = writeln!(
         page,
         "| {} | {} | {} | {} | {} | {} | {} |",
-        row.name,
+        cell(&row.name),
         row.unit,
         number(ours),
         number(original),
@@ -77,6 +77,11 @@ fn add_row(page: &mut String, row: &Row) {
         spread(row),
         why(row),
     );
+}
+
+/// A text as a cell of a table of Markdown, where a bar would end the cell.
+fn cell(text: &str) -> String {
+    text.replace('|', "\\|")
 }
 
 /// Why a row is above 1, where it is.
