@@ -72,7 +72,7 @@ impl Index for i8 {
     }
 
     fn distance_to(self, end: i8) -> usize {
-        end.abs_diff(self) as usize
+        end.wrapping_sub(self).cast_unsigned() as usize
     }
 
     fn next_towards(self, _end: i8) -> i8 {
@@ -96,7 +96,7 @@ impl Index for i16 {
     }
 
     fn distance_to(self, end: i16) -> usize {
-        end.abs_diff(self) as usize
+        end.wrapping_sub(self).cast_unsigned() as usize
     }
 
     fn next_towards(self, _end: i16) -> i16 {
@@ -120,7 +120,7 @@ impl Index for i32 {
     }
 
     fn distance_to(self, end: i32) -> usize {
-        end.abs_diff(self) as usize
+        end.wrapping_sub(self).cast_unsigned() as usize
     }
 
     fn next_towards(self, _end: i32) -> i32 {
@@ -144,7 +144,7 @@ impl Index for i64 {
     }
 
     fn distance_to(self, end: i64) -> usize {
-        end.abs_diff(self) as usize
+        end.wrapping_sub(self).cast_unsigned() as usize
     }
 
     fn next_towards(self, _end: i64) -> i64 {
@@ -168,7 +168,7 @@ impl Index for u8 {
     }
 
     fn distance_to(self, end: u8) -> usize {
-        end.abs_diff(self) as usize
+        (end - self) as usize
     }
 
     fn next_towards(self, _end: u8) -> u8 {
@@ -192,7 +192,7 @@ impl Index for u16 {
     }
 
     fn distance_to(self, end: u16) -> usize {
-        end.abs_diff(self) as usize
+        (end - self) as usize
     }
 
     fn next_towards(self, _end: u16) -> u16 {
@@ -216,7 +216,7 @@ impl Index for u32 {
     }
 
     fn distance_to(self, end: u32) -> usize {
-        end.abs_diff(self) as usize
+        (end - self) as usize
     }
 
     fn next_towards(self, _end: u32) -> u32 {
@@ -240,7 +240,7 @@ impl Index for u64 {
     }
 
     fn distance_to(self, end: u64) -> usize {
-        end.abs_diff(self) as usize
+        (end - self) as usize
     }
 
     fn next_towards(self, _end: u64) -> u64 {
