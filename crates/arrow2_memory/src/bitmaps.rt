@@ -130,15 +130,19 @@ fn by_names(bitmap: &Bitmap) -> [Row<Bitmap>; 7] {
     ]
 }
 
+/// What is made of a bitmap.
+fn made_of<R: Print + Eprint>(rt: &R, bitmap: &Bitmap) {
+    made(rt, &shared(bitmap), &shared(bitmap));
+    made(rt, &copied(bitmap), &copied(bitmap));
+    made(rt, &by_words(bitmap), &by_words(bitmap));
+    made(rt, &by_tables(bitmap), &by_tables(bitmap));
+    made(rt, &by_names(bitmap), &by_names(bitmap));
+}
+
 /// All of them.
 pub(crate) fn all<R: Print + Eprint>(rt: &R, alloc: Global) -> Result<()> {
-    let bitmap = items(alloc, 1).or(items(alloc, 1))?;
     made(rt, &given(alloc), &given(alloc));
     made(rt, &moved(alloc), &moved(alloc));
-    made(rt, &shared(&bitmap), &shared(&bitmap));
-    made(rt, &copied(&bitmap), &copied(&bitmap));
-    made(rt, &by_words(&bitmap), &by_words(&bitmap));
-    made(rt, &by_tables(&bitmap), &by_tables(&bitmap));
-    made(rt, &by_names(&bitmap), &by_names(&bitmap));
+    made_of(rt, &items(alloc, 1).or(items(alloc, 1))?);
     Ok(())
 }

@@ -132,14 +132,24 @@ fn roomy(alloc: Global) -> Result<MutableBitmap> {
     MutableBitmap::with_capacity(alloc, 20)
 }
 
+/// Copies.
+fn copies_made<R: Print + Eprint>(rt: &R, bitmap: &MutableBitmap) {
+    made(rt, &copied(bitmap), &copied(bitmap));
+}
+
+/// Validities of bitmaps that are moved.
+fn validities_made<R: Print + Eprint>(rt: &R, alloc: Global) -> Result<()> {
+    let one = growing_items(alloc).or(growing_items(alloc))?;
+    let other = growing_items(alloc).or(growing_items(alloc))?;
+    made(rt, &validity(one), &validity(other));
+    Ok(())
+}
+
 /// All of them.
 pub(crate) fn all<R: Print + Eprint>(rt: &R, alloc: Global) -> Result<()> {
     made(rt, &given(alloc), &given(alloc));
     grown(rt, alloc)?;
     below_capacity(rt, &mut roomy(alloc).or(roomy(alloc))?);
-    let one = growing_items(alloc).or(growing_items(alloc))?;
-    let other = growing_items(alloc).or(growing_items(alloc))?;
-    made(rt, &copied(&one), &copied(&one));
-    made(rt, &validity(one), &validity(other));
-    Ok(())
+    copies_made(rt, &growing_items(alloc).or(growing_items(alloc))?);
+    validities_made(rt, alloc)
 }

@@ -185,23 +185,35 @@ fn extend_by_two(offsets: &mut Offsets<i32>, other: &OffsetsBuffer<i32>) -> Resu
     offsets.try_extend_from_slice(other, 0, 2)
 }
 
+/// Each way to grow that needs no other offsets.
+const GROWTHS: [Growth; 6] = [
+    Growth::Push,
+    Growth::PushUsize,
+    Growth::ExtendConstant,
+    Growth::ExtendFromLengths,
+    Growth::Reserve,
+    Growth::ShrinkToFit,
+];
+
+/// Offsets grow in each of those ways.
+fn grown_by_each<R: Print + Eprint>(rt: &R, before: &Offsets<i32>) -> Result<()> {
+    for growth in &GROWTHS {
+        changed(rt, before, growth)?;
+    }
+    Ok(())
+}
+
+/// Offsets grow by others.
+fn grown_by_others<R: Print + Eprint>(rt: &R, alloc: Global, before: &Offsets<i32>) -> Result<()> {
+    changed(rt, before, &five(alloc).or(five(alloc))?)?;
+    changed(rt, before, &five_shared(alloc).or(five_shared(alloc))?)
+}
+
 /// Offsets without a length grow in each way.
 fn grown<R: Print + Eprint>(rt: &R, alloc: Global) -> Result<()> {
     let before = Offsets::new(alloc).or(Offsets::new(alloc))?;
-    for growth in &[
-        Growth::Push,
-        Growth::PushUsize,
-        Growth::ExtendConstant,
-        Growth::ExtendFromLengths,
-        Growth::Reserve,
-        Growth::ShrinkToFit,
-    ] {
-        changed(rt, &before, growth)?;
-    }
-    let other = five(alloc).or(five(alloc))?;
-    changed(rt, &before, &other)?;
-    let shared = five_shared(alloc).or(five_shared(alloc))?;
-    changed(rt, &before, &shared)
+    grown_by_each(rt, &before)?;
+    grown_by_others(rt, alloc, &before)
 }
 
 /// As many lengths as there is room for. None of them takes memory, so this is named where one is refused.
@@ -247,15 +259,23 @@ fn to_move(alloc: Global) -> Result<Moved> {
     ))
 }
 
+/// Copies of offsets.
+fn copies_made<R: Print + Eprint>(rt: &R, offsets: &Offsets<i32>) {
+    made(rt, &copied(offsets), &copied(offsets));
+}
+
+/// Other owners of shared offsets.
+fn shared_made<R: Print + Eprint>(rt: &R, alloc: Global, shared: &OffsetsBuffer<i32>) {
+    made(rt, &frozen(alloc, shared), &frozen(alloc, shared));
+    made(rt, &buffer(shared), &buffer(shared));
+}
+
 /// Offsets and buffers of given items.
 fn of_items<R: Print + Eprint>(rt: &R, alloc: Global) -> Result<()> {
-    let offsets = five(alloc).or(five(alloc))?;
-    let shared = five_shared(alloc).or(five_shared(alloc))?;
     made(rt, &buffers(alloc), &buffers(alloc));
     made(rt, &given(alloc), &given(alloc));
-    made(rt, &copied(&offsets), &copied(&offsets));
-    made(rt, &frozen(alloc, &shared), &frozen(alloc, &shared));
-    made(rt, &buffer(&shared), &buffer(&shared));
+    copies_made(rt, &five(alloc).or(five(alloc))?);
+    shared_made(rt, alloc, &five_shared(alloc).or(five_shared(alloc))?);
     Ok(())
 }
 
@@ -267,22 +287,38 @@ fn frozen_or_refused<R: Print + Eprint>(rt: &R, alloc: Global) -> Result<()> {
     Ok(())
 }
 
-/// Offsets of the other width.
-fn converted<R: Print + Eprint>(rt: &R, alloc: Global) -> Result<()> {
-    let (one, other) = (five(alloc).or(five(alloc))?, five(alloc).or(five(alloc))?);
+/// Offsets of the greater width.
+fn widths_grown<R: Print + Eprint>(rt: &R, alloc: Global) -> Result<()> {
+    let one = five(alloc).or(five(alloc))?;
+    let other = five(alloc).or(five(alloc))?;
     made(rt, &widened(one), &widened(other));
+    Ok(())
+}
+
+/// Offsets of the smaller width.
+fn widths_shrunk<R: Print + Eprint>(rt: &R, alloc: Global) -> Result<()> {
     let one = five_wide(alloc).or(five_wide(alloc))?;
     let other = five_wide(alloc).or(five_wide(alloc))?;
     made(rt, &narrowed(one), &narrowed(other));
     Ok(())
 }
 
-/// Shared offsets of the other width.
-fn shared_converted<R: Print + Eprint>(rt: &R, alloc: Global) -> Result<()> {
-    let narrow = five_shared(alloc).or(five_shared(alloc))?;
-    made(rt, &shared_widened(&narrow), &shared_widened(&narrow));
-    let wide = five_shared_wide(alloc).or(five_shared_wide(alloc))?;
-    made(rt, &shared_narrowed(&wide), &shared_narrowed(&wide));
+/// Shared offsets of the greater width.
+fn shared_grown<R: Print + Eprint>(rt: &R, offsets: &OffsetsBuffer<i32>) {
+    made(rt, &shared_widened(offsets), &shared_widened(offsets));
+}
+
+/// Shared offsets of the smaller width.
+fn shared_shrunk<R: Print + Eprint>(rt: &R, offsets: &OffsetsBuffer<i64>) {
+    made(rt, &shared_narrowed(offsets), &shared_narrowed(offsets));
+}
+
+/// Offsets of the other width, of one owner and shared.
+fn converted<R: Print + Eprint>(rt: &R, alloc: Global) -> Result<()> {
+    widths_grown(rt, alloc)?;
+    widths_shrunk(rt, alloc)?;
+    shared_grown(rt, &five_shared(alloc).or(five_shared(alloc))?);
+    shared_shrunk(rt, &five_shared_wide(alloc).or(five_shared_wide(alloc))?);
     Ok(())
 }
 
@@ -291,7 +327,6 @@ pub(crate) fn all<R: Print + Eprint>(rt: &R, alloc: Global) -> Result<()> {
     of_items(rt, alloc)?;
     frozen_or_refused(rt, alloc)?;
     converted(rt, alloc)?;
-    shared_converted(rt, alloc)?;
     grown(rt, alloc)?;
     below_capacity(rt, &mut roomy(alloc).or(roomy(alloc))?);
     Ok(())

@@ -62,13 +62,24 @@ fn array(alloc: Global) -> Result<BooleanArray> {
     BooleanArray::try_new(items(alloc, 1)?, Some(validity))
 }
 
-/// All of them.
-pub(crate) fn all<R: Print + Eprint>(rt: &R, alloc: Global) -> Result<()> {
-    let bitmap = items(alloc, 1).or(items(alloc, 1))?;
+/// Arrays of a bitmap.
+fn arrays_made<R: Print + Eprint>(rt: &R, alloc: Global, bitmap: &Bitmap) -> Result<()> {
     let array = array(alloc).or(array(alloc))?;
-    made(rt, &arrays(&array, &bitmap), &arrays(&array, &bitmap));
-    made(rt, &one_piece(alloc, &bitmap), &one_piece(alloc, &bitmap));
+    made(rt, &arrays(&array, bitmap), &arrays(&array, bitmap));
+    Ok(())
+}
+
+/// Pieces that are made, and cut.
+fn pieces_made<R: Print + Eprint>(rt: &R, alloc: Global, bitmap: &Bitmap) -> Result<()> {
+    made(rt, &one_piece(alloc, bitmap), &one_piece(alloc, bitmap));
     let mut pieces = pieces(alloc).or(pieces(alloc))?;
     cut(rt, &mut pieces);
     Ok(())
+}
+
+/// All of them.
+pub(crate) fn all<R: Print + Eprint>(rt: &R, alloc: Global) -> Result<()> {
+    let bitmap = items(alloc, 1).or(items(alloc, 1))?;
+    arrays_made(rt, alloc, &bitmap)?;
+    pieces_made(rt, alloc, &bitmap)
 }
