@@ -3,30 +3,21 @@ use Rattle.std.proofs.Common.{◌≡◌, refl, ℕ, List, ◌∷◌, true, codes
 use Rattle.std.specs.Prelude.{Some, None}
 use Rattle.std.specs.List.{list_all}
 use Rattle.std.proofs.lemmas.Option.{none-some}
-use Rattle.arrow2_script.specs.BitmapCommands.{bitmap_named}
-use Rattle.arrow2_script.specs.OffsetCommands.{offset_named}
-use Rattle.arrow2_script.specs.ValueCommands.{value_named}
-use Rattle.arrow2_script.specs.StorageCommands.{storage_named}
 use Rattle.arrow2_script.specs.KernelCommands.{kernel_named, operator_named, table_named}
-use Rattle.arrow2_script.specs.GrowthCommands.{growth_named}
 use Rattle.arrow2_script.specs.ArrayCommands.{array_named, array_words, ArrayFits}
-use Rattle.arrow2_script.specs.Commands.{named, command_of}
+use Rattle.arrow2_script.specs.Commands.{bitmap_named, offset_named, value_named, storage_named, growth_named, named, command_of}
 use Rattle.arrow2_script.specs.declared.array_command.ArrayCommand.{ArrayCommand}
 use Rattle.arrow2_script.specs.declared.array_command.ArrayCommand.TheVariants.{New, List as Items, Nulls, Slice, And, Or}
 use Rattle.arrow2_script.specs.declared.command.Command.TheVariants as Kinds
-use Rattle.arrow2_script.proofs.KindLemmas.{numbers, optional_slots, slots, more, no_more, at_row}
+use Rattle.arrow2_script.proofs.KindLemmas.{numbers, optional_slots, slots, more, no_more, at_row, Says}
 use Rattle.arrow2_script.proofs.SpellingLemmas.{is_word}
 use Rattle.arrow2_script.proofs.WordLemmas.{number_of-decimal, optional_slot_of-word, slot_of-decimal}
 
--- behind this name, the words of a command on boolean arrays, which are words
-abbrev Says : List ℕ → List (List ℕ) → ArrayCommand → Type 0
-Says name words command = ArrayFits command × (name ∷ words ≡ array_words command) × (list_all is_word (name ∷ words) ≡ true)
-
 -- words that say a command on boolean arrays are its words
-pub array_says : (name : List ℕ) (words : List (List ℕ)) (command : ArrayCommand) → array_named name words ≡ Some command → Says name words command
+pub array_says : (name : List ℕ) (words : List (List ℕ)) (command : ArrayCommand) → array_named name words ≡ Some command → Says ArrayFits array_words name words command
 unfolding array_named is_word
 array_says name words command =
-    let says = Says in
+    let says = Says ArrayFits array_words in
     at_row says (codes "anew") refl (more slots (more slots (more optional_slots no_more))) (λ p. New p.0 p.1.0 p.1.1.0) (λ p f w. ((f.0, f.1.0, f.1.1.0), refl, w)) words name command _ (
     at_row says (codes "alist") refl (more slots no_more) (λ p. Items p.0) (λ p f w. (f.0, refl, w)) words name command _ (
     at_row says (codes "anulls") refl (more slots no_more) (λ p. Nulls p.0) (λ p f w. (f.0, refl, w)) words name command _ (

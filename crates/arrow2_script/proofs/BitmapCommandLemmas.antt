@@ -8,19 +8,15 @@ use Rattle.arrow2_script.specs.Commands.{named, command_of}
 use Rattle.arrow2_script.specs.declared.bitmap_command.BitmapCommand.{BitmapCommand}
 use Rattle.arrow2_script.specs.declared.bitmap_command.BitmapCommand.TheVariants.{New, Push, Pop, Get, Freeze, Thaw, Slice, Count, Bits}
 use Rattle.arrow2_script.specs.declared.command.Command.TheVariants as Kinds
-use Rattle.arrow2_script.proofs.KindLemmas.{bit_texts, bits, numbers, slots, more, no_more, at_row}
+use Rattle.arrow2_script.proofs.KindLemmas.{bit_texts, bits, numbers, slots, more, no_more, at_row, Says}
 use Rattle.arrow2_script.proofs.SpellingLemmas.{is_word}
 use Rattle.arrow2_script.proofs.WordLemmas.{bit_of-byte, bits_of-text, number_of-decimal, slot_of-decimal}
 
--- behind this name, the words of a command on bitmaps, which are words
-abbrev Says : List ℕ → List (List ℕ) → BitmapCommand → Type 0
-Says name words command = BitmapFits command × (name ∷ words ≡ bitmap_words command) × (list_all is_word (name ∷ words) ≡ true)
-
 -- words that say a command on bitmaps are its words
-pub bitmap_says : (name : List ℕ) (words : List (List ℕ)) (command : BitmapCommand) → bitmap_named name words ≡ Some command → Says name words command
+pub bitmap_says : (name : List ℕ) (words : List (List ℕ)) (command : BitmapCommand) → bitmap_named name words ≡ Some command → Says BitmapFits bitmap_words name words command
 unfolding bitmap_named is_word
 bitmap_says name words command =
-    let says = Says in
+    let says = Says BitmapFits bitmap_words in
     at_row says (codes "new") refl (more slots (more bit_texts no_more)) (λ p. New p.0 p.1.0) (λ p f w. (f.0, refl, w)) words name command _ (
     at_row says (codes "push") refl (more slots (more bits no_more)) (λ p. Push p.0 p.1.0) (λ p f w. (f.0, refl, w)) words name command _ (
     at_row says (codes "pop") refl (more slots no_more) (λ p. Pop p.0) (λ p f w. (f.0, refl, w)) words name command _ (

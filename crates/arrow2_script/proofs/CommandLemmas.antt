@@ -5,16 +5,10 @@ use Rattle.std.specs.Option.{option_or}
 use Rattle.std.specs.List.{list_any, list_all}
 use Rattle.std.proofs.lemmas.Option.{none-some}
 use Rattle.arrow2_script.specs.Lines.{parts_of, words_of, is_blank}
-use Rattle.arrow2_script.specs.BitmapCommands.{bitmap_named}
-use Rattle.arrow2_script.specs.OffsetCommands.{offset_named}
-use Rattle.arrow2_script.specs.ValueCommands.{value_named}
-use Rattle.arrow2_script.specs.StorageCommands.{storage_named}
-use Rattle.arrow2_script.specs.KernelCommands.{kernel_named}
-use Rattle.arrow2_script.specs.GrowthCommands.{growth_named}
-use Rattle.arrow2_script.specs.ArrayCommands.{array_named}
-use Rattle.arrow2_script.specs.Commands.{named, command_of, command_in, command_words, Fits}
+use Rattle.arrow2_script.specs.Commands.{bitmap_named, offset_named, value_named, storage_named, kernel_named, growth_named, array_named, named, command_of, command_in, command_words, Fits}
 use Rattle.arrow2_script.specs.declared.command.Command.{Command}
 use Rattle.arrow2_script.specs.declared.command.Command.TheVariants.{Bitmap, Offset, Value, Storage, Kernel, Growth, Array}
+use Rattle.arrow2_script.proofs.KindLemmas.{Says}
 use Rattle.arrow2_script.proofs.WordLemmas.{mapped, some_or_none}
 use Rattle.arrow2_script.proofs.SpellingLemmas.{is_word, words_there}
 use Rattle.arrow2_script.proofs.BitmapCommandLemmas.{bitmap_says, bitmap_of-words}
@@ -30,11 +24,7 @@ either_way : {A : Type 0} (a b : Option A) (y : A) → option_or a b ≡ Some y 
 either_way None b y e = inr e
 either_way (Some x) b y e = inl e
 
--- behind this name, the words of a command, which are words
-abbrev Says : List ℕ → List (List ℕ) → Command → Type 0
-Says name words command = Fits command × (name ∷ words ≡ command_words command) × (list_all is_word (name ∷ words) ≡ true)
-
-named_says : (name : List ℕ) (words : List (List ℕ)) (command : Command) → named name words ≡ Some command → Says name words command
+named_says : (name : List ℕ) (words : List (List ℕ)) (command : Command) → named name words ≡ Some command → Says Fits command_words name words command
 unfolding named
 named_says name words command =
     of_kind Bitmap (bitmap_named name words) (bitmap_says name words) _ (
@@ -45,12 +35,12 @@ named_says name words command =
     of_kind Growth (growth_named name words) (growth_says name words) _ (
     only_kind Array (array_named name words) (array_says name words)))))))
   where
-    only_kind : {K : Type 0} (kind : K → Command) (read : Option K) → ((c : K) → read ≡ Some c → Says name words (kind c)) → option_map kind read ≡ Some command → Says name words command
+    only_kind : {K : Type 0} (kind : K → Command) (read : Option K) → ((c : K) → read ≡ Some c → Says Fits command_words name words (kind c)) → option_map kind read ≡ Some command → Says Fits command_words name words command
     only_kind kind read says e =
         let p = mapped kind read command e in
-        subst (λ c. Says name words c) p.2 (says p.0 p.1)
+        subst (λ c. Says Fits command_words name words c) p.2 (says p.0 p.1)
 
-    of_kind : {K : Type 0} (kind : K → Command) (read : Option K) → ((c : K) → read ≡ Some c → Says name words (kind c)) → (next : Option Command) → (next ≡ Some command → Says name words command) → option_or (option_map kind read) next ≡ Some command → Says name words command
+    of_kind : {K : Type 0} (kind : K → Command) (read : Option K) → ((c : K) → read ≡ Some c → Says Fits command_words name words (kind c)) → (next : Option Command) → (next ≡ Some command → Says Fits command_words name words command) → option_or (option_map kind read) next ≡ Some command → Says Fits command_words name words command
     of_kind kind read says next others e = elim (either_way (option_map kind read) next command e) [
       | inl q ↦ only_kind kind read says q
       | inr q ↦ others q

@@ -3,29 +3,21 @@ use Rattle.std.proofs.Common.{◌≡◌, refl, ℕ, List, ◌∷◌, true, codes
 use Rattle.std.specs.Prelude.{Some, None}
 use Rattle.std.specs.List.{list_all}
 use Rattle.std.proofs.lemmas.Option.{none-some}
-use Rattle.arrow2_script.specs.BitmapCommands.{bitmap_named}
-use Rattle.arrow2_script.specs.OffsetCommands.{offset_named}
-use Rattle.arrow2_script.specs.ValueCommands.{value_named}
-use Rattle.arrow2_script.specs.StorageCommands.{storage_named}
 use Rattle.arrow2_script.specs.KernelCommands.{kernel_named, operator_named, table_named}
 use Rattle.arrow2_script.specs.GrowthCommands.{growth_named, growth_words, GrowthFits}
-use Rattle.arrow2_script.specs.Commands.{named, command_of}
+use Rattle.arrow2_script.specs.Commands.{bitmap_named, offset_named, value_named, storage_named, named, command_of}
 use Rattle.arrow2_script.specs.declared.growth_command.GrowthCommand.{GrowthCommand}
 use Rattle.arrow2_script.specs.declared.growth_command.GrowthCommand.TheVariants.{Fill, Append}
 use Rattle.arrow2_script.specs.declared.command.Command.TheVariants as Kinds
-use Rattle.arrow2_script.proofs.KindLemmas.{bits, numbers, slots, more, no_more, at_row}
+use Rattle.arrow2_script.proofs.KindLemmas.{bits, numbers, slots, more, no_more, at_row, Says}
 use Rattle.arrow2_script.proofs.SpellingLemmas.{is_word}
 use Rattle.arrow2_script.proofs.WordLemmas.{bit_of-byte, number_of-decimal, slot_of-decimal}
 
--- behind this name, the words of a command by which a bitmap grows, which are words
-abbrev Says : List ℕ → List (List ℕ) → GrowthCommand → Type 0
-Says name words command = GrowthFits command × (name ∷ words ≡ growth_words command) × (list_all is_word (name ∷ words) ≡ true)
-
 -- words that say a command by which a bitmap grows are its words
-pub growth_says : (name : List ℕ) (words : List (List ℕ)) (command : GrowthCommand) → growth_named name words ≡ Some command → Says name words command
+pub growth_says : (name : List ℕ) (words : List (List ℕ)) (command : GrowthCommand) → growth_named name words ≡ Some command → Says GrowthFits growth_words name words command
 unfolding growth_named is_word
 growth_says name words command =
-    let says = Says in
+    let says = Says GrowthFits growth_words in
     at_row says (codes "fill") refl (more slots (more numbers (more bits no_more))) (λ p. Fill p.0 p.1.0 p.1.1.0) (λ p f w. ((f.0, f.1.0), refl, w)) words name command _ (
     at_row says (codes "append") refl (more slots (more slots no_more)) (λ p. Append p.0 p.1.0) (λ p f w. ((f.0, f.1.0), refl, w)) words name command None (
     λ e. absurd (none-some command e)))

@@ -1,14 +1,12 @@
 -- Words that say bytes in hexadecimal, and the one word that says each.
-use Rattle.std.proofs.Common.{codes, ◌≡◌, ◌∙◌, sym, ap, refl, ◌+◌, ◌*◌, ◌/◌, ◌%◌, ◌<◌, ℕ, List, [], ◌∷◌, length, true, false, ◌&&◌, inl, inr, arith, eqb}
-use Rattle.std.specs.Prelude.{Some}
+use Rattle.std.proofs.Common.{codes, ◌≡◌, ◌∙◌, sym, ap, refl, ◌+◌, ◌*◌, ◌/◌, ◌%◌, ◌<◌, ℕ, List, [], ◌∷◌, length, true, false, cond, ◌&&◌, inl, inr, arith, eqb}
+use Rattle.std.specs.Prelude.{Some, None}
 use Rattle.std.specs.List.{All, list_all, flat_map}
-use Rattle.std.specs.Str.{bytes_eq}
 use Rattle.std.proofs.lemmas.List.Elements.{All-cons, All-nil}
-use Rattle.std.proofs.lemmas.Option.{cond_some, none-some, same_Some}
-use Rattle.std.proofs.lemmas.Slice.Eq.{bytes_eq-Decides}
+use Rattle.std.proofs.lemmas.Option.{cond_some, none-some}
 use Rattle.arrow2_script.specs.Words.{is_hex_digit, hex_value, hex_digit, bytes_said, hex_digits, hex_text, bytes_of}
 use Rattle.arrow2_script.proofs.LineLemmas.{parts_all}
-use Rattle.arrow2_script.proofs.WordLemmas.{choice, both, some_bytes, other_than}
+use Rattle.arrow2_script.proofs.WordLemmas.{at_word, choice, both, some_bytes, other_than}
 
 -- two digits say the first byte, and those behind them the others
 pub first_byte : (digits behind rest : List ℕ) (high low h l : ℕ) → digits ≡ high ∷ behind → behind ≡ low ∷ rest → h ≡ hex_value high → l ≡ hex_value low → bytes_said digits ≡ (16 * h + l) ∷ bytes_said rest
@@ -46,24 +44,18 @@ is_digit n h = grind (arith, h)
 halves : (b : ℕ) → b < 256 → (b / 16 < 16) × (b % 16 < 16) × (16 * (b / 16) + b % 16 ≡ b)
 halves b h = (omega (arith, h), omega arith, omega arith)
 
-are_digits : (bs : List ℕ) → All (λ m. m < 256) bs → list_all is_hex_digit (flat_map hex_digits bs) ≡ true
-are_digits [] all = refl
-are_digits (b ∷ bs) all =
-    let p = parts_all (λ m. m < 256) b bs all in
-    let h = halves b p.0 in
-    rw (is_digit (b / 16) h.0, is_digit (b % 16) h.1, are_digits bs p.1) refl
-
 are_even : (bs : List ℕ) → length (flat_map hex_digits bs) % 2 ≡ 0
 are_even [] = refl
 are_even (b ∷ bs) = omega (arith, are_even bs)
 
-said_again : (bs : List ℕ) → All (λ m. m < 256) bs → bytes_said (flat_map hex_digits bs) ≡ bs
+said_again : (bs : List ℕ) → All (λ m. m < 256) bs → (list_all is_hex_digit (flat_map hex_digits bs) ≡ true) × (bytes_said (flat_map hex_digits bs) ≡ bs)
 unfolding bytes_said
-said_again [] all = refl
+said_again [] all = (refl, refl)
 said_again (b ∷ bs) all =
     let p = parts_all (λ m. m < 256) b bs all in
     let h = halves b p.0 in
-    rw (value_digit (b / 16) h.0, value_digit (b % 16) h.1, h.2, said_again bs p.1) refl
+    let others = said_again bs p.1 in
+    (rw (is_digit (b / 16) h.0, is_digit (b % 16) h.1, others.0) refl, rw (value_digit (b / 16) h.0, value_digit (b % 16) h.1, h.2, others.1) refl)
 
 not_dash : (b : ℕ) (bs : List ℕ) → hex_text (b ∷ bs) ≡ codes "-" → ⊥
 not_dash b bs e = let n = ap length e in omega (arith, n)
@@ -74,7 +66,8 @@ bytes_of-text [] all = refl
 bytes_of-text (b ∷ bs) all =
     let text = other_than (hex_text (b ∷ bs)) (codes "-") (not_dash b bs) in
     let some = some_bytes (hex_digit (b / 16)) (hex_digit (b % 16) ∷ flat_map hex_digits bs) in
-    rw (text, some, are_even (b ∷ bs), are_digits (b ∷ bs) all, said_again (b ∷ bs) all) refl
+    let said = said_again (b ∷ bs) all in
+    rw (text, some, are_even (b ∷ bs), said.0, said.1) refl
 
 -- ---- and back
 
@@ -84,28 +77,18 @@ digit_again byte e = (grind (arith, e), grind (arith, e))
 joined : (h l : ℕ) → l < 16 → ((16 * h + l) / 16 ≡ h) × ((16 * h + l) % 16 ≡ l)
 joined h l fits = (omega (arith, fits), omega (arith, fits))
 
-text_again : (word : List ℕ) → length word % 2 ≡ 0 → list_all is_hex_digit word ≡ true → flat_map hex_digits (bytes_said word) ≡ word
+digits_again : (word : List ℕ) → length word % 2 ≡ 0 → list_all is_hex_digit word ≡ true → All (λ m. m < 256) (bytes_said word) × (flat_map hex_digits (bytes_said word) ≡ word)
 unfolding bytes_said
-text_again [] even e = refl
-text_again (high ∷ []) even e = absurd (omega (arith, even))
-text_again (high ∷ low ∷ digits) even e =
+digits_again [] even e = (All-nil (λ m. m < 256), refl)
+digits_again (high ∷ []) even e = absurd (omega (arith, even))
+digits_again (high ∷ low ∷ digits) even e =
     let p = both (is_hex_digit high) (list_all is_hex_digit (low ∷ digits)) e in
     let q = both (is_hex_digit low) (list_all is_hex_digit digits) p.1 in
     let h = digit_again high p.0 in
     let l = digit_again low q.0 in
     let j = joined (hex_value high) (hex_value low) l.0 in
-    rw (j.0, j.1, h.1, l.1, text_again digits (omega (arith, even)) q.1) refl
-
-said_fit : (word : List ℕ) → list_all is_hex_digit word ≡ true → All (λ m. m < 256) (bytes_said word)
-unfolding bytes_said
-said_fit [] e = All-nil (λ m. m < 256)
-said_fit (high ∷ []) e = All-nil (λ m. m < 256)
-said_fit (high ∷ low ∷ digits) e =
-    let p = both (is_hex_digit high) (list_all is_hex_digit (low ∷ digits)) e in
-    let q = both (is_hex_digit low) (list_all is_hex_digit digits) p.1 in
-    let h = digit_again high p.0 in
-    let l = digit_again low q.0 in
-    All-cons (λ m. m < 256) (16 * hex_value high + hex_value low) (bytes_said digits) (omega (arith, h.0, l.0)) (said_fit digits q.1)
+    let others = digits_again digits (omega (arith, even)) q.1 in
+    (All-cons (λ m. m < 256) (16 * hex_value high + hex_value low) (bytes_said digits) (omega (arith, h.0, l.0)) others.0, rw (j.0, j.1, h.1, l.1, others.1) refl)
 
 -- digits that are there say bytes that are there
 whole_text : (word : List ℕ) → eqb (length word) 0 ≡ false → length word % 2 ≡ 0 → hex_text (bytes_said word) ≡ flat_map hex_digits (bytes_said word)
@@ -116,17 +99,12 @@ whole_text (high ∷ low ∷ digits) some even = refl
 
 pub text-bytes_of : (word : List ℕ) (bs : List ℕ) → bytes_of word ≡ Some bs → All (λ m. m < 256) bs × (hex_text bs ≡ word)
 unfolding bytes_of
-text-bytes_of word bs e = elim (choice (bytes_eq word (codes "-")) _ _ _ e) [
-  | inl p ↦
-      let is = (bytes_eq-Decides word (codes "-")).0 p.0 in
-      let none = same_Some [] bs p.1 in
-      rw (← none) (All-nil (λ m. m < 256), sym is)
-  | inr q ↦ elim (choice (eqb (length word) 0) _ _ _ q.1) [
-    | inl p ↦ absurd (none-some bs p.1)
-    | inr r ↦
-        let p = cond_some (eqb (length word % 2) 0 && list_all is_hex_digit word) (bytes_said word) bs r.1 in
-        let d = both (eqb (length word % 2) 0) (list_all is_hex_digit word) p.0 in
-        let even : length word % 2 ≡ 0 = grind (arith, d.0) in
-        rw (← p.1) (said_fit word d.1, whole_text word r.0 even ∙ text_again word even d.1)
-  ]
-]
+text-bytes_of word bs = at_word (λ bytes. All (λ m. m < 256) bytes × (hex_text bytes ≡ word)) word (codes "-") [] bs _ (λ is. (All-nil (λ m. m < 256), sym is)) (λ e. elim (choice (eqb (length word) 0) None (cond (eqb (length word % 2) 0 && list_all is_hex_digit word) (Some (bytes_said word)) None) (Some bs) e) [
+  | inl p ↦ absurd (none-some bs p.1)
+  | inr r ↦
+      let p = cond_some (eqb (length word % 2) 0 && list_all is_hex_digit word) (bytes_said word) bs r.1 in
+      let d = both (eqb (length word % 2) 0) (list_all is_hex_digit word) p.0 in
+      let even : length word % 2 ≡ 0 = grind (arith, d.0) in
+      let again = digits_again word even d.1 in
+      rw (← p.1) (again.0, whole_text word r.0 even ∙ again.1)
+])

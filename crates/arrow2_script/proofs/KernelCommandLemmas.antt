@@ -3,29 +3,21 @@ use Rattle.std.proofs.Common.{◌≡◌, refl, ℕ, List, ◌∷◌, true, arith
 use Rattle.std.specs.Prelude.{Some, None}
 use Rattle.std.specs.List.{list_all}
 use Rattle.std.proofs.lemmas.Option.{none-some}
-use Rattle.arrow2_script.specs.BitmapCommands.{bitmap_named}
-use Rattle.arrow2_script.specs.OffsetCommands.{offset_named}
-use Rattle.arrow2_script.specs.ValueCommands.{value_named}
-use Rattle.arrow2_script.specs.StorageCommands.{storage_named}
 use Rattle.arrow2_script.specs.KernelCommands.{kernel_named, operator_named, table_named, kernel_words, KernelFits}
-use Rattle.arrow2_script.specs.Commands.{named, command_of}
+use Rattle.arrow2_script.specs.Commands.{bitmap_named, offset_named, value_named, storage_named, named, command_of}
 use Rattle.arrow2_script.specs.declared.kernel_command.KernelCommand.{KernelCommand}
 use Rattle.arrow2_script.specs.declared.kernel_command.KernelCommand.TheVariants.{Make, AssignUnary, AssignBinary}
 use Rattle.arrow2_script.specs.declared.kernel_command.Kernel.TheVariants.{And, Or, Xor, Not, Unary, Binary, Ternary, Quaternary}
 use Rattle.arrow2_script.specs.declared.command.Command.TheVariants as Kinds
-use Rattle.arrow2_script.proofs.KindLemmas.{slots, tables, widths, more, no_more, at_row}
+use Rattle.arrow2_script.proofs.KindLemmas.{slots, tables, widths, more, no_more, at_row, Says}
 use Rattle.arrow2_script.proofs.SpellingLemmas.{is_word}
 use Rattle.arrow2_script.proofs.WordLemmas.{below_of-decimal, slot_of-decimal, width_of-word}
 
--- behind this name, the words of a command that combines bitmaps, which are words
-abbrev Says : List ℕ → List (List ℕ) → KernelCommand → Type 0
-Says name words command = KernelFits command × (name ∷ words ≡ kernel_words command) × (list_all is_word (name ∷ words) ≡ true)
-
 -- words that say a command that combines bitmaps are its words
-pub kernel_says : (name : List ℕ) (words : List (List ℕ)) (command : KernelCommand) → kernel_named name words ≡ Some command → Says name words command
+pub kernel_says : (name : List ℕ) (words : List (List ℕ)) (command : KernelCommand) → kernel_named name words ≡ Some command → Says KernelFits kernel_words name words command
 unfolding kernel_named operator_named table_named is_word
 kernel_says name words command =
-    let says = Says in
+    let says = Says KernelFits kernel_words in
     at_row says (codes "inplace1") refl (more slots (more (tables 4 (omega arith)) (more widths no_more))) (λ p. AssignUnary p.0 p.1.0 p.1.1.0) (λ p f w. ((f.0, f.1.0), refl, w)) words name command _ (
     at_row says (codes "inplace2") refl (more slots (more (tables 16 (omega arith)) (more widths (more slots no_more)))) (λ p. AssignBinary p.0 p.1.0 p.1.1.0 p.1.1.1.0) (λ p f w. ((f.0, f.1.0, f.1.1.1.0), refl, w)) words name command _ (
     at_row says (codes "and") refl (more slots (more slots (more slots no_more))) (λ p. Make p.0 (And p.1.0 p.1.1.0)) (λ p f w. ((f.0, (f.1.0, f.1.1.0)), refl, w)) words name command _ (

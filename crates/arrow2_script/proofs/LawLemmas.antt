@@ -3,6 +3,7 @@ use Rattle.std.proofs.Common.{◌≡◌, ◌≢◌, ◌∙◌, sym, ap, refl, su
 use Rattle.std.specs.Prelude.{Some, ◌↔◌}
 use Rattle.std.specs.List.{All, flat_map, list_any, list_all, slice_split, onto_first, join_with_byte}
 use Rattle.std.proofs.lemmas.Bool.{not-true}
+use Rattle.std.proofs.lemmas.Bool.Decides.{eqb_tells}
 use Rattle.std.proofs.lemmas.List.Elements.{All-cons, All-nil}
 use Rattle.std.proofs.lemmas.List.Splits.{join_with_byte-slice_split}
 use Rattle.arrow2_script.specs.Lines.{lines_of, parts_of, parts_between, words_of, is_blank, closed, ended, IsLine, AreLines, IsWord, AreWords}
@@ -13,9 +14,12 @@ use Rattle.arrow2_script.proofs.SpellingLemmas.{is_word, filled}
 use Rattle.arrow2_script.proofs.WordLemmas.{both}
 use Rattle.arrow2_script.proofs.CommandLemmas.{command_says, command_of-words, some_words}
 
--- a byte is this one, or the test tells it apart
-is_or_other : (a b : ℕ) → (a ≡ b) ⊎ (eqb a b ≡ false)
-is_or_other a b = grind arith
+-- a byte before the first part, where it is not the one that cuts
+free_longer : (cut b : ℕ) (parts : List (List ℕ)) → b ≢ cut → All (λ part. All (λ x. x ≢ cut) part) parts → All (λ part. All (λ x. x ≢ cut) part) (onto_first b parts)
+free_longer cut b [] other all = All-cons (λ part. All (λ x. x ≢ cut) part) (b ∷ []) [] (All-cons (λ x. x ≢ cut) b [] other (All-nil (λ x. x ≢ cut))) (All-nil (λ part. All (λ x. x ≢ cut) part))
+free_longer cut b (part ∷ parts) other all =
+    let p = parts_all (λ x. All (λ y. y ≢ cut) x) part parts all in
+    All-cons (λ x. All (λ y. y ≢ cut) x) (b ∷ part) parts (All-cons (λ x. x ≢ cut) b part other p.0) p.1
 
 -- ---- lines
 
@@ -44,29 +48,20 @@ some_lines b bytes = more_lines (eqb b 10) b (lines_of bytes)
 lines_join : (script : List ℕ) → flat_map ended (lines_of script) ≡ closed script
 unfolding lines_of
 lines_join [] = refl
-lines_join (b ∷ []) = elim (is_or_other b 10) [ inl is ↦ rw is refl | inr other ↦ rw other refl ]
+lines_join (b ∷ []) = elim (eqb_tells b 10) [ inl is ↦ rw is.1 refl | inr other ↦ rw other.0 refl ]
 lines_join (b ∷ c ∷ bytes) =
     let others = lines_join (c ∷ bytes) in
-    elim (is_or_other b 10) [
-      | inl is ↦ rw is (ap (λ t. 10 ∷ t) others ∙ sym (closed-cons 10 c bytes))
-      | inr other ↦ rw other (first_longer b (lines_of (c ∷ bytes)) (some_lines c bytes) ∙ ap (λ t. b ∷ t) others ∙ sym (closed-cons b c bytes))
+    elim (eqb_tells b 10) [
+      | inl is ↦ rw is.1 (ap (λ t. 10 ∷ t) others ∙ sym (closed-cons 10 c bytes))
+      | inr other ↦ rw other.0 (first_longer b (lines_of (c ∷ bytes)) (some_lines c bytes) ∙ ap (λ t. b ∷ t) others ∙ sym (closed-cons b c bytes))
     ]
-
-line_longer : (b : ℕ) (lines : List (List ℕ)) → b ≢ 10 → All IsLine lines → All IsLine (onto_first b lines)
-line_longer b [] other all = All-cons IsLine (b ∷ []) [] (All-cons (λ x. x ≢ 10) b [] other (All-nil (λ x. x ≢ 10))) (All-nil IsLine)
-line_longer b (line ∷ lines) other all =
-    let p = parts_all IsLine line lines all in
-    All-cons IsLine (b ∷ line) lines (All-cons (λ x. x ≢ 10) b line other p.0) p.1
-
-apart : (a b : ℕ) → eqb a b ≡ false → a ≢ b
-apart a b e = grind (arith, e)
 
 lines_free : (script : List ℕ) → All IsLine (lines_of script)
 unfolding lines_of
 lines_free [] = All-nil IsLine
-lines_free (b ∷ bytes) = elim (is_or_other b 10) [
-  | inl is ↦ rw is (All-cons IsLine [] (lines_of bytes) (All-nil (λ x. x ≢ 10)) (lines_free bytes))
-  | inr other ↦ rw other (line_longer b (lines_of bytes) (apart b 10 other) (lines_free bytes))
+lines_free (b ∷ bytes) = elim (eqb_tells b 10) [
+  | inl is ↦ rw is.1 (All-cons IsLine [] (lines_of bytes) (All-nil (λ x. x ≢ 10)) (lines_free bytes))
+  | inr other ↦ rw other.0 (free_longer 10 b (lines_of bytes) other.1 (lines_free bytes))
 ]
 
 pub lines_are : (script : List ℕ) → AreLines script (lines_of script)
@@ -75,7 +70,7 @@ lines_are script = (lines_free script, lines_join script)
 closed_lines : (script : List ℕ) → lines_of (closed script) ≡ lines_of script
 unfolding lines_of
 closed_lines [] = refl
-closed_lines (b ∷ []) = elim (is_or_other b 10) [ inl is ↦ rw is refl | inr other ↦ rw (other, other) refl ]
+closed_lines (b ∷ []) = elim (eqb_tells b 10) [ inl is ↦ rw is.1 refl | inr other ↦ rw (other.0, other.0) refl ]
 closed_lines (b ∷ c ∷ bytes) =
     let others = closed_lines (c ∷ bytes) in
     rw (closed-cons b c bytes) (rw others refl)
@@ -115,17 +110,11 @@ words_pass (word ∷ words) e =
     let p = both (is_word word) (list_all is_word words) e in
     All-cons IsWord word words (word_passes word p.0) (words_pass words p.1)
 
-part_longer : (b : ℕ) (parts : List (List ℕ)) → b ≢ 32 → All (λ part. All (λ x. x ≢ 32) part) parts → All (λ part. All (λ x. x ≢ 32) part) (onto_first b parts)
-part_longer b [] other all = All-cons (λ part. All (λ x. x ≢ 32) part) (b ∷ []) [] (All-cons (λ x. x ≢ 32) b [] other (All-nil (λ x. x ≢ 32))) (All-nil (λ part. All (λ x. x ≢ 32) part))
-part_longer b (part ∷ parts) other all =
-    let p = parts_all (λ x. All (λ y. y ≢ 32) x) part parts all in
-    All-cons (λ x. All (λ y. y ≢ 32) x) (b ∷ part) parts (All-cons (λ x. x ≢ 32) b part other p.0) p.1
-
 parts_free : (line : List ℕ) → All (λ part. All (λ x. x ≢ 32) part) (slice_split (λ b. eqb b 32) line)
 parts_free [] = All-cons (λ part. All (λ x. x ≢ 32) part) [] [] (All-nil (λ x. x ≢ 32)) (All-nil (λ part. All (λ x. x ≢ 32) part))
-parts_free (b ∷ bytes) = elim (is_or_other b 32) [
-  | inl is ↦ rw is (All-cons (λ part. All (λ x. x ≢ 32) part) [] (slice_split (λ x. eqb x 32) bytes) (All-nil (λ x. x ≢ 32)) (parts_free bytes))
-  | inr other ↦ rw other (part_longer b (slice_split (λ x. eqb x 32) bytes) (apart b 32 other) (parts_free bytes))
+parts_free (b ∷ bytes) = elim (eqb_tells b 32) [
+  | inl is ↦ rw is.1 (All-cons (λ part. All (λ x. x ≢ 32) part) [] (slice_split (λ x. eqb x 32) bytes) (All-nil (λ x. x ≢ 32)) (parts_free bytes))
+  | inr other ↦ rw other.0 (free_longer 32 b (slice_split (λ x. eqb x 32) bytes) other.1 (parts_free bytes))
 ]
 
 neither : (a b : Bool) → (a || b) ≡ false → (a ≡ false) × (b ≡ false)

@@ -1,20 +1,18 @@
 -- Words that say lists of numbers, and the one word that says each.
-use Rattle.std.proofs.Common.{map, codes, ◌≡◌, ◌≢◌, ◌∙◌, sym, ap, refl, ◌<◌, ◌^◌, ℕ, List, [], ◌∷◌, length, true, inl, inr, arith, eqb}
+use Rattle.std.proofs.Common.{map, codes, ◌≡◌, ◌≢◌, ◌∙◌, sym, ap, refl, ◌<◌, ◌^◌, ℕ, List, [], ◌∷◌, length, get_or, true, inl, inr, arith, eqb}
 use Rattle.std.specs.Prelude.{Some, None}
 use Rattle.std.specs.List.{All, list_all, join_with_byte}
-use Rattle.std.specs.Str.{bytes_eq}
 use Rattle.std.specs.Str.Parse.{digits_value, AllDigits}
 use Rattle.std.specs.Fmt.{decimal}
 use Rattle.std.proofs.lemmas.Fmt.{decimal_is_IsNumeral}
 use Rattle.std.proofs.lemmas.Str.Parse.{digit_from_value}
-use Rattle.std.proofs.lemmas.Slice.Eq.{bytes_eq-Decides}
 use Rattle.std.proofs.lemmas.Option.{cond_some, same_Some, none-some}
 use Rattle.std.proofs.lemmas.List.Elements.{All-cons, All-nil}
 use Rattle.std.proofs.lemmas.List.Splits.{join_with_byte-slice_split, length-slice_split}
 use Rattle.arrow2_script.specs.Lines.{parts_between}
 use Rattle.arrow2_script.specs.Words.{number_of, is_number, numbers_said, numbers_text, numbers_of}
 use Rattle.arrow2_script.proofs.LineLemmas.{parts_all, parts-joined, parts-last}
-use Rattle.arrow2_script.proofs.WordLemmas.{number_of-decimal, decimal-number_of, some_or_none, both, choice, other_than, no_dash}
+use Rattle.arrow2_script.proofs.WordLemmas.{number_of-decimal, decimal-number_of, some_or_none, at_word, both, other_than, no_dash}
 
 -- a word that is a number says the number of its digits
 pub number-said : (word : List ℕ) → is_number word ≡ true → (number_of word ≡ Some (digits_value 10 word)) × (digits_value 10 word < 2 ^ 64) × (decimal (digits_value 10 word) ≡ word)
@@ -47,17 +45,12 @@ pub ruleset numbers = (first_number, some_number, other_numbers)
 
 -- ---- from numbers to their word
 
-are_numbers : (ns : List ℕ) → All (λ m. m < 2 ^ 64) ns → list_all is_number (map decimal ns) ≡ true
-are_numbers [] all = refl
-are_numbers (n ∷ ns) all =
-    let p = parts_all (λ m. m < 2 ^ 64) n ns all in
-    rw (number_of-decimal n p.0, are_numbers ns p.1) refl
-
-said_again : (ns : List ℕ) → All (λ m. m < 2 ^ 64) ns → numbers_said (map decimal ns) ≡ ns
-said_again [] all = refl
+said_again : (ns : List ℕ) → All (λ m. m < 2 ^ 64) ns → (list_all is_number (map decimal ns) ≡ true) × (numbers_said (map decimal ns) ≡ ns)
+said_again [] all = (refl, refl)
 said_again (n ∷ ns) all =
     let p = parts_all (λ m. m < 2 ^ 64) n ns all in
-    rw ((decimal_is_IsNumeral n p.0).1, said_again ns p.1) refl
+    let others = said_again ns p.1 in
+    (rw (number_of-decimal n p.0, others.0) refl, rw ((decimal_is_IsNumeral n p.0).1, others.1) refl)
 
 digits_free : (digits : List ℕ) → AllDigits 10 digits → All (λ b. b ≢ 44) digits
 digits_free [] all = All-nil (λ b. b ≢ 44)
@@ -75,55 +68,40 @@ words_free (n ∷ ns) all =
 numbers_parts : (n : ℕ) (ns : List ℕ) → All (λ m. m < 2 ^ 64) (n ∷ ns) → parts_between 44 (join_with_byte 44 (map decimal (n ∷ ns))) ≡ map decimal (n ∷ ns)
 numbers_parts n ns all = parts-joined 44 (map decimal (n ∷ ns)) (omega arith) (words_free (n ∷ ns) all)
 
-first_word : (a b : List ℕ) (rest others : List (List ℕ)) → a ∷ rest ≡ b ∷ others → a ≡ b
-first_word a b rest others e = cc
-
 not_dash : (n : ℕ) (ns : List ℕ) → All (λ m. m < 2 ^ 64) (n ∷ ns) → join_with_byte 44 (map decimal (n ∷ ns)) ≡ codes "-" → ⊥
 not_dash n ns all e =
     let dash : parts_between 44 (codes "-") ≡ codes "-" ∷ [] = parts-last 44 (codes "-") (All-cons (λ b. b ≢ 44) 45 [] (omega arith) (All-nil (λ b. b ≢ 44))) in
     let same : map decimal (n ∷ ns) ≡ codes "-" ∷ [] = sym (numbers_parts n ns all) ∙ ap (parts_between 44) e ∙ dash in
-    no_dash n (parts_all (λ m. m < 2 ^ 64) n ns all).0 (first_word (decimal n) (codes "-") (map decimal ns) [] same)
+    no_dash n (parts_all (λ m. m < 2 ^ 64) n ns all).0 (ap (λ words. get_or words 0 []) same)
 
 pub numbers_of-text : (ns : List ℕ) → All (λ m. m < 2 ^ 64) ns → numbers_of (numbers_text ns) ≡ Some ns
 unfolding numbers_of
 numbers_of-text [] all = refl
 numbers_of-text (n ∷ ns) all =
-    rw (other_than (join_with_byte 44 (map decimal (n ∷ ns))) (codes "-") (not_dash n ns all), numbers_parts n ns all, are_numbers (n ∷ ns) all, said_again (n ∷ ns) all) refl
+    let said = said_again (n ∷ ns) all in
+    rw (other_than (join_with_byte 44 (map decimal (n ∷ ns))) (codes "-") (not_dash n ns all), numbers_parts n ns all, said.0, said.1) refl
 
 -- ---- and back
 
-said_fit : (words : List (List ℕ)) → list_all is_number words ≡ true → All (λ m. m < 2 ^ 64) (numbers_said words)
-said_fit [] e = All-nil (λ m. m < 2 ^ 64)
-said_fit (word ∷ words) e =
-    let p = both (is_number word) (list_all is_number words) e in
-    All-cons (λ m. m < 2 ^ 64) (digits_value 10 word) (numbers_said words) (number-said word p.0).1 (said_fit words p.1)
-
-words_again : (words : List (List ℕ)) → list_all is_number words ≡ true → map decimal (numbers_said words) ≡ words
-words_again [] e = refl
+words_again : (words : List (List ℕ)) → list_all is_number words ≡ true → All (λ m. m < 2 ^ 64) (numbers_said words) × (map decimal (numbers_said words) ≡ words)
+words_again [] e = (All-nil (λ m. m < 2 ^ 64), refl)
 words_again (word ∷ words) e =
     let p = both (is_number word) (list_all is_number words) e in
-    rw ((number-said word p.0).2, words_again words p.1) refl
+    let first = number-said word p.0 in
+    let others = words_again words p.1 in
+    (All-cons (λ m. m < 2 ^ 64) (digits_value 10 word) (numbers_said words) first.1 others.0, rw (first.2, others.1) refl)
 
-text_again : (words : List (List ℕ)) → 0 < length words → list_all is_number words ≡ true → numbers_text (numbers_said words) ≡ join_with_byte 44 words
-text_again [] some e = absurd (omega arith)
-text_again (word ∷ words) some e = ap (join_with_byte 44) (words_again (word ∷ words) e)
+joined_text : (words : List (List ℕ)) → 0 < length words → map decimal (numbers_said words) ≡ words → numbers_text (numbers_said words) ≡ join_with_byte 44 words
+joined_text [] some e = absurd (omega arith)
+joined_text (word ∷ words) some e = ap (join_with_byte 44) e
 
-some_parts : (word : List ℕ) → 0 < length (parts_between 44 word)
+parts_again : (word : List ℕ) → (0 < length (parts_between 44 word)) × (join_with_byte 44 (parts_between 44 word) ≡ word)
 unfolding parts_between
-some_parts word = omega (arith, length-slice_split (λ b. eqb b 44) word)
-
-joined_again : (word : List ℕ) → join_with_byte 44 (parts_between 44 word) ≡ word
-unfolding parts_between
-joined_again word = join_with_byte-slice_split 44 word
+parts_again word = (omega (arith, length-slice_split (λ b. eqb b 44) word), join_with_byte-slice_split 44 word)
 
 pub text-numbers_of : (word : List ℕ) (ns : List ℕ) → numbers_of word ≡ Some ns → All (λ m. m < 2 ^ 64) ns × (numbers_text ns ≡ word)
 unfolding numbers_of
-text-numbers_of word ns e = elim (choice (bytes_eq word (codes "-")) _ _ _ e) [
-  | inl p ↦
-      let is = (bytes_eq-Decides word (codes "-")).0 p.0 in
-      let none = same_Some [] ns p.1 in
-      rw (← none) (All-nil (λ m. m < 2 ^ 64), sym is)
-  | inr q ↦
-      let p = cond_some (list_all is_number (parts_between 44 word)) (numbers_said (parts_between 44 word)) ns q.1 in
-      rw (← p.1) (said_fit (parts_between 44 word) p.0, text_again (parts_between 44 word) (some_parts word) p.0 ∙ joined_again word)
-]
+text-numbers_of word ns = at_word (λ ms. All (λ m. m < 2 ^ 64) ms × (numbers_text ms ≡ word)) word (codes "-") [] ns _ (λ is. (All-nil (λ m. m < 2 ^ 64), sym is)) (λ e.
+    let p = cond_some (list_all is_number (parts_between 44 word)) (numbers_said (parts_between 44 word)) ns e in
+    let again = words_again (parts_between 44 word) p.0 in let parts = parts_again word in
+    rw (← p.1) (again.0, joined_text (parts_between 44 word) parts.0 again.1 ∙ parts.1))

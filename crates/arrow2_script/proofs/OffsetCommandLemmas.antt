@@ -3,26 +3,21 @@ use Rattle.std.proofs.Common.{◌≡◌, refl, ℕ, List, ◌∷◌, true, codes
 use Rattle.std.specs.Prelude.{Some, None}
 use Rattle.std.specs.List.{list_all}
 use Rattle.std.proofs.lemmas.Option.{none-some}
-use Rattle.arrow2_script.specs.BitmapCommands.{bitmap_named}
 use Rattle.arrow2_script.specs.OffsetCommands.{offset_named, offset_words, OffsetFits}
-use Rattle.arrow2_script.specs.Commands.{named, command_of}
+use Rattle.arrow2_script.specs.Commands.{bitmap_named, named, command_of}
 use Rattle.arrow2_script.specs.declared.offset_command.OffsetCommand.{OffsetCommand}
 use Rattle.arrow2_script.specs.declared.offset_command.OffsetCommand.TheVariants.{New, Push, Pop, Extend, Offsets, Freeze, Slice, Zip}
 use Rattle.arrow2_script.specs.declared.command.Command.TheVariants as Kinds
-use Rattle.arrow2_script.proofs.KindLemmas.{number_lists, numbers, slots, more, no_more, at_row}
+use Rattle.arrow2_script.proofs.KindLemmas.{number_lists, numbers, slots, more, no_more, at_row, Says}
 use Rattle.arrow2_script.proofs.SpellingLemmas.{is_word}
 use Rattle.arrow2_script.proofs.WordLemmas.{number_of-decimal, slot_of-decimal}
 use Rattle.arrow2_script.proofs.NumberListLemmas.{numbers_of-text}
 
--- behind this name, the words of a command on offsets, which are words
-abbrev Says : List ℕ → List (List ℕ) → OffsetCommand → Type 0
-Says name words command = OffsetFits command × (name ∷ words ≡ offset_words command) × (list_all is_word (name ∷ words) ≡ true)
-
 -- words that say a command on offsets are its words
-pub offset_says : (name : List ℕ) (words : List (List ℕ)) (command : OffsetCommand) → offset_named name words ≡ Some command → Says name words command
+pub offset_says : (name : List ℕ) (words : List (List ℕ)) (command : OffsetCommand) → offset_named name words ≡ Some command → Says OffsetFits offset_words name words command
 unfolding offset_named is_word
 offset_says name words command =
-    let says = Says in
+    let says = Says OffsetFits offset_words in
     at_row says (codes "onew") refl (more slots (more numbers no_more)) (λ p. New p.0 p.1.0) (λ p f w. ((f.0, f.1.0), refl, w)) words name command _ (
     at_row says (codes "opush") refl (more slots (more numbers no_more)) (λ p. Push p.0 p.1.0) (λ p f w. ((f.0, f.1.0), refl, w)) words name command _ (
     at_row says (codes "opop") refl (more slots no_more) (λ p. Pop p.0) (λ p f w. (f.0, refl, w)) words name command _ (

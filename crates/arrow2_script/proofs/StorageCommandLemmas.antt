@@ -3,28 +3,21 @@ use Rattle.std.proofs.Common.{◌≡◌, refl, ℕ, List, ◌∷◌, true, codes
 use Rattle.std.specs.Prelude.{Some, None}
 use Rattle.std.specs.List.{list_all}
 use Rattle.std.proofs.lemmas.Option.{none-some}
-use Rattle.arrow2_script.specs.BitmapCommands.{bitmap_named}
-use Rattle.arrow2_script.specs.OffsetCommands.{offset_named}
-use Rattle.arrow2_script.specs.ValueCommands.{value_named}
 use Rattle.arrow2_script.specs.StorageCommands.{storage_named, storage_words, StorageFits}
-use Rattle.arrow2_script.specs.Commands.{named, command_of}
+use Rattle.arrow2_script.specs.Commands.{bitmap_named, offset_named, value_named, named, command_of}
 use Rattle.arrow2_script.specs.declared.storage_command.StorageCommand.{StorageCommand}
 use Rattle.arrow2_script.specs.declared.storage_command.StorageCommand.TheVariants.{Raw, Set, Words, Runs}
 use Rattle.arrow2_script.specs.declared.command.Command.TheVariants as Kinds
-use Rattle.arrow2_script.proofs.KindLemmas.{bits, hex_bytes, numbers, slots, widths, more, no_more, at_row}
+use Rattle.arrow2_script.proofs.KindLemmas.{bits, hex_bytes, numbers, slots, widths, more, no_more, at_row, Says}
 use Rattle.arrow2_script.proofs.SpellingLemmas.{is_word}
 use Rattle.arrow2_script.proofs.WordLemmas.{bit_of-byte, number_of-decimal, slot_of-decimal, width_of-word}
 use Rattle.arrow2_script.proofs.HexLemmas.{bytes_of-text}
 
--- behind this name, the words of a command on stored bits, which are words
-abbrev Says : List ℕ → List (List ℕ) → StorageCommand → Type 0
-Says name words command = StorageFits command × (name ∷ words ≡ storage_words command) × (list_all is_word (name ∷ words) ≡ true)
-
 -- words that say a command on stored bits are its words
-pub storage_says : (name : List ℕ) (words : List (List ℕ)) (command : StorageCommand) → storage_named name words ≡ Some command → Says name words command
+pub storage_says : (name : List ℕ) (words : List (List ℕ)) (command : StorageCommand) → storage_named name words ≡ Some command → Says StorageFits storage_words name words command
 unfolding storage_named is_word
 storage_says name words command =
-    let says = Says in
+    let says = Says StorageFits storage_words in
     at_row says (codes "raw") refl (more slots (more hex_bytes (more numbers (more numbers no_more)))) (λ p. Raw p.0 p.1.0 p.1.1.0 p.1.1.1.0) (λ p f w. ((f.0, f.1.0, f.1.1.0, f.1.1.1.0), refl, w)) words name command _ (
     at_row says (codes "set") refl (more slots (more numbers (more bits no_more))) (λ p. Set p.0 p.1.0 p.1.1.0) (λ p f w. ((f.0, f.1.0), refl, w)) words name command _ (
     at_row says (codes "words") refl (more slots (more widths no_more)) (λ p. Words p.0 p.1.0) (λ p f w. (f.0, refl, w)) words name command _ (

@@ -3,26 +3,20 @@ use Rattle.std.proofs.Common.{◌≡◌, refl, ℕ, List, ◌∷◌, true, codes
 use Rattle.std.specs.Prelude.{Some, None}
 use Rattle.std.specs.List.{list_all}
 use Rattle.std.proofs.lemmas.Option.{none-some}
-use Rattle.arrow2_script.specs.BitmapCommands.{bitmap_named}
-use Rattle.arrow2_script.specs.OffsetCommands.{offset_named}
 use Rattle.arrow2_script.specs.ValueCommands.{value_named, value_words, ValueFits}
-use Rattle.arrow2_script.specs.Commands.{named, command_of}
+use Rattle.arrow2_script.specs.Commands.{bitmap_named, offset_named, named, command_of}
 use Rattle.arrow2_script.specs.declared.value_command.ValueCommand.{ValueCommand}
 use Rattle.arrow2_script.specs.declared.value_command.ValueCommand.TheVariants.{Copy, Compare}
 use Rattle.arrow2_script.specs.declared.command.Command.TheVariants as Kinds
-use Rattle.arrow2_script.proofs.KindLemmas.{slots, more, no_more, at_row}
+use Rattle.arrow2_script.proofs.KindLemmas.{slots, more, no_more, at_row, Says}
 use Rattle.arrow2_script.proofs.SpellingLemmas.{is_word}
 use Rattle.arrow2_script.proofs.WordLemmas.{slot_of-decimal}
 
--- behind this name, the words of a command on values, which are words
-abbrev Says : List ℕ → List (List ℕ) → ValueCommand → Type 0
-Says name words command = ValueFits command × (name ∷ words ≡ value_words command) × (list_all is_word (name ∷ words) ≡ true)
-
 -- words that say a command on values are its words
-pub value_says : (name : List ℕ) (words : List (List ℕ)) (command : ValueCommand) → value_named name words ≡ Some command → Says name words command
+pub value_says : (name : List ℕ) (words : List (List ℕ)) (command : ValueCommand) → value_named name words ≡ Some command → Says ValueFits value_words name words command
 unfolding value_named is_word
 value_says name words command =
-    let says = Says in
+    let says = Says ValueFits value_words in
     at_row says (codes "copy") refl (more slots (more slots no_more)) (λ p. Copy p.0 p.1.0) (λ p f w. ((f.0, f.1.0), refl, w)) words name command _ (
     at_row says (codes "eq") refl (more slots (more slots no_more)) (λ p. Compare p.0 p.1.0) (λ p f w. ((f.0, f.1.0), refl, w)) words name command None (
     λ e. absurd (none-some command e)))

@@ -1,5 +1,5 @@
 -- What a word says, and the one word that says it.
-use Rattle.std.proofs.Common.{map, codes, eqb, ◌≡◌, ◌∙◌, sym, ap, refl, ◌<◌, ◌≤◌, ◌^◌, ℕ, zero, suc, List, [], ◌∷◌, length, get_or, Bool, true, false, cond, ◌&&◌, ◌⊎◌, inl, inr, arith, lit<}
+use Rattle.std.proofs.Common.{map, codes, eqb, ◌≡◌, ◌∙◌, sym, ap, subst, refl, ◌<◌, ◌≤◌, ◌^◌, ℕ, zero, suc, List, [], ◌∷◌, length, get_or, Bool, true, false, cond, ◌&&◌, ◌⊎◌, inl, inr, arith, lit<}
 use Rattle.std.specs.Prelude.{Option, Some, None, option_map, IfSome, IfNone, nat_lt}
 use Rattle.std.specs.Str.{bytes_eq}
 use Rattle.std.specs.Str.Parse.{digits_value, AllDigits}
@@ -22,21 +22,20 @@ number_of-decimal n h =
     let same : bytes_eq (decimal n) (decimal n) ≡ true = (bytes_eq-Decides (decimal n) (decimal n)).1 refl in
     rw (value, fits, same) refl
 
--- a choice behind two tests
-tested : {X : Type 0} (a b : Bool) (x y : X) → cond (a && b) (Some x) None ≡ Some y → (a ≡ true) × (b ≡ true) × (x ≡ y)
-tested true true x y e = (refl, refl, cc)
-tested true false x y e = cc
-tested false b x y e = cc
+pub both : (a b : Bool) → (a && b) ≡ true → (a ≡ true) × (b ≡ true)
+both true true e = (refl, refl)
+both true false e = cc
+both false b e = cc
 
 -- a word that says a number is its decimal digits
 pub decimal-number_of : (word : List ℕ) (n : ℕ) → number_of word ≡ Some n → (n < 2 ^ 64) × (decimal n ≡ word)
 unfolding number_of
 decimal-number_of word n e =
     let v = digits_value 10 word in
-    let p = tested (nat_lt v (2 ^ 64)) (bytes_eq (decimal v) word) v n e in
-    let fits : v < 2 ^ 64 = grind (arith, p.0) in
-    let same = (bytes_eq-Decides (decimal v) word).0 p.1 in
-    (rw (← p.2) fits, rw (← p.2) same)
+    let p = cond_some (nat_lt v (2 ^ 64) && bytes_eq (decimal v) word) v n e in
+    let q = both (nat_lt v (2 ^ 64)) (bytes_eq (decimal v) word) p.0 in
+    let fits : v < 2 ^ 64 = grind (arith, q.0) in
+    (rw (← p.1) fits, rw (← p.1) ((bytes_eq-Decides (decimal v) word).0 q.1))
 
 -- what a value was mapped from
 pub mapped : {A B : Type 0} (f : A → B) (o : Option A) (y : B) → option_map f o ≡ Some y → (x : A) × (o ≡ Some x) × (f x ≡ y)
@@ -112,6 +111,13 @@ pub choice : {X : Type 0} (b : Bool) (x y z : X) → cond b x y ≡ z → ((b �
 choice true x y z e = inl (refl, e)
 choice false x y z e = inr (refl, e)
 
+-- a row of a table of words: what holds of the value beside a known word, and of what the next rows say, holds of the value
+pub at_word : {A : Type 0} (P : A → Type 0) (word known : List ℕ) (one x : A) (next : Option A) → (word ≡ known → P one) → (next ≡ Some x → P x) → cond (bytes_eq word known) (Some one) next ≡ Some x → P x
+at_word P word known one x next first others e = elim (choice (bytes_eq word known) (Some one) next (Some x) e) [
+  | inl p ↦ subst P (same_Some one x p.1) (first ((bytes_eq-Decides word known).0 p.0))
+  | inr p ↦ others p.1
+]
+
 -- words that differ
 pub other_than : (a b : List ℕ) → (a ≡ b → ⊥) → bytes_eq a b ≡ false
 other_than a b never = elim (choice (bytes_eq a b) true false (bytes_eq a b) (cond_same (bytes_eq a b))) [
@@ -138,15 +144,9 @@ optional_slot_of-word (Some n) fits = rw (other_than (decimal n) (codes "-") (no
 
 pub word-optional_slot_of : (word : List ℕ) (slot : Option ℕ) → optional_slot_of word ≡ Some slot → IfSome slot (λ n. n < 16) × (optional_slot_word slot ≡ word)
 unfolding optional_slot_of
-word-optional_slot_of word slot e = elim (choice (bytes_eq word (codes "-")) _ _ _ e) [
-  | inl p ↦
-      let is = (bytes_eq-Decides word (codes "-")).0 p.0 in
-      let none = same_Some None slot p.1 in
-      rw (← none) (tt, sym is)
-  | inr q ↦
-      let p = mapped Some (slot_of word) slot q.1 in
-      rw (← p.2) (decimal-slot_of word p.0 p.1)
-]
+word-optional_slot_of word slot = at_word (λ o. IfSome o (λ n. n < 16) × (optional_slot_word o ≡ word)) word (codes "-") None slot _ (λ is. (tt, sym is)) (λ e.
+    let p = mapped Some (slot_of word) slot e in
+    rw (← p.2) (decimal-slot_of word p.0 p.1))
 
 -- a width's word
 pub width_of-word : (width : Width) → width_of (width_word width) ≡ Some width
@@ -164,25 +164,15 @@ bit_of-byte false = refl
 
 pub word-width_of : (word : List ℕ) (width : Width) → width_of word ≡ Some width → width_word width ≡ word
 unfolding width_of
-word-width_of word width e =
-    let at = at_word word width in
-    at (codes "8") Bits8 refl _ e (λ e. at (codes "16") Bits16 refl _ e (λ e. at (codes "32") Bits32 refl _ e (λ e. at (codes "64") Bits64 refl _ e (λ e. absurd (none-some width e)))))
-  where
-    at_word : (word : List ℕ) (width : Width) (known : List ℕ) (one : Width) → width_word one ≡ known → (next : Option Width) → cond (bytes_eq word known) (Some one) next ≡ Some width → (next ≡ Some width → width_word width ≡ word) → width_word width ≡ word
-    at_word word width known one spelled next e others = elim (choice (bytes_eq word known) (Some one) next _ e) [
-      | inl p ↦ let is = (bytes_eq-Decides word known).0 p.0 in ap width_word (sym (same_Some one width p.1)) ∙ spelled ∙ sym is
-      | inr p ↦ others p.1
-    ]
+word-width_of word width =
+    let at = at_word (λ one. width_word one ≡ word) word in
+    at (codes "8") Bits8 width _ sym (at (codes "16") Bits16 width _ sym (at (codes "32") Bits32 width _ sym (at (codes "64") Bits64 width _ sym (λ e. absurd (none-some width e)))))
 
 pub byte-bit_of : (word : List ℕ) (bit : Bool) → bit_of word ≡ Some bit → bit_byte bit ∷ [] ≡ word
 unfolding bit_of
-byte-bit_of word bit e = elim (choice (bytes_eq word (codes "0")) _ _ _ e) [
-  | inl p ↦ let is = (bytes_eq-Decides word (codes "0")).0 p.0 in let b = same_Some _ _ p.1 in rw (← b) (sym is)
-  | inr q ↦ elim (choice (bytes_eq word (codes "1")) _ _ _ q.1) [
-    | inl p ↦ let is = (bytes_eq-Decides word (codes "1")).0 p.0 in let b = same_Some _ _ p.1 in rw (← b) (sym is)
-    | inr p ↦ absurd (none-some bit p.1)
-  ]
-]
+byte-bit_of word bit =
+    let at = at_word (λ one. bit_byte one ∷ [] ≡ word) word in
+    at (codes "0") false bit _ sym (at (codes "1") true bit _ sym (λ e. absurd (none-some bit e)))
 
 -- the items that a byte for each item says, and back
 items_said-text : (items : List Bool) → items_said (map bit_byte items) ≡ items
@@ -194,11 +184,6 @@ all_bit_bytes : (items : List Bool) → list_all is_bit_byte (map bit_byte items
 all_bit_bytes [] = refl
 all_bit_bytes (true ∷ items) = all_bit_bytes items
 all_bit_bytes (false ∷ items) = all_bit_bytes items
-
-pub both : (a b : Bool) → (a && b) ≡ true → (a ≡ true) × (b ≡ true)
-both true true e = (refl, refl)
-both true false e = cc
-both false b e = cc
 
 said_byte : (byte : ℕ) → is_bit_byte byte ≡ true → bit_byte (eqb byte 49) ≡ byte
 said_byte byte e = grind (arith, e)
@@ -226,12 +211,9 @@ some_said (byte ∷ bytes) e = refl
 
 pub text-bits_of : (word : List ℕ) (items : List Bool) → bits_of word ≡ Some items → bits_text items ≡ word
 unfolding bits_of
-text-bits_of word items e = elim (choice (bytes_eq word (codes "-")) _ _ _ e) [
-  | inl p ↦ let is = (bytes_eq-Decides word (codes "-")).0 p.0 in let b = same_Some _ _ p.1 in rw (← b) (sym is)
-  | inr q ↦ elim (choice (eqb (length word) 0) _ _ _ q.1) [
-    | inl p ↦ absurd (none-some items p.1)
-    | inr r ↦
-        let p = cond_some (list_all is_bit_byte word) (items_said word) items r.1 in
-        rw (← p.1) (some_said word r.0 ∙ text-items_said word p.0)
-  ]
-]
+text-bits_of word items = at_word (λ bits. bits_text bits ≡ word) word (codes "-") [] items _ sym (λ e. elim (choice (eqb (length word) 0) None (cond (list_all is_bit_byte word) (Some (items_said word)) None) (Some items) e) [
+  | inl p ↦ absurd (none-some items p.1)
+  | inr r ↦
+      let p = cond_some (list_all is_bit_byte word) (items_said word) items r.1 in
+      rw (← p.1) (some_said word r.0 ∙ text-items_said word p.0)
+])

@@ -3,13 +3,13 @@ use Rattle.std.specs.Prelude.{◌≡◌, ℕ, List, [], ◌∷◌, Option, None,
 use Rattle.std.specs.Option.{option_or}
 use Rattle.std.specs.List.{join_with_byte}
 use Rattle.arrow2_script.specs.Lines.{words_of}
-use Rattle.arrow2_script.specs.BitmapCommands.{bitmap_named, bitmap_words, BitmapFits}
-use Rattle.arrow2_script.specs.OffsetCommands.{offset_named, offset_words, OffsetFits}
-use Rattle.arrow2_script.specs.ValueCommands.{value_named, value_words, ValueFits}
-use Rattle.arrow2_script.specs.StorageCommands.{storage_named, storage_words, StorageFits}
-use Rattle.arrow2_script.specs.KernelCommands.{kernel_named, kernel_words, KernelFits}
-use Rattle.arrow2_script.specs.GrowthCommands.{growth_named, growth_words, GrowthFits}
-use Rattle.arrow2_script.specs.ArrayCommands.{array_named, array_words, ArrayFits}
+unfoldable pub use Rattle.arrow2_script.specs.BitmapCommands.{bitmap_named, bitmap_words, BitmapFits}
+unfoldable pub use Rattle.arrow2_script.specs.OffsetCommands.{offset_named, offset_words, OffsetFits}
+unfoldable pub use Rattle.arrow2_script.specs.ValueCommands.{value_named, value_words, ValueFits}
+unfoldable pub use Rattle.arrow2_script.specs.StorageCommands.{storage_named, storage_words, StorageFits}
+unfoldable pub use Rattle.arrow2_script.specs.KernelCommands.{kernel_named, kernel_words, KernelFits}
+unfoldable pub use Rattle.arrow2_script.specs.GrowthCommands.{growth_named, growth_words, GrowthFits}
+unfoldable pub use Rattle.arrow2_script.specs.ArrayCommands.{array_named, array_words, ArrayFits}
 use Rattle.arrow2_script.specs.declared.command.Command.{Command}
 use Rattle.arrow2_script.specs.declared.command.Command.TheVariants.{Bitmap, Offset, Value, Storage, Kernel, Growth, Array}
 
