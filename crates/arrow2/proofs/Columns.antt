@@ -1,8 +1,10 @@
--- Lemmas on values beside their validity, for a column of one's own, and the ruleset that a caller names in `using`.
+-- Lemmas on values beside their validity, for a column of one's own, and on items that a mask selects; and the rulesets that a
+-- caller names in `using`.
 use Rattle.std.proofs.Common.{◌≡◌, ℕ, ◌<◌, List, Bool, true, false, not, length, get_or, refl, ap, sym, ◌∙◌, arith}
 use Rattle.std.specs.Prelude.{Option, None}
 use Rattle.std.specs.Option.{is_none}
 use Rattle.arrow2_walks.specs.Zipped.{slot, zipped}
+pub use Rattle.arrow2_walks.proofs.Selected.{selected-more, chosen-more, selections}
 pub use Rattle.arrow2_walks.proofs.Zipped.{length-zipped, at-zipped, item-zipped, part-zipped, append-zipped, push-zipped, slot-option, nulls-zipped, columns}
 
 module _ {X : Type 0} (xs : List X) (vs : List Bool) (items : List (Option X)) (k : ℕ) (d : X) (v : Bool) where

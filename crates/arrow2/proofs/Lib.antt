@@ -1,4 +1,6 @@
 pub mod Columns
+pub mod Nested
 pub mod Rulesets
+pub mod Runs
 pub mod Words
 pub mod Zips

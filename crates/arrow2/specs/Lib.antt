@@ -27,11 +27,13 @@ pub use Rattle.arrow2_bits.specs.LentChunk
 pub use Rattle.arrow2_buffer.specs.Lent
 pub use Rattle.arrow2_buffer.specs.LentItems
 pub use Rattle.arrow2_offset.specs.Made
+pub use Rattle.arrow2_offset.specs.Nested
 pub use Rattle.arrow2_datatypes.specs.Extensions
 pub use Rattle.arrow2_datatypes.specs.Kept
 pub use Rattle.arrow2_datatypes.specs.Types
 pub use Rattle.arrow2_walks.specs.Cuts
 pub use Rattle.arrow2_walks.specs.Places
+pub use Rattle.arrow2_walks.specs.Selected
 pub use Rattle.arrow2_walks.specs.Slots
 pub use Rattle.arrow2_walks.specs.Zips
 pub use Rattle.arrow2_array.specs.ArrayTexts

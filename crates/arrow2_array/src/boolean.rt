@@ -54,12 +54,10 @@ impl BooleanArray {
     ///
     /// `InvalidArgumentError` exactly if the lengths differ, or `OutOfMemory` there, where its text finds no memory.
     pub fn try_new(values: Bitmap, validity: Option<Bitmap>) -> Result<BooleanArray>
-        ensures fits { OnOk result (ForSome validity (λ v.
-            length' (items_of v) ≡ length' (items_of values))) }
         ensures ok { IfOk result (λ a. a ≡ array_items values validity) }
         ensures len { IfOk result (λ a. length' a ≡ length' (items_of values)) }
-        ensures accepted { ForSome validity (λ v. length' (items_of v)
-            ≡ length' (items_of values)) → IsOk result }
+        ensures accepted { IsOk result ↔ ForSome validity (λ v. length' (items_of v)
+            ≡ length' (items_of values)) }
         ensures refused { ForSome validity (λ v.
             IfErr result (λ e.
             IsInvalidArgument e
@@ -263,7 +261,7 @@ fn same_items(items: BooleanIter<'_>, others: BooleanIter<'_>) -> bool
 
 /// Refuses a validity that has not as many items as there are values.
 fn check_lengths(values: &Bitmap, validity: &Bitmap) -> Result<()>
-    ensures fits { IsOk result ↔ (length' (items_of validity.now) ≡ length' (items_of values.now)) }
+    ensures accepted { IsOk result ↔ (length' (items_of validity.now) ≡ length' (items_of values.now)) }
     ensures refused { IfErr result (λ e.
         IsInvalidArgument e
         (unequal_lengths (length' (items_of validity.now)) (length' (items_of values.now)))) }

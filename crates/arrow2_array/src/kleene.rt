@@ -48,9 +48,9 @@ pub(crate) fn validity_by(
     requires beside_left { (a b m : Bool) → answer beside (b ∷ m ∷ a ∷ [])
         ≡ answer t (a ∷ true ∷ b ∷ m ∷ []) }
     requires same_length { length' (items_of left.now) ≡ length' (items_of right.now) }
-    requires left_fits { ForSome left_validity.now (λ v. length' (items_of v)
+    requires left_length { ForSome left_validity.now (λ v. length' (items_of v)
         ≡ length' (items_of left.now)) }
-    requires right_fits { ForSome right_validity.now (λ v. length' (items_of v)
+    requires right_length { ForSome right_validity.now (λ v. length' (items_of v)
         ≡ length' (items_of right.now)) }
     ensures items { IfOk result (λ v. validity_items (items_of left.now) v
         ≡ each t (items_of left.now ∷ validity_items (items_of left.now) left_validity.now

@@ -8,7 +8,7 @@ use std::alloc::{AllocError, Global};
 
 /// Refuses a length in bits above eight times the number of bytes, with a text about `subject`.
 pub(crate) fn check_length(subject: &str, length: usize, bytes: &Vec<u8>) -> Result<()>
-    ensures fits { IsOk result ↔ (length ≤ 8 * vec_len bytes.now) }
+    ensures accepted { IsOk result ↔ (length ≤ 8 * vec_len bytes.now) }
     ensures refused { IfErr result (λ e.
         IsInvalidArgument e (too_long subject.now length (vec_len bytes.now))) }
 {

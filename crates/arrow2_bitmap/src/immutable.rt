@@ -84,7 +84,7 @@ impl Bitmap {
     /// `InvalidArgumentError` exactly if `length` is above eight times the number of bytes, or
     /// `OutOfMemory` there, where its text finds no memory; else `OutOfMemory` alone.
     pub fn try_new(bytes: Vec<u8>, length: usize) -> Result<Bitmap>
-        ensures fits { OnOk result (length ≤ 8 * vec_len bytes) }
+        ensures accepted { OnOk result (length ≤ 8 * vec_len bytes) }
         ensures ok { IfOk result (λ b. b ≡ record {
           bytes = bytes.items;
           offset = 0;
@@ -107,7 +107,7 @@ impl Bitmap {
     ///
     /// `OutOfMemory` alone.
     pub fn from_u8_vec(bytes: Vec<u8>, length: usize) -> Result<Bitmap>
-        requires fits { length ≤ 8 * vec_len bytes }
+        requires inside { length ≤ 8 * vec_len bytes }
         ensures ok { IfOk result (λ b. b ≡ record {
           bytes = bytes.items;
           offset = 0;
@@ -124,7 +124,7 @@ impl Bitmap {
 
     /// The same, of which it is known how many bits are not set.
     pub(crate) fn from_counted(bytes: Vec<u8>, length: usize, unset_bits: usize) -> Result<Bitmap>
-        requires fits { length ≤ 8 * vec_len bytes }
+        requires inside { length ≤ 8 * vec_len bytes }
         requires counted { unset_bits ≡ falses (take length (bits bytes.items)) }
         ensures ok { IfOk result (λ b. b ≡ record {
           bytes = bytes.items;
@@ -151,7 +151,7 @@ impl Bitmap {
     ///
     /// `OutOfMemory` alone.
     pub fn from_u8_slice(alloc: Global, bytes: &[u8], length: usize) -> Result<Bitmap>
-        requires fits { length ≤ 8 * length' bytes.now }
+        requires inside { length ≤ 8 * length' bytes.now }
         ensures ok { IfOk result (λ b. b ≡ record { bytes = bytes.now; offset = 0; len = length }) }
         ensures items { IfOk result (λ b. items_of b ≡ take length (bits bytes.now)) }
         ensures len { IfOk result (λ b. length' (items_of b) ≡ length) }

@@ -68,7 +68,7 @@ impl MutableBitmap {
     /// `InvalidArgumentError` exactly if `length` is above eight times the number of bytes, or
     /// `OutOfMemory` there, where its text finds no memory.
     pub fn try_new(bytes: Vec<u8>, length: usize) -> Result<MutableBitmap>
-        ensures fits { IsOk result ↔ (length ≤ 8 * vec_len bytes) }
+        ensures accepted { IsOk result ↔ (length ≤ 8 * vec_len bytes) }
         ensures ok { IfOk result (λ m. m.items ≡ take length (bits bytes.items)) }
         ensures len { IfOk result (λ m. length' m.items ≡ length) }
         ensures refused { IfErr result (λ e.
@@ -81,7 +81,7 @@ impl MutableBitmap {
     /// The first `length` bits of the bytes. Asks that there are as many.
     /// Spare bytes are cut and spare bits cleared, in place. Takes no memory.
     pub fn from_vec(bytes: Vec<u8>, length: usize) -> MutableBitmap
-        requires fits { length ≤ 8 * vec_len bytes }
+        requires inside { length ≤ 8 * vec_len bytes }
         ensures items { result.items ≡ take length (bits bytes.items) }
         ensures len { length' result.items ≡ length }
     {
@@ -98,7 +98,7 @@ impl MutableBitmap {
     /// `OutOfMemory` alone.
     pub fn with_capacity(alloc: Global, capacity: usize) -> Result<MutableBitmap>
         ensures ok { IfOk result (λ m. m.items ≡ []) }
-        ensures room { IfOk result (λ m. capacity ≤ m.capacity) }
+        ensures capacity { IfOk result (λ m. capacity ≤ m.capacity) }
         ensures only { IfErr result (λ e. e ≡ Error.OutOfMemory) }
     {
         let bits = PackedBits::with_capacity(alloc, capacity)?;
@@ -236,7 +236,7 @@ impl MutableBitmap {
         ensures overflow { IsErrOf result Error.Overflow ↔
             (2 ^ 64 ≤ length self.old.items + additional) }
         ensures only { IfErr result (λ e. (e ≡ Error.Overflow) ⊎ (e ≡ Error.OutOfMemory)) }
-        ensures room { length self.old.items + additional ≤ self.old.capacity → IsOk result }
+        ensures succeeds { length self.old.items + additional ≤ self.old.capacity → IsOk result }
         ensures capacity { self.old.capacity ≤ self.new.capacity }
     {
         self.bits.reserve(additional)?;
@@ -272,7 +272,7 @@ impl MutableBitmap {
               len = length self.items;
             })) }
         ensures only { IfErr result (λ e. e ≡ Error.OutOfMemory) }
-        ensures room { falses self.items ≡ 0 → IsOk result }
+        ensures succeeds { falses self.items ≡ 0 → IsOk result }
     {
         let unset_bits = self.unset_bits();
         if unset_bits == 0 {
@@ -386,7 +386,7 @@ impl MutableBitmap {
         ensures bytes { result.0.items ≡ canonical_bytes self.items }
         ensures items { take result.1 (bits result.0.items) ≡ self.items }
         ensures len { result.1 ≡ length self.items }
-        ensures fits { result.1 ≤ 8 * vec_len result.0 }
+        ensures inside { result.1 ≤ 8 * vec_len result.0 }
     {
         let MutableBitmap { bits } = self;
         bits.into_parts()

@@ -192,7 +192,7 @@ impl<T> Buffer<T> {
     ///
     /// Differs from arrow2, which gives the whole vector of a sliced buffer.
     pub fn into_mut(self) -> Either<Self, Vec<T>>
-        ensures same { MatchEither result (λ b. b ≡ self) (λ v. v.items ≡ buffer_items self) }
+        ensures items { MatchEither result (λ b. b ≡ self) (λ v. v.items ≡ buffer_items self) }
         ensures whole { MatchEither result (λ _. ⊤) (λ v. v.items ≡ self.storage) }
     {
         if self.is_sliced() {
@@ -297,8 +297,8 @@ const LEAST_ROOM: usize = 128;
 /// The items in a vector with room for more. The vector is passed by value, so that how many items it has stays
 /// in a register from item to item.
 fn with_room<T: Drop>(mut items: Vec<T>) -> std::result::Result<Vec<T>, AllocError>
-    ensures same { IfOk result (λ roomy. roomy.items ≡ items.items) }
-    ensures room { IfOk result (λ roomy. vec_len roomy < vec_capacity roomy) }
+    ensures items { IfOk result (λ roomy. roomy.items ≡ items.items) }
+    ensures capacity { IfOk result (λ roomy. vec_len roomy < vec_capacity roomy) }
 {
     items.reserve(LEAST_ROOM)?;
     Ok(items)

@@ -1,26 +1,19 @@
 -- Offsets and lengths written one by one.
-use Rattle.std.proofs.Common.{◌≡◌, ◌≢◌, inl, inr, ℕ, ◌+◌, ◌-◌, ◌<◌, ◌≤◌, List, map, length, sum, take, drop, get_or, set, ap, sym, ◌∙◌, arith, add-one}
+use Rattle.std.proofs.Common.{◌≡◌, ℕ, ◌+◌, ◌-◌, ◌<◌, ◌≤◌, List, map, length, sum, take, drop, get_or, set, ap, sym, ◌∙◌, arith, add-one}
 use Rattle.std.specs.Prelude.{ℤ, pos, ◌≤ℤ◌, ◌-ℤ◌}
-use Rattle.std.proofs.lemmas.Bool.{cases_lt}
 use Rattle.std.proofs.lemmas.Int.{ints}
-use Rattle.std.proofs.lemmas.List.{ext_get_or, get_or-map, get_or-set_same, get_or-set_other, length-map, map-set, length-take-le, length-drop}
+use Rattle.std.proofs.lemmas.List.{ext_get_or, get_or-map, length-map, map-set, length-take-le, length-drop}
 use Rattle.arrow2_offset.specs.Offsets.{AreOffsets, lengths_of, offset_at, last_of, offsets_list, start_of}
 use Rattle.arrow2_model.specs.Parts.{part}
 use Rattle.arrow2_offset.proofs.OffsetLists.{get_or-offsets, get_or-offsets_list, length-lengths_of, length-running_sums, part_spells}
 use Rattle.arrow2_model.proofs.Parts.{get_or-part}
 use Rattle.arrow2_offset.proofs.Appending.{value_at}
+use Rattle.arrow2_offset.proofs.Written.{one_more}
 use Rattle.arrow2_offset.proofs.Growing.{sum-part-le, sum-take-le, sum-take-next}
 
--- ---- one item more is written
+-- ---- one item more is written, of the values that the items stand for
 
--- at each place below i stands what f says, and x stands at i
-pub one_more : {X : Type 0} (xs : List X) (f : ℕ → X) (d : X) (i : ℕ) (x : X) → i < length xs → x ≡ f i → ((k : ℕ) → k < i → get_or xs k d ≡ f k) → (k : ℕ) → k < i + 1 → get_or (set xs i x) k d ≡ f k
-one_more xs f d i x l is done k h = elim (cases_lt k i) [
-  | inl low ↦ let other : k ≢ i = λ e. omega (arith, e) in get_or-set_other xs i k x d other ∙ done k low
-  | inr last ↦ let e : k ≡ i = omega arith in rw e (get_or-set_same xs i x d l ∙ is)
-]
-
--- the same of the values that the items stand for
+-- at each place below i stands what f says, and an item of value f i stands at i
 pub one_more_value : {X : Type 0} (value : X → ℤ) (xs : List X) (f : ℕ → ℤ) (i : ℕ) (x : X) → i < length xs → value x ≡ f i → ((k : ℕ) → k < i → get_or (map value xs) k (pos 0) ≡ f k) → (k : ℕ) → k < i + 1 → get_or (map value (set xs i x)) k (pos 0) ≡ f k
 one_more_value value xs f i x l is done k h =
     let m = length-map xs value in

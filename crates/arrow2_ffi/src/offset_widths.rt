@@ -1,10 +1,11 @@
 //! Offsets of 32 bits as offsets of 64 bits, and back.
 ghost use Rattle.std.specs.Prelude.{◌≡◌, ◌≢◌, ◌<◌, length};
-ghost use Rattle.arrow2_offset.specs.Offsets.{AreOffsets, AreOffsetsUpTo, last_of};
+ghost use Rattle.arrow2_offset.specs.Offsets.{AreOffsets, last_of};
 ghost use Rattle.arrow2_ffi.specs.OffsetWrites.{WritesFromOffsets, WritesFromOffsetsOr};
 
 use crate::codes::{ARROW2_LENGTH, ARROW2_OK, ARROW2_OVERFLOW};
 use crate::offset_loops::{last, refusal};
+use arrow2_offset::widths::{write_narrow, write_wide};
 
 /// Writes the same numbers, in 64 bits each.
 #[unsafe(no_mangle)]
@@ -40,25 +41,4 @@ pub extern "C" fn arrow2_offsets_narrow(offsets: &[i64], out: &mut [i32]) -> u32
     }
     write_narrow(offsets, out);
     ARROW2_OK
-}
-
-/// Writes the same numbers, in 64 bits each. Asks for as many.
-fn write_wide(offsets: &[i32], out: &mut [i64])
-    requires exact { length out.old ≡ length offsets.now }
-    ensures { out.new ≡ offsets.now }
-{
-    for i in 0..out.len() {
-        out[i] = i64::from(offsets[i]);
-    }
-}
-
-/// Writes the same numbers, in 32 bits each. Asks for as many, and that they are offsets that fit.
-fn write_narrow(offsets: &[i64], out: &mut [i32])
-    requires exact { length out.old ≡ length offsets.now }
-    requires fit { AreOffsetsUpTo 2147483647 offsets.now }
-    ensures { out.new ≡ offsets.now }
-{
-    for i in 0..out.len() {
-        out[i] = offsets[i] as i32;
-    }
 }

@@ -112,6 +112,4 @@ bit_written bytes after n i b v canonical inside was fits byte =
 pub popped : (bytes : List ℕ) (n m : ℕ) → IsCanonical bytes n → n ≡ m + 1 → take n (bits bytes) ≡ take m (bits bytes) ++ get_or (bits bytes) m false ∷ []
 popped bytes n m canonical e = let l = length-bits bytes in rw e (take_more (bits bytes) m false (omega (arith, l, canonical.exact)))
 
-pub ruleset writes = (whole_written)
-
 pub ruleset buffers = (length_items, canonical-nil)

@@ -17,7 +17,7 @@ pub record Appends {T E : Type 0} (told : Refusal → E) (r : Result T E) (old n
   -- there is no other error but want of memory
   pub only : IfErr r (λ e. (e ≡ told Overflow) ⊎ (e ≡ told OutOfMemory))
   -- within the capacity it takes no memory
-  pub room : length old.items + length more ≤ old.capacity → IsOk r
+  pub succeeds : length old.items + length more ≤ old.capacity → IsOk r
   -- the capacity never falls
   pub capacity : old.capacity ≤ new.capacity
 
@@ -26,6 +26,6 @@ pub record Pushes {T E : Type 0} (r : Result T E) (old new : GrowingBitmap) (mor
   -- they stand behind the others
   pub ok : OnOk r (new.items ≡ old.items ++ more)
   -- within the capacity it takes no memory
-  pub room : length old.items + length more ≤ old.capacity → IsOk r
+  pub succeeds : length old.items + length more ≤ old.capacity → IsOk r
   -- the capacity never falls
   pub capacity : old.capacity ≤ new.capacity

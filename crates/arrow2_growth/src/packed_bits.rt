@@ -58,7 +58,7 @@ impl PackedBits {
     /// No items, with room for `capacity`.
     pub fn with_capacity(alloc: Global, capacity: usize) -> Result<PackedBits, AllocError>
         ensures items { IfOk result (λ b. b.items ≡ []) }
-        ensures room { IfOk result (λ b. capacity ≤ b.capacity) }
+        ensures capacity { IfOk result (λ b. capacity ≤ b.capacity) }
     {
         let bytes = Vec::with_capacity(alloc, bytes_for(capacity))?;
         Ok(PackedBits { bytes, length: 0 })
@@ -67,7 +67,7 @@ impl PackedBits {
     /// The first `length` bits of the bytes. Spare bytes are cut and spare bits cleared, in place. Asks that there are as
     /// many. Takes no memory.
     pub fn from_vec(bytes: Vec<u8>, length: usize) -> PackedBits
-        requires fits { length ≤ 8 * vec_len bytes }
+        requires inside { length ≤ 8 * vec_len bytes }
         ensures items { result.items ≡ take length (bits bytes.items) }
         ensures len { length' result.items ≡ length }
     {
@@ -81,13 +81,6 @@ impl PackedBits {
         ensures { result ≡ length self.now.items }
     {
         self.length
-    }
-
-    /// Whether there is none.
-    pub fn is_empty(&self) -> bool
-        ensures { IsTrue result ↔ (length self.now.items ≡ 0) }
-    {
-        self.length == 0
     }
 
     /// How many items there is room for before memory is asked for, at most `usize::MAX`.
@@ -118,7 +111,7 @@ impl PackedBits {
         ensures bytes { result.0.items ≡ canonical_bytes self.items }
         ensures items { take result.1 (bits result.0.items) ≡ self.items }
         ensures len { result.1 ≡ length self.items }
-        ensures fits { result.1 ≤ 8 * vec_len result.0 }
+        ensures inside { result.1 ≤ 8 * vec_len result.0 }
     {
         let PackedBits { bytes, length } = self;
         (bytes, length)
@@ -135,7 +128,7 @@ impl PackedBits {
         ensures fits { length self.old.items < 2 ^ 64 }
         ensures overflow { IsErrOf result refusal.Overflow ↔
             (2 ^ 64 ≤ length self.old.items + additional) }
-        ensures room { length self.old.items + additional ≤ self.old.capacity → IsOk result }
+        ensures succeeds { length self.old.items + additional ≤ self.old.capacity → IsOk result }
         ensures capacity { self.old.capacity ≤ self.new.capacity }
     {
         let Some(total) = self.length.checked_add(additional) else {
@@ -249,7 +242,7 @@ impl PackedBits {
     {
         let last = self.length.checked_sub(1)?;
         let item = get_bit(self.bytes.as_slice(), last);
-        cut_last(&mut self.bytes, last);
+        cut(&mut self.bytes, last);
         self.length = last;
         Some(item)
     }
@@ -330,20 +323,6 @@ fn cut(bytes: &mut Vec<u8>, length: usize)
     }
 }
 
-/// Cuts the last item, whose place is `last`: its byte where it stands there alone, else its bit.
-fn cut_last(bytes: &mut Vec<u8>, last: usize)
-    requires { IsCanonical bytes.old.items (last + 1) }
-    ensures canonical { IsCanonical bytes.new.items last }
-    ensures items { take last (bits bytes.new.items) ≡ take last (bits bytes.old.items) }
-    ensures capacity { vec_capacity bytes.new ≡ vec_capacity bytes.old }
-{
-    if last % 8 == 0 {
-        bytes.truncate(last / 8);
-    } else {
-        bytes[last / 8] %= 1 << (last % 8);
-    }
-}
-
 /// A copy of the items.
 impl Clone for PackedBits {
     ghost is_clone = { λ a b. b.items ≡ a.items };
@@ -370,7 +349,7 @@ fn push_first(bytes: &mut Vec<u8>, eight: &[u8; 8], count: usize) -> Result<(), 
     requires { count ≤ 8 }
     ensures ok { OnOk result (bytes.new.items ≡ bytes.old.items ++ take count eight.now) }
     ensures err { OnErr result (bytes.new.items ≡ bytes.old.items) }
-    ensures room { vec_len bytes.old + count ≤ vec_capacity bytes.old → IsOk result }
+    ensures succeeds { vec_len bytes.old + count ≤ vec_capacity bytes.old → IsOk result }
     ensures capacity { vec_capacity bytes.old ≤ vec_capacity bytes.new }
 {
     if count == 8 {

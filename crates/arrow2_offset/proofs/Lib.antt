@@ -3,7 +3,9 @@ pub mod Frozen
 pub mod Growing
 pub mod Grown
 pub mod Listed
+pub mod Nested
 pub mod OffsetLists
 pub mod Order
 pub mod Same
 pub mod Walk
+pub mod Written

@@ -18,7 +18,7 @@ pub record Grows {T E : Type 0} (told : Refusal → E) (reached greatest : ℕ) 
   -- there is no other error but want of memory
   pub only : IfErr r (λ e. (e ≡ told Overflow) ⊎ (e ≡ told OutOfMemory))
   -- within the capacity there is no want of memory
-  pub room : slots old + length more ≤ old.capacity → reached ≤ greatest → IsOk r
+  pub succeeds : slots old + length more ≤ old.capacity → reached ≤ greatest → IsOk r
   -- the capacity never falls
   pub capacity : old.capacity ≤ new.capacity
 

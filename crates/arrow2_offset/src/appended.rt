@@ -94,7 +94,7 @@ fn appended<O: Offset, I: Iterator<Item = usize> + Drop>(
 
 /// The offsets in a vector with room for more, unless memory was refused.
 fn with_room<O>(mut offsets: Vec<O>) -> (Vec<O>, Result<(), AllocError>)
-    ensures same { result.0.items ≡ offsets.items }
+    ensures items { result.0.items ≡ offsets.items }
     ensures capacity { vec_capacity offsets ≤ vec_capacity result.0 }
     ensures ok { OnOk result.1 (vec_len result.0 < vec_capacity result.0) }
 {
@@ -107,7 +107,7 @@ fn with_room<O>(mut offsets: Vec<O>) -> (Vec<O>, Result<(), AllocError>)
 #[cold]
 #[inline(never)]
 fn double<O>(offsets: &mut Vec<O>) -> Result<(), AllocError>
-    ensures same { offsets.new.items ≡ offsets.old.items }
+    ensures items { offsets.new.items ≡ offsets.old.items }
     ensures capacity { vec_capacity offsets.old ≤ vec_capacity offsets.new }
     ensures ok { OnOk result (vec_len offsets.new < vec_capacity offsets.new) }
 {

@@ -6,6 +6,7 @@ ghost use Rattle.arrow2_offset.specs.Offsets.{AreOffsetsUpTo, last_of, last_of_g
 
 use crate::immutable::OffsetsBuffer;
 use crate::mutable::Offsets;
+use crate::widths::{write_narrow, write_wide};
 use arrow2_index::offset::Offset;
 use arrow2_types::error::{Error, Result};
 use std::alloc::{AllocError, Global};
@@ -97,10 +98,8 @@ impl<'a> TryFrom<&'a OffsetsBuffer<i64>> for OffsetsBuffer<i32> {
 fn widened(alloc: Global, offsets: &[i32]) -> std::result::Result<Vec<i64>, AllocError>
     ensures { IfOk result (λ wide. wide.items ≡ offsets.now) }
 {
-    let mut wide = Vec::with_capacity(alloc, offsets.len())?;
-    for offset in offsets {
-        wide.push(i64::from(*offset))?;
-    }
+    let mut wide = vec![in alloc; 0i64; offsets.len()]?;
+    write_wide(offsets, wide.as_mut_slice());
     Ok(wide)
 }
 
@@ -109,9 +108,7 @@ fn narrowed(alloc: Global, offsets: &[i64]) -> std::result::Result<Vec<i32>, All
     requires { AreOffsetsUpTo 2147483647 offsets.now }
     ensures { IfOk result (λ narrow. narrow.items ≡ offsets.now) }
 {
-    let mut narrow = Vec::with_capacity(alloc, offsets.len())?;
-    for offset in offsets {
-        narrow.push(*offset as i32)?;
-    }
+    let mut narrow = vec![in alloc; 0i32; offsets.len()]?;
+    write_narrow(offsets, narrow.as_mut_slice());
     Ok(narrow)
 }

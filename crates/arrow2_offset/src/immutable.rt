@@ -66,7 +66,7 @@ impl<O: Offset> OffsetsBuffer<O> {
     ///
     /// Differs from arrow2, which gives the whole storage of sliced offsets.
     pub fn into_mut(self) -> Either<Self, Offsets<O>>
-        ensures same { MatchEither result (λ b. b ≡ self) (λ o.
+        ensures items { MatchEither result (λ b. b ≡ self) (λ o.
             (map pos (offsets_of o) ≡ buffer_items self) × (o.start ≡ start_of (buffer_items self))
             × (o.lengths ≡ lengths_of (buffer_items self))) }
         ensures whole { MatchEither result (λ _. ⊤) (λ o. map pos (offsets_of o) ≡ self.storage) }

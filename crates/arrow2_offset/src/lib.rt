@@ -9,6 +9,7 @@ pub mod iterator;
 pub mod laws;
 pub mod mutable;
 mod spans;
+pub mod widths;
 
 pub use check::{BrokenRule, broken_rule};
 pub use immutable::OffsetsBuffer;

@@ -159,10 +159,10 @@ impl<O: Offset> Offsets<O> {
     ///
     /// `OutOfMemory` alone.
     pub fn reserve(&mut self, additional: usize) -> Result<()>
-        ensures same { SameOffsets self.old self.new }
+        ensures items { SameOffsets self.old self.new }
         ensures ok { OnOk result (slots self.old + additional ≤ self.new.capacity) }
         ensures capacity { self.old.capacity ≤ self.new.capacity }
-        ensures room { slots self.old + additional ≤ self.old.capacity → IsOk result }
+        ensures succeeds { slots self.old + additional ≤ self.old.capacity → IsOk result }
         ensures only { IfErr result (λ e. e ≡ Error.OutOfMemory) }
     {
         self.reserve_room(additional)?;
@@ -174,7 +174,7 @@ impl<O: Offset> Offsets<O> {
     /// It is never refused: where a smaller block finds no memory, the offsets stay where they are.
     pub fn shrink_to_fit(&mut self) -> Result<()>
         ensures ok { IsOk result }
-        ensures same { SameOffsets self.old self.new }
+        ensures items { SameOffsets self.old self.new }
         ensures capacity { self.new.capacity ≤ self.old.capacity }
     {
         self.offsets.shrink_to_fit();
@@ -396,10 +396,10 @@ impl<O: Offset> Offsets<O> {
 
     /// Makes room for `additional` more lengths.
     fn reserve_room(&mut self, additional: usize) -> std::result::Result<(), AllocError>
-        ensures same { SameOffsets self.old self.new }
+        ensures items { SameOffsets self.old self.new }
         ensures ok { OnOk result (slots self.old + additional ≤ self.new.capacity) }
         ensures capacity { self.old.capacity ≤ self.new.capacity }
-        ensures room { slots self.old + additional ≤ self.old.capacity → IsOk result }
+        ensures succeeds { slots self.old + additional ≤ self.old.capacity → IsOk result }
     {
         self.offsets.reserve(additional)
     }

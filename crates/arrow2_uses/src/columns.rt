@@ -4,7 +4,7 @@ ghost use Rattle.std.specs.Option.{is_none};
 ghost use Rattle.std.specs.List.{flat_map};
 ghost use Rattle.arrow2.specs.Parts.{part};
 ghost use Rattle.arrow2.specs.Storage.{items_of};
-ghost use Rattle.arrow2_uses.specs.Selected.{selected, chosen};
+ghost use Rattle.arrow2.specs.Selected.{selected, chosen};
 
 use arrow2::bitmap::{Bitmap, MutableBitmap};
 use arrow2::buffer::Buffer;
@@ -91,7 +91,7 @@ impl<T: NativeType> Column<T> {
     /// # Errors
     ///
     /// `OutOfMemory`, or `Overflow` where bits cannot be more.
-    #[tactic(auto, using(arrow2::proofs::Columns::columns, crate::proofs::Selected::selections))]
+    #[tactic(auto, using(arrow2::proofs::Columns::columns, arrow2::proofs::Columns::selections))]
     pub fn filter(&self, mask: &Bitmap) -> Result<Column<T>>
         requires same_length { length' (items_of mask.now) ≡ length' self.now }
         ensures ok { IfOk result (λ c. c ≡ selected self.now (items_of mask.now)) }
@@ -172,9 +172,13 @@ impl<T: NativeType> ColumnBuilder<T> {
         ensures err { OnErr result (self.new ≡ self.old) }
         ensures only { IfErr result (λ e. (e ≡ Error.Overflow) ⊎ (e ≡ Error.OutOfMemory)) }
     {
-        self.validity.reserve(column.len())?;
+        let count = self.values.len();
         self.values.extend_from_slice(column.values.as_slice())?;
-        self.validity.extend_from_bitmap(&column.validity)
+        let extended = self.validity.extend_from_bitmap(&column.validity);
+        if extended.is_err() {
+            self.values.truncate(count);
+        }
+        extended
     }
 
     /// The column of the items.
@@ -215,7 +219,7 @@ pub fn concat<T: NativeType>(alloc: Global, columns: &[Column<T>]) -> Result<Col
 /// # Errors
 ///
 /// `OutOfMemory`, or `Overflow` where bits cannot be more.
-#[tactic(auto, using(crate::proofs::Selected::selections))]
+#[tactic(auto, using(arrow2::proofs::Columns::selections))]
 pub fn if_then_else<T: NativeType>(
     mask: &Bitmap,
     lhs: &Column<T>,

@@ -7,7 +7,7 @@ ghost use Rattle.arrow2.specs.Offsets.{start_of, lengths_of, last_of};
 ghost use Rattle.arrow2.specs.Parts.{part};
 ghost use Rattle.arrow2.specs.Storage.{items_of};
 ghost use Rattle.arrow2.specs.Zipped.{zipped};
-ghost use Rattle.arrow2_uses.specs.Cuts.{cut};
+ghost use Rattle.arrow2.specs.Nested.{cut};
 
 use crate::texts::Texts;
 use arrow2::bitmap::Bitmap;
@@ -28,7 +28,7 @@ impl Model for TextLists {
     ghost use Rattle.arrow2.specs.Offsets.{start_of, lengths_of, last_of};
     ghost use Rattle.arrow2.specs.Storage.{items_of};
     ghost use Rattle.arrow2.specs.Zipped.{zipped};
-    ghost use Rattle.arrow2_uses.specs.Cuts.{cut};
+    ghost use Rattle.arrow2.specs.Nested.{cut};
 
     ghost Value = { List (Option (List (List ℕ))) };
 
@@ -40,7 +40,7 @@ impl Model for TextLists {
         × (last_of (buffer_items l.offsets) ≤ length l.texts) };
 }
 
-#[tactic(auto, using(arrow2::proofs::Columns::columns, crate::proofs::Cuts::cuts))]
+#[tactic(auto, using(arrow2::proofs::Columns::columns, arrow2::proofs::Nested::nested))]
 impl TextLists {
     /// The lists of these texts that begin at the offsets, null where the validity is false. Asks for a validity of as
     /// many items as there are lists, and that the offsets stay inside the texts.

@@ -27,7 +27,7 @@ impl Model for Texts {
     ghost use Rattle.std.specs.Prelude.{◌≤◌, ℕ, List, length, drop};
     ghost use Rattle.arrow2.specs.Buffers.{buffer_items};
     ghost use Rattle.arrow2.specs.Offsets.{start_of, lengths_of, last_of};
-    ghost use Rattle.arrow2_uses.specs.Cuts.{cut};
+    ghost use Rattle.arrow2.specs.Nested.{cut};
 
     ghost Value = { List (List ℕ) };
 
@@ -37,7 +37,7 @@ impl Model for Texts {
     ghost invariant = { λ t. last_of (buffer_items t.offsets) ≤ length (buffer_items t.bytes) };
 }
 
-#[tactic(auto, using(crate::proofs::Cuts::cuts))]
+#[tactic(auto, using(arrow2::proofs::Nested::nested))]
 impl Texts {
     /// How many texts there are.
     pub fn len(&self) -> usize
@@ -74,7 +74,7 @@ pub struct TextsBuilder {
 
 impl Model for TextsBuilder {
     ghost use Rattle.std.specs.Prelude.{◌≡◌, ℕ, List, length, sum};
-    ghost use Rattle.arrow2_uses.specs.Cuts.{cut};
+    ghost use Rattle.arrow2.specs.Nested.{cut};
 
     ghost Value = { List (List ℕ) };
 
@@ -84,7 +84,7 @@ impl Model for TextsBuilder {
         × (sum t.offsets.lengths ≡ length t.bytes.items) };
 }
 
-#[tactic(auto, using(crate::proofs::Cuts::cuts))]
+#[tactic(auto, using(arrow2::proofs::Nested::nested))]
 impl TextsBuilder {
     /// No text.
     ///

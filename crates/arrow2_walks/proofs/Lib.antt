@@ -1,8 +1,10 @@
 pub mod Cuts
 pub mod InnerRuns
+pub mod Left
 pub mod MaximalRuns
 pub mod RunLaws
 pub mod RunSteps
+pub mod Selected
 pub mod Slots
 pub mod TakenRuns
 pub mod UniqueRuns

@@ -1,6 +1,6 @@
 use Rattle.std.proofs.Common.{◌≡◌, take}
 use Rattle.arrow2.specs.Storage.{items_of}
-use Rattle.arrow2_uses.specs.Selected.{chosen}
+use Rattle.arrow2.specs.Selected.{chosen}
 use Rattle.arrow2_uses.proofs.columns.if_then_else.Given as goal
 
 abbrev pub invariant-loop-place : goal.invariant-loop-place

@@ -1,7 +1,7 @@
 use Rattle.std.proofs.Common.{◌≤◌, length, ◌∙◌, Some, [], ap, sym, arith}
 use Rattle.arrow2.specs.Buffers.{buffer_items}
 use Rattle.arrow2.specs.Offsets.{start_of, lengths_of}
-use Rattle.arrow2_uses.proofs.Cuts.{item-cut, past-cut}
+use Rattle.arrow2.proofs.Nested.{item-cut, past-cut}
 use Rattle.arrow2_uses.proofs.lists.text_of.Goals as goal
 
 pub returns-then-end-start : goal.returns-then-end-start

@@ -20,6 +20,6 @@ returns-in_ok-push_word c =
       fits = c.reserve.ensures.fits;
       overflow = rw size c.in_ok-reserve.ensures.overflow;
       only = search rules;
-      room = search rules;
+      succeeds = search rules;
       capacity = omega (arith, c.reserve.ensures.capacity, c.push_word.ensures.pushes.capacity);
     }

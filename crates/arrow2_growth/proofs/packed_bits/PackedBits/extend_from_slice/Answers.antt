@@ -15,6 +15,6 @@ returns c =
       fits = c.reserve.ensures.fits;
       overflow = rw size c.in_ok-reserve.ensures.overflow;
       only = search rules;
-      room = search rules;
+      succeeds = search rules;
       capacity = omega (arith, c.reserve.ensures.capacity, c.push_words.ensures.capacity, c.push_part.ensures.capacity);
     }

@@ -37,6 +37,6 @@ returns c =
       fits = omega (arith, short);
       overflow = (search rules, λ h. absurd (omega (arith, short, h)));
       only = search rules;
-      room = search rules;
+      succeeds = search rules;
       capacity = omega (arith, (pushed c).0, ap (λ m. m.capacity) c.self.view_is);
     }

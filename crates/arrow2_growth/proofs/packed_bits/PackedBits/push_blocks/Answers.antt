@@ -31,7 +31,7 @@ returns-in_err-push_bytes c =
     let left = length-block c.next_block.result w.chunks.items c.next_block.new.chunks.items c.next_block.ensures.items c.next_block.ensures.size in
     record {
       ok = search rules;
-      room = λ h. absurd (false≢true (c.in_err-push_bytes.ensures.pushes.room (omega (arith, joined, left, length-bits c.next_block.result, c.next_block.ensures.size, w.invariant.capacity, h))));
+      succeeds = λ h. absurd (false≢true (c.in_err-push_bytes.ensures.pushes.succeeds (omega (arith, joined, left, length-bits c.next_block.result, c.next_block.ensures.size, w.invariant.capacity, h))));
       capacity = omega (arith, w.invariant.capacity, c.push_bytes.ensures.pushes.capacity);
     }
 
@@ -46,6 +46,6 @@ returns c =
     let joined = length-joined w.self.items w.chunks.items c.args.self.now.items c.args.chunks.items w.invariant.items in
     record {
       ok = subst (λ (t : List Bool). OnOk c.push_words.result (c.push_words.new.self.items ≡ t)) w.invariant.items c.push_words.ensures.ok;
-      room = λ h. c.push_words.ensures.room (omega (arith, joined, w.invariant.capacity, h));
+      succeeds = λ h. c.push_words.ensures.succeeds (omega (arith, joined, w.invariant.capacity, h));
       capacity = omega (arith, w.invariant.capacity, c.push_words.ensures.capacity);
     }

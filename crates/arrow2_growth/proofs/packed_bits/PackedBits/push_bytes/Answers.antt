@@ -15,7 +15,7 @@ returns-in_err-extend_from_slice-clause-pushes c =
     let room = ap (λ m. m.capacity) c.self.view_is in
     record {
       ok = search rules;
-      room = λ h. absurd (false≢true (c.in_err-extend_from_slice.ensures.succeeds (omega (arith, size, seen, room, length-bits c.args.slice.now, b.bytes.ok.0, c.self.invariant.exact, h))));
+      succeeds = λ h. absurd (false≢true (c.in_err-extend_from_slice.ensures.succeeds (omega (arith, size, seen, room, length-bits c.args.slice.now, b.bytes.ok.0, c.self.invariant.exact, h))));
       capacity = omega (arith, room, c.extend_from_slice.ensures.capacity);
     }
 
@@ -32,6 +32,6 @@ invariant_of-self-2 c = (pushed c).0
 pub returns-clause-pushes : goal.returns-clause-pushes
 returns-clause-pushes c = record {
   ok = (pushed c).1 ∙ ap (λ m. m.items ++ bits c.args.slice.now) c.self.view_is;
-  room = search rules;
+  succeeds = search rules;
   capacity = omega (arith, ap (λ m. m.capacity) c.self.view_is, c.in_ok-extend_from_slice.ensures.capacity);
 }

@@ -17,7 +17,7 @@ returns-in_err-resize-clause-pushes c =
     let copies = replicate c.args.count c.args.byte in
     record {
       ok = search rules;
-      room = λ h. absurd (false≢true (c.in_err-resize.ensures.succeeds (omega (arith, size, seen, room, length-bits copies, length-replicate c.args.count c.args.byte, b.bytes.ok.0, c.len.ensures, c.self.invariant.exact, h))));
+      succeeds = λ h. absurd (false≢true (c.in_err-resize.ensures.succeeds (omega (arith, size, seen, room, length-bits copies, length-replicate c.args.count c.args.byte, b.bytes.ok.0, c.len.ensures, c.self.invariant.exact, h))));
       capacity = omega (arith, room, c.resize.ensures.capacity);
     }
 
@@ -34,6 +34,6 @@ invariant_of-self-2 c = (pushed c).0
 pub returns-clause-pushes : goal.returns-clause-pushes
 returns-clause-pushes c = record {
   ok = (pushed c).1 ∙ ap (λ m. m.items ++ bits (replicate c.args.count c.args.byte)) c.self.view_is;
-  room = search rules;
+  succeeds = search rules;
   capacity = omega (arith, ap (λ m. m.capacity) c.self.view_is, c.in_ok-resize.ensures.capacity);
 }

@@ -14,7 +14,7 @@ returns-in_err-push_bytes c =
     let all = length-take-le c.args.count (bits c.args.slice.now) (omega (arith, length-bits c.args.slice.now, c.requires.inside)) in
     record {
       ok = search rules;
-      room = λ h. absurd (false≢true (c.in_err-push_bytes.ensures.pushes.room (omega (arith, size, bytes, all, h))));
+      succeeds = λ h. absurd (false≢true (c.in_err-push_bytes.ensures.pushes.succeeds (omega (arith, size, bytes, all, h))));
       capacity = c.push_bytes.ensures.pushes.capacity;
     }
 
@@ -32,20 +32,20 @@ returns-in_err-push_word c =
     let all = length-take-le c.args.count (bits c.args.slice.now) (omega (arith, length-bits c.args.slice.now, c.requires.inside)) in
     record {
       ok = search rules;
-      room = λ h. absurd (false≢true (c.in_err-push_word.ensures.pushes.room (omega (arith, size, bytes, last, all, c.push_bytes.ensures.pushes.capacity, h))));
+      succeeds = λ h. absurd (false≢true (c.in_err-push_word.ensures.pushes.succeeds (omega (arith, size, bytes, last, all, c.push_bytes.ensures.pushes.capacity, h))));
       capacity = omega (arith, c.push_bytes.ensures.pushes.capacity, c.push_word.ensures.pushes.capacity);
     }
 
 pub returns-in_ok-push_word : goal.returns-in_ok-push_word
 returns-in_ok-push_word c = record {
   ok = pushed_front c.args.slice.now c.args.self.now.items c.push_bytes.new.self.items c.push_word.new.self.items c.args.count c.from.result c.requires.inside c.if-rest-gt0.true c.in_ok-push_bytes.ensures.pushes.ok c.in_ok-push_word.ensures.pushes.ok c.from.ensures;
-  room = search rules;
+  succeeds = search rules;
   capacity = omega (arith, c.push_bytes.ensures.pushes.capacity, c.push_word.ensures.pushes.capacity);
 }
 
 pub returns-else-rest-gt0 : goal.returns-else-rest-gt0
 returns-else-rest-gt0 c = record {
   ok = pushed_whole_front c.args.slice.now c.args.self.now.items c.push_bytes.new.self.items c.args.count c.requires.inside (omega (arith, c.if-rest-gt0.false)) c.in_ok-push_bytes.ensures.pushes.ok;
-  room = search rules;
+  succeeds = search rules;
   capacity = c.push_bytes.ensures.pushes.capacity;
 }

@@ -26,6 +26,6 @@ returns c =
     let many = length-replicate n c.args.value in
     record {
       ok = subst (λ (t : List Bool). OnOk c.push_word-2.result (c.push_word-2.new.self.items ≡ t)) whole c.push_word-2.ensures.pushes.ok;
-      room = λ k. c.push_word-2.ensures.pushes.room (omega (arith, joined, all, many, ap length whole, c.push_word.ensures.pushes.capacity, c.push_copies.ensures.pushes.capacity, k));
+      succeeds = λ k. c.push_word-2.ensures.pushes.succeeds (omega (arith, joined, all, many, ap length whole, c.push_word.ensures.pushes.capacity, c.push_copies.ensures.pushes.capacity, k));
       capacity = omega (arith, c.push_word.ensures.pushes.capacity, c.push_copies.ensures.pushes.capacity, c.push_word-2.ensures.pushes.capacity);
     }

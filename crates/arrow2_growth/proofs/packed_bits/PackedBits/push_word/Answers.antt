@@ -17,7 +17,7 @@ returns-in_err-push_first-clause-pushes c =
     let more = length-take-le c.args.count (unnum 64 c.args.word) (omega (arith, length-unnum 64 c.args.word, c.requires.few)) in
     record {
       ok = search rules;
-      room = λ h. absurd (false≢true (c.in_err-push_first.ensures.room (omega (arith, size, seen, room, more, b.bytes.ok.0, c.bytes_for.ensures, c.self.invariant.exact, h))));
+      succeeds = λ h. absurd (false≢true (c.in_err-push_first.ensures.succeeds (omega (arith, size, seen, room, more, b.bytes.ok.0, c.bytes_for.ensures, c.self.invariant.exact, h))));
       capacity = omega (arith, room, c.push_first.ensures.capacity);
     }
 
@@ -30,7 +30,7 @@ returns-in_err-push_first-2-clause-pushes c =
     let more = length-take-le c.args.count (unnum 64 c.args.word) (omega (arith, length-unnum 64 c.args.word, c.requires.few)) in
     record {
       ok = search rules;
-      room = λ h. absurd (false≢true (c.in_err-push_first-2.ensures.room (omega (arith, size, seen, room, more, b.bytes.ok.0, c.bytes_for-else-place-eq0.ensures, c.self.invariant.exact, h))));
+      succeeds = λ h. absurd (false≢true (c.in_err-push_first-2.ensures.succeeds (omega (arith, size, seen, room, more, b.bytes.ok.0, c.bytes_for-else-place-eq0.ensures, c.self.invariant.exact, h))));
       capacity = omega (arith, room, c.push_first-else-place-eq0.ensures.capacity);
     }
 
@@ -67,6 +67,6 @@ invariant_of-self-2 c = (pushed c).1.0
 pub returns-clause-pushes : goal.returns-clause-pushes
 returns-clause-pushes c = record {
   ok = (pushed c).1.1 ∙ ap (λ m. m.items ++ take c.args.count (unnum 64 c.args.word)) c.self.view_is;
-  room = search rules;
+  succeeds = search rules;
   capacity = omega (arith, (pushed c).0, ap (λ m. m.capacity) c.self.view_is);
 }

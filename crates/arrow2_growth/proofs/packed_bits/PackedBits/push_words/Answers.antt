@@ -29,7 +29,7 @@ returns-in_err-push_word c =
     let wide = ap length (whole_word c.in-Some.word) ∙ length-unnum 64 c.in-Some.word in
     record {
       ok = search rules;
-      room = λ h. absurd (false≢true (c.in_err-push_word.ensures.pushes.room (omega (arith, joined, left, wide, w.invariant.capacity, h))));
+      succeeds = λ h. absurd (false≢true (c.in_err-push_word.ensures.pushes.succeeds (omega (arith, joined, left, wide, w.invariant.capacity, h))));
       capacity = omega (arith, w.invariant.capacity, c.push_word.ensures.pushes.capacity);
     }
 
@@ -53,6 +53,6 @@ returns c =
     let joined = length-append c.args.self.now.items c.args.chunks.items in
     record {
       ok = subst (λ (t : List Bool). OnOk c.push_word-2.result (c.push_word-2.new.self.items ≡ t)) whole c.push_word-2.ensures.pushes.ok;
-      room = λ h. c.push_word-2.ensures.pushes.room (omega (arith, size, joined, ap length whole, w.invariant.capacity, h));
+      succeeds = λ h. c.push_word-2.ensures.pushes.succeeds (omega (arith, size, joined, ap length whole, w.invariant.capacity, h));
       capacity = omega (arith, w.invariant.capacity, c.push_word-2.ensures.pushes.capacity);
     }

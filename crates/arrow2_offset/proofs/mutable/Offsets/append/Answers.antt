@@ -5,7 +5,7 @@ use Rattle.arrow2_offset.proofs.mutable.Offsets.append.Goals as goal
 pub loop-length-init : goal.loop-length-init
 loop-length-init g c =
     let walk = c.into_iter-length-iterator.ensures.into_iter_gives ∙ c.new-length-items.ensures in
-    let same = c.in_ok-reserve_room.ensures.same in
+    let same = c.in_ok-reserve_room.ensures.items in
     let n = length_slots g.O.Number.value c.args.offsets.now (length c.args.offsets.now) c.requires refl in
     let k = ap length walk in
     let s = ap sum walk in

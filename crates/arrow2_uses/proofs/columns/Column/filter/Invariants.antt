@@ -1,6 +1,6 @@
 use Rattle.std.proofs.Common.{◌≡◌, take}
 use Rattle.arrow2.specs.Storage.{items_of}
-use Rattle.arrow2_uses.specs.Selected.{selected}
+use Rattle.arrow2.specs.Selected.{selected}
 use Rattle.arrow2_uses.proofs.columns.Column.filter.Given as goal
 
 abbrev pub invariant-loop-place : goal.invariant-loop-place

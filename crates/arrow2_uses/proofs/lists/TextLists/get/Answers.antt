@@ -5,8 +5,8 @@ use Rattle.arrow2.specs.Buffers.{buffer_items}
 use Rattle.arrow2.specs.Offsets.{start_of, lengths_of}
 use Rattle.arrow2.specs.Storage.{items_of}
 use Rattle.arrow2.proofs.Columns.{slot-zipped}
-use Rattle.arrow2_uses.specs.Cuts.{cut}
-use Rattle.arrow2_uses.proofs.Cuts.{length-cut}
+use Rattle.arrow2.specs.Nested.{cut}
+use Rattle.arrow2.proofs.Nested.{length-cut}
 use Rattle.arrow2_uses.proofs.lists.TextLists.get.Goals as goal
 
 pub returns-then-not-get_bit : goal.returns-then-not-get_bit

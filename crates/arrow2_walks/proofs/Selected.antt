@@ -1,7 +1,7 @@
 -- Items chosen by a mask: one item more.
 use Rattle.std.proofs.Common.{◌≡◌, ℕ, zero, suc, ◌+◌, ◌<◌, List, [], ◌∷◌, ◌++◌, Bool, true, false, length, take, get_or, refl, ap, arith, add-one}
 use Rattle.std.specs.Prelude.{Option, None, if◌then◌else◌}
-use Rattle.arrow2_uses.specs.Selected.{selected, chosen}
+use Rattle.arrow2_walks.specs.Selected.{selected, chosen}
 
 module _ {X : Type 0} where
   selected-next : (xs : List (Option X)) (ms : List Bool) (k : ℕ) → k < length xs → k < length ms

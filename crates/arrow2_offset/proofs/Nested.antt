@@ -1,4 +1,5 @@
--- Lists that stand one behind the other: how many, place by place, in parts, and with others behind them.
+-- Lists that stand one behind the other: how many, place by place, in parts, and with others behind them; and the ruleset
+-- that a column of texts or of lists names in `using`.
 use Rattle.std.proofs.Common.{◌≡◌, ℕ, zero, suc, ◌+◌, ◌-◌, ◌<◌, ◌≤◌, List, [], ◌∷◌, ◌++◌, length, sum, take, drop, get_or, refl, ap, sym, ◌∙◌, arith, add-zero}
 use Rattle.std.proofs.Math.Seq.{take-length}
 use Rattle.std.proofs.lemmas.Option.{slice_get-get_or, slice_get_past}
@@ -6,8 +7,8 @@ use Rattle.std.proofs.lemmas.List.{length-take, take_all, get_or-take, get_or-dr
 use Rattle.std.proofs.lemmas.List.Sums.{sum_by-cons, sum_by-take-drop}
 use Rattle.std.specs.Prelude.{Some, None}
 use Rattle.std.specs.List.{slice_get}
-use Rattle.arrow2.specs.Parts.{part}
-use Rattle.arrow2_uses.specs.Cuts.{cut}
+use Rattle.arrow2_model.specs.Parts.{part}
+use Rattle.arrow2_offset.specs.Nested.{cut}
 
 sum-first : (start n : ℕ) (ns : List ℕ) → start + n + sum ns ≡ start + sum (n ∷ ns)
 sum-first start n ns = let s = sum_by-cons (λ x. x) n ns in omega (arith, s)
@@ -84,7 +85,7 @@ sum-part ns a n =
     let rest = sum_by-take-drop (λ x. x) (drop a ns) n in
     omega (arith, whole, rest)
 
-pub ruleset cuts = (length-cut, at-cut, part-cut, push-cut, extend-cut, sum-part)
+pub ruleset nested = (length-cut, at-cut, part-cut, push-cut, extend-cut, sum-part)
 
 module _ {X : Type 0} where
   -- an item of the list at a place, by where that list starts and where it ends

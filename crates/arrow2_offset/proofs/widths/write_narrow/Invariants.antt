@@ -1,6 +1,6 @@
 use Rattle.std.proofs.Common.{◌≡◌, ℕ, ◌<◌, length, get_or}
 use Rattle.std.specs.Prelude.{pos}
-use Rattle.arrow2_ffi.proofs.offset_widths.write_wide.Given as goal
+use Rattle.arrow2_offset.proofs.widths.write_narrow.Given as goal
 
 abbrev pub invariant-loop-i : goal.invariant-loop-i
 invariant-loop-i l = record {

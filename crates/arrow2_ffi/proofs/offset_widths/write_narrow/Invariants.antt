@@ -1,9 +1,0 @@
-use Rattle.std.proofs.Common.{◌≡◌, ℕ, ◌<◌, length, get_or}
-use Rattle.std.specs.Prelude.{pos}
-use Rattle.arrow2_ffi.proofs.offset_widths.write_narrow.Given as goal
-
-abbrev pub invariant-loop-i : goal.invariant-loop-i
-invariant-loop-i l = record {
-  exact : length l.out ≡ length l.offsets;
-  done : (k : ℕ) → k < l.i → get_or l.out k (pos 0) ≡ get_or l.offsets k (pos 0);
-}

@@ -1,7 +1,0 @@
-use Rattle.std.proofs.Common.{arith}
-use Rattle.std.specs.Prelude.{pos}
-use Rattle.std.proofs.lemmas.List.{ext_get_or}
-use Rattle.arrow2_ffi.proofs.offset_widths.write_wide.Goals as goal
-
-pub returns : goal.returns
-returns c = ext_get_or (pos 0) c.loop-i.out c.args.offsets.now c.loop-i.invariant.exact (λ k h. c.loop-i.invariant.done k (omega (arith, h, c.loop-i.invariant.exact, c.requires.exact, c.loop-i-test.false)))

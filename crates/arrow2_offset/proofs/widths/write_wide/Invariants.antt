@@ -1,0 +1,9 @@
+use Rattle.std.proofs.Common.{◌≡◌, ℕ, ◌<◌, length, get_or}
+use Rattle.std.specs.Prelude.{pos}
+use Rattle.arrow2_offset.proofs.widths.write_wide.Given as goal
+
+abbrev pub invariant-loop-i : goal.invariant-loop-i
+invariant-loop-i l = record {
+  exact : length l.out ≡ length l.numbers;
+  done : (k : ℕ) → k < l.i → get_or l.out k (pos 0) ≡ get_or l.numbers k (pos 0);
+}
