@@ -32,6 +32,7 @@ const NOTES: [Note; 39] = [
         "extend_from_slice of 64",
         "the bits that fill the last byte are a walk of their own, before that over the rest",
     ),
+    ("arrow2_bitmap", "extend_from_slice", COPIED),
     (
         "arrow2_bitmap",
         "pop",
@@ -54,6 +55,7 @@ const NOTES: [Note; 39] = [
     ("arrow2_kernels", "and of 64 bits", LAID),
     ("arrow2_kernels", "unary_assign_table", AT_RUN_TIME),
     ("arrow2_kernels", "binary_assign_table", AT_RUN_TIME),
+    ("arrow2_kernels", "binary_assign of", "one loop over the bytes on both sides"),
     (
         "arrow2_array",
         "and_kleene of 1,000 bits, validity on one side",
@@ -67,12 +69,8 @@ const NOTES: [Note; 39] = [
         "try_extend_from_lengths",
         "lengths are added up in 128 bits, so that the sum is exact",
     ),
-    ("arrow2_offset", "lengths", "each length is an absolute difference, where arrow2 subtracts"),
-    (
-        "arrow2_offset",
-        "widened",
-        "each number is pushed with a test for room, where arrow2 collects a slice of known length",
-    ),
+    ("arrow2_offset", "lengths", LAID),
+    ("arrow2_offset", "widened", "zeros are written first, and the numbers over them"),
     ("arrow2_ffi", "get_bit", INLINED),
     ("arrow2_ffi", "set_bit", INLINED),
     ("arrow2_ffi", "copy_bits", COPIED),
