@@ -3,7 +3,7 @@
 /// A crate, how names of its lines begin, and why these lines are above 1. The first that fits counts.
 type Note = (&'static str, &'static str, &'static str);
 
-const NOTES: [Note; 39] = [
+const NOTES: [Note; 41] = [
     (
         "arrow2_chunk",
         "BitChunkOnes",

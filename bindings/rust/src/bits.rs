@@ -9,6 +9,7 @@ use crate::sys;
 /// # Errors
 ///
 /// [`Refusal::Range`] exactly where they are not inside the bytes.
+#[inline]
 pub fn count_zeros(bytes: &[u8], offset: usize, length: usize) -> Result<usize, Refusal> {
     let mut zeros = 0;
     // The slice and the number are borrowed for the call, and it keeps neither.
@@ -21,6 +22,7 @@ pub fn count_zeros(bytes: &[u8], offset: usize, length: usize) -> Result<usize, 
 /// # Errors
 ///
 /// [`Refusal::Range`] exactly where those of one of both are not inside its bytes.
+#[inline]
 pub fn equal_bits(left: Bits<'_>, right: Bits<'_>, length: usize) -> Result<bool, Refusal> {
     let mut equal = false;
     // The slices and the boolean are borrowed for the call, and it keeps none.
@@ -44,6 +46,7 @@ pub fn equal_bits(left: Bits<'_>, right: Bits<'_>, length: usize) -> Result<bool
 /// # Errors
 ///
 /// [`Refusal::Range`] exactly where it is not inside the bytes.
+#[inline]
 pub fn get_bit(bytes: &[u8], index: usize) -> Result<bool, Refusal> {
     let mut value = false;
     // The slice and the boolean are borrowed for the call, and it keeps neither.
@@ -56,6 +59,7 @@ pub fn get_bit(bytes: &[u8], index: usize) -> Result<bool, Refusal> {
 /// # Errors
 ///
 /// [`Refusal::Range`] exactly where it is not inside the bytes.
+#[inline]
 pub fn set_bit(bytes: &mut [u8], index: usize, value: bool) -> Result<(), Refusal> {
     // The slice is borrowed for the call, and it does not keep it.
     told(unsafe { sys::arrow2_set_bit(bytes.as_mut_ptr(), bytes.len(), index, value) })
@@ -67,6 +71,7 @@ pub fn set_bit(bytes: &mut [u8], index: usize, value: bool) -> Result<(), Refusa
 ///
 /// [`Refusal::Range`] exactly where they are not inside the bytes, else [`Refusal::Length`] exactly where `out` has
 /// not [`crate::bytes_for`] that many bytes.
+#[inline]
 pub fn copy_bits(bytes: &[u8], offset: usize, length: usize, out: &mut [u8]) -> Result<(), Refusal> {
     // The slices are borrowed for the call, one of them alone, and it keeps neither.
     told(unsafe { sys::arrow2_copy_bits(bytes.as_ptr(), bytes.len(), offset, length, out.as_mut_ptr(), out.len()) })

@@ -9,6 +9,7 @@ use crate::sys;
 /// # Errors
 ///
 /// [`Refusal::Length`] exactly where `out` has not [`crate::bytes_for`] that many bytes.
+#[inline]
 pub fn pack(items: &[bool], out: &mut [u8]) -> Result<(), Refusal> {
     // The slices are borrowed for the call, `out` alone, and it keeps none.
     told(unsafe { sys::arrow2_pack(items.as_ptr(), items.len(), out.as_mut_ptr(), out.len()) })
@@ -19,6 +20,7 @@ pub fn pack(items: &[bool], out: &mut [u8]) -> Result<(), Refusal> {
 /// # Errors
 ///
 /// [`Refusal::Range`] exactly where they are not inside.
+#[inline]
 pub fn unpack(bits: Bits<'_>, out: &mut [bool]) -> Result<(), Refusal> {
     let Bits { bytes, offset } = bits;
     // The slices are borrowed for the call, `out` alone, and it keeps none.

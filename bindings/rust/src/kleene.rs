@@ -22,6 +22,7 @@ macro_rules! operator {
         ///
         /// [`Refusal::Range`] exactly where bits of one of the four are not inside, else [`Refusal::Length`] exactly
         /// where `values` or `validity` has not [`crate::bytes_for`] that many bytes.
+        #[inline]
         pub fn $name(
             left: Nullable<'_>,
             right: Nullable<'_>,

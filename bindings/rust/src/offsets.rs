@@ -51,18 +51,22 @@ macro_rules! offset {
     ($width:ty, $check:ident, $lengths:ident, $from_lengths:ident, $from_zero:ident) => {
         // Each slice is borrowed for the call, what is written alone, and no call keeps one.
         impl Offset for $width {
+            #[inline]
             fn check(offsets: &[Self]) -> Result<(), Refusal> {
                 told(unsafe { sys::$check(offsets.as_ptr(), offsets.len()) })
             }
 
+            #[inline]
             fn lengths(offsets: &[Self], out: &mut [usize]) -> Result<(), Refusal> {
                 told(unsafe { sys::$lengths(offsets.as_ptr(), offsets.len(), out.as_mut_ptr(), out.len()) })
             }
 
+            #[inline]
             fn from_lengths(start: usize, lengths: &[usize], out: &mut [Self]) -> Result<(), Refusal> {
                 told(unsafe { sys::$from_lengths(start, lengths.as_ptr(), lengths.len(), out.as_mut_ptr(), out.len()) })
             }
 
+            #[inline]
             fn from_zero(offsets: &[Self], from: usize, out: &mut [Self]) -> Result<(), Refusal> {
                 told(unsafe { sys::$from_zero(offsets.as_ptr(), offsets.len(), from, out.as_mut_ptr(), out.len()) })
             }
@@ -90,6 +94,7 @@ offset!(
 /// # Errors
 ///
 /// The first rule that the numbers break, else [`Refusal::Length`] exactly where `out` has another length.
+#[inline]
 pub fn widen(offsets: &[i32], out: &mut [i64]) -> Result<(), Refusal> {
     // The slices are borrowed for the call, `out` alone, and it keeps none.
     told(unsafe { sys::arrow2_offsets_widen(offsets.as_ptr(), offsets.len(), out.as_mut_ptr(), out.len()) })
@@ -100,6 +105,7 @@ pub fn widen(offsets: &[i32], out: &mut [i64]) -> Result<(), Refusal> {
 /// # Errors
 ///
 /// As [`widen`], else [`Refusal::Overflow`] exactly where the last offset is above `i32::MAX`.
+#[inline]
 pub fn narrow(offsets: &[i64], out: &mut [i32]) -> Result<(), Refusal> {
     // The slices are borrowed for the call, `out` alone, and it keeps none.
     told(unsafe { sys::arrow2_offsets_narrow(offsets.as_ptr(), offsets.len(), out.as_mut_ptr(), out.len()) })

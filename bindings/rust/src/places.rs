@@ -10,6 +10,7 @@ use crate::sys;
 /// # Errors
 ///
 /// [`Refusal::Range`] exactly where the bits are not inside or `at` is above `length`.
+#[inline]
 pub fn set_places(bits: Bits<'_>, length: usize, at: &mut usize, places: &mut [usize]) -> Result<usize, Refusal> {
     let mut count = 0;
     // All is borrowed for the call, what is written alone, and it keeps nothing.

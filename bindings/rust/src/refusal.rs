@@ -38,16 +38,22 @@ impl fmt::Display for Refusal {
 impl core::error::Error for Refusal {}
 
 /// What a code of the library says.
+#[inline]
 pub(crate) fn told(code: u32) -> Result<(), Refusal> {
+    if code == 0 { Ok(()) } else { Err(refusal(code)) }
+}
+
+/// What a code that is not 0 stands for.
+#[cold]
+fn refusal(code: u32) -> Refusal {
     match code {
-        0 => Ok(()),
-        2 => Err(Refusal::Length),
-        3 => Err(Refusal::Overflow),
-        4 => Err(Refusal::Memory),
-        5 => Err(Refusal::NoOffset),
-        6 => Err(Refusal::NegativeOffset),
-        7 => Err(Refusal::FallingOffsets),
+        2 => Refusal::Length,
+        3 => Refusal::Overflow,
+        4 => Refusal::Memory,
+        5 => Refusal::NoOffset,
+        6 => Refusal::NegativeOffset,
+        7 => Refusal::FallingOffsets,
         // 1. The library has no other codes.
-        _ => Err(Refusal::Range),
+        _ => Refusal::Range,
     }
 }

@@ -11,6 +11,7 @@ use crate::sys;
 ///
 /// [`Refusal::Range`] exactly where the bits are not inside or `at` is above `length`, else [`Refusal::Length`] exactly
 /// where `starts` and `lengths` have not equally many items.
+#[inline]
 pub fn runs(
     bits: Bits<'_>,
     length: usize,

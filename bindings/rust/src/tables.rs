@@ -24,6 +24,7 @@ pub const XOR: u16 = 0b0110;
 ///
 /// [`Refusal::Range`] exactly where `table` is above 3 or the bits are not inside, else [`Refusal::Length`] exactly
 /// where `out` has not [`crate::bytes_for`] that many bytes.
+#[inline]
 pub fn unary_table(input: Bits<'_>, length: usize, table: u16, out: &mut [u8]) -> Result<(), Refusal> {
     let Bits { bytes, offset } = input;
     // The slices are borrowed for the call, `out` alone, and it keeps none.
@@ -37,6 +38,7 @@ pub fn unary_table(input: Bits<'_>, length: usize, table: u16, out: &mut [u8]) -
 /// # Errors
 ///
 /// As [`unary_table`], but where `table` is above 15.
+#[inline]
 pub fn binary_table(
     first: Bits<'_>,
     second: Bits<'_>,
@@ -66,6 +68,7 @@ pub fn binary_table(
 /// # Errors
 ///
 /// As [`unary_table`], but where `table` is above 255.
+#[inline]
 pub fn ternary_table(
     first: Bits<'_>,
     second: Bits<'_>,
@@ -99,6 +102,7 @@ pub fn ternary_table(
 /// # Errors
 ///
 /// As [`unary_table`], but every table will do.
+#[inline]
 pub fn quaternary_table(
     first: Bits<'_>,
     second: Bits<'_>,
@@ -137,6 +141,7 @@ pub fn quaternary_table(
 ///
 /// [`Refusal::Range`] exactly where `table` is above 3, else [`Refusal::Length`] exactly where `bytes` has not
 /// [`crate::bytes_for`] that many bytes.
+#[inline]
 pub fn unary_assign_table(bytes: &mut [u8], length: usize, table: u16) -> Result<(), Refusal> {
     // The slice is borrowed for the call, alone, and it does not keep it.
     told(unsafe { sys::arrow2_unary_assign_table(bytes.as_mut_ptr(), bytes.len(), length, table) })
@@ -147,6 +152,7 @@ pub fn unary_assign_table(bytes: &mut [u8], length: usize, table: u16) -> Result
 /// # Errors
 ///
 /// As [`unary_assign_table`], but where `table` is above 15 or bits of `second` are not inside.
+#[inline]
 pub fn binary_assign_table(bytes: &mut [u8], second: Bits<'_>, length: usize, table: u16) -> Result<(), Refusal> {
     // The slices are borrowed for the call, `bytes` alone, and it keeps none.
     told(unsafe {
@@ -167,6 +173,7 @@ pub fn binary_assign_table(bytes: &mut [u8], second: Bits<'_>, length: usize, ta
 /// # Errors
 ///
 /// As [`unary_assign_table`], but where `table` is above 255 or bits of the others are not inside.
+#[inline]
 pub fn ternary_assign_table(
     bytes: &mut [u8],
     second: Bits<'_>,
@@ -196,6 +203,7 @@ pub fn ternary_assign_table(
 /// # Errors
 ///
 /// As [`unary_assign_table`], but every table will do, and where bits of the others are not inside.
+#[inline]
 pub fn quaternary_assign_table(
     bytes: &mut [u8],
     second: Bits<'_>,
