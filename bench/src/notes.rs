@@ -3,7 +3,7 @@
 /// A crate, how names of its lines begin, and why these lines are above 1. The first that fits counts.
 type Note = (&'static str, &'static str, &'static str);
 
-const NOTES: [Note; 41] = [
+const NOTES: [Note; 42] = [
     (
         "arrow2_chunk",
         "BitChunkOnes",
@@ -23,6 +23,7 @@ const NOTES: [Note; 41] = [
     ),
     ("arrow2_bits", "BitmapIter", SHIFTED),
     ("arrow2_bitmap", "new_zeroed", "zeros are asked of the allocator on both sides"),
+    ("arrow2_bitmap", "get", LAID),
     ("arrow2_bitmap", "try_from_iter of comparisons", LAID),
     ("arrow2_bitmap", "from_u8_slice", COPIED),
     ("arrow2_bitmap", "make_mut of a shared one", COPIED),
@@ -51,11 +52,11 @@ const NOTES: [Note; 41] = [
         "Pieces",
         "a new piece moves the later ones one by one, where Rust's `Vec` moves their memory at once",
     ),
-    ("arrow2_kernels", "!", LAID),
+    ("arrow2_kernels", "!", ONE_LOOP),
     ("arrow2_kernels", "and of 64 bits", LAID),
     ("arrow2_kernels", "unary_assign_table", AT_RUN_TIME),
     ("arrow2_kernels", "binary_assign_table", AT_RUN_TIME),
-    ("arrow2_kernels", "binary_assign of", "one loop over the bytes on both sides"),
+    ("arrow2_kernels", "binary_assign of", ONE_LOOP),
     (
         "arrow2_array",
         "and_kleene of 1,000 bits, validity on one side",
@@ -69,7 +70,7 @@ const NOTES: [Note; 41] = [
         "try_extend_from_lengths",
         "lengths are added up in 128 bits, so that the sum is exact",
     ),
-    ("arrow2_offset", "lengths", LAID),
+    ("arrow2_offset", "lengths", "one subtraction a length on both sides"),
     ("arrow2_offset", "widened", "zeros are written first, and the numbers over them"),
     ("arrow2_ffi", "get_bit", INLINED),
     ("arrow2_ffi", "set_bit", INLINED),
@@ -100,6 +101,8 @@ const NOTES: [Note; 41] = [
 ];
 
 const LAID: &str = "by where the linker lays the loop: in another order the line is below 1";
+
+const ONE_LOOP: &str = "one loop over the bytes on both sides";
 
 const COPIED: &str = "a copy of memory on both sides";
 
