@@ -261,7 +261,8 @@ fn same_items(items: BooleanIter<'_>, others: BooleanIter<'_>) -> bool
 
 /// Refuses a validity that has not as many items as there are values.
 fn check_lengths(values: &Bitmap, validity: &Bitmap) -> Result<()>
-    ensures accepted { IsOk result ↔ (length' (items_of validity.now) ≡ length' (items_of values.now)) }
+    ensures accepted { IsOk result ↔
+        (length' (items_of validity.now) ≡ length' (items_of values.now)) }
     ensures refused { IfErr result (λ e.
         IsInvalidArgument e
         (unequal_lengths (length' (items_of validity.now)) (length' (items_of values.now)))) }

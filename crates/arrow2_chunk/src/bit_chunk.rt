@@ -102,8 +102,8 @@ pub trait BitChunk: PrimInt + NativeType {
 
     /// The place of the lowest set bit, or `None` where no bit is set.
     fn first_one(self) -> Option<usize>
-        ensures { MatchOption result (ones (unnum WIDTH (number self)) ≡ [])
-            (λ i. ones (unnum WIDTH (number self)) ≡ i ∷ drop 1 (ones (unnum WIDTH (number self)))) };
+        ensures { MatchOption result (ones (unnum WIDTH (number self)) ≡ []) (λ i.
+            ones (unnum WIDTH (number self)) ≡ i ∷ drop 1 (ones (unnum WIDTH (number self)))) };
 
     /// The word without its lowest set bit, where it has one.
     fn without_first_one(self) -> Self
@@ -138,7 +138,7 @@ pub trait BitChunk: PrimInt + NativeType {
         ≡ natural_from Self.SIZE bytes };
 }
 
-#[tactic(auto, using(arrow2_model::proofs::Chunks::chunks, arrow2_model::proofs::Chunks::chunk_bytes, crate::proofs::Ones::set_bits, arrow2_model::proofs::Counts::counted_words, arrow2_model::proofs::Digits::u8_bytes))]
+#[tactic(auto, using(crate::proofs::WordFunctions::byte_functions))]
 impl BitChunk for u8 {
     ghost WIDTH = { 8 };
 
@@ -221,7 +221,7 @@ impl BitChunk for u8 {
     }
 }
 
-#[tactic(auto, using(arrow2_model::proofs::Chunks::chunks, arrow2_model::proofs::Chunks::chunk_bytes, crate::proofs::Ones::set_bits, arrow2_model::proofs::Counts::counted_words, arrow2_model::proofs::Digits::unsigned_bytes))]
+#[tactic(auto, using(crate::proofs::WordFunctions::word_functions))]
 impl BitChunk for u16 {
     ghost WIDTH = { 16 };
 
@@ -304,7 +304,7 @@ impl BitChunk for u16 {
     }
 }
 
-#[tactic(auto, using(arrow2_model::proofs::Chunks::chunks, arrow2_model::proofs::Chunks::chunk_bytes, crate::proofs::Ones::set_bits, arrow2_model::proofs::Counts::counted_words, arrow2_model::proofs::Digits::unsigned_bytes))]
+#[tactic(auto, using(crate::proofs::WordFunctions::word_functions))]
 impl BitChunk for u32 {
     ghost WIDTH = { 32 };
 
@@ -387,7 +387,7 @@ impl BitChunk for u32 {
     }
 }
 
-#[tactic(auto, using(arrow2_model::proofs::Chunks::chunks, arrow2_model::proofs::Chunks::chunk_bytes, crate::proofs::Ones::set_bits, arrow2_model::proofs::Counts::counted_words, arrow2_model::proofs::Digits::unsigned_bytes))]
+#[tactic(auto, using(crate::proofs::WordFunctions::word_functions))]
 impl BitChunk for u64 {
     ghost WIDTH = { 64 };
 

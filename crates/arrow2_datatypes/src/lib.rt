@@ -277,7 +277,8 @@ impl UnionMode {
 /// `OutOfMemory` alone, and only where the name is there.
 pub fn get_extension(metadata: &Metadata) -> Result<Option<(String, Option<String>)>>
     ensures ok { IfOk result (λ found. texts found ≡ extension metadata.now) }
-    ensures succeeds { get_by_text metadata.now (codes "ARROW:extension:name") ≡ None → IsOk result }
+    ensures succeeds { get_by_text metadata.now (codes "ARROW:extension:name") ≡ None →
+        IsOk result }
     ensures only { IfErr result (λ e. e ≡ Error.OutOfMemory) }
 {
     let Some(name) = metadata.get("ARROW:extension:name") else {

@@ -201,11 +201,10 @@ front_bits bytes front n m h e is =
     let shorter = take-take n (8 * m) (bits bytes) (omega (arith, e)) in
     ap (λ (b : List ℕ). take n (bits b)) is ∙ (ap (take n) (sym (take-bits bytes m (omega (arith, e)))) ∙ shorter)
 
--- ---- tables of which four bits are read
+-- ---- tables of which the lowest bits are read
 
-pub low_table : (t i : ℕ) → i < 4 → bit (t % 16) i ≡ bit t i
-low_table t i h = let e : t % 16 ≡ t % 2 ^ 4 = refl in
-    sym (get_or-unnum 4 (t % 16) i false h) ∙ (ap (λ (b : List Bool). get_or b i false) (ap (unnum 4) e ∙ unnum-mod 4 t) ∙ get_or-unnum 4 t i false h)
+low_table : (w t i : ℕ) → i < w → bit (t % 2 ^ w) i ≡ bit t i
+low_table w t i h = sym (get_or-unnum w (t % 2 ^ w) i false h) ∙ (ap (λ (b : List Bool). get_or b i false) (unnum-mod w t) ∙ get_or-unnum w t i false h)
 
 -- a table of two inputs is the one of its four lowest bits
 pub same_table : (t u : ℕ) (xs ys : List Bool) → t % 16 ≡ u → each u (xs ∷ ys ∷ []) ≡ each t (xs ∷ ys ∷ [])
@@ -214,10 +213,20 @@ same_table t u xs ys e =
     (λ k h. get_or-each u (xs ∷ ys ∷ []) k h ∙ (ap (λ z. answer z (get_or xs k false ∷ get_or ys k false ∷ [])) (sym e) ∙ same (get_or xs k false) (get_or ys k false)))
   where
     same : (a b : Bool) → answer (t % 16) (a ∷ b ∷ []) ≡ answer t (a ∷ b ∷ [])
-    same true true = low_table t 3 (omega arith)
-    same true false = low_table t 1 (omega arith)
-    same false true = low_table t 2 (omega arith)
-    same false false = low_table t 0 (omega arith)
+    same true true = low_table 4 t 3 (omega arith)
+    same true false = low_table 4 t 1 (omega arith)
+    same false true = low_table 4 t 2 (omega arith)
+    same false false = low_table 4 t 0 (omega arith)
+
+-- a table of one input is the one of its two lowest bits
+pub same_unary_table : (t u : ℕ) (xs : List Bool) → t % 4 ≡ u → each u (xs ∷ []) ≡ each t (xs ∷ [])
+same_unary_table t u xs e =
+    each_from t (xs ∷ []) (each u (xs ∷ [])) (length-each u (xs ∷ []))
+    (λ k h. get_or-each u (xs ∷ []) k h ∙ (ap (λ z. answer z (get_or xs k false ∷ [])) (sym e) ∙ same (get_or xs k false)))
+  where
+    same : (a : Bool) → answer (t % 4) (a ∷ []) ≡ answer t (a ∷ [])
+    same true = low_table 2 t 1 (omega arith)
+    same false = low_table 2 t 0 (omega arith)
 
 -- ---- answers that are appended
 

@@ -29,7 +29,7 @@ pub fn assign_unary(bytes: &mut [u8], length: usize, t: u8)
     ensures canonical { IsCanonical bytes.new length }
     ensures items { take length (bits bytes.new) ≡ each t (take length (bits bytes.old) ∷ []) }
 {
-    write_unary(bytes, t);
+    write_by_unary_table(bytes, t);
     clear_spare(bytes, length);
 }
 
@@ -56,6 +56,18 @@ pub(crate) fn write_by_table(bytes: &mut [u8], other: &[u8], t: u8)
         13 => write_binary(bytes, other, 13),
         14 => write_binary(bytes, other, 14),
         _ => write_binary(bytes, other, 15),
+    }
+}
+
+/// The same of a table of one input.
+fn write_by_unary_table(bytes: &mut [u8], t: u8)
+    ensures { bits bytes.new ≡ each t (bits bytes.old ∷ []) }
+{
+    match t % 4 {
+        0 => write_unary(bytes, 0),
+        1 => write_unary(bytes, 1),
+        2 => write_unary(bytes, 2),
+        _ => write_unary(bytes, 3),
     }
 }
 

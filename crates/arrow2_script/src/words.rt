@@ -29,7 +29,8 @@ fn has_leading_zero(word: &[u8]) -> bool
 fn digits_number(digits: &[u8]) -> Option<u64>
     ensures some { IfSome result (λ n. AllDigits 10 digits.now × (n ≡ digits_value 10 digits.now)) }
     ensures fits { IfSome result (λ n. n < 2 ^ 64) }
-    ensures none { IfNone result (¬ (AllDigits 10 digits.now × digits_value 10 digits.now < 2 ^ 64)) }
+    ensures none { IfNone result
+        (¬ (AllDigits 10 digits.now × digits_value 10 digits.now < 2 ^ 64)) }
 {
     let mut number = 0u64;
     for byte in digits {

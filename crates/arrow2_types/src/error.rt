@@ -55,16 +55,16 @@ impl Error {
 
     /// The same of the error that std has for bytes that are no text.
     pub fn from_utf8_error(alloc: Global, error: Utf8Error) -> Error
-        ensures { WrapsText result
-            (λ text. IfSome (⟦<Utf8Error as fmt::Display>⟧.output error) (λ printed. text ≡ printed)) }
+        ensures { WrapsText result (λ text.
+            IfSome (⟦<Utf8Error as fmt::Display>⟧.output error) (λ printed. text ≡ printed)) }
     {
         Error::from_external_error::<Utf8Error>(alloc, &error)
     }
 
     /// The same of the error that holds the bytes. They are dropped.
     pub fn from_string_utf8_error(alloc: Global, error: FromUtf8Error) -> Error
-        ensures { WrapsText result
-            (λ text. IfSome (⟦<FromUtf8Error as fmt::Display>⟧.output error) (λ printed. text ≡ printed)) }
+        ensures { WrapsText result (λ text.
+            IfSome (⟦<FromUtf8Error as fmt::Display>⟧.output error) (λ printed. text ≡ printed)) }
     {
         Error::from_external_error::<FromUtf8Error>(alloc, &error)
     }

@@ -29,7 +29,8 @@ fn set_all(items: &mut [u32], value: u32)
 
 /// What a caller of `change_slice` knows: every item after the change.
 fn overwrite(buffer: &mut Buffer<u32>, value: u32) -> bool
-    ensures set { OnTrue result (buffer_items buffer.new ≡ replicate (length (buffer_items buffer.old)) value) }
+    ensures set { OnTrue result
+        (buffer_items buffer.new ≡ replicate (length (buffer_items buffer.old)) value) }
     ensures same { OnFalse result (buffer.new ≡ buffer.old) }
 {
     buffer.change_slice(|items| set_all(items, value))

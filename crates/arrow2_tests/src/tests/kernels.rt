@@ -16,7 +16,8 @@ use std::process::Abort;
 
 /// A caller that knows what its function makes of each word knows the list.
 fn next_words(bitmap: &Bitmap) -> Result<Bitmap>
-    ensures { IfOk result (λ b. items_of b ≡ unary_kernel 64 (λ x. (x + 1) % 2 ^ 64) (items_of bitmap.now)) }
+    ensures { IfOk result (λ b.
+        items_of b ≡ unary_kernel 64 (λ x. (x + 1) % 2 ^ 64) (items_of bitmap.now)) }
 {
     unary(bitmap, |x| x.wrapping_add(1))
 }
@@ -32,7 +33,8 @@ fn only_left(lhs: &Bitmap, rhs: &Bitmap) -> Result<Bitmap>
 /// The same in place, at the width of a byte.
 fn sums_of_bytes(lhs: &mut MutableBitmap, rhs: &Bitmap)
     requires { count lhs.old.items ≡ count (items_of rhs.now) }
-    ensures { lhs.new.items ≡ binary_kernel 8 (λ x y. (x + y) % 2 ^ 8) lhs.old.items (items_of rhs.now) }
+    ensures { lhs.new.items
+        ≡ binary_kernel 8 (λ x y. (x + y) % 2 ^ 8) lhs.old.items (items_of rhs.now) }
 {
     binary_assign(lhs, rhs, |x: u8, y: u8| x.wrapping_add(y));
 }
