@@ -29,7 +29,7 @@ extern "C" {
 #define ARROW2_OK 0u
 /* A place or a range is not inside, or a table has bits past its last answer. */
 #define ARROW2_RANGE 1u
-/* A slice has not as many items as the call needs. */
+/* A slice has more or fewer items than the call needs. */
 #define ARROW2_LENGTH 2u
 /* A number is above the greatest offset. */
 #define ARROW2_OVERFLOW 3u
@@ -134,7 +134,7 @@ uint32_t arrow2_unpack(const uint8_t *bytes, size_t bytes_count, size_t offset, 
 
 /* Writes the runs of set bits among the `length` bits from bit `offset` on, from place `*at` of them on: each by its
  * first place, counted from bit `offset` on, and its length, as many as fit. Writes to `count` how many these are, and
- * to `at` where to go on. Begin with 0 in `at`; fewer than fit are the last ones.
+ * to `at` where to go on. Begin with 0 in `at`; fewer than fit are the last ones, and `at` is then `length`.
  * ARROW2_RANGE: the bits are not inside the bytes, or `*at` is above `length`. Else ARROW2_LENGTH: `starts` and
  * `lengths` have not equally many items. */
 uint32_t arrow2_runs(const uint8_t *bytes, size_t bytes_count, size_t offset, size_t length, size_t *at, size_t *starts,
@@ -142,7 +142,7 @@ uint32_t arrow2_runs(const uint8_t *bytes, size_t bytes_count, size_t offset, si
 
 /* Writes the places of set bits among the `length` bits from bit `offset` on, from place `*at` of them on, rising, each
  * counted from bit `offset` on, as many as fit. Writes to `count` how many these are, and to `at` where to go on. Begin
- * with 0 in `at`; fewer than fit are the last ones.
+ * with 0 in `at`; fewer than fit are the last ones, and `at` is then `length`.
  * ARROW2_RANGE: the bits are not inside the bytes, or `*at` is above `length`. */
 uint32_t arrow2_set_places(const uint8_t *bytes, size_t bytes_count, size_t offset, size_t length, size_t *at,
                            size_t *places, size_t places_count, size_t *count);

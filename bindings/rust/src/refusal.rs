@@ -7,7 +7,7 @@ use core::fmt;
 pub enum Refusal {
     /// A place or a range is not inside, or a table has bits past its last answer.
     Range,
-    /// A slice has not as many items as the call needs.
+    /// A slice has more or fewer items than the call needs.
     Length,
     /// A number is above the greatest offset.
     Overflow,

@@ -31,6 +31,7 @@ pub use Rattle.arrow2_offset.specs.Nested
 pub use Rattle.arrow2_datatypes.specs.Extensions
 pub use Rattle.arrow2_datatypes.specs.Kept
 pub use Rattle.arrow2_datatypes.specs.Types
+pub use Rattle.arrow2_bitmap.specs.Packed
 pub use Rattle.arrow2_walks.specs.Cuts
 pub use Rattle.arrow2_walks.specs.Places
 pub use Rattle.arrow2_walks.specs.Selected

@@ -52,7 +52,8 @@ impl BooleanArray {
     ///
     /// # Errors
     ///
-    /// `InvalidArgumentError` exactly if the lengths differ, or `OutOfMemory` there, where its text finds no memory.
+    /// `InvalidArgumentError` exactly if the lengths differ, or `OutOfMemory` there, where its text finds no memory. Both are
+    /// then dropped.
     pub fn try_new(values: Bitmap, validity: Option<Bitmap>) -> Result<BooleanArray>
         ensures ok { IfOk result (λ a. a ≡ array_items values validity) }
         ensures len { IfOk result (λ a. length' a ≡ length' (items_of values)) }

@@ -15,7 +15,7 @@ use arrow2_kernels::tables::binary_answers;
 use std::ops::{BitAnd, BitAndAssign, BitOr, BitOrAssign, BitXor, BitXorAssign, Not};
 
 /// Writes what `op` answers to each word of `T` in its place. In the last word false stands behind the items, and what
-/// `op` sets there is cleared. Takes no memory.
+/// `op` sets there is cleared. Takes no memory. Asks that `op` answers every word.
 ///
 /// Differs from arrow2: spare bits don't reach `op`, and are false afterwards.
 pub fn unary_assign<T: BitChunk, F: Fn(T) -> T>(bitmap: &mut MutableBitmap, op: F)
@@ -32,7 +32,8 @@ pub fn unary_assign<T: BitChunk, F: Fn(T) -> T>(bitmap: &mut MutableBitmap, op: 
 }
 
 /// Writes what `op` answers to each word of `T` and the word of `rhs` at its place. In the last words false stands
-/// behind the items, and what `op` sets there is cleared. Takes no memory. Asks that both have one length.
+/// behind the items, and what `op` sets there is cleared. Takes no memory. Asks that both have one length, and
+/// that `op` answers every two words.
 ///
 /// Differs from arrow2: spare bits don't reach `op`, and are false afterwards.
 pub fn binary_assign<T: BitChunk, F: Fn(T, T) -> T>(lhs: &mut MutableBitmap, rhs: &Bitmap, op: F)
@@ -85,7 +86,8 @@ pub fn binary_assign_by_table<T: BitChunk>(lhs: &mut MutableBitmap, rhs: &Bitmap
     }
 }
 
-/// Item by item, whether both are true. Takes no memory. Asks that both have one length.
+/// Item by item, whether both are true. Takes no memory. Asks that both have one length. In arrow2 it stands on
+/// `&mut MutableBitmap`.
 impl<'a> BitAndAssign<&'a Bitmap> for MutableBitmap {
     ghost can_bitand_assign = { λ m b. length m.items ≡ length (items_of b.now) };
 
@@ -113,7 +115,8 @@ impl<'a> BitAnd<&'a Bitmap> for MutableBitmap {
     }
 }
 
-/// Item by item, whether one is true, or both. Takes no memory. Asks that both have one length.
+/// Item by item, whether one is true, or both. Takes no memory. Asks that both have one length. In arrow2 it stands on
+/// `&mut MutableBitmap`.
 impl<'a> BitOrAssign<&'a Bitmap> for MutableBitmap {
     ghost can_bitor_assign = { λ m b. length m.items ≡ length (items_of b.now) };
 
@@ -141,7 +144,8 @@ impl<'a> BitOr<&'a Bitmap> for MutableBitmap {
     }
 }
 
-/// Item by item, whether one is true, and not both. Takes no memory. Asks that both have one length.
+/// Item by item, whether one is true, and not both. Takes no memory. Asks that both have one length. In arrow2 it stands on
+/// `&mut MutableBitmap`.
 impl<'a> BitXorAssign<&'a Bitmap> for MutableBitmap {
     ghost can_bitxor_assign = { λ m b. length m.items ≡ length (items_of b.now) };
 

@@ -1,10 +1,10 @@
 //! New bitmaps from functions of words, and the operators on shared bitmaps.
 ghost use Rattle.std.specs.Prelude.{◌≡◌, ℕ, List, Bool, [], ◌∷◌, length as length', replicate, IfOk, IfErr, IfSome, IsTrue, MatchResult, ◌⊎◌};
-ghost use Rattle.arrow2_model.specs.Canonical.{canonical_bytes};
 ghost use Rattle.arrow2_model.specs.Kernels.{kernel, unary_kernel, binary_kernel, IsUnary, IsBinary};
 ghost use Rattle.arrow2_model.specs.Storage.{items_of};
 ghost use Rattle.arrow2_model.specs.Tables.{each, ActsUnary, ActsBinary};
 ghost use Rattle.arrow2_types.specs.declared.error.Error.TheVariants.{OutOfMemory};
+ghost use Rattle.arrow2_bitmap.specs.Packed.{IsPacked};
 ghost use Rattle.arrow2_model.specs.Rows.{AreRowsOf, ActsOnRows, IsRowFunction};
 
 use crate::immutable::Bitmap;
@@ -21,7 +21,8 @@ use std::alloc::Global;
 use std::convert::TryFrom;
 use std::ops::{BitAnd, BitOr, BitXor, Not};
 
-/// The bitmap of what `op` answers to each row of words, for lists of `length` items.
+/// The bitmap of what `op` answers to each row of words, for lists of `length` items. Asks that all lists have so many, and
+/// that `op` answers every row.
 ///
 /// In arrow2 it has no name.
 ///
@@ -45,11 +46,7 @@ pub fn from_rows<S: WordRows<u64>, F: Fn(S::Row) -> u64>(
         ActsOnRows 64 S.words (λ x. x) (F.post op) t → AreRowsOf 64 lists (S.row_at rows) length →
         IfOk result (λ b. items_of b ≡ each t lists) }
     ensures len { IfOk result (λ b. length' (items_of b) ≡ length) }
-    ensures storage { IfOk result (λ b. b ≡ record {
-      bytes = canonical_bytes (items_of b);
-      offset = 0;
-      len = length;
-    }) }
+    ensures storage { IfOk result (λ b. IsPacked b) }
     ensures only { IfErr result (λ e. e ≡ Error.OutOfMemory) }
 {
     let bytes = map_rows(alloc, length, rows, op)?;
@@ -57,9 +54,10 @@ pub fn from_rows<S: WordRows<u64>, F: Fn(S::Row) -> u64>(
     Bitmap::from_u8_vec(bytes, length)
 }
 
-/// The bitmap of what `op` answers to each word of 64 items. In the last word false stands behind the items.
+/// The bitmap of what `op` answers to each word of 64 items. In the last word false stands behind the items. Asks that `op`
+/// answers every word.
 ///
-/// Differs from arrow2: spare bits don't reach `op`, nor does a word behind the last item.
+/// Differs from arrow2: spare bits don't reach `op`, nor does a word behind the last item. It answers no `Result`.
 ///
 /// # Errors
 ///
@@ -71,11 +69,7 @@ pub fn unary<F: Fn(u64) -> u64>(lhs: &Bitmap, op: F) -> Result<Bitmap>
     ensures table { (t : ℕ) → ActsUnary 64 (λ x. x) (F.post op) t →
         IfOk result (λ b. items_of b ≡ each t (items_of lhs.now ∷ [])) }
     ensures len { IfOk result (λ b. length' (items_of b) ≡ length' (items_of lhs.now)) }
-    ensures storage { IfOk result (λ b. b ≡ record {
-      bytes = canonical_bytes (items_of b);
-      offset = 0;
-      len = length' (items_of lhs.now);
-    }) }
+    ensures storage { IfOk result (λ b. IsPacked b) }
     ensures only { IfErr result (λ e. e ≡ Error.OutOfMemory) }
 {
     let alloc = lhs.allocator();
@@ -90,9 +84,9 @@ pub fn unary<F: Fn(u64) -> u64>(lhs: &Bitmap, op: F) -> Result<Bitmap>
 }
 
 /// The bitmap of what `op` answers to each two words of 64 items at one place. In the last words false stands behind
-/// the items. Asks that both have one length.
+/// the items. Asks that both have one length, and that `op` answers every two words.
 ///
-/// Differs from arrow2: spare bits don't reach `op`, nor do words behind the last item.
+/// Differs from arrow2: spare bits don't reach `op`, nor do words behind the last item. It answers no `Result`.
 ///
 /// # Errors
 ///
@@ -105,11 +99,7 @@ pub fn binary<F: Fn(u64, u64) -> u64>(lhs: &Bitmap, rhs: &Bitmap, op: F) -> Resu
     ensures table { (t : ℕ) → ActsBinary 64 (λ x. x) (F.post op) t →
         IfOk result (λ b. items_of b ≡ each t (items_of lhs.now ∷ items_of rhs.now ∷ [])) }
     ensures len { IfOk result (λ b. length' (items_of b) ≡ length' (items_of lhs.now)) }
-    ensures storage { IfOk result (λ b. b ≡ record {
-      bytes = canonical_bytes (items_of b);
-      offset = 0;
-      len = length' (items_of lhs.now);
-    }) }
+    ensures storage { IfOk result (λ b. IsPacked b) }
     ensures only { IfErr result (λ e. e ≡ Error.OutOfMemory) }
 {
     let left = OneList {
@@ -138,6 +128,7 @@ pub fn binary<F: Fn(u64, u64) -> u64>(lhs: &Bitmap, rhs: &Bitmap, op: F) -> Resu
 pub fn unary_by_table(lhs: &Bitmap, t: u8) -> Result<Bitmap>
     ensures items { IfOk result (λ b. items_of b ≡ each t (items_of lhs.now ∷ [])) }
     ensures len { IfOk result (λ b. length' (items_of b) ≡ length' (items_of lhs.now)) }
+    ensures storage { IfOk result (λ b. IsPacked b) }
     ensures only { IfErr result (λ e. e ≡ Error.OutOfMemory) }
 {
     let (bytes, offset, length) = lhs.as_slice();
@@ -164,6 +155,7 @@ pub fn binary_by_table(lhs: &Bitmap, rhs: &Bitmap, t: u8) -> Result<Bitmap>
     ensures items { IfOk result (λ b. items_of b
         ≡ each t (items_of lhs.now ∷ items_of rhs.now ∷ [])) }
     ensures len { IfOk result (λ b. length' (items_of b) ≡ length' (items_of lhs.now)) }
+    ensures storage { IfOk result (λ b. IsPacked b) }
     ensures only { IfErr result (λ e. e ≡ Error.OutOfMemory) }
 {
     let (left, left_offset, length) = lhs.as_slice();
@@ -177,7 +169,7 @@ pub fn binary_by_table(lhs: &Bitmap, rhs: &Bitmap, t: u8) -> Result<Bitmap>
     }
 }
 
-/// Item by item, whether both are true. Asks that both have one length.
+/// Item by item, whether both are true. Asks that both have one length. arrow2 answers no `Result`.
 ///
 /// # Errors
 ///
@@ -187,6 +179,7 @@ pub fn and(lhs: &Bitmap, rhs: &Bitmap) -> Result<Bitmap>
     ensures items { IfOk result (λ b. items_of b
         ≡ each 8 (items_of lhs.now ∷ items_of rhs.now ∷ [])) }
     ensures len { IfOk result (λ b. length' (items_of b) ≡ length' (items_of lhs.now)) }
+    ensures storage { IfOk result (λ b. IsPacked b) }
     ensures only { IfErr result (λ e. e ≡ Error.OutOfMemory) }
 {
     if one_is_all(lhs, rhs, false) {
@@ -196,7 +189,7 @@ pub fn and(lhs: &Bitmap, rhs: &Bitmap) -> Result<Bitmap>
     }
 }
 
-/// Item by item, whether one is true, or both. Asks that both have one length.
+/// Item by item, whether one is true, or both. Asks that both have one length. arrow2 answers no `Result`.
 ///
 /// # Errors
 ///
@@ -206,6 +199,7 @@ pub fn or(lhs: &Bitmap, rhs: &Bitmap) -> Result<Bitmap>
     ensures items { IfOk result (λ b. items_of b
         ≡ each 14 (items_of lhs.now ∷ items_of rhs.now ∷ [])) }
     ensures len { IfOk result (λ b. length' (items_of b) ≡ length' (items_of lhs.now)) }
+    ensures storage { IfOk result (λ b. IsPacked b) }
     ensures only { IfErr result (λ e. e ≡ Error.OutOfMemory) }
 {
     if one_is_all(lhs, rhs, true) {
@@ -215,7 +209,7 @@ pub fn or(lhs: &Bitmap, rhs: &Bitmap) -> Result<Bitmap>
     }
 }
 
-/// Item by item, whether one is true, and not both. Asks that both have one length.
+/// Item by item, whether one is true, and not both. Asks that both have one length. arrow2 answers no `Result`.
 ///
 /// # Errors
 ///
@@ -225,6 +219,7 @@ pub fn xor(lhs: &Bitmap, rhs: &Bitmap) -> Result<Bitmap>
     ensures items { IfOk result (λ b. items_of b
         ≡ each 6 (items_of lhs.now ∷ items_of rhs.now ∷ [])) }
     ensures len { IfOk result (λ b. length' (items_of b) ≡ length' (items_of lhs.now)) }
+    ensures storage { IfOk result (λ b. IsPacked b) }
     ensures only { IfErr result (λ e. e ≡ Error.OutOfMemory) }
 {
     let left = value_of_all(lhs);
@@ -235,54 +230,54 @@ pub fn xor(lhs: &Bitmap, rhs: &Bitmap) -> Result<Bitmap>
     }
 }
 
-/// [`and`], with its `Result`.
+/// [`and`], with its `Result`, where arrow2 has none.
 impl<'a, 'b> BitAnd<&'b Bitmap> for &'a Bitmap {
     type Output = Result<Bitmap>;
 
     ghost can_bitand = { λ a b. length' (items_of a.now) ≡ length' (items_of b.now) };
 
-    ghost bitand_gives = { λ a b r. MatchResult r (λ m. items_of m
-        ≡ each 8 (items_of a.now ∷ items_of b.now ∷ [])) (λ e. e ≡ OutOfMemory) };
+    ghost bitand_gives = { λ a b r. MatchResult r (λ m. IsPacked m × (items_of m
+        ≡ each 8 (items_of a.now ∷ items_of b.now ∷ []))) (λ e. e ≡ OutOfMemory) };
 
     fn bitand(self, rhs: &'b Bitmap) -> Result<Bitmap> {
         and(self, rhs)
     }
 }
 
-/// [`or`], with its `Result`.
+/// [`or`], with its `Result`, where arrow2 has none.
 impl<'a, 'b> BitOr<&'b Bitmap> for &'a Bitmap {
     type Output = Result<Bitmap>;
 
     ghost can_bitor = { λ a b. length' (items_of a.now) ≡ length' (items_of b.now) };
 
-    ghost bitor_gives = { λ a b r. MatchResult r (λ m. items_of m
-        ≡ each 14 (items_of a.now ∷ items_of b.now ∷ [])) (λ e. e ≡ OutOfMemory) };
+    ghost bitor_gives = { λ a b r. MatchResult r (λ m. IsPacked m × (items_of m
+        ≡ each 14 (items_of a.now ∷ items_of b.now ∷ []))) (λ e. e ≡ OutOfMemory) };
 
     fn bitor(self, rhs: &'b Bitmap) -> Result<Bitmap> {
         or(self, rhs)
     }
 }
 
-/// [`xor`], with its `Result`.
+/// [`xor`], with its `Result`, where arrow2 has none.
 impl<'a, 'b> BitXor<&'b Bitmap> for &'a Bitmap {
     type Output = Result<Bitmap>;
 
     ghost can_bitxor = { λ a b. length' (items_of a.now) ≡ length' (items_of b.now) };
 
-    ghost bitxor_gives = { λ a b r. MatchResult r (λ m. items_of m
-        ≡ each 6 (items_of a.now ∷ items_of b.now ∷ [])) (λ e. e ≡ OutOfMemory) };
+    ghost bitxor_gives = { λ a b r. MatchResult r (λ m. IsPacked m × (items_of m
+        ≡ each 6 (items_of a.now ∷ items_of b.now ∷ []))) (λ e. e ≡ OutOfMemory) };
 
     fn bitxor(self, rhs: &'b Bitmap) -> Result<Bitmap> {
         xor(self, rhs)
     }
 }
 
-/// Item by item, whether it is false.
+/// Item by item, whether it is false. arrow2 answers no `Result`.
 impl<'a> Not for &'a Bitmap {
     type Output = Result<Bitmap>;
 
-    ghost not_gives = { λ a r. MatchResult r (λ m. items_of m
-        ≡ each 1 (items_of a.now ∷ [])) (λ e. e ≡ OutOfMemory) };
+    ghost not_gives = { λ a r. MatchResult r (λ m. IsPacked m × (items_of m
+        ≡ each 1 (items_of a.now ∷ []))) (λ e. e ≡ OutOfMemory) };
 
     fn not(self) -> Result<Bitmap> {
         complement(self)
@@ -292,6 +287,7 @@ impl<'a> Not for &'a Bitmap {
 /// Item by item, whether it is false.
 fn complement(bitmap: &Bitmap) -> Result<Bitmap>
     ensures items { IfOk result (λ b. items_of b ≡ each 1 (items_of bitmap.now ∷ [])) }
+    ensures storage { IfOk result (λ b. IsPacked b) }
     ensures only { IfErr result (λ e. e ≡ Error.OutOfMemory) }
 {
     unary_by_table(bitmap, 0b01)
@@ -335,6 +331,7 @@ fn value_of_all(bitmap: &Bitmap) -> Option<bool>
 /// `length` items, all of them `value`.
 fn filled(alloc: Global, length: usize, value: bool) -> Result<Bitmap>
     ensures items { IfOk result (λ b. items_of b ≡ replicate length value) }
+    ensures storage { IfOk result (λ b. IsPacked b) }
     ensures only { IfErr result (λ e. e ≡ Error.OutOfMemory) }
 {
     if value {

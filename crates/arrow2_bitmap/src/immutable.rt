@@ -18,6 +18,7 @@ ghost use Rattle.arrow2_model.specs.Storage.{BitmapStorage, items_of};
 ghost use Rattle.arrow2_types.specs.Refusals.{IsInvalidArgument};
 ghost use Rattle.arrow2_types.specs.declared.error.Error.TheVariants.{OutOfMemory};
 ghost use Rattle.arrow2_bitmap.specs.Collected.{GivesTooMany};
+ghost use Rattle.arrow2_bitmap.specs.Packed.{IsPacked};
 ghost use Rattle.arrow2_bitmap.specs.Refused.{too_long};
 ghost use Rattle.std.specs.declared.alloc.Global.{Global};
 
@@ -38,7 +39,7 @@ use std::rc::Rc;
 use std::{fmt, mem};
 
 /// A bitmap over shared bytes: contracts see the bytes, the bit at which its items begin, and how
-/// many items it has. Slices and clones share the bytes.
+/// many items it has. Slices and clones share the bytes, all of them on one thread: by an `Rc`, where arrow2 has an `Arc`.
 #[derive(Drop)]
 pub struct Bitmap {
     bytes: Rc<Bytes<u8>>,
@@ -82,7 +83,7 @@ impl Bitmap {
     /// # Errors
     ///
     /// `InvalidArgumentError` exactly if `length` is above eight times the number of bytes, or
-    /// `OutOfMemory` there, where its text finds no memory; else `OutOfMemory` alone.
+    /// `OutOfMemory` there, where its text finds no memory; else `OutOfMemory` alone. After each the bytes are dropped.
     pub fn try_new(bytes: Vec<u8>, length: usize) -> Result<Bitmap>
         ensures accepted { OnOk result (length ≤ 8 * vec_len bytes) }
         ensures ok { IfOk result (λ b. b ≡ record {
@@ -101,11 +102,12 @@ impl Bitmap {
         Bitmap::from_u8_vec(bytes, length)
     }
 
-    /// The first `length` bits of the bytes, which it keeps, every one. Asks that there are as many.
+    /// The first `length` bits of the bytes, which it keeps, every one. Asks that there are as many; arrow2's page says the
+    /// contrary.
     ///
     /// # Errors
     ///
-    /// `OutOfMemory` alone.
+    /// `OutOfMemory` alone. The bytes are then dropped.
     pub fn from_u8_vec(bytes: Vec<u8>, length: usize) -> Result<Bitmap>
         requires inside { length ≤ 8 * vec_len bytes }
         ensures ok { IfOk result (λ b. b ≡ record {
@@ -145,7 +147,8 @@ impl Bitmap {
         })
     }
 
-    /// The first `length` bits of a copy of the bytes, every one. Asks that there are as many.
+    /// The first `length` bits of a copy of the bytes, every one. Asks that there are as many; arrow2's page says the
+    /// contrary.
     ///
     /// # Errors
     ///
@@ -207,11 +210,7 @@ impl Bitmap {
             I.IntoIter.can_next it × IsFinite (I.IntoIter.remaining it) }
         ensures items { IfOk result (λ b. (it : I.IntoIter) × I.into_iter_gives iter it
             × WholeRun I.IntoIter.next_gives it (λ p. items_of b ≡ p.items)) }
-        ensures storage { IfOk result (λ b. b ≡ record {
-          bytes = canonical_bytes (items_of b);
-          offset = 0;
-          len = length (items_of b);
-        }) }
+        ensures storage { IfOk result (λ b. IsPacked b) }
         ensures fits { IfOk result (λ b. length (items_of b) < 2 ^ 64) }
         ensures overflow { IsErrOf result Error.Overflow →
             (it : I.IntoIter) × I.into_iter_gives iter it × GivesTooMany I.IntoIter.next_gives it }
@@ -280,6 +279,7 @@ impl Bitmap {
         ensures offset { result.1 ≡ self.now.offset % 8 }
         ensures len { result.2 ≡ self.now.len }
         ensures inside { result.1 + result.2 ≤ 8 * length' result.0.now }
+        ensures fits { result.1 + result.2 < 2 ^ 64 }
         ensures items { part (bits result.0.now) result.1 result.2 ≡ items_of self.now }
     {
         let start = self.offset / 8;
@@ -317,7 +317,7 @@ impl Bitmap {
     }
 
     /// How many of the `length` items from item `offset` on are false. Asks that they are inside.
-    /// Counts them anew.
+    /// Counts them anew. arrow2 counts past its end, up to the bytes.
     pub fn null_count_range(&self, offset: usize, length: usize) -> usize
         requires inside { offset + length ≤ length' (items_of self.now) }
         ensures { result ≡ falses (part (items_of self.now) offset length) }
@@ -397,6 +397,7 @@ impl Bitmap {
         ensures offset { result.1 ≡ self.offset }
         ensures len { result.2 ≡ self.len }
         ensures inside { result.1 + result.2 ≤ 8 * length' result.0.value }
+        ensures fits { result.1 + result.2 < 2 ^ 64 }
         ensures unset_bits { result.3 ≡ falses (items_of self) }
     {
         (self.bytes, self.offset, self.length, self.unset_bits)
@@ -428,11 +429,11 @@ impl Bitmap {
         }
     }
 
-    /// The bitmap to be changed: in place where [`Bitmap::into_mut`] can, else a copy.
+    /// The bitmap to be changed: in place where [`Bitmap::into_mut`] can, else a copy. arrow2 answers no `Result`.
     ///
     /// # Errors
     ///
-    /// `OutOfMemory` alone.
+    /// `OutOfMemory` alone. The bitmap is then dropped.
     pub fn make_mut(self) -> Result<MutableBitmap>
         ensures ok { IfOk result (λ m. m.items ≡ items_of self) }
         ensures only { IfErr result (λ e. e ≡ Error.OutOfMemory) }
@@ -472,7 +473,7 @@ fn copy_items(bitmap: &Bitmap) -> Result<MutableBitmap>
     ensures ok { IfOk result (λ m. m.items ≡ items_of bitmap.now) }
     ensures only { IfErr result (λ e. e ≡ Error.OutOfMemory) }
 {
-    let mut bytes = bitmap.bytes.empty_vec();
+    let mut bytes = Vec::new(bitmap.allocator());
     bytes.reserve_exact(bytes_for(bitmap.len()) + u64::SIZE)?;
     let mut chunks = bitmap.chunks::<u64>();
     while let Some(word) = chunks.next() {
@@ -533,7 +534,7 @@ impl Clone for Bitmap {
     }
 }
 
-/// Keeps the bytes. Refused by `OutOfMemory` alone; arrow2 has `From`, and aborts.
+/// Keeps the bytes. Refused by `OutOfMemory` alone, and the items are then dropped; arrow2 has `From`, and aborts.
 impl TryFrom<MutableBitmap> for Bitmap {
     type Error = Error;
 

@@ -1,5 +1,5 @@
 //! A bitmap that grows.
-ghost use Rattle.std.specs.Prelude.{◌≡◌, ◌+◌, ◌*◌, ◌/◌, ◌<◌, ◌≤◌, ◌^◌, ◌↔◌, ◌⊎◌, [], ◌∷◌, ◌++◌, false, length, length as length', take, slice_index_or, slice_set, OnOk, IsOk, IfOk, IfErr, IsErrOf, IsTrue, IfNone, IfSome, IsNone, MatchOption, Some, codes, vec_len, List, Bool, ℕ, true, replicate};
+ghost use Rattle.std.specs.Prelude.{◌≡◌, ◌+◌, ◌*◌, ◌/◌, ◌<◌, ◌≤◌, ◌^◌, ◌↔◌, ◌⊎◌, [], ◌∷◌, ◌++◌, false, length, length as length', take, slice_index_or, slice_set, OnOk, IsOk, IfOk, IfErr, IsErrOf, IsTrue, IfNone, IfSome, IsNone, MatchOption, Some, codes, vec_len, vec_capacity, min, List, Bool, ℕ, true, replicate};
 ghost use Rattle.std.specs.Iterator.{IsFinite};
 ghost use Rattle.std.specs.Iterator.Runs.{WholeRun};
 ghost use Rattle.std.specs.Bool.{beq};
@@ -61,16 +61,19 @@ impl MutableBitmap {
         }
     }
 
-    /// The first `length` bits of the bytes. Spare bytes are cut and spare bits cleared, in place.
+    /// The first `length` bits of the bytes. Spare bytes are cut and spare bits cleared, in place, and the room of the
+    /// vector stays. Takes no memory where there are as many bits. In arrow2 spare bytes stay, and `push` writes behind
+    /// them.
     ///
     /// # Errors
     ///
     /// `InvalidArgumentError` exactly if `length` is above eight times the number of bytes, or
-    /// `OutOfMemory` there, where its text finds no memory.
+    /// `OutOfMemory` there, where its text finds no memory. The bytes are then dropped.
     pub fn try_new(bytes: Vec<u8>, length: usize) -> Result<MutableBitmap>
         ensures accepted { IsOk result ↔ (length ≤ 8 * vec_len bytes) }
         ensures ok { IfOk result (λ m. m.items ≡ take length (bits bytes.items)) }
         ensures len { IfOk result (λ m. length' m.items ≡ length) }
+        ensures capacity { IfOk result (λ m. m.capacity ≡ min (8 * vec_capacity bytes) (2 ^ 64 - 1)) }
         ensures refused { IfErr result (λ e.
             IsInvalidArgument e (too_long (codes "The length") length (vec_len bytes))) }
     {
@@ -79,11 +82,13 @@ impl MutableBitmap {
     }
 
     /// The first `length` bits of the bytes. Asks that there are as many.
-    /// Spare bytes are cut and spare bits cleared, in place. Takes no memory.
+    /// Spare bytes are cut and spare bits cleared, in place, and the room of the vector stays. Takes no memory.
+    /// In arrow2 spare bytes stay, and `push` writes behind them.
     pub fn from_vec(bytes: Vec<u8>, length: usize) -> MutableBitmap
         requires inside { length ≤ 8 * vec_len bytes }
         ensures items { result.items ≡ take length (bits bytes.items) }
         ensures len { length' result.items ≡ length }
+        ensures capacity { result.capacity ≡ min (8 * vec_capacity bytes) (2 ^ 64 - 1) }
     {
         prove!(bytes_for(length) <= bytes.len());
         MutableBitmap {
@@ -169,7 +174,8 @@ impl MutableBitmap {
         Ok(MutableBitmap::from_vec(packed(alloc, items)?, items.len()))
     }
 
-    /// Adds one item at the end. Below the capacity it takes no memory.
+    /// Adds one item at the end. Below the capacity it takes no memory. arrow2 answers no `Result`, and its length may
+    /// wrap.
     ///
     /// # Errors
     ///
@@ -183,7 +189,7 @@ impl MutableBitmap {
     }
 
     /// Appends `value` `additional` times. Within the capacity it takes no memory, else it asks for it once, before it
-    /// writes.
+    /// writes. arrow2 answers no `Result`.
     ///
     /// # Errors
     ///
@@ -197,7 +203,8 @@ impl MutableBitmap {
     }
 
     /// Appends the `length` bits from bit `offset` of `slice` on, by words of 64 bits. Asks that they are inside.
-    /// Within the capacity it takes no memory, else it asks for it once, before it writes.
+    /// Within the capacity it takes no memory, else it asks for it once, before it writes. arrow2 answers no `Result`, and
+    /// copies the spare bits of the last byte.
     ///
     /// # Errors
     ///
@@ -212,7 +219,7 @@ impl MutableBitmap {
     }
 
     /// Appends the items of a bitmap, as [`MutableBitmap::extend_from_slice`] does. Within the capacity it takes no memory,
-    /// else it asks for it once, before it writes.
+    /// else it asks for it once, before it writes. arrow2 answers no `Result`.
     ///
     /// # Errors
     ///
@@ -225,14 +232,16 @@ impl MutableBitmap {
         self.extend_from_slice(slice, offset, bitmap.len())
     }
 
-    /// Makes room for `additional` items more.
+    /// Makes room for `additional` items more. Within the capacity it takes no memory. arrow2 answers no `Result`.
     ///
     /// # Errors
     ///
     /// `Overflow` exactly where the length and `additional` pass `usize::MAX` together, else `OutOfMemory` alone.
+    /// After both the bitmap holds the items that it held.
     pub fn reserve(&mut self, additional: usize) -> Result<()>
         ensures items { self.new.items ≡ self.old.items }
         ensures ok { OnOk result (length self.old.items + additional ≤ self.new.capacity) }
+        ensures held { length self.old.items ≤ self.old.capacity }
         ensures overflow { IsErrOf result Error.Overflow ↔
             (2 ^ 64 ≤ length self.old.items + additional) }
         ensures only { IfErr result (λ e. (e ≡ Error.Overflow) ⊎ (e ≡ Error.OutOfMemory)) }
@@ -243,7 +252,7 @@ impl MutableBitmap {
         Ok(())
     }
 
-    /// Gives back room that is not used, where the allocator takes it.
+    /// Gives back room that is not used, where the allocator takes it. arrow2 answers no `Result`.
     ///
     /// It is never refused: where a smaller block finds no memory, the items stay where they are.
     pub fn shrink_to_fit(&mut self) -> Result<()>
@@ -261,7 +270,7 @@ impl MutableBitmap {
     ///
     /// # Errors
     ///
-    /// `OutOfMemory` alone, and only where an item is false.
+    /// `OutOfMemory` alone, and only where an item is false. The items are then dropped.
     pub fn into_validity(self) -> Result<Option<Bitmap>>
         ensures none { IfOk result (λ validity. IsNone validity ↔ (falses self.items ≡ 0)) }
         ensures items { IfOk result (λ validity. IfSome validity (λ b. items_of b ≡ self.items)) }
@@ -292,7 +301,7 @@ impl MutableBitmap {
         self.bits.pop()
     }
 
-    /// Item `index`. Asks that it is below the length.
+    /// Item `index`. Asks that it is below the length; arrow2 takes each index inside the bytes.
     pub fn get(&self, index: usize) -> bool
         requires below { index < length self.now.items }
         ensures { result ≡ slice_index_or self.now.items index false }
@@ -301,7 +310,8 @@ impl MutableBitmap {
         get_bit(self.as_slice(), index)
     }
 
-    /// Writes item `index`, and leaves every other. Asks that it is below the length.
+    /// Writes item `index`, and leaves every other. Asks that it is below the length; arrow2 takes each index inside the
+    /// bytes.
     pub fn set(&mut self, index: usize, value: bool)
         requires below { index < length self.old.items }
         ensures items { self.new.items ≡ slice_set self.old.items index value }
@@ -327,9 +337,10 @@ impl MutableBitmap {
         BitmapIter::within(self.as_slice(), 0, self.len())
     }
 
-    /// How many items it can hold before it asks for memory, at most `usize::MAX`.
+    /// How many items it can hold before it asks for memory, at most `usize::MAX`, where arrow2's may wrap.
     pub fn capacity(&self) -> usize
-        ensures { result ≡ self.now.capacity }
+        ensures capacity { result ≡ self.now.capacity }
+        ensures held { length self.now.items ≤ result }
     {
         self.bits.capacity()
     }

@@ -19,8 +19,9 @@ pub trait BitChunkIterExact<B: BitChunk>: Iterator<Item = B> {
     // The items still to come, those of the remainder included, and the word of the remainder.
     ghost walk: { Self → WordWalk };
 
-    /// The word in which the remainder stands in storage. Bits behind the remainder are what stands
-    /// behind it there, so mask it to [`BitChunkIterExact::remainder_len`] bits.
+    /// The word in which the remainder stands. Behind it come other bits: the spare ones of the byte that holds the last
+    /// item, or all that are stored there where a [`BitChunks`] has no full word. So mask it to
+    /// [`BitChunkIterExact::remainder_len`] bits.
     fn remainder(&self) -> B
         ensures spill { B.BitChunk.number result ≡ (walk self.now).spill }
         ensures rest { take (length (rest B.BitChunk.WIDTH (walk self.now).items))
@@ -109,8 +110,8 @@ impl<'a, T: BitChunk> BitChunks<'a, T> {
         self.count
     }
 
-    /// The word in which the remainder stands in storage. Bits behind the remainder are what stands
-    /// behind it there, so mask it to [`BitChunks::remainder_len`] bits.
+    /// The word in which the remainder stands. Behind it come other bits: the spare ones of the byte that holds the last
+    /// item, or all that are stored there where there is no full word. So mask it to [`BitChunks::remainder_len`] bits.
     pub fn remainder(&self) -> T
         ensures spill { T.BitChunk.number result ≡ self.now.spill }
         ensures rest { take (length (rest T.BitChunk.WIDTH self.now.items))

@@ -53,8 +53,10 @@ impl<'a, T: BitChunk> BitChunksExact<'a, T> {
         BitChunksExact::len(self) == 0
     }
 
-    /// The word in which the remainder stands in storage. Bits behind the remainder are what stands
-    /// behind it there, so mask it to [`BitChunkIterExact::remainder_len`] bits.
+    /// The word in which the remainder stands. Behind it come the spare bits of the byte that holds the last item, and
+    /// then false, so mask it to [`BitChunkIterExact::remainder_len`] bits.
+    ///
+    /// arrow2's page says that it is 0 exactly where the items fill whole words; it may be 0 elsewhere too.
     pub fn remainder(&self) -> T
         ensures spill { T.BitChunk.number result ≡ self.now.spill }
         ensures rest { take (length' (rest T.BitChunk.WIDTH self.now.items))

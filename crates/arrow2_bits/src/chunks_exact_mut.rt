@@ -2,7 +2,7 @@
 ghost use Rattle.std.specs.Prelude.{◌≡◌, ℕ, ◌+◌, ◌-◌, ◌*◌, ◌/◌, ◌<◌, ◌≤◌, ◌↔◌, List, length as length', take, Some, IfSome, IsTrue, MatchOption};
 ghost use Rattle.std.specs.Bool.{OnTrue, OnFalse};
 ghost use Rattle.std.specs.Borrow.{sem};
-ghost use Rattle.std.specs.Fn.{FnOnceReturnsAtMut};
+ghost use Rattle.std.specs.Fn.{FnOnceReturnsAtMut, FnOnceTakesAtMut};
 ghost use Rattle.std.specs.Iterator.{at_most, UpTo};
 ghost use Rattle.std.specs.Iterator.SizeHint.{IsWithinCount};
 ghost use Rattle.arrow2_model.specs.Parts.{part};
@@ -46,7 +46,7 @@ impl<'a, T> Model for BitChunksExactMut<'a, T> {
 }
 
 impl<'a, T: BitChunk> BitChunksExactMut<'a, T> {
-    /// The walk over the first `length` bits. Asks that they are inside the bytes.
+    /// The walk over the first `length` bits. Asks that they are inside the bytes, where arrow2 panics.
     pub fn new(bytes: &'a mut [u8], length: usize) -> BitChunksExactMut<'a, T>
         requires { length ≤ 8 * length' bytes.old }
         ensures bytes { result.bytes ≡ take
@@ -80,6 +80,9 @@ impl<'a, T> BitChunksExactMut<'a, T> {
     /// The next chunk, to be written, or `None` where none is left. Afterwards the walk stands behind the
     /// chunk and holds what was written there, and every other byte is as it was.
     ///
+    /// A caller that is proved uses [`BitChunksExactMut::change_next`], since it learns nothing of a loan inside an
+    /// `Option`.
+    ///
     /// arrow2 has the iterator alone.
     pub fn next_chunk(&mut self) -> Option<&mut [u8]>
         ensures* writes_back { sem 𝓛 (LendsNextIf T.row self.entry result) }
@@ -94,11 +97,13 @@ impl<'a, T> BitChunksExactMut<'a, T> {
     }
 
     /// Changes the next chunk in place by `change`, and answers whether there was one. Afterwards the walk
-    /// stands behind the chunk, and every other byte is as it was.
+    /// stands behind the chunk, and every other byte is as it was. Asks that `change` may be called on the chunk, where
+    /// there is one.
     ///
     /// arrow2 has the iterator alone.
     pub fn change_next<F: FnOnce(&mut [u8])>(&mut self, change: F) -> bool
-        requires { F.IsAlwaysCallable change }
+        requires { 0 < chunks_left self.old →
+            FnOnceTakesAtMut F.FnOnce change (next_chunk self.old) }
         ensures any { IsTrue result ↔ (0 < chunks_left self.old) }
         ensures written { OnTrue result ((written : List ℕ)
             × FnOnceReturnsAtMut F.FnOnce change (next_chunk self.old) tt written
@@ -122,7 +127,7 @@ impl<'a, T> BitChunksExactMut<'a, T> {
         &mut *self.remainder
     }
 
-    /// How many bits the remainder has: fewer than a chunk.
+    /// How many bits the remainder has: fewer than a chunk. arrow2 takes `&mut self`.
     pub fn remainder_len(&self) -> usize
         ensures bits { result ≡ self.now.remainder_len }
         ensures short { result < 8 * self.now.size }

@@ -11,7 +11,7 @@ use arrow2_chunk::bit_chunk::BitChunk;
 use std::simd::prelude::*;
 
 /// How many of the `len` bits from bit `offset` on are not set.
-/// Asks that they are inside the bytes, or that `len` is 0.
+/// Asks that they are inside the bytes, or that `len` is 0; arrow2's page refuses what ends with the bytes.
 pub fn count_zeros(bytes: &[u8], offset: usize, len: usize) -> usize
     requires { 0 < len → offset + len ≤ 8 * length bytes.now }
     ensures { result ≡ falses (part (bits bytes.now) offset len) }

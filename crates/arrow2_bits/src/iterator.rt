@@ -10,6 +10,8 @@ use std::alloc::AllocError;
 use std::marker::Model;
 
 /// A walk over bits: contracts see it as the list of the items still to come.
+///
+/// Its `nth` is the standard library's over `next`, and goes to the end; arrow2's adds to the place without a test.
 #[derive(Debug, Drop)]
 pub struct BitmapIter<'a> {
     bytes: &'a [u8],

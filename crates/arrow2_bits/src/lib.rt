@@ -71,20 +71,8 @@ pub fn set_bit(bytes: &mut [u8], i: usize, value: bool)
     bytes[i / 8] = set(bytes[i / 8], i % 8, value);
 }
 
-/// Clears bit `i` of the bytes, leaves every other bit as it was, and gives back what the bit was.
-/// Asks that `i` is below eight times their number. The bit is read as it is written, by the table.
-pub fn take_bit(bytes: &mut [u8], i: usize) -> bool
-    requires { i < 8 * length bytes.old }
-    ensures item { result ≡ slice_index_or (bits bytes.old) i false }
-    ensures cleared { bits bytes.new ≡ slice_set (bits bytes.old) i false }
-{
-    let byte = bytes[i / 8];
-    bytes[i / 8] = set(byte, i % 8, false);
-    byte & BITS[i % 8] != 0
-}
-
 /// How many bytes hold so many bits: an eighth, rounded up.
-/// Exact for every number of bits; arrow2's answer for `usize::MAX` is one short.
+/// Exact for every number of bits; arrow2's answer is one short for the seven greatest, from `usize::MAX - 6` on.
 pub fn bytes_for(bits: usize) -> usize
     ensures { result ≡ (bits + 7) / 8 }
 {

@@ -52,16 +52,9 @@ impl<T> Bytes<T> {
         items
     }
 
-    /// An empty vector on the allocator of its own. Takes no memory.
+    /// The allocator of its own.
     ///
     /// arrow2 has no such call: its allocator has no value.
-    pub fn empty_vec(&self) -> Vec<T>
-        ensures { result.items ≡ [] }
-    {
-        Vec::new(*self.items.allocator())
-    }
-
-    /// The allocator of its own.
     pub fn allocator(&self) -> Global
         ensures { (only : Global) → result ≡ only }
     {

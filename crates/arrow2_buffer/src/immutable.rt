@@ -3,7 +3,7 @@ ghost use Rattle.std.specs.Prelude.{◌≡◌, ◌≢◌, ◌+◌, ◌-◌, ◌^
 ghost use Rattle.std.specs.Bool.{OnTrue, OnFalse};
 ghost use Rattle.std.specs.Borrow.{sem};
 ghost use Rattle.std.specs.Fmt.{debug_list};
-ghost use Rattle.std.specs.Fn.{FnOnceReturnsAtMut};
+ghost use Rattle.std.specs.Fn.{FnOnceReturnsAtMut, FnOnceTakesAtMut};
 ghost use Rattle.std.specs.Iterator.{IsFinite};
 ghost use Rattle.std.specs.Iterator.Runs.{WholeRun};
 ghost use Rattle.std.specs.Ordering.{on};
@@ -117,7 +117,7 @@ impl<T> Buffer<T> {
 
     /// Keeps `length` items from item `offset` on, over the same storage. Takes no memory.
     ///
-    /// Asks that `offset + length` is at most [`Buffer::len`].
+    /// Asks that `offset + length` is at most [`Buffer::len`]; arrow2's page speaks of the offset alone.
     pub fn slice(&mut self, offset: usize, length: usize)
         requires inside { offset + length ≤ length' (buffer_items self.old) }
         ensures items { buffer_items self.new ≡ part (buffer_items self.old) offset length }
@@ -161,11 +161,11 @@ impl<T> Buffer<T> {
     }
 
     /// Changes the items in place by `change` where no one else shares the storage, and answers
-    /// whether it did. Takes no memory.
+    /// whether it did. Takes no memory. Asks that `change` may be called on the items.
     ///
     /// arrow2 has [`Buffer::get_mut_slice`] alone.
     pub fn change_slice<F: FnOnce(&mut [T])>(&mut self, change: F) -> bool
-        requires { F.IsAlwaysCallable change }
+        requires { FnOnceTakesAtMut F.FnOnce change (buffer_items self.old) }
         ensures changed { OnTrue result (FnOnceReturnsAtMut F.FnOnce change (buffer_items self.old)
             tt (buffer_items self.new)) }
         ensures others { OnTrue result (self.new
@@ -237,7 +237,8 @@ fn change_unshared<T, F: FnOnce(&mut [T])>(
 ) -> bool
     requires order { start ≤ end }
     requires within { end ≤ length shared.old.value }
-    requires callable { F.IsAlwaysCallable change }
+    requires callable { FnOnceTakesAtMut F.FnOnce change
+        (part shared.old.value start (end - start)) }
     ensures written { OnTrue result ((changed : List T)
         × FnOnceReturnsAtMut F.FnOnce change (part shared.old.value start (end - start)) tt changed
         × (length changed ≡ end - start)

@@ -1,12 +1,16 @@
 -- Which fields of a schema are kept.
-use Rattle.std.specs.Prelude.{◌≡◌, ℕ, List, Bool, map, filter}
+use Rattle.std.specs.Prelude.{◌≡◌, ◌<◌, ℕ, List, Bool, length, map, filter, slice_index_or}
 use Rattle.std.specs.List.{enumerate_from}
 use denote.Ref.{Bor}
 use Rattle.arrow2_datatypes.specs.declared.field.Field.{Field}
 
--- whatever is answered at a place and a field is what accepts says of them
-abbrev pub AnswersAs : (ℕ → Bor Field → Bool → Type 0) → (ℕ → Field → Bool) → Type 0
-AnswersAs answers accepts = (index : ℕ) (field : Bor Field) (answer : Bool) → answers index field answer → answer ≡ accepts index field.now
+-- a predicate may be asked at each place of a list and the field there
+abbrev pub MayBeAsked : (ℕ → Bor Field → Type 0) → List Field → Type 0
+MayBeAsked may fields = (index : ℕ) (field : Bor Field) → index < length fields → slice_index_or fields index field.now ≡ field.now → may index field
+
+-- whatever is answered at one of the first n places and a field is what accepts says of them
+abbrev pub AnswersAs : ℕ → (ℕ → Bor Field → Bool → Type 0) → (ℕ → Field → Bool) → Type 0
+AnswersAs n answers accepts = (index : ℕ) (field : Bor Field) (answer : Bool) → index < n → answers index field answer → answer ≡ accepts index field.now
 
 -- the items that are accepted, each by its place in the list and by itself, in order
 abbrev pub accepted : {X : Type 0} → (ℕ → X → Bool) → List X → List X

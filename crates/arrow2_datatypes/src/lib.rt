@@ -21,7 +21,7 @@ use std::rc::Rc;
 /// What a field or a schema is annotated with: texts under names.
 pub type Metadata = BTreeMap<String, String>;
 
-/// A schema that several own.
+/// A schema that several own, all of them on one thread: an `Rc`, where arrow2 has an `Arc`.
 pub type SchemaRef = Rc<Schema>;
 
 /// A logical type: what the values of an array mean. Each has one [`PhysicalType`], which says how they are laid

@@ -1,8 +1,8 @@
 //! What the columns of a table are.
-ghost use Rattle.std.specs.Prelude.{◌≡◌, ℕ, Bool};
+ghost use Rattle.std.specs.Prelude.{◌≡◌, ℕ, Bool, length};
 ghost use Rattle.std.specs.BTreeMap.{IsEmpty};
 ghost use Rattle.arrow2_datatypes.specs.declared.field.Field.{Field};
-ghost use Rattle.arrow2_datatypes.specs.Kept.{AnswersAs, accepted};
+ghost use Rattle.arrow2_datatypes.specs.Kept.{AnswersAs, MayBeAsked, accepted};
 
 use crate::{Field, Metadata};
 use std::alloc::Global;
@@ -43,10 +43,11 @@ impl Schema {
     }
 
     /// The schema of the fields that the predicate accepts, each by its place among all of them and by itself, in order.
-    /// The metadata stays. Takes no memory. Asks that the predicate may be called.
+    /// The metadata stays. Takes no memory. Asks that the predicate may be called at each place and the field there.
     pub fn filter<F: Fn(usize, &Field) -> bool>(self, predicate: F) -> Schema
-        requires { F.IsAlwaysCallable predicate }
-        ensures fields { (accepts : ℕ → Field → Bool) → AnswersAs (F.post predicate) accepts →
+        requires { MayBeAsked (F.pre predicate) self.fields.items }
+        ensures fields { (accepts : ℕ → Field → Bool) →
+            AnswersAs (length self.fields.items) (F.post predicate) accepts →
             result.fields.items ≡ accepted accepts self.fields.items }
         ensures metadata { result.metadata ≡ self.metadata }
     {

@@ -111,11 +111,11 @@ behind p a zero x front others e =
 behind p a (suc m) x front others e = behind_test p a m x front others (p a) refl (λ f h. behind p (a + 1) m x f others h) e
 
 -- those from a place on begin with it
-pub from_place : (items : List Bool) (at x : ℕ) (front others : List ℕ) → at ≤ length items → ones_from items at ≡ front ++ x ∷ others → (x < length items) × (ones_from items x ≡ x ∷ others)
+pub from_place : (items : List Bool) (at x : ℕ) (front others : List ℕ) → at ≤ length items → ones_from items at ≡ front ++ x ∷ others → (at ≤ x) × (x < length items) × (ones_from items x ≡ x ∷ others)
 from_place items at x front others within e =
     let b = behind (λ k. get_or items k false) at (length items - at) x front others (sym (ones_among items at) ∙ e) in
     let n : at + (length items - at) - x ≡ length items - x = omega arith in
-    (omega (arith, b.below), ones_among items x ∙ subst (λ m. set_among items x m ≡ x ∷ others) n b.rest)
+    (b.from, omega (arith, b.below), ones_among items x ∙ subst (λ m. set_among items x m ≡ x ∷ others) n b.rest)
 
 -- no place is left at the end
 pub none_from : (items : List Bool) (at : ℕ) → length items ≡ at → ones_from items at ≡ []

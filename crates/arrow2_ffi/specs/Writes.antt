@@ -9,7 +9,7 @@ use Rattle.arrow2_ffi.specs.declared.codes.TheConstants.{ARROW2_OK, ARROW2_RANGE
 pub record Writes (code : ℕ) (inside holds done unchanged : Type 0) : Type 0 where
   -- it is that of ranges exactly where something is not inside
   pub range : (code ≡ ARROW2_RANGE) ↔ ¬ inside
-  -- it is that of lengths exactly where all is inside and a slice has not as many items
+  -- it is that of lengths exactly where all is inside and a slice has more or fewer items
   pub length : (code ≡ ARROW2_LENGTH) ↔ ((code ≢ ARROW2_RANGE) × ¬ holds)
   -- else it says that the call did what it says
   pub only : (code ≡ ARROW2_OK) ⊎ (code ≡ ARROW2_RANGE) ⊎ (code ≡ ARROW2_LENGTH)
@@ -45,13 +45,15 @@ pub record StoresItems (values validity : List ℕ) (n : ℕ) (list : List (Opti
   -- and of the validity
   pub validity_canonical : IsCanonical validity n
 
--- some of the items that were left were written, as many as there was room for, and others are left now
-pub record GoesOn {X : Type 0} (written left_before left_now : List X) (count room at end : ℕ) : Type 0 where
+-- some of the items that were left before a place were written, as many as there was room for, and others are left now
+pub record GoesOn {X : Type 0} (written left_before left_now : List X) (count room before at end : ℕ) : Type 0 where
   -- those that were written come before those that are left
   pub items : written ++ left_now ≡ left_before
   -- there was room for them
   pub most : count ≤ room
-  -- where room is left no item is
-  pub last : count < room → left_now ≡ []
-  -- the place where to go on is inside
+  -- where room is left no item is, and the place where to go on is the end
+  pub last : count < room → (left_now ≡ []) × (at ≡ end)
+  -- that place is not in front of the one from which it went
+  pub forth : before ≤ at
+  -- and it is inside
   pub goes_on : at ≤ end

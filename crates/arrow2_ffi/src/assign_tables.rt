@@ -13,6 +13,9 @@ use crate::rows::{assign_four, assign_three, assign_two};
 use arrow2_kernels::lane_assigned::assign_unary;
 
 /// Writes the answers of a table of one input for the first `length` bits in their place.
+///
+/// `ARROW2_RANGE` exactly where the table is above 3, else `ARROW2_LENGTH` exactly where the bytes are not as many as hold
+/// the bits.
 #[unsafe(no_mangle)]
 pub extern "C" fn arrow2_unary_assign_table(bytes: &mut [u8], length: usize, table: u16) -> u32
     ensures { Writes result (table < 4) (Holds bytes.old length)
@@ -31,6 +34,9 @@ pub extern "C" fn arrow2_unary_assign_table(bytes: &mut [u8], length: usize, tab
 
 /// Writes the answers of a table of two inputs for the first `length` bits, and for as many of the second input, in
 /// their place.
+///
+/// `ARROW2_RANGE` exactly where the table is above 15 or bits are not inside, else `ARROW2_LENGTH` exactly where the bytes
+/// are not as many as hold the bits.
 #[unsafe(no_mangle)]
 pub extern "C" fn arrow2_binary_assign_table(
     bytes: &mut [u8],
@@ -57,6 +63,9 @@ pub extern "C" fn arrow2_binary_assign_table(
 }
 
 /// The same of a table of three inputs.
+///
+/// `ARROW2_RANGE` exactly where the table is above 255 or bits are not inside, else `ARROW2_LENGTH` exactly where the bytes
+/// are not as many as hold the bits.
 #[unsafe(no_mangle)]
 pub extern "C" fn arrow2_ternary_assign_table(
     bytes: &mut [u8],
@@ -89,6 +98,9 @@ pub extern "C" fn arrow2_ternary_assign_table(
 }
 
 /// The same of a table of four inputs.
+///
+/// `ARROW2_RANGE` exactly where bits are not inside, else `ARROW2_LENGTH` exactly where the bytes are not as many as hold
+/// the bits.
 #[unsafe(no_mangle)]
 pub extern "C" fn arrow2_quaternary_assign_table(
     bytes: &mut [u8],

@@ -11,6 +11,8 @@ use crate::ranges::{Bits, are_both_inside, are_inside, hold};
 use crate::rows::copy;
 
 /// Writes to `zeros` how many of the `length` bits from bit `offset` on are not set.
+///
+/// `ARROW2_RANGE` exactly where they are not inside the bytes.
 #[unsafe(no_mangle)]
 pub extern "C" fn arrow2_count_zeros(
     bytes: &[u8],
@@ -30,6 +32,8 @@ pub extern "C" fn arrow2_count_zeros(
 
 /// Writes to `equal` whether the `length` bits of `left` from bit `left_offset` on are those of `right` from bit
 /// `right_offset` on.
+///
+/// `ARROW2_RANGE` exactly where one of both is not inside its bytes.
 #[unsafe(no_mangle)]
 pub extern "C" fn arrow2_equal_bits(
     left: &[u8],
@@ -53,6 +57,8 @@ pub extern "C" fn arrow2_equal_bits(
 }
 
 /// Writes to `value` whether bit `index` is set.
+///
+/// `ARROW2_RANGE` exactly where it is not inside the bytes.
 #[unsafe(no_mangle)]
 pub extern "C" fn arrow2_get_bit(bytes: &[u8], index: usize, value: &mut bool) -> u32
     ensures { WritesWhere ARROW2_RANGE result (index < 8 * length' bytes.now)
@@ -66,6 +72,8 @@ pub extern "C" fn arrow2_get_bit(bytes: &[u8], index: usize, value: &mut bool) -
 }
 
 /// Writes `value` to bit `index`, and leaves every other bit as it was.
+///
+/// `ARROW2_RANGE` exactly where it is not inside the bytes.
 #[unsafe(no_mangle)]
 pub extern "C" fn arrow2_set_bit(bytes: &mut [u8], index: usize, value: bool) -> u32
     ensures { WritesWhere ARROW2_RANGE result (index < 8 * length' bytes.old)
@@ -80,6 +88,8 @@ pub extern "C" fn arrow2_set_bit(bytes: &mut [u8], index: usize, value: bool) ->
 
 /// Copies the `length` bits from bit `offset` on over `out`, from bit 0 on. It has as many bytes as hold them, and its
 /// spare bits become 0.
+///
+/// `ARROW2_RANGE` exactly where they are not inside the bytes, else `ARROW2_LENGTH` exactly where `out` has another length.
 #[unsafe(no_mangle)]
 pub extern "C" fn arrow2_copy_bits(
     bytes: &[u8],

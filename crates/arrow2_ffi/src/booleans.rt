@@ -13,6 +13,8 @@ use arrow2_kernels::assigned::assign_rows;
 
 /// Writes the booleans as bits over `out`, from bit 0 on. It has as many bytes as hold them, and its spare bits become
 /// 0.
+///
+/// `ARROW2_LENGTH` exactly where it has another length.
 #[unsafe(no_mangle)]
 pub extern "C" fn arrow2_pack(items: &[bool], out: &mut [u8]) -> u32
     ensures { WritesWhere ARROW2_LENGTH result (Holds out.old (length items.now))
@@ -26,6 +28,8 @@ pub extern "C" fn arrow2_pack(items: &[bool], out: &mut [u8]) -> u32
 }
 
 /// Writes as many bits as `out` has items, from bit `offset` on, as booleans.
+///
+/// `ARROW2_RANGE` exactly where they are not inside the bytes.
 #[unsafe(no_mangle)]
 pub extern "C" fn arrow2_unpack(bytes: &[u8], offset: usize, out: &mut [bool]) -> u32
     ensures { WritesWhere ARROW2_RANGE result (IsInside bytes.now offset (length out.old))

@@ -6,7 +6,7 @@ pub const ARROW2_OK: u32 = 0;
 /// A place or a range is not inside, or a table has bits past its last answer.
 pub const ARROW2_RANGE: u32 = 1;
 
-/// A slice has not as many items as the call needs.
+/// A slice has more or fewer items than the call needs.
 pub const ARROW2_LENGTH: u32 = 2;
 
 /// A number is above the greatest offset.

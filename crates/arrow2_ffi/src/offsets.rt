@@ -11,6 +11,8 @@ use crate::codes::{ARROW2_LENGTH, ARROW2_OK, ARROW2_OVERFLOW, ARROW2_RANGE};
 use crate::offset_calls::{check, from_zero, lengths, sums};
 
 /// Whether the numbers are offsets of 32 bits, and else which rule they break first.
+///
+/// `ARROW2_SPEC_EMPTY`, `ARROW2_SPEC_NEGATIVE` or `ARROW2_SPEC_FALLING` for that rule.
 #[unsafe(no_mangle)]
 pub extern "C" fn arrow2_offsets32_check(offsets: &[i32]) -> u32
     ensures ok { result ≡ ARROW2_OK ↔ AreOffsets offsets.now }
@@ -20,6 +22,9 @@ pub extern "C" fn arrow2_offsets32_check(offsets: &[i32]) -> u32
 }
 
 /// Writes how far each offset of 32 bits is from the next one: as many lengths as slots.
+///
+/// The code of the first rule that they break where they are no offsets, else `ARROW2_LENGTH` exactly where `out` has not
+/// one item less.
 #[unsafe(no_mangle)]
 pub extern "C" fn arrow2_offsets32_lengths(offsets: &[i32], out: &mut [usize]) -> u32
     ensures { WritesFromOffsets offsets.now result (length offsets.now ≢ length out.old + 1)
@@ -29,6 +34,9 @@ pub extern "C" fn arrow2_offsets32_lengths(offsets: &[i32], out: &mut [usize]) -
 }
 
 /// Writes `start`, and behind it the running sums of the lengths: offsets of 32 bits.
+///
+/// `ARROW2_LENGTH` exactly where `out` has not one item more than `lengths`, else `ARROW2_OVERFLOW` exactly where `start` and
+/// all lengths, added up exactly, are above the greatest offset.
 #[unsafe(no_mangle)]
 pub extern "C" fn arrow2_offsets32_from_lengths(
     start: usize,
@@ -47,6 +55,9 @@ pub extern "C" fn arrow2_offsets32_from_lengths(
 
 /// Writes as many offsets of 32 bits as `out` has, from offset `from` on, each less the first of them: so they begin at
 /// 0 and span the same slots.
+///
+/// The code of the first rule that they break where they are no offsets, else `ARROW2_LENGTH` exactly where `out` has no
+/// item, else `ARROW2_RANGE` exactly where so many are not inside.
 #[unsafe(no_mangle)]
 pub extern "C" fn arrow2_offsets32_from_zero(offsets: &[i32], from: usize, out: &mut [i32]) -> u32
     ensures { WritesFromOffsetsOr ARROW2_RANGE offsets.now result (length out.old ≡ 0)
@@ -59,6 +70,8 @@ pub extern "C" fn arrow2_offsets32_from_zero(offsets: &[i32], from: usize, out: 
 }
 
 /// Whether the numbers are offsets of 64 bits, and else which rule they break first.
+///
+/// `ARROW2_SPEC_EMPTY`, `ARROW2_SPEC_NEGATIVE` or `ARROW2_SPEC_FALLING` for that rule.
 #[unsafe(no_mangle)]
 pub extern "C" fn arrow2_offsets64_check(offsets: &[i64]) -> u32
     ensures ok { result ≡ ARROW2_OK ↔ AreOffsets offsets.now }
@@ -68,6 +81,9 @@ pub extern "C" fn arrow2_offsets64_check(offsets: &[i64]) -> u32
 }
 
 /// Writes how far each offset of 64 bits is from the next one: as many lengths as slots.
+///
+/// The code of the first rule that they break where they are no offsets, else `ARROW2_LENGTH` exactly where `out` has not
+/// one item less.
 #[unsafe(no_mangle)]
 pub extern "C" fn arrow2_offsets64_lengths(offsets: &[i64], out: &mut [usize]) -> u32
     ensures { WritesFromOffsets offsets.now result (length offsets.now ≢ length out.old + 1)
@@ -77,6 +93,9 @@ pub extern "C" fn arrow2_offsets64_lengths(offsets: &[i64], out: &mut [usize]) -
 }
 
 /// Writes `start`, and behind it the running sums of the lengths: offsets of 64 bits.
+///
+/// `ARROW2_LENGTH` exactly where `out` has not one item more than `lengths`, else `ARROW2_OVERFLOW` exactly where `start` and
+/// all lengths, added up exactly, are above the greatest offset.
 #[unsafe(no_mangle)]
 pub extern "C" fn arrow2_offsets64_from_lengths(
     start: usize,
@@ -95,6 +114,9 @@ pub extern "C" fn arrow2_offsets64_from_lengths(
 
 /// Writes as many offsets of 64 bits as `out` has, from offset `from` on, each less the first of them: so they begin at
 /// 0 and span the same slots.
+///
+/// The code of the first rule that they break where they are no offsets, else `ARROW2_LENGTH` exactly where `out` has no
+/// item, else `ARROW2_RANGE` exactly where so many are not inside.
 #[unsafe(no_mangle)]
 pub extern "C" fn arrow2_offsets64_from_zero(offsets: &[i64], from: usize, out: &mut [i64]) -> u32
     ensures { WritesFromOffsetsOr ARROW2_RANGE offsets.now result (length out.old ≡ 0)

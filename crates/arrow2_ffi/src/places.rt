@@ -16,6 +16,8 @@ use arrow2_chunk::bit_chunk_iter::BitChunkOnes;
 
 /// Writes the places of set bits among the `length` bits from bit `offset` on, from place `at` of them on, rising, as
 /// many as fit. Writes to `count` how many these are, and to `at` where to go on.
+///
+/// `ARROW2_RANGE` exactly where the bits are not inside, or `at` is above `length`.
 #[unsafe(no_mangle)]
 pub extern "C" fn arrow2_set_places(
     bytes: &[u8],
@@ -29,7 +31,7 @@ pub extern "C" fn arrow2_set_places(
         (GoesOn (take count.new places.new)
         (ones_from (part (bits bytes.now) offset length) at.old)
         (ones_from (part (bits bytes.now) offset length) at.new)
-        count.new (length' places.old) at.new length)
+        count.new (length' places.old) at.old at.new length)
         ((places.new ≡ places.old) × (at.new ≡ at.old) × (count.new ≡ count.old)) }
 {
     let items = Bits(bytes, offset);
@@ -50,7 +52,7 @@ fn write_places(bits: Bits<'_>, end: usize, at: usize, places: &mut [usize]) -> 
     ensures { GoesOn (take result.0 places.new)
         (ones_from (first_bits bits.entry end) at)
         (ones_from (first_bits bits.entry end) result.1)
-        result.0 (length' places.old) result.1 end }
+        result.0 (length' places.old) at result.1 end }
 {
     let Bits(bytes, offset) = bits;
     let mut count = 0;

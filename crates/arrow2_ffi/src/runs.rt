@@ -13,6 +13,9 @@ use arrow2_walks::places::{Place, first_place};
 
 /// Writes the runs of set bits among the `length` bits from bit `offset` on, from place `at` of them on: their first
 /// places and their lengths, as many as fit. Writes to `count` how many these are, and to `at` where to go on.
+///
+/// `ARROW2_RANGE` exactly where the bits are not inside, or `at` is above `length`; else `ARROW2_LENGTH` exactly where `starts`
+/// and `lengths` differ in length.
 #[unsafe(no_mangle)]
 pub extern "C" fn arrow2_runs(
     bytes: &[u8],
@@ -28,7 +31,7 @@ pub extern "C" fn arrow2_runs(
         (GoesOn (zip (take count.new starts.new) (take count.new lengths.new))
         (runs_from (part (bits bytes.now) offset length) at.old)
         (runs_from (part (bits bytes.now) offset length) at.new)
-        count.new (length' starts.old) at.new length)
+        count.new (length' starts.old) at.old at.new length)
         ((starts.new ≡ starts.old) × (lengths.new ≡ lengths.old)
         × (at.new ≡ at.old) × (count.new ≡ count.old)) }
 {
@@ -60,7 +63,7 @@ fn write_runs(
     ensures { GoesOn (zip (take result.0 starts.new) (take result.0 lengths.new))
         (runs_from (first_bits bits.entry end) at)
         (runs_from (first_bits bits.entry end) result.1)
-        result.0 (length' starts.old) result.1 end }
+        result.0 (length' starts.old) at result.1 end }
 {
     let Bits(bytes, offset) = bits;
     let mut place = Place {

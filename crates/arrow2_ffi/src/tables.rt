@@ -15,6 +15,9 @@ use crate::rows::{assign_four, assign_three, assign_two, copy};
 use arrow2_kernels::lane_assigned::assign_unary;
 
 /// Writes the answers of a table of one input for the `length` bits from bit `offset` on.
+///
+/// `ARROW2_RANGE` exactly where the table is above 3 or the bits are not inside, else `ARROW2_LENGTH` exactly where `out`
+/// has not as many bytes as hold them.
 #[unsafe(no_mangle)]
 pub extern "C" fn arrow2_unary_table(
     bytes: &[u8],
@@ -40,6 +43,9 @@ pub extern "C" fn arrow2_unary_table(
 }
 
 /// Writes the answers of a table of two inputs for as many bits of both.
+///
+/// `ARROW2_RANGE` exactly where the table is above 15 or bits are not inside, else `ARROW2_LENGTH` exactly where `out` has
+/// not as many bytes as hold them.
 #[unsafe(no_mangle)]
 pub extern "C" fn arrow2_binary_table(
     first: &[u8],
@@ -73,6 +79,9 @@ pub extern "C" fn arrow2_binary_table(
 }
 
 /// Writes the answers of a table of three inputs for as many bits of each.
+///
+/// `ARROW2_RANGE` exactly where the table is above 255 or bits are not inside, else `ARROW2_LENGTH` exactly where `out` has
+/// not as many bytes as hold them.
 #[unsafe(no_mangle)]
 pub extern "C" fn arrow2_ternary_table(
     first: &[u8],
@@ -109,6 +118,9 @@ pub extern "C" fn arrow2_ternary_table(
 }
 
 /// Writes the answers of a table of four inputs for as many bits of each.
+///
+/// `ARROW2_RANGE` exactly where bits are not inside, else `ARROW2_LENGTH` exactly where `out` has not as many bytes as hold
+/// them.
 #[unsafe(no_mangle)]
 pub extern "C" fn arrow2_quaternary_table(
     first: &[u8],

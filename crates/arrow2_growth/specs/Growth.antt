@@ -12,6 +12,8 @@ pub record Appends {T E : Type 0} (told : Refusal → E) (r : Result T E) (old n
   pub err : OnErr r (new.items ≡ old.items)
   -- a usize counts the items that were there
   pub fits : length old.items < 2 ^ 64
+  -- and they are within the capacity
+  pub held : length old.items ≤ old.capacity
   -- it overflows exactly where there would be more items than that
   pub overflow : IsErrOf r (told Overflow) ↔ (2 ^ 64 ≤ length old.items + length more)
   -- there is no other error but want of memory

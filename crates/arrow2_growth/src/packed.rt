@@ -70,6 +70,10 @@ fn fill<I: Iterator<Item = bool>>(items: &mut I, block: &mut [bool; 64]) -> usiz
 }
 
 /// The bytes of the items, with spare bits behind them. Asks for memory once.
+///
+/// # Errors
+///
+/// Where memory is refused.
 pub fn packed(alloc: Global, items: &[bool]) -> Result<Vec<u8>, AllocError>
     ensures enough { IfOk result (λ bytes. length items.now ≤ 8 * vec_len bytes) }
     ensures items { IfOk result (λ bytes. take (length items.now) (bits bytes.items) ≡ items.now) }

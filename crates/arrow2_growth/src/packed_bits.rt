@@ -1,5 +1,5 @@
 //! Booleans packed into bytes, which grow.
-ghost use Rattle.std.specs.Prelude.{◌≡◌, ◌+◌, ◌-◌, ◌*◌, ◌/◌, ◌%◌, ◌<◌, ◌≤◌, ◌^◌, ◌↔◌, ℕ, IsTrue, List, Bool, [], ◌∷◌, ◌++◌, false, length, length as length', take, replicate, slice_set, OnOk, OnErr, IsOk, IfOk, IfNone, IsErrOf, MatchOption, vec_len, vec_capacity};
+ghost use Rattle.std.specs.Prelude.{◌≡◌, ◌+◌, ◌-◌, ◌*◌, ◌/◌, ◌%◌, ◌<◌, ◌≤◌, ◌^◌, ◌↔◌, ℕ, IsTrue, List, Bool, [], ◌∷◌, ◌++◌, false, length, length as length', take, replicate, slice_set, min, OnOk, OnErr, IsOk, IfOk, IfNone, IsErrOf, MatchOption, vec_len, vec_capacity};
 ghost use Rattle.arrow2_model.specs.Bits.{bit, bits, unnum};
 ghost use Rattle.arrow2_model.specs.Canonical.{canonical_bytes, IsCanonical};
 ghost use Rattle.arrow2_model.specs.Kernels.{kernel, word, words_at};
@@ -56,6 +56,10 @@ impl PackedBits {
     }
 
     /// No items, with room for `capacity`.
+    ///
+    /// # Errors
+    ///
+    /// Where memory is refused.
     pub fn with_capacity(alloc: Global, capacity: usize) -> Result<PackedBits, AllocError>
         ensures items { IfOk result (λ b. b.items ≡ []) }
         ensures capacity { IfOk result (λ b. capacity ≤ b.capacity) }
@@ -64,12 +68,13 @@ impl PackedBits {
         Ok(PackedBits { bytes, length: 0 })
     }
 
-    /// The first `length` bits of the bytes. Spare bytes are cut and spare bits cleared, in place. Asks that there are as
-    /// many. Takes no memory.
+    /// The first `length` bits of the bytes. Spare bytes are cut and spare bits cleared, in place, and the room of the
+    /// vector stays. Asks that there are as many. Takes no memory.
     pub fn from_vec(bytes: Vec<u8>, length: usize) -> PackedBits
         requires inside { length ≤ 8 * vec_len bytes }
         ensures items { result.items ≡ take length (bits bytes.items) }
         ensures len { length' result.items ≡ length }
+        ensures capacity { result.capacity ≡ min (8 * vec_capacity bytes) (2 ^ 64 - 1) }
     {
         let mut bytes = bytes;
         cut(&mut bytes, length);
@@ -85,7 +90,8 @@ impl PackedBits {
 
     /// How many items there is room for before memory is asked for, at most `usize::MAX`.
     pub fn capacity(&self) -> usize
-        ensures { result ≡ self.now.capacity }
+        ensures capacity { result ≡ self.now.capacity }
+        ensures held { length self.now.items ≤ result }
     {
         self.bytes.capacity().saturating_mul(8)
     }
@@ -126,6 +132,7 @@ impl PackedBits {
         ensures items { self.new.items ≡ self.old.items }
         ensures ok { OnOk result (length self.old.items + additional ≤ self.new.capacity) }
         ensures fits { length self.old.items < 2 ^ 64 }
+        ensures held { length self.old.items ≤ self.old.capacity }
         ensures overflow { IsErrOf result refusal.Overflow ↔
             (2 ^ 64 ≤ length self.old.items + additional) }
         ensures succeeds { length self.old.items + additional ≤ self.old.capacity → IsOk result }
@@ -324,6 +331,10 @@ fn cut(bytes: &mut Vec<u8>, length: usize)
 }
 
 /// A copy of the items.
+///
+/// # Errors
+///
+/// Where memory is refused.
 impl Clone for PackedBits {
     ghost is_clone = { λ a b. b.items ≡ a.items };
 

@@ -30,18 +30,18 @@ pub trait Index: NativeType + Ord + AddAssign + Sub<Self, Output = Self> + One +
         requires { Self.fits (pos index) }
         ensures { Self.value result ≡ pos index };
 
-    /// How far `end` is above the number. Asks that it is not below.
+    /// How far `end` is above the number. Asks that it is not below. Not in arrow2.
     fn distance_to(self, end: Self) -> usize
         requires { Self.value self ≤ℤ Self.value end }
         ensures { pos result ≡ Self.value end -ℤ Self.value self };
 
-    /// The next number. Asks that the number is below `end`, so that there is a next one.
+    /// The next number. Asks that the number is below `end`, so that there is a next one. Not in arrow2.
     fn next_towards(self, end: Self) -> Self
         requires { Self.value self <ℤ Self.value end }
         ensures { Self.value result ≡ Self.value self +ℤ pos 1 };
 
     /// The walk from `start` up to the number before `end`, or `None` where one of the two does not fit.
-    /// Asks that `start` is at most `end`.
+    /// Asks that `start` is at most `end`, which arrow2 tests last.
     final fn range(start: usize, end: usize) -> Option<IndexRange<Self>>
         requires { start ≤ end }
         ensures some { IfSome result (λ range. range ≡ integers (pos start) (pos end)) }
@@ -294,7 +294,7 @@ impl<I: Index> Iterator for IndexRange<I> {
         Some(item)
     }
 
-    /// Both bounds are the number of items still to come.
+    /// Both bounds are the number of items still to come. arrow2's may overflow.
     fn size_hint(&self) -> (usize, Option<usize>)
         ensures lower { IsWithinCount result.0 (item_count (λ s. s) self.now) }
         ensures upper { IfSome result.1 (UpTo (item_count (λ s. s) self.now)) }

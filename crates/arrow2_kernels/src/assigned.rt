@@ -11,7 +11,7 @@ use std::convert::AsSlice;
 
 /// Writes what `op` answers to each word of the first `length` bits, and to the row of words beside it, in place of
 /// that word. Spare bits are false afterwards, whatever they were, and whatever `op` sets there. Takes no memory.
-/// Asks for as many bytes as hold so many bits.
+/// Asks for as many bytes as hold so many bits, for lists of `length` items all, and that `op` answers every word.
 pub fn assign_rows<T: BitChunk, S: WordRows<T>, F: Fn(T, S::Row) -> T>(
     bytes: &mut [u8],
     length: usize,

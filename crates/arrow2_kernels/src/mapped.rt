@@ -11,7 +11,8 @@ use arrow2_bits::bytes_for;
 use std::alloc::{AllocError, Global};
 
 /// The bytes of what `op` answers to each row of words, for lists of `length` items: as many bytes as hold so many
-/// bits, with spare bits false. Asks for memory once.
+/// bits, with spare bits false. Asks for memory once. Asks that all lists have so many items, and that `op` answers every
+/// row.
 ///
 /// # Errors
 ///

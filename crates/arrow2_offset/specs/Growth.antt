@@ -13,6 +13,8 @@ pub record Grows {T E : Type 0} (told : Refusal → E) (reached greatest : ℕ) 
   pub ok : OnOk r (GrownBy more old new)
   -- a refusal leaves the start and the lengths as they were
   pub err : OnErr r (SameOffsets old new)
+  -- the slots that were there are within the capacity
+  pub held : slots old ≤ old.capacity
   -- it overflows exactly where the number passes the greatest one
   pub overflow : IsErrOf r (told Overflow) ↔ (greatest < reached)
   -- there is no other error but want of memory
@@ -35,6 +37,8 @@ pub record GrowsByRun {S T E : Type 0} (greatest : ℕ) (told : Refusal → E) (
   pub fits : OnOk r (last_of_growing new ≤ greatest)
   -- a refusal leaves the start and the lengths as they were
   pub err : OnErr r (SameOffsets old new)
+  -- the slots that were there are within the capacity
+  pub held : slots old ≤ old.capacity
   -- it overflows only where lengths came by which the last offset passes the greatest one
   pub overflow : IsErrOf r (told Overflow) → GivesPast greatest (last_of_growing old) steps lengths
   -- memory is wanted only where more lengths came than there was room for

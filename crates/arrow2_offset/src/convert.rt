@@ -17,7 +17,7 @@ use std::alloc::{AllocError, Global};
 ///
 /// # Errors
 ///
-/// `OutOfMemory` alone.
+/// `OutOfMemory` alone. The offsets are then dropped.
 impl TryFrom<Offsets<i32>> for Offsets<i64> {
     type Error = Error;
 
@@ -35,7 +35,7 @@ impl TryFrom<Offsets<i32>> for Offsets<i64> {
 ///
 /// # Errors
 ///
-/// `Overflow` exactly where the last offset is above 2147483647, else `OutOfMemory` alone.
+/// `Overflow` exactly where the last offset is above 2147483647, else `OutOfMemory` alone. The offsets are then dropped.
 impl TryFrom<Offsets<i64>> for Offsets<i32> {
     type Error = Error;
 

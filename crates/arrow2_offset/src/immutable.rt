@@ -80,7 +80,8 @@ impl<O: Offset> OffsetsBuffer<O> {
 
     /// The buffer of the offsets.
     pub fn buffer(&self) -> &Buffer<O>
-        ensures { numbers_of O.value result.now ≡ self.now }
+        ensures numbers { numbers_of O.value result.now ≡ self.now }
+        ensures valid { AreOffsetsUpTo O.MAX (map O.value (buffer_items result.now)) }
     {
         &self.buffer
     }
@@ -216,7 +217,8 @@ impl<O: Offset> OffsetsBuffer<O> {
 
     /// The buffer of the offsets. Takes no memory.
     pub fn into_inner(self) -> Buffer<O>
-        ensures { numbers_of O.value result ≡ self }
+        ensures numbers { numbers_of O.value result ≡ self }
+        ensures valid { AreOffsetsUpTo O.MAX (map O.value (buffer_items result)) }
     {
         let OffsetsBuffer { buffer } = self;
         buffer
@@ -247,8 +249,8 @@ impl<O: Offset> TryFrom<Buffer<O>> for OffsetsBuffer<O> {
 ///
 /// # Errors
 ///
-/// `OutOfSpec` exactly where the items are not offsets, with the text of the first rule that they break;
-/// else `OutOfMemory` alone. The vector is then dropped.
+/// `OutOfSpec` exactly where the items are not offsets, with the text of the first rule that they break,
+/// or `OutOfMemory` there, where the text finds no memory; else `OutOfMemory` alone. The vector is then dropped.
 impl<O: Offset> TryFrom<Vec<O>> for OffsetsBuffer<O> {
     type Error = Error;
 

@@ -148,20 +148,22 @@ impl<O: Offset> Offsets<O> {
 
     /// For how many lengths there is room before memory is asked for.
     pub fn capacity(&self) -> usize
-        ensures { result ≡ self.now.capacity }
+        ensures capacity { result ≡ self.now.capacity }
+        ensures held { slots self.now ≤ result }
     {
         self.offsets.capacity().saturating_sub(1)
     }
 
-    /// Makes room for `additional` more lengths.
+    /// Makes room for `additional` more lengths. Within the capacity it takes no memory. arrow2 answers no `Result`.
     ///
     /// # Errors
     ///
-    /// `OutOfMemory` alone.
+    /// `OutOfMemory` alone. After it the offsets are as they were.
     pub fn reserve(&mut self, additional: usize) -> Result<()>
         ensures items { SameOffsets self.old self.new }
         ensures ok { OnOk result (slots self.old + additional ≤ self.new.capacity) }
         ensures capacity { self.old.capacity ≤ self.new.capacity }
+        ensures held { slots self.old ≤ self.old.capacity }
         ensures succeeds { slots self.old + additional ≤ self.old.capacity → IsOk result }
         ensures only { IfErr result (λ e. e ≡ Error.OutOfMemory) }
     {
@@ -169,7 +171,7 @@ impl<O: Offset> Offsets<O> {
         Ok(())
     }
 
-    /// Gives back room that is not used, where the allocator takes it.
+    /// Gives back room that is not used, where the allocator takes it. arrow2 answers no `Result`.
     ///
     /// It is never refused: where a smaller block finds no memory, the offsets stay where they are.
     pub fn shrink_to_fit(&mut self) -> Result<()>
@@ -399,6 +401,7 @@ impl<O: Offset> Offsets<O> {
         ensures items { SameOffsets self.old self.new }
         ensures ok { OnOk result (slots self.old + additional ≤ self.new.capacity) }
         ensures capacity { self.old.capacity ≤ self.new.capacity }
+        ensures held { slots self.old ≤ self.old.capacity }
         ensures succeeds { slots self.old + additional ≤ self.old.capacity → IsOk result }
     {
         self.offsets.reserve(additional)
@@ -462,7 +465,7 @@ impl<O: Offset> Offsets<O> {
 /// # Errors
 ///
 /// `OutOfSpec` exactly where the items are not offsets, with the text of the first rule that they break,
-/// or `OutOfMemory` there, where the text finds no memory.
+/// or `OutOfMemory` there, where the text finds no memory. The vector is then dropped.
 impl<O: Offset> TryFrom<Vec<O>> for Offsets<O> {
     type Error = Error;
 
@@ -478,6 +481,10 @@ impl<O: Offset> TryFrom<Vec<O>> for Offsets<O> {
 }
 
 /// A copy of the offsets.
+///
+/// # Errors
+///
+/// Where memory is refused.
 impl<O: Offset> Clone for Offsets<O> {
     ghost is_clone = { SameOffsets };
 

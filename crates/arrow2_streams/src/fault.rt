@@ -17,6 +17,7 @@ pub enum ReplayFault {
     Write,
 }
 
+/// Prints `read failed`, `out of memory` or `write failed`.
 impl fmt::Display for ReplayFault {
     ghost use Rattle.arrow2_streams.specs.FaultTexts.{fault_text};
 

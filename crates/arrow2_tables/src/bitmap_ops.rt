@@ -1,9 +1,9 @@
 //! New bitmaps from three and four bitmaps, and from truth tables.
 ghost use Rattle.std.specs.Prelude.{◌≡◌, ◌<◌, ℕ, [], ◌∷◌, length as length', IfOk, IfErr};
-ghost use Rattle.arrow2_model.specs.Canonical.{canonical_bytes};
 ghost use Rattle.arrow2_model.specs.Kernels.{ternary_kernel, quaternary_kernel, IsTernary, IsQuaternary};
-ghost use Rattle.arrow2_model.specs.Storage.{BitmapStorage, items_of};
+ghost use Rattle.arrow2_model.specs.Storage.{items_of};
 ghost use Rattle.arrow2_model.specs.Tables.{each, ActsTernary, ActsQuaternary};
+ghost use Rattle.arrow2_bitmap.specs.Packed.{IsPacked};
 
 use crate::pair::Pair;
 use arrow2_bitmap::bitmap_ops::{binary_by_table, from_rows, unary_by_table};
@@ -13,9 +13,9 @@ use arrow2_kernels::tables::{quaternary_answers, ternary_answers};
 use arrow2_types::error::{Error, Result};
 
 /// The bitmap of what `op` answers to each three words of 64 items at one place. In the last words false stands behind
-/// the items. Asks that all have one length.
+/// the items. Asks that all have one length, and that `op` answers whatever words.
 ///
-/// Differs from arrow2: spare bits don't reach `op`, nor do words behind the last item.
+/// Differs from arrow2: spare bits don't reach `op`, nor do words behind the last item. It answers no `Result`.
 ///
 /// # Errors
 ///
@@ -36,11 +36,7 @@ pub fn ternary<F: Fn(u64, u64, u64) -> u64>(
         IfOk result (λ b.
         items_of b ≡ each t (items_of a1.now ∷ items_of a2.now ∷ items_of a3.now ∷ [])) }
     ensures len { IfOk result (λ b. length' (items_of b) ≡ length' (items_of a1.now)) }
-    ensures storage { IfOk result (λ b. b ≡ record {
-      bytes = canonical_bytes (items_of b);
-      offset = 0;
-      len = length' (items_of a1.now);
-    }) }
+    ensures storage { IfOk result (λ b. IsPacked b) }
     ensures only { IfErr result (λ e. e ≡ Error.OutOfMemory) }
 {
     let a1_words = OneList {
@@ -64,9 +60,9 @@ pub fn ternary<F: Fn(u64, u64, u64) -> u64>(
 }
 
 /// The bitmap of what `op` answers to each four words of 64 items at one place. In the last words false stands behind
-/// the items. Asks that all have one length.
+/// the items. Asks that all have one length, and that `op` answers whatever words.
 ///
-/// Differs from arrow2: spare bits don't reach `op`, nor do words behind the last item.
+/// Differs from arrow2: spare bits don't reach `op`, nor do words behind the last item. It answers no `Result`.
 ///
 /// # Errors
 ///
@@ -91,11 +87,7 @@ pub fn quaternary<F: Fn(u64, u64, u64, u64) -> u64>(
         items_of b ≡ each t (items_of a1.now ∷ items_of a2.now ∷ items_of a3.now
         ∷ items_of a4.now ∷ [])) }
     ensures len { IfOk result (λ b. length' (items_of b) ≡ length' (items_of a1.now)) }
-    ensures storage { IfOk result (λ b. b ≡ record {
-      bytes = canonical_bytes (items_of b);
-      offset = 0;
-      len = length' (items_of a1.now);
-    }) }
+    ensures storage { IfOk result (λ b. IsPacked b) }
     ensures only { IfErr result (λ e. e ≡ Error.OutOfMemory) }
 {
     let rows = Beside {
@@ -118,6 +110,7 @@ pub fn unary_table(a1: &Bitmap, t: u8) -> Result<Bitmap>
     requires table { t < 4 }
     ensures items { IfOk result (λ b. items_of b ≡ each t (items_of a1.now ∷ [])) }
     ensures len { IfOk result (λ b. length' (items_of b) ≡ length' (items_of a1.now)) }
+    ensures storage { IfOk result (λ b. IsPacked b) }
     ensures only { IfErr result (λ e. e ≡ Error.OutOfMemory) }
 {
     unary_by_table(a1, t)
@@ -137,6 +130,7 @@ pub fn binary_table(a1: &Bitmap, a2: &Bitmap, t: u8) -> Result<Bitmap>
     ensures items { IfOk result (λ b. items_of b
         ≡ each t (items_of a1.now ∷ items_of a2.now ∷ [])) }
     ensures len { IfOk result (λ b. length' (items_of b) ≡ length' (items_of a1.now)) }
+    ensures storage { IfOk result (λ b. IsPacked b) }
     ensures only { IfErr result (λ e. e ≡ Error.OutOfMemory) }
 {
     binary_by_table(a1, a2, t)
@@ -155,6 +149,7 @@ pub fn ternary_table(a1: &Bitmap, a2: &Bitmap, a3: &Bitmap, t: u8) -> Result<Bit
     ensures items { IfOk result (λ b. items_of b
         ≡ each t (items_of a1.now ∷ items_of a2.now ∷ items_of a3.now ∷ [])) }
     ensures len { IfOk result (λ b. length' (items_of b) ≡ length' (items_of a1.now)) }
+    ensures storage { IfOk result (λ b. IsPacked b) }
     ensures only { IfErr result (λ e. e ≡ Error.OutOfMemory) }
 {
     ternary(a1, a2, a3, |x, y, z| ternary_answers(u16::from(t), x, y, z))
@@ -180,6 +175,7 @@ pub fn quaternary_table(
     ensures items { IfOk result (λ b. items_of b
         ≡ each t (items_of a1.now ∷ items_of a2.now ∷ items_of a3.now ∷ items_of a4.now ∷ [])) }
     ensures len { IfOk result (λ b. length' (items_of b) ≡ length' (items_of a1.now)) }
+    ensures storage { IfOk result (λ b. IsPacked b) }
     ensures only { IfErr result (λ e. e ≡ Error.OutOfMemory) }
 {
     quaternary(

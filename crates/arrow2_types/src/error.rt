@@ -77,6 +77,8 @@ impl Error {
     }
 }
 
+/// Prints the kind of the error and its text. Of [`Error::Io`] nothing is promised, since the standard library does not say
+/// what its own errors print.
 impl fmt::Display for Error {
     ghost use Rattle.arrow2_types.specs.ErrorTexts.{error_text};
 

@@ -39,7 +39,7 @@ impl Pieces {
     ///
     /// # Errors
     ///
-    /// `OutOfMemory` alone.
+    /// `OutOfMemory` alone. The bitmap is then dropped.
     pub fn new(alloc: Global, bitmap: Bitmap) -> Result<Pieces>
         ensures ok { IfOk result (λ p. p ≡ record { pieces = piece_of bitmap ∷ []; reads = 0 }) }
         ensures only { IfErr result (λ e. e ≡ Error.OutOfMemory) }

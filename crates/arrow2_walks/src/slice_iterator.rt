@@ -13,6 +13,8 @@ use std::marker::Model;
 
 /// A walk over the maximal runs of set items of a bitmap, rising, each by its first place and its length: contracts see
 /// the runs still to come, and the number of set items in all.
+///
+/// arrow2's page gives (6, 1) as the last run of 00101111, which is (5, 1).
 #[derive(Debug, Drop)]
 pub struct SlicesIterator<'a> {
     bytes: &'a [u8],

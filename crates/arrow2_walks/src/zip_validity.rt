@@ -14,7 +14,7 @@ use arrow2_bits::iterator::BitmapIter;
 /// A walk over values and their validity, from both ends: an item is `Some` of its value where it is valid, and `None`
 /// where it is not.
 ///
-/// Differs from arrow2: `nth` is the standard library's, over `next`.
+/// Differs from arrow2: `nth` is the standard library's, over `next`, and the type of the values is no parameter.
 #[derive(Debug, Clone, Drop)]
 pub struct ZipValidityIter<I, V> {
     values: I,
@@ -148,7 +148,7 @@ impl<I: Iterator, V: Iterator<Item = bool>> ZipValidity<I, V> {
 
 impl<'a, I: Iterator> ZipValidity<I, BitmapIter<'a>> {
     /// `Optional` exactly where a validity is given that has an unset item. Asks that it has as many items as there are
-    /// values, also where none of them is unset.
+    /// values, also where none of them is unset; arrow2 does not test it there.
     pub fn new_with_validity(
         values: I,
         validity: Option<&'a Bitmap>,

@@ -4,6 +4,7 @@ use Rattle.arrow2_model.specs.Bits.{bits}
 use Rattle.arrow2_model.specs.Storage.{items_of}
 use Rattle.arrow2_model.specs.Tables.{each}
 use Rattle.arrow2_bitmap.proofs.Lanes.{shown_items, shown_length}
+use Rattle.arrow2_bitmap.proofs.Packed.{packed_bytes}
 use Rattle.arrow2_bitmap.proofs.bitmap_ops.binary_by_table.Goals as goal
 
 pub returns-in_ok-answers-clause-items : goal.returns-in_ok-answers-clause-items
@@ -33,3 +34,9 @@ map_binary-requires-clause-right c =
     let ll = shown_length l.0.now (items_of c.args.lhs.now) l.1 l.2 c.as_slice-left_offset.ensures.inside c.as_slice-left_offset.ensures.items in
     let lr = shown_length r.0.now (items_of c.args.rhs.now) r.1 r.2 c.as_slice-right_offset.ensures.inside c.as_slice-right_offset.ensures.items in
     omega (arith, ll, lr, c.requires.same_length, c.as_slice-right_offset.ensures.inside)
+
+pub returns-in_ok-answers-clause-storage : goal.returns-in_ok-answers-clause-storage
+returns-in_ok-answers-clause-storage c =
+    IfOk-weaker c.from_u8_vec.result _ _
+    (packed_bytes c.in_ok-answers.answers.items c.as_slice-left_offset.result.2 c.in_ok-answers.ensures.canonical)
+    c.from_u8_vec.ensures.ok

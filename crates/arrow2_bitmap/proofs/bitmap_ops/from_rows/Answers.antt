@@ -1,10 +1,8 @@
-use Rattle.std.proofs.Common.{◌∙◌, ℕ, List, sym, ap, arith}
+use Rattle.std.proofs.Common.{◌∙◌, arith}
 use Rattle.std.proofs.lemmas.Result.{IfOk-weaker}
-use Rattle.arrow2_model.specs.Storage.{BitmapStorage, items_of}
-use Rattle.arrow2_model.specs.Canonical.{canonical_bytes}
-use Rattle.arrow2_model.proofs.Canonical.{canonical_is}
 use Rattle.arrow2_model.proofs.Kernels.{table_word}
 use Rattle.arrow2_model.proofs.RowKernels.{rows_kernel, rows_table, acts_rows}
+use Rattle.arrow2_bitmap.proofs.Packed.{packed_bytes}
 use Rattle.arrow2_bitmap.proofs.bitmap_ops.from_rows.Goals as goal
 
 pub returns-clause-kernel : goal.returns-clause-kernel
@@ -19,9 +17,6 @@ returns-clause-table g c t lists acts are =
 
 pub returns-clause-storage : goal.returns-clause-storage
 returns-clause-storage g c =
-    let bytes = c.in_ok-bytes.bytes.items in
-    let n : ℕ = c.args.length in
-    let stored : List ℕ → BitmapStorage = λ xs. record { bytes = xs; offset = 0; len = n } in
     IfOk-weaker c.from_u8_vec.result _ _
-    (λ b e. e ∙ (ap stored (canonical_is bytes n c.in_ok-bytes.ensures.canonical) ∙ sym (ap (λ (s : BitmapStorage). stored (canonical_bytes (items_of s))) e)))
+    (packed_bytes c.in_ok-bytes.bytes.items c.args.length c.in_ok-bytes.ensures.canonical)
     c.from_u8_vec.ensures.ok

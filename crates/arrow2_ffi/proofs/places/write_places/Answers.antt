@@ -1,4 +1,4 @@
-use Rattle.std.proofs.Common.{◌≡◌, ◌∙◌, ℕ, ◌+◌, ◌<◌, ◌^◌, List, ◌∷◌, ◌++◌, Bool, length, map, take, ap, sym, subst, arith}
+use Rattle.std.proofs.Common.{◌≡◌, ◌∙◌, ℕ, ◌+◌, ◌<◌, ◌^◌, List, ◌∷◌, ◌++◌, Bool, length, map, take, ap, sym, subst, refl, arith}
 use Rattle.std.specs.Prelude.{IfNone, IfSome}
 use Rattle.std.specs.List.{All}
 use Rattle.std.proofs.lemmas.List.{append_assoc}
@@ -63,10 +63,11 @@ returns-in-Some c =
     ∙ (ap (λ (ps : List ℕ). take c.words.count c.words.places ++ ps) (sym step) ∙ kept.done))) in
     let from = from_place items c.args.at next (take count places) behind (omega (arith, size, c.requires.within)) (sym all) in
     record {
-      items = ap (λ (ps : List ℕ). take count places ++ ps) from.1 ∙ all;
+      items = ap (λ (ps : List ℕ). take count places ++ ps) from.2 ∙ all;
       most = omega (arith, told.0, kept.many);
       last = λ h. let no : ⊥ = omega (arith, h, told.0, kept.many) in absurd no;
-      goes_on = omega (arith, from.0, size);
+      forth = from.0;
+      goes_on = omega (arith, from.1, size);
     }
 
 pub returns : goal.returns
@@ -78,6 +79,7 @@ returns c =
     record {
       items = ap (λ b. take c.words.count c.words.places ++ ones_from items b) (sym ended) ∙ kept.done;
       most = omega (arith, kept.few, kept.many);
-      last = λ _. none_from items c.args.end size;
+      last = λ _. (none_from items c.args.end size, refl);
+      forth = c.requires.within;
       goes_on = omega arith;
     }

@@ -9,7 +9,8 @@ pub returns-then-start-end : goal.returns-then-start-end
 returns-then-start-end c = record {
   items = run_last c.args.bits.0.now c.args.bits.1 c.args.end c.args.at c.loop-k.place.index c.first_place-place.result.index (zip (take c.loop-k.k c.loop-k.starts) (take c.loop-k.k c.loop-k.lengths)) c.requires.inside c.loop-k.invariant.done c.first_place-place.ensures.first (omega (arith, c.if-start-end.true));
   most = omega (arith, c.loop-k-test.true, c.loop-k.invariant.starts);
-  last = λ _. none_at_end c.args.bits.0.now c.args.bits.1 c.args.end c.args.end c.requires.inside refl;
+  last = λ _. (none_at_end c.args.bits.0.now c.args.bits.1 c.args.end c.args.end c.requires.inside refl, refl);
+  forth = c.requires.within;
   goes_on = omega arith;
 }
 
@@ -27,5 +28,6 @@ loop-k-preserved c =
       starts = omega (arith, l, kept.starts);
       lengths = omega (arith, m, kept.lengths);
       read = c.first_place-place-in-loop-k.ensures.read;
+      forth = omega (arith, kept.forth, c.first_place-place.ensures.first.from, c.first_place-place-in-loop-k.ensures.first.from);
       done = run_more c.args.bits.0.now c.args.bits.1 c.args.end c.args.at c.loop-k.place.index p q k starts lengths c.requires.inside (omega (arith, c.loop-k-test.true, kept.starts)) (omega (arith, c.loop-k-test.true, kept.lengths)) kept.done c.first_place-place.ensures.first (λ e. omega (arith, e, c.if-start-end.false)) c.first_place-place-in-loop-k.ensures.first;
     }

@@ -1,4 +1,4 @@
-use Rattle.std.proofs.Common.{◌≡◌, ◌++◌, length, take}
+use Rattle.std.proofs.Common.{◌≡◌, ◌≤◌, ◌++◌, length, take}
 use Rattle.std.specs.List.{zip}
 use Rattle.arrow2_model.specs.Bits.{bits}
 use Rattle.arrow2_model.specs.Parts.{part}
@@ -11,5 +11,6 @@ invariant-loop-k l = record {
   starts : length l.starts ≡ length l.fn.starts;
   lengths : length l.lengths ≡ length l.fn.starts;
   read : IsRead (bits l.bytes) l.offset l.end l.place.index l.place.word l.place.held;
+  forth : l.at ≤ l.place.index;
   done : zip (take l.k l.starts) (take l.k l.lengths) ++ runs_from (part (bits l.bytes) l.offset l.end) l.place.index ≡ runs_from (part (bits l.bytes) l.offset l.end) l.at;
 }

@@ -18,6 +18,7 @@ returns-in_ok-push_word c =
       ok = c.in_ok-push_word.ensures.pushes.ok ∙ (ap (λ (own : List Bool). own ++ take a (unnum 64 word)) c.reserve.ensures.items ∙ ap (λ (more : List Bool). c.args.self.now.items ++ more) items);
       err = search rules;
       fits = c.reserve.ensures.fits;
+      held = c.reserve.ensures.held;
       overflow = rw size c.in_ok-reserve.ensures.overflow;
       only = search rules;
       succeeds = search rules;

@@ -13,6 +13,7 @@ returns c =
           (omega (arith, c.min-head.ensures)) (omega (arith, c.requires.inside)) (omega arith) c.new.ensures.items first c.in_ok-push_part.ensures.ok;
       err = search rules;
       fits = c.reserve.ensures.fits;
+      held = c.reserve.ensures.held;
       overflow = rw size c.in_ok-reserve.ensures.overflow;
       only = search rules;
       succeeds = search rules;

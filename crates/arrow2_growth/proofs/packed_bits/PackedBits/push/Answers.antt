@@ -35,6 +35,7 @@ returns c =
       ok = (pushed c).1.1 ∙ ap (λ m. m.items ++ c.args.item ∷ []) c.self.view_is;
       err = search rules;
       fits = omega (arith, short);
+      held = omega (arith, size, seen, c.self.invariant.exact, c.self.inside.bytes.ok.0, c.self.inside.bytes.ok.1, c.self.ranges, ap (λ m. m.capacity) c.self.view_is);
       overflow = (search rules, λ h. absurd (omega (arith, short, h)));
       only = search rules;
       succeeds = search rules;
