@@ -2,9 +2,11 @@
 ghost use Rattle.std.specs.Prelude.{◌≡◌, ◌+◌, ◌<◌, ◌≤◌, ◌++◌, ◌⊎◌, [], ◌∷◌, All, None, length as length', map, count_by, slice_index_or, if◌then◌else◌, IfOk, IfErr, OnOk, OnErr};
 ghost use Rattle.std.specs.Option.{is_none};
 ghost use Rattle.std.specs.List.{flat_map};
+ghost use Rattle.arrow2.specs.Buffers.{buffer_items};
 ghost use Rattle.arrow2.specs.Parts.{part};
 ghost use Rattle.arrow2.specs.Storage.{items_of};
 ghost use Rattle.arrow2.specs.Selected.{selected, chosen};
+ghost use Rattle.arrow2.specs.Zipped.{zipped};
 
 use arrow2::bitmap::{Bitmap, MutableBitmap};
 use arrow2::buffer::Buffer;
@@ -36,6 +38,14 @@ impl<T: NativeType> Model for Column<T> {
 
 #[tactic(auto, using(arrow2::proofs::Columns::columns))]
 impl<T: NativeType> Column<T> {
+    /// The column of these values, null where the validity is false. Asks for as many bits as values.
+    pub fn new(values: Buffer<T>, validity: Bitmap) -> Column<T>
+        requires same_length { length' (items_of validity) ≡ length' (buffer_items values) }
+        ensures { result ≡ zipped (buffer_items values) (items_of validity) }
+    {
+        Column { values, validity }
+    }
+
     /// How many items it has.
     pub fn len(&self) -> usize
         ensures { result ≡ length' self.now }

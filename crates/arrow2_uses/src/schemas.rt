@@ -1,5 +1,5 @@
 //! Columns chosen from a schema.
-ghost use Rattle.std.specs.Prelude.{◌≡◌, nat_lt};
+ghost use Rattle.std.specs.Prelude.{◌≡◌, false, length, nat_lt, slice_index_or};
 ghost use Rattle.arrow2.specs.Kept.{accepted};
 ghost use Rattle.arrow2.specs.Types.{physical};
 
@@ -22,6 +22,16 @@ pub fn nullable_columns(schema: Schema) -> Schema
     ensures metadata { result.metadata ≡ schema.metadata }
 {
     schema.filter(|_, field| field.is_nullable)
+}
+
+/// The columns at whose place the mask is true. Asks for as many items as columns.
+pub fn masked_columns(schema: Schema, mask: &[bool]) -> Schema
+    requires same_length { length mask.now ≡ length schema.fields.items }
+    ensures columns { result.fields.items ≡ accepted (λ place _.
+        slice_index_or mask.now place false) schema.fields.items }
+    ensures metadata { result.metadata ≡ schema.metadata }
+{
+    schema.filter(|place, _| mask[place])
 }
 
 /// How a type and all its extensions are laid out.
