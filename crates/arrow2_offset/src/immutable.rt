@@ -8,7 +8,7 @@ ghost use Rattle.arrow2_types.specs.declared.error.Error.TheVariants.{OutOfMemor
 ghost use Rattle.arrow2_offset.specs.Refused.{IsOutOfSpec, why_not_offsets};
 ghost use Rattle.arrow2_model.specs.Parts.{part};
 ghost use Rattle.arrow2_model.specs.Buffers.{buffer_items, whole_buffer};
-ghost use Rattle.arrow2_offset.specs.Offsets.{AreOffsets, offset_at, offsets_of, offsets_list, start_of, lengths_of, last_of, numbers_of};
+ghost use Rattle.arrow2_offset.specs.Offsets.{AreOffsets, AreOffsetsUpTo, offset_at, offsets_of, offsets_list, start_of, lengths_of, last_of, numbers_of};
 
 use crate::check::try_check_offsets;
 use crate::iterator::Lengths;

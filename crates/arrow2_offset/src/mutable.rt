@@ -268,8 +268,8 @@ impl<O: Offset> Offsets<O> {
         ensures { GrowsUpTo O.MAX error_of result self.old self.new
             (part (lengths_of (buffer_items other.now)) start length) }
     {
-        // The field is read for what the type keeps: the last offset is at most `O::MAX`.
-        let _ = &self.offsets;
+        // The number is read for what is kept: it is at most `O::MAX`, and the slots are within the capacity.
+        let _ = self.last_number();
         if length == 0 {
             return Ok(());
         }
@@ -380,7 +380,10 @@ impl<O: Offset> Offsets<O> {
     fn last_number(&self) -> usize
         ensures value { result ≡ last_of_growing self.now }
         ensures fits { last_of_growing self.now ≤ O.MAX }
+        ensures held { slots self.now ≤ self.now.capacity }
     {
+        // The field is read for what the type keeps: the slots are within the capacity.
+        let _ = &self.offsets;
         self.last().to_usize()
     }
 
