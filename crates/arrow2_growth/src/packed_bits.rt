@@ -93,6 +93,8 @@ impl PackedBits {
         ensures capacity { result ≡ self.now.capacity }
         ensures held { length self.now.items ≤ result }
     {
+        // The length is read for what is known of it: a `usize` counts the items.
+        let _ = self.len();
         self.bytes.capacity().saturating_mul(8)
     }
 
