@@ -11,7 +11,7 @@ use Rattle.arrow2_growth.proofs.Buffer.{length_items, copies_fit}
 use Rattle.arrow2_bitmap.specs.Packed.{IsPacked}
 
 -- n items from bit 0 of these bytes on
-from_start : List ℕ → ℕ → BitmapStorage
+abbrev from_start : List ℕ → ℕ → BitmapStorage
 from_start bytes n = record { bytes = bytes; offset = 0; len = n }
 
 -- the canonical bytes of its items

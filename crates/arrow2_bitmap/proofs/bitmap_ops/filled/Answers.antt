@@ -5,7 +5,7 @@ use Rattle.arrow2_bitmap.proofs.bitmap_ops.filled.Goals as goal
 
 pub returns-in_ok-from_len_set-clause-storage : goal.returns-in_ok-from_len_set-clause-storage
 returns-in_ok-from_len_set-clause-storage c =
-    MatchResult-weaker c.try_from.result c.try_from.ensures (λ b e. packed_items c.in_ok-from_len_set.value.items b e.0 e.1) (λ e _. tt)
+    MatchResult-weaker c.try_from.result c.try_from.ensures (λ b e. packed_items c.in_ok-from_len_set.field-0.items b e.0 e.1) (λ e _. tt)
 
 pub returns-else-value-clause-storage : goal.returns-else-value-clause-storage
 returns-else-value-clause-storage c =

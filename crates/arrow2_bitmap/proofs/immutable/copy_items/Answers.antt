@@ -8,7 +8,7 @@ use Rattle.arrow2_bitmap.proofs.immutable.copy_items.Goals as goal
 
 pub loop-word-init : goal.loop-word-init
 loop-word-init c = record {
-  copied = rw (c.in_ok-reserve_exact.ensures.items ∙ c.new-bytes.ensures, bits-nil, c.chunks-chunks.ensures.items) refl;
+  copied = rw (c.in_ok-reserve_exact.ensures.items ∙ c.new-bytes.ensures.items, bits-nil, c.chunks-chunks.ensures.items) refl;
   behind = ap (rest 64) c.chunks-chunks.ensures.items;
 }
 
