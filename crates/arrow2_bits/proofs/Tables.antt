@@ -1,16 +1,10 @@
 -- The table of the bytes with one bit set, and the two halves of a byte.
-use Rattle.std.proofs.Common.{◌≡◌, ◌∙◌, ℕ, zero, suc, ◌*◌, ◌%◌, ◌^◌, ◌<◌, ◌==◌, List, [], ◌∷◌, ◌++◌, false, not, get_or, ap, sym, refl, arith}
-use Rattle.std.specs.Prelude.{bit_and}
-use Rattle.std.specs.Int.{bit_at}
+use Rattle.std.proofs.Common.{◌≡◌, ℕ, suc, ◌*◌, ◌%◌, ◌^◌, ◌<◌, ◌==◌, List, [], ◌∷◌, ◌++◌, false, get_or, ap, refl, arith}
 use Rattle.std.specs.Prelude.{codes, ◌/◌}
 use Rattle.std.proofs.lemmas.List.FromFn.{get_or-map-range_with_len}
 use Rattle.arrow2_model.specs.Shown.{shown_byte}
 use Rattle.arrow2_bits.specs.Digits.{four_digits}
-use Rattle.std.proofs.lemmas.Bool.{ne_eqb}
-use Rattle.std.proofs.lemmas.Nat.{one_shl, pow_pos}
-use Rattle.std.proofs.lemmas.Nat.Bits.{and_pow, bit_at-lt}
 use Rattle.arrow2_model.specs.Bits.{bit, bits}
-use Rattle.arrow2_model.proofs.Bits.{bit_is}
 use Rattle.arrow2_model.proofs.Shown.{bit_alone}
 
 abbrev pub table : List ℕ
@@ -18,17 +12,6 @@ table = 1 ∷ 2 ∷ 4 ∷ 8 ∷ 16 ∷ 32 ∷ 64 ∷ 128 ∷ []
 
 pub one_at : (i : ℕ) → i < 8 → get_or table i 0 ≡ 1 * 2 ^ i % 2 ^ 8
 one_at i h = get_or-map-range_with_len (λ i. 1 * 2 ^ i % 2 ^ 8) 0 8 i i 0 h (omega arith)
-
--- the test `x & table[i] != 0`
-pub tested : (x i : ℕ) → i < 8 → not (bit_and x (get_or table i 0) == 0) ≡ bit x i
-tested x i h =
-    let e : get_or table i 0 ≡ 2 ^ i = one_at i h ∙ one_shl i 8 h in
-    ap (λ m. not (bit_and x m == 0)) e ∙ (ap (λ m. not (m == 0)) (and_pow x i) ∙ (one_or_none (bit_at x i) i (bit_at-lt x i) ∙ sym (bit_is x i)))
-  where
-    one_or_none : (b k : ℕ) → b < 2 → not (b * 2 ^ k == 0) ≡ (b == 1)
-    one_or_none zero k l = let e : 0 * 2 ^ k ≡ 0 = omega arith in ap (λ n. not (n == 0)) e
-    one_or_none (suc zero) k l = let p = pow_pos k in ap not (ne_eqb (1 * 2 ^ k) 0 (omega (arith, p)))
-    one_or_none (suc (suc b)) k l = absurd (omega (arith, l))
 
 -- a byte is shown by its two halves
 pub halves : (x : ℕ) → codes "0b" ++ (four_digits (x / 16) ++ four_digits (x % 16)) ≡ shown_byte (x ∷ []) 0 8 0

@@ -13,7 +13,6 @@ use Rattle.arrow2_model.specs.Digits.{low_digits, digits}
 use Rattle.arrow2_model.proofs.Bits.{length-bits, bits-set}
 use Rattle.arrow2_model.proofs.Canonical.{canonical-nil, pushed_byte, pushed_bit, cut_whole, cut_within}
 use Rattle.arrow2_model.proofs.Digits.{low_digits-zero, low_digits-suc, digits-natural}
-use Rattle.arrow2_kernels.proofs.Written.{whole_written}
 
 -- as many items as the length says
 pub length_items : (bytes : List ℕ) (n : ℕ) → IsCanonical bytes n → length (take n (bits bytes)) ≡ n

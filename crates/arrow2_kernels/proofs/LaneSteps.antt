@@ -1,15 +1,15 @@
 -- Lanes of bytes bit by bit, and loops that write bytes in place of others.
-use Rattle.std.proofs.Common.{◌≡◌, ℕ, zero, suc, ◌+◌, ◌-◌, ◌*◌, ◌/◌, ◌%◌, ◌^◌, ◌<◌, ◌≤◌, ◌&&◌, List, [], ◌∷◌, ◌++◌, Bool, true, false, cond, length, get_or, take, drop, set, replicate, refl, ap, sym, subst, ◌∙◌, inl, inr, arith}
+use Rattle.std.proofs.Common.{◌≡◌, ℕ, suc, ◌+◌, ◌-◌, ◌*◌, ◌/◌, ◌%◌, ◌^◌, ◌<◌, ◌≤◌, ◌&&◌, List, [], ◌∷◌, ◌++◌, Bool, true, false, cond, length, get_or, take, drop, set, replicate, refl, ap, sym, subst, ◌∙◌, inl, inr, arith}
 use Rattle.std.specs.Prelude.{bit_and, bit_xor}
 use mathlib.Core.Bool.{xor}
 use mir.Syntax.{w8}
 use mir.Val.{Fits}
 use lib.Lanes.{zip2, put_chunk, chunk}
-use Rattle.std.proofs.lemmas.Bool.{cases_lt, cases_eq}
+use Rattle.std.proofs.lemmas.Bool.{cases_lt}
 use Rattle.std.proofs.Math.Seq.{take-add}
 use borrow.Rule.Slice.PartMut.{put_mid}
 use Rattle.arrow2_kernels.proofs.Written.{whole_written}
-use Rattle.std.proofs.lemmas.List.{take_at, drop_at, drop_all, append-nil, length-append, length-drop, get_or_append_left, get_or-append_right, take-take, length-set, get_or-set_same, get_or-set_other, get_or-take, length-take-le, get_or-replicate, get_or_past, take_all}
+use Rattle.std.proofs.lemmas.List.{take_at, drop_at, drop_all, append-nil, length-append, length-drop, get_or_append_left, get_or-append_right, take-take, get_or-take, length-take-le, get_or-replicate, get_or_past, take_all}
 use Rattle.std.proofs.lemmas.Simd.{length-put_chunk, get_or-zip2, get_or-chunk, get_or-put_chunk_below, get_or-put_chunk_at, get_or-put_chunk_above}
 use Rattle.arrow2_model.specs.Bits.{bit, bits, unnum}
 use Rattle.arrow2_model.specs.Canonical.{IsCanonical}

@@ -1,8 +1,7 @@
 -- Steps over rows of words.
-use Rattle.std.proofs.Common.{◌≡◌, inl, inr, ℕ, zero, suc, ◌+◌, ◌-◌, ◌*◌, ◌/◌, ◌^◌, ◌<◌, List, [], ◌∷◌, ◌++◌, Bool, true, false, Option, None, Some, take, drop, replicate, length, get_or, refl, ap, sym, ◌∙◌, subst, arith}
-use Rattle.std.proofs.lemmas.Bool.{cases_lt}
+use Rattle.std.proofs.Common.{◌≡◌, ℕ, zero, suc, ◌+◌, ◌-◌, ◌*◌, ◌/◌, ◌^◌, ◌<◌, List, [], ◌∷◌, ◌++◌, Bool, true, false, Option, None, Some, take, drop, replicate, length, get_or, refl, ap, sym, ◌∙◌, subst, arith}
 use Rattle.std.proofs.lemmas.Nat.{pow_pos}
-use Rattle.std.proofs.lemmas.List.{length-append, drop_at, drop-drop, get_or_append_left, get_or-append_right, take_all}
+use Rattle.std.proofs.lemmas.List.{length-append, drop_at, drop-drop, take_all}
 use Rattle.std.proofs.Math.Nat.{mul-suc}
 use Rattle.arrow2_model.specs.Bits.{num, unnum}
 use Rattle.arrow2_model.specs.Words.{full_words, rest, WordWalk, GivesWord}

@@ -1,4 +1,4 @@
-use Rattle.std.proofs.Common.{◌∙◌, sym, refl, arith}
+use Rattle.std.proofs.Common.{refl, arith}
 use Rattle.arrow2_kernels.proofs.LaneSteps.{spare_none, spare_cleared}
 use Rattle.arrow2_kernels.proofs.lane_assigned.clear_spare.Goals as goal
 

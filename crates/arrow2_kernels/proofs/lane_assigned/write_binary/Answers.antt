@@ -1,4 +1,4 @@
-use Rattle.std.proofs.Common.{◌∙◌, ◌+◌, ◌*◌, ◌≡◌, ap, subst, length, arith}
+use Rattle.std.proofs.Common.{◌+◌, ◌*◌, subst, arith}
 use Rattle.arrow2_kernels.proofs.LaneSteps.{lanes_written2, all_written2, Written, Acts2}
 use Rattle.arrow2_kernels.proofs.lane_assigned.write_binary.Goals as goal
 

@@ -1,4 +1,4 @@
-use Rattle.std.proofs.Common.{◌∙◌, ◌+◌, ◌*◌, ◌≡◌, ap, subst, length, arith}
+use Rattle.std.proofs.Common.{◌+◌, ◌*◌, subst, arith}
 use Rattle.arrow2_kernels.proofs.LaneSteps.{lanes_written1, all_written1, Written, Acts1}
 use Rattle.arrow2_kernels.proofs.lane_assigned.write_unary.Goals as goal
 

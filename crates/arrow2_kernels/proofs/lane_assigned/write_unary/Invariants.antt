@@ -1,5 +1,5 @@
 use Rattle.std.proofs.Common.{◌*◌}
-use Rattle.arrow2_kernels.proofs.LaneSteps.{Written, Acts1, Acts2}
+use Rattle.arrow2_kernels.proofs.LaneSteps.{Written, Acts1}
 use Rattle.arrow2_kernels.proofs.lane_assigned.write_unary.Given as goal
 
 abbrev pub invariant-loop-k : goal.invariant-loop-k

@@ -1,4 +1,4 @@
-use Rattle.std.proofs.Common.{◌∙◌, [], length, rules}
+use Rattle.std.proofs.Common.{◌∙◌, [], rules}
 use Rattle.arrow2_kernels.proofs.LaneSteps.{block_written}
 use Rattle.arrow2_kernels.proofs.lane_mapped.append_binary.Goals as goal
 

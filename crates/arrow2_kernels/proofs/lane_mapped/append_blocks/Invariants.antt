@@ -1,4 +1,4 @@
-use Rattle.std.proofs.Common.{◌≡◌, ◌*◌, [], ◌∷◌, take, length, vec_len}
+use Rattle.std.proofs.Common.{◌≡◌, ◌*◌, [], ◌∷◌, take}
 use Rattle.arrow2_model.specs.Bits.{bits}
 use Rattle.arrow2_model.specs.Tables.{each}
 use Rattle.arrow2_kernels.proofs.lane_mapped.append_blocks.Given as goal

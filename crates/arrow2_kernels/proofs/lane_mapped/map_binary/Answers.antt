@@ -1,7 +1,5 @@
-use Rattle.std.proofs.Common.{◌≡◌, ◌∙◌, ◌+◌, ◌*◌, ◌/◌, ℕ, List, [], ◌∷◌, ap, sym, take, length, arith, rules}
+use Rattle.std.proofs.Common.{◌∙◌, ℕ, List, ap, take, length, arith, rules}
 use Rattle.arrow2_model.specs.Bits.{bits}
-use Rattle.arrow2_model.specs.Tables.{each}
-use Rattle.arrow2_model.proofs.Bits.{length-bits}
 use Rattle.arrow2_kernels.proofs.Written.{whole_written}
 use Rattle.arrow2_kernels.proofs.LaneSteps.{length-answers, first_answers}
 use Rattle.arrow2_kernels.proofs.lane_mapped.map_binary.Goals as goal

@@ -1,4 +1,4 @@
-use Rattle.std.proofs.Common.{◌∙◌, ◌≡◌, length, sym, arith}
+use Rattle.std.proofs.Common.{◌∙◌, ◌≡◌, length, sym}
 use Rattle.std.specs.Prelude.{bit_and, bit_xor}
 use lib.Lanes.{zip2}
 use Rattle.std.proofs.lemmas.Simd.{length-zip2}

@@ -1,4 +1,4 @@
-use Rattle.std.proofs.Common.{◌∙◌, ◌≡◌, List, ℕ, Bool, get_or, ap, sym}
+use Rattle.std.proofs.Common.{◌∙◌, List, ℕ, get_or, ap, sym}
 use Rattle.arrow2_model.specs.Bits.{bit}
 use Rattle.arrow2_kernels.proofs.LaneSteps.{filled_true, filled_false}
 use Rattle.arrow2_kernels.proofs.lanes.filled.Goals as goal

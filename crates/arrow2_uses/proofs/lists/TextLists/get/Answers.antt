@@ -1,4 +1,4 @@
-use Rattle.std.proofs.Common.{◌∙◌, List, Option, [], ap, drop, false, sym, true}
+use Rattle.std.proofs.Common.{◌∙◌, [], ap, drop, false, sym, true}
 use Rattle.std.specs.List.{slice_get}
 use Rattle.std.specs.Option.{option_and_then}
 use Rattle.arrow2.specs.Buffers.{buffer_items}
