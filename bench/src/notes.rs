@@ -115,7 +115,8 @@ const ONCE: &str =
 const FIRST: &str =
     "room is asked for before anything is written, so that a refusal leaves the items";
 
-const AT_RUN_TIME: &str = "one loop for all tables, where arrow2's is compiled for the function";
+const AT_RUN_TIME: &str =
+    "which loop it is is told by the table at each call, where arrow2's is compiled for the function";
 
 const HINTS: &str = "no size hint is believed, so room grows by doubling, where arrow2 asks once";
 
