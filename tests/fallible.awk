@@ -1,5 +1,6 @@
 # Prints each public call whose clauses or documentation name want of memory: `Type::call`, `call` outside a type, or
-# the head of an `impl` of a trait. A call that never takes any says so: `Takes no memory`, with no `where` behind it. With `words`, those alone whose documentation has them.
+# the head of an `impl` of a trait. A call that never takes any says so: `Takes no memory`, with no `where` behind it.
+# With `words`, those alone whose documentation has them.
 /^ *}/ { said = "" }
 { said = said $0 "\n" }
 /^impl/ {
