@@ -5,7 +5,7 @@ use crate::refusal::{Refusal, told};
 use crate::sys;
 
 /// Writes the places of set bits among `length` bits, from place `at` of them on, rising, as many as fit. Answers how
-/// many these are, and moves `at` to where to go on; fewer than fit are the last ones.
+/// many these are, and moves `at` to where to go on; fewer than fit are the last ones, and `at` is then `length`.
 ///
 /// # Errors
 ///

@@ -5,7 +5,8 @@ use crate::refusal::{Refusal, told};
 use crate::sys;
 
 /// Writes the runs of set bits among `length` bits, from place `at` of them on: each by its first place and its length,
-/// as many as fit. Answers how many these are, and moves `at` to where to go on; fewer than fit are the last ones.
+/// as many as fit. Answers how many these are, and moves `at` to where to go on; fewer than fit are the last ones, and
+/// `at` is then `length`.
 ///
 /// # Errors
 ///
