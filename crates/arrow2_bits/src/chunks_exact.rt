@@ -56,7 +56,8 @@ impl<'a, T: BitChunk> BitChunksExact<'a, T> {
     /// The word in which the remainder stands. Behind it come the spare bits of the byte that holds the last item, and
     /// then false, so mask it to [`BitChunkIterExact::remainder_len`] bits.
     ///
-    /// arrow2's page says that it is 0 exactly where the items fill whole words; it may be 0 elsewhere too.
+    /// It is 0 where the items fill whole words, and may be 0 elsewhere too. arrow2's page says: exactly where there are
+    /// fewer than 8 items.
     pub fn remainder(&self) -> T
         ensures spill { T.BitChunk.number result ≡ self.now.spill }
         ensures rest { take (length' (rest T.BitChunk.WIDTH self.now.items))

@@ -35,6 +35,7 @@ pub fn broken_rule<O: Offset>(offsets: &[O]) -> Option<BrokenRule>
     if !is_rising(offsets) {
         return Some(BrokenRule::Falling);
     }
+    // A number that is read is in the range of its type: so no offset is above `O::MAX`.
     let _last = offsets[offsets.len() - 1].to_usize();
     None
 }
