@@ -1,5 +1,6 @@
 -- Places of bits, and the runs that a walk has left.
-use Rattle.std.specs.Prelude.{◌≡◌, ℕ, ◌+◌, ◌<◌, ◌≤◌, List, Bool, not, get_or, false}
+use Rattle.std.specs.Prelude.{◌≡◌, ℕ, ◌+◌, ◌<◌, ◌≤◌, List, Bool, Option, not, get_or, false}
+use Rattle.std.specs.Iterator.{YieldsFirst}
 use Rattle.arrow2_model.specs.Bits.{bit}
 
 -- p is the first place from `at` up to `end` whose bit, counted from bit `offset` on, is `value`: `end` where none is
@@ -19,3 +20,8 @@ pub record IsRead (items : List Bool) (offset end at word held : ℕ) : Type 0 w
 pub record RunsLeft : Type 0 where
   pub runs : List (ℕ × ℕ)
   pub slots : ℕ
+
+-- one step of such a walk: the first run comes, and the number of true items in all stays
+pub record GivesRun (s : RunsLeft) (r : Option (ℕ × ℕ)) (t : RunsLeft) : Type 0 where
+  pub runs : YieldsFirst (λ (w : RunsLeft). w.runs) s r t
+  pub slots : t.slots ≡ s.slots

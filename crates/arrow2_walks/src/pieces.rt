@@ -59,6 +59,7 @@ impl Pieces {
         ensures bound { let n = length (joined self.now.pieces) in
             8 * self.now.reads ≤ 2 * (n * lg n) + 30 * (result - 1) }
     {
+        // The field is read for what the type keeps: the cuts are paid for.
         let _ = &self.reads;
         self.bitmaps.len()
     }

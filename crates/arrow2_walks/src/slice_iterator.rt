@@ -4,7 +4,7 @@ ghost use Rattle.std.specs.Iterator.{YieldsFirst, item_count};
 ghost use Rattle.arrow2_model.specs.Parts.{falses};
 ghost use Rattle.arrow2_walks.specs.Runs.{runs};
 ghost use Rattle.arrow2_model.specs.Storage.{items_of};
-ghost use Rattle.arrow2_walks.specs.Places.{RunsLeft};
+ghost use Rattle.arrow2_walks.specs.Places.{RunsLeft, GivesRun};
 
 use crate::places::{Place, first_place};
 use arrow2_bitmap::Bitmap;
@@ -103,7 +103,7 @@ impl<'a> Clone for SlicesIterator<'a> {
 impl<'a> Iterator for SlicesIterator<'a> {
     type Item = (usize, usize);
 
-    ghost next_gives = { YieldsFirst (λ i. i.runs) };
+    ghost next_gives = { GivesRun };
 
     ghost remaining = { item_count (λ i. i.runs) };
 
