@@ -4,7 +4,7 @@
  * Rules for every call:
  * - A slice is a pointer and then how many items it has. No pointer is null, not even one to no item.
  * - What a call reads it may share with others. What it writes is the caller's alone while the call runs: no two of the
- *   slices overlap where one of them is written.
+ *   slices and single values overlap where one of them is written.
  * - Bit i of bytes is bit i % 8 of byte i / 8, the lowest first. Offsets and lengths of bits are in bits, and may be
  *   any numbers; those of other slices are in items.
  * - `out` of a call that writes bits has (length + 7) / 8 bytes, no more and no fewer. The bits are written from bit 0
@@ -47,7 +47,7 @@ extern "C" {
 uint32_t arrow2_count_zeros(const uint8_t *bytes, size_t bytes_count, size_t offset, size_t length, size_t *zeros);
 
 /* Writes to `equal` whether the `length` bits of `left` from bit `left_offset` on are those of `right` from bit
- * `right_offset` on. ARROW2_RANGE: one of both is not inside its bytes. */
+ * `right_offset` on. ARROW2_RANGE: either is not inside its bytes. */
 uint32_t arrow2_equal_bits(const uint8_t *left, size_t left_count, size_t left_offset, const uint8_t *right,
                            size_t right_count, size_t right_offset, size_t length, bool *equal);
 
@@ -106,7 +106,7 @@ uint32_t arrow2_quaternary_assign_table(uint8_t *bytes, size_t bytes_count, cons
  *
  * Values beside their validity: an item is null where its validity bit is not set. Of both sides `length` items are
  * read. `values` and `validity` get the answer, each as `out` above.
- * ARROW2_RANGE: bits of one of the four are not inside. Else ARROW2_LENGTH: `values` or `validity` has another length. */
+ * ARROW2_RANGE: bits of any of the four are not inside. Else ARROW2_LENGTH: `values` or `validity` has another length. */
 
 /* Whether both are true: false where one of them is false, and null where that is not known. */
 uint32_t arrow2_and_kleene(const uint8_t *left, size_t left_count, size_t left_offset, const uint8_t *left_validity,

@@ -12,7 +12,7 @@ use crate::sys;
 #[inline]
 pub fn count_zeros(bytes: &[u8], offset: usize, length: usize) -> Result<usize, Refusal> {
     let mut zeros = 0;
-    // The slice and the number are borrowed for the call, and it keeps neither.
+    // SAFETY: the slice and the number are borrowed for the call, and it keeps neither.
     told(unsafe { sys::arrow2_count_zeros(bytes.as_ptr(), bytes.len(), offset, length, &mut zeros) })?;
     Ok(zeros)
 }
@@ -21,11 +21,11 @@ pub fn count_zeros(bytes: &[u8], offset: usize, length: usize) -> Result<usize, 
 ///
 /// # Errors
 ///
-/// [`Refusal::Range`] exactly where those of one of both are not inside its bytes.
+/// [`Refusal::Range`] exactly where those of either are not inside its bytes.
 #[inline]
 pub fn equal_bits(left: Bits<'_>, right: Bits<'_>, length: usize) -> Result<bool, Refusal> {
     let mut equal = false;
-    // The slices and the boolean are borrowed for the call, and it keeps none.
+    // SAFETY: the slices and the boolean are borrowed for the call, and it keeps none.
     told(unsafe {
         sys::arrow2_equal_bits(
             left.bytes.as_ptr(),
@@ -49,7 +49,7 @@ pub fn equal_bits(left: Bits<'_>, right: Bits<'_>, length: usize) -> Result<bool
 #[inline]
 pub fn get_bit(bytes: &[u8], index: usize) -> Result<bool, Refusal> {
     let mut value = false;
-    // The slice and the boolean are borrowed for the call, and it keeps neither.
+    // SAFETY: the slice and the boolean are borrowed for the call, and it keeps neither.
     told(unsafe { sys::arrow2_get_bit(bytes.as_ptr(), bytes.len(), index, &mut value) })?;
     Ok(value)
 }
@@ -61,7 +61,7 @@ pub fn get_bit(bytes: &[u8], index: usize) -> Result<bool, Refusal> {
 /// [`Refusal::Range`] exactly where it is not inside the bytes.
 #[inline]
 pub fn set_bit(bytes: &mut [u8], index: usize, value: bool) -> Result<(), Refusal> {
-    // The slice is borrowed for the call, and it does not keep it.
+    // SAFETY: the slice is borrowed for the call, and it does not keep it.
     told(unsafe { sys::arrow2_set_bit(bytes.as_mut_ptr(), bytes.len(), index, value) })
 }
 
@@ -73,6 +73,6 @@ pub fn set_bit(bytes: &mut [u8], index: usize, value: bool) -> Result<(), Refusa
 /// not [`crate::bytes_for`] that many bytes.
 #[inline]
 pub fn copy_bits(bytes: &[u8], offset: usize, length: usize, out: &mut [u8]) -> Result<(), Refusal> {
-    // The slices are borrowed for the call, one of them alone, and it keeps neither.
+    // SAFETY: the slices are borrowed for the call, one of them alone, and it keeps neither.
     told(unsafe { sys::arrow2_copy_bits(bytes.as_ptr(), bytes.len(), offset, length, out.as_mut_ptr(), out.len()) })
 }

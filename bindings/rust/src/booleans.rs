@@ -11,7 +11,7 @@ use crate::sys;
 /// [`Refusal::Length`] exactly where `out` has not [`crate::bytes_for`] that many bytes.
 #[inline]
 pub fn pack(items: &[bool], out: &mut [u8]) -> Result<(), Refusal> {
-    // The slices are borrowed for the call, `out` alone, and it keeps none.
+    // SAFETY: the slices are borrowed for the call, `out` alone, and it keeps none.
     told(unsafe { sys::arrow2_pack(items.as_ptr(), items.len(), out.as_mut_ptr(), out.len()) })
 }
 
@@ -23,6 +23,6 @@ pub fn pack(items: &[bool], out: &mut [u8]) -> Result<(), Refusal> {
 #[inline]
 pub fn unpack(bits: Bits<'_>, out: &mut [bool]) -> Result<(), Refusal> {
     let Bits { bytes, offset } = bits;
-    // The slices are borrowed for the call, `out` alone, and it keeps none.
+    // SAFETY: the slices are borrowed for the call, `out` alone, and it keeps none.
     told(unsafe { sys::arrow2_unpack(bytes.as_ptr(), bytes.len(), offset, out.as_mut_ptr(), out.len()) })
 }

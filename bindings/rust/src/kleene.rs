@@ -20,7 +20,7 @@ macro_rules! operator {
         ///
         /// # Errors
         ///
-        /// [`Refusal::Range`] exactly where bits of one of the four are not inside, else [`Refusal::Length`] exactly
+        /// [`Refusal::Range`] exactly where bits of any of the four are not inside, else [`Refusal::Length`] exactly
         /// where `values` or `validity` has not [`crate::bytes_for`] that many bytes.
         #[inline]
         pub fn $name(
@@ -30,7 +30,7 @@ macro_rules! operator {
             values: &mut [u8],
             validity: &mut [u8],
         ) -> Result<(), Refusal> {
-            // The slices are borrowed for the call, the last two alone, and it keeps none.
+            // SAFETY: the slices are borrowed for the call, the last two alone, and it keeps none.
             told(unsafe {
                 sys::$export(
                     left.values.bytes.as_ptr(),

@@ -49,7 +49,7 @@ pub trait Offset: sealed::Sealed + Copy {
 /// The calls of one width.
 macro_rules! offset {
     ($width:ty, $check:ident, $lengths:ident, $from_lengths:ident, $from_zero:ident) => {
-        // Each slice is borrowed for the call, what is written alone, and no call keeps one.
+        // SAFETY, of each call: each slice is borrowed for the call, what is written alone, and no call keeps one.
         impl Offset for $width {
             #[inline]
             fn check(offsets: &[Self]) -> Result<(), Refusal> {
@@ -96,7 +96,7 @@ offset!(
 /// The first rule that the numbers break, else [`Refusal::Length`] exactly where `out` has another length.
 #[inline]
 pub fn widen(offsets: &[i32], out: &mut [i64]) -> Result<(), Refusal> {
-    // The slices are borrowed for the call, `out` alone, and it keeps none.
+    // SAFETY: the slices are borrowed for the call, `out` alone, and it keeps none.
     told(unsafe { sys::arrow2_offsets_widen(offsets.as_ptr(), offsets.len(), out.as_mut_ptr(), out.len()) })
 }
 
@@ -107,6 +107,6 @@ pub fn widen(offsets: &[i32], out: &mut [i64]) -> Result<(), Refusal> {
 /// As [`widen`], else [`Refusal::Overflow`] exactly where the last offset is above `i32::MAX`.
 #[inline]
 pub fn narrow(offsets: &[i64], out: &mut [i32]) -> Result<(), Refusal> {
-    // The slices are borrowed for the call, `out` alone, and it keeps none.
+    // SAFETY: the slices are borrowed for the call, `out` alone, and it keeps none.
     told(unsafe { sys::arrow2_offsets_narrow(offsets.as_ptr(), offsets.len(), out.as_mut_ptr(), out.len()) })
 }

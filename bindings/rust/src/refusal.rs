@@ -1,5 +1,6 @@
 //! Why a call refuses.
 
+use crate::sys;
 use core::fmt;
 
 /// Why a call refused. Nothing was written.
@@ -40,20 +41,20 @@ impl core::error::Error for Refusal {}
 /// What a code of the library says.
 #[inline]
 pub(crate) fn told(code: u32) -> Result<(), Refusal> {
-    if code == 0 { Ok(()) } else { Err(refusal(code)) }
+    if code == sys::ARROW2_OK { Ok(()) } else { Err(refusal(code)) }
 }
 
-/// What a code that is not 0 stands for.
+/// What a code that is not `ARROW2_OK` stands for.
 #[cold]
 fn refusal(code: u32) -> Refusal {
     match code {
-        2 => Refusal::Length,
-        3 => Refusal::Overflow,
-        4 => Refusal::Memory,
-        5 => Refusal::NoOffset,
-        6 => Refusal::NegativeOffset,
-        7 => Refusal::FallingOffsets,
-        // 1. The library has no other codes.
+        sys::ARROW2_LENGTH => Refusal::Length,
+        sys::ARROW2_OVERFLOW => Refusal::Overflow,
+        sys::ARROW2_MEMORY => Refusal::Memory,
+        sys::ARROW2_SPEC_EMPTY => Refusal::NoOffset,
+        sys::ARROW2_SPEC_NEGATIVE => Refusal::NegativeOffset,
+        sys::ARROW2_SPEC_FALLING => Refusal::FallingOffsets,
+        // `ARROW2_RANGE`: the library has no other codes.
         _ => Refusal::Range,
     }
 }

@@ -1,4 +1,12 @@
-//! The library's exports, as `arrow2_proved.h` declares them.
+//! The library's codes and exports, as `arrow2_proved.h` declares them.
+
+pub const ARROW2_OK: u32 = 0;
+pub const ARROW2_LENGTH: u32 = 2;
+pub const ARROW2_OVERFLOW: u32 = 3;
+pub const ARROW2_MEMORY: u32 = 4;
+pub const ARROW2_SPEC_EMPTY: u32 = 5;
+pub const ARROW2_SPEC_NEGATIVE: u32 = 6;
+pub const ARROW2_SPEC_FALLING: u32 = 7;
 
 unsafe extern "C" {
     pub fn arrow2_count_zeros(bytes: *const u8, count: usize, offset: usize, length: usize, zeros: *mut usize) -> u32;

@@ -27,7 +27,7 @@ pub const XOR: u16 = 0b0110;
 #[inline]
 pub fn unary_table(input: Bits<'_>, length: usize, table: u16, out: &mut [u8]) -> Result<(), Refusal> {
     let Bits { bytes, offset } = input;
-    // The slices are borrowed for the call, `out` alone, and it keeps none.
+    // SAFETY: the slices are borrowed for the call, `out` alone, and it keeps none.
     told(unsafe {
         sys::arrow2_unary_table(bytes.as_ptr(), bytes.len(), offset, length, table, out.as_mut_ptr(), out.len())
     })
@@ -46,7 +46,7 @@ pub fn binary_table(
     table: u16,
     out: &mut [u8],
 ) -> Result<(), Refusal> {
-    // The slices are borrowed for the call, `out` alone, and it keeps none.
+    // SAFETY: the slices are borrowed for the call, `out` alone, and it keeps none.
     told(unsafe {
         sys::arrow2_binary_table(
             first.bytes.as_ptr(),
@@ -77,7 +77,7 @@ pub fn ternary_table(
     table: u16,
     out: &mut [u8],
 ) -> Result<(), Refusal> {
-    // The slices are borrowed for the call, `out` alone, and it keeps none.
+    // SAFETY: the slices are borrowed for the call, `out` alone, and it keeps none.
     told(unsafe {
         sys::arrow2_ternary_table(
             first.bytes.as_ptr(),
@@ -112,7 +112,7 @@ pub fn quaternary_table(
     table: u16,
     out: &mut [u8],
 ) -> Result<(), Refusal> {
-    // The slices are borrowed for the call, `out` alone, and it keeps none.
+    // SAFETY: the slices are borrowed for the call, `out` alone, and it keeps none.
     told(unsafe {
         sys::arrow2_quaternary_table(
             first.bytes.as_ptr(),
@@ -143,7 +143,7 @@ pub fn quaternary_table(
 /// [`crate::bytes_for`] that many bytes.
 #[inline]
 pub fn unary_assign_table(bytes: &mut [u8], length: usize, table: u16) -> Result<(), Refusal> {
-    // The slice is borrowed for the call, alone, and it does not keep it.
+    // SAFETY: the slice is borrowed for the call, alone, and it does not keep it.
     told(unsafe { sys::arrow2_unary_assign_table(bytes.as_mut_ptr(), bytes.len(), length, table) })
 }
 
@@ -154,7 +154,7 @@ pub fn unary_assign_table(bytes: &mut [u8], length: usize, table: u16) -> Result
 /// As [`unary_assign_table`], but where `table` is above 15 or bits of `second` are not inside.
 #[inline]
 pub fn binary_assign_table(bytes: &mut [u8], second: Bits<'_>, length: usize, table: u16) -> Result<(), Refusal> {
-    // The slices are borrowed for the call, `bytes` alone, and it keeps none.
+    // SAFETY: the slices are borrowed for the call, `bytes` alone, and it keeps none.
     told(unsafe {
         sys::arrow2_binary_assign_table(
             bytes.as_mut_ptr(),
@@ -181,7 +181,7 @@ pub fn ternary_assign_table(
     length: usize,
     table: u16,
 ) -> Result<(), Refusal> {
-    // The slices are borrowed for the call, `bytes` alone, and it keeps none.
+    // SAFETY: the slices are borrowed for the call, `bytes` alone, and it keeps none.
     told(unsafe {
         sys::arrow2_ternary_assign_table(
             bytes.as_mut_ptr(),
@@ -212,7 +212,7 @@ pub fn quaternary_assign_table(
     length: usize,
     table: u16,
 ) -> Result<(), Refusal> {
-    // The slices are borrowed for the call, `bytes` alone, and it keeps none.
+    // SAFETY: the slices are borrowed for the call, `bytes` alone, and it keeps none.
     told(unsafe {
         sys::arrow2_quaternary_assign_table(
             bytes.as_mut_ptr(),

@@ -7,7 +7,7 @@ ghost use Rattle.arrow2_ffi.specs.Ranges.{IsInside, Holds};
 ghost use Rattle.arrow2_ffi.specs.Writes.{Stores, Writes, WritesWhere};
 
 use crate::codes::{ARROW2_LENGTH, ARROW2_OK, ARROW2_RANGE};
-use crate::ranges::{Bits, are_both_inside, are_inside, hold};
+use crate::ranges::{Bits, are_both_inside, are_inside, has_bit, hold};
 use crate::rows::copy;
 
 /// Writes to `zeros` how many of the `length` bits from bit `offset` on are not set.
@@ -33,7 +33,7 @@ pub extern "C" fn arrow2_count_zeros(
 /// Writes to `equal` whether the `length` bits of `left` from bit `left_offset` on are those of `right` from bit
 /// `right_offset` on.
 ///
-/// `ARROW2_RANGE` exactly where one of both is not inside its bytes.
+/// `ARROW2_RANGE` exactly where either is not inside its bytes.
 #[unsafe(no_mangle)]
 pub extern "C" fn arrow2_equal_bits(
     left: &[u8],
@@ -64,7 +64,7 @@ pub extern "C" fn arrow2_get_bit(bytes: &[u8], index: usize, value: &mut bool) -
     ensures { WritesWhere ARROW2_RANGE result (index < 8 * length' bytes.now)
         (value.new ≡ slice_index_or (bits bytes.now) index false) (value.new ≡ value.old) }
 {
-    if !are_inside(Bits(bytes, index), 1) {
+    if !has_bit(bytes, index) {
         return ARROW2_RANGE;
     }
     *value = arrow2_bits::get_bit(bytes, index);
@@ -79,7 +79,7 @@ pub extern "C" fn arrow2_set_bit(bytes: &mut [u8], index: usize, value: bool) ->
     ensures { WritesWhere ARROW2_RANGE result (index < 8 * length' bytes.old)
         (bits bytes.new ≡ slice_set (bits bytes.old) index value) (bytes.new ≡ bytes.old) }
 {
-    if !are_inside(Bits(bytes, index), 1) {
+    if !has_bit(bytes, index) {
         return ARROW2_RANGE;
     }
     arrow2_bits::set_bit(bytes, index, value);

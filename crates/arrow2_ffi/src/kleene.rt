@@ -24,7 +24,7 @@ struct Nullable<'a> {
 
 /// Writes, item by item, whether both are true: false where one of them is false, and null where that is not known.
 ///
-/// `ARROW2_RANGE` exactly where bits of one of the four are not inside, else `ARROW2_LENGTH` exactly where `values` or
+/// `ARROW2_RANGE` exactly where bits of any of the four are not inside, else `ARROW2_LENGTH` exactly where `values` or
 /// `validity` has not as many bytes as hold the items.
 #[unsafe(no_mangle)]
 pub extern "C" fn arrow2_and_kleene(
@@ -67,7 +67,7 @@ pub extern "C" fn arrow2_and_kleene(
 /// Writes, item by item, whether one is true, or both: true where one of them is true, and null where that is not
 /// known.
 ///
-/// `ARROW2_RANGE` exactly where bits of one of the four are not inside, else `ARROW2_LENGTH` exactly where `values` or
+/// `ARROW2_RANGE` exactly where bits of any of the four are not inside, else `ARROW2_LENGTH` exactly where `values` or
 /// `validity` has not as many bytes as hold the items.
 #[unsafe(no_mangle)]
 pub extern "C" fn arrow2_or_kleene(

@@ -7,7 +7,7 @@ ghost use Rattle.arrow2_ffi.specs.OffsetWrites.{WritesFromOffsets, WritesFromOff
 ghost use Rattle.arrow2_ffi.specs.Rules.{rule_code};
 
 use crate::codes::{ARROW2_LENGTH, ARROW2_OK, ARROW2_OVERFLOW, ARROW2_RANGE};
-use crate::offset_loops::{refusal, total, write_lengths, write_part, write_sums};
+use crate::offset_loops::{fits, refusal, write_lengths, write_part, write_sums};
 use arrow2_index::offset::Offset;
 
 /// Whether the numbers are offsets, and else which rule they break first.
@@ -16,10 +16,7 @@ pub(crate) fn check<O: Offset>(offsets: &[O]) -> u32
     ensures broken { result ≢ ARROW2_OK →
         result ≡ rule_code (first_broken (map O.value offsets.now)) }
 {
-    match refusal(offsets) {
-        None => ARROW2_OK,
-        Some(code) => code,
-    }
+    refusal(offsets).unwrap_or(ARROW2_OK)
 }
 
 /// Writes how far each offset is from the next one.
@@ -51,7 +48,7 @@ pub(crate) fn sums<O: Offset>(start: usize, lengths: &[usize], offsets: &mut [O]
     if offsets.is_empty() || offsets.len() - 1 != lengths.len() {
         return ARROW2_LENGTH;
     }
-    if total(start, lengths) > O::MAX as u128 {
+    if !fits::<O>(start, lengths) {
         return ARROW2_OVERFLOW;
     }
     write_sums(start, lengths, offsets);

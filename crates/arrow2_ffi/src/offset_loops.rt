@@ -1,5 +1,5 @@
 //! Offsets of either width in memory of the caller: the loops.
-ghost use Rattle.std.specs.Prelude.{◌≡◌, ◌+◌, ◌-◌, ◌<◌, ◌≤◌, ℕ, pos, map, length, IfNone, IfSome};
+ghost use Rattle.std.specs.Prelude.{◌≡◌, ◌+◌, ◌-◌, ◌*◌, ◌<◌, ◌≤◌, ◌↔◌, pos, map, length, sum, IfNone, IfSome, IsTrue};
 ghost use Rattle.arrow2_offset.specs.Offsets.{AreOffsets, AreOffsetsUpTo, last_of, last_offset, lengths_of, offsets_list};
 ghost use Rattle.arrow2_model.specs.Parts.{part};
 ghost use Rattle.arrow2_ffi.specs.Rules.{TellsBroken};
@@ -40,8 +40,27 @@ pub(crate) fn write_lengths<O: Offset>(offsets: &[O], lengths: &mut [usize])
     }
 }
 
+/// Whether the start and all lengths, added up exactly, are an offset.
+pub(crate) fn fits<O: Offset>(start: usize, lengths: &[usize]) -> bool
+    ensures { IsTrue result ↔ (last_offset start lengths.now ≤ O.MAX) }
+{
+    let most = start as u128 + lengths.len() as u128 * all_bits(lengths) as u128;
+    most <= O::MAX as u128 || total(start, lengths) <= O::MAX as u128
+}
+
+/// The bits of all lengths: a number that none of them is above. It is found faster than their sum.
+fn all_bits(lengths: &[usize]) -> usize
+    ensures { sum lengths.now ≤ length lengths.now * result }
+{
+    let mut bits = 0;
+    for length in lengths {
+        bits |= *length;
+    }
+    bits
+}
+
 /// The start and all lengths, added up exactly.
-pub(crate) fn total(start: usize, lengths: &[usize]) -> u128
+fn total(start: usize, lengths: &[usize]) -> u128
     ensures { result ≡ last_offset start lengths.now }
 {
     let mut sum = start as u128;

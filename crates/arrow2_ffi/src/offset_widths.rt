@@ -42,7 +42,7 @@ pub extern "C" fn arrow2_offsets_narrow(offsets: &[i64], out: &mut [i32]) -> u32
     if out.len() != offsets.len() {
         return ARROW2_LENGTH;
     }
-    if last(offsets) > 2147483647 {
+    if last(offsets) > i32::MAX as usize {
         return ARROW2_OVERFLOW;
     }
     write_narrow(offsets, out);

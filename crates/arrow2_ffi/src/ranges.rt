@@ -1,5 +1,5 @@
 //! Bits that are named by their bytes and the first of them, and whether these and slices are as a call needs.
-ghost use Rattle.std.specs.Prelude.{◌≡◌, ◌↔◌, IsTrue};
+ghost use Rattle.std.specs.Prelude.{◌≡◌, ◌*◌, ◌<◌, ◌↔◌, IsTrue, length};
 ghost use Rattle.arrow2_ffi.specs.Ranges.{HasBits, Holds};
 
 use arrow2_bits::bytes_for;
@@ -27,4 +27,11 @@ pub(crate) fn hold(bytes: &[u8], length: usize) -> bool
     ensures { IsTrue result ↔ Holds bytes.now length }
 {
     bytes.len() == bytes_for(length)
+}
+
+/// Whether there is a bit `index`.
+pub(crate) fn has_bit(bytes: &[u8], index: usize) -> bool
+    ensures { IsTrue result ↔ (index < 8 * length bytes.now) }
+{
+    index / 8 < bytes.len()
 }

@@ -11,7 +11,7 @@ ghost use Rattle.arrow2_ffi.specs.Writes.{Stores};
 use crate::ranges::Bits;
 use arrow2_bits::chunk_iterator::BitChunks;
 use arrow2_kernels::assigned::assign_rows;
-use arrow2_kernels::lane_assigned::assign_binary;
+use arrow2_kernels::lane_assigned::{assign_binary, clear_spare};
 use arrow2_kernels::rows::{Beside, OneList, WordRows};
 use arrow2_kernels::tables::{binary_answers, quaternary_answers, ternary_answers};
 
@@ -69,9 +69,7 @@ fn copy_bytes(bytes: &[u8], length: usize, out: &mut [u8])
     ensures { Stores out.new length (take length (bits bytes.now)) }
 {
     out.copy_from_slice(&bytes[..out.len()]);
-    if length % 8 != 0 {
-        out[length / 8] %= 1 << (length % 8);
-    }
+    clear_spare(out, length);
 }
 
 /// Writes the answers of table `t` for the first `length` bits, and for as many of the second input, in place. Asks for

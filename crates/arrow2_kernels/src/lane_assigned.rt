@@ -6,7 +6,6 @@ ghost use Rattle.arrow2_model.specs.Tables.{each};
 
 use crate::lanes::{binary_lanes, unary_lanes};
 use crate::tables::{binary_answers, unary_answers};
-use arrow2_chunk::bit_chunk::BitChunk;
 use std::simd::prelude::*;
 
 /// Writes the answers of table `t` for the first `length` bits, and for those of `other`, in place. Spare bits are
@@ -106,8 +105,8 @@ fn write_unary(bytes: &mut [u8], t: u8)
     }
 }
 
-/// Clears the bits behind the first `length`. Asks for as many bytes as hold so many bits.
-pub(crate) fn clear_spare(bytes: &mut [u8], length: usize)
+/// Clears the bits behind the first `length`. Takes no memory. Asks for as many bytes as hold so many bits.
+pub fn clear_spare(bytes: &mut [u8], length: usize)
     requires exact { length' bytes.old ≡ (length + 7) / 8 }
     ensures canonical { IsCanonical bytes.new length }
     ensures items { take length (bits bytes.new) ≡ take length (bits bytes.old) }

@@ -4,7 +4,7 @@
 pub mod assigned;
 pub mod lane_assigned;
 pub mod lane_mapped;
-pub mod lanes;
+mod lanes;
 pub mod mapped;
 pub mod rows;
 pub mod tables;

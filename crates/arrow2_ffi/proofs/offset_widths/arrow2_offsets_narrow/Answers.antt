@@ -12,14 +12,14 @@ returns-then-out-offsets c =
     let are = rw (map-id c.args.offsets.now) at c.in_default.ensures.none in
     ill_fitting_or ARROW2_OVERFLOW c.args.offsets.now (λ e. omega (arith, e)) are.0 c.if-out-offsets.true refl
 
-pub returns-then-last-gt2147483647 : goal.returns-then-last-gt2147483647
-returns-then-last-gt2147483647 c =
+pub returns-then-last : goal.returns-then-last
+returns-then-last c =
     let are = rw (map-id c.args.offsets.now) at c.in_default.ensures.none in
     let last = rw (map-id c.args.offsets.now) at c.last.ensures in
-    beyond_or ARROW2_OVERFLOW c.args.offsets.now (λ e. omega (arith, e)) (λ e. omega (arith, e)) are.0 (λ other. other c.if-out-offsets.false) (omega (arith, last, c.if-last-gt2147483647.true)) refl
+    beyond_or ARROW2_OVERFLOW c.args.offsets.now (λ e. omega (arith, e)) (λ e. omega (arith, e)) are.0 (λ other. other c.if-out-offsets.false) (omega (arith, last, c.if-last.true)) refl
 
 pub returns : goal.returns
 returns c =
     let are = rw (map-id c.args.offsets.now) at c.in_default.ensures.none in
     let last = rw (map-id c.args.offsets.now) at c.last.ensures in
-    written_or ARROW2_OVERFLOW c.args.offsets.now (λ e. omega (arith, e)) are.0 (λ other. other c.if-out-offsets.false) (λ over. omega (arith, over, last, c.if-last-gt2147483647.false)) c.write_narrow.ensures
+    written_or ARROW2_OVERFLOW c.args.offsets.now (λ e. omega (arith, e)) are.0 (λ other. other c.if-out-offsets.false) (λ over. omega (arith, over, last, c.if-last.false)) c.write_narrow.ensures

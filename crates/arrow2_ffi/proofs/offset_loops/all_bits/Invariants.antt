@@ -1,0 +1,8 @@
+use Rattle.std.proofs.Common.{◌*◌, ◌≤◌}
+use Rattle.arrow2_offset.specs.Offsets.{offset_at}
+use Rattle.arrow2_ffi.proofs.offset_loops.all_bits.Given as goal
+
+abbrev pub invariant-loop-length : goal.invariant-loop-length
+invariant-loop-length l = record {
+  most : offset_at 0 l.lengths l.length-index ≤ l.length-index * l.bits;
+}
