@@ -26,7 +26,7 @@ use std::marker::Model;
 /// An array of booleans, each of which may be null: contracts see the list of its items, `None` where it is null.
 /// Slices and clones share the bytes.
 ///
-/// arrow2's has a data type too, which for booleans says nothing more.
+/// arrow2's has a data type too: `Boolean`, or an extension of it.
 #[derive(Drop)]
 pub struct BooleanArray {
     values: Bitmap,
@@ -84,9 +84,7 @@ impl BooleanArray {
         self.len() == 0
     }
 
-    /// Item `index`, `None` where it is null. Asks that it is below the length.
-    ///
-    /// In arrow2 a trait's method takes each index, and panics.
+    /// Item `index`, `None` where it is null. Asks that it is below the length, where arrow2 panics.
     pub fn get(&self, index: usize) -> Option<bool>
         requires below { index < length' self.now }
         ensures { result ≡ slice_index_or self.now index None }

@@ -26,10 +26,10 @@ pub const OR_KNOWN: u16 = 0b1111_1100_1000_1000;
 
 /// For which items it is known whether both are true, where one of them is not null: bit
 /// `value + 2 * validity + 4 * other` of an item and of the value that the other one has.
-pub const AND_KNOWN_BESIDE: u8 = 0b1100_1111;
+pub(crate) const AND_KNOWN_BESIDE: u8 = 0b1100_1111;
 
 /// And for which it is known whether one is true, or both.
-pub const OR_KNOWN_BESIDE: u8 = 0b1111_1100;
+pub(crate) const OR_KNOWN_BESIDE: u8 = 0b1111_1100;
 
 /// The answers of table `t` for the values and validities of two arrays, where a missing validity is all set: by table
 /// `beside` of three inputs where one is missing. Where both are missing there is none to be had: table `t` has to

@@ -8,7 +8,7 @@ use arrow2_types::error::{Error, Result};
 use std::alloc::{AllocError, Global};
 
 /// What is wrong with a list that is not offsets: the first rule that it breaks.
-#[derive(Clone, Copy, Debug)]
+#[derive(Clone, Copy, Debug, PartialEq, Eq)]
 pub enum BrokenRule {
     /// There is no offset at all.
     Empty,

@@ -7,7 +7,6 @@ ghost use Rattle.arrow2_offset.specs.Offsets.{AreOffsetsUpTo, last_of, last_of_g
 use crate::immutable::OffsetsBuffer;
 use crate::mutable::Offsets;
 use crate::widths::{write_narrow, write_wide};
-use arrow2_index::offset::Offset;
 use arrow2_types::error::{Error, Result};
 use std::alloc::{AllocError, Global};
 
