@@ -3,7 +3,7 @@ ghost use Rattle.std.specs.Prelude.{◌≡◌, length, replicate, IfOk};
 ghost use Rattle.std.specs.Bool.{OnTrue, OnFalse};
 ghost use Rattle.arrow2_model.specs.Buffers.{buffer_items, whole_buffer};
 
-use super::checks::shows;
+use super::checks::{has, shows};
 use arrow2_buffer::bytes::Bytes;
 use arrow2_buffer::laws::written_items_are_the_items;
 use arrow2_buffer::{Buffer, IntoIter};
@@ -34,11 +34,6 @@ fn overwrite(buffer: &mut Buffer<u32>, value: u32) -> bool
     ensures same { OnFalse result (buffer.new ≡ buffer.old) }
 {
     buffer.change_slice(|items| set_all(items, value))
-}
-
-/// The items are these.
-fn has(rt: &impl Abort, items: &[u32], wanted: &[u32]) {
-    assert_eq!(rt; items, wanted);
 }
 
 #[test]

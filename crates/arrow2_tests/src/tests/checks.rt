@@ -1,6 +1,10 @@
 //! What many tests ask, each proved once.
+ghost use Rattle.std.specs.Prelude.{◌≡◌};
 ghost use Rattle.std.specs.Iterator.{IsFinite};
+ghost use Rattle.arrow2_model.specs.Storage.{items_of};
 
+use arrow2_bitmap::immutable::Bitmap;
+use arrow2_bitmap::mutable::MutableBitmap;
 use arrow2_types::native::NativeType;
 use arrow2_types::primitive::PrimitiveType;
 use std::alloc::Global;
@@ -20,9 +24,24 @@ pub(super) fn shows(rt: &impl Abort, alloc: Global, value: &impl Debug, text: &s
     assert_eq!(rt; shown.as_str(), text);
 }
 
-/// The bytes are these.
-pub(super) fn has(rt: &impl Abort, bytes: &[u8], wanted: &[u8]) {
-    assert_eq!(rt; bytes, wanted);
+/// The items are these.
+pub(super) fn has<T: PartialEq + Debug>(rt: &impl Abort, items: &[T], wanted: &[T]) {
+    assert_eq!(rt; items, wanted);
+}
+
+/// A bitmap of these items.
+pub(super) fn bitmap_from(rt: &impl Abort, alloc: Global, items: &[bool]) -> Bitmap
+    ensures { items_of result ≡ items.now }
+{
+    Bitmap::from_bools(alloc, items).expect(rt, "no memory")
+}
+
+/// The bitmap, to be changed.
+pub(super) fn thawed(rt: &impl Abort, bitmap: &Bitmap) -> MutableBitmap
+    ensures { result.items ≡ items_of bitmap.now }
+{
+    let copy = bitmap.clone().expect(rt, "no memory");
+    copy.make_mut().expect(rt, "no memory")
 }
 
 /// A walk gives the items in this order, and no others.
@@ -54,4 +73,5 @@ pub(super) fn has_bytes<T: NativeType>(
     assert!(rt; T::from_le_bytes(le) == value && T::from_be_bytes(be) == value);
     assert!(rt; T::from_le_slice(le.as_slice()) == value);
     assert!(rt; T::from_be_slice(be.as_slice()) == value);
+    assert!(rt; T::from_le_bytes(T::bytes_of_slice(little)) == value);
 }

@@ -12,14 +12,14 @@ use std::convert::TryFrom;
 use std::process::Abort;
 
 /// The bitmap of the items.
-fn bitmap_from(rt: &impl Abort, alloc: Global, items: &[bool]) -> MutableBitmap {
+fn grown_from(rt: &impl Abort, alloc: Global, items: &[bool]) -> MutableBitmap {
     MutableBitmap::from_bools(alloc, items).expect(rt, "no memory")
 }
 
 #[test]
 fn bits_are_appended_within_a_byte(rt: HostRuntime) {
     let alloc = rt.alloc();
-    let mut grown = bitmap_from(&rt, alloc, &[true, false, true]);
+    let mut grown = grown_from(&rt, alloc, &[true, false, true]);
     let slice = [0b10110110, 0b01011011];
     grown
         .extend_from_slice(&slice, 3, 10)
@@ -34,7 +34,7 @@ fn bits_are_appended_within_a_byte(rt: HostRuntime) {
 #[test]
 fn words_are_appended_within_a_byte(rt: HostRuntime) {
     let alloc = rt.alloc();
-    let mut grown = bitmap_from(&rt, alloc, &[false; 5]);
+    let mut grown = grown_from(&rt, alloc, &[false; 5]);
     grown
         .extend_from_slice(&[255; 20], 3, 150)
         .expect(&rt, "no memory");
@@ -60,7 +60,7 @@ fn a_value_is_appended_behind_spare_bits(rt: HostRuntime) {
 
 #[test]
 fn room_is_made_and_given_back(rt: HostRuntime) {
-    let mut grown = bitmap_from(&rt, rt.alloc(), &[true; 3]);
+    let mut grown = grown_from(&rt, rt.alloc(), &[true; 3]);
     grown.reserve(1000).expect(&rt, "no memory");
     assert!(rt; grown.capacity() >= 1003 && grown.len() == 3);
     grown.shrink_to_fit().expect(&rt, "refused");
@@ -79,10 +79,10 @@ fn room_is_made_and_given_back(rt: HostRuntime) {
 fn a_validity_is_there_where_an_item_is_false(rt: HostRuntime) {
     let alloc = rt.alloc();
     for items in [[].as_slice(), &[true], &[true; 9]] {
-        let all = bitmap_from(&rt, alloc, items).into_validity();
+        let all = grown_from(&rt, alloc, items).into_validity();
         assert!(rt; all.expect(&rt, "no memory").is_none());
     }
-    let some = bitmap_from(&rt, alloc, &[true, false]).into_validity();
+    let some = grown_from(&rt, alloc, &[true, false]).into_validity();
     let validity = some
         .expect(&rt, "no memory")
         .expect(&rt, "an item is false");
@@ -120,6 +120,19 @@ fn repeats(rt: &impl Abort, own: &MutableBitmap, additional: usize, value: bool)
     );
 }
 
+/// A bitmap grows by each number of items, which stand at each bit of a byte, or are one value.
+fn grows_by_each_length(rt: &impl Abort, own: &MutableBitmap, bytes: &[u8])
+    requires enough { 207 ≤ 8 * count bytes.now }
+{
+    for length in 0..201usize {
+        for offset in 0..8usize {
+            extends(rt, own, bytes, offset, length);
+        }
+        repeats(rt, own, length, true);
+        repeats(rt, own, length, false);
+    }
+}
+
 #[test]
 fn each_place_grows_like_item_after_item(rt: HostRuntime) {
     let alloc = rt.alloc();
@@ -128,13 +141,7 @@ fn each_place_grows_like_item_after_item(rt: HostRuntime) {
     for place in 0..16usize {
         let spare = [0xff, 0xa5].to_vec(alloc).expect(&rt, "no memory");
         let own = MutableBitmap::from_vec(spare, place);
-        for length in 0..201usize {
-            for offset in 0..8usize {
-                extends(&rt, &own, bytes.as_slice(), offset, length);
-            }
-            repeats(&rt, &own, length, true);
-            repeats(&rt, &own, length, false);
-        }
+        grows_by_each_length(&rt, &own, bytes.as_slice());
     }
 }
 
@@ -147,7 +154,7 @@ fn a_bitmap_is_appended_to_another(rt: HostRuntime) {
     let part = Bitmap::try_new(bytes, 16)
         .expect(&rt, "no memory")
         .sliced(3, 10);
-    let mut grown = bitmap_from(&rt, alloc, &[true, false, true]);
+    let mut grown = grown_from(&rt, alloc, &[true, false, true]);
     grown.extend_from_bitmap(&part).expect(&rt, "no memory");
     shows(&rt, alloc, &grown, "[0b10110101, 0b___11011]");
 }

@@ -4,7 +4,7 @@ ghost use Rattle.arrow2_model.specs.Kernels.{unary_kernel, binary_kernel};
 ghost use Rattle.arrow2_model.specs.Storage.{items_of};
 ghost use Rattle.arrow2_model.specs.Tables.{each};
 
-use super::checks::{gives, has};
+use super::checks::{bitmap_from, gives, has, thawed};
 use arrow2_bitmap::assign_ops::{binary_assign, unary_assign};
 use arrow2_bitmap::bitmap_ops::{and, binary, or, unary, xor};
 use arrow2_bitmap::immutable::Bitmap;
@@ -46,21 +46,6 @@ fn flip(bitmap: &mut MutableBitmap)
     unary_assign(bitmap, |x: u16| unary_answers(1, x));
 }
 
-/// The bitmap, to be changed.
-fn thawed(rt: &impl Abort, bitmap: &Bitmap) -> MutableBitmap
-    ensures { result.items ≡ items_of bitmap.now }
-{
-    let copy = bitmap.clone().expect(rt, "no memory");
-    copy.make_mut().expect(rt, "no memory")
-}
-
-/// A bitmap of these items.
-fn of(rt: &impl Abort, alloc: Global, items: &[bool]) -> Bitmap
-    ensures { items_of result ≡ items.now }
-{
-    Bitmap::from_bools(alloc, items).expect(rt, "no memory")
-}
-
 /// A kernel of every zero word is true everywhere, and of every other word false.
 fn zero_words(rt: &impl Abort, bitmap: &Bitmap) -> Bitmap {
     unary(bitmap, |x| if x == 0 { u64::MAX } else { 0 }).expect(rt, "no memory")
@@ -84,13 +69,25 @@ fn operators_and_the_words_of_a_width(rt: HostRuntime) {
     let both = [true, true];
     let first = [true, false];
     let none = [false, false];
-    let is = and(&of(&rt, alloc, &first), &of(&rt, alloc, &both)).expect(&rt, "no memory");
+    let is = and(
+        &bitmap_from(&rt, alloc, &first),
+        &bitmap_from(&rt, alloc, &both),
+    )
+    .expect(&rt, "no memory");
     gives(&rt, alloc, is.iter(), &first);
-    let is = or(&of(&rt, alloc, &first), &of(&rt, alloc, &none)).expect(&rt, "no memory");
+    let is = or(
+        &bitmap_from(&rt, alloc, &first),
+        &bitmap_from(&rt, alloc, &none),
+    )
+    .expect(&rt, "no memory");
     gives(&rt, alloc, is.iter(), &first);
-    let is = xor(&of(&rt, alloc, &both), &of(&rt, alloc, &none)).expect(&rt, "no memory");
+    let is = xor(
+        &bitmap_from(&rt, alloc, &both),
+        &bitmap_from(&rt, alloc, &none),
+    )
+    .expect(&rt, "no memory");
     gives(&rt, alloc, is.iter(), &both);
-    let third = next_words(&of(&rt, alloc, &[true, true, false])).expect(&rt, "no memory");
+    let third = next_words(&bitmap_from(&rt, alloc, &[true, true, false])).expect(&rt, "no memory");
     gives(&rt, alloc, third.iter(), &[false, false, true]);
     let mut nine = MutableBitmap::from_len_zeroed(alloc, 9).expect(&rt, "no memory");
     unary_assign(&mut nine, |x: u8| x.wrapping_add(1));
@@ -103,8 +100,8 @@ fn operators_and_the_words_of_a_width(rt: HostRuntime) {
 #[test]
 fn callers_know_their_answers_by_the_clauses(rt: HostRuntime) {
     let alloc = rt.alloc();
-    let left = of(&rt, alloc, &[true, true, false, false]);
-    let right = of(&rt, alloc, &[true, false, true, false]);
+    let left = bitmap_from(&rt, alloc, &[true, true, false, false]);
+    let right = bitmap_from(&rt, alloc, &[true, false, true, false]);
     let is = only_left(&left, &right).expect(&rt, "no memory");
     gives(&rt, alloc, is.iter(), &[false, true, false, false]);
     let mut changed = thawed(&rt, &left);

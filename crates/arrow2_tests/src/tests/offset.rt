@@ -1,14 +1,13 @@
-//! Offsets as their callers see them: worked rows, texts of refusals, and each generic call at both types.
+//! Offsets as their callers see them: worked rows, texts of refusals, and each generic call at one type.
 ghost use Rattle.std.specs.Prelude.{◌≤◌, ◌-◌};
 ghost use Rattle.std.specs.Iterator.{at_most};
 
-use super::checks::prints;
+use super::checks::{has, prints};
 use arrow2_buffer::Buffer;
 use arrow2_index::offset::Offset;
 use arrow2_offset::{Offsets, OffsetsBuffer};
 use arrow2_types::error::Error;
 use std::alloc::Global;
-use std::fmt::Debug;
 use std::process::Abort;
 
 /// Gives 1 and then 2. Its size hint begins at `usize::MAX` and falls by one an item.
@@ -40,11 +39,6 @@ fn is_overflow<T: Drop>(answer: Result<T, Error>) -> bool {
     matches!(answer, Err(Error::Overflow))
 }
 
-/// The list is this one.
-fn is<T: PartialEq + Debug>(rt: &impl Abort, items: &[T], wanted: &[T]) {
-    assert_eq!(rt; items, wanted);
-}
-
 /// Offsets that begin at 0.
 fn grown<O: Offset>(rt: &impl Abort, alloc: Global, lengths: &[usize]) -> Offsets<O> {
     Offsets::try_from_lengths(alloc, lengths.iter().copied()).expect(rt, "no memory")
@@ -64,11 +58,11 @@ fn shared(rt: &impl Abort, alloc: Global, items: &[i32]) -> OffsetsBuffer<i32> {
 /// Each call that makes offsets.
 fn makes(rt: &impl Abort, alloc: Global) {
     let zeros = Offsets::<i32>::new_zeroed(alloc, 2).expect(rt, "no memory");
-    is(rt, zeros.as_slice(), &[0, 0, 0]);
+    has(rt, zeros.as_slice(), &[0, 0, 0]);
     let room = Offsets::<i32>::with_capacity(alloc, 20).expect(rt, "no memory");
     assert!(rt; room.capacity() >= 20);
     let hinted = Offsets::<i32>::try_from_iter(alloc, OneAndTwo { given: 0 });
-    is(rt, hinted.expect(rt, "no memory").as_slice(), &[0, 1, 3]);
+    has(rt, hinted.expect(rt, "no memory").as_slice(), &[0, 1, 3]);
 }
 
 /// Each call by which offsets grow by lengths.
@@ -82,16 +76,7 @@ fn grows(rt: &impl Abort, alloc: Global) {
     offsets
         .try_extend_from_lengths(more)
         .expect(rt, "no memory");
-    is(rt, offsets.as_slice(), &[0, 3, 3, 7, 7, 7, 9, 9]);
-}
-
-/// The call by which offsets grow by those of another.
-fn grows_by_others(rt: &impl Abort, alloc: Global) {
-    let mut offsets = grown::<i32>(rt, alloc, &[3, 4]);
-    let other = grown::<i32>(rt, alloc, &[1, 2]);
-    offsets.try_extend_from_self(&other).expect(rt, "no memory");
-    is(rt, offsets.as_slice(), &[0, 3, 7, 8, 10]);
-    assert!(rt; offsets != other);
+    has(rt, offsets.as_slice(), &[0, 3, 3, 7, 7, 7, 9, 9]);
 }
 
 /// Each call that reads, copies or takes away.
@@ -103,13 +88,13 @@ fn reads(rt: &impl Abort, alloc: Global) {
     assert!(rt; offsets.len_proxy() == 3);
     assert!(rt; matches!(offsets.start_end(1), (3, 7)));
     offsets.shrink_to_fit().expect(rt, "no memory");
-    is(rt, offsets.into_inner().as_slice(), &[0, 3, 7, 8]);
+    has(rt, offsets.into_inner().as_slice(), &[0, 3, 7, 8]);
 }
 
 /// Shared offsets have these lengths.
 fn gives(rt: &impl Abort, alloc: Global, offsets: &OffsetsBuffer<i32>, lengths: &[usize]) {
     let given: Vec<usize> = offsets.lengths().collect(alloc).expect(rt, "no memory");
-    is(rt, given.as_slice(), lengths);
+    has(rt, given.as_slice(), lengths);
 }
 
 /// Shared offsets that begin at 0.
@@ -120,24 +105,14 @@ fn kept(rt: &impl Abort, alloc: Global, lengths: &[usize]) -> OffsetsBuffer<i32>
 /// Each call that makes or slices shared offsets.
 fn slices(rt: &impl Abort, alloc: Global) {
     let empty = OffsetsBuffer::<i32>::new(alloc).expect(rt, "no memory");
-    is(rt, empty.as_slice(), &[0]);
+    has(rt, empty.as_slice(), &[0]);
     let mut part = kept(rt, alloc, &[5, 3, 0, 4]);
     assert!(rt; part.len() == 5 && part[2] == 8);
     part.slice(1, 4);
     gives(rt, alloc, &part, &[3, 0, 4]);
-    assert!(rt; part.lengths().len() == 3 && part.lengths().rev().next() == Some(4));
+    let walk = part.lengths().clone().expect(rt, "no memory");
+    assert!(rt; walk.len() == 3 && walk.rev().next() == Some(4));
     gives(rt, alloc, &part.sliced(0, 2), &[3]);
-}
-
-/// Each call that reads shared offsets.
-fn reads_shared(rt: &impl Abort, alloc: Global) {
-    let offsets = kept(rt, alloc, &[3, 0, 4]);
-    assert!(rt; offsets.len() == 4);
-    assert!(rt; offsets.range() == 7);
-    assert!(rt; *offsets.first() == 0);
-    assert!(rt; *offsets.last() == 7);
-    assert!(rt; offsets.len_proxy() == 3);
-    assert!(rt; matches!(offsets.start_end(1), (3, 3)));
 }
 
 /// Each call that shares offsets or takes them back.
@@ -146,18 +121,14 @@ fn shares(rt: &impl Abort, alloc: Global) {
     let other = OffsetsBuffer::try_from(items).expect(rt, "no memory");
     let buffer = other.buffer().clone().expect(rt, "no memory");
     assert!(rt; OffsetsBuffer::try_from(buffer).expect(rt, "no memory") == other);
-    is(rt, other.into_inner().as_slice(), &[0, 5, 8, 8, 12]);
+    has(rt, other.into_inner().as_slice(), &[0, 5, 8, 8, 12]);
 }
 
-/// The call that shares a vector, and the one by which offsets grow by a part.
-fn grows_by_a_part(rt: &impl Abort, alloc: Global) {
-    let mut all = grown::<i32>(rt, alloc, &[5, 3, 0, 4]);
-    let vector = all.clone().expect(rt, "no memory").into_inner();
-    let other = OffsetsBuffer::try_from(vector).expect(rt, "no memory");
-    assert!(rt; other.len() == 5);
-    all.try_extend_from_slice(&other, 1, 2)
-        .expect(rt, "no memory");
-    is(rt, all.as_slice(), &[0, 5, 8, 8, 12, 15, 15]);
+/// The call that shares a vector.
+fn shares_a_vector(rt: &impl Abort, alloc: Global) {
+    let vector = grown::<i32>(rt, alloc, &[5, 3]).into_inner();
+    let shared = OffsetsBuffer::try_from(vector).expect(rt, "no memory");
+    has(rt, shared.as_slice(), &[0, 5, 8]);
 }
 
 #[test]
@@ -165,12 +136,10 @@ fn each_call_finds_memory(rt: HostRuntime) {
     let alloc = rt.alloc();
     makes(&rt, alloc);
     grows(&rt, alloc);
-    grows_by_others(&rt, alloc);
     reads(&rt, alloc);
     slices(&rt, alloc);
-    reads_shared(&rt, alloc);
     shares(&rt, alloc);
-    grows_by_a_part(&rt, alloc);
+    shares_a_vector(&rt, alloc);
 }
 
 #[test]
@@ -178,7 +147,7 @@ fn shared_offsets_are_read_and_sliced(rt: HostRuntime) {
     let alloc = rt.alloc();
     let whole = shared(&rt, alloc, &[5, 8, 8, 12]);
     gives(&rt, alloc, &whole, &[3, 0, 4]);
-    assert!(rt; whole.range() == 7 && *whole.first() == 5);
+    assert!(rt; whole.range() == 7 && *whole.first() == 5 && *whole.last() == 12);
     assert!(rt; whole.len_proxy() == 3);
     assert!(rt; matches!(whole.start_end(1), (8, 8)));
 }
@@ -190,13 +159,13 @@ fn shared_offsets_are_taken_back_where_nothing_is_sliced_off(rt: HostRuntime) {
     assert!(rt; part.len() == 4);
     part.slice(1, 2);
     let left = part.into_mut().left().expect(&rt, "it is sliced");
-    is(&rt, left.as_slice(), &[8, 8]);
+    has(&rt, left.as_slice(), &[8, 8]);
     assert!(rt; left.len_proxy() == 1);
     let whole = shared(&rt, alloc, &[5, 8, 8, 12]);
     let other = whole.clone().expect(&rt, "no memory");
     assert!(rt; whole.into_mut().is_left());
     let right = other.into_mut().right();
-    is(
+    has(
         &rt,
         right
             .expect(&rt, "it is whole, and no one shares it")
@@ -210,7 +179,7 @@ fn grow_or_stay(rt: &impl Abort, alloc: Global, lengths: &[usize], refused: bool
     let mut offsets = of(rt, alloc, &[0]);
     let answer = offsets.try_extend_from_lengths(lengths.iter().copied());
     assert!(rt; is_overflow(answer) == refused);
-    is(rt, offsets.as_slice(), wanted);
+    has(rt, offsets.as_slice(), wanted);
 }
 
 #[test]
@@ -225,7 +194,7 @@ fn growth_refuses_by_the_exact_sum(rt: HostRuntime) {
     offsets
         .try_extend_from_slice(&other, 1, 1)
         .expect(&rt, "no memory");
-    is(&rt, offsets.as_slice(), &[0, 2147483644, 2147483646]);
+    has(&rt, offsets.as_slice(), &[0, 2147483644, 2147483646]);
 }
 
 #[test]
@@ -236,12 +205,13 @@ fn growth_by_others_and_by_equal_offsets(rt: HostRuntime) {
     offsets
         .try_extend_from_self(&other)
         .expect(&rt, "no memory");
-    is(&rt, offsets.as_slice(), &[0, 3, 6, 6]);
+    has(&rt, offsets.as_slice(), &[0, 3, 6, 6]);
+    assert!(rt; offsets != other);
     let mut offsets = of(&rt, alloc, &[0, 3]);
     assert!(rt; is_overflow(offsets.extend_constant(usize::MAX)));
-    is(&rt, offsets.as_slice(), &[0, 3]);
+    has(&rt, offsets.as_slice(), &[0, 3]);
     offsets.extend_constant(2).expect(&rt, "no memory");
-    is(&rt, offsets.as_slice(), &[0, 3, 3, 3]);
+    has(&rt, offsets.as_slice(), &[0, 3, 3, 3]);
     let mut two = of(&rt, alloc, &[0, 3]);
     assert!(rt; matches!((two.pop(), two.pop()), (Some(3), None)));
 }
@@ -256,7 +226,7 @@ fn large_offsets_end_at_their_greatest(rt: HostRuntime) {
     assert!(rt; is_overflow(large.try_push(1)));
     large.try_push(0).expect(&rt, "no memory");
     let greatest = 9223372036854775807;
-    is(
+    has(
         &rt,
         large.as_slice(),
         &[0, greatest - 1, greatest, greatest],
@@ -298,7 +268,7 @@ fn offsets_widen_and_narrow(rt: HostRuntime) {
     let narrow = of(&rt, alloc, &[5, 8, 2147483647]);
     let wide = Offsets::<i64>::try_from(narrow.clone().expect(&rt, "no memory"));
     let wide = wide.expect(&rt, "no memory");
-    is(&rt, wide.as_slice(), &[5, 8, 2147483647]);
+    has(&rt, wide.as_slice(), &[5, 8, 2147483647]);
     assert!(rt; Offsets::<i32>::try_from(wide).expect(&rt, "no memory") == narrow);
     let large = grown::<i64>(&rt, alloc, &[2147483648]);
     assert!(rt; is_overflow(Offsets::<i32>::try_from(large)));
@@ -309,7 +279,7 @@ fn shared_offsets_widen_and_narrow(rt: HostRuntime) {
     let alloc = rt.alloc();
     let narrow = shared(&rt, alloc, &[5, 8, 2147483647]);
     let wide = OffsetsBuffer::<i64>::try_from(&narrow).expect(&rt, "no memory");
-    is(&rt, wide.as_slice(), &[5, 8, 2147483647]);
+    has(&rt, wide.as_slice(), &[5, 8, 2147483647]);
     assert!(rt; OffsetsBuffer::<i32>::try_from(&wide).expect(&rt, "no memory") == narrow);
     let large = OffsetsBuffer::try_from(grown::<i64>(&rt, alloc, &[2147483648]));
     let large = large.expect(&rt, "no memory");

@@ -3,6 +3,7 @@
 ghost use Rattle.std.specs.Prelude.{◌≡◌, ◌<◌, length};
 ghost use Rattle.arrow2_model.specs.Storage.{items_of};
 
+use super::checks::thawed;
 use super::lists;
 use arrow2_array::BooleanArray;
 use arrow2_bitmap::assign_ops::{binary_assign, unary_assign};
@@ -47,14 +48,6 @@ fn becomes(rt: &impl Abort, changed: MutableBitmap, list: &Given) {
     };
     assert!(rt; changed.len() == items.len() && changed.iter().eq(items.iter().copied()));
     makes(rt, Bitmap::try_from(changed), list);
-}
-
-/// The bitmap, to be changed.
-fn thawed(rt: &impl Abort, bitmap: &Bitmap) -> MutableBitmap
-    ensures { result.items ≡ items_of bitmap.now }
-{
-    let copy = bitmap.clone().expect(rt, "no memory");
-    copy.make_mut().expect(rt, "no memory")
 }
 
 /// Items are read by place and walked from both ends.

@@ -57,45 +57,23 @@ fn numbers_are_their_digits(rt: HostRuntime) {
 fn errors_print_their_texts(rt: HostRuntime) {
     let alloc = rt.alloc();
     let texts = || "b".to_string(alloc).expect(&rt, "no memory");
-    prints(
-        &rt,
-        alloc,
-        &Error::NotYetImplemented(texts()),
-        "Not yet implemented: b",
-    );
-    prints(
-        &rt,
-        alloc,
-        &Error::InvalidArgumentError(texts()),
-        "Invalid argument error: b",
-    );
-    prints(
-        &rt,
-        alloc,
-        &Error::ExternalFormat(texts()),
-        "External format error: b",
-    );
-    prints(&rt, alloc, &Error::OutOfSpec(texts()), "b");
     let message = "a".to_string(alloc).expect(&rt, "no memory");
-    prints(
-        &rt,
-        alloc,
-        &Error::External(message, texts()),
-        "External errora: b",
-    );
-    prints(
-        &rt,
-        alloc,
-        &Error::from_external_error(alloc, &"x"),
-        "External error: x",
-    );
-    prints(
-        &rt,
-        alloc,
-        &Error::Overflow,
-        "Operation overflew the backing container.",
-    );
-    prints(&rt, alloc, &Error::OutOfMemory, "Out of memory");
+    let rows = [
+        (Error::NotYetImplemented(texts()), "Not yet implemented: b"),
+        (
+            Error::InvalidArgumentError(texts()),
+            "Invalid argument error: b",
+        ),
+        (Error::ExternalFormat(texts()), "External format error: b"),
+        (Error::OutOfSpec(texts()), "b"),
+        (Error::External(message, texts()), "External errora: b"),
+        (Error::from_external_error(alloc, &"x"), "External error: x"),
+        (Error::Overflow, "Operation overflew the backing container."),
+        (Error::OutOfMemory, "Out of memory"),
+    ];
+    for (error, text) in &rows {
+        prints(&rt, alloc, error, text);
+    }
 }
 
 #[test]

@@ -1,7 +1,7 @@
 //! Runs of set items, and values beside their validity.
 ghost use Rattle.std.specs.Prelude.{◌≡◌, length};
 
-use super::checks::shows;
+use super::checks::{bitmap_from, shows};
 use arrow2::bitmap::Bitmap;
 use arrow2::bitmap::utils::{BitmapIter, SlicesIterator, ZipValidity, ZipValidityIter};
 use arrow2::laws;
@@ -30,11 +30,6 @@ fn bitmap_of(rt: &impl Abort, alloc: Global, bytes: &[u8], offset: usize, len: u
     let whole = offset.checked_add(len).expect(rt, "few bits");
     let bitmap = Bitmap::try_new(bytes, whole).expect(rt, "no memory");
     bitmap.sliced(offset, len)
-}
-
-/// The bitmap of the items.
-fn bitmap_from(rt: &impl Abort, alloc: Global, items: &[bool]) -> Bitmap {
-    Bitmap::from_bools(alloc, items).expect(rt, "no memory")
 }
 
 /// The `len` bits from bit `offset` of the bytes on have these runs.
@@ -165,4 +160,9 @@ fn a_zip_with_validity_tells_nulls(rt: HostRuntime) {
     let mut both = zip.unwrap_optional();
     assert!(rt; both.len() == 1 && matches!(both.next(), Some(None)));
     laws::walks::a_zip_walks_over_its_slots::<Copied<Iter<u32>>, BitmapIter, u32>();
+    laws::walks::a_zip_with_or_without_validity_walks_over_its_slots::<
+        Copied<Iter<u32>>,
+        BitmapIter,
+        u32,
+    >();
 }
