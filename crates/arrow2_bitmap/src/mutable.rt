@@ -1,5 +1,5 @@
 //! A bitmap that grows.
-ghost use Rattle.std.specs.Prelude.{◌≡◌, ◌+◌, ◌-◌, ◌*◌, ◌/◌, ◌<◌, ◌≤◌, ◌^◌, ◌↔◌, ◌⊎◌, [], ◌∷◌, ◌++◌, false, length, length as length', take, slice_index_or, slice_set, OnOk, IsOk, IfOk, IfErr, IsErrOf, IsTrue, IfNone, IfSome, IsNone, MatchOption, Some, codes, vec_len, vec_capacity, min, List, Bool, ℕ, true, replicate};
+ghost use Rattle.std.specs.Prelude.{◌≡◌, ◌+◌, ◌-◌, ◌*◌, ◌/◌, ◌<◌, ◌≤◌, ◌^◌, ◌↔◌, ◌⊎◌, [], ◌∷◌, ◌++◌, false, length, length as length', take, slice_index_or, slice_set, OnOk, IsOk, IfOk, IfErr, IsErrOf, IsTrue, IfNone, IfSome, IsNone, MatchOption, Some, codes, vec_len, vec_capacity, min, Bool, true, replicate};
 ghost use Rattle.std.specs.Iterator.{IsFinite};
 ghost use Rattle.std.specs.Iterator.Runs.{WholeRun};
 ghost use Rattle.std.specs.Bool.{beq};
@@ -9,11 +9,9 @@ ghost use Rattle.std.specs.Cmp.Lexicographic.{pointwise, lists_equiv};
 ghost use Rattle.arrow2_model.specs.Bits.{bits};
 ghost use Rattle.arrow2_model.specs.Parts.{falses, part};
 ghost use Rattle.arrow2_model.specs.Canonical.{canonical_bytes};
-ghost use Rattle.arrow2_model.specs.Kernels.{kernel, word, words_at};
 ghost use Rattle.arrow2_model.specs.Shown.{shown};
 ghost use Rattle.arrow2_model.specs.Storage.{GrowingBitmap, items_of};
 ghost use Rattle.arrow2_model.specs.Tables.{each};
-ghost use Rattle.arrow2_model.specs.Rows.{ActsBesideRows, IsOwnRowFunction};
 ghost use Rattle.arrow2_types.specs.Refusals.{IsInvalidArgument, error_of};
 ghost use Rattle.arrow2_growth.specs.Growth.{Appends};
 ghost use Rattle.arrow2_bitmap.specs.Collected.{GivesTooMany};
@@ -24,10 +22,8 @@ use crate::check::check_length;
 use crate::immutable::Bitmap;
 use arrow2_bits::iterator::BitmapIter;
 use arrow2_bits::{bytes_for, count_zeros, get_bit};
-use arrow2_chunk::bit_chunk::BitChunk;
 use arrow2_growth::packed::{collected, packed};
 use arrow2_growth::packed_bits::PackedBits;
-use arrow2_kernels::rows::WordRows;
 use arrow2_types::error::{Error, Result};
 use std::alloc::{AllocError, Global};
 use std::convert::TryFrom;
@@ -62,8 +58,8 @@ impl MutableBitmap {
     }
 
     /// The first `length` bits of the bytes. Spare bytes are cut and spare bits cleared, in place, and the room of the
-    /// vector stays. Takes no memory where there are as many bits. In arrow2 spare bytes stay, and `push` writes behind
-    /// them.
+    /// vector stays. Takes no memory where there are as many bits. In arrow2 spare bytes stay, and `push` may write into
+    /// the wrong byte.
     ///
     /// # Errors
     ///
@@ -83,7 +79,7 @@ impl MutableBitmap {
 
     /// The first `length` bits of the bytes. Asks that there are as many.
     /// Spare bytes are cut and spare bits cleared, in place, and the room of the vector stays. Takes no memory.
-    /// In arrow2 spare bytes stay, and `push` writes behind them.
+    /// In arrow2 spare bytes stay, and `push` may write into the wrong byte.
     pub fn from_vec(bytes: Vec<u8>, length: usize) -> MutableBitmap
         requires inside { length ≤ 8 * vec_len bytes }
         ensures items { result.items ≡ take length (bits bytes.items) }
@@ -202,7 +198,7 @@ impl MutableBitmap {
         Ok(())
     }
 
-    /// Appends the `length` bits from bit `offset` of `slice` on, by words of 64 bits. Asks that they are inside.
+    /// Appends the `length` bits from bit `offset` of `slice` on. Asks that they are inside.
     /// Within the capacity it takes no memory, else it asks for it once, before it writes. arrow2 answers no `Result`, and
     /// copies the spare bits of the last byte.
     ///
@@ -405,6 +401,10 @@ impl MutableBitmap {
 }
 
 /// A copy of the items.
+///
+/// # Errors
+///
+/// Where memory is refused.
 impl Clone for MutableBitmap {
     ghost is_clone = { λ a b. b.items ≡ a.items };
 

@@ -5,7 +5,8 @@ ghost use Rattle.arrow2_model.specs.Parts.{part};
 use crate::counter::Reads;
 use std::marker::Model;
 
-/// Bytes, and how many of them were read. [`Stored::fetch`] alone reads them, and it counts each that it gives.
+/// Bytes, and how many reads were counted so far, with those of the counter that it was made with. [`Stored::fetch`]
+/// alone reads them, and it counts each that it gives.
 #[derive(Drop)]
 pub struct Stored<'a> {
     bytes: &'a [u8],

@@ -25,7 +25,7 @@ pub(crate) fn chunk_at<T: BitChunk>(bytes: &[u8], shift: usize) -> T
 
 /// The word of the bits from bit `shift` on, where bits past the bytes count as false.
 /// Asks that `shift` is below 8.
-pub fn padded_chunk_at<T: BitChunk>(bytes: &[u8], shift: usize) -> T
+pub(crate) fn padded_chunk_at<T: BitChunk>(bytes: &[u8], shift: usize) -> T
     requires { shift < 8 }
     ensures number { T.BitChunk.number result ≡ num (part (bits bytes.now) shift T.BitChunk.WIDTH) }
     ensures fits { T.BitChunk.number result < 2 ^ T.BitChunk.WIDTH }

@@ -33,9 +33,9 @@ pub fn count_zeros_counted(stored: &mut Stored<'_>, offset: usize, len: usize) -
 /// How many of the `count` bits from bit `offset + start` on are not set, where `unset` is how many of the `len` bits
 /// from bit `offset` on are not: the answer of [`count_zeros_counted`], for at most `len / 16 + 4` reads.
 ///
-/// It counts the bits asked for where they are less than half of all, else the head and the tail around them, which it
-/// takes away, and nothing where they are all. Asks that the `len` bits are inside the bytes, and the others among
-/// them. arrow2 has it inside the slice of a bitmap.
+/// It counts the bits asked for where they are less than half of all, rounded down, else the head and the tail around
+/// them, which it takes away, and nothing where they are all. Asks that the `len` bits are inside the bytes, and the
+/// others among them. arrow2 has it inside the slice of a bitmap.
 pub fn recount(
     stored: &mut Stored<'_>,
     offset: usize,

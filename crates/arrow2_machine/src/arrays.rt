@@ -6,7 +6,7 @@ ghost use Rattle.arrow2_machine.specs.ArrayOutcomes.{arrayed, array_text, counte
 ghost use Rattle.arrow2.specs.Kleene.{kleene_and, kleene_or};
 ghost use Rattle.arrow2_machine.specs.Outcomes.{Gives, Carries, Writes, Answers};
 
-use crate::kernels::two;
+use crate::kernels::two_bitmaps;
 use crate::refusal::{CommandError, Refusal};
 use crate::replies::{write_array_items, write_number};
 use crate::slot::{Contents, Slot};
@@ -61,7 +61,7 @@ fn array_of(
 {
     let array = match validity {
         Some(validity) => {
-            let (values, validity) = two(slots, values, validity)?;
+            let (values, validity) = two_bitmaps(slots, values, validity)?;
             BooleanArray::try_new(values.clone()?, Some(validity.clone()?))?
         }
         None => BooleanArray::try_new(slots[values.get()].frozen()?.clone()?, None)?,
@@ -78,7 +78,7 @@ fn both(slots: &[Slot; 16], left: SlotIndex, right: SlotIndex) -> Result<Boolean
     ensures { Gives (λ array. Array array) result
         (combined kleene_and (at slots.now left) (at slots.now right)) }
 {
-    let (left, right) = two_of(slots, left, right)?;
+    let (left, right) = two_boolean_arrays(slots, left, right)?;
     Ok(left.and_kleene(right)?)
 }
 
@@ -95,7 +95,7 @@ fn either(
     ensures { Gives (λ array. Array array) result
         (combined kleene_or (at slots.now left) (at slots.now right)) }
 {
-    let (left, right) = two_of(slots, left, right)?;
+    let (left, right) = two_boolean_arrays(slots, left, right)?;
     Ok(left.or_kleene(right)?)
 }
 
@@ -104,7 +104,7 @@ fn either(
 /// # Errors
 ///
 /// `Kind`, or else `Length`.
-fn two_of(
+fn two_boolean_arrays(
     slots: &[Slot; 16],
     first: SlotIndex,
     second: SlotIndex,

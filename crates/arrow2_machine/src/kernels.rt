@@ -55,15 +55,15 @@ fn made(slots: &[Slot; 16], kernel: Kernel) -> Result<Bitmap, CommandError>
 {
     let bitmap = match kernel {
         Kernel::And(left, right) => {
-            let (left, right) = two(slots, left, right)?;
+            let (left, right) = two_bitmaps(slots, left, right)?;
             and(left, right)?
         }
         Kernel::Or(left, right) => {
-            let (left, right) = two(slots, left, right)?;
+            let (left, right) = two_bitmaps(slots, left, right)?;
             or(left, right)?
         }
         Kernel::Xor(left, right) => {
-            let (left, right) = two(slots, left, right)?;
+            let (left, right) = two_bitmaps(slots, left, right)?;
             xor(left, right)?
         }
         Kernel::Not(from) => unary_table(slots[from.get()].frozen()?, 1)?,
@@ -71,15 +71,15 @@ fn made(slots: &[Slot; 16], kernel: Kernel) -> Result<Bitmap, CommandError>
             unary_table(slots[from.get()].frozen()?, table.get() as u8)?
         }
         Kernel::Binary(table, first, second) => {
-            let (first, second) = two(slots, first, second)?;
+            let (first, second) = two_bitmaps(slots, first, second)?;
             binary_table(first, second, table.get() as u8)?
         }
         Kernel::Ternary(table, first, second, third) => {
-            let (first, second, third) = three(slots, first, second, third)?;
+            let (first, second, third) = three_bitmaps(slots, first, second, third)?;
             ternary_table(first, second, third, table.get() as u8)?
         }
         Kernel::Quaternary(table, first, second, third, fourth) => {
-            let (first, second, third, fourth) = four(slots, first, second, third, fourth)?;
+            let (first, second, third, fourth) = four_bitmaps(slots, first, second, third, fourth)?;
             quaternary_table(first, second, third, fourth, table.get() as u16)?
         }
     };
@@ -91,7 +91,7 @@ fn made(slots: &[Slot; 16], kernel: Kernel) -> Result<Bitmap, CommandError>
 /// # Errors
 ///
 /// `Kind`, or else `Length`.
-pub(crate) fn two(
+pub(crate) fn two_bitmaps(
     slots: &[Slot; 16],
     first: SlotIndex,
     second: SlotIndex,
@@ -114,7 +114,7 @@ pub(crate) fn two(
 /// # Errors
 ///
 /// `Kind`, or else `Length`.
-fn three(
+fn three_bitmaps(
     slots: &[Slot; 16],
     first: SlotIndex,
     second: SlotIndex,
@@ -142,7 +142,7 @@ fn three(
 /// # Errors
 ///
 /// `Kind`, or else `Length`.
-fn four(
+fn four_bitmaps(
     slots: &[Slot; 16],
     first: SlotIndex,
     second: SlotIndex,
@@ -189,7 +189,8 @@ impl Slot {
         }
     }
 
-    /// Makes each item of a growing bitmap the answer of a table for it, by words of some width. Takes no memory.
+    /// Makes each item of a growing bitmap the answer of a table for it, the same for each width of words. Takes no
+    /// memory.
     ///
     /// # Errors
     ///
@@ -207,8 +208,8 @@ impl Slot {
         }
     }
 
-    /// Makes each item of a growing bitmap the answer of a table for it and the item of another bitmap, by words of some
-    /// width. Takes no memory.
+    /// Makes each item of a growing bitmap the answer of a table for it and the item of another bitmap, the same for each
+    /// width of words. Takes no memory.
     ///
     /// # Errors
     ///

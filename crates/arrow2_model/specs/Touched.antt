@@ -12,8 +12,8 @@ abbrev pub HoldsBit : ℕ → ℕ → ℕ → Type 0
 HoldsBit o n j = (k : ℕ) × (o ≤ k) × (k < o + n) × (k / 8 ≡ j)
 
 -- the bytes that a slice reads to know its false items: n items from item a on, of len items from bit o on whose false
--- items are known. None for all items, those of the slice where it is below half of them, else those of the head and
--- the tail that it cuts off.
+-- items are known. None for all items, those of the slice where it is below half of them, rounded down, else those of
+-- the head and the tail that it cuts off.
 unfoldable pub slice_reads : ℕ → ℕ → ℕ → ℕ → ℕ
 slice_reads o len a n =
     if n == len then 0 else if nat_lt n (len / 2) then touched (o + a) n else touched o a + touched (o + a + n) (len - a - n)

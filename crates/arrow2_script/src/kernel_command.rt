@@ -11,10 +11,11 @@ use crate::words::{Below, SlotIndex, Width};
 pub enum KernelCommand {
     /// `and d a b`, `table1 d t a` and their like: slot d holds, frozen, what a kernel makes of frozen bitmaps.
     Make(SlotIndex, Kernel),
-    /// `inplace1 s t w`: the growing bitmap of slot s becomes the answers of table t, by words of w bits.
+    /// `inplace1 s t w`: the growing bitmap of slot s becomes the answers of table t, the same for each
+    /// width w of words.
     AssignUnary(SlotIndex, Below<4>, Width),
     /// `inplace2 s t w a`: the growing bitmap of slot s becomes the answers of table t for it and the frozen bitmap of slot
-    /// a, by words of w bits.
+    /// a, the same for each width w of words.
     AssignBinary(SlotIndex, Below<16>, Width, SlotIndex),
 }
 
