@@ -3,7 +3,7 @@
 /// A crate, how names of its lines begin, and why these lines are above 1. The first that fits counts.
 type Note = (&'static str, &'static str, &'static str);
 
-const NOTES: [Note; 42] = [
+const NOTES: [Note; 43] = [
     (
         "arrow2_chunk",
         "BitChunkOnes",
@@ -74,6 +74,7 @@ const NOTES: [Note; 42] = [
     ("arrow2_offset", "widened", "zeros are written first, and the numbers over them"),
     ("arrow2_ffi", "get_bit", INLINED),
     ("arrow2_ffi", "set_bit", INLINED),
+    ("arrow2_ffi", "copy_bits of 64", TESTED),
     ("arrow2_ffi", "copy_bits", COPIED),
     (
         "arrow2_ffi",
@@ -97,10 +98,10 @@ const NOTES: [Note; 42] = [
         "offsets",
         "numbers are tested to be offsets at each call, since no type of C keeps that they are",
     ),
-    ("arrow2_ffi", "", "ranges and lengths are tested at each call"),
+    ("arrow2_ffi", "", TESTED),
 ];
 
-const LAID: &str = "by where the linker lays the loop: in another order the line is below 1";
+const LAID: &str = "by where the linker lays the loop: in another order the line is at or below 1";
 
 const ONE_LOOP: &str = "one loop over the bytes on both sides";
 
@@ -110,7 +111,7 @@ const SHIFTED: &str =
     "each bit is found by a shift of its byte, where arrow2 looks its mask up in a table";
 
 const ONCE: &str =
-    "each byte is fetched once, so what is behind the last 32 bytes goes by words of falling width";
+    "each byte is fetched once, so what is behind the last 64 bytes goes by words of falling width";
 
 const FIRST: &str =
     "room is asked for before anything is written, so that a refusal leaves the items";
@@ -119,6 +120,8 @@ const AT_RUN_TIME: &str =
     "which loop it is is told by the table at each call, where arrow2's is compiled for the function";
 
 const HINTS: &str = "no size hint is believed, so room grows by doubling, where arrow2 asks once";
+
+const TESTED: &str = "ranges and lengths are tested at each call, which is no part of the caller";
 
 const INLINED: &str =
     "a call into the library, where Rust's compiler writes arrow2's four instructions in its place";
