@@ -48,7 +48,8 @@ fn assign_answers<S: WordRows<u64>, F: Fn(u64, S::Row) -> u64>(
 }
 
 /// Writes the first `length` bits over `out`, from bit 0 on. Asks that there are so many, and for as many bytes as hold
-/// them.
+/// them. It is inlined: a call would take a fifth of the time of 64 bytes.
+#[inline(always)]
 pub(crate) fn copy(bits: Bits<'_>, length: usize, out: &mut [u8])
     requires inside { HasBits bits length }
     requires exact { Holds out.old length }
