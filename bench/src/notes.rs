@@ -3,7 +3,7 @@
 /// A crate, how names of its lines begin, and why these lines are above 1. The first that fits counts.
 type Note = (&'static str, &'static str, &'static str);
 
-const NOTES: [Note; 43] = [
+const NOTES: [Note; 45] = [
     (
         "arrow2_chunk",
         "BitChunkOnes",
@@ -40,6 +40,7 @@ const NOTES: [Note; 43] = [
         "the bit that leaves is cleared, which arrow2 leaves set behind the items",
     ),
     ("arrow2_bitmap", "extend_constant of", FIRST),
+    ("arrow2_bitmap", "extend_constant", "a fill of memory on both sides"),
     ("arrow2_bitmap", "set of trues", "either value goes by tables and no branch"),
     ("arrow2_bitmap", "sliced", "a count fetches each byte once"),
     (
@@ -55,6 +56,7 @@ const NOTES: [Note; 43] = [
     ("arrow2_kernels", "!", ONE_LOOP),
     ("arrow2_kernels", "and of 64 bits", LAID),
     ("arrow2_kernels", "unary_assign_table", AT_RUN_TIME),
+    ("arrow2_kernels", "unary", ONE_LOOP),
     ("arrow2_kernels", "binary_assign_table", AT_RUN_TIME),
     ("arrow2_kernels", "binary_assign of", ONE_LOOP),
     (
