@@ -1,5 +1,5 @@
 -- What an export tests of the ranges and slices that it is given.
-use Rattle.std.specs.Prelude.{◌≡◌, ℕ, ◌+◌, ◌*◌, ◌/◌, ◌≤◌, List, Bool, length}
+use Rattle.std.specs.Prelude.{◌≡◌, ℕ, ◌+◌, ◌*◌, ◌/◌, ◌≤◌, List, [], ◌∷◌, Bool, length, map}
 use Rattle.arrow2_model.specs.Bits.{bits}
 use Rattle.arrow2_model.specs.Parts.{part}
 use Rattle.arrow2_ffi.specs.declared.ranges.Bits.{Bits}
@@ -7,6 +7,15 @@ use Rattle.arrow2_ffi.specs.declared.ranges.Bits.{Bits}
 -- the n bits from bit o on are inside the bytes
 abbrev pub IsInside : List ℕ → ℕ → ℕ → Type 0
 IsInside bytes o n = o + n ≤ 8 * length bytes
+
+-- the same of each of these bytes, from the bit beside them on
+abbrev pub AreInside : ℕ → List (List ℕ × ℕ) → Type 0
+AreInside n [] = Unit {0}
+AreInside n (input ∷ inputs) = IsInside input.0 input.1 n × AreInside n inputs
+
+-- n bits of each of these bytes, from the bit beside them on
+abbrev pub inputs_of : ℕ → List (List ℕ × ℕ) → List (List Bool)
+inputs_of n inputs = map (λ input. part (bits input.0) input.1 n) inputs
 
 -- there are as many bytes as n bits need
 abbrev pub Holds : List ℕ → ℕ → Type 0

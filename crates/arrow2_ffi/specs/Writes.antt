@@ -1,8 +1,10 @@
 -- What the code of an export says, and what it wrote.
-use Rattle.std.specs.Prelude.{◌≡◌, ◌≢◌, ℕ, ◌<◌, ◌≤◌, ◌↔◌, ◌⊎◌, List, [], ◌++◌, Bool, Option, take}
+use Rattle.std.specs.Prelude.{◌≡◌, ◌≢◌, ℕ, ◌<◌, ◌≤◌, ◌↔◌, ◌⊎◌, List, [], ◌∷◌, ◌++◌, Bool, Option, take}
 use Rattle.arrow2_model.specs.Bits.{bits}
 use Rattle.arrow2_model.specs.Canonical.{IsCanonical}
+use Rattle.arrow2_model.specs.Tables.{each}
 use Rattle.arrow2_walks.specs.Zipped.{zipped}
+use Rattle.arrow2_ffi.specs.Ranges.{Holds, AreInside, inputs_of}
 use Rattle.arrow2_ffi.specs.declared.codes.TheConstants.{ARROW2_OK, ARROW2_RANGE, ARROW2_LENGTH}
 
 -- the code of a call that writes where all is inside and slices have as many items as it needs
@@ -35,6 +37,15 @@ pub record Stores (bytes : List ℕ) (n : ℕ) (list : List Bool) : Type 0 where
   pub items : take n (bits bytes) ≡ list
   -- the bytes and the bits to spare
   pub canonical : IsCanonical bytes n
+
+-- the code of a call that writes what table t answers for n bits of each input: the table is below a bound, and the
+-- inputs are inside
+abbrev pub WritesTable : (code bound t n : ℕ) → List (List ℕ × ℕ) → (old new : List ℕ) → Type 0
+WritesTable code bound t n inputs old new = Writes code ((t < bound) × AreInside n inputs) (Holds old n) (Stores new n (each t (inputs_of n inputs))) (new ≡ old)
+
+-- the same where the first input is the first n bits of the bytes themselves
+abbrev pub WritesTableInPlace : (code bound t n : ℕ) → List (List ℕ × ℕ) → (old new : List ℕ) → Type 0
+WritesTableInPlace code bound t n inputs old new = Writes code ((t < bound) × AreInside n inputs) (Holds old n) (Stores new n (each t (take n (bits old) ∷ inputs_of n inputs))) (new ≡ old)
 
 -- the same of a list of items, of which some are null, and of bytes for their values and for their validity
 pub record StoresItems (values validity : List ℕ) (n : ℕ) (list : List (Option Bool)) : Type 0 where

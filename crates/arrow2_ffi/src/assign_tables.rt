@@ -1,11 +1,7 @@
 //! Truth tables in place: the first input stands from bit 0 on in bytes that are as many as hold it, and the answers are
 //! written over it. Spare bits become 0, whatever they were.
-ghost use Rattle.std.specs.Prelude.{◌≡◌, ◌<◌, [], ◌∷◌, take};
-ghost use Rattle.arrow2_model.specs.Bits.{bits};
-ghost use Rattle.arrow2_model.specs.Parts.{part};
-ghost use Rattle.arrow2_model.specs.Tables.{each};
-ghost use Rattle.arrow2_ffi.specs.Ranges.{IsInside, Holds};
-ghost use Rattle.arrow2_ffi.specs.Writes.{Stores, Writes};
+ghost use Rattle.std.specs.Prelude.{[], ◌∷◌};
+ghost use Rattle.arrow2_ffi.specs.Writes.{WritesTableInPlace};
 
 use crate::codes::{ARROW2_LENGTH, ARROW2_OK, ARROW2_RANGE};
 use crate::ranges::{Bits, are_both_inside, are_inside, hold};
@@ -18,9 +14,7 @@ use arrow2_kernels::lane_assigned::assign_unary;
 /// the bits.
 #[unsafe(no_mangle)]
 pub extern "C" fn arrow2_unary_assign_table(bytes: &mut [u8], length: usize, table: u16) -> u32
-    ensures { Writes result (table < 4) (Holds bytes.old length)
-        (Stores bytes.new length (each table (take length (bits bytes.old) ∷ [])))
-        (bytes.new ≡ bytes.old) }
+    ensures { WritesTableInPlace result 4 table length [] bytes.old bytes.new }
 {
     if table >= 4 {
         return ARROW2_RANGE;
@@ -45,11 +39,8 @@ pub extern "C" fn arrow2_binary_assign_table(
     length: usize,
     table: u16,
 ) -> u32
-    ensures { Writes result ((table < 16) × IsInside second.now second_offset length)
-        (Holds bytes.old length)
-        (Stores bytes.new length (each table
-        (take length (bits bytes.old) ∷ part (bits second.now) second_offset length ∷ [])))
-        (bytes.new ≡ bytes.old) }
+    ensures { WritesTableInPlace result 16 table length
+        ((second.now, second_offset) ∷ []) bytes.old bytes.new }
 {
     let second = Bits(second, second_offset);
     if table >= 16 || !are_inside(second, length) {
@@ -76,14 +67,8 @@ pub extern "C" fn arrow2_ternary_assign_table(
     length: usize,
     table: u16,
 ) -> u32
-    ensures { Writes result
-        ((table < 256) × IsInside second.now second_offset length
-        × IsInside third.now third_offset length)
-        (Holds bytes.old length)
-        (Stores bytes.new length (each table
-        (take length (bits bytes.old) ∷ part (bits second.now) second_offset length
-        ∷ part (bits third.now) third_offset length ∷ [])))
-        (bytes.new ≡ bytes.old) }
+    ensures { WritesTableInPlace result 256 table length
+        ((second.now, second_offset) ∷ (third.now, third_offset) ∷ []) bytes.old bytes.new }
 {
     let second = Bits(second, second_offset);
     let third = Bits(third, third_offset);
@@ -113,15 +98,9 @@ pub extern "C" fn arrow2_quaternary_assign_table(
     length: usize,
     table: u16,
 ) -> u32
-    ensures { Writes result
-        (IsInside second.now second_offset length × IsInside third.now third_offset length
-        × IsInside fourth.now fourth_offset length)
-        (Holds bytes.old length)
-        (Stores bytes.new length (each table
-        (take length (bits bytes.old) ∷ part (bits second.now) second_offset length
-        ∷ part (bits third.now) third_offset length
-        ∷ part (bits fourth.now) fourth_offset length ∷ [])))
-        (bytes.new ≡ bytes.old) }
+    ensures { WritesTableInPlace result 65536 table length
+        ((second.now, second_offset) ∷ (third.now, third_offset)
+        ∷ (fourth.now, fourth_offset) ∷ []) bytes.old bytes.new }
 {
     let second = Bits(second, second_offset);
     let third = Bits(third, third_offset);

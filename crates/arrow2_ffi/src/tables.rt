@@ -2,12 +2,8 @@
 //! inputs `a1` to `a4`.
 //!
 //! The answers are written over `out` from bit 0 on. It has as many bytes as hold them, and its spare bits become 0.
-ghost use Rattle.std.specs.Prelude.{◌≡◌, ◌<◌, [], ◌∷◌};
-ghost use Rattle.arrow2_model.specs.Bits.{bits};
-ghost use Rattle.arrow2_model.specs.Parts.{part};
-ghost use Rattle.arrow2_model.specs.Tables.{each};
-ghost use Rattle.arrow2_ffi.specs.Ranges.{IsInside, Holds};
-ghost use Rattle.arrow2_ffi.specs.Writes.{Stores, Writes};
+ghost use Rattle.std.specs.Prelude.{[], ◌∷◌};
+ghost use Rattle.arrow2_ffi.specs.Writes.{WritesTable};
 
 use crate::codes::{ARROW2_LENGTH, ARROW2_OK, ARROW2_RANGE};
 use crate::ranges::{Bits, are_both_inside, are_inside, hold};
@@ -26,9 +22,7 @@ pub extern "C" fn arrow2_unary_table(
     table: u16,
     out: &mut [u8],
 ) -> u32
-    ensures { Writes result ((table < 4) × IsInside bytes.now offset length) (Holds out.old length)
-        (Stores out.new length (each table (part (bits bytes.now) offset length ∷ [])))
-        (out.new ≡ out.old) }
+    ensures { WritesTable result 4 table length ((bytes.now, offset) ∷ []) out.old out.new }
 {
     let first = Bits(bytes, offset);
     if table >= 4 || !are_inside(first, length) {
@@ -56,14 +50,8 @@ pub extern "C" fn arrow2_binary_table(
     table: u16,
     out: &mut [u8],
 ) -> u32
-    ensures { Writes result
-        ((table < 16) × IsInside first.now first_offset length
-        × IsInside second.now second_offset length)
-        (Holds out.old length)
-        (Stores out.new length (each table
-        (part (bits first.now) first_offset length
-        ∷ part (bits second.now) second_offset length ∷ [])))
-        (out.new ≡ out.old) }
+    ensures { WritesTable result 16 table length
+        ((first.now, first_offset) ∷ (second.now, second_offset) ∷ []) out.old out.new }
 {
     let first = Bits(first, first_offset);
     let second = Bits(second, second_offset);
@@ -94,14 +82,9 @@ pub extern "C" fn arrow2_ternary_table(
     table: u16,
     out: &mut [u8],
 ) -> u32
-    ensures { Writes result
-        ((table < 256) × IsInside first.now first_offset length
-        × IsInside second.now second_offset length × IsInside third.now third_offset length)
-        (Holds out.old length)
-        (Stores out.new length (each table
-        (part (bits first.now) first_offset length ∷ part (bits second.now) second_offset length
-        ∷ part (bits third.now) third_offset length ∷ [])))
-        (out.new ≡ out.old) }
+    ensures { WritesTable result 256 table length
+        ((first.now, first_offset) ∷ (second.now, second_offset)
+        ∷ (third.now, third_offset) ∷ []) out.old out.new }
 {
     let first = Bits(first, first_offset);
     let second = Bits(second, second_offset);
@@ -135,15 +118,9 @@ pub extern "C" fn arrow2_quaternary_table(
     table: u16,
     out: &mut [u8],
 ) -> u32
-    ensures { Writes result
-        (IsInside first.now first_offset length × IsInside second.now second_offset length
-        × IsInside third.now third_offset length × IsInside fourth.now fourth_offset length)
-        (Holds out.old length)
-        (Stores out.new length (each table
-        (part (bits first.now) first_offset length ∷ part (bits second.now) second_offset length
-        ∷ part (bits third.now) third_offset length
-        ∷ part (bits fourth.now) fourth_offset length ∷ [])))
-        (out.new ≡ out.old) }
+    ensures { WritesTable result 65536 table length
+        ((first.now, first_offset) ∷ (second.now, second_offset)
+        ∷ (third.now, third_offset) ∷ (fourth.now, fourth_offset) ∷ []) out.old out.new }
 {
     let first = Bits(first, first_offset);
     let second = Bits(second, second_offset);
