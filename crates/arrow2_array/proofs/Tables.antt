@@ -152,7 +152,7 @@ get_or-by_items f (x ∷ xs) [] k e h = absurd (omega (arith, e))
 get_or-by_items f (x ∷ xs) (y ∷ ys) zero e h = refl
 get_or-by_items f (x ∷ xs) (y ∷ ys) (suc k) e h = get_or-by_items f xs ys k (omega (arith, e)) (omega (arith, h))
 
-by_tables : (v t : ℕ) (f : Option Bool → Option Bool → Option Bool) (xs ns ys ms : List Bool) → Spells v t f → length ns ≡ length xs → length ys ≡ length xs → length ms ≡ length xs
+pub by_tables : (v t : ℕ) (f : Option Bool → Option Bool → Option Bool) (xs ns ys ms : List Bool) → Spells v t f → length ns ≡ length xs → length ys ≡ length xs → length ms ≡ length xs
     → zipped (each v (xs ∷ ys ∷ [])) (each t (xs ∷ ns ∷ ys ∷ ms ∷ [])) ≡ by_items f (zipped xs ns) (zipped ys ms)
 by_tables v t f xs ns ys ms spelled n y m =
     let values : List Bool = each v (xs ∷ ys ∷ []) in

@@ -1,9 +1,8 @@
 -- What the code of an export says, and what it wrote.
-use Rattle.std.specs.Prelude.{◌≡◌, ◌≢◌, ℕ, ◌<◌, ◌≤◌, ◌↔◌, ◌⊎◌, List, [], ◌∷◌, ◌++◌, Bool, Option, take}
+use Rattle.std.specs.Prelude.{◌≡◌, ◌≢◌, ℕ, ◌<◌, ◌≤◌, ◌↔◌, ◌⊎◌, List, [], ◌∷◌, ◌++◌, Bool, take}
 use Rattle.arrow2_model.specs.Bits.{bits}
 use Rattle.arrow2_model.specs.Canonical.{IsCanonical}
 use Rattle.arrow2_model.specs.Tables.{each}
-use Rattle.arrow2_walks.specs.Zipped.{zipped}
 use Rattle.arrow2_ffi.specs.Ranges.{Holds, AreInside, inputs_of}
 use Rattle.arrow2_ffi.specs.declared.codes.TheConstants.{ARROW2_OK, ARROW2_RANGE, ARROW2_LENGTH}
 
@@ -46,15 +45,6 @@ WritesTable code bound t n inputs old new = Writes code ((t < bound) × AreInsid
 -- the same where the first input is the first n bits of the bytes themselves
 abbrev pub WritesTableInPlace : (code bound t n : ℕ) → List (List ℕ × ℕ) → (old new : List ℕ) → Type 0
 WritesTableInPlace code bound t n inputs old new = Writes code ((t < bound) × AreInside n inputs) (Holds old n) (Stores new n (each t (take n (bits old) ∷ inputs_of n inputs))) (new ≡ old)
-
--- the same of a list of items, of which some are null, and of bytes for their values and for their validity
-pub record StoresItems (values validity : List ℕ) (n : ℕ) (list : List (Option Bool)) : Type 0 where
-  -- the values beside their validity
-  pub items : zipped (take n (bits values)) (take n (bits validity)) ≡ list
-  -- the bytes and the bits to spare of the values
-  pub values_canonical : IsCanonical values n
-  -- and of the validity
-  pub validity_canonical : IsCanonical validity n
 
 -- some of the items that were left before a place were written, as many as there was room for, and others are left now
 pub record GoesOn {X : Type 0} (written left_before left_now : List X) (count room before at end : ℕ) : Type 0 where

@@ -1,18 +1,15 @@
 //! Kleene's logic on values beside their validity: an item is null where its validity bit is not set.
 //!
 //! The answer's values are written over `values` and its validity over `validity`, from bit 0 on. Both have as many
-//! bytes as hold them, and their spare bits become 0.
-ghost use Rattle.std.specs.Prelude.{◌≡◌, Bool, Option};
-ghost use Rattle.arrow2_model.specs.Bits.{bits};
-ghost use Rattle.arrow2_model.specs.Parts.{part};
-ghost use Rattle.arrow2_walks.specs.Zipped.{zipped};
-ghost use Rattle.arrow2_array.specs.Kleene.{kleene_and, kleene_or, by_items, Spells};
-ghost use Rattle.arrow2_ffi.specs.Ranges.{IsInside, HasBits, first_bits, Holds};
-ghost use Rattle.arrow2_ffi.specs.Writes.{StoresItems, Writes};
+//! bytes as hold them, and their spare bits become 0. A value is what the operator makes of the two values, also where
+//! the answer is null.
+ghost use Rattle.std.specs.Prelude.{Bool, Option};
+ghost use Rattle.arrow2_array.specs.Kleene.{kleene_and, kleene_or, Spells};
+ghost use Rattle.arrow2_ffi.specs.Kleene.{WritesKleene, input_of};
 
 use crate::codes::{ARROW2_LENGTH, ARROW2_OK, ARROW2_RANGE};
 use crate::ranges::{Bits, are_both_inside, hold};
-use crate::rows::{assign_four, assign_two, copy};
+use crate::rows::{write_four, write_two};
 use arrow2_array::kleene::{AND_KNOWN, AND_VALUES, OR_KNOWN, OR_VALUES};
 
 /// Values, and beside them which of them are not null.
@@ -40,18 +37,16 @@ pub extern "C" fn arrow2_and_kleene(
     values: &mut [u8],
     validity: &mut [u8],
 ) -> u32
-    ensures { Writes result
-        (IsInside left.now left_offset length
-        × IsInside left_validity.now left_validity_offset length
-        × IsInside right.now right_offset length
-        × IsInside right_validity.now right_validity_offset length)
-        (Holds values.old length × Holds validity.old length)
-        (StoresItems values.new validity.new length (by_items kleene_and
-        (zipped (part (bits left.now) left_offset length)
-        (part (bits left_validity.now) left_validity_offset length))
-        (zipped (part (bits right.now) right_offset length)
-        (part (bits right_validity.now) right_validity_offset length))))
-        ((values.new ≡ values.old) × (validity.new ≡ validity.old)) }
+    ensures { WritesKleene result kleene_and 8 53060 length
+        (record {
+          values = (left.now, left_offset);
+          validity = (left_validity.now, left_validity_offset);
+        })
+        (record {
+          values = (right.now, right_offset);
+          validity = (right_validity.now, right_validity_offset);
+        })
+        values.old values.new validity.old validity.new }
 {
     let left = Nullable {
         values: Bits(left, left_offset),
@@ -61,7 +56,7 @@ pub extern "C" fn arrow2_and_kleene(
         values: Bits(right, right_offset),
         validity: Bits(right_validity, right_validity_offset),
     };
-    by_tables(left, right, length, values, validity, AND_VALUES, AND_KNOWN)
+    write::<AND_VALUES, AND_KNOWN>(left, right, length, values, validity)
 }
 
 /// Writes, item by item, whether one is true, or both: true where one of them is true, and null where that is not
@@ -83,18 +78,16 @@ pub extern "C" fn arrow2_or_kleene(
     values: &mut [u8],
     validity: &mut [u8],
 ) -> u32
-    ensures { Writes result
-        (IsInside left.now left_offset length
-        × IsInside left_validity.now left_validity_offset length
-        × IsInside right.now right_offset length
-        × IsInside right_validity.now right_validity_offset length)
-        (Holds values.old length × Holds validity.old length)
-        (StoresItems values.new validity.new length (by_items kleene_or
-        (zipped (part (bits left.now) left_offset length)
-        (part (bits left_validity.now) left_validity_offset length))
-        (zipped (part (bits right.now) right_offset length)
-        (part (bits right_validity.now) right_validity_offset length))))
-        ((values.new ≡ values.old) × (validity.new ≡ validity.old)) }
+    ensures { WritesKleene result kleene_or 14 64648 length
+        (record {
+          values = (left.now, left_offset);
+          validity = (left_validity.now, left_validity_offset);
+        })
+        (record {
+          values = (right.now, right_offset);
+          validity = (right_validity.now, right_validity_offset);
+        })
+        values.old values.new validity.old validity.new }
 {
     let left = Nullable {
         values: Bits(left, left_offset),
@@ -104,29 +97,20 @@ pub extern "C" fn arrow2_or_kleene(
         values: Bits(right, right_offset),
         validity: Bits(right_validity, right_validity_offset),
     };
-    by_tables(left, right, length, values, validity, OR_VALUES, OR_KNOWN)
+    write::<OR_VALUES, OR_KNOWN>(left, right, length, values, validity)
 }
 
-/// Writes the values that table `t` answers for two values, and the validity that table `known` answers for them and
-/// their validities.
-fn by_tables(
+/// Writes the values by table `VALUES` of two inputs, and the validity by table `KNOWN` of four.
+fn write<const VALUES: u8, const KNOWN: u16>(
     left: Nullable<'_>,
     right: Nullable<'_>,
     length: usize,
     values: &mut [u8],
     validity: &mut [u8],
-    t: u8,
-    known: u16,
 ) -> u32
-    ensures { Writes result
-        (HasBits left.entry.values length × HasBits left.entry.validity length
-        × HasBits right.entry.values length × HasBits right.entry.validity length)
-        (Holds values.old length × Holds validity.old length)
-        ((f : Option Bool → Option Bool → Option Bool) → Spells t known f →
-        StoresItems values.new validity.new length (by_items f
-        (zipped (first_bits left.entry.values length) (first_bits left.entry.validity length))
-        (zipped (first_bits right.entry.values length) (first_bits right.entry.validity length))))
-        ((values.new ≡ values.old) × (validity.new ≡ validity.old)) }
+    ensures { (f : Option Bool → Option Bool → Option Bool) → Spells VALUES KNOWN f →
+        WritesKleene result f VALUES KNOWN length (input_of left.entry) (input_of right.entry)
+        values.old values.new validity.old validity.new }
 {
     if !are_both_inside(left.values, left.validity, length)
         || !are_both_inside(right.values, right.validity, length)
@@ -136,16 +120,14 @@ fn by_tables(
     if !hold(values, length) || !hold(validity, length) {
         return ARROW2_LENGTH;
     }
-    copy(left.values, length, values);
-    assign_two(values, length, right.values, t);
-    copy(left.values, length, validity);
-    assign_four(
+    write_two::<VALUES>(values, length, left.values, right.values);
+    write_four::<KNOWN>(
         validity,
         length,
+        left.values,
         left.validity,
         right.values,
         right.validity,
-        known,
     );
     ARROW2_OK
 }

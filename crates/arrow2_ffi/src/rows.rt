@@ -1,10 +1,10 @@
 //! Bits copied, and the answers of truth tables for them, in memory of the caller.
-ghost use Rattle.std.specs.Prelude.{◌≡◌, ◌*◌, ◌≤◌, ℕ, List, Bool, [], ◌∷◌, take, length as length'};
-ghost use Rattle.arrow2_model.specs.Bits.{bits};
+ghost use Rattle.std.specs.Prelude.{◌≡◌, ◌*◌, ◌<◌, ◌≤◌, ℕ, List, Bool, [], ◌∷◌, take, length as length'};
+ghost use Rattle.arrow2_model.specs.Bits.{bit, bits};
 ghost use Rattle.arrow2_model.specs.Canonical.{IsCanonical};
-ghost use Rattle.arrow2_model.specs.Kernels.{words_at};
-ghost use Rattle.arrow2_model.specs.Rows.{ActsBesideRows};
-ghost use Rattle.arrow2_model.specs.Tables.{each};
+ghost use Rattle.arrow2_model.specs.Kernels.{word, words_at};
+ghost use Rattle.arrow2_model.specs.Rows.{ActsBesideRows, ActsOnRows, AreRowsOf};
+ghost use Rattle.arrow2_model.specs.Tables.{answer, each};
 ghost use Rattle.arrow2_ffi.specs.Ranges.{HasBits, first_bits, Holds};
 ghost use Rattle.arrow2_ffi.specs.Writes.{Stores};
 
@@ -45,6 +45,128 @@ fn assign_answers<S: WordRows<u64>, F: Fn(u64, S::Row) -> u64>(
         take length (bits bytes.new) ≡ each t (take length (bits bytes.old) ∷ lists) }
 {
     assign_rows(bytes, length, rows, op);
+}
+
+/// The words of two inputs beside one another, as one type: rows of four inputs are rows of two pairs.
+#[derive(Drop)]
+struct Pair<'a> {
+    lists: Beside<OneList<BitChunks<'a, u64>>, OneList<BitChunks<'a, u64>>>,
+}
+
+impl<'a> Pair<'a> {
+    /// The first `length` bits of both, word by word. Asks that there are so many.
+    fn new(first: Bits<'a>, second: Bits<'a>, length: usize) -> Pair<'a>
+        requires first { HasBits first length }
+        requires second { HasBits second length }
+        ensures left { result.lists.left.chunks.items ≡ first_bits first.entry length }
+        ensures right { result.lists.right.chunks.items ≡ first_bits second.entry length }
+        ensures left_count { length' result.lists.left.chunks.items ≡ length }
+        ensures right_count { length' result.lists.right.chunks.items ≡ length }
+    {
+        Pair {
+            lists: Beside {
+                left: words(first, length),
+                right: words(second, length),
+            },
+        }
+    }
+}
+
+impl<'a> WordRows<u64> for Pair<'a> {
+    type Row = (u64, u64);
+
+    ghost words = { λ r. r.0 ∷ r.1 ∷ [] };
+
+    ghost length = { λ p. length' p.lists.left.chunks.items };
+
+    ghost row_at = { λ p j. word 64 p.lists.left.chunks.items j
+        ∷ word 64 p.lists.right.chunks.items j ∷ [] };
+
+    ghost alike = { λ p. length' p.lists.left.chunks.items ≡ length' p.lists.right.chunks.items };
+
+    fn next_row(&mut self) -> Option<(u64, u64)> {
+        self.lists.next_row()
+    }
+
+    fn rest_row(&self) -> (u64, u64) {
+        self.lists.rest_row()
+    }
+}
+
+/// Writes what `op` answers to each row of words over `out`, from bit 0 on, in one pass. Asks for as many bytes as hold
+/// `length` bits, and for rows of as many items.
+fn write_answers<S: WordRows<u64>, F: Fn(S::Row) -> u64>(
+    out: &mut [u8],
+    length: usize,
+    rows: S,
+    op: F,
+)
+    requires callable { F.IsAlwaysCallable op }
+    requires alike { S.alike rows }
+    requires length { S.length rows ≡ length }
+    requires exact { Holds out.old length }
+    ensures canonical { IsCanonical out.new length }
+    ensures items { (t : ℕ) (lists : List (List Bool)) →
+        ActsOnRows 64 S.words (λ x. x) (F.post op) t →
+        AreRowsOf 64 lists (S.row_at rows) length →
+        take length (bits out.new) ≡ each t lists }
+{
+    assign_rows(out, length, rows, |_own: u64, row| op(row));
+}
+
+/// Writes the answers of table `T` for the first `length` bits of two inputs over `out`, from bit 0 on. Asks that both
+/// have so many, and for as many bytes as hold them. Each table has a loop of its own.
+pub(crate) fn write_two<const T: u8>(
+    out: &mut [u8],
+    length: usize,
+    first: Bits<'_>,
+    second: Bits<'_>,
+)
+    requires exact { Holds out.old length }
+    requires first { HasBits first length }
+    requires second { HasBits second length }
+    ensures { Stores out.new length
+        (each T (first_bits first.entry length ∷ first_bits second.entry length ∷ [])) }
+{
+    write_answers(
+        out,
+        length,
+        Pair::new(first, second, length),
+        |(x, y)| -> u64
+            ensures { (i : ℕ) → i < 64 → bit result i ≡ answer T (bit x i ∷ bit y i ∷ []) }
+        { binary_answers(u16::from(T), x, y) },
+    );
+}
+
+/// The same of a table of four inputs.
+pub(crate) fn write_four<const T: u16>(
+    out: &mut [u8],
+    length: usize,
+    first: Bits<'_>,
+    second: Bits<'_>,
+    third: Bits<'_>,
+    fourth: Bits<'_>,
+)
+    requires exact { Holds out.old length }
+    requires first { HasBits first length }
+    requires second { HasBits second length }
+    requires third { HasBits third length }
+    requires fourth { HasBits fourth length }
+    ensures { Stores out.new length (each T (first_bits first.entry length
+        ∷ first_bits second.entry length ∷ first_bits third.entry length
+        ∷ first_bits fourth.entry length ∷ [])) }
+{
+    let left = Pair::new(first, second, length);
+    let right = Pair::new(third, fourth, length);
+    write_answers(
+        out,
+        length,
+        Beside { left, right },
+        |((x, y), (z, v))| -> u64
+            ensures { (i : ℕ) → i < 64 → bit result i
+                ≡ answer T (bit x i ∷ bit y i ∷ bit z i ∷ bit v i ∷ []) }
+        { quaternary_answers(T, x, y, z, v) },
+    );
 }
 
 /// Writes the first `length` bits over `out`, from bit 0 on. Asks that there are so many, and for as many bytes as hold

@@ -1,7 +1,6 @@
 use Rattle.arrow2_array.specs.Kleene.{kleene_or}
 use Rattle.arrow2_array.proofs.Tables.{or_spelled}
-use Rattle.arrow2_ffi.proofs.WriteSteps.{told}
 use Rattle.arrow2_ffi.proofs.kleene.arrow2_or_kleene.Goals as goal
 
 pub returns : goal.returns
-returns c = told c.by_tables.result (λ stores. stores kleene_or or_spelled) c.by_tables.ensures
+returns c = c.write.ensures kleene_or or_spelled

@@ -1,0 +1,43 @@
+-- Kleene's logic on bits in memory: what the code of a call says, and what it wrote.
+use Rattle.std.specs.Prelude.{◌≡◌, ℕ, List, [], ◌∷◌, Bool, Option, take}
+use Rattle.arrow2_model.specs.Bits.{bits}
+use Rattle.arrow2_model.specs.Parts.{part}
+use Rattle.arrow2_model.specs.Tables.{each}
+use Rattle.arrow2_walks.specs.Zipped.{zipped}
+use Rattle.arrow2_array.specs.Kleene.{by_items}
+use Rattle.arrow2_ffi.specs.Ranges.{Holds, AreInside, inputs_of}
+use Rattle.arrow2_ffi.specs.Writes.{Stores, Writes}
+use Rattle.arrow2_ffi.specs.declared.kleene.Nullable.{Nullable}
+
+-- values and their validity: of each the bytes, and the first bit
+pub record Input : Type 0 where
+  pub values : List ℕ × ℕ
+  pub validity : List ℕ × ℕ
+
+abbrev pub input_of : Nullable → Input
+input_of x = record { values = (x.values.0.now, x.values.1); validity = (x.validity.0.now, x.validity.1) }
+
+-- n of the items
+abbrev pub items_of : ℕ → Input → List (Option Bool)
+items_of n x = zipped (part (bits x.values.0) x.values.1 n) (part (bits x.validity.0) x.validity.1 n)
+
+-- the values of two inputs
+abbrev pub values_of : Input → Input → List (List ℕ × ℕ)
+values_of left right = left.values ∷ right.values ∷ []
+
+-- the same, each before its validity
+abbrev pub parts_of : Input → Input → List (List ℕ × ℕ)
+parts_of left right = left.values ∷ left.validity ∷ right.values ∷ right.validity ∷ []
+
+-- what f makes of n items is stored, by a table of the values and one of which of them are known
+pub record StoresKleene (f : Option Bool → Option Bool → Option Bool) (t known n : ℕ) (left right : Input) (new_values new_validity : List ℕ) : Type 0 where
+  -- item by item
+  pub items : zipped (take n (bits new_values)) (take n (bits new_validity)) ≡ by_items f (items_of n left) (items_of n right)
+  -- the values, also those of nulls
+  pub values : Stores new_values n (each t (inputs_of n (values_of left right)))
+  -- the validity
+  pub validity : Stores new_validity n (each known (inputs_of n (parts_of left right)))
+
+-- the code of a call that writes these
+abbrev pub WritesKleene : (code : ℕ) → (Option Bool → Option Bool → Option Bool) → (t known n : ℕ) → (left right : Input) → (values new_values validity new_validity : List ℕ) → Type 0
+WritesKleene code f t known n left right values new_values validity new_validity = Writes code (AreInside n (parts_of left right)) (Holds values n × Holds validity n) (StoresKleene f t known n left right new_values new_validity) ((new_values ≡ values) × (new_validity ≡ validity))
