@@ -1,6 +1,5 @@
 mod BoolSteps
 mod OffsetCodes
-mod OffsetSteps
 mod PlaceSteps
 mod RunSteps
 mod WriteSteps

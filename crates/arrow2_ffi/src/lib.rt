@@ -8,7 +8,6 @@ pub mod booleans;
 pub mod codes;
 pub mod kleene;
 mod offset_calls;
-mod offset_loops;
 pub mod offset_widths;
 pub mod offsets;
 pub mod places;

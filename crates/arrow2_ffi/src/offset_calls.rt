@@ -1,14 +1,31 @@
 //! What the exports on offsets do, for either width.
-ghost use Rattle.std.specs.Prelude.{◌≡◌, ◌≢◌, ◌+◌, ◌-◌, ◌<◌, ◌↔◌, ◌⊎◌, pos, map, length};
-ghost use Rattle.arrow2_offset.specs.Offsets.{AreOffsets, last_offset, lengths_of, offsets_list};
+ghost use Rattle.std.specs.Prelude.{◌≡◌, ◌≢◌, ◌+◌, ◌-◌, ◌<◌, ◌↔◌, ◌⊎◌, pos, map, length, IfNone, IfSome};
+ghost use Rattle.arrow2_offset.specs.Offsets.{AreOffsets, AreOffsetsUpTo, last_offset, lengths_of, offsets_list};
 ghost use Rattle.arrow2_model.specs.Parts.{part};
 ghost use Rattle.arrow2_offset.specs.Refused.{first_broken};
 ghost use Rattle.arrow2_ffi.specs.OffsetWrites.{WritesFromOffsets, WritesFromOffsetsOr};
-ghost use Rattle.arrow2_ffi.specs.Rules.{rule_code};
+ghost use Rattle.arrow2_ffi.specs.Rules.{rule_code, TellsBroken};
 
-use crate::codes::{ARROW2_LENGTH, ARROW2_OK, ARROW2_OVERFLOW, ARROW2_RANGE};
-use crate::offset_loops::{fits, refusal, write_lengths, write_part, write_sums};
+use crate::codes::{
+    ARROW2_LENGTH, ARROW2_OK, ARROW2_OVERFLOW, ARROW2_RANGE, ARROW2_SPEC_EMPTY,
+    ARROW2_SPEC_FALLING, ARROW2_SPEC_NEGATIVE,
+};
 use arrow2_index::offset::Offset;
+use arrow2_offset::slices::{fits, write_lengths, write_part, write_sums};
+use arrow2_offset::{BrokenRule, broken_rule};
+
+/// The code of the first rule that the numbers break, or `None` where they are offsets.
+pub(crate) fn refusal<O: Offset>(offsets: &[O]) -> Option<u32>
+    ensures none { IfNone result (AreOffsetsUpTo O.MAX (map O.value offsets.now)) }
+    ensures some { IfSome result (λ code. TellsBroken code (map O.value offsets.now)) }
+{
+    match broken_rule(offsets) {
+        None => None,
+        Some(BrokenRule::Empty) => Some(ARROW2_SPEC_EMPTY),
+        Some(BrokenRule::Negative) => Some(ARROW2_SPEC_NEGATIVE),
+        Some(BrokenRule::Falling) => Some(ARROW2_SPEC_FALLING),
+    }
+}
 
 /// Whether the numbers are offsets, and else which rule they break first.
 pub(crate) fn check<O: Offset>(offsets: &[O]) -> u32

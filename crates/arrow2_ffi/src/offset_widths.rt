@@ -4,7 +4,8 @@ ghost use Rattle.arrow2_offset.specs.Offsets.{AreOffsets, last_of};
 ghost use Rattle.arrow2_ffi.specs.OffsetWrites.{WritesFromOffsets, WritesFromOffsetsOr};
 
 use crate::codes::{ARROW2_LENGTH, ARROW2_OK, ARROW2_OVERFLOW};
-use crate::offset_loops::{last, refusal};
+use crate::offset_calls::refusal;
+use arrow2_offset::slices::last;
 use arrow2_offset::widths::{write_narrow, write_wide};
 
 /// Writes the same numbers, in 64 bits each.

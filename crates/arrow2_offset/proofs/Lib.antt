@@ -7,5 +7,6 @@ pub mod Nested
 pub mod OffsetLists
 pub mod Order
 pub mod Same
+pub mod SliceSteps
 pub mod Walk
 pub mod Written

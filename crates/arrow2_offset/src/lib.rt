@@ -8,6 +8,7 @@ pub mod immutable;
 pub mod iterator;
 pub mod laws;
 pub mod mutable;
+pub mod slices;
 mod spans;
 pub mod widths;
 

@@ -1,7 +1,7 @@
 use Rattle.std.proofs.Common.{◌≡◌, ℕ, ◌<◌, ◌+◌, length, map, get_or}
 use Rattle.std.specs.Prelude.{pos}
 use Rattle.arrow2_offset.specs.Offsets.{offset_at}
-use Rattle.arrow2_ffi.proofs.offset_loops.write_sums.Given as goal
+use Rattle.arrow2_offset.proofs.slices.write_sums.Given as goal
 
 abbrev pub invariant-loop-i : goal.invariant-loop-i
 invariant-loop-i g l = record {

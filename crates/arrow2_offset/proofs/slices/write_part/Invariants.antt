@@ -2,7 +2,7 @@ use Rattle.std.proofs.Common.{◌≡◌, ℕ, ◌<◌, ◌-◌, length, map, get
 use Rattle.std.specs.Prelude.{pos}
 use Rattle.arrow2_offset.specs.Offsets.{lengths_of, offset_at}
 use Rattle.arrow2_model.specs.Parts.{part}
-use Rattle.arrow2_ffi.proofs.offset_loops.write_part.Given as goal
+use Rattle.arrow2_offset.proofs.slices.write_part.Given as goal
 
 abbrev pub invariant-loop-i : goal.invariant-loop-i
 invariant-loop-i g l = record {

@@ -5,7 +5,7 @@ use Rattle.arrow2_offset.specs.Refused.{first_broken}
 use Rattle.arrow2_offset.specs.declared.check.BrokenRule.{BrokenRule}
 use Rattle.arrow2_offset.specs.declared.check.BrokenRule.TheVariants.{Empty, Negative, Falling}
 use Rattle.arrow2_ffi.specs.Rules.{rule_code, TellsBroken}
-use Rattle.arrow2_ffi.proofs.offset_loops.refusal.Goals as goal
+use Rattle.arrow2_ffi.proofs.offset_calls.refusal.Goals as goal
 
 -- the code of the rule that is broken first tells it
 tells : (rule : BrokenRule) (xs : List ℤ) → (AreOffsets xs → IsNone (Some rule)) → rule ≡ first_broken xs → TellsBroken (rule_code rule) xs

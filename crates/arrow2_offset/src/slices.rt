@@ -1,28 +1,14 @@
-//! Offsets of either width in memory of the caller: the loops.
-ghost use Rattle.std.specs.Prelude.{◌≡◌, ◌+◌, ◌-◌, ◌*◌, ◌<◌, ◌≤◌, ◌↔◌, pos, map, length, sum, IfNone, IfSome, IsTrue};
-ghost use Rattle.arrow2_offset.specs.Offsets.{AreOffsets, AreOffsetsUpTo, last_of, last_offset, lengths_of, offsets_list};
+//! Offsets and lengths in slices that are the caller's: read, and written one by one. Takes no memory.
+//!
+//! arrow2 has these loops inside its offsets alone.
+ghost use Rattle.std.specs.Prelude.{◌≡◌, ◌+◌, ◌-◌, ◌*◌, ◌<◌, ◌≤◌, ◌↔◌, pos, map, length, sum, IsTrue};
 ghost use Rattle.arrow2_model.specs.Parts.{part};
-ghost use Rattle.arrow2_ffi.specs.Rules.{TellsBroken};
+ghost use Rattle.arrow2_offset.specs.Offsets.{AreOffsets, AreOffsetsUpTo, last_of, last_offset, lengths_of, offsets_list};
 
-use crate::codes::{ARROW2_SPEC_EMPTY, ARROW2_SPEC_FALLING, ARROW2_SPEC_NEGATIVE};
 use arrow2_index::offset::Offset;
-use arrow2_offset::{BrokenRule, broken_rule};
-
-/// The code of the first rule that the numbers break, or `None` where they are offsets.
-pub(crate) fn refusal<O: Offset>(offsets: &[O]) -> Option<u32>
-    ensures none { IfNone result (AreOffsetsUpTo O.MAX (map O.value offsets.now)) }
-    ensures some { IfSome result (λ code. TellsBroken code (map O.value offsets.now)) }
-{
-    match broken_rule(offsets) {
-        None => None,
-        Some(BrokenRule::Empty) => Some(ARROW2_SPEC_EMPTY),
-        Some(BrokenRule::Negative) => Some(ARROW2_SPEC_NEGATIVE),
-        Some(BrokenRule::Falling) => Some(ARROW2_SPEC_FALLING),
-    }
-}
 
 /// The last of the offsets.
-pub(crate) fn last<O: Offset>(offsets: &[O]) -> usize
+pub fn last<O: Offset>(offsets: &[O]) -> usize
     requires are { AreOffsets (map O.value offsets.now) }
     ensures { result ≡ last_of (map O.value offsets.now) }
 {
@@ -30,7 +16,7 @@ pub(crate) fn last<O: Offset>(offsets: &[O]) -> usize
 }
 
 /// Writes how far each offset is from the next one. Asks for one length less than offsets.
-pub(crate) fn write_lengths<O: Offset>(offsets: &[O], lengths: &mut [usize])
+pub fn write_lengths<O: Offset>(offsets: &[O], lengths: &mut [usize])
     requires are { AreOffsets (map O.value offsets.now) }
     requires exact { length offsets.now ≡ length lengths.old + 1 }
     ensures { lengths.new ≡ lengths_of (map O.value offsets.now) }
@@ -41,7 +27,7 @@ pub(crate) fn write_lengths<O: Offset>(offsets: &[O], lengths: &mut [usize])
 }
 
 /// Whether the start and all lengths, added up exactly, are an offset.
-pub(crate) fn fits<O: Offset>(start: usize, lengths: &[usize]) -> bool
+pub fn fits<O: Offset>(start: usize, lengths: &[usize]) -> bool
     ensures { IsTrue result ↔ (last_offset start lengths.now ≤ O.MAX) }
 {
     let most = start as u128 + lengths.len() as u128 * all_bits(lengths) as u128;
@@ -72,7 +58,7 @@ fn total(start: usize, lengths: &[usize]) -> u128
 
 /// Writes the start, and behind it the running sums of the lengths. Asks for one offset more than lengths, and that
 /// the last of them is an offset.
-pub(crate) fn write_sums<O: Offset>(start: usize, lengths: &[usize], offsets: &mut [O])
+pub fn write_sums<O: Offset>(start: usize, lengths: &[usize], offsets: &mut [O])
     requires exact { length offsets.old ≡ length lengths.now + 1 }
     requires fits { last_offset start lengths.now ≤ O.MAX }
     ensures { map O.value offsets.new ≡ map pos (offsets_list start lengths.now) }
@@ -87,7 +73,7 @@ pub(crate) fn write_sums<O: Offset>(start: usize, lengths: &[usize], offsets: &m
 
 /// Writes as many offsets as `out` has, from offset `from` on, each less the first of them. Asks that there is one, and
 /// that they are inside.
-pub(crate) fn write_part<O: Offset>(offsets: &[O], from: usize, out: &mut [O])
+pub fn write_part<O: Offset>(offsets: &[O], from: usize, out: &mut [O])
     requires are { AreOffsetsUpTo O.MAX (map O.value offsets.now) }
     requires some { 0 < length out.old }
     requires inside { from + length out.old ≤ length offsets.now }

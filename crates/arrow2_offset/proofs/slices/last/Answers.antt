@@ -1,7 +1,7 @@
 use Rattle.std.proofs.Common.{◌-◌, length, refl, arith}
 use Rattle.std.proofs.lemmas.List.{length-map}
 use Rattle.arrow2_offset.proofs.Appending.{same_naturals, value_last, value_natural}
-use Rattle.arrow2_ffi.proofs.offset_loops.last.Goals as goal
+use Rattle.arrow2_offset.proofs.slices.last.Goals as goal
 
 pub to_usize-requires : goal.to_usize-requires
 to_usize-requires g c =

@@ -2,8 +2,8 @@ use Rattle.std.proofs.Common.{◌≡◌, ◌∙◌, ℕ, ◌+◌, ◌<◌, ◌^�
 use Rattle.std.specs.Prelude.{pos}
 use Rattle.std.proofs.lemmas.List.{length-map, length-set}
 use Rattle.arrow2_offset.specs.Offsets.{offset_at}
-use Rattle.arrow2_ffi.proofs.OffsetSteps.{all_offsets, next_sum, one_more_value, sum_up_to}
-use Rattle.arrow2_ffi.proofs.offset_loops.write_sums.Goals as goal
+use Rattle.arrow2_offset.proofs.SliceSteps.{all_offsets, next_sum, one_more_value, sum_up_to}
+use Rattle.arrow2_offset.proofs.slices.write_sums.Goals as goal
 
 pub loop-i-init : goal.loop-i-init
 loop-i-init g c =

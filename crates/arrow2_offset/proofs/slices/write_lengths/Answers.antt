@@ -2,9 +2,9 @@ use Rattle.std.proofs.Common.{ℕ, List, map, get_or, arith}
 use Rattle.std.proofs.lemmas.List.{length-set}
 use Rattle.arrow2_offset.specs.Offsets.{lengths_of}
 use Rattle.arrow2_offset.proofs.Written.{one_more}
-use Rattle.arrow2_ffi.proofs.OffsetSteps.{all_lengths, between}
+use Rattle.arrow2_offset.proofs.SliceSteps.{all_lengths, between}
 use Rattle.std.proofs.lemmas.List.{length-map}
-use Rattle.arrow2_ffi.proofs.offset_loops.write_lengths.Goals as goal
+use Rattle.arrow2_offset.proofs.slices.write_lengths.Goals as goal
 
 pub distance_to-requires : goal.distance_to-requires
 distance_to-requires g c = (between g.O.Number.value c.args.offsets.now c.index-offsets-i.result c.index-offsets-i-in-loop-i.result c.loop-i.i c.requires.are (omega (arith, c.loop-i-test.true, c.loop-i.invariant.exact)) c.index-offsets-i.is c.index-offsets-i-in-loop-i.is).0

@@ -1,6 +1,6 @@
 use Rattle.std.proofs.Common.{◌≡◌, ℕ, ◌<◌, ◌+◌, length, map, get_or}
 use Rattle.arrow2_offset.specs.Offsets.{lengths_of}
-use Rattle.arrow2_ffi.proofs.offset_loops.write_lengths.Given as goal
+use Rattle.arrow2_offset.proofs.slices.write_lengths.Given as goal
 
 abbrev pub invariant-loop-i : goal.invariant-loop-i
 invariant-loop-i g l = record {

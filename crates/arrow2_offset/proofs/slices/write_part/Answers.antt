@@ -5,8 +5,8 @@ use Rattle.arrow2_offset.specs.Offsets.{lengths_of, offset_at}
 use Rattle.arrow2_model.specs.Parts.{part}
 use Rattle.arrow2_offset.proofs.OffsetLists.{length-lengths_of}
 use Rattle.arrow2_model.proofs.Parts.{length-part}
-use Rattle.arrow2_ffi.proofs.OffsetSteps.{all_offsets, from_first, one_more_value, within_last}
-use Rattle.arrow2_ffi.proofs.offset_loops.write_part.Goals as goal
+use Rattle.arrow2_offset.proofs.SliceSteps.{all_offsets, from_first, one_more_value, within_last}
+use Rattle.arrow2_offset.proofs.slices.write_part.Goals as goal
 
 pub distance_to-requires : goal.distance_to-requires
 distance_to-requires g c = (from_first g.O.Number.value c.args.offsets.now c.index-offsets-from.result c.index-offsets-from-in-loop-i.result c.args.from c.loop-i.i (length c.args.out.now) c.requires.are.0 (omega (arith, c.loop-i-test.true, c.loop-i.invariant.exact)) c.requires.inside c.index-offsets-from.is c.index-offsets-from-in-loop-i.is).0

@@ -1,6 +1,6 @@
 use Rattle.std.proofs.Common.{◌*◌, ◌≤◌}
 use Rattle.arrow2_offset.specs.Offsets.{offset_at}
-use Rattle.arrow2_ffi.proofs.offset_loops.all_bits.Given as goal
+use Rattle.arrow2_offset.proofs.slices.all_bits.Given as goal
 
 abbrev pub invariant-loop-length : goal.invariant-loop-length
 invariant-loop-length l = record {
