@@ -2,8 +2,8 @@
 ghost use Rattle.std.specs.Prelude.{◌≡◌, ◌*◌, ◌<◌, ◌≤◌, ℕ, List, Bool, [], ◌∷◌, take, length as length'};
 ghost use Rattle.arrow2_model.specs.Bits.{bit, bits};
 ghost use Rattle.arrow2_model.specs.Canonical.{IsCanonical};
-ghost use Rattle.arrow2_model.specs.Kernels.{word, words_at};
-ghost use Rattle.arrow2_model.specs.Rows.{ActsBesideRows, ActsOnRows, AreRowsOf};
+ghost use Rattle.arrow2_model.specs.Kernels.{words_at};
+ghost use Rattle.arrow2_model.specs.Rows.{ActsBesideRows};
 ghost use Rattle.arrow2_model.specs.Tables.{answer, each};
 ghost use Rattle.arrow2_ffi.specs.Ranges.{HasBits, first_bits, Holds};
 ghost use Rattle.arrow2_ffi.specs.Writes.{Stores};
@@ -12,7 +12,8 @@ use crate::ranges::Bits;
 use arrow2_bits::chunk_iterator::BitChunks;
 use arrow2_kernels::assigned::assign_rows;
 use arrow2_kernels::lane_assigned::{assign_binary, clear_spare};
-use arrow2_kernels::rows::{Beside, OneList, WordRows};
+use arrow2_kernels::mapped::write_rows;
+use arrow2_kernels::rows::{Beside, OneList, Pair, WordRows};
 use arrow2_kernels::tables::{binary_answers, quaternary_answers, ternary_answers};
 
 /// The first `length` bits, word by word. Asks that there are so many.
@@ -47,71 +48,21 @@ fn assign_answers<S: WordRows<u64>, F: Fn(u64, S::Row) -> u64>(
     assign_rows(bytes, length, rows, op);
 }
 
-/// The words of two inputs beside one another, as one type: rows of four inputs are rows of two pairs.
-#[derive(Drop)]
-struct Pair<'a> {
-    lists: Beside<OneList<BitChunks<'a, u64>>, OneList<BitChunks<'a, u64>>>,
-}
-
-impl<'a> Pair<'a> {
-    /// The first `length` bits of both, word by word. Asks that there are so many.
-    fn new(first: Bits<'a>, second: Bits<'a>, length: usize) -> Pair<'a>
-        requires first { HasBits first length }
-        requires second { HasBits second length }
-        ensures left { result.lists.left.chunks.items ≡ first_bits first.entry length }
-        ensures right { result.lists.right.chunks.items ≡ first_bits second.entry length }
-        ensures left_count { length' result.lists.left.chunks.items ≡ length }
-        ensures right_count { length' result.lists.right.chunks.items ≡ length }
-    {
-        Pair {
-            lists: Beside {
-                left: words(first, length),
-                right: words(second, length),
-            },
-        }
-    }
-}
-
-impl<'a> WordRows<u64> for Pair<'a> {
-    type Row = (u64, u64);
-
-    ghost words = { λ r. r.0 ∷ r.1 ∷ [] };
-
-    ghost length = { λ p. length' p.lists.left.chunks.items };
-
-    ghost row_at = { λ p j. word 64 p.lists.left.chunks.items j
-        ∷ word 64 p.lists.right.chunks.items j ∷ [] };
-
-    ghost alike = { λ p. length' p.lists.left.chunks.items ≡ length' p.lists.right.chunks.items };
-
-    fn next_row(&mut self) -> Option<(u64, u64)> {
-        self.lists.next_row()
-    }
-
-    fn rest_row(&self) -> (u64, u64) {
-        self.lists.rest_row()
-    }
-}
-
-/// Writes what `op` answers to each row of words over `out`, from bit 0 on, in one pass. Asks for as many bytes as hold
-/// `length` bits, and for rows of as many items.
-fn write_answers<S: WordRows<u64>, F: Fn(S::Row) -> u64>(
-    out: &mut [u8],
-    length: usize,
-    rows: S,
-    op: F,
-)
-    requires callable { F.IsAlwaysCallable op }
-    requires alike { S.alike rows }
-    requires length { S.length rows ≡ length }
-    requires exact { Holds out.old length }
-    ensures canonical { IsCanonical out.new length }
-    ensures items { (t : ℕ) (lists : List (List Bool)) →
-        ActsOnRows 64 S.words (λ x. x) (F.post op) t →
-        AreRowsOf 64 lists (S.row_at rows) length →
-        take length (bits out.new) ≡ each t lists }
+/// The first `length` bits of both, word by word. Asks that there are so many.
+fn pair<'a>(first: Bits<'a>, second: Bits<'a>, length: usize) -> Pair<'a>
+    requires first { HasBits first length }
+    requires second { HasBits second length }
+    ensures left { result.lists.left.chunks.items ≡ first_bits first.entry length }
+    ensures right { result.lists.right.chunks.items ≡ first_bits second.entry length }
+    ensures left_count { length' result.lists.left.chunks.items ≡ length }
+    ensures right_count { length' result.lists.right.chunks.items ≡ length }
 {
-    assign_rows(out, length, rows, |_own: u64, row| op(row));
+    Pair {
+        lists: Beside {
+            left: words(first, length),
+            right: words(second, length),
+        },
+    }
 }
 
 /// Writes the answers of table `T` for the first `length` bits of two inputs over `out`, from bit 0 on. Asks that both
@@ -128,10 +79,10 @@ pub(crate) fn write_two<const T: u8>(
     ensures { Stores out.new length
         (each T (first_bits first.entry length ∷ first_bits second.entry length ∷ [])) }
 {
-    write_answers(
+    write_rows(
         out,
         length,
-        Pair::new(first, second, length),
+        pair(first, second, length),
         |(x, y)| -> u64
             ensures { (i : ℕ) → i < 64 → bit result i ≡ answer T (bit x i ∷ bit y i ∷ []) }
         { binary_answers(u16::from(T), x, y) },
@@ -156,9 +107,9 @@ pub(crate) fn write_four<const T: u16>(
         ∷ first_bits second.entry length ∷ first_bits third.entry length
         ∷ first_bits fourth.entry length ∷ [])) }
 {
-    let left = Pair::new(first, second, length);
-    let right = Pair::new(third, fourth, length);
-    write_answers(
+    let left = pair(first, second, length);
+    let right = pair(third, fourth, length);
+    write_rows(
         out,
         length,
         Beside { left, right },

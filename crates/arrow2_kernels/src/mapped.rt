@@ -1,14 +1,38 @@
-//! A new list from the answers of a word function.
-ghost use Rattle.std.specs.Prelude.{◌≡◌, ℕ, List, take, IfOk};
+//! A list from the answers of a word function: over bytes, or in new ones.
+ghost use Rattle.std.specs.Prelude.{◌≡◌, ◌+◌, ◌/◌, ℕ, List, Bool, take, IfOk, length as length'};
 ghost use Rattle.arrow2_model.specs.Bits.{bits};
 ghost use Rattle.arrow2_model.specs.Canonical.{IsCanonical};
 ghost use Rattle.arrow2_model.specs.Kernels.{joined};
-ghost use Rattle.arrow2_model.specs.Rows.{IsRowFunction};
+ghost use Rattle.arrow2_model.specs.Rows.{ActsOnRows, AreRowsOf, IsRowFunction};
+ghost use Rattle.arrow2_model.specs.Tables.{each};
 
 use crate::assigned::assign_rows;
 use crate::rows::WordRows;
 use arrow2_bits::bytes_for;
 use std::alloc::{AllocError, Global};
+
+/// Writes what `op` answers to each row of words over `bytes`, from bit 0 on, for lists of `length` items. Spare bits are
+/// false afterwards. Takes no memory. Asks for as many bytes as hold so many bits, that all lists have so many items, and
+/// that `op` answers every row.
+pub fn write_rows<S: WordRows<u64>, F: Fn(S::Row) -> u64>(
+    bytes: &mut [u8],
+    length: usize,
+    rows: S,
+    op: F,
+)
+    requires callable { F.IsAlwaysCallable op }
+    requires alike { S.alike rows }
+    requires length { S.length rows ≡ length }
+    requires exact { length' bytes.old ≡ (length + 7) / 8 }
+    ensures canonical { IsCanonical bytes.new length }
+    ensures items { (f : List ℕ → ℕ) → IsRowFunction 64 S.words (λ x. x) (F.post op) f →
+        take length (bits bytes.new) ≡ joined 64 (λ j. f (S.row_at rows j)) length }
+    ensures table { (t : ℕ) (lists : List (List Bool)) →
+        ActsOnRows 64 S.words (λ x. x) (F.post op) t → AreRowsOf 64 lists (S.row_at rows) length →
+        take length (bits bytes.new) ≡ each t lists }
+{
+    assign_rows(bytes, length, rows, |_own: u64, row| op(row));
+}
 
 /// The bytes of what `op` answers to each row of words, for lists of `length` items: as many bytes as hold so many
 /// bits, with spare bits false. Asks for memory once. Asks that all lists have so many items, and that `op` answers every
@@ -32,6 +56,6 @@ pub fn map_rows<S: WordRows<u64>, F: Fn(S::Row) -> u64>(
         ≡ joined 64 (λ j. f (S.row_at rows j)) length) }
 {
     let mut bytes = vec![in alloc; 0u8; bytes_for(length)]?;
-    assign_rows(bytes.as_mut_slice(), length, rows, |_own: u64, row| op(row));
+    write_rows(bytes.as_mut_slice(), length, rows, op);
     Ok(bytes)
 }

@@ -4,7 +4,7 @@ ghost use Rattle.arrow2_model.specs.Kernels.{word, AreWords};
 ghost use Rattle.arrow2_model.specs.Words.{WordWalk};
 ghost use Rattle.arrow2_model.specs.Rows.{GivesRow};
 
-use arrow2_bits::chunk_iterator::BitChunkIterExact;
+use arrow2_bits::chunk_iterator::{BitChunkIterExact, BitChunks};
 use arrow2_chunk::bit_chunk::BitChunk;
 
 /// Lists of one length, read row by row: a row has the next word of each list.
@@ -123,5 +123,33 @@ impl<B: BitChunk, L: WordRows<B>, R: WordRows<B>> WordRows<B> for Beside<L, R> {
 
     fn rest_row(&self) -> (L::Row, R::Row) {
         (self.left.rest_row(), self.right.rest_row())
+    }
+}
+
+/// The words of two lists beside one another, as one type: rows of four lists are rows of two pairs.
+#[derive(Drop)]
+pub struct Pair<'a> {
+    /// The lists.
+    pub lists: Beside<OneList<BitChunks<'a, u64>>, OneList<BitChunks<'a, u64>>>,
+}
+
+impl<'a> WordRows<u64> for Pair<'a> {
+    type Row = (u64, u64);
+
+    ghost words = { λ r. r.0 ∷ r.1 ∷ [] };
+
+    ghost length = { λ p. length' p.lists.left.chunks.items };
+
+    ghost row_at = { λ p j. word 64 p.lists.left.chunks.items j
+        ∷ word 64 p.lists.right.chunks.items j ∷ [] };
+
+    ghost alike = { λ p. length' p.lists.left.chunks.items ≡ length' p.lists.right.chunks.items };
+
+    fn next_row(&mut self) -> Option<(u64, u64)> {
+        self.lists.next_row()
+    }
+
+    fn rest_row(&self) -> (u64, u64) {
+        self.lists.rest_row()
     }
 }

@@ -5,10 +5,9 @@ ghost use Rattle.arrow2_model.specs.Storage.{items_of};
 ghost use Rattle.arrow2_model.specs.Tables.{each, ActsTernary, ActsQuaternary};
 ghost use Rattle.arrow2_bitmap.specs.Packed.{IsPacked};
 
-use crate::pair::Pair;
 use arrow2_bitmap::bitmap_ops::{binary_by_table, from_rows, unary_by_table};
 use arrow2_bitmap::immutable::Bitmap;
-use arrow2_kernels::rows::{Beside, OneList};
+use arrow2_kernels::rows::{Beside, OneList, Pair};
 use arrow2_kernels::tables::{quaternary_answers, ternary_answers};
 use arrow2_types::error::{Error, Result};
 
@@ -91,12 +90,29 @@ pub fn quaternary<F: Fn(u64, u64, u64, u64) -> u64>(
     ensures only { IfErr result (λ e. e ≡ Error.OutOfMemory) }
 {
     let rows = Beside {
-        left: Pair::new(a1, a2),
-        right: Pair::new(a3, a4),
+        left: pair(a1, a2),
+        right: pair(a3, a4),
     };
     from_rows(a1.allocator(), a1.len(), rows, |((x, y), (z, v))| {
         op(x, y, z, v)
     })
+}
+
+/// The words of `left`, and beside them those of `right`.
+fn pair<'a>(left: &'a Bitmap, right: &'a Bitmap) -> Pair<'a>
+    ensures left { result.lists.left.chunks.items ≡ items_of left.now }
+    ensures right { result.lists.right.chunks.items ≡ items_of right.now }
+{
+    Pair {
+        lists: Beside {
+            left: OneList {
+                chunks: left.chunks::<u64>(),
+            },
+            right: OneList {
+                chunks: right.chunks::<u64>(),
+            },
+        },
+    }
 }
 
 /// The answers of table `t` of one input, item by item: bit `a1` of `t`. Asks that `t` is below 4.

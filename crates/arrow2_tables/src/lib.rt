@@ -3,4 +3,3 @@
 
 pub mod assign_ops;
 pub mod bitmap_ops;
-mod pair;
