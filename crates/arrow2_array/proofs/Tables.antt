@@ -9,7 +9,9 @@ use Rattle.arrow2_walks.specs.Zipped.{slot, zipped}
 use Rattle.arrow2_model.proofs.Kernels.{length-each, get_or-each, each_from}
 use Rattle.arrow2_walks.proofs.Zipped.{length-zipped, at-zipped}
 use Rattle.arrow2_array.specs.Items.{array_items, validity_items}
-use Rattle.arrow2_array.specs.Kleene.{kleene_and, kleene_or, by_items, Spells}
+use Rattle.arrow2_array.specs.Kleene.{kleene_and, kleene_or, by_items, Spells, kleene, values_table, known_table, beside_table}
+use Rattle.arrow2_array.specs.declared.kleene.Operator.{Operator}
+use Rattle.arrow2_array.specs.declared.kleene.Operator.TheVariants.{And, Or}
 use Rattle.arrow2_array.proofs.Items.{Fits, length-validity, as_zipped}
 
 -- ---- one item
@@ -111,6 +113,28 @@ or_spelled false false true true = refl
 or_spelled false false true false = refl
 or_spelled false false false true = refl
 or_spelled false false false false = refl
+
+-- ---- an operator's tables
+
+pub spelled : (o : Operator) → Spells (values_table o) (known_table o) (kleene o)
+spelled And = and_spelled
+spelled Or = or_spelled
+
+pub known : (o : Operator) (a b : Bool) → answer (known_table o) (a ∷ true ∷ b ∷ true ∷ []) ≡ true
+known And = and_known
+known Or = or_known
+
+pub beside : (o : Operator) (a n b : Bool) → answer (beside_table o) (a ∷ n ∷ b ∷ []) ≡ answer (known_table o) (a ∷ n ∷ b ∷ true ∷ [])
+beside And = and_beside
+beside Or = or_beside
+
+pub behind : (o : Operator) (a b m : Bool) → answer (beside_table o) (b ∷ m ∷ a ∷ []) ≡ answer (known_table o) (a ∷ true ∷ b ∷ m ∷ [])
+behind And = and_behind
+behind Or = or_behind
+
+pub values_small : (o : Operator) → values_table o < 16
+values_small And = omega arith
+values_small Or = omega arith
 
 -- ---- item by item
 

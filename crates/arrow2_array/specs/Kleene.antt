@@ -2,6 +2,8 @@
 use Rattle.std.specs.Prelude.{◌≡◌, ℕ, List, [], ◌∷◌, Bool, true, false, ◌&&◌, ◌||◌, Option, Some, None}
 use Rattle.arrow2_model.specs.Tables.{answer}
 use Rattle.arrow2_walks.specs.Zipped.{slot}
+use Rattle.arrow2_array.specs.declared.kleene.Operator.{Operator}
+use Rattle.arrow2_array.specs.declared.kleene.Operator.TheVariants.{And, Or}
 
 -- whether both are true
 abbrev pub kleene_and : Option Bool → Option Bool → Option Bool
@@ -30,3 +32,21 @@ by_items f (x ∷ xs) (y ∷ ys) = f x y ∷ by_items f xs ys
 -- table t gives the value, and table known whether it is one, of what f makes of two items: of values a, b with validities n, m
 abbrev pub Spells : ℕ → ℕ → (Option Bool → Option Bool → Option Bool) → Type 0
 Spells t known f = (a n b m : Bool) → slot (answer t (a ∷ b ∷ [])) (answer known (a ∷ n ∷ b ∷ m ∷ [])) ≡ f (slot a n) (slot b m)
+
+-- what an operator makes of two items
+abbrev pub kleene : Operator → Option Bool → Option Bool → Option Bool
+kleene And = kleene_and
+kleene Or = kleene_or
+
+-- its tables: of the value, of whether it is known, and of the same beside an item that is not null
+abbrev pub values_table : Operator → ℕ
+values_table And = 8
+values_table Or = 14
+
+abbrev pub known_table : Operator → ℕ
+known_table And = 53060
+known_table Or = 64648
+
+abbrev pub beside_table : Operator → ℕ
+beside_table And = 207
+beside_table Or = 252

@@ -6,17 +6,14 @@ ghost use Rattle.std.specs.Cmp.Lexicographic.{pointwise, lists_equiv, options_eq
 ghost use Rattle.std.specs.Option.{ForSome, is_some, option_eq};
 ghost use Rattle.arrow2_model.specs.Parts.{part};
 ghost use Rattle.arrow2_model.specs.Storage.{items_of};
-ghost use Rattle.arrow2_model.specs.Tables.{answer};
 ghost use Rattle.arrow2_walks.specs.Zipped.{zipped};
 ghost use Rattle.arrow2_types.specs.Refusals.{IsInvalidArgument};
 ghost use Rattle.arrow2_array.specs.Items.{array_items, nulls};
-ghost use Rattle.arrow2_array.specs.Kleene.{kleene_and, kleene_or, by_items, Spells};
+ghost use Rattle.arrow2_array.specs.Kleene.{by_items, kleene, kleene_and, kleene_or};
 ghost use Rattle.arrow2_array.specs.Refused.{unequal_lengths};
 
 use crate::iterator::BooleanIter;
-use crate::kleene::{
-    AND_KNOWN, AND_KNOWN_BESIDE, AND_VALUES, OR_KNOWN, OR_KNOWN_BESIDE, OR_VALUES, validity_by,
-};
+use crate::kleene::{Operator, validity_by};
 use arrow2_bitmap::Bitmap;
 use arrow2_tables::bitmap_ops::binary_table;
 use arrow2_types::error::{Error, Result};
@@ -155,7 +152,7 @@ impl BooleanArray {
         ensures len { IfOk result (λ a. length' a ≡ length' self.now) }
         ensures only { IfErr result (λ e. e ≡ Error.OutOfMemory) }
     {
-        self.by_tables(other, AND_VALUES, AND_KNOWN, AND_KNOWN_BESIDE)
+        self.by_operator(Operator::And, other)
     }
 
     /// Item by item, whether one is true, or both: true where one of them is true, and null where that is not known.
@@ -172,32 +169,23 @@ impl BooleanArray {
         ensures len { IfOk result (λ a. length' a ≡ length' self.now) }
         ensures only { IfErr result (λ e. e ≡ Error.OutOfMemory) }
     {
-        self.by_tables(other, OR_VALUES, OR_KNOWN, OR_KNOWN_BESIDE)
+        self.by_operator(Operator::Or, other)
     }
 
-    /// The array of the values that table `t` answers for two values, null where table `known` answers false for them and
-    /// their validities: by table `beside` where one of these is missing.
-    fn by_tables(&self, other: &BooleanArray, t: u8, known: u16, beside: u8) -> Result<BooleanArray>
+    /// What the operator makes of both, item by item: by its tables.
+    fn by_operator(&self, operator: Operator, other: &BooleanArray) -> Result<BooleanArray>
         requires same_length { length' self.now ≡ length' other.now }
-        requires table { t < 16 }
-        requires known { (a b : Bool) → answer known (a ∷ true ∷ b ∷ true ∷ []) ≡ true }
-        requires beside_right { (a n b : Bool) → answer beside (a ∷ n ∷ b ∷ [])
-            ≡ answer known (a ∷ n ∷ b ∷ true ∷ []) }
-        requires beside_left { (a b m : Bool) → answer beside (b ∷ m ∷ a ∷ [])
-            ≡ answer known (a ∷ true ∷ b ∷ m ∷ []) }
-        ensures items { (f : Option Bool → Option Bool → Option Bool) → Spells t known f →
-            IfOk result (λ a. a ≡ by_items f self.now other.now) }
+        ensures items { IfOk result (λ a. a ≡ by_items (kleene operator) self.now other.now) }
         ensures len { IfOk result (λ a. length' a ≡ length' self.now) }
         ensures only { IfErr result (λ e. e ≡ Error.OutOfMemory) }
     {
-        let values = binary_table(&self.values, &other.values, t)?;
+        let values = binary_table(&self.values, &other.values, operator.values())?;
         let validity = validity_by(
+            operator,
             &self.values,
             &self.validity,
             &other.values,
             &other.validity,
-            known,
-            beside,
         )?;
         Ok(BooleanArray { values, validity })
     }

@@ -1,9 +1,10 @@
 //! Which answers of Kleene's logic are known, by truth tables.
-ghost use Rattle.std.specs.Prelude.{◌≡◌, Bool, true, [], ◌∷◌, length as length', IfOk, IfErr};
+ghost use Rattle.std.specs.Prelude.{◌≡◌, [], ◌∷◌, length as length', IfOk, IfErr};
 ghost use Rattle.std.specs.Option.{ForSome};
 ghost use Rattle.arrow2_model.specs.Storage.{items_of};
-ghost use Rattle.arrow2_model.specs.Tables.{answer, each};
+ghost use Rattle.arrow2_model.specs.Tables.{each};
 ghost use Rattle.arrow2_array.specs.Items.{validity_items};
+ghost use Rattle.arrow2_array.specs.Kleene.{beside_table, known_table, values_table};
 
 use arrow2_bitmap::Bitmap;
 use arrow2_tables::bitmap_ops::{quaternary_table, ternary_table};
@@ -31,34 +32,70 @@ pub(crate) const AND_KNOWN_BESIDE: u8 = 0b1100_1111;
 /// And for which it is known whether one is true, or both.
 pub(crate) const OR_KNOWN_BESIDE: u8 = 0b1111_1100;
 
-/// The answers of table `t` for the values and validities of two arrays, where a missing validity is all set: by table
-/// `beside` of three inputs where one is missing. Where both are missing there is none to be had: table `t` has to
-/// answer true there.
+/// An operator of Kleene's logic.
+#[derive(Clone, Copy)]
+pub(crate) enum Operator {
+    /// Whether both are true.
+    And,
+    /// Whether one is true, or both.
+    Or,
+}
+
+impl Operator {
+    /// The table of its values.
+    pub(crate) fn values(self) -> u8
+        ensures { result ≡ values_table self }
+    {
+        match self {
+            Operator::And => AND_VALUES,
+            Operator::Or => OR_VALUES,
+        }
+    }
+
+    /// The table of which of them are known.
+    fn known(self) -> u16
+        ensures { result ≡ known_table self }
+    {
+        match self {
+            Operator::And => AND_KNOWN,
+            Operator::Or => OR_KNOWN,
+        }
+    }
+
+    /// The same where one of the two is not null.
+    fn known_beside(self) -> u8
+        ensures { result ≡ beside_table self }
+    {
+        match self {
+            Operator::And => AND_KNOWN_BESIDE,
+            Operator::Or => OR_KNOWN_BESIDE,
+        }
+    }
+}
+
+/// For which items of two arrays the answer is known, where a missing validity is all set: by the table of three inputs
+/// where one is missing. Where both are missing, so is that of the answer.
 pub(crate) fn validity_by(
+    operator: Operator,
     left: &Bitmap,
     left_validity: &Option<Bitmap>,
     right: &Bitmap,
     right_validity: &Option<Bitmap>,
-    t: u16,
-    beside: u8,
 ) -> Result<Option<Bitmap>>
-    requires known { (a b : Bool) → answer t (a ∷ true ∷ b ∷ true ∷ []) ≡ true }
-    requires beside_right { (a n b : Bool) → answer beside (a ∷ n ∷ b ∷ [])
-        ≡ answer t (a ∷ n ∷ b ∷ true ∷ []) }
-    requires beside_left { (a b m : Bool) → answer beside (b ∷ m ∷ a ∷ [])
-        ≡ answer t (a ∷ true ∷ b ∷ m ∷ []) }
     requires same_length { length' (items_of left.now) ≡ length' (items_of right.now) }
     requires left_length { ForSome left_validity.now (λ v. length' (items_of v)
         ≡ length' (items_of left.now)) }
     requires right_length { ForSome right_validity.now (λ v. length' (items_of v)
         ≡ length' (items_of right.now)) }
     ensures items { IfOk result (λ v. validity_items (items_of left.now) v
-        ≡ each t (items_of left.now ∷ validity_items (items_of left.now) left_validity.now
+        ≡ each (known_table operator) (items_of left.now ∷ validity_items (items_of left.now) left_validity.now
         ∷ items_of right.now ∷ validity_items (items_of right.now) right_validity.now ∷ [])) }
     ensures len { IfOk result (λ v.
         ForSome v (λ b. length' (items_of b) ≡ length' (items_of left.now))) }
     ensures only { IfErr result (λ e. e ≡ Error.OutOfMemory) }
 {
+    let t = operator.known();
+    let beside = operator.known_beside();
     match (left_validity, right_validity) {
         (None, None) => Ok(None),
         (Some(valid), None) => Ok(Some(ternary_table(left, valid, right, beside)?)),
