@@ -1,5 +1,5 @@
 //! An array of booleans, each of which may be null.
-ghost use Rattle.std.specs.Prelude.{◌≡◌, ◌+◌, ◌≤◌, ◌<◌, ◌↔◌, [], ◌∷◌, Bool, true, Option, None, length as length', map, slice_index_or, OnOk, IsOk, IfOk, IfErr, IsTrue, MatchOption, string_bytes};
+ghost use Rattle.std.specs.Prelude.{◌≡◌, ◌+◌, ◌≤◌, ◌<◌, ◌↔◌, Bool, true, Option, None, length as length', map, slice_index_or, OnOk, IsOk, IfOk, IfErr, IsTrue, MatchOption, string_bytes};
 ghost use Rattle.std.specs.Bool.{beq};
 ghost use Rattle.std.specs.Cmp.{partial_equiv_from_equiv, bool_eq_equiv};
 ghost use Rattle.std.specs.Cmp.Lexicographic.{pointwise, lists_equiv, options_equiv};

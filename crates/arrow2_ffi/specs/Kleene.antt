@@ -14,6 +14,7 @@ pub record Input : Type 0 where
   pub values : List ℕ × ℕ
   pub validity : List ℕ × ℕ
 
+-- the same of the slices that a call has
 abbrev pub input_of : Nullable → Input
 input_of x = record { values = (x.values.0.now, x.values.1); validity = (x.validity.0.now, x.validity.1) }
 
