@@ -105,7 +105,8 @@ uint32_t arrow2_quaternary_assign_table(uint8_t *bytes, size_t bytes_count, cons
 /* ---- Kleene's logic
  *
  * Values beside their validity: an item is null where its validity bit is not set. Of both sides `length` items are
- * read. `values` and `validity` get the answer, each as `out` above.
+ * read. `values` and `validity` get the answer, each as `out` above. A value is the operator's answer for the two
+ * values, also where the result is null.
  * ARROW2_RANGE: bits of any of the four are not inside. Else ARROW2_LENGTH: `values` or `validity` has another length. */
 
 /* Whether both are true: false where one of them is false, and null where that is not known. */
@@ -134,7 +135,8 @@ uint32_t arrow2_unpack(const uint8_t *bytes, size_t bytes_count, size_t offset, 
 
 /* Writes the runs of set bits among the `length` bits from bit `offset` on, from place `*at` of them on: each by its
  * first place, counted from bit `offset` on, and its length, as many as fit. Writes to `count` how many these are, and
- * to `at` where to go on. Begin with 0 in `at`; fewer than fit are the last ones, and `at` is then `length`.
+ * to `at` where to go on. Begin with 0 in `at`; fewer than fit are the last ones, and `at` is then `length`. A loop
+ * over all runs needs room for one: with room for none `count` is 0 and `at` may stay.
  * ARROW2_RANGE: the bits are not inside the bytes, or `*at` is above `length`. Else ARROW2_LENGTH: `starts` and
  * `lengths` have not equally many items. */
 uint32_t arrow2_runs(const uint8_t *bytes, size_t bytes_count, size_t offset, size_t length, size_t *at, size_t *starts,
@@ -142,7 +144,8 @@ uint32_t arrow2_runs(const uint8_t *bytes, size_t bytes_count, size_t offset, si
 
 /* Writes the places of set bits among the `length` bits from bit `offset` on, from place `*at` of them on, rising, each
  * counted from bit `offset` on, as many as fit. Writes to `count` how many these are, and to `at` where to go on. Begin
- * with 0 in `at`; fewer than fit are the last ones, and `at` is then `length`.
+ * with 0 in `at`; fewer than fit are the last ones, and `at` is then `length`. A loop over all places needs room for
+ * one.
  * ARROW2_RANGE: the bits are not inside the bytes, or `*at` is above `length`. */
 uint32_t arrow2_set_places(const uint8_t *bytes, size_t bytes_count, size_t offset, size_t length, size_t *at,
                            size_t *places, size_t places_count, size_t *count);

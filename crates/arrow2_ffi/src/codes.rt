@@ -23,3 +23,20 @@ pub const ARROW2_SPEC_NEGATIVE: u32 = 6;
 
 /// What should be offsets has a number that is below the one before it.
 pub const ARROW2_SPEC_FALLING: u32 = 7;
+
+// The header and callers have these numbers.
+const _: () = prove!(ARROW2_OK == 0);
+
+const _: () = prove!(ARROW2_RANGE == 1);
+
+const _: () = prove!(ARROW2_LENGTH == 2);
+
+const _: () = prove!(ARROW2_OVERFLOW == 3);
+
+const _: () = prove!(ARROW2_MEMORY == 4);
+
+const _: () = prove!(ARROW2_SPEC_EMPTY == 5);
+
+const _: () = prove!(ARROW2_SPEC_NEGATIVE == 6);
+
+const _: () = prove!(ARROW2_SPEC_FALLING == 7);

@@ -15,3 +15,5 @@ mod ranges;
 mod rows;
 pub mod runs;
 pub mod tables;
+#[cfg(test)]
+mod tests;

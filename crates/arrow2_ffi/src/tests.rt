@@ -1,0 +1,207 @@
+//! Each export called once by position, with values that tell its parameters apart.
+use crate::assign_tables::{
+    arrow2_binary_assign_table, arrow2_quaternary_assign_table, arrow2_ternary_assign_table,
+    arrow2_unary_assign_table,
+};
+use crate::bits::{
+    arrow2_copy_bits, arrow2_count_zeros, arrow2_equal_bits, arrow2_get_bit, arrow2_set_bit,
+};
+use crate::booleans::{arrow2_pack, arrow2_unpack};
+use crate::kleene::{arrow2_and_kleene, arrow2_or_kleene};
+use crate::offset_widths::{arrow2_offsets_narrow, arrow2_offsets_widen};
+use crate::offsets::{
+    arrow2_offsets32_check, arrow2_offsets32_from_lengths, arrow2_offsets32_from_zero,
+    arrow2_offsets32_lengths, arrow2_offsets64_check, arrow2_offsets64_from_lengths,
+    arrow2_offsets64_from_zero, arrow2_offsets64_lengths,
+};
+use crate::places::arrow2_set_places;
+use crate::runs::arrow2_runs;
+use crate::tables::{
+    arrow2_binary_table, arrow2_quaternary_table, arrow2_ternary_table, arrow2_unary_table,
+};
+use std::fmt::Debug;
+use std::process::Abort;
+
+/// The call returned OK and wrote these items.
+fn wrote<T: PartialEq + Debug>(rt: &impl Abort, code: u32, written: &[T], wanted: &[T]) {
+    assert_eq!(rt; code, 0);
+    assert_eq!(rt; written, wanted);
+}
+
+/// The call returned this code.
+fn returned(rt: &impl Abort, code: u32, wanted: u32) {
+    assert_eq!(rt; code, wanted);
+}
+
+// Item i is bit k - 1 of i in the input k, each input from bit k on: a table over all of them is its own answer.
+const FIRST: [u8; 3] = [0x54, 0x55, 0x01];
+
+const SECOND: [u8; 3] = [0x30, 0x33, 0x03];
+
+const THIRD: [u8; 3] = [0x80, 0x87, 0x07];
+
+const FOURTH: [u8; 3] = [0x00, 0xf0, 0x0f];
+
+#[test]
+fn bits_are_read(rt: HostRuntime) {
+    let mut zeros = 0;
+    let code = arrow2_count_zeros(&[0b0000_0110], 1, 4, &mut zeros);
+    wrote(&rt, code, &[zeros], &[2]);
+    let mut equal = false;
+    let code = arrow2_equal_bits(&[0b0000_0110], 1, &[0b0000_1100], 2, 3, &mut equal);
+    wrote(&rt, code, &[equal], &[true]);
+    let mut value = false;
+    let code = arrow2_get_bit(&[0b0000_0100], 2, &mut value);
+    wrote(&rt, code, &[value], &[true]);
+}
+
+#[test]
+fn bits_are_written(rt: HostRuntime) {
+    let mut bytes = [0];
+    let code = arrow2_set_bit(&mut bytes, 3, true);
+    wrote(&rt, code, &bytes, &[0b0000_1000]);
+    let mut out = [0];
+    let code = arrow2_copy_bits(&[0b0110_1000], 3, 4, &mut out);
+    wrote(&rt, code, &out, &[0b0000_1101]);
+    let code = arrow2_pack(&[true, false, true], &mut out);
+    wrote(&rt, code, &out, &[0b0000_0101]);
+    let mut items = [false; 4];
+    let code = arrow2_unpack(&[0b0110_1000], 3, &mut items);
+    wrote(&rt, code, &items, &[true, false, true, true]);
+}
+
+#[test]
+fn tables_tell_their_inputs_apart(rt: HostRuntime) {
+    let mut out = [0];
+    let code = arrow2_unary_table(&FIRST, 1, 2, 1, &mut out);
+    wrote(&rt, code, &out, &[0b01]);
+    let code = arrow2_binary_table(&FIRST, 1, &SECOND, 2, 4, 2, &mut out);
+    wrote(&rt, code, &out, &[2]);
+    let code = arrow2_ternary_table(&FIRST, 1, &SECOND, 2, &THIRD, 3, 8, 26, &mut out);
+    wrote(&rt, code, &out, &[26]);
+    let mut out = [0; 2];
+    let code = arrow2_quaternary_table(
+        &FIRST, 1, &SECOND, 2, &THIRD, 3, &FOURTH, 4, 16, 0x1a2e, &mut out,
+    );
+    wrote(&rt, code, &out, &[0x2e, 0x1a]);
+}
+
+#[test]
+fn tables_in_place_tell_their_inputs_apart(rt: HostRuntime) {
+    let mut bytes = [0b10];
+    let code = arrow2_unary_assign_table(&mut bytes, 2, 1);
+    wrote(&rt, code, &bytes, &[0b01]);
+    let mut bytes = [0b1010];
+    let code = arrow2_binary_assign_table(&mut bytes, &SECOND, 2, 4, 2);
+    wrote(&rt, code, &bytes, &[2]);
+    let mut bytes = [0xaa];
+    let code = arrow2_ternary_assign_table(&mut bytes, &SECOND, 2, &THIRD, 3, 8, 26);
+    wrote(&rt, code, &bytes, &[26]);
+    let mut bytes = [0xaa; 2];
+    let code = arrow2_quaternary_assign_table(
+        &mut bytes, &SECOND, 2, &THIRD, 3, &FOURTH, 4, 16, 0x1a2e,
+    );
+    wrote(&rt, code, &bytes, &[0x2e, 0x1a]);
+}
+
+// All nine pairs of false, true and null, where true stands under a null: left, its validity, right, its validity, each
+// from another bit on.
+const LEFT: [u8; 2] = [0x6c, 0x03];
+
+const LEFT_VALIDITY: [u8; 2] = [0x6c, 0x03];
+
+const RIGHT: [u8; 2] = [0xc0, 0x0f];
+
+const RIGHT_VALIDITY: [u8; 2] = [0xf0, 0x03];
+
+#[test]
+fn kleenes_logic_tells_values_and_validities_apart(rt: HostRuntime) {
+    let (mut values, mut validity) = ([0; 2], [0; 2]);
+    let code = arrow2_and_kleene(
+        &LEFT,
+        1,
+        &LEFT_VALIDITY,
+        2,
+        &RIGHT,
+        3,
+        &RIGHT_VALIDITY,
+        4,
+        9,
+        &mut values,
+        &mut validity,
+    );
+    wrote(&rt, code, &values, &[0xb0, 0x01]);
+    wrote(&rt, code, &validity, &[0x5f, 0x00]);
+    let code = arrow2_or_kleene(
+        &LEFT,
+        1,
+        &LEFT_VALIDITY,
+        2,
+        &RIGHT,
+        3,
+        &RIGHT_VALIDITY,
+        4,
+        9,
+        &mut values,
+        &mut validity,
+    );
+    wrote(&rt, code, &values, &[0xfe, 0x01]);
+    wrote(&rt, code, &validity, &[0xbb, 0x00]);
+}
+
+#[test]
+fn runs_and_places_are_written(rt: HostRuntime) {
+    let (mut at, mut count) = (0, 0);
+    let (mut starts, mut lengths) = ([0; 2], [0; 2]);
+    let bytes = [0b0110_1100];
+    let code = arrow2_runs(&bytes, 1, 5, &mut at, &mut starts, &mut lengths, &mut count);
+    wrote(&rt, code, &starts, &[1, 4]);
+    wrote(&rt, code, &lengths, &[2, 1]);
+    wrote(&rt, code, &[at, count], &[5, 2]);
+    at = 2;
+    let mut places = [0; 3];
+    let code = arrow2_set_places(&bytes, 1, 6, &mut at, &mut places, &mut count);
+    wrote(&rt, code, &places, &[2, 4, 5]);
+    wrote(&rt, code, &[at, count], &[6, 3]);
+}
+
+#[test]
+fn offsets_of_32_bits_are_written(rt: HostRuntime) {
+    let mut lengths = [0; 2];
+    let code = arrow2_offsets32_lengths(&[1, 3, 3], &mut lengths);
+    wrote(&rt, code, &lengths, &[2, 0]);
+    let mut offsets = [0; 3];
+    let code = arrow2_offsets32_from_lengths(5, &[1, 2], &mut offsets);
+    wrote(&rt, code, &offsets, &[5, 6, 8]);
+    let mut part = [0; 2];
+    let code = arrow2_offsets32_from_zero(&[1, 3, 7, 9], 1, &mut part);
+    wrote(&rt, code, &part, &[0, 4]);
+    let code = arrow2_offsets_narrow(&[2, 3], &mut part);
+    wrote(&rt, code, &part, &[2, 3]);
+}
+
+#[test]
+fn offsets_of_64_bits_are_written(rt: HostRuntime) {
+    let mut lengths = [0; 2];
+    let code = arrow2_offsets64_lengths(&[1, 3, 3], &mut lengths);
+    wrote(&rt, code, &lengths, &[2, 0]);
+    let mut offsets = [0; 3];
+    let code = arrow2_offsets64_from_lengths(5, &[1, 2], &mut offsets);
+    wrote(&rt, code, &offsets, &[5, 6, 8]);
+    let mut part = [0; 2];
+    let code = arrow2_offsets64_from_zero(&[1, 3, 7, 9], 1, &mut part);
+    wrote(&rt, code, &part, &[0, 4]);
+    let code = arrow2_offsets_widen(&[2, 3], &mut part);
+    wrote(&rt, code, &part, &[2, 3]);
+}
+
+#[test]
+fn each_code_has_its_number(rt: HostRuntime) {
+    let (mut value, mut out) = (false, [0; 1]);
+    returned(&rt, arrow2_get_bit(&[0], 8, &mut value), 1);
+    returned(&rt, arrow2_unary_table(&[0], 0, 1, 1, &mut []), 2);
+    returned(&rt, arrow2_offsets_narrow(&[2_147_483_648], &mut out), 3);
+    returned(&rt, arrow2_offsets32_check(&[]), 5);
+    returned(&rt, arrow2_offsets64_check(&[-1]), 6);
+    returned(&rt, arrow2_offsets32_check(&[1, 0]), 7);
+}
