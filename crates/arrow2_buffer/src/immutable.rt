@@ -19,6 +19,7 @@ ghost use Rattle.either.specs.Either.{MatchEither};
 ghost use Rattle.std.specs.declared.alloc.Global.{Global};
 
 use crate::bytes::Bytes;
+use crate::collect::collected;
 use arrow2_types::error::{Error, Result};
 use either::Either;
 use std::alloc::{AllocError, Global};
@@ -281,28 +282,9 @@ impl<T: Drop> Buffer<T> {
             × WholeRun I.IntoIter.next_gives it (λ p. b ≡ whole_buffer p.items)) }
         ensures only { IfErr result (λ e. e ≡ OutOfMemory) }
     {
-        let mut items = Vec::new(alloc);
-        for item in iter {
-            if items.len() == items.capacity() {
-                items = with_room(items)?;
-            }
-            items.push_reserved(item);
-        }
+        let items = collected(alloc, iter.into_iter())?;
         Buffer::try_from(items)
     }
-}
-
-/// For how many items room is asked at least, so that few items ask for memory once.
-const LEAST_ROOM: usize = 128;
-
-/// The items in a vector with room for more. The vector is passed by value, so that how many items it has stays
-/// in a register from item to item.
-fn with_room<T: Drop>(mut items: Vec<T>) -> std::result::Result<Vec<T>, AllocError>
-    ensures items { IfOk result (λ roomy. roomy.items ≡ items.items) }
-    ensures capacity { IfOk result (λ roomy. vec_len roomy < vec_capacity roomy) }
-{
-    items.reserve(LEAST_ROOM)?;
-    Ok(items)
 }
 
 /// The whole vector, which is moved and not copied.

@@ -2,6 +2,7 @@
 #![tactic(auto)]
 
 pub mod bytes;
+mod collect;
 pub mod immutable;
 pub mod iterator;
 pub mod laws;

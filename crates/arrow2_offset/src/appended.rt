@@ -14,8 +14,9 @@ use arrow2_types::refusal::Refusal;
 use std::alloc::AllocError;
 use std::mem;
 
-/// For how many lengths room is asked at least, so that few lengths ask for memory once.
-pub(crate) const LEAST_ROOM: usize = 128;
+/// The least capacity in lengths that is reserved, so that few lengths need one allocation: a little less than what glibc
+/// keeps at hand.
+pub(crate) const LEAST_CAPACITY: usize = 120;
 
 /// Appends the lengths of an iterator that ends, and takes them off again where it refuses. Asks that the items
 /// are offsets. The iterator's size hint is not read.
@@ -98,19 +99,21 @@ fn with_room<O>(mut offsets: Vec<O>) -> (Vec<O>, Result<(), AllocError>)
     ensures capacity { vec_capacity offsets ≤ vec_capacity result.0 }
     ensures ok { OnOk result.1 (vec_len result.0 < vec_capacity result.0) }
 {
-    let room = double(&mut offsets);
+    let room = make_room(&mut offsets);
     (offsets, room)
 }
 
-/// Makes room for twice as many lengths: one item less than are there is added, since offsets are one more than
-/// lengths. So a power of two lengths leaves no room over.
+/// Reserves four times the capacity in lengths, and where that is refused room for one.
 #[cold]
 #[inline(never)]
-fn double<O>(offsets: &mut Vec<O>) -> Result<(), AllocError>
+fn make_room<O>(offsets: &mut Vec<O>) -> Result<(), AllocError>
     ensures items { offsets.new.items ≡ offsets.old.items }
     ensures capacity { vec_capacity offsets.old ≤ vec_capacity offsets.new }
     ensures ok { OnOk result (vec_len offsets.new < vec_capacity offsets.new) }
 {
-    let lengths = offsets.len().saturating_sub(1);
-    offsets.reserve_exact(lengths.max(LEAST_ROOM))
+    let more = offsets.len().saturating_mul(3).max(LEAST_CAPACITY);
+    if offsets.reserve_exact(more).is_err() {
+        offsets.reserve_exact(1)?;
+    }
+    Ok(())
 }

@@ -16,7 +16,7 @@ ghost use Rattle.arrow2_offset.specs.Refused.{IsOutOfSpec, why_not_offsets};
 ghost use Rattle.arrow2_types.specs.Refusals.{error_of};
 ghost use Rattle.arrow2_types.specs.declared.refusal.Refusal.TheVariants as refusal;
 
-use crate::appended::{LEAST_ROOM, append_lengths};
+use crate::appended::{LEAST_CAPACITY, append_lengths};
 use crate::check::try_check_offsets;
 use crate::immutable::OffsetsBuffer;
 use crate::iterator::Lengths;
@@ -141,7 +141,7 @@ impl<O: Offset> Offsets<O> {
         ensures overflow { IsErrOf result Error.Overflow → GivesPast O.MAX 0 I.next_gives lengths }
         ensures only { IfErr result (λ e. (e ≡ Error.Overflow) ⊎ (e ≡ Error.OutOfMemory)) }
     {
-        let mut offsets = Offsets::with_capacity(alloc, LEAST_ROOM)?;
+        let mut offsets = Offsets::with_capacity(alloc, LEAST_CAPACITY)?;
         offsets.extend_lengths(lengths)?;
         Ok(offsets)
     }

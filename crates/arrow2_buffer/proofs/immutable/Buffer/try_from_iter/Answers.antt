@@ -1,12 +1,10 @@
-use Rattle.std.proofs.Common.{ap, sym, ◌∙◌}
-use Rattle.std.proofs.iter.runs.Made.{run_of_exit}
+use Rattle.std.proofs.Common.{ap, ◌∙◌}
 use Rattle.std.proofs.lemmas.Result.{MatchResult-weaker}
 use Rattle.arrow2_model.specs.Buffers.{whole_buffer}
 use Rattle.arrow2_buffer.proofs.immutable.Buffer.try_from_iter.Goals as goal
 
--- the run of the loop is the iterator's whole run
+-- what was collected is the iterator's whole run
 pub returns-clause-items : goal.returns-clause-items
 returns-clause-items g c =
-    let it = c.into_iter-item-iterator in
-    let ran = run_of_exit g.I.IntoIter.Iterator.next_gives it.result c.loop-item.yielded c.loop-item.item-iterator c.loop-item.yielded_by c.next.new.self c.in-None.ensures.steps in
-    MatchResult-weaker c.try_from.result c.try_from.ensures (λ b e. (it.result, it.ensures.into_iter_gives, (ran.0, ran.1, ran.2, e ∙ ap whole_buffer (c.loop-item.invariant ∙ sym ran.3.0)))) (λ e _. tt)
+    let ran = c.in_ok-items.ensures in
+    MatchResult-weaker c.try_from.result c.try_from.ensures (λ b e. (c.into_iter.result, c.into_iter.ensures.into_iter_gives, (ran.0, ran.1, ran.2, e ∙ ap whole_buffer ran.3))) (λ e _. tt)

@@ -1,0 +1,85 @@
+//! The items of an iterator in a vector.
+ghost use Rattle.std.specs.Prelude.{◌≡◌, ◌<◌, ◌≤◌, IfOk, OnOk, None, true, false, vec_len, vec_capacity};
+ghost use Rattle.std.specs.Iterator.Runs.{WholeRun};
+ghost use Rattle.std.specs.Iterator.{IsFinite, Yields, YieldsThen, size};
+
+use std::alloc::{AllocError, Global};
+
+/// The least capacity that is reserved: of items of eight bytes a little less than the largest block that glibc keeps at
+/// hand.
+const LEAST_CAPACITY: usize = 120;
+
+/// The capacity after the first.
+const SECOND_CAPACITY: usize = 512;
+
+/// Returns the items of an iterator that ends, in its order. Does not read its size hint.
+///
+/// It takes one item and makes room, and then fills the room in a loop of its own, in which the capacity stays: so the
+/// compiler can make it a loop over several items at once.
+pub(crate) fn collected<T: Drop, I: Iterator<Item = T>>(
+    alloc: Global,
+    source: I,
+) -> Result<Vec<T>, AllocError>
+    requires can { I.can_next source }
+    requires ends { IsFinite (I.remaining source) }
+    ensures { IfOk result (λ v. WholeRun I.next_gives source (λ p. v.items ≡ p.items)) }
+{
+    let mut source = source;
+    let mut items = Vec::new(alloc);
+    loop {
+        let Some(item) = source.next() else {
+            return Ok(items);
+        };
+        make_room(&mut items)?;
+        items.push_reserved(item);
+        let (full, went_on) = filled(items, &mut source);
+        items = full;
+        if !went_on {
+            return Ok(items);
+        }
+    }
+}
+
+/// Returns the items followed by as many of an iterator as there is room for, and whether it may yield more.
+fn filled<T: Drop, I: Iterator<Item = T>>(items: Vec<T>, source: &mut I) -> (Vec<T>, bool)
+    requires can { I.can_next source.old }
+    requires ends { IsFinite (I.remaining source.old) }
+    ensures can { result.1 ≡ true → I.can_next source.new }
+    ensures ends { result.1 ≡ true → IsFinite (I.remaining source.new) }
+    ensures nearer { result.1 ≡ true →
+        size (I.remaining source.new) ≤ size (I.remaining source.old) }
+    ensures more { result.1 ≡ true → (it : I) → Yields I.next_gives it items.items source.old →
+        Yields I.next_gives it result.0.items source.new }
+    ensures ended { result.1 ≡ false → (it : I) → Yields I.next_gives it items.items source.old →
+        YieldsThen I.next_gives it result.0.items None source.new }
+{
+    let mut items = items;
+    loop {
+        if items.len() == items.capacity() {
+            return (items, true);
+        }
+        match source.next() {
+            Some(item) => items.push_reserved(item),
+            None => return (items, false),
+        }
+    }
+}
+
+/// Reserves four times the capacity, and where that is refused room for one item.
+fn make_room<T>(items: &mut Vec<T>) -> Result<(), AllocError>
+    ensures items { items.new.items ≡ items.old.items }
+    ensures ok { OnOk result (vec_len items.new < vec_capacity items.new) }
+{
+    let more = if items.len() == 0 {
+        LEAST_CAPACITY
+    } else {
+        items
+            .len()
+            .saturating_mul(3)
+            .max(SECOND_CAPACITY - LEAST_CAPACITY)
+    };
+    if items.reserve_exact(more).is_err() {
+        items.reserve_exact(1)?;
+    }
+    Ok(())
+}
