@@ -5,7 +5,7 @@ use Rattle.std.specs.List.{list_all}
 use Rattle.std.proofs.lemmas.Option.{none-some}
 use Rattle.arrow2_script.specs.KernelCommands.{kernel_named, operator_named, table_named}
 use Rattle.arrow2_script.specs.ArrayCommands.{array_named, array_words, ArrayFits}
-use Rattle.arrow2_script.specs.Commands.{bitmap_named, offset_named, value_named, storage_named, growth_named, named, command_of}
+use Rattle.arrow2_script.specs.Commands.{bitmap_named, frozen_named, offset_named, frozen_offsets_named, value_named, storage_named, growth_named, named, command_of}
 use Rattle.arrow2_script.specs.declared.array_command.ArrayCommand.{ArrayCommand}
 use Rattle.arrow2_script.specs.declared.array_command.ArrayCommand.TheVariants.{New, List as Items, Nulls, Slice, And, Or}
 use Rattle.arrow2_script.specs.declared.command.Command.TheVariants as Kinds
@@ -28,7 +28,7 @@ array_says name words command =
 
 -- the words of a command on boolean arrays say it
 pub array_of-words : (command : ArrayCommand) → ArrayFits command → command_of (array_words command) ≡ Some (Kinds.Array command)
-unfolding command_of named bitmap_named offset_named value_named storage_named kernel_named operator_named table_named growth_named array_named
+unfolding command_of named bitmap_named frozen_named offset_named frozen_offsets_named value_named storage_named kernel_named operator_named table_named growth_named array_named
 array_of-words (New to values validity) fits = rw (slot_of-decimal to fits.0, slot_of-decimal values fits.1, optional_slot_of-word validity fits.2) refl
 array_of-words (Items slot) fits = rw (slot_of-decimal slot fits) refl
 array_of-words (Nulls slot) fits = rw (slot_of-decimal slot fits) refl

@@ -3,7 +3,7 @@ use Rattle.std.proofs.Common.{◌≡◌, refl, ℕ, List, ◌∷◌, true, codes
 use Rattle.std.specs.Prelude.{Some, None}
 use Rattle.std.specs.List.{list_all}
 use Rattle.std.proofs.lemmas.Option.{none-some}
-use Rattle.arrow2_script.specs.BitmapCommands.{bitmap_named, bitmap_words, BitmapFits}
+use Rattle.arrow2_script.specs.BitmapCommands.{bitmap_named, frozen_named, bitmap_words, BitmapFits}
 use Rattle.arrow2_script.specs.Commands.{named, command_of}
 use Rattle.arrow2_script.specs.declared.bitmap_command.BitmapCommand.{BitmapCommand}
 use Rattle.arrow2_script.specs.declared.bitmap_command.BitmapCommand.TheVariants.{New, Push, Pop, Get, Freeze, Thaw, Slice, Count, Bits}
@@ -14,14 +14,14 @@ use Rattle.arrow2_script.proofs.WordLemmas.{bit_of-byte, bits_of-text, number_of
 
 -- words that say a command on bitmaps are its words
 pub bitmap_says : (name : List ℕ) (words : List (List ℕ)) (command : BitmapCommand) → bitmap_named name words ≡ Some command → Says BitmapFits bitmap_words name words command
-unfolding bitmap_named is_word
+unfolding bitmap_named frozen_named is_word
 bitmap_says name words command =
     let says = Says BitmapFits bitmap_words in
     at_row says (codes "new") refl (more slots (more bit_texts no_more)) (λ p. New p.0 p.1.0) (λ p f w. (f.0, refl, w)) words name command _ (
     at_row says (codes "push") refl (more slots (more bits no_more)) (λ p. Push p.0 p.1.0) (λ p f w. (f.0, refl, w)) words name command _ (
     at_row says (codes "pop") refl (more slots no_more) (λ p. Pop p.0) (λ p f w. (f.0, refl, w)) words name command _ (
-    at_row says (codes "get") refl (more slots (more numbers no_more)) (λ p. Get p.0 p.1.0) (λ p f w. ((f.0, f.1.0), refl, w)) words name command _ (
     at_row says (codes "freeze") refl (more slots no_more) (λ p. Freeze p.0) (λ p f w. (f.0, refl, w)) words name command _ (
+    at_row says (codes "get") refl (more slots (more numbers no_more)) (λ p. Get p.0 p.1.0) (λ p f w. ((f.0, f.1.0), refl, w)) words name command _ (
     at_row says (codes "thaw") refl (more slots no_more) (λ p. Thaw p.0) (λ p f w. (f.0, refl, w)) words name command _ (
     at_row says (codes "slice") refl (more slots (more numbers (more numbers no_more))) (λ p. Slice p.0 p.1.0 p.1.1.0) (λ p f w. ((f.0, f.1.0, f.1.1.0), refl, w)) words name command _ (
     at_row says (codes "count") refl (more slots no_more) (λ p. Count p.0) (λ p f w. (f.0, refl, w)) words name command _ (
@@ -30,7 +30,7 @@ bitmap_says name words command =
 
 -- the words of a command on bitmaps say it
 pub bitmap_of-words : (command : BitmapCommand) → BitmapFits command → command_of (bitmap_words command) ≡ Some (Kinds.Bitmap command)
-unfolding command_of named bitmap_named
+unfolding command_of named bitmap_named frozen_named
 bitmap_of-words (New slot bits) fits = rw (slot_of-decimal slot fits, bits_of-text bits) refl
 bitmap_of-words (Push slot bit) fits = rw (slot_of-decimal slot fits, bit_of-byte bit) refl
 bitmap_of-words (Pop slot) fits = rw (slot_of-decimal slot fits) refl

@@ -5,7 +5,7 @@ use Rattle.std.specs.List.{list_all}
 use Rattle.std.proofs.lemmas.Option.{none-some}
 use Rattle.arrow2_script.specs.KernelCommands.{kernel_named, operator_named, table_named}
 use Rattle.arrow2_script.specs.GrowthCommands.{growth_named, growth_words, GrowthFits}
-use Rattle.arrow2_script.specs.Commands.{bitmap_named, offset_named, value_named, storage_named, named, command_of}
+use Rattle.arrow2_script.specs.Commands.{bitmap_named, frozen_named, offset_named, frozen_offsets_named, value_named, storage_named, named, command_of}
 use Rattle.arrow2_script.specs.declared.growth_command.GrowthCommand.{GrowthCommand}
 use Rattle.arrow2_script.specs.declared.growth_command.GrowthCommand.TheVariants.{Fill, Append}
 use Rattle.arrow2_script.specs.declared.command.Command.TheVariants as Kinds
@@ -24,6 +24,6 @@ growth_says name words command =
 
 -- the words of a command by which a bitmap grows say it
 pub growth_of-words : (command : GrowthCommand) → GrowthFits command → command_of (growth_words command) ≡ Some (Kinds.Growth command)
-unfolding command_of named bitmap_named offset_named value_named storage_named kernel_named operator_named table_named growth_named
+unfolding command_of named bitmap_named frozen_named offset_named frozen_offsets_named value_named storage_named kernel_named operator_named table_named growth_named
 growth_of-words (Fill slot additional bit) fits = rw (slot_of-decimal slot fits.0, number_of-decimal additional fits.1, bit_of-byte bit) refl
 growth_of-words (Append to from) fits = rw (slot_of-decimal to fits.0, slot_of-decimal from fits.1) refl

@@ -4,7 +4,7 @@ use Rattle.std.specs.Prelude.{Some, None}
 use Rattle.std.specs.List.{list_all}
 use Rattle.std.proofs.lemmas.Option.{none-some}
 use Rattle.arrow2_script.specs.KernelCommands.{kernel_named, operator_named, table_named, kernel_words, KernelFits}
-use Rattle.arrow2_script.specs.Commands.{bitmap_named, offset_named, value_named, storage_named, named, command_of}
+use Rattle.arrow2_script.specs.Commands.{bitmap_named, frozen_named, offset_named, frozen_offsets_named, value_named, storage_named, named, command_of}
 use Rattle.arrow2_script.specs.declared.kernel_command.KernelCommand.{KernelCommand}
 use Rattle.arrow2_script.specs.declared.kernel_command.KernelCommand.TheVariants.{Make, AssignUnary, AssignBinary}
 use Rattle.arrow2_script.specs.declared.kernel_command.Kernel.TheVariants.{And, Or, Xor, Not, Unary, Binary, Ternary, Quaternary}
@@ -32,7 +32,7 @@ kernel_says name words command =
 
 -- the words of a command that combines bitmaps say it
 pub kernel_of-words : (command : KernelCommand) → KernelFits command → command_of (kernel_words command) ≡ Some (Kinds.Kernel command)
-unfolding command_of named bitmap_named offset_named value_named storage_named kernel_named operator_named table_named
+unfolding command_of named bitmap_named frozen_named offset_named frozen_offsets_named value_named storage_named kernel_named operator_named table_named
 kernel_of-words (Make to (And left right)) fits = rw (slot_of-decimal to fits.0, slot_of-decimal left fits.1.0, slot_of-decimal right fits.1.1) refl
 kernel_of-words (Make to (Or left right)) fits = rw (slot_of-decimal to fits.0, slot_of-decimal left fits.1.0, slot_of-decimal right fits.1.1) refl
 kernel_of-words (Make to (Xor left right)) fits = rw (slot_of-decimal to fits.0, slot_of-decimal left fits.1.0, slot_of-decimal right fits.1.1) refl

@@ -3,8 +3,8 @@ use Rattle.std.proofs.Common.{◌≡◌, refl, ℕ, List, ◌∷◌, true, codes
 use Rattle.std.specs.Prelude.{Some, None}
 use Rattle.std.specs.List.{list_all}
 use Rattle.std.proofs.lemmas.Option.{none-some}
-use Rattle.arrow2_script.specs.OffsetCommands.{offset_named, offset_words, OffsetFits}
-use Rattle.arrow2_script.specs.Commands.{bitmap_named, named, command_of}
+use Rattle.arrow2_script.specs.OffsetCommands.{offset_named, frozen_offsets_named, offset_words, OffsetFits}
+use Rattle.arrow2_script.specs.Commands.{bitmap_named, frozen_named, named, command_of}
 use Rattle.arrow2_script.specs.declared.offset_command.OffsetCommand.{OffsetCommand}
 use Rattle.arrow2_script.specs.declared.offset_command.OffsetCommand.TheVariants.{New, Push, Pop, Extend, Offsets, Freeze, Slice, Zip}
 use Rattle.arrow2_script.specs.declared.command.Command.TheVariants as Kinds
@@ -15,22 +15,22 @@ use Rattle.arrow2_script.proofs.NumberListLemmas.{numbers_of-text}
 
 -- words that say a command on offsets are its words
 pub offset_says : (name : List ℕ) (words : List (List ℕ)) (command : OffsetCommand) → offset_named name words ≡ Some command → Says OffsetFits offset_words name words command
-unfolding offset_named is_word
+unfolding offset_named frozen_offsets_named is_word
 offset_says name words command =
     let says = Says OffsetFits offset_words in
     at_row says (codes "onew") refl (more slots (more numbers no_more)) (λ p. New p.0 p.1.0) (λ p f w. ((f.0, f.1.0), refl, w)) words name command _ (
     at_row says (codes "opush") refl (more slots (more numbers no_more)) (λ p. Push p.0 p.1.0) (λ p f w. ((f.0, f.1.0), refl, w)) words name command _ (
     at_row says (codes "opop") refl (more slots no_more) (λ p. Pop p.0) (λ p f w. (f.0, refl, w)) words name command _ (
     at_row says (codes "oext") refl (more slots (more number_lists no_more)) (λ p. Extend p.0 p.1.0) (λ p f w. ((f.0, f.1.0), refl, w)) words name command _ (
-    at_row says (codes "olist") refl (more slots no_more) (λ p. Offsets p.0) (λ p f w. (f.0, refl, w)) words name command _ (
     at_row says (codes "ofreeze") refl (more slots no_more) (λ p. Freeze p.0) (λ p f w. (f.0, refl, w)) words name command _ (
+    at_row says (codes "olist") refl (more slots no_more) (λ p. Offsets p.0) (λ p f w. (f.0, refl, w)) words name command _ (
     at_row says (codes "oslice") refl (more slots (more numbers (more numbers no_more))) (λ p. Slice p.0 p.1.0 p.1.1.0) (λ p f w. ((f.0, f.1.0, f.1.1.0), refl, w)) words name command _ (
     at_row says (codes "zip") refl (more slots (more slots no_more)) (λ p. Zip p.0 p.1.0) (λ p f w. ((f.0, f.1.0), refl, w)) words name command None (
     λ e. absurd (none-some command e)))))))))
 
 -- the words of a command on offsets say it
 pub offset_of-words : (command : OffsetCommand) → OffsetFits command → command_of (offset_words command) ≡ Some (Kinds.Offset command)
-unfolding command_of named bitmap_named offset_named
+unfolding command_of named bitmap_named frozen_named offset_named frozen_offsets_named
 offset_of-words (New slot first) fits = rw (slot_of-decimal slot fits.0, number_of-decimal first fits.1) refl
 offset_of-words (Push slot length) fits = rw (slot_of-decimal slot fits.0, number_of-decimal length fits.1) refl
 offset_of-words (Pop slot) fits = rw (slot_of-decimal slot fits) refl

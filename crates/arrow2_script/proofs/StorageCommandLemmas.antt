@@ -4,7 +4,7 @@ use Rattle.std.specs.Prelude.{Some, None}
 use Rattle.std.specs.List.{list_all}
 use Rattle.std.proofs.lemmas.Option.{none-some}
 use Rattle.arrow2_script.specs.StorageCommands.{storage_named, storage_words, StorageFits}
-use Rattle.arrow2_script.specs.Commands.{bitmap_named, offset_named, value_named, named, command_of}
+use Rattle.arrow2_script.specs.Commands.{bitmap_named, frozen_named, offset_named, frozen_offsets_named, value_named, named, command_of}
 use Rattle.arrow2_script.specs.declared.storage_command.StorageCommand.{StorageCommand}
 use Rattle.arrow2_script.specs.declared.storage_command.StorageCommand.TheVariants.{Raw, Set, Words, Runs}
 use Rattle.arrow2_script.specs.declared.command.Command.TheVariants as Kinds
@@ -26,7 +26,7 @@ storage_says name words command =
 
 -- the words of a command on stored bits say it
 pub storage_of-words : (command : StorageCommand) → StorageFits command → command_of (storage_words command) ≡ Some (Kinds.Storage command)
-unfolding command_of named bitmap_named offset_named value_named storage_named
+unfolding command_of named bitmap_named frozen_named offset_named frozen_offsets_named value_named storage_named
 storage_of-words (Raw slot bytes offset length) fits = rw (slot_of-decimal slot fits.0, bytes_of-text bytes fits.1, number_of-decimal offset fits.2, number_of-decimal length fits.3) refl
 storage_of-words (Set slot index bit) fits = rw (slot_of-decimal slot fits.0, number_of-decimal index fits.1, bit_of-byte bit) refl
 storage_of-words (Words slot width) fits = rw (slot_of-decimal slot fits, width_of-word width) refl

@@ -4,7 +4,7 @@ use Rattle.std.specs.Prelude.{Some, None}
 use Rattle.std.specs.List.{list_all}
 use Rattle.std.proofs.lemmas.Option.{none-some}
 use Rattle.arrow2_script.specs.ValueCommands.{value_named, value_words, ValueFits}
-use Rattle.arrow2_script.specs.Commands.{bitmap_named, offset_named, named, command_of}
+use Rattle.arrow2_script.specs.Commands.{bitmap_named, frozen_named, offset_named, frozen_offsets_named, named, command_of}
 use Rattle.arrow2_script.specs.declared.value_command.ValueCommand.{ValueCommand}
 use Rattle.arrow2_script.specs.declared.value_command.ValueCommand.TheVariants.{Copy, Compare}
 use Rattle.arrow2_script.specs.declared.command.Command.TheVariants as Kinds
@@ -23,6 +23,6 @@ value_says name words command =
 
 -- the words of a command on values say it
 pub value_of-words : (command : ValueCommand) → ValueFits command → command_of (value_words command) ≡ Some (Kinds.Value command)
-unfolding command_of named bitmap_named offset_named value_named
+unfolding command_of named bitmap_named frozen_named offset_named frozen_offsets_named value_named
 value_of-words (Copy from to) fits = rw (slot_of-decimal from fits.0, slot_of-decimal to fits.1) refl
 value_of-words (Compare left right) fits = rw (slot_of-decimal left fits.0, slot_of-decimal right fits.1) refl

@@ -3,8 +3,8 @@ use Rattle.std.specs.Prelude.{◌≡◌, ℕ, List, [], ◌∷◌, Option, None,
 use Rattle.std.specs.Option.{option_or}
 use Rattle.std.specs.List.{join_with_byte}
 use Rattle.arrow2_script.specs.Lines.{words_of}
-unfoldable pub use Rattle.arrow2_script.specs.BitmapCommands.{bitmap_named, bitmap_words, BitmapFits}
-unfoldable pub use Rattle.arrow2_script.specs.OffsetCommands.{offset_named, offset_words, OffsetFits}
+unfoldable pub use Rattle.arrow2_script.specs.BitmapCommands.{bitmap_named, frozen_named, bitmap_words, BitmapFits}
+unfoldable pub use Rattle.arrow2_script.specs.OffsetCommands.{offset_named, frozen_offsets_named, offset_words, OffsetFits}
 unfoldable pub use Rattle.arrow2_script.specs.ValueCommands.{value_named, value_words, ValueFits}
 unfoldable pub use Rattle.arrow2_script.specs.StorageCommands.{storage_named, storage_words, StorageFits}
 unfoldable pub use Rattle.arrow2_script.specs.KernelCommands.{kernel_named, kernel_words, KernelFits}

@@ -1,6 +1,6 @@
 //! The commands on bitmaps, and which one the words of a line say.
 ghost use Rattle.std.specs.Prelude.{◌≡◌};
-ghost use Rattle.arrow2_script.specs.BitmapCommands.{bitmap_named};
+ghost use Rattle.arrow2_script.specs.BitmapCommands.{bitmap_named, frozen_named};
 
 use crate::arguments::Values;
 use crate::lines::Parts;
@@ -44,12 +44,22 @@ impl<'a> BitmapCommand<'a> {
         } else if name == b"pop".as_slice() {
             let (slot, ()) = Values::read(parts)?;
             Some(BitmapCommand::Pop(slot))
-        } else if name == b"get".as_slice() {
-            let (slot, (index, ())) = Values::read(parts)?;
-            Some(BitmapCommand::Get(slot, index))
         } else if name == b"freeze".as_slice() {
             let (slot, ()) = Values::read(parts)?;
             Some(BitmapCommand::Freeze(slot))
+        } else {
+            BitmapCommand::read_frozen(name, parts)
+        }
+    }
+
+    /// The command of this name that a frozen bitmap takes.
+    #[tactic(auto, unfolding(crate::specs::BitmapCommands::frozen_named))]
+    fn read_frozen(name: &[u8], parts: Parts<'a>) -> Option<BitmapCommand<'a>>
+        ensures { result ≡ frozen_named name.now parts.entry }
+    {
+        if name == b"get".as_slice() {
+            let (slot, (index, ())) = Values::read(parts)?;
+            Some(BitmapCommand::Get(slot, index))
         } else if name == b"thaw".as_slice() {
             let (slot, ()) = Values::read(parts)?;
             Some(BitmapCommand::Thaw(slot))

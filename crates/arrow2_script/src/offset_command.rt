@@ -1,6 +1,6 @@
 //! The commands on offsets, and which one the words of a line say.
 ghost use Rattle.std.specs.Prelude.{◌≡◌};
-ghost use Rattle.arrow2_script.specs.OffsetCommands.{offset_named};
+ghost use Rattle.arrow2_script.specs.OffsetCommands.{offset_named, frozen_offsets_named};
 
 use crate::arguments::Values;
 use crate::lines::Parts;
@@ -45,12 +45,22 @@ impl<'a> OffsetCommand<'a> {
         } else if name == b"oext".as_slice() {
             let (slot, (lengths, ())) = Values::read(parts)?;
             Some(OffsetCommand::Extend(slot, lengths))
-        } else if name == b"olist".as_slice() {
-            let (slot, ()) = Values::read(parts)?;
-            Some(OffsetCommand::Offsets(slot))
         } else if name == b"ofreeze".as_slice() {
             let (slot, ()) = Values::read(parts)?;
             Some(OffsetCommand::Freeze(slot))
+        } else {
+            OffsetCommand::read_frozen(name, parts)
+        }
+    }
+
+    /// The command of this name that frozen offsets take.
+    #[tactic(auto, unfolding(crate::specs::OffsetCommands::frozen_offsets_named))]
+    fn read_frozen(name: &[u8], parts: Parts<'a>) -> Option<OffsetCommand<'a>>
+        ensures { result ≡ frozen_offsets_named name.now parts.entry }
+    {
+        if name == b"olist".as_slice() {
+            let (slot, ()) = Values::read(parts)?;
+            Some(OffsetCommand::Offsets(slot))
         } else if name == b"oslice".as_slice() {
             let (slot, (first, (count, ()))) = Values::read(parts)?;
             Some(OffsetCommand::Slice(slot, first, count))
