@@ -53,37 +53,37 @@ pub(crate) fn run(
 fn made(slots: &[Slot; 16], kernel: Kernel) -> Result<Bitmap, CommandError>
     ensures { Gives (λ bitmap. items_of bitmap) result (made_of slots.now kernel) }
 {
-    let bitmap = match kernel {
+    match kernel {
         Kernel::And(left, right) => {
             let (left, right) = two_bitmaps(slots, left, right)?;
-            and(left, right)?
+            Ok(and(left, right)?)
         }
         Kernel::Or(left, right) => {
             let (left, right) = two_bitmaps(slots, left, right)?;
-            or(left, right)?
+            Ok(or(left, right)?)
         }
         Kernel::Xor(left, right) => {
             let (left, right) = two_bitmaps(slots, left, right)?;
-            xor(left, right)?
+            Ok(xor(left, right)?)
         }
-        Kernel::Not(from) => unary_table(slots[from.get()].frozen()?, 1)?,
-        Kernel::Unary(table, from) => {
-            unary_table(slots[from.get()].frozen()?, table.get() as u8)?
-        }
+        Kernel::Not(from) => Ok(unary_table(slots[from.get()].frozen()?, 1)?),
+        Kernel::Unary(table, from) => Ok(unary_table(
+            slots[from.get()].frozen()?,
+            table.get() as u8,
+        )?),
         Kernel::Binary(table, first, second) => {
             let (first, second) = two_bitmaps(slots, first, second)?;
-            binary_table(first, second, table.get() as u8)?
+            Ok(binary_table(first, second, table.get() as u8)?)
         }
         Kernel::Ternary(table, first, second, third) => {
             let (first, second, third) = three_bitmaps(slots, first, second, third)?;
-            ternary_table(first, second, third, table.get() as u8)?
+            Ok(ternary_table(first, second, third, table.get() as u8)?)
         }
         Kernel::Quaternary(table, first, second, third, fourth) => {
             let (first, second, third, fourth) = four_bitmaps(slots, first, second, third, fourth)?;
-            quaternary_table(first, second, third, fourth, table.get() as u16)?
+            Ok(quaternary_table(first, second, third, fourth, table.get() as u16)?)
         }
-    };
-    Ok(bitmap)
+    }
 }
 
 /// Two frozen bitmaps of one length.

@@ -1,4 +1,4 @@
-//! The machine of a script: sixteen slots, what each line does to them, and a whole replay.
+//! The machine of a script: sixteen slots, what each line does to them, and the replies to all lines.
 #![tactic(auto)]
 
 mod arrays;
@@ -8,7 +8,6 @@ mod kernels;
 pub mod machine;
 mod offsets;
 pub mod refusal;
-pub mod replay;
 mod replies;
 mod slot;
 mod storage;

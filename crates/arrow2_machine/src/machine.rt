@@ -1,8 +1,8 @@
-//! The machine: sixteen slots, and what a line does to them.
-ghost use Rattle.std.specs.Prelude.{◌≡◌, ◌++◌, OnOk, replicate};
+//! The machine: sixteen slots, what a line does to them, and the replies to a whole script.
+ghost use Rattle.std.specs.Prelude.{◌≡◌, ◌++◌, IfOk, OnOk, replicate};
 ghost use Rattle.arrow2_script.specs.Lines.{ended};
 ghost use Rattle.arrow2_machine.specs.Held.{Nothing};
-ghost use Rattle.arrow2_machine.specs.Machine.{outcome, step};
+ghost use Rattle.arrow2_machine.specs.Machine.{outcome, step, text};
 ghost use Rattle.arrow2_machine.specs.Outcomes.{Carries};
 
 use crate::refusal::CommandError::Refused;
@@ -10,6 +10,7 @@ use crate::refusal::{CommandError, Refusal};
 use crate::slot::Slot;
 use crate::{arrays, bitmaps, growth, kernels, offsets, storage, values};
 use arrow2_script::command::{Command, parse};
+use arrow2_script::lines::next_line;
 use std::alloc::{AllocError, Global};
 use std::array;
 use std::marker::Model;
@@ -89,4 +90,24 @@ impl Machine {
         reply.push(b'\n')?;
         Ok(())
     }
+}
+
+/// The replies to the lines of a script.
+///
+/// # Errors
+///
+/// Where a request for memory is refused.
+#[tactic(auto, using(crate::proofs::MachineLemmas::running))]
+pub fn replies(alloc: Global, script: &[u8]) -> Result<Vec<u8>, AllocError>
+    ensures { IfOk result (λ reply. reply.items ≡ text script.now) }
+{
+    let mut machine = Machine::new();
+    let mut reply = Vec::new(alloc);
+    let mut rest = script;
+    'lines: while !rest.is_empty() {
+        let (line, others) = next_line(rest);
+        machine.answer(alloc, line, &mut reply)?;
+        rest = others;
+    }
+    Ok(reply)
 }

@@ -1,7 +1,7 @@
 //! Scripts and their replies, and readers and writers that fail.
 ghost use Rattle.std.specs.Prelude.{◌≤◌, length};
 
-use arrow2_machine::replay::replay;
+use arrow2_script_runner::replay;
 use arrow2_streams::fault::{ReplayFault, exit_code};
 use arrow2_streams::watched::Watched;
 use std::alloc::{AllocError, Global};

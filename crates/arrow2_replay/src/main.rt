@@ -1,7 +1,7 @@
 //! Replays a script of commands, from standard input to standard output.
 #![tactic(auto)]
 
-use arrow2_machine::replay::replay;
+use arrow2_script_runner::replay;
 use arrow2_streams::fault::exit_code;
 use arrow2_streams::watched::Watched;
 use std::process::ExitCode;

@@ -1,31 +1,16 @@
 //! A whole replay, from the bytes of a script to the bytes of its replies.
-ghost use Rattle.std.specs.Prelude.{◌≡◌, ◌≢◌, ◌<◌, ◌↔◌, ℕ, take, IfSome, IfErr, IfOk, OnOk, IsErrOf};
+#![tactic(auto)]
+
+ghost use Rattle.std.specs.Prelude.{◌≡◌, ◌≢◌, ◌<◌, ◌↔◌, ℕ, take, IfSome, IfErr, OnOk, IsErrOf};
 ghost use Rattle.std.specs.Io.KnownBytes.{Appends, IsAtEnd};
 ghost use Rattle.arrow2_machine.specs.Machine.{text};
 
-use crate::machine::Machine;
-use arrow2_script::lines::next_line;
+use arrow2_machine::machine::replies;
 use arrow2_streams::fault::ReplayFault;
 use arrow2_streams::streams::{read_all, write_all};
 use arrow2_streams::watched::Watched;
-use std::alloc::{AllocError, Global};
+use std::alloc::Global;
 use std::io::{Read, Write};
-
-/// The replies to a script.
-#[tactic(auto, using(crate::proofs::MachineLemmas::running))]
-fn answer(alloc: Global, script: &[u8]) -> Result<Vec<u8>, AllocError>
-    ensures { IfOk result (λ reply. reply.items ≡ text script.now) }
-{
-    let mut machine = Machine::new();
-    let mut reply = Vec::new(alloc);
-    let mut rest = script;
-    'lines: while !rest.is_empty() {
-        let (line, others) = next_line(rest);
-        machine.answer(alloc, line, &mut reply)?;
-        rest = others;
-    }
-    Ok(reply)
-}
 
 /// Reads a whole script, computes every reply in memory, then writes the replies and flushes.
 ///
@@ -51,6 +36,6 @@ pub fn replay<R: Read, W: Write>(
     ensures write { IsErrOf result ReplayFault.Write ↔ writer.old.failed < writer.new.failed }
 {
     let script = read_all(alloc, reader)?;
-    let reply = answer(alloc, script.as_slice())?;
+    let reply = replies(alloc, script.as_slice())?;
     write_all(writer, reply.as_slice())
 }
