@@ -93,7 +93,7 @@ impl BooleanArray {
         }
     }
 
-    /// The values: those under nulls are what they are.
+    /// Returns the values. The contract states those of items that are not null; what stands under a null it leaves open.
     pub fn values(&self) -> &Bitmap
         ensures items { zipped (items_of result.now) (map is_some self.now) ≡ self.now }
         ensures len { length' (items_of result.now) ≡ length' self.now }
@@ -101,7 +101,8 @@ impl BooleanArray {
         &self.values
     }
 
-    /// Which items are not null, or `None` where the array was made without a validity: then none is null.
+    /// Returns which items are not null. Where it returns `None`, no item is null; the contract does not state whether an
+    /// array keeps a validity that has no null.
     pub fn validity(&self) -> Option<&Bitmap>
         ensures { MatchOption result (nulls self.now ≡ 0) (λ validity.
             items_of validity.now ≡ map is_some self.now) }
@@ -119,7 +120,8 @@ impl BooleanArray {
         }
     }
 
-    /// Keeps `length` items from item `offset` on, over the same bytes. Asks that they are inside. Takes no memory.
+    /// Keeps `length` items from item `offset` on. Requires that they are inside. It is over the same bytes, which the contract
+    /// does not state. Takes no memory.
     pub fn slice(&mut self, offset: usize, length: usize)
         requires inside { offset + length ≤ length' self.old }
         ensures items { self.new ≡ part self.old offset length }
