@@ -1,8 +1,8 @@
 //! The lines of the table.
 //!
-//! A new line is an export of crate `arrow2_bench`, its declaration in `ours`, its twin in `original`, and
-//! an entry here, in the list of the crate whose call it measures. A new crate has a list of its own, which
-//! [`all`] names.
+//! A new line is a call of crate `arrow2_bench`, in the export of its shape of inputs, its twin in `original` under
+//! the same names, and an entry here, in the list of the crate whose call it measures. A new crate has a list of its
+//! own, which [`all`] names.
 use crate::inputs::{again, near_parts, parts, Inputs, Part, LONG, MANY, NUMBERS};
 use crate::{exports, original, ours};
 use std::rc::Rc;
@@ -73,8 +73,16 @@ macro_rules! line {
     };
 }
 
+/// The bits of the runs of a line on a long input.
+const ALL: (usize, &str) = (16 * LONG, "bits");
+
 /// The runs of a line on short inputs: each is one call.
 const CALLS: (usize, &str) = (100_000, "calls");
+
+/// As many runs, each the same.
+fn few(run: usize) -> Vec<usize> {
+    vec![run; CALLS.0]
+}
 
 /// The bits of the runs of a line on three or four long inputs.
 const TABLES: (usize, &str) = (4 * LONG, "bits");
@@ -97,7 +105,6 @@ pub fn all(inputs: &Inputs) -> impl Iterator<Item = (&'static str, Line<'_>)> {
         ("arrow2_walks", zips(inputs)),
         ("arrow2_kernels", operators(inputs)),
         ("arrow2_kernels", in_place(inputs)),
-        ("arrow2_kernels", tables_in_place(inputs)),
         ("arrow2_tables", tables(inputs)),
         ("arrow2_array", arrays(inputs)),
         ("arrow2_buffer", buffers(inputs)),
@@ -109,200 +116,207 @@ pub fn all(inputs: &Inputs) -> impl Iterator<Item = (&'static str, Line<'_>)> {
 }
 
 fn index() -> Vec<Line<'static>> {
-    vec![line!("IndexRange, walked", (MANY, "numbers"), index_range(), vec![MANY])]
+    vec![line!("IndexRange, walked", (MANY, "numbers"), numbers("index_range"), vec![MANY])]
 }
 
 fn chunk(inputs: &Inputs) -> Vec<Line<'_>> {
-    let words = inputs.numbers[..MANY / 64].to_vec();
-    vec![line!("BitChunkOnes, walked", (MANY, "bits"), ones(), words)]
+    let words = inputs.numbers[..MANY / 64].iter().map(|word| *word as usize).collect();
+    vec![line!("BitChunkOnes, walked", (MANY, "bits"), numbers("ones"), words)]
 }
 
 fn bits(inputs: &Inputs) -> Vec<Line<'_>> {
     let bytes = &inputs.bytes;
-    let all = (16 * LONG, "bits");
-    let counts = (10_000, "counts");
-    let long = |offset| again(offset, LONG, 16);
-    let short = |length| near_parts(length, counts.0);
+    let on = |name, elements, call, parts| line!(name, elements, bits(call, bytes), parts);
+    let long = |name, call, offset| on(name, ALL, call, again(offset, LONG, 16));
+    let short = |name, call, length| on(name, (10_000, "counts"), call, near_parts(length, 10_000));
     vec![
-        line!("count_zeros", all, count_zeros(bytes), long(0)),
-        line!("count_zeros, from bit 3", all, count_zeros(bytes), long(3)),
-        line!("count_zeros of 40 bits", counts, count_zeros(bytes), short(40)),
-        line!("count_zeros of 1,000 bits", counts, count_zeros(bytes), short(1_000)),
-        line!("BitChunks of 64 bits", all, words(bytes), long(0)),
-        line!("BitChunks of 64 bits, from bit 3", all, words(bytes), long(3)),
-        line!("BitChunks of 64 bits, of 1,000 bits", counts, words(bytes), short(1_000)),
-        line!("BitChunks of 32 bits, from bit 3", all, words_of_u32(bytes), long(3)),
-        line!("BitChunks of 8 bits, from bit 3", all, words_of_u8(bytes), long(3)),
-        line!("BitChunksExactMut, by change_next", all, change_next(bytes), vec![LONG; 16]),
+        long("count_zeros", "count_zeros", 0),
+        long("count_zeros, from bit 3", "count_zeros", 3),
+        short("count_zeros of 40 bits", "count_zeros", 40),
+        short("count_zeros of 1,000 bits", "count_zeros", 1_000),
+        long("BitChunks of 64 bits", "words", 0),
+        long("BitChunks of 64 bits, from bit 3", "words", 3),
+        short("BitChunks of 64 bits, of 1,000 bits", "words", 1_000),
+        long("BitChunks of 32 bits, from bit 3", "words_of_u32", 3),
+        long("BitChunks of 8 bits, from bit 3", "words_of_u8", 3),
+        line!(
+            "BitChunksExactMut, by change_next",
+            ALL,
+            bytes("change_next", bytes),
+            vec![LONG; 16]
+        ),
     ]
 }
 
 fn single_bits(inputs: &Inputs) -> Vec<Line<'_>> {
     let Inputs { bytes, items, trues, places, .. } = inputs;
     let some = (MANY, "bits");
-    let random = || places.clone();
+    let iter = |name, offset| line!(name, some, bits("iter", bytes), again(offset, MANY, 1));
+    let set = |name, items| line!(name, some, set_bit(bytes, items), places.clone());
     vec![
-        line!("BitmapIter, added up", some, bitmap_iter(bytes), again(0, MANY, 1)),
-        line!("BitmapIter, added up, from bit 3", some, bitmap_iter(bytes), again(3, MANY, 1)),
-        line!("set_bit of random items, at random", some, set_bit(bytes, items), random()),
-        line!("set_bit of trues, at random", some, set_bit(bytes, trues), random()),
+        iter("BitmapIter, added up", 0),
+        iter("BitmapIter, added up, from bit 3", 3),
+        set("set_bit of random items, at random", items),
+        set("set_bit of trues, at random", trues),
     ]
 }
 
-/// The part of a long bitmap that begins at this bit of the bytes.
-const fn long_from(offset: usize) -> [Part; 1] {
-    [Part { offset, length: LONG }]
+/// The part of this length that begins at this bit of the bytes.
+const fn part(offset: usize, length: usize) -> [Part; 1] {
+    [Part { offset, length }]
 }
 
-static FROM_0: [Part; 1] = long_from(0);
-static FROM_3: [Part; 1] = long_from(3);
-static FROM_5: [Part; 1] = long_from(5);
-static FROM_8: [Part; 1] = long_from(8);
+/// The parts of long bitmaps.
+static FROM_0: [Part; 1] = part(0, LONG);
+static FROM_3: [Part; 1] = part(3, LONG);
+static FROM_5: [Part; 1] = part(5, LONG);
+static FROM_8: [Part; 1] = part(8, LONG);
+
+/// The first bits, and those from bit 3 on: enough for walks that are slow.
+static SOME_FROM_0: [Part; 1] = part(0, MANY);
+static SOME_FROM_3: [Part; 1] = part(3, MANY);
+
+/// The validity of all numbers.
+static VALID_FROM_0: [Part; 1] = part(0, NUMBERS);
+static VALID_FROM_3: [Part; 1] = part(3, NUMBERS);
+
+/// The parts of short bitmaps.
+static FIRST_40: [Part; 1] = part(0, 40);
+static FIRST_64: [Part; 1] = part(0, 64);
+static FIRST_1_000: [Part; 1] = part(0, 1_000);
+static FIRST_8_192: [Part; 1] = part(0, 8_192);
 
 fn bitmaps(inputs: &Inputs) -> Vec<Line<'_>> {
     let Inputs { bytes, places, .. } = inputs;
-    let slices = |least, most, count| parts(LONG, least, most, count);
+    let slices = |name, least, most, count| {
+        line!(name, (count, "slices"), bits("sliced", bytes), parts(LONG, least, most, count))
+    };
     vec![
-        line!("from_u8_slice", (16 * LONG, "bits"), from_u8_slice(bytes), vec![LONG; 16]),
+        line!("from_u8_slice", ALL, bytes("from_u8_slice", bytes), vec![LONG; 16]),
         line!(
             "from_u8_slice of 1,000 bits",
             CALLS,
-            from_u8_slice(&bytes[..125]),
-            vec![1_000; CALLS.0]
+            bytes("from_u8_slice", &bytes[..125]),
+            few(1_000)
         ),
-        line!("new_zeroed", (16 * LONG, "bits"), new_zeroed(), vec![LONG; 16]),
-        line!("sliced to any length", (1_000, "slices"), sliced(bytes), slices(0, LONG, 1_000)),
-        line!(
-            "sliced to 2,000 bits at most",
-            (100_000, "slices"),
-            sliced(bytes),
-            slices(0, 2_000, 100_000)
-        ),
-        line!(
-            "sliced to all but 4,000 bits at most",
-            (5_000, "slices"),
-            sliced(bytes),
-            slices(LONG - 4_000, LONG, 5_000)
-        ),
-        line!("get, at random", (MANY, "items"), get(bytes), places.clone()),
+        line!("new_zeroed", ALL, numbers("new_zeroed"), vec![LONG; 16]),
+        slices("sliced to any length", 0, LONG, 1_000),
+        slices("sliced to 2,000 bits at most", 0, 2_000, 100_000),
+        slices("sliced to all but 4,000 bits at most", LONG - 4_000, LONG, 5_000),
+        line!("get, at random", (MANY, "items"), bytes("get", bytes), places.clone()),
     ]
 }
 
-/// Whether bitmaps are equal. Each run takes the first of them.
+/// Whether bitmaps are equal.
 fn equality(inputs: &Inputs) -> Vec<Line<'_>> {
     let Inputs { bytes, bytes_from_3, bytes_from_5, .. } = inputs;
-    let all = (16 * LONG, "bits");
-    let runs = || vec![0; 16];
-    let calls = || vec![0; CALLS.0];
+    let on = |name, elements, (left, from), (right, to), runs| {
+        line!(name, elements, pairs("equal", left, from, right, to), runs)
+    };
+    let long = |name, left, right| on(name, ALL, left, right, vec![0; 16]);
+    let short = |name, part| on(name, CALLS, (bytes, part), (bytes, part), few(0));
     vec![
-        line!("==", all, equal(bytes, &FROM_0, bytes, &FROM_0), runs()),
-        line!("==, from bits 0 and 3", all, equal(bytes, &FROM_0, bytes_from_3, &FROM_3), runs()),
-        line!(
-            "==, from bits 3 and 5",
-            all,
-            equal(bytes_from_3, &FROM_3, bytes_from_5, &FROM_5),
-            runs()
-        ),
-        line!("== of 64 bits", CALLS, equal(bytes, &FIRST_64, bytes, &FIRST_64), calls()),
-        line!("== of 1,000 bits", CALLS, equal(bytes, &FIRST_1_000, bytes, &FIRST_1_000), calls()),
+        long("==", (bytes, &FROM_0), (bytes, &FROM_0)),
+        long("==, from bits 0 and 3", (bytes, &FROM_0), (bytes_from_3, &FROM_3)),
+        long("==, from bits 3 and 5", (bytes_from_3, &FROM_3), (bytes_from_5, &FROM_5)),
+        short("== of 64 bits", &FIRST_64),
+        short("== of 1,000 bits", &FIRST_1_000),
     ]
 }
 
 /// Copies to be changed.
 fn copies(inputs: &Inputs) -> Vec<Line<'_>> {
-    let bytes = &inputs.bytes;
-    let all = (16 * LONG, "bits");
-    let runs = || vec![0; 16];
+    let bytes = &inputs.bytes[..];
+    let on = |name, elements, bytes, part, runs| {
+        line!(name, elements, bitmaps("make_mut", bytes, part), runs)
+    };
+    let long = |name, part| on(name, ALL, bytes, part, vec![0; 16]);
     vec![
-        line!("make_mut of a shared one", all, make_mut(bytes, &FROM_0), runs()),
-        line!("make_mut of a shared one, from bit 3", all, make_mut(bytes, &FROM_3), runs()),
-        line!("make_mut of a shared one, from bit 8", all, make_mut(bytes, &FROM_8), runs()),
-        line!(
-            "make_mut of a shared one of 1,000 bits",
-            CALLS,
-            make_mut(&bytes[..125], &FIRST_1_000),
-            vec![0; CALLS.0]
-        ),
+        long("make_mut of a shared one", &FROM_0),
+        long("make_mut of a shared one, from bit 3", &FROM_3),
+        long("make_mut of a shared one, from bit 8", &FROM_8),
+        on("make_mut of a shared one of 1,000 bits", CALLS, &bytes[..125], &FIRST_1_000, few(0)),
     ]
 }
 
-/// The first bits, and those from bit 3 on: enough for walks that are slow.
-static SOME_FROM_0: [Part; 1] = [Part { offset: 0, length: MANY }];
-static SOME_FROM_3: [Part; 1] = [Part { offset: 3, length: MANY }];
-
 fn walks(inputs: &Inputs) -> Vec<Line<'_>> {
     let bytes = &inputs.bytes;
-    let some = (MANY, "bits");
-    let run = || vec![0];
-    let calls = || vec![0; CALLS.0];
+    let on =
+        |name, elements, call, part, runs| line!(name, elements, bitmaps(call, bytes, part), runs);
+    let some = |name, call, part| on(name, (MANY, "bits"), call, part, vec![0]);
     vec![
-        line!("iter, added up", some, iter(bytes, &SOME_FROM_0), run()),
-        line!("iter, added up, from bit 3", some, iter(bytes, &SOME_FROM_3), run()),
-        line!("iter of 64 bits", CALLS, iter(bytes, &FIRST_64), calls()),
-        line!("iter of 1,000 bits", CALLS, iter(bytes, &FIRST_1_000), calls()),
-        line!("iter, places of trues", some, iter_places(bytes, &SOME_FROM_0), run()),
-        line!("iter from the back", some, iter_back(bytes, &SOME_FROM_3), run()),
-        line!("iter, each eighth by nth", (bytes.len(), "items"), iter_nth(bytes), vec![8]),
-        line!("Debug", some, debug(bytes, &SOME_FROM_0), run()),
+        some("iter, added up", "iter", &SOME_FROM_0),
+        some("iter, added up, from bit 3", "iter", &SOME_FROM_3),
+        on("iter of 64 bits", CALLS, "iter", &FIRST_64, few(0)),
+        on("iter of 1,000 bits", CALLS, "iter", &FIRST_1_000, few(0)),
+        some("iter, places of trues", "iter_places", &SOME_FROM_0),
+        some("iter from the back", "iter_back", &SOME_FROM_3),
+        line!(
+            "iter, each eighth by nth",
+            (bytes.len(), "items"),
+            bytes("iter_nth", bytes),
+            vec![8]
+        ),
+        some("Debug", "debug", &SOME_FROM_0),
     ]
 }
 
 fn growing(inputs: &Inputs) -> Vec<Line<'_>> {
     let Inputs { bytes, items, trues, .. } = inputs;
     let some = (MANY, "items");
-    let run = || vec![MANY];
+    let push = |name, items| line!(name, some, bools("push", items), vec![MANY]);
+    let set = |name, items| line!(name, some, set(bytes, items), vec![MANY]);
     vec![
-        line!("push of random items", some, push(items), run()),
-        line!("push of trues", some, push(trues), run()),
-        line!("push of 64 items", CALLS, push(items), vec![64; CALLS.0]),
-        line!("pop", some, pop(bytes), run()),
-        line!("set of random items", some, set(bytes, items), run()),
-        line!("set of trues", some, set(bytes, trues), run()),
+        push("push of random items", items),
+        push("push of trues", trues),
+        line!("push of 64 items", CALLS, bools("push", items), few(64)),
+        line!("pop", some, bytes("pop", bytes), vec![MANY]),
+        set("set of random items", items),
+        set("set of trues", trues),
     ]
 }
 
 /// Bits and items appended behind the first items.
 fn appending(inputs: &Inputs) -> Vec<Line<'_>> {
     let bytes = &inputs.bytes;
-    let long = |name, own: &'static [usize], offset, times| {
-        let parts = again(offset, LONG, times);
-        line!(name, (times * LONG, "bits"), extend_from_slice(bytes, own), parts)
+    let slice = |name, elements, own, parts| {
+        line!(name, elements, append("extend_from_slice", own, bytes), parts)
     };
-    let short = |name, elements: (usize, &'static str), parts| {
-        line!(name, elements, extend_from_slice(bytes, &[5]), parts)
+    let long = |name, own, offset, times| {
+        slice(name, (times * LONG, "bits"), own, again(offset, LONG, times))
     };
-    let few = |length| vec![length; CALLS.0];
+    let constant = |name, elements: (usize, &'static str), length, times| {
+        line!(name, elements, append("extend_constant", &[5], bytes), again(0, length, times))
+    };
     vec![
         long("extend_from_slice", &[0], 0, 16),
         long("extend_from_slice, from bit 3", &[0], 3, 1),
         long("extend_from_slice, within a byte", &[5], 0, 1),
         long("extend_from_slice, within a byte from bit 3", &[5], 3, 1),
-        short("extend_from_slice of 64 bits, within a byte", CALLS, again(0, 64, CALLS.0)),
-        short("extend_from_slice of 200 bits", (10_000, "parts"), near_parts(200, 10_000)),
-        line!("extend_constant", (16 * LONG, "bits"), extend_constant(&[5]), vec![LONG; 16]),
-        line!("extend_constant of 4 items", CALLS, extend_constant(&[5]), few(4)),
-        line!("extend_constant of 16 items", CALLS, extend_constant(&[5]), few(16)),
-        line!("extend_constant of 200 items", CALLS, extend_constant(&[5]), few(200)),
+        slice("extend_from_slice of 64 bits, within a byte", CALLS, &[5], again(0, 64, CALLS.0)),
+        slice("extend_from_slice of 200 bits", (10_000, "parts"), &[5], near_parts(200, 10_000)),
+        constant("extend_constant", ALL, LONG, 16),
+        constant("extend_constant of 4 items", CALLS, 4, CALLS.0),
+        constant("extend_constant of 16 items", CALLS, 16, CALLS.0),
+        constant("extend_constant of 200 items", CALLS, 200, CALLS.0),
     ]
 }
 
 /// Bitmaps of booleans, and of the items of iterators.
 fn collected(inputs: &Inputs) -> Vec<Line<'_>> {
     let Inputs { items, numbers, .. } = inputs;
-    let some = (MANY, "items");
-    let run = || vec![MANY];
-    let few = |length| vec![length; CALLS.0];
+    let on = |name, elements, call, runs| line!(name, elements, bools(call, items), runs);
     vec![
-        line!("from_bools", (4 * MANY, "items"), from_bools(items), vec![MANY; 4]),
-        line!("from_bools of 64 items", CALLS, from_bools(items), few(64)),
-        line!("from_bools of 1,000 items", CALLS, from_bools(items), few(1_000)),
-        line!("try_from_iter of booleans", some, try_from_iter(items), run()),
-        line!("try_from_iter of 64 booleans", CALLS, try_from_iter(items), few(64)),
-        line!("try_from_iter of 1,000 booleans", CALLS, try_from_iter(items), few(1_000)),
+        on("from_bools", (4 * MANY, "items"), "from_bools", vec![MANY; 4]),
+        on("from_bools of 64 items", CALLS, "from_bools", few(64)),
+        on("from_bools of 1,000 items", CALLS, "from_bools", few(1_000)),
+        on("try_from_iter of booleans", (MANY, "items"), "try_from_iter", vec![MANY]),
+        on("try_from_iter of 64 booleans", CALLS, "try_from_iter", few(64)),
+        on("try_from_iter of 1,000 booleans", CALLS, "try_from_iter", few(1_000)),
         line!(
             "try_from_iter of comparisons",
             (8 * NUMBERS, "items"),
-            try_from_comparisons(numbers),
+            words("comparisons", numbers),
             vec![NUMBERS; 8]
         ),
     ]
@@ -310,155 +324,108 @@ fn collected(inputs: &Inputs) -> Vec<Line<'_>> {
 
 fn runs(inputs: &Inputs) -> Vec<Line<'_>> {
     let Inputs { bytes, bytes_of_runs, .. } = inputs;
-    let some = (MANY, "bits");
-    let all = (LONG, "bits");
-    let run = || vec![0];
+    let on = |name, elements, bytes, part, runs| {
+        line!(name, elements, bitmaps("slices", bytes, part), runs)
+    };
+    let some = |name, part| on(name, (MANY, "bits"), bytes, part, vec![0]);
+    let long = |name, part| on(name, (LONG, "bits"), bytes_of_runs, part, vec![0]);
     vec![
-        line!("SlicesIterator", some, runs(bytes, &SOME_FROM_0), run()),
-        line!("SlicesIterator, from bit 3", some, runs(bytes, &SOME_FROM_3), run()),
-        line!("SlicesIterator of long runs", all, runs(bytes_of_runs, &FROM_0), run()),
-        line!("SlicesIterator of long runs, from bit 3", all, runs(bytes_of_runs, &FROM_3), run()),
-        line!("SlicesIterator of 64 bits", CALLS, runs(bytes, &FIRST_64), vec![0; CALLS.0]),
-        line!("SlicesIterator of 1,000 bits", CALLS, runs(bytes, &FIRST_1_000), vec![0; CALLS.0]),
+        some("SlicesIterator", &SOME_FROM_0),
+        some("SlicesIterator, from bit 3", &SOME_FROM_3),
+        long("SlicesIterator of long runs", &FROM_0),
+        long("SlicesIterator of long runs, from bit 3", &FROM_3),
+        on("SlicesIterator of 64 bits", CALLS, bytes, &FIRST_64, few(0)),
+        on("SlicesIterator of 1,000 bits", CALLS, bytes, &FIRST_1_000, few(0)),
     ]
 }
-
-/// The validity of all numbers.
-static VALID_FROM_0: [Part; 1] = first(NUMBERS);
-static VALID_FROM_3: [Part; 1] = [Part { offset: 3, length: NUMBERS }];
 
 fn zips(inputs: &Inputs) -> Vec<Line<'_>> {
     let Inputs { bytes, numbers, .. } = inputs;
-    let all = (NUMBERS, "items");
-    let taken = |step| (NUMBERS / step, "items");
-    let run = || vec![0];
-    let cuts = 1_000;
+    let on = |name, elements, call, part, run| {
+        line!(name, (elements, "items"), zips(call, numbers, bytes, part), vec![run])
+    };
+    let all = |name, call, part| on(name, NUMBERS, call, part, 0);
+    let by_nth = |name, step| on(name, NUMBERS / step, "nth", &VALID_FROM_0, step);
     vec![
-        line!("ZipValidity", all, zip_validity(numbers, bytes, &VALID_FROM_0), run()),
-        line!("ZipValidity, from bit 3", all, zip_validity(numbers, bytes, &VALID_FROM_3), run()),
-        line!("ZipValidityIter", all, zip_validity_iter(numbers, bytes, &VALID_FROM_0), run()),
-        line!(
-            "ZipValidityIter, from bit 3",
-            all,
-            zip_validity_iter(numbers, bytes, &VALID_FROM_3),
-            run()
-        ),
-        line!("ZipValidity by nth(1)", taken(2), zip_validity_nth(numbers, bytes), vec![2]),
-        line!("ZipValidity by nth(7)", taken(8), zip_validity_nth(numbers, bytes), vec![8]),
-        line!("Pieces, cut in halves", (cuts, "cuts"), pieces(bytes), vec![cuts]),
+        all("ZipValidity", "zip", &VALID_FROM_0),
+        all("ZipValidity, from bit 3", "zip", &VALID_FROM_3),
+        all("ZipValidityIter", "iter", &VALID_FROM_0),
+        all("ZipValidityIter, from bit 3", "iter", &VALID_FROM_3),
+        by_nth("ZipValidity by nth(1)", 2),
+        by_nth("ZipValidity by nth(7)", 8),
+        line!("Pieces, cut in halves", (1_000, "cuts"), bytes("pieces", bytes), vec![1_000]),
     ]
 }
-
-/// The first bits, this many.
-const fn first(length: usize) -> [Part; 1] {
-    [Part { offset: 0, length }]
-}
-
-static FIRST_40: [Part; 1] = first(40);
-static FIRST_64: [Part; 1] = first(64);
-static FIRST_1_000: [Part; 1] = first(1_000);
-static FIRST_8_192: [Part; 1] = first(8_192);
 
 /// New bitmaps of two, and of one.
 fn operators(inputs: &Inputs) -> Vec<Line<'_>> {
     let Inputs { bytes, bytes_from_3, bytes_from_5, .. } = inputs;
-    let all = (16 * LONG, "bits");
-    let runs = || vec![0; 16];
-    let few = || vec![0; CALLS.0];
+    let of_two = |name, elements, call, (left, from), (right, to), runs| {
+        line!(name, elements, pairs(call, left, from, right, to), runs)
+    };
+    let long = |name, call, left, right| of_two(name, ALL, call, left, right, vec![0; 16]);
+    let short =
+        |name, part| of_two(name, CALLS, "and", (bytes, part), (bytes_from_5, part), few(0));
+    let of_one =
+        |name, elements, call, part, runs| line!(name, elements, bitmaps(call, bytes, part), runs);
     vec![
-        line!("and", all, and(bytes, &FROM_0, bytes_from_5, &FROM_0), runs()),
-        line!("and of 64 bits", CALLS, and(bytes, &FIRST_64, bytes_from_5, &FIRST_64), few()),
-        line!(
-            "and of 1,000 bits",
-            CALLS,
-            and(bytes, &FIRST_1_000, bytes_from_5, &FIRST_1_000),
-            few()
-        ),
-        line!("and, from bits 3 and 5", all, and(bytes_from_3, &FROM_3, bytes, &FROM_5), runs()),
-        line!("|", all, or(bytes, &FROM_0, bytes_from_5, &FROM_0), runs()),
-        line!("^", all, xor(bytes, &FROM_0, bytes_from_5, &FROM_0), runs()),
-        line!("!", all, not(bytes, &FROM_0), runs()),
-        line!("unary", all, unary(bytes, &FROM_0), runs()),
-        line!("unary, from bit 3", all, unary(bytes, &FROM_3), runs()),
-        line!("unary of 64 bits", CALLS, unary(bytes, &FIRST_64), few()),
-        line!("unary of 1,000 bits", CALLS, unary(bytes, &FIRST_1_000), few()),
+        long("and", "and", (bytes, &FROM_0), (bytes_from_5, &FROM_0)),
+        short("and of 64 bits", &FIRST_64),
+        short("and of 1,000 bits", &FIRST_1_000),
+        long("and, from bits 3 and 5", "and", (bytes_from_3, &FROM_3), (bytes, &FROM_5)),
+        long("|", "or", (bytes, &FROM_0), (bytes_from_5, &FROM_0)),
+        long("^", "xor", (bytes, &FROM_0), (bytes_from_5, &FROM_0)),
+        of_one("!", ALL, "not", &FROM_0, vec![0; 16]),
+        of_one("unary", ALL, "unary", &FROM_0, vec![0; 16]),
+        of_one("unary, from bit 3", ALL, "unary", &FROM_3, vec![0; 16]),
+        of_one("unary of 64 bits", CALLS, "unary", &FIRST_64, few(0)),
+        of_one("unary of 1,000 bits", CALLS, "unary", &FIRST_1_000, few(0)),
     ]
 }
 
-/// Bitmaps changed in place by another one.
+/// Bitmaps changed in place, by another one and by tables.
 fn in_place(inputs: &Inputs) -> Vec<Line<'_>> {
     let Inputs { bytes, bytes_from_5, .. } = inputs;
-    let own = &bytes_from_5[..LONG / 8];
-    let own_of = |length: usize| &bytes_from_5[..length / 8];
-    let all = (16 * LONG, "bits");
-    let runs = || vec![0; 16];
-    let few = || vec![0; CALLS.0];
+    let on = |name, elements, call, part: &'static [Part; 1], runs| {
+        let own = &bytes_from_5[..part[0].length / 8];
+        line!(name, elements, assign(call, own, bytes, part), runs)
+    };
+    let long = |name, call, part| on(name, ALL, call, part, vec![0; 16]);
+    let short = |name, call, part| on(name, CALLS, call, part, few(0));
     vec![
-        line!("binary_assign", all, xor_assign(own, bytes, &FROM_0), runs()),
-        line!("binary_assign, from bit 3", all, xor_assign(own, bytes, &FROM_3), runs()),
-        line!("binary_assign of u8", all, xor_assign_by_bytes(own, bytes, &FROM_0), runs()),
-        line!(
-            "binary_assign of u8, from bit 3",
-            all,
-            xor_assign_by_bytes(own, bytes, &FROM_3),
-            runs()
-        ),
-        line!("&=", all, and_assign(own, bytes, &FROM_0), runs()),
-        line!("&= of 40 bits", CALLS, and_assign(own_of(40), bytes, &FIRST_40), few()),
-        line!("&= of 64 bits", CALLS, and_assign(own_of(64), bytes, &FIRST_64), few()),
-        line!("&= of 1,000 bits", CALLS, and_assign(own_of(1_000), bytes, &FIRST_1_000), few()),
-        line!("&= of 8,192 bits", CALLS, and_assign(own_of(8_192), bytes, &FIRST_8_192), few()),
-    ]
-}
-
-/// Bitmaps changed in place by tables.
-fn tables_in_place(inputs: &Inputs) -> Vec<Line<'_>> {
-    let Inputs { bytes, bytes_from_5, .. } = inputs;
-    let own = &bytes_from_5[..LONG / 8];
-    let own_of = |length: usize| &bytes_from_5[..length / 8];
-    let all = (16 * LONG, "bits");
-    let runs = || vec![0; 16];
-    let few = || vec![0; CALLS.0];
-    vec![
-        line!("binary_assign_table", all, binary_assign_table(own, bytes, &FROM_0), runs()),
-        line!(
-            "binary_assign_table of 40 bits",
-            CALLS,
-            binary_assign_table(own_of(40), bytes, &FIRST_40),
-            few()
-        ),
-        line!(
-            "binary_assign_table of 8,192 bits",
-            CALLS,
-            binary_assign_table(own_of(8_192), bytes, &FIRST_8_192),
-            few()
-        ),
-        line!("unary_assign_table", all, unary_assign_table(own), runs()),
-        line!("unary_assign_table of 40 bits", CALLS, unary_assign_table(own_of(40)), few()),
-        line!("unary_assign_table of 8,192 bits", CALLS, unary_assign_table(own_of(8_192)), few()),
+        long("binary_assign", "xor_assign", &FROM_0),
+        long("binary_assign, from bit 3", "xor_assign", &FROM_3),
+        long("binary_assign of u8", "xor_assign_by_bytes", &FROM_0),
+        long("binary_assign of u8, from bit 3", "xor_assign_by_bytes", &FROM_3),
+        long("&=", "and_assign", &FROM_0),
+        short("&= of 40 bits", "and_assign", &FIRST_40),
+        short("&= of 64 bits", "and_assign", &FIRST_64),
+        short("&= of 1,000 bits", "and_assign", &FIRST_1_000),
+        short("&= of 8,192 bits", "and_assign", &FIRST_8_192),
+        long("binary_assign_table", "binary_assign_table", &FROM_0),
+        short("binary_assign_table of 40 bits", "binary_assign_table", &FIRST_40),
+        short("binary_assign_table of 8,192 bits", "binary_assign_table", &FIRST_8_192),
+        long("unary_assign_table", "unary_assign_table", &FROM_0),
+        short("unary_assign_table of 40 bits", "unary_assign_table", &FIRST_40),
+        short("unary_assign_table of 8,192 bits", "unary_assign_table", &FIRST_8_192),
     ]
 }
 
 fn tables(inputs: &Inputs) -> Vec<Line<'_>> {
     let Inputs { bytes, bytes_from_3, bytes_from_5, bytes_of_runs, .. } = inputs;
-    let three = |name, parts: &'static [Part]| {
-        let runs = vec![0; 4];
-        line!(name, TABLES, ternary_table(bytes, bytes_from_3, bytes_from_5, parts), runs)
-    };
-    let four = |name, parts: &'static [Part]| {
-        let runs = vec![0; 4];
+    let on = |name, call, part| {
         line!(
             name,
             TABLES,
-            quaternary_table(bytes, bytes_from_3, bytes_from_5, bytes_of_runs, parts),
-            runs
+            tables(call, bytes, bytes_from_3, bytes_from_5, bytes_of_runs, part),
+            vec![0; 4]
         )
     };
     vec![
-        three("ternary_table", &FROM_0),
-        three("ternary_table, from bit 3", &FROM_3),
-        four("quaternary_table", &FROM_0),
-        four("quaternary_table, from bit 3", &FROM_3),
+        on("ternary_table", "ternary_table", &FROM_0),
+        on("ternary_table, from bit 3", "ternary_table", &FROM_3),
+        on("quaternary_table", "quaternary_table", &FROM_0),
+        on("quaternary_table, from bit 3", "quaternary_table", &FROM_3),
     ]
 }
 
@@ -467,11 +434,11 @@ const NONE: &[u8] = &[];
 
 fn arrays(inputs: &Inputs) -> Vec<Line<'_>> {
     let Inputs { bytes, bytes_from_3, bytes_from_5, bytes_of_runs, .. } = inputs;
-    let line = |name, left, right, elements, parts: &'static [Part], runs| {
-        line!(name, elements, and_kleene(bytes, left, bytes_from_5, right, parts), runs)
+    let line = |name, left, right, elements, part, runs| {
+        line!(name, elements, tables("and_kleene", bytes, left, bytes_from_5, right, part), runs)
     };
-    let long = |name, left, right, parts| line(name, left, right, TABLES, parts, vec![0; 4]);
-    let short = |name, left, right| line(name, left, right, CALLS, &FIRST_1_000, vec![0; CALLS.0]);
+    let long = |name, left, right, part| line(name, left, right, TABLES, part, vec![0; 4]);
+    let short = |name, left, right| line(name, left, right, CALLS, &FIRST_1_000, few(0));
     let (left, right) = (&bytes_from_3[..], &bytes_of_runs[..]);
     vec![
         long("and_kleene, validity on both sides", left, right, &FROM_0),
@@ -487,40 +454,46 @@ fn arrays(inputs: &Inputs) -> Vec<Line<'_>> {
 fn buffers(inputs: &Inputs) -> Vec<Line<'_>> {
     let numbers = &inputs.numbers;
     let all = (8 * NUMBERS, "items");
-    let slices = parts(NUMBERS, 0, NUMBERS, 100_000);
+    let on = |name, elements, call, parts| line!(name, elements, buffer(call, numbers), parts);
     let whole = || again(0, NUMBERS, 8);
+    let collect = |name, elements, length, times| {
+        line!(name, elements, words("products", numbers), vec![length; times])
+    };
+    let calls = |name, length, times| collect(name, (times, "calls"), length, times);
     vec![
-        line!("clone and sliced", (slices.len(), "slices"), buffer_sliced(numbers), slices),
-        line!("into_iter", all, buffer_into_iter(numbers), whole()),
-        line!("as_slice, walked", all, buffer_as_slice(numbers), whole()),
-        line!("try_from_iter", all, buffer_try_from_iter(numbers), vec![NUMBERS; 8]),
-        line!("try_from_iter of 8 items", CALLS, buffer_try_from_iter(numbers), vec![8; CALLS.0]),
-        line!(
-            "try_from_iter of 100 items",
-            CALLS,
-            buffer_try_from_iter(numbers),
-            vec![100; CALLS.0]
-        ),
+        on("clone and sliced", (100_000, "slices"), "sliced", parts(NUMBERS, 0, NUMBERS, 100_000)),
+        on("into_iter", all, "into_iter", whole()),
+        on("as_slice, walked", all, "as_slice", whole()),
+        collect("try_from_iter", all, NUMBERS, 8),
+        calls("try_from_iter of 8 items", 8, CALLS.0),
+        calls("try_from_iter of 100 items", 100, CALLS.0),
+        calls("try_from_iter of 300 items", 300, 10_000),
+        calls("try_from_iter of 1,000 items", 1_000, 3_000),
+        calls("try_from_iter of 10,000 items", 10_000, 300),
+        calls("try_from_iter of 100,000 items", 100_000, 30),
     ]
 }
 
 fn offsets(inputs: &Inputs) -> Vec<Line<'_>> {
     let Inputs { slots, slots_of_64, offsets, .. } = inputs;
     let all = (8 * NUMBERS, "offsets");
-    let runs = || vec![NUMBERS; 8];
+    let on = |name, elements, call, runs| line!(name, elements, slot(call, slots), runs);
+    let all_of = |name, call| on(name, all, call, vec![NUMBERS; 8]);
+    let lengths =
+        |name, length, times| on(name, (times, "calls"), "try_from_lengths", vec![length; times]);
+    let push = |name, elements, runs| line!(name, elements, longs("try_push", slots_of_64), runs);
     vec![
-        line!("try_from_lengths", all, try_from_lengths(slots), runs()),
-        line!("try_from_lengths of 10 lengths", CALLS, try_from_lengths(slots), vec![10; CALLS.0]),
-        line!(
-            "try_from_lengths of 100 lengths",
-            CALLS,
-            try_from_lengths(slots),
-            vec![100; CALLS.0]
-        ),
-        line!("try_extend_from_lengths, with room", all, extend_from_lengths(slots), runs()),
-        line!("try_push", all, try_push(slots_of_64), runs()),
-        line!("try_push of 64 lengths", CALLS, try_push(slots_of_64), vec![64; CALLS.0]),
-        line!("a vector, checked", all, check_offsets(offsets), runs()),
+        all_of("try_from_lengths", "try_from_lengths"),
+        lengths("try_from_lengths of 10 lengths", 10, CALLS.0),
+        lengths("try_from_lengths of 100 lengths", 100, CALLS.0),
+        lengths("try_from_lengths of 300 lengths", 300, 10_000),
+        lengths("try_from_lengths of 1,000 lengths", 1_000, 3_000),
+        lengths("try_from_lengths of 10,000 lengths", 10_000, 300),
+        lengths("try_from_lengths of 100,000 lengths", 100_000, 30),
+        all_of("try_extend_from_lengths, with room", "extend_from_lengths"),
+        push("try_push", all, vec![NUMBERS; 8]),
+        push("try_push of 64 lengths", CALLS, few(64)),
+        line!("a vector, checked", all, longs("try_from", offsets), vec![NUMBERS; 8]),
     ]
 }
 
@@ -528,13 +501,18 @@ fn offsets(inputs: &Inputs) -> Vec<Line<'_>> {
 fn shared_offsets(inputs: &Inputs) -> Vec<Line<'_>> {
     let Inputs { offsets, offsets_of_32, places, .. } = inputs;
     let all = (8 * NUMBERS, "offsets");
+    let on = |name, elements, call, parts| line!(name, elements, offset(call, offsets), parts);
     let whole = || again(0, NUMBERS + 1, 8);
-    let slices = parts(NUMBERS, 1, NUMBERS, 100_000);
     vec![
-        line!("try_extend_from_slice", all, offsets_extend_from_slice(offsets), whole()),
-        line!("lengths, added up", all, lengths(offsets), whole()),
-        line!("start_end, at random", (places.len(), "slots"), start_end(offsets), places.clone()),
-        line!("clone and sliced", (slices.len(), "slices"), offsets_sliced(offsets), slices),
+        on("try_extend_from_slice", all, "extend_from_slice", whole()),
+        on("lengths, added up", all, "lengths", whole()),
+        line!(
+            "start_end, at random",
+            (places.len(), "slots"),
+            longs("start_end", offsets),
+            places.clone()
+        ),
+        on("clone and sliced", (100_000, "slices"), "sliced", parts(NUMBERS, 1, NUMBERS, 100_000)),
         line!("widened to 64 bits", all, widen(offsets_of_32), vec![0; 8]),
     ]
 }

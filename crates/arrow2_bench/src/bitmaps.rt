@@ -1,62 +1,12 @@
 //! Shared bitmaps.
 
-use crate::part::{Part, answers_on_pairs};
+use crate::bytes::whole;
+use crate::runs::{Part, on_each, on_pairs};
+use arrow2_bitmap::bitmap_ops::{and, unary};
 use arrow2_bitmap::immutable::Bitmap;
 use arrow2_types::error::Result;
+use arrow2_walks::SlicesIterator;
 use std::alloc::Global;
-
-/// Bitmaps of copied bytes, each counted.
-#[unsafe(no_mangle)]
-pub extern "C" fn bench_from_u8_slice(alloc: Global, bytes: &[u8], lengths: &[usize]) -> usize {
-    let bits = bytes.len().saturating_mul(8);
-    let mut zeros = 0usize;
-    for length in lengths {
-        if *length <= bits {
-            let Ok(bitmap) = Bitmap::from_u8_slice(alloc, bytes, *length) else {
-                return 0;
-            };
-            zeros = zeros.wrapping_add(bitmap.unset_bits());
-        }
-    }
-    zeros
-}
-
-/// Bitmaps of falses.
-#[unsafe(no_mangle)]
-pub extern "C" fn bench_new_zeroed(alloc: Global, lengths: &[usize]) -> usize {
-    let mut zeros = 0usize;
-    for length in lengths {
-        let Ok(bitmap) = Bitmap::new_zeroed(alloc, *length) else {
-            return 0;
-        };
-        zeros = zeros.wrapping_add(bitmap.unset_bits());
-    }
-    zeros
-}
-
-/// The bitmap of all bits of the bytes.
-pub fn whole(alloc: Global, bytes: &[u8]) -> Result<Bitmap> {
-    Bitmap::from_u8_slice(alloc, bytes, bytes.len().saturating_mul(8))
-}
-
-/// Slices of the bitmap of all bytes, each with its count.
-#[unsafe(no_mangle)]
-pub extern "C" fn bench_sliced(alloc: Global, bytes: &[u8], parts: &[Part]) -> usize {
-    let Ok(whole) = whole(alloc, bytes) else {
-        return 0;
-    };
-    let mut zeros = 0usize;
-    for part in parts {
-        if part.is_within(whole.len()) {
-            let Ok(shared) = whole.clone() else {
-                return 0;
-            };
-            let slice = shared.sliced(part.offset, part.length);
-            zeros = zeros.wrapping_add(slice.unset_bits());
-        }
-    }
-    zeros
-}
 
 /// A bitmap for each part of the bytes, all over the same storage.
 pub fn bitmaps(alloc: Global, bytes: &[u8], parts: &[Part]) -> Result<Vec<Bitmap>> {
@@ -70,39 +20,140 @@ pub fn bitmaps(alloc: Global, bytes: &[u8], parts: &[Part]) -> Result<Vec<Bitmap
     Ok(bitmaps)
 }
 
-/// The answers of the bitmaps that the runs choose, added up.
-pub fn answers<F: Fn(&Bitmap) -> usize>(
+/// Makes the call on the bitmap of the part that each run chooses.
+pub fn on_bitmaps<F: Fn(&Bitmap) -> Result<usize>>(
     alloc: Global,
     bytes: &[u8],
     parts: &[Part],
     runs: &[usize],
-    answer: F,
+    call: F,
 ) -> usize
-    requires { F.IsAlwaysCallable answer }
+    requires { F.IsAlwaysCallable call }
 {
     let Ok(bitmaps) = bitmaps(alloc, bytes, parts) else {
         return 0;
     };
-    let mut sum = 0usize;
-    for run in runs {
-        if let Some(bitmap) = bitmaps.get(*run) {
-            sum = sum.wrapping_add(answer(bitmap));
-        }
-    }
-    sum
+    on_each(runs, |run| match bitmaps.get(*run) {
+        Some(bitmap) => call(bitmap),
+        None => Ok(0),
+    })
 }
 
-/// The answers on the bitmaps of both bytes at the places that the runs choose, added up.
-pub fn answers_of_both<F: Fn(&Bitmap, &Bitmap) -> usize>(
+/// Calls on the bitmap of the part that each run chooses.
+#[unsafe(no_mangle)]
+pub extern "C" fn bench_bitmaps(
+    alloc: Global,
+    call: &[u8],
+    bytes: &[u8],
+    parts: &[Part],
+    runs: &[usize],
+) -> usize {
+    match call {
+        b"make_mut" => on_bitmaps(alloc, bytes, parts, runs, make_mut),
+        b"iter" => on_bitmaps(alloc, bytes, parts, runs, iter),
+        b"iter_places" => on_bitmaps(alloc, bytes, parts, runs, iter_places),
+        b"iter_back" => on_bitmaps(alloc, bytes, parts, runs, iter_back),
+        b"debug" => on_bitmaps(alloc, bytes, parts, runs, debug),
+        b"slices" => on_bitmaps(alloc, bytes, parts, runs, slices),
+        b"not" => on_bitmaps(alloc, bytes, parts, runs, not),
+        b"unary" => on_bitmaps(alloc, bytes, parts, runs, rotated),
+        _ => 0,
+    }
+}
+
+/// The last byte of a copy that is to be changed.
+fn make_mut(bitmap: &Bitmap) -> Result<usize> {
+    let copy = bitmap.clone()?.make_mut()?;
+    match copy.as_slice().last() {
+        Some(byte) => Ok(usize::from(*byte)),
+        None => Ok(0),
+    }
+}
+
+/// Counts the items that are true.
+fn iter(bitmap: &Bitmap) -> Result<usize> {
+    let mut ones = 0usize;
+    for item in bitmap.iter() {
+        ones = ones.wrapping_add(usize::from(item));
+    }
+    Ok(ones)
+}
+
+/// Adds up the places of the items that are true.
+fn iter_places(bitmap: &Bitmap) -> Result<usize> {
+    let mut sum = 0usize;
+    for (place, item) in bitmap.iter().enumerate() {
+        if item {
+            sum = sum.wrapping_add(place);
+        }
+    }
+    Ok(sum)
+}
+
+/// Counts the items that are true, from the last one on.
+fn iter_back(bitmap: &Bitmap) -> Result<usize> {
+    let mut ones = 0usize;
+    for item in bitmap.iter().rev() {
+        ones = ones.wrapping_add(usize::from(item));
+    }
+    Ok(ones)
+}
+
+/// The length of the printed text.
+fn debug(bitmap: &Bitmap) -> Result<usize> {
+    Ok(format!(in bitmap.allocator(); "{bitmap:?}")?.len())
+}
+
+/// Mixes the places and the lengths of the runs of set items.
+fn slices(bitmap: &Bitmap) -> Result<usize> {
+    let mut sum = 0usize;
+    for (start, length) in SlicesIterator::new(bitmap) {
+        sum = sum.rotate_left(1) ^ start.wrapping_add(length.wrapping_mul(3));
+    }
+    Ok(sum)
+}
+
+/// Counts the false items of a new bitmap of what is not set.
+fn not(bitmap: &Bitmap) -> Result<usize> {
+    Ok((!bitmap)?.unset_bits())
+}
+
+/// Counts the false items of a new bitmap by a function of words that is not one of bits.
+fn rotated(bitmap: &Bitmap) -> Result<usize> {
+    Ok(unary(bitmap, |word| word.rotate_left(1))?.unset_bits())
+}
+
+/// Calls on the bitmaps of both bytes at the same place, which each run chooses.
+#[unsafe(no_mangle)]
+pub extern "C" fn bench_pairs(
+    alloc: Global,
+    call: &[u8],
+    left: &[u8],
+    left_parts: &[Part],
+    right: &[u8],
+    right_parts: &[Part],
+    runs: &[usize],
+) -> usize {
+    match call {
+        b"equal" => on_both(alloc, left, left_parts, right, right_parts, runs, equal),
+        b"and" => on_both(alloc, left, left_parts, right, right_parts, runs, both),
+        b"or" => on_both(alloc, left, left_parts, right, right_parts, runs, either),
+        b"xor" => on_both(alloc, left, left_parts, right, right_parts, runs, one),
+        _ => 0,
+    }
+}
+
+/// Makes the call on the bitmaps of both bytes at the same place, which each run chooses.
+fn on_both<F: Fn(&Bitmap, &Bitmap) -> Result<usize>>(
     alloc: Global,
     left: &[u8],
     left_parts: &[Part],
     right: &[u8],
     right_parts: &[Part],
     runs: &[usize],
-    answer: F,
+    call: F,
 ) -> usize
-    requires { F.IsAlwaysCallable answer }
+    requires { F.IsAlwaysCallable call }
 {
     let Ok(left) = bitmaps(alloc, left, left_parts) else {
         return 0;
@@ -110,167 +161,34 @@ pub fn answers_of_both<F: Fn(&Bitmap, &Bitmap) -> usize>(
     let Ok(right) = bitmaps(alloc, right, right_parts) else {
         return 0;
     };
-    answers_on_pairs(left.as_slice(), right.as_slice(), runs, answer)
+    on_pairs(left.as_slice(), right.as_slice(), runs, call)
 }
 
-/// How many of the bitmaps of the left bytes are equal to the one of the right bytes at the same place.
-#[unsafe(no_mangle)]
-pub extern "C" fn bench_equal(
-    alloc: Global,
-    left: &[u8],
-    left_parts: &[Part],
-    right: &[u8],
-    right_parts: &[Part],
-    runs: &[usize],
-) -> usize {
-    answers_of_both(
-        alloc,
-        left,
-        left_parts,
-        right,
-        right_parts,
-        runs,
-        |left, right| { usize::from(left == right) },
-    )
+/// Whether they are equal.
+fn equal(left: &Bitmap, right: &Bitmap) -> Result<usize> {
+    Ok(usize::from(left == right))
 }
 
-/// Copies of shared bitmaps that are to be changed.
-#[unsafe(no_mangle)]
-pub extern "C" fn bench_make_mut(
-    alloc: Global,
-    bytes: &[u8],
-    parts: &[Part],
-    runs: &[usize],
-) -> usize {
-    answers(alloc, bytes, parts, runs, last_byte_of_copy)
-}
-
-/// The last byte of a copy as a number.
-fn last_byte_of_copy(bitmap: &Bitmap) -> usize {
-    let Ok(shared) = bitmap.clone() else {
-        return 0;
-    };
-    let Ok(copy) = shared.make_mut() else {
-        return 0;
-    };
-    match copy.as_slice().last() {
-        Some(byte) => usize::from(*byte),
-        None => 0,
+/// Counts the false items of a new bitmap of what is set in both. 0 where they differ in length.
+fn both(left: &Bitmap, right: &Bitmap) -> Result<usize> {
+    if left.len() != right.len() {
+        return Ok(0);
     }
+    Ok(and(left, right)?.unset_bits())
 }
 
-/// Walks over all items.
-#[unsafe(no_mangle)]
-pub extern "C" fn bench_iter(alloc: Global, bytes: &[u8], parts: &[Part], runs: &[usize]) -> usize {
-    answers(alloc, bytes, parts, runs, ones)
-}
-
-/// How many items are true.
-fn ones(bitmap: &Bitmap) -> usize {
-    let mut ones = 0usize;
-    for item in bitmap.iter() {
-        ones = ones.wrapping_add(usize::from(item));
+/// The same of what is set in one of them, or in both.
+fn either(left: &Bitmap, right: &Bitmap) -> Result<usize> {
+    if left.len() != right.len() {
+        return Ok(0);
     }
-    ones
+    Ok((left | right)?.unset_bits())
 }
 
-/// Walks over all items, for the places of those that are true.
-#[unsafe(no_mangle)]
-pub extern "C" fn bench_iter_places(
-    alloc: Global,
-    bytes: &[u8],
-    parts: &[Part],
-    runs: &[usize],
-) -> usize {
-    answers(alloc, bytes, parts, runs, places)
-}
-
-/// The places of the items that are true, added up.
-fn places(bitmap: &Bitmap) -> usize {
-    let mut sum = 0usize;
-    for (place, item) in bitmap.iter().enumerate() {
-        if item {
-            sum = sum.wrapping_add(place);
-        }
+/// The same of what is set in one of them, and not in both.
+fn one(left: &Bitmap, right: &Bitmap) -> Result<usize> {
+    if left.len() != right.len() {
+        return Ok(0);
     }
-    sum
-}
-
-/// Walks over all items, from the last on.
-#[unsafe(no_mangle)]
-pub extern "C" fn bench_iter_back(
-    alloc: Global,
-    bytes: &[u8],
-    parts: &[Part],
-    runs: &[usize],
-) -> usize {
-    answers(alloc, bytes, parts, runs, ones_from_the_back)
-}
-
-/// How many items are true.
-fn ones_from_the_back(bitmap: &Bitmap) -> usize {
-    let mut ones = 0usize;
-    for item in bitmap.iter().rev() {
-        ones = ones.wrapping_add(usize::from(item));
-    }
-    ones
-}
-
-/// Walks over the bitmap of all bytes that take each item at a step.
-#[unsafe(no_mangle)]
-pub extern "C" fn bench_iter_nth(alloc: Global, bytes: &[u8], steps: &[usize]) -> usize {
-    let Ok(whole) = whole(alloc, bytes) else {
-        return 0;
-    };
-    let mut ones = 0usize;
-    for step in steps {
-        ones = ones.wrapping_add(ones_by_steps(&whole, *step));
-    }
-    ones
-}
-
-/// How many of each `step`th item are true.
-fn ones_by_steps(bitmap: &Bitmap, step: usize) -> usize {
-    let Some(skipped) = step.checked_sub(1) else {
-        return 0;
-    };
-    let mut ones = 0usize;
-    let mut walk = bitmap.iter();
-    for _ in 0..bitmap.len() / step {
-        if let Some(item) = walk.nth(skipped) {
-            ones = ones.wrapping_add(usize::from(item));
-        }
-    }
-    ones
-}
-
-/// Printed bitmaps.
-#[unsafe(no_mangle)]
-pub extern "C" fn bench_debug(
-    alloc: Global,
-    bytes: &[u8],
-    parts: &[Part],
-    runs: &[usize],
-) -> usize {
-    answers(alloc, bytes, parts, runs, |bitmap| {
-        match format!(in alloc; "{bitmap:?}") {
-            Ok(text) => text.len(),
-            Err(_) => 0,
-        }
-    })
-}
-
-/// Items at places of the bitmap of all bytes.
-#[unsafe(no_mangle)]
-pub extern "C" fn bench_get(alloc: Global, bytes: &[u8], places: &[usize]) -> usize {
-    let Ok(whole) = whole(alloc, bytes) else {
-        return 0;
-    };
-    let mut ones = 0usize;
-    for place in places {
-        if let Some(item) = whole.get(*place) {
-            ones = ones.wrapping_add(usize::from(item));
-        }
-    }
-    ones
+    Ok((left ^ right)?.unset_bits())
 }

@@ -1,24 +1,31 @@
-//! Shared buffers.
+//! Shared buffers, and what is collected of numbers.
 
-use crate::part::{Part, answers_on_firsts};
+use crate::runs::{Part, on_firsts};
+use arrow2_bitmap::immutable::Bitmap;
 use arrow2_buffer::Buffer;
 use arrow2_types::error::Result;
 use std::alloc::Global;
 use std::convert::TryFrom;
 
-/// A buffer of a copy of the items.
-fn buffer(alloc: Global, items: &[u64]) -> Result<Buffer<u64>> {
-    Buffer::try_from(Vec::from_slice(alloc, items)?)
+/// Calls on slices of one buffer of a copy of the items.
+#[unsafe(no_mangle)]
+pub extern "C" fn bench_buffer(alloc: Global, call: &[u8], items: &[u64], parts: &[Part]) -> usize {
+    match call {
+        b"sliced" => on_slices(alloc, items, parts, length),
+        b"into_iter" => on_slices(alloc, items, parts, added_up),
+        b"as_slice" => on_slices(alloc, items, parts, mixed),
+        _ => 0,
+    }
 }
 
-/// The answers on slices of one buffer, added up.
-fn answers<F: Fn(Buffer<u64>) -> usize>(
+/// Makes the call on slices of one buffer of a copy of the items.
+fn on_slices<F: Fn(Buffer<u64>) -> usize>(
     alloc: Global,
     items: &[u64],
     parts: &[Part],
-    answer: F,
+    call: F,
 ) -> usize
-    requires { F.IsAlwaysCallable answer }
+    requires { F.IsAlwaysCallable call }
 {
     let Ok(whole) = buffer(alloc, items) else {
         return 0;
@@ -29,25 +36,23 @@ fn answers<F: Fn(Buffer<u64>) -> usize>(
             let Ok(shared) = whole.clone() else {
                 return 0;
             };
-            sum = sum.wrapping_add(answer(shared.sliced(part.offset, part.length)));
+            sum = sum.wrapping_add(call(shared.sliced(part.offset, part.length)));
         }
     }
     sum
 }
 
-/// Slices of one buffer.
-#[unsafe(no_mangle)]
-pub extern "C" fn bench_buffer_sliced(alloc: Global, items: &[u64], parts: &[Part]) -> usize {
-    answers(alloc, items, parts, |slice| slice.as_slice().len())
+/// A buffer of a copy of the items.
+fn buffer(alloc: Global, items: &[u64]) -> Result<Buffer<u64>> {
+    Buffer::try_from(Vec::from_slice(alloc, items)?)
 }
 
-/// Walks over slices of one buffer, by value.
-#[unsafe(no_mangle)]
-pub extern "C" fn bench_buffer_into_iter(alloc: Global, items: &[u64], parts: &[Part]) -> usize {
-    answers(alloc, items, parts, added_up)
+/// How many items it has.
+fn length(buffer: Buffer<u64>) -> usize {
+    buffer.as_slice().len()
 }
 
-/// The items added up.
+/// Adds up the items, each by value.
 fn added_up(buffer: Buffer<u64>) -> usize {
     let mut sum = 0u64;
     for item in buffer {
@@ -56,14 +61,8 @@ fn added_up(buffer: Buffer<u64>) -> usize {
     sum as usize
 }
 
-/// Walks over slices of one buffer, by reference.
-#[unsafe(no_mangle)]
-pub extern "C" fn bench_buffer_as_slice(alloc: Global, items: &[u64], parts: &[Part]) -> usize {
-    answers(alloc, items, parts, chained)
-}
-
-/// The items folded, each with what came before.
-fn chained(buffer: Buffer<u64>) -> usize {
+/// Mixes the items, each by reference.
+fn mixed(buffer: Buffer<u64>) -> usize {
     let mut all = 0u64;
     for item in buffer.as_slice() {
         all = all.rotate_left(1) ^ *item;
@@ -71,25 +70,26 @@ fn chained(buffer: Buffer<u64>) -> usize {
     all as usize
 }
 
-/// Buffers of the items of an iterator.
+/// Calls that collect the first numbers, as many as each run says.
 #[unsafe(no_mangle)]
-pub extern "C" fn bench_buffer_try_from_iter(
-    alloc: Global,
-    items: &[u64],
-    lengths: &[usize],
-) -> usize {
-    answers_on_firsts(items, lengths, |items| {
-        match Buffer::try_from_iter(alloc, items.iter().map(|item| item.wrapping_mul(3))) {
-            Ok(buffer) => last(buffer.as_slice()),
-            Err(_) => 0,
-        }
-    })
+pub extern "C" fn bench_words(alloc: Global, call: &[u8], items: &[u64], runs: &[usize]) -> usize {
+    match call {
+        b"products" => on_firsts(items, runs, |items| products(alloc, items)),
+        b"comparisons" => on_firsts(items, runs, |items| comparisons(alloc, items)),
+        _ => 0,
+    }
 }
 
-/// The last item, or 0 where there is none.
-fn last(items: &[u64]) -> usize {
-    match items.last() {
-        Some(item) => *item as usize,
-        None => 0,
+/// The last item of a buffer of products, or 0 where there is none.
+fn products(alloc: Global, items: &[u64]) -> Result<usize> {
+    let buffer = Buffer::try_from_iter(alloc, items.iter().map(|item| item.wrapping_mul(3)))?;
+    match buffer.as_slice().last() {
+        Some(item) => Ok(*item as usize),
+        None => Ok(0),
     }
+}
+
+/// Counts the falses of a bitmap of comparisons.
+fn comparisons(alloc: Global, items: &[u64]) -> Result<usize> {
+    Ok(Bitmap::try_from_iter(alloc, items.iter().map(|item| *item < 1 << 63))?.unset_bits())
 }

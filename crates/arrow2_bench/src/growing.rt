@@ -1,87 +1,72 @@
-//! Bitmaps that grow, and bitmaps that are collected.
+//! Bitmaps that grow, are collected, or are changed in place.
 ghost use Rattle.std.specs.Prelude.{◌+◌, ◌*◌, ◌≤◌, length};
 
-use crate::part::{Part, answers_on_firsts};
+use crate::bitmaps::bitmaps;
+use crate::runs::{Part, on_each, on_firsts};
+use arrow2_bitmap::assign_ops::binary_assign;
 use arrow2_bitmap::immutable::Bitmap;
 use arrow2_bitmap::mutable::MutableBitmap;
+use arrow2_chunk::bit_chunk::BitChunk;
+use arrow2_tables::assign_ops::{binary_assign_table, unary_assign_table};
 use arrow2_types::error::Result;
 use std::alloc::Global;
 
-/// Bitmaps of pushed items.
+/// Calls that make a bitmap of the first items, as many as each run says.
 #[unsafe(no_mangle)]
-pub extern "C" fn bench_push(alloc: Global, items: &[bool], lengths: &[usize]) -> usize {
-    answers_on_firsts(items, lengths, |items| match pushed(alloc, items) {
-        Ok(bitmap) => bitmap.unset_bits(),
-        Err(_) => 0,
-    })
+pub extern "C" fn bench_bools(alloc: Global, call: &[u8], items: &[bool], runs: &[usize]) -> usize {
+    match call {
+        b"push" => on_firsts(items, runs, |items| push(alloc, items)),
+        b"from_bools" => on_firsts(items, runs, |items| from_bools(alloc, items)),
+        b"try_from_iter" => on_firsts(items, runs, |items| try_from_iter(alloc, items)),
+        _ => 0,
+    }
 }
 
-/// The items pushed one by one.
-fn pushed(alloc: Global, items: &[bool]) -> Result<MutableBitmap> {
+/// Counts the falses among items that are pushed one by one.
+fn push(alloc: Global, items: &[bool]) -> Result<usize> {
     let mut bitmap = MutableBitmap::new(alloc);
     for item in items {
         bitmap.push(*item)?;
     }
-    Ok(bitmap)
+    Ok(bitmap.unset_bits())
 }
 
-/// Bitmaps of booleans.
-#[unsafe(no_mangle)]
-pub extern "C" fn bench_from_bools(alloc: Global, items: &[bool], lengths: &[usize]) -> usize {
-    answers_on_firsts(
-        items,
-        lengths,
-        |items| zeros(Bitmap::from_bools(alloc, items)),
-    )
+/// Counts the falses among booleans.
+fn from_bools(alloc: Global, items: &[bool]) -> Result<usize> {
+    Ok(Bitmap::from_bools(alloc, items)?.unset_bits())
 }
 
-/// Bitmaps of the items of an iterator.
-#[unsafe(no_mangle)]
-pub extern "C" fn bench_try_from_iter(alloc: Global, items: &[bool], lengths: &[usize]) -> usize {
-    answers_on_firsts(items, lengths, |items| {
-        zeros(Bitmap::try_from_iter(alloc, items.iter().copied()))
-    })
-}
-
-/// Bitmaps of comparisons.
-#[unsafe(no_mangle)]
-pub extern "C" fn bench_try_from_comparisons(
-    alloc: Global,
-    numbers: &[u64],
-    lengths: &[usize],
-) -> usize {
-    answers_on_firsts(numbers, lengths, |numbers| {
-        zeros(Bitmap::try_from_iter(alloc, numbers.iter().map(|number| *number < 1 << 63)))
-    })
-}
-
-/// How many items are false, or 0 where memory ran out.
-pub fn zeros(bitmap: Result<Bitmap>) -> usize {
-    match bitmap {
-        Ok(bitmap) => bitmap.unset_bits(),
-        Err(_) => 0,
-    }
+/// Counts the falses among the items of an iterator.
+fn try_from_iter(alloc: Global, items: &[bool]) -> Result<usize> {
+    Ok(Bitmap::try_from_iter(alloc, items.iter().copied())?.unset_bits())
 }
 
 /// A growing bitmap of the first bits of the bytes.
-pub fn growing(alloc: Global, bytes: &[u8], length: usize) -> Result<MutableBitmap> {
+fn growing(alloc: Global, bytes: &[u8], length: usize) -> Result<MutableBitmap> {
     MutableBitmap::try_new(Vec::from_slice(alloc, bytes)?, length)
 }
 
-/// The first items set anew, one by one.
+/// Counts the trues among the first bits of the bytes, popped one by one.
+pub fn pop(alloc: Global, bytes: &[u8], length: usize) -> Result<usize> {
+    let mut bitmap = growing(alloc, bytes, length)?;
+    let mut ones = 0usize;
+    for _ in 0..bitmap.len() {
+        if let Some(item) = bitmap.pop() {
+            ones = ones.wrapping_add(usize::from(item));
+        }
+    }
+    Ok(ones)
+}
+
+/// Sets the first items anew, one by one, as many as each run says, and counts the items that are false then.
 #[unsafe(no_mangle)]
-pub extern "C" fn bench_set(
-    alloc: Global,
-    bytes: &[u8],
-    items: &[bool],
-    lengths: &[usize],
-) -> usize {
+pub extern "C" fn bench_set(alloc: Global, bytes: &[u8], items: &[bool], runs: &[usize]) -> usize {
     let Ok(made) = growing(alloc, bytes, items.len()) else {
         return 0;
     };
     let mut bitmap = made;
-    for length in lengths {
-        if let Some(items) = items.get(..*length) {
+    for run in runs {
+        if let Some(items) = items.get(..*run) {
             for (place, item) in items.iter().enumerate() {
                 if place < bitmap.len() {
                     bitmap.set(place, *item);
@@ -92,87 +77,130 @@ pub extern "C" fn bench_set(
     bitmap.unset_bits()
 }
 
-/// Bitmaps of copied bytes, popped until they are empty.
+/// Calls that append the bits of a part, or as many trues, to as many items as one number says, at most 8.
 #[unsafe(no_mangle)]
-pub extern "C" fn bench_pop(alloc: Global, bytes: &[u8], lengths: &[usize]) -> usize {
-    let mut sum = 0usize;
-    for length in lengths {
-        let Ok(bitmap) = growing(alloc, bytes, *length) else {
-            return 0;
-        };
-        sum = sum.wrapping_add(popped(bitmap));
-    }
-    sum
-}
-
-/// How many items are true, popped one by one.
-fn popped(bitmap: MutableBitmap) -> usize {
-    let mut bitmap = bitmap;
-    let mut ones = 0usize;
-    for _ in 0..bitmap.len() {
-        if let Some(item) = bitmap.pop() {
-            ones = ones.wrapping_add(usize::from(item));
-        }
-    }
-    ones
-}
-
-/// Parts of bits, each appended to as many items as one number says, at most 8.
-#[unsafe(no_mangle)]
-pub extern "C" fn bench_extend_from_slice(
+pub extern "C" fn bench_append(
     alloc: Global,
-    bytes: &[u8],
+    call: &[u8],
     own: &[usize],
+    bytes: &[u8],
     parts: &[Part],
 ) -> usize {
     let Some(own) = own.first() else {
         return 0;
     };
-    let mut sum = 0usize;
-    for part in parts {
-        if part.is_within(bytes.len().saturating_mul(8)) {
-            sum = sum.wrapping_add(last_item(extended(alloc, bytes, *own, part)));
-        }
+    match call {
+        b"extend_from_slice" => on_each(parts, |part| extend_from_slice(alloc, *own, bytes, part)),
+        b"extend_constant" => on_each(parts, |part| extend_constant(alloc, *own, part.length)),
+        _ => 0,
     }
-    sum
 }
 
-/// The bits of a part behind the first items.
-fn extended(alloc: Global, bytes: &[u8], own: usize, part: &Part) -> Result<MutableBitmap>
-    requires inside { part.now.offset + part.now.length ≤ 8 * length bytes.now }
-{
+/// The last of the first items and the bits of a part behind them.
+fn extend_from_slice(alloc: Global, own: usize, bytes: &[u8], part: &Part) -> Result<usize> {
+    if !part.is_within(bytes.len().saturating_mul(8)) {
+        return Ok(0);
+    }
     let mut bitmap = growing(alloc, &[85], own)?;
     bitmap.extend_from_slice(bytes, part.offset, part.length)?;
-    Ok(bitmap)
+    Ok(last_item(&bitmap))
 }
 
-/// Trues, as many as each run says, appended to as many items as one number says, at most 8.
-#[unsafe(no_mangle)]
-pub extern "C" fn bench_extend_constant(alloc: Global, own: &[usize], lengths: &[usize]) -> usize {
-    let Some(own) = own.first() else {
-        return 0;
-    };
-    let mut sum = 0usize;
-    for length in lengths {
-        sum = sum.wrapping_add(last_item(filled(alloc, *own, *length)));
-    }
-    sum
-}
-
-/// Trues behind the first items.
-fn filled(alloc: Global, own: usize, length: usize) -> Result<MutableBitmap> {
+/// The last of the first items and trues behind them.
+fn extend_constant(alloc: Global, own: usize, length: usize) -> Result<usize> {
     let mut bitmap = growing(alloc, &[85], own)?;
     bitmap.extend_constant(length, true)?;
-    Ok(bitmap)
+    Ok(last_item(&bitmap))
 }
 
-/// The last item as a number, or 0 where there is none, or where memory ran out.
-fn last_item(bitmap: Result<MutableBitmap>) -> usize {
-    let Ok(bitmap) = bitmap else {
-        return 0;
-    };
+/// The last item as a number, or 0 where there is none.
+fn last_item(bitmap: &MutableBitmap) -> usize {
     match bitmap.len().checked_sub(1) {
         Some(last) => usize::from(bitmap.get(last)),
         None => 0,
     }
+}
+
+/// Calls that change a growing bitmap by the bitmap of the part that each run chooses.
+#[unsafe(no_mangle)]
+pub extern "C" fn bench_assign(
+    alloc: Global,
+    call: &[u8],
+    own: &[u8],
+    bytes: &[u8],
+    parts: &[Part],
+    runs: &[usize],
+) -> usize {
+    match call {
+        b"xor_assign" => changed(alloc, own, bytes, parts, runs, xor_assign::<u64>),
+        b"xor_assign_by_bytes" => changed(alloc, own, bytes, parts, runs, xor_assign::<u8>),
+        b"and_assign" => changed(alloc, own, bytes, parts, runs, and_assign),
+        b"binary_assign_table" => changed(alloc, own, bytes, parts, runs, equal_by_table),
+        b"unary_assign_table" => changed(alloc, own, bytes, parts, runs, turned_by_table),
+        _ => 0,
+    }
+}
+
+/// Changes a growing bitmap by the bitmaps that the runs choose, and counts the items that are false then.
+fn changed<F: Fn(&mut MutableBitmap, &Bitmap)>(
+    alloc: Global,
+    own: &[u8],
+    bytes: &[u8],
+    parts: &[Part],
+    runs: &[usize],
+    change: F,
+) -> usize
+    requires { F.IsAlwaysCallable change }
+{
+    let Ok(others) = bitmaps(alloc, bytes, parts) else {
+        return 0;
+    };
+    let Ok(made) = growing(alloc, own, own.len().saturating_mul(8)) else {
+        return 0;
+    };
+    let mut bitmap = made;
+    change_by(&mut bitmap, others.as_slice(), runs, change);
+    bitmap.unset_bits()
+}
+
+/// Changes a growing bitmap by the bitmaps that the runs choose.
+fn change_by<F: Fn(&mut MutableBitmap, &Bitmap)>(
+    own: &mut MutableBitmap,
+    others: &[Bitmap],
+    runs: &[usize],
+    change: F,
+)
+    requires { F.IsAlwaysCallable change }
+{
+    for run in runs {
+        if let Some(other) = others.get(*run) {
+            change(own, other);
+        }
+    }
+}
+
+/// Turns the items that are set in the other bitmap. Leaves all where they differ in length.
+fn xor_assign<T: BitChunk>(own: &mut MutableBitmap, other: &Bitmap) {
+    if own.len() == other.len() {
+        binary_assign::<T, _>(own, other, |x, y| x.bit_xor(y));
+    }
+}
+
+/// Leaves the items that are set in the other bitmap too. Leaves all where they differ in length.
+fn and_assign(own: &mut MutableBitmap, other: &Bitmap) {
+    if own.len() == other.len() {
+        *own &= other;
+    }
+}
+
+/// Sets the items that are those of the other bitmap. Leaves all where they differ in length.
+fn equal_by_table(own: &mut MutableBitmap, other: &Bitmap) {
+    if own.len() == other.len() {
+        binary_assign_table::<u64>(own, other, 0b1001);
+    }
+}
+
+/// Turns all items.
+fn turned_by_table(own: &mut MutableBitmap, _: &Bitmap) {
+    unary_assign_table::<u8>(own, 0b01);
 }

@@ -1,30 +1,41 @@
-//! Index numbers, and words as bits.
+//! Index numbers, words as bits, and bitmaps of falses.
 
+use crate::runs::on_each;
+use arrow2_bitmap::immutable::Bitmap;
 use arrow2_chunk::bit_chunk_iter::BitChunkOnes;
 use arrow2_index::index::Index;
+use arrow2_types::error::Result;
+use std::alloc::Global;
 
-/// Walks over index numbers from 0 on.
+/// Calls on a number.
 #[unsafe(no_mangle)]
-pub extern "C" fn bench_index_range(lengths: &[usize]) -> usize {
-    let mut all = 0u32;
-    for length in lengths {
-        if let Some(numbers) = <u32 as Index>::range(0, *length) {
-            for number in numbers {
-                all = all.rotate_left(1) ^ number;
-            }
-        }
+pub extern "C" fn bench_numbers(alloc: Global, call: &[u8], numbers: &[usize]) -> usize {
+    match call {
+        b"index_range" => on_each(numbers, index_range),
+        b"ones" => on_each(numbers, ones),
+        b"new_zeroed" => on_each(numbers, |number| {
+            Ok(Bitmap::new_zeroed(alloc, *number)?.unset_bits())
+        }),
+        _ => 0,
     }
-    all as usize
 }
 
-/// The places of the set bits of words, added up.
-#[unsafe(no_mangle)]
-pub extern "C" fn bench_ones(words: &[u64]) -> usize {
-    let mut sum = 0usize;
-    for word in words {
-        for place in BitChunkOnes::<u64>::new(*word) {
-            sum = sum.wrapping_add(place);
+/// Mixes the index numbers below a length.
+fn index_range(length: &usize) -> Result<usize> {
+    let mut all = 0u32;
+    if let Some(numbers) = <u32 as Index>::range(0, *length) {
+        for number in numbers {
+            all = all.rotate_left(1) ^ number;
         }
     }
-    sum
+    Ok(all as usize)
+}
+
+/// Adds up the places of the set bits of a word.
+fn ones(word: &usize) -> Result<usize> {
+    let mut sum = 0usize;
+    for place in BitChunkOnes::<u64>::new(*word as u64) {
+        sum = sum.wrapping_add(place);
+    }
+    Ok(sum)
 }

@@ -1,69 +1,59 @@
 //! Offsets.
 
-use crate::part::{Part, answers_on_firsts};
+use crate::runs::{Part, on_each, on_firsts};
 use arrow2_index::offset::Offset;
 use arrow2_offset::{Offsets, OffsetsBuffer};
 use arrow2_types::error::Result;
 use std::alloc::Global;
 use std::convert::TryFrom;
 
-/// Offsets of lengths.
+/// Calls that make offsets of the first lengths of slots, as many as each run says.
 #[unsafe(no_mangle)]
-pub extern "C" fn bench_try_from_lengths(
-    alloc: Global,
-    slots: &[usize],
-    lengths: &[usize],
-) -> usize {
-    answers_on_firsts(slots, lengths, |slots| {
-        last(Offsets::try_from_lengths(alloc, slots.iter().copied()))
-    })
+pub extern "C" fn bench_slot(alloc: Global, call: &[u8], slots: &[usize], runs: &[usize]) -> usize {
+    match call {
+        b"try_from_lengths" => on_firsts(slots, runs, |slots| try_from_lengths(alloc, slots)),
+        b"extend_from_lengths" => on_firsts(slots, runs, |slots| extend_from_lengths(alloc, slots)),
+        _ => 0,
+    }
 }
 
-/// Lengths appended where there is room for them.
-#[unsafe(no_mangle)]
-pub extern "C" fn bench_extend_from_lengths(
-    alloc: Global,
-    slots: &[usize],
-    lengths: &[usize],
-) -> usize {
-    answers_on_firsts(slots, lengths, |slots| last(extended(alloc, slots)))
+/// The last of the offsets of lengths.
+fn try_from_lengths(alloc: Global, slots: &[usize]) -> Result<usize> {
+    let offsets = Offsets::<i64>::try_from_lengths(alloc, slots.iter().copied())?;
+    Ok(*offsets.last() as usize)
 }
 
-/// The offsets of the lengths, with room for all of them beforehand.
-fn extended(alloc: Global, slots: &[usize]) -> Result<Offsets<i64>> {
-    let mut offsets = Offsets::with_capacity(alloc, slots.len())?;
+/// The last of the offsets of lengths, with room for all of them beforehand.
+fn extend_from_lengths(alloc: Global, slots: &[usize]) -> Result<usize> {
+    let mut offsets = Offsets::<i64>::with_capacity(alloc, slots.len())?;
     offsets.try_extend_from_lengths(slots.iter().copied())?;
-    Ok(offsets)
+    Ok(*offsets.last() as usize)
 }
 
-/// Offsets of pushed lengths.
+/// Calls on numbers of 64 bits, which are lengths or offsets, and a number.
 #[unsafe(no_mangle)]
-pub extern "C" fn bench_try_push(alloc: Global, slots: &[i64], lengths: &[usize]) -> usize {
-    answers_on_firsts(slots, lengths, |slots| last(pushed(alloc, slots)))
+pub extern "C" fn bench_longs(alloc: Global, call: &[u8], items: &[i64], runs: &[usize]) -> usize {
+    match call {
+        b"try_push" => on_firsts(items, runs, |slots| try_push(alloc, slots)),
+        b"try_from" => try_from(alloc, items, runs),
+        b"start_end" => start_ends(alloc, items, runs),
+        _ => 0,
+    }
 }
 
-/// The lengths pushed one by one, without those below 0.
-fn pushed(alloc: Global, slots: &[i64]) -> Result<Offsets<i64>> {
-    let mut offsets = Offsets::new(alloc)?;
+/// The last of the offsets of lengths that are pushed one by one, without those below 0.
+fn try_push(alloc: Global, slots: &[i64]) -> Result<usize> {
+    let mut offsets = Offsets::<i64>::new(alloc)?;
     for slot in slots {
         if 0 <= *slot {
             offsets.try_push(*slot)?;
         }
     }
-    Ok(offsets)
+    Ok(*offsets.last() as usize)
 }
 
-/// The last offset, or 0 where there are none.
-fn last(offsets: Result<Offsets<i64>>) -> usize {
-    match offsets {
-        Ok(offsets) => *offsets.last() as usize,
-        Err(_) => 0,
-    }
-}
-
-/// A vector that is checked to hold offsets: its first items, no more from run to run.
-#[unsafe(no_mangle)]
-pub extern "C" fn bench_check_offsets(alloc: Global, items: &[i64], lengths: &[usize]) -> usize {
+/// Counts the items of a vector that is checked to hold offsets: its first items, no more from run to run.
+fn try_from(alloc: Global, items: &[i64], lengths: &[usize]) -> usize {
     let Ok(copied) = Vec::from_slice(alloc, items) else {
         return 0;
     };
@@ -85,92 +75,80 @@ fn buffer<O: Offset>(alloc: Global, items: &[O]) -> Result<OffsetsBuffer<O>> {
     OffsetsBuffer::try_from(Vec::from_slice(alloc, items)?)
 }
 
-/// The answers on slices of one buffer of offsets, added up.
-macro_rules! sum_on_slices {
-    ($alloc:ident, $items:ident, $parts:ident, |$slice:ident| $answer:expr) => {{
-        let Ok(whole) = buffer($alloc, $items) else {
-            return 0;
-        };
-        let mut sum = 0usize;
-        for part in $parts {
-            if 0 < part.length && part.is_within(whole.len()) {
-                let Ok(shared) = whole.clone() else {
-                    return 0;
-                };
-                let $slice = shared.sliced(part.offset, part.length);
-                sum = sum.wrapping_add($answer);
-            }
-        }
-        sum
-    }};
+/// Mixes where slots of one buffer of offsets start and end.
+fn start_ends(alloc: Global, items: &[i64], places: &[usize]) -> usize {
+    let Ok(offsets) = buffer(alloc, items) else {
+        return 0;
+    };
+    on_each(places, |place| start_end(&offsets, *place))
 }
 
-/// Slices of one buffer of offsets.
-#[unsafe(no_mangle)]
-pub extern "C" fn bench_offsets_sliced(alloc: Global, items: &[i64], parts: &[Part]) -> usize {
-    sum_on_slices!(alloc, items, parts, |slice| *slice.last() as usize)
-}
-
-/// Walks over the lengths of slices of one buffer.
-#[unsafe(no_mangle)]
-pub extern "C" fn bench_lengths(alloc: Global, items: &[i64], parts: &[Part]) -> usize {
-    sum_on_slices!(alloc, items, parts, |slice| lengths_added_up(&slice))
-}
-
-/// The lengths added up.
-fn lengths_added_up(offsets: &OffsetsBuffer<i64>) -> usize {
-    let mut sum = 0usize;
-    for length in offsets.lengths() {
-        sum = sum.wrapping_add(length);
+/// Mixes where a slot starts and ends. 0 where there is no such slot.
+fn start_end(offsets: &OffsetsBuffer<i64>, place: usize) -> Result<usize> {
+    if offsets.len_proxy() <= place {
+        return Ok(0);
     }
-    sum
+    let (start, end) = offsets.start_end(place);
+    Ok(start ^ end)
 }
 
-/// Slices of one buffer, each appended to new offsets.
-#[unsafe(no_mangle)]
-pub extern "C" fn bench_offsets_extend_from_slice(
-    alloc: Global,
-    items: &[i64],
-    parts: &[Part],
-) -> usize {
-    sum_on_slices!(alloc, items, parts, |slice| last(appended(alloc, &slice)))
-}
-
-/// New offsets of all lengths of these.
-fn appended(alloc: Global, other: &OffsetsBuffer<i64>) -> Result<Offsets<i64>> {
-    let mut offsets = Offsets::new(alloc)?;
-    offsets.try_extend_from_slice(other, 0, other.len() - 1)?;
-    Ok(offsets)
-}
-
-/// One buffer of offsets of 32 bits, widened to 64 bits once for each run.
+/// Widens one buffer of offsets of 32 bits to 64 bits, once for each run.
 #[unsafe(no_mangle)]
 pub extern "C" fn bench_widen(alloc: Global, items: &[i32], runs: &[usize]) -> usize {
     let Ok(offsets) = buffer(alloc, items) else {
         return 0;
     };
-    let mut sum = 0usize;
-    for _ in runs {
-        let Ok(wide) = OffsetsBuffer::<i64>::try_from(&offsets) else {
-            return 0;
-        };
-        sum = sum.wrapping_add(*wide.last() as usize);
-    }
-    sum
+    on_each(
+        runs,
+        |_| Ok(*OffsetsBuffer::<i64>::try_from(&offsets)?.last() as usize),
+    )
 }
 
-/// Where slots of one buffer start and end, mixed into one number.
+/// Calls on slices of one buffer of a copy of the items, which are offsets.
 #[unsafe(no_mangle)]
-pub extern "C" fn bench_start_end(alloc: Global, items: &[i64], places: &[usize]) -> usize {
-    let Ok(offsets) = buffer(alloc, items) else {
-        return 0;
-    };
-    let mut sum = 0usize;
-    for place in places {
-        if *place < offsets.len_proxy() {
-            let (start, end) = offsets.start_end(*place);
-            sum = sum.wrapping_add(start ^ end);
-        }
+pub extern "C" fn bench_offset(alloc: Global, call: &[u8], items: &[i64], parts: &[Part]) -> usize {
+    match buffer(alloc, items) {
+        Ok(whole) => on_slices(call, &whole, parts),
+        Err(_) => 0,
     }
-    sum
+}
+
+/// Makes the call on slices of a buffer of offsets.
+fn on_slices(call: &[u8], whole: &OffsetsBuffer<i64>, parts: &[Part]) -> usize {
+    match call {
+        b"sliced" => on_each(parts, |part| last(&slice(whole, part)?)),
+        b"lengths" => on_each(parts, |part| lengths(&slice(whole, part)?)),
+        b"extend_from_slice" => on_each(parts, |part| extend_from_slice(&slice(whole, part)?)),
+        _ => 0,
+    }
+}
+
+/// A slice of a buffer of offsets, or all of it where the part is not inside.
+fn slice(whole: &OffsetsBuffer<i64>, part: &Part) -> Result<OffsetsBuffer<i64>> {
+    let shared = whole.clone()?;
+    if part.length == 0 || !part.is_within(whole.len()) {
+        return Ok(shared);
+    }
+    Ok(shared.sliced(part.offset, part.length))
+}
+
+/// The last offset.
+fn last(offsets: &OffsetsBuffer<i64>) -> Result<usize> {
+    Ok(*offsets.last() as usize)
+}
+
+/// Adds up the lengths of slots.
+fn lengths(offsets: &OffsetsBuffer<i64>) -> Result<usize> {
+    let mut sum = 0usize;
+    for length in offsets.lengths() {
+        sum = sum.wrapping_add(length);
+    }
+    Ok(sum)
+}
+
+/// The last of new offsets to which all lengths of these are appended.
+fn extend_from_slice(other: &OffsetsBuffer<i64>) -> Result<usize> {
+    let mut offsets = Offsets::<i64>::new(other.buffer().allocator())?;
+    offsets.try_extend_from_slice(other, 0, other.len() - 1)?;
+    Ok(*offsets.last() as usize)
 }

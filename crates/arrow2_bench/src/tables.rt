@@ -1,8 +1,8 @@
-//! Truth tables over three and over four bitmaps.
+//! Truth tables over three and over four bitmaps, and Kleene's logic.
 
 use crate::bitmaps::bitmaps;
-use crate::growing::zeros;
-use crate::part::Part;
+use crate::runs::{Part, on_each, on_pairs};
+use arrow2_array::BooleanArray;
 use arrow2_bitmap::immutable::Bitmap;
 use arrow2_tables::bitmap_ops::{quaternary_table, ternary_table};
 use arrow2_types::error::Result;
@@ -14,37 +14,11 @@ const CHOICE: u8 = 0b1101_1000;
 /// For which items it is known whether two values, each before its validity, are both true.
 const KNOWN: u16 = 0b1100_1111_0100_0100;
 
-/// New bitmaps by a table of three inputs, each with its count: one input of each of the bytes.
+/// Calls on bitmaps of the parts of four bytes.
 #[unsafe(no_mangle)]
-pub extern "C" fn bench_ternary_table(
+pub extern "C" fn bench_tables(
     alloc: Global,
-    first: &[u8],
-    second: &[u8],
-    third: &[u8],
-    parts: &[Part],
-    runs: &[usize],
-) -> usize {
-    let Ok(inputs) = inputs(alloc, &[first, second, third], parts) else {
-        return 0;
-    };
-    let [first, second, third] = inputs.as_slice() else {
-        return 0;
-    };
-    let length = first.len();
-    if second.len() != length || third.len() != length {
-        return 0;
-    }
-    let mut sum = 0usize;
-    for _ in runs {
-        sum = sum.wrapping_add(zeros(ternary_table(first, second, third, CHOICE)));
-    }
-    sum
-}
-
-/// New bitmaps by a table of four inputs, each with its count: one input of each of the bytes.
-#[unsafe(no_mangle)]
-pub extern "C" fn bench_quaternary_table(
-    alloc: Global,
+    call: &[u8],
     first: &[u8],
     second: &[u8],
     third: &[u8],
@@ -52,21 +26,29 @@ pub extern "C" fn bench_quaternary_table(
     parts: &[Part],
     runs: &[usize],
 ) -> usize {
-    let Ok(inputs) = inputs(alloc, &[first, second, third, fourth], parts) else {
+    let all = [first, second, third, fourth];
+    match call {
+        b"ternary_table" => on_inputs(alloc, &all, parts, runs, ternary),
+        b"quaternary_table" => on_inputs(alloc, &all, parts, runs, quaternary),
+        b"and_kleene" => on_arrays(alloc, &all, parts, runs),
+        _ => 0,
+    }
+}
+
+/// Makes the call on the bitmaps of the parts of all these bytes, once for each run.
+fn on_inputs<F: Fn(&[Bitmap]) -> Result<usize>>(
+    alloc: Global,
+    all: &[&[u8]],
+    parts: &[Part],
+    runs: &[usize],
+    call: F,
+) -> usize
+    requires { F.IsAlwaysCallable call }
+{
+    let Ok(inputs) = inputs(alloc, all, parts) else {
         return 0;
     };
-    let [first, second, third, fourth] = inputs.as_slice() else {
-        return 0;
-    };
-    let length = first.len();
-    if second.len() != length || third.len() != length || fourth.len() != length {
-        return 0;
-    }
-    let mut sum = 0usize;
-    for _ in runs {
-        sum = sum.wrapping_add(zeros(quaternary_table(first, second, third, fourth, KNOWN)));
-    }
-    sum
+    on_each(runs, |_| call(inputs.as_slice()))
 }
 
 /// The bitmaps of the parts of all these bytes.
@@ -78,4 +60,67 @@ fn inputs(alloc: Global, all: &[&[u8]], parts: &[Part]) -> Result<Vec<Bitmap>> {
         }
     }
     Ok(inputs)
+}
+
+/// Counts the false items of a new bitmap by a table of the first three inputs. 0 where they differ in length.
+fn ternary(inputs: &[Bitmap]) -> Result<usize> {
+    let [first, second, third, ..] = inputs else {
+        return Ok(0);
+    };
+    if second.len() != first.len() || third.len() != first.len() {
+        return Ok(0);
+    }
+    Ok(ternary_table(first, second, third, CHOICE)?.unset_bits())
+}
+
+/// The same of four inputs.
+fn quaternary(inputs: &[Bitmap]) -> Result<usize> {
+    let [first, second, third, fourth] = inputs else {
+        return Ok(0);
+    };
+    let length = first.len();
+    if second.len() != length || third.len() != length || fourth.len() != length {
+        return Ok(0);
+    }
+    Ok(quaternary_table(first, second, third, fourth, KNOWN)?.unset_bits())
+}
+
+/// Makes new arrays of Kleene's `and` of the arrays at the same place: values before their validity. No bytes of a
+/// validity make arrays without one.
+fn on_arrays(alloc: Global, all: &[&[u8]; 4], parts: &[Part], runs: &[usize]) -> usize {
+    let Ok(left) = arrays(alloc, all[0], all[1], parts) else {
+        return 0;
+    };
+    let Ok(right) = arrays(alloc, all[2], all[3], parts) else {
+        return 0;
+    };
+    on_pairs(left.as_slice(), right.as_slice(), runs, and_kleene)
+}
+
+/// An array for each part of the bytes.
+fn arrays(
+    alloc: Global,
+    values: &[u8],
+    validity: &[u8],
+    parts: &[Part],
+) -> Result<Vec<BooleanArray>> {
+    let validities = bitmaps(alloc, validity, parts)?;
+    let mut arrays = Vec::new(alloc);
+    for (place, values) in bitmaps(alloc, values, parts)?.into_iter().enumerate() {
+        let validity = match validities.get(place) {
+            Some(validity) => Some(validity.clone()?),
+            None => None,
+        };
+        arrays.push(BooleanArray::try_new(values, validity)?)?;
+    }
+    Ok(arrays)
+}
+
+/// Counts the values that are false, and the items that are null. 0 where the arrays differ in length.
+fn and_kleene(left: &BooleanArray, right: &BooleanArray) -> Result<usize> {
+    if left.len() != right.len() {
+        return Ok(0);
+    }
+    let both = left.and_kleene(right)?;
+    Ok(both.values().unset_bits().wrapping_add(both.null_count()))
 }

@@ -1,50 +1,55 @@
 //! Numbers beside their validity.
 ghost use Rattle.std.specs.Iterator.{IsFinite};
 
-use crate::bitmaps::answers;
-use crate::part::Part;
+use crate::bitmaps::on_bitmaps;
+use crate::runs::{Part, on_each};
 use arrow2_bitmap::immutable::Bitmap;
+use arrow2_types::error::Result;
 use arrow2_walks::{ZipValidity, ZipValidityIter};
 use std::alloc::Global;
 
-/// Walks over the numbers beside bitmaps of as many items, of which some are unset.
+/// Calls on the numbers beside the bitmap of the part that each run chooses, or beside the first bits, where each run
+/// is a step.
 #[unsafe(no_mangle)]
-pub extern "C" fn bench_zip_validity(
+pub extern "C" fn bench_zips(
     alloc: Global,
+    call: &[u8],
     numbers: &[u64],
     bytes: &[u8],
     parts: &[Part],
     runs: &[usize],
 ) -> usize {
-    answers(alloc, bytes, parts, runs, |validity| {
-        if numbers.len() == validity.len() {
-            let values = numbers.iter().copied();
-            added_up(ZipValidity::new_with_validity(values, Some(validity)))
-        } else {
-            0
-        }
-    })
+    match call {
+        b"zip" => on_bitmaps(alloc, bytes, parts, runs, |validity| zip(numbers, validity)),
+        b"iter" => on_bitmaps(
+            alloc,
+            bytes,
+            parts,
+            runs,
+            |validity| zip_iter(numbers, validity),
+        ),
+        b"nth" => zip_nth(alloc, numbers, bytes, runs),
+        _ => 0,
+    }
 }
 
-/// The same by the walk that always has a validity.
-#[unsafe(no_mangle)]
-pub extern "C" fn bench_zip_validity_iter(
-    alloc: Global,
-    numbers: &[u64],
-    bytes: &[u8],
-    parts: &[Part],
-    runs: &[usize],
-) -> usize {
-    answers(alloc, bytes, parts, runs, |validity| {
-        if numbers.len() == validity.len() {
-            added_up(ZipValidityIter::new(numbers.iter().copied(), validity.iter()))
-        } else {
-            0
-        }
-    })
+/// Adds up the numbers that are valid. 0 where the bitmap has another length.
+fn zip(numbers: &[u64], validity: &Bitmap) -> Result<usize> {
+    if numbers.len() != validity.len() {
+        return Ok(0);
+    }
+    Ok(added_up(ZipValidity::new_with_validity(numbers.iter().copied(), Some(validity))))
 }
 
-/// The numbers that are valid, added up.
+/// The same by the iterator that always has a validity.
+fn zip_iter(numbers: &[u64], validity: &Bitmap) -> Result<usize> {
+    if numbers.len() != validity.len() {
+        return Ok(0);
+    }
+    Ok(added_up(ZipValidityIter::new(numbers.iter().copied(), validity.iter())))
+}
+
+/// Adds up the numbers that are valid.
 fn added_up<I: Iterator<Item = Option<u64>> + Drop>(slots: I) -> usize
     requires can { I.can_next slots }
     requires ends { IsFinite (I.remaining slots) }
@@ -58,34 +63,24 @@ fn added_up<I: Iterator<Item = Option<u64>> + Drop>(slots: I) -> usize
     sum as usize
 }
 
-/// Walks over the numbers beside as many bits that take each slot at a step.
-#[unsafe(no_mangle)]
-pub extern "C" fn bench_zip_validity_nth(
-    alloc: Global,
-    numbers: &[u64],
-    bytes: &[u8],
-    steps: &[usize],
-) -> usize {
-    if numbers.len() > bytes.len().saturating_mul(8) {
+/// Adds up the numbers of each `step`th slot that are valid, for each step.
+fn zip_nth(alloc: Global, numbers: &[u64], bytes: &[u8], steps: &[usize]) -> usize {
+    if bytes.len().saturating_mul(8) < numbers.len() {
         return 0;
     }
     let Ok(validity) = Bitmap::from_u8_slice(alloc, bytes, numbers.len()) else {
         return 0;
     };
-    let mut sum = 0u64;
-    for step in steps {
-        sum = sum.wrapping_add(sum_by_steps(numbers, &validity, *step));
-    }
-    sum as usize
+    on_each(steps, |step| by_steps(numbers, &validity, *step))
 }
 
-/// The numbers of each `step`th slot that are valid, added up.
-fn sum_by_steps(numbers: &[u64], validity: &Bitmap, step: usize) -> u64 {
+/// Adds up the numbers of each `step`th slot that are valid. 0 where the bitmap has another length.
+fn by_steps(numbers: &[u64], validity: &Bitmap, step: usize) -> Result<usize> {
     let Some(skipped) = step.checked_sub(1) else {
-        return 0;
+        return Ok(0);
     };
     if numbers.len() != validity.len() {
-        return 0;
+        return Ok(0);
     }
     let mut slots = ZipValidity::new_with_validity(numbers.iter().copied(), Some(validity));
     let mut sum = 0u64;
@@ -94,5 +89,5 @@ fn sum_by_steps(numbers: &[u64], validity: &Bitmap, step: usize) -> u64 {
             sum = sum.wrapping_add(number);
         }
     }
-    sum
+    Ok(sum as usize)
 }

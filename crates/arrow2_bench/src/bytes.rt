@@ -1,0 +1,200 @@
+//! Bits of bytes, the bitmap of all of them, and bytes that are written.
+
+use crate::growing::pop;
+use crate::runs::{Part, on_each};
+use arrow2_bitmap::immutable::Bitmap;
+use arrow2_bits::chunk_iterator::{BitChunkIterExact, BitChunks};
+use arrow2_bits::chunks_exact_mut::BitChunksExactMut;
+use arrow2_bits::iterator::BitmapIter;
+use arrow2_bits::{count_zeros, set_bit};
+use arrow2_chunk::bit_chunk::BitChunk;
+use arrow2_types::error::Result;
+use arrow2_walks::pieces::Pieces;
+use std::alloc::Global;
+
+/// Calls on a part of the bits of the bytes.
+#[unsafe(no_mangle)]
+pub extern "C" fn bench_bits(alloc: Global, call: &[u8], bytes: &[u8], parts: &[Part]) -> usize {
+    match call {
+        b"count_zeros" => on_each(parts, |part| zeros_of(bytes, part)),
+        b"words" => on_each(parts, |part| words::<u64>(bytes, part)),
+        b"words_of_u32" => on_each(parts, |part| words::<u32>(bytes, part)),
+        b"words_of_u8" => on_each(parts, |part| words::<u8>(bytes, part)),
+        b"iter" => on_each(parts, |part| ones_of(bytes, part)),
+        b"sliced" => on_whole(alloc, bytes, parts, sliced),
+        _ => 0,
+    }
+}
+
+/// Counts the bits of a part that are not set.
+fn zeros_of(bytes: &[u8], part: &Part) -> Result<usize> {
+    if !part.is_within(bytes.len().saturating_mul(8)) {
+        return Ok(0);
+    }
+    Ok(count_zeros(bytes, part.offset, part.length))
+}
+
+/// Adds up the full words of a part.
+fn words<T: BitChunk + Into<u64>>(bytes: &[u8], part: &Part) -> Result<usize> {
+    let mut sum = 0u64;
+    if part.is_within(bytes.len().saturating_mul(8)) {
+        for word in BitChunks::<T>::new(bytes, part.offset, part.length) {
+            sum = sum.wrapping_add(word.into());
+        }
+    }
+    Ok(sum as usize)
+}
+
+/// Counts the bits of a part that an iterator gives as set.
+fn ones_of(bytes: &[u8], part: &Part) -> Result<usize> {
+    let mut ones = 0usize;
+    if part.is_within(bytes.len().saturating_mul(8)) {
+        for item in BitmapIter::new(bytes, part.offset, part.length) {
+            ones = ones.wrapping_add(usize::from(item));
+        }
+    }
+    Ok(ones)
+}
+
+/// Counts the items of a slice that are false.
+fn sliced(whole: &Bitmap, part: &Part) -> Result<usize> {
+    if !part.is_within(whole.len()) {
+        return Ok(0);
+    }
+    Ok(whole.clone()?.sliced(part.offset, part.length).unset_bits())
+}
+
+/// Calls on the bytes and a number.
+#[unsafe(no_mangle)]
+pub extern "C" fn bench_bytes(alloc: Global, call: &[u8], bytes: &[u8], runs: &[usize]) -> usize {
+    match call {
+        b"from_u8_slice" => on_each(runs, |length| copied(alloc, bytes, *length)),
+        b"pop" => on_each(runs, |length| pop(alloc, bytes, *length)),
+        b"change_next" => change_next(alloc, bytes, runs),
+        b"get" => on_whole(alloc, bytes, runs, get),
+        b"iter_nth" => on_whole(alloc, bytes, runs, iter_nth),
+        b"pieces" => on_whole(alloc, bytes, runs, pieces),
+        _ => 0,
+    }
+}
+
+/// The bitmap of all bits of the bytes.
+pub fn whole(alloc: Global, bytes: &[u8]) -> Result<Bitmap> {
+    Bitmap::from_u8_slice(alloc, bytes, bytes.len().saturating_mul(8))
+}
+
+/// Makes the call on the bitmap of all bytes and each run.
+fn on_whole<R, F: Fn(&Bitmap, &R) -> Result<usize>>(
+    alloc: Global,
+    bytes: &[u8],
+    runs: &[R],
+    call: F,
+) -> usize
+    requires { F.IsAlwaysCallable call }
+{
+    let Ok(whole) = whole(alloc, bytes) else {
+        return 0;
+    };
+    on_each(runs, |run| call(&whole, run))
+}
+
+/// The item at a place as a number, or 0 where there is none.
+fn get(bitmap: &Bitmap, place: &usize) -> Result<usize> {
+    match bitmap.get(*place) {
+        Some(item) => Ok(usize::from(item)),
+        None => Ok(0),
+    }
+}
+
+/// Counts the trues among each `step`th item.
+fn iter_nth(bitmap: &Bitmap, step: &usize) -> Result<usize> {
+    let mut ones = 0usize;
+    if let Some(skipped) = step.checked_sub(1) {
+        let mut items = bitmap.iter();
+        for _ in 0..bitmap.len() / *step {
+            if let Some(item) = items.nth(skipped) {
+                ones = ones.wrapping_add(usize::from(item));
+            }
+        }
+    }
+    Ok(ones)
+}
+
+/// Mixes the counts of the pieces of a bitmap. Each piece is halved in turn, from the first one on.
+fn pieces(whole: &Bitmap, cuts: &usize) -> Result<usize> {
+    let mut pieces = Pieces::new(whole.allocator(), whole.clone()?)?;
+    let mut place = 0usize;
+    for _ in 0..*cuts {
+        if pieces.len() <= place {
+            place = 0;
+        }
+        let half = pieces.get(place).len() / 2;
+        pieces.cut(place, half)?;
+        place = place.wrapping_add(2);
+    }
+    let mut counts = 0usize;
+    for piece in pieces.into_inner() {
+        counts = counts.rotate_left(1) ^ piece.unset_bits();
+    }
+    Ok(counts)
+}
+
+/// Counts the first bits of copied bytes that are not set.
+fn copied(alloc: Global, bytes: &[u8], length: usize) -> Result<usize> {
+    if bytes.len().saturating_mul(8) < length {
+        return Ok(0);
+    }
+    Ok(Bitmap::from_u8_slice(alloc, bytes, length)?.unset_bits())
+}
+
+/// Turns the full words of the first bits of a copy of the bytes, and counts the bits that are not set then.
+fn change_next(alloc: Global, bytes: &[u8], lengths: &[usize]) -> usize {
+    let Ok(copied) = Vec::from_slice(alloc, bytes) else {
+        return 0;
+    };
+    let mut bytes = copied;
+    for length in lengths {
+        if *length <= bytes.len().saturating_mul(8) {
+            turn_chunks(BitChunksExactMut::<u64>::new(bytes.as_mut_slice(), *length));
+        }
+    }
+    zeros(bytes.as_slice())
+}
+
+/// Turns the bits of all chunks.
+fn turn_chunks(chunks: BitChunksExactMut<'_, u64>) {
+    let mut chunks = chunks;
+    while chunks.change_next(turn) {}
+}
+
+/// Turns the bits of the bytes.
+fn turn(bytes: &mut [u8]) {
+    for byte in bytes.iter_mut() {
+        *byte = !*byte;
+    }
+}
+
+/// Counts the bits that are not set.
+fn zeros(bytes: &[u8]) -> usize {
+    count_zeros(bytes, 0, bytes.len().saturating_mul(8))
+}
+
+/// Writes the items at places of a copy of the bytes, and counts the bits that are not set then.
+#[unsafe(no_mangle)]
+pub extern "C" fn bench_set_bit(
+    alloc: Global,
+    bytes: &[u8],
+    items: &[bool],
+    places: &[usize],
+) -> usize {
+    let Ok(copied) = Vec::from_slice(alloc, bytes) else {
+        return 0;
+    };
+    let mut bytes = copied;
+    for (place, item) in places.iter().zip(items) {
+        if *place / 8 < bytes.len() {
+            set_bit(bytes.as_mut_slice(), *place, *item);
+        }
+    }
+    zeros(bytes.as_slice())
+}

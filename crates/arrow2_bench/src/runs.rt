@@ -1,0 +1,62 @@
+//! What a run works on, and the loops over the runs, which add up what a call answers. The sum is 0 where a call fails.
+ghost use Rattle.std.specs.Prelude.{◌+◌, ◌≤◌, ◌↔◌, IsTrue};
+
+use arrow2_types::error::Result;
+
+/// A part of bits or of items: where it begins, and how long it is.
+#[repr(C)]
+#[derive(Clone, Copy)]
+pub struct Part {
+    /// Where it begins.
+    pub offset: usize,
+    /// How many bits or items it has.
+    pub length: usize,
+}
+
+impl Part {
+    /// Whether it is a part of something of this length.
+    pub fn is_within(&self, length: usize) -> bool
+        ensures { IsTrue result ↔ (self.now.offset + self.now.length ≤ length) }
+    {
+        self.offset <= length && self.length <= length - self.offset
+    }
+}
+
+/// Makes the call on each run.
+pub fn on_each<R, F: Fn(&R) -> Result<usize>>(runs: &[R], call: F) -> usize
+    requires { F.IsAlwaysCallable call }
+{
+    let mut sum = 0usize;
+    for run in runs {
+        let Ok(answer) = call(run) else {
+            return 0;
+        };
+        sum = sum.wrapping_add(answer);
+    }
+    sum
+}
+
+/// Makes the call on the first items, as many as each run says.
+pub fn on_firsts<T, F: Fn(&[T]) -> Result<usize>>(items: &[T], runs: &[usize], call: F) -> usize
+    requires { F.IsAlwaysCallable call }
+{
+    on_each(runs, |run| match items.get(..*run) {
+        Some(firsts) => call(firsts),
+        None => Ok(0),
+    })
+}
+
+/// Makes the call on the items of both lists at the place that each run chooses.
+pub fn on_pairs<T, F: Fn(&T, &T) -> Result<usize>>(
+    left: &[T],
+    right: &[T],
+    runs: &[usize],
+    call: F,
+) -> usize
+    requires { F.IsAlwaysCallable call }
+{
+    on_each(runs, |run| match (left.get(*run), right.get(*run)) {
+        (Some(left), Some(right)) => call(left, right),
+        _ => Ok(0),
+    })
+}
