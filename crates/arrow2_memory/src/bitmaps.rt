@@ -1,5 +1,5 @@
 //! Bitmaps that are made, read and combined.
-use crate::ask::{Row, made};
+use crate::calls::{Row, made};
 use crate::items::items;
 use arrow2_bitmap::bitmap_ops::{
     and, binary, binary_by_table, from_rows, or, unary, unary_by_table, xor,
@@ -10,7 +10,7 @@ use arrow2_kernels::rows::OneList;
 use arrow2_tables::bitmap_ops::{
     binary_table, quaternary, quaternary_table, ternary, ternary_table, unary_table,
 };
-use arrow2_types::error::{Error, Result};
+use arrow2_types::error::Result;
 use std::alloc::Global;
 use std::convert::TryFrom;
 use std::io::{Eprint, Print};
@@ -30,12 +30,12 @@ fn given(alloc: Global) -> [Row<Bitmap>; 4] {
     ]
 }
 
-/// What is collected asks for memory more than once.
+/// The bitmap of 600 items of an iterator, which allocates more than once.
 fn collected(alloc: Global) -> Result<Bitmap> {
     Bitmap::try_from_iter(alloc, (0..600usize).map(|i| i % 3 == 0))
 }
 
-/// Bitmaps of bytes that are there, and of an iterator.
+/// Bitmaps of a vector, of a growing bitmap and of an iterator.
 fn moved(alloc: Global) -> [Row<Bitmap>; 5] {
     let none = MutableBitmap::new(alloc);
     [
@@ -50,34 +50,19 @@ fn moved(alloc: Global) -> [Row<Bitmap>; 5] {
     ]
 }
 
-/// Another owner.
-fn shared(bitmap: &Bitmap) -> [Row<Bitmap>; 1] {
-    [("Clone for Bitmap", bitmap.clone().map_err(Error::from))]
-}
-
-/// A copy that can be changed.
-fn made_mut(bitmap: &Bitmap) -> Result<MutableBitmap> {
-    bitmap.clone()?.make_mut()
-}
-
-/// That copy.
-fn copied(bitmap: &Bitmap) -> [Row<MutableBitmap>; 1] {
-    [("Bitmap::make_mut", made_mut(bitmap))]
-}
-
 /// A function of three words, which moves their bits.
 fn of_three(bitmap: &Bitmap) -> Result<Bitmap> {
     ternary(bitmap, bitmap, bitmap, |x, y, z| x ^ y << 1 ^ z << 2)
 }
 
-/// Of four words.
+/// A function of four words.
 fn of_four(bitmap: &Bitmap) -> Result<Bitmap> {
     quaternary(bitmap, bitmap, bitmap, bitmap, |x, y, z, v| {
         (x & v) ^ y << 1 ^ z << 2
     })
 }
 
-/// Of one word at a time out of rows.
+/// A function of one word of each row.
 fn of_rows(bitmap: &Bitmap) -> Result<Bitmap> {
     let chunks = bitmap.chunks::<u64>();
     from_rows(
@@ -104,7 +89,7 @@ fn by_four(bitmap: &Bitmap) -> Result<Bitmap> {
     quaternary_table(bitmap, bitmap, bitmap, bitmap, 0b0111_1111_1111_1110)
 }
 
-/// Truth tables, and those that the operators go by.
+/// Truth tables, and those of the operators.
 fn by_tables(bitmap: &Bitmap) -> [Row<Bitmap>; 6] {
     let (one, two) = (bitmap, bitmap);
     [
@@ -130,19 +115,13 @@ fn by_names(bitmap: &Bitmap) -> [Row<Bitmap>; 7] {
     ]
 }
 
-/// What is made of a bitmap.
-fn made_of<R: Print + Eprint>(rt: &R, bitmap: &Bitmap) {
-    made(rt, &shared(bitmap), &shared(bitmap));
-    made(rt, &copied(bitmap), &copied(bitmap));
-    made(rt, &by_words(bitmap), &by_words(bitmap));
-    made(rt, &by_tables(bitmap), &by_tables(bitmap));
-    made(rt, &by_names(bitmap), &by_names(bitmap));
-}
-
-/// All of them.
+/// Makes each of these calls.
 pub(crate) fn all<R: Print + Eprint>(rt: &R, alloc: Global) -> Result<()> {
     made(rt, &given(alloc), &given(alloc));
     made(rt, &moved(alloc), &moved(alloc));
-    made_of(rt, &items(alloc, 1).or(items(alloc, 1))?);
+    let bitmap = items(alloc, 1).or(items(alloc, 1))?;
+    made(rt, &by_words(&bitmap), &by_words(&bitmap));
+    made(rt, &by_tables(&bitmap), &by_tables(&bitmap));
+    made(rt, &by_names(&bitmap), &by_names(&bitmap));
     Ok(())
 }

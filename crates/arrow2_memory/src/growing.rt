@@ -1,22 +1,19 @@
 //! Bitmaps that grow.
-use crate::ask::{Change, Row, changed, made, refused, show};
+use crate::calls::{Change, Row, changed, input, made};
 use crate::items::{BYTES, growing_items, items};
 use arrow2_bitmap::immutable::Bitmap;
 use arrow2_bitmap::mutable::MutableBitmap;
-use arrow2_types::error::{Error, Result};
+use arrow2_types::error::Result;
 use std::alloc::Global;
 use std::io::{Eprint, Print};
 
-/// What is collected asks for memory more than once.
+/// The growing bitmap of 600 items of an iterator, which allocates more than once.
 fn of_every_third(alloc: Global) -> Result<MutableBitmap> {
     MutableBitmap::try_from_iter(alloc, (0..600usize).map(|i| i % 3 == 0))
 }
 
-/// A name of a call that makes a bitmap that grows, and its answer.
-type Grown = Row<MutableBitmap>;
-
 /// Growing bitmaps of given bits.
-fn given(alloc: Global) -> [Grown; 6] {
+fn given(alloc: Global) -> [Row<MutableBitmap>; 6] {
     let items = [true, false, true];
     [
         (
@@ -44,19 +41,29 @@ fn given(alloc: Global) -> [Grown; 6] {
 }
 
 /// A copy.
-fn copied(bitmap: &MutableBitmap) -> [Grown; 1] {
-    [(
-        "Clone for MutableBitmap",
-        bitmap.clone().map_err(Error::from),
-    )]
+fn copied(alloc: Global) -> Result<MutableBitmap> {
+    Ok(input(growing_items(alloc))?.clone()?)
 }
 
-/// What the items are as a validity.
-fn validity(bitmap: MutableBitmap) -> [Row<Option<Bitmap>>; 1] {
-    [("MutableBitmap::into_validity", bitmap.into_validity())]
+/// Growing bitmaps of other bitmaps.
+fn taken(alloc: Global) -> [Row<MutableBitmap>; 2] {
+    [
+        ("Bitmap::make_mut", growing_items(alloc)),
+        ("Clone for MutableBitmap", copied(alloc)),
+    ]
 }
 
-/// How a bitmap grows, and how its room does.
+/// The validity of a bitmap that is taken.
+fn validity(alloc: Global) -> Result<Option<Bitmap>> {
+    input(growing_items(alloc))?.into_validity()
+}
+
+/// That validity.
+fn validities(alloc: Global) -> [Row<Option<Bitmap>>; 1] {
+    [("MutableBitmap::into_validity", validity(alloc))]
+}
+
+/// How a bitmap grows, and how its capacity does.
 #[derive(Drop)]
 enum Growth<'a> {
     /// By one item.
@@ -67,9 +74,9 @@ enum Growth<'a> {
     ExtendFromSlice,
     /// By the items of a bitmap.
     ExtendFromBitmap(&'a Bitmap),
-    /// By room alone.
+    /// By capacity alone.
     Reserve,
-    /// By room that is given back.
+    /// By capacity that is given back.
     ShrinkToFit,
 }
 
@@ -95,13 +102,13 @@ impl Change<MutableBitmap> for Growth<'_> {
     }
 }
 
-/// Asks for room, and gives it back.
+/// Reserves room, and shrinks to what is used.
 fn reserve_and_shrink(bitmap: &mut MutableBitmap) -> Result<()> {
     let _ = bitmap.reserve(90);
     bitmap.shrink_to_fit()
 }
 
-/// An empty bitmap grows in each way.
+/// Each way in which an empty bitmap grows.
 fn grown<R: Print + Eprint>(rt: &R, alloc: Global) -> Result<()> {
     let empty = MutableBitmap::new(alloc);
     let other = items(alloc, 1).or(items(alloc, 1))?;
@@ -118,38 +125,10 @@ fn grown<R: Print + Eprint>(rt: &R, alloc: Global) -> Result<()> {
     Ok(())
 }
 
-/// As many items as there is room for. None of them takes memory, so this is named where one is refused.
-fn below_capacity<R: Print + Eprint>(rt: &R, bitmap: &mut MutableBitmap) {
-    for i in 0..20usize {
-        let pushed = bitmap.push(i % 3 == 0);
-        refused(rt, "MutableBitmap::push below the capacity", &pushed);
-    }
-    show(rt, "MutableBitmap::push below the capacity", bitmap);
-}
-
-/// A bitmap with room for twenty items.
-fn roomy(alloc: Global) -> Result<MutableBitmap> {
-    MutableBitmap::with_capacity(alloc, 20)
-}
-
-/// Copies.
-fn copies_made<R: Print + Eprint>(rt: &R, bitmap: &MutableBitmap) {
-    made(rt, &copied(bitmap), &copied(bitmap));
-}
-
-/// Validities of bitmaps that are moved.
-fn validities_made<R: Print + Eprint>(rt: &R, alloc: Global) -> Result<()> {
-    let one = growing_items(alloc).or(growing_items(alloc))?;
-    let other = growing_items(alloc).or(growing_items(alloc))?;
-    made(rt, &validity(one), &validity(other));
-    Ok(())
-}
-
-/// All of them.
+/// Makes each of these calls.
 pub(crate) fn all<R: Print + Eprint>(rt: &R, alloc: Global) -> Result<()> {
     made(rt, &given(alloc), &given(alloc));
-    grown(rt, alloc)?;
-    below_capacity(rt, &mut roomy(alloc).or(roomy(alloc))?);
-    copies_made(rt, &growing_items(alloc).or(growing_items(alloc))?);
-    validities_made(rt, alloc)
+    made(rt, &taken(alloc), &taken(alloc));
+    made(rt, &validities(alloc), &validities(alloc));
+    grown(rt, alloc)
 }

@@ -3,12 +3,12 @@
 //! may be refused was refused.
 #![tactic(auto)]
 
-mod ask;
 mod bitmaps;
+mod calls;
 mod growing;
-mod in_place;
 mod items;
 mod offsets;
+mod silent;
 mod walks;
 
 use arrow2_types::error::Result;
@@ -16,16 +16,16 @@ use std::alloc::Global;
 use std::io::{Eprint, Print};
 use std::process::ExitCode;
 
-/// All calls, group by group.
+/// Makes all calls, group by group.
 fn all<R: Print + Eprint>(rt: &R, alloc: Global) -> Result<()> {
     bitmaps::all(rt, alloc)?;
     growing::all(rt, alloc)?;
     walks::all(rt, alloc)?;
     offsets::all(rt, alloc)?;
-    in_place::all(rt, alloc)
+    silent::all(rt, alloc)
 }
 
-/// Status 1 says that memory was refused twice to what a call is made on.
+/// Ends with status 1 where memory was refused twice to what a call is made on.
 fn main(rt: HostRuntime) -> ExitCode {
     match all(&rt, rt.alloc()) {
         Ok(()) => ExitCode::SUCCESS,

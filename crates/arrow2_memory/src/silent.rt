@@ -1,0 +1,173 @@
+//! Calls that do not allocate: other owners, pushes below the capacity, and changes in place. What they are made on is made
+//! first, so that no request for memory comes behind the first line that they show.
+use crate::calls::{refused, show};
+use crate::items::{growing_items, items};
+use crate::offsets::five_shared;
+use crate::walks::array;
+use arrow2_array::BooleanArray;
+use arrow2_bitmap::assign_ops::{binary_assign, unary_assign};
+use arrow2_bitmap::immutable::Bitmap;
+use arrow2_bitmap::mutable::MutableBitmap;
+use arrow2_chunk::bit_chunk::BitChunk;
+use arrow2_offset::{Offsets, OffsetsBuffer};
+use arrow2_tables::assign_ops::{binary_assign_table, unary_assign_table};
+use arrow2_types::error::Result;
+use std::alloc::Global;
+use std::io::{Eprint, Print};
+
+/// Other owners of bitmaps and arrays.
+fn owners<R: Print>(rt: &R, array: &BooleanArray) {
+    let bitmap: std::result::Result<_, _> = array.values().clone();
+    show(rt, "Clone for Bitmap", &bitmap);
+    let array: std::result::Result<_, _> = array.clone();
+    show(rt, "Clone for BooleanArray", &array);
+}
+
+/// Other owners of offsets and buffers.
+fn owners_of_offsets<R: Print>(rt: &R, offsets: &OffsetsBuffer<i32>) {
+    let buffer: std::result::Result<_, _> = offsets.buffer().clone();
+    show(rt, "Clone for Buffer<T>", &buffer);
+    let offsets: std::result::Result<_, _> = offsets.clone();
+    show(rt, "Clone for OffsetsBuffer<O>", &offsets);
+}
+
+/// Pushes as many items as there is room for, and names a push that is refused.
+fn push_items<R: Print + Eprint>(rt: &R, bitmap: &mut MutableBitmap) {
+    for i in 0..20usize {
+        let pushed = bitmap.push(i % 3 == 0);
+        refused(rt, "MutableBitmap::push below the capacity", &pushed);
+    }
+    show(rt, "MutableBitmap::push below the capacity", bitmap);
+}
+
+/// Pushes as many lengths as there is room for, and names a push that is refused.
+fn push_lengths<R: Print + Eprint>(rt: &R, offsets: &mut Offsets<i32>) {
+    for length in 0..20usize {
+        let pushed = offsets.try_push_usize(length);
+        refused(rt, "Offsets::try_push_usize below the capacity", &pushed);
+    }
+    show(rt, "Offsets::try_push_usize below the capacity", offsets);
+}
+
+/// Moves the bits of a word.
+fn moved<T: BitChunk>(word: T) -> T {
+    word.up(1)
+}
+
+/// Moves the bits of the second word, and combines both.
+fn combined<T: BitChunk>(one: T, other: T) -> T {
+    one.bit_xor(other.up(1))
+}
+
+/// A function of two words of `T`, where the lengths are equal.
+fn assign_binary<T: BitChunk>(lhs: &mut MutableBitmap, rhs: &Bitmap) {
+    if lhs.len() == rhs.len() {
+        binary_assign(lhs, rhs, combined::<T>);
+    }
+}
+
+/// A table of two inputs, where the lengths are equal.
+fn assign_table<T: BitChunk>(lhs: &mut MutableBitmap, rhs: &Bitmap) {
+    if lhs.len() == rhs.len() {
+        binary_assign_table::<T>(lhs, rhs, 11);
+    }
+}
+
+/// Changes by words of `T`.
+fn words<R: Print, T: BitChunk>(rt: &R, lhs: &mut MutableBitmap, rhs: &Bitmap) {
+    unary_assign(lhs, moved::<T>);
+    show(rt, "unary_assign", lhs);
+    assign_binary::<T>(lhs, rhs);
+    show(rt, "binary_assign", lhs);
+    unary_assign_table::<T>(lhs, 1);
+    show(rt, "unary_assign_table", lhs);
+    assign_table::<T>(lhs, rhs);
+    show(rt, "binary_assign_table", lhs);
+}
+
+/// An operator of two bitmaps.
+#[derive(Clone, Copy)]
+enum Operator {
+    /// `^`.
+    Xor,
+    /// `&`.
+    And,
+    /// `|`.
+    Or,
+}
+
+/// Changes the left side by the operator, where the lengths are equal.
+fn assign(lhs: &mut MutableBitmap, operator: Operator, rhs: &Bitmap) {
+    if lhs.len() != rhs.len() {
+        return;
+    }
+    match operator {
+        Operator::Xor => *lhs ^= rhs,
+        Operator::And => *lhs &= rhs,
+        Operator::Or => *lhs |= rhs,
+    }
+}
+
+/// What the operator makes of its left side, or that side where the lengths differ.
+fn applied(lhs: MutableBitmap, operator: Operator, rhs: &Bitmap) -> MutableBitmap {
+    if lhs.len() != rhs.len() {
+        return lhs;
+    }
+    match operator {
+        Operator::Xor => lhs ^ rhs,
+        Operator::And => lhs & rhs,
+        Operator::Or => lhs | rhs,
+    }
+}
+
+/// The operators that change their left side, and those that take it.
+fn operators<R: Print>(rt: &R, mut lhs: MutableBitmap, rhs: &Bitmap) {
+    assign(&mut lhs, Operator::Xor, rhs);
+    show(rt, "^=", &lhs);
+    assign(&mut lhs, Operator::Or, rhs);
+    show(rt, "|=", &lhs);
+    assign(&mut lhs, Operator::And, rhs);
+    show(rt, "&=", &lhs);
+    lhs = !lhs;
+    show(rt, "!", &lhs);
+    lhs = applied(lhs, Operator::Xor, rhs);
+    show(rt, "^", &lhs);
+    lhs = applied(lhs, Operator::And, rhs);
+    show(rt, "&", &lhs);
+    lhs = applied(lhs, Operator::Or, rhs);
+    show(rt, "|", &lhs);
+}
+
+/// What changes in place are made on.
+fn sides(alloc: Global) -> Result<(MutableBitmap, Bitmap)> {
+    Ok((growing_items(alloc)?, items(alloc, 3)?))
+}
+
+/// What is pushed to.
+fn roomy(alloc: Global) -> Result<(MutableBitmap, Offsets<i32>)> {
+    let bitmap = MutableBitmap::with_capacity(alloc, 20)?;
+    Ok((bitmap, Offsets::with_capacity(alloc, 20)?))
+}
+
+/// What has other owners.
+fn owned(alloc: Global) -> Result<(BooleanArray, OffsetsBuffer<i32>)> {
+    Ok((array(alloc)?, five_shared(alloc)?))
+}
+
+/// Makes each of these calls.
+pub(crate) fn all<R: Print + Eprint>(rt: &R, alloc: Global) -> Result<()> {
+    let (mut lhs, rhs) = sides(alloc).or(sides(alloc))?;
+    let (mut bitmap, mut offsets) = roomy(alloc).or(roomy(alloc))?;
+    let (array, shared) = owned(alloc).or(owned(alloc))?;
+    let _ = println!(rt; "calls that do not allocate");
+    owners(rt, &array);
+    owners_of_offsets(rt, &shared);
+    push_items(rt, &mut bitmap);
+    push_lengths(rt, &mut offsets);
+    words::<_, u8>(rt, &mut lhs, &rhs);
+    words::<_, u16>(rt, &mut lhs, &rhs);
+    words::<_, u32>(rt, &mut lhs, &rhs);
+    words::<_, u64>(rt, &mut lhs, &rhs);
+    operators(rt, lhs, &rhs);
+    Ok(())
+}
