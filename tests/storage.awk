@@ -151,15 +151,10 @@ function negate(d, a) { holds(d, looked_up("not", held[a]), "not " d " " a) }
 # The operator of the name, of bitmaps or of arrays.
 function operator(name, d, a, b) { holds(d, looked_up(name, held[a], held[b]), name " " d " " a " " b) }
 
-function table1(d, t, a) { holds(d, looked_up(t, held[a]), "table1 " d " " t " " a) }
-function table2(d, t, a, b) { holds(d, looked_up(t, held[a], held[b]), "table2 " d " " t " " a " " b) }
-
-function table3(d, t, a, b, c) {
-    holds(d, looked_up(t, held[a], held[b], held[c]), "table3 " d " " t " " a " " b " " c)
-}
-
-function table4(d, t, a, b, c, e) {
-    holds(d, looked_up(t, held[a], held[b], held[c], held[e]), "table4 " d " " t " " a " " b " " c " " e)
+# The table of as many inputs as there are slots.
+function table(d, t, slots,    n, s) {
+    n = split(slots, s, " ")
+    holds(d, looked_up(t, held[s[1]], held[s[2]], held[s[3]], held[s[4]]), "table" n " " d " " t " " slots)
 }
 
 function inplace1(s, t, width) { holds(s, looked_up(t, held[s]), "inplace1 " s " " t " " width) }
@@ -292,17 +287,13 @@ function appended(s,    own) {
     }
 }
 
-# Changed in place at the width, slot s becomes what slot 9 holds.
-function changed(s, t, width) {
+# Changed in place at a width, slot s becomes what slot 9 holds.
+function changed(s, t, turn, other) {
     grown(s, 10)
-    inplace1(10, t, width)
-    freeze(10)
-    same(9, 10)
-}
-
-function changed_beside(s, t, width, other) {
-    grown(s, 10)
-    inplace2(10, t, width, other)
+    if (other == "")
+        inplace1(10, t, widths[turn % 4])
+    else
+        inplace2(10, t, widths[turn % 4], other)
     freeze(10)
     same(9, 10)
 }
@@ -313,9 +304,9 @@ function alone(s, turn,    i, t) {
     bits(9)
     for (i = 1; i <= 4; i++) {
         t = tables[i] % 4
-        table1(9, t, s)
+        table(9, t, s)
         bits(9)
-        changed(s, t, widths[(turn + i) % 4])
+        changed(s, t, turn + i)
     }
 }
 
@@ -329,20 +320,20 @@ function beside(a, b, c, turn,    i, t) {
     }
     for (i = 1; i <= 4; i++) {
         t = tables[i] % 16
-        table2(9, t, a, b)
+        table(9, t, a " " b)
         bits(9)
-        table2(10, t, a, c)
+        table(10, t, a " " c)
         same(9, 10)
-        changed_beside(a, t, widths[(turn + i) % 4], b)
-        changed_beside(a, t, widths[(turn + i + 2) % 4], c)
+        changed(a, t, turn + i, b)
+        changed(a, t, turn + i + 2, c)
     }
 }
 
 function beside_three(a, b, c, e,    i) {
     for (i = 1; i <= 4; i++) {
-        table3(9, tables[i] % 256, a, b, c)
+        table(9, tables[i] % 256, a " " b " " c)
         bits(9)
-        table4(9, tables[i], a, b, c, e)
+        table(9, tables[i], a " " b " " c " " e)
         bits(9)
     }
 }
@@ -362,6 +353,15 @@ function validities(v, m) {
     alist(11)
     aslice(9, int(length(held[9]) / 3), int(length(held[9]) / 2))
     alist(9)
+}
+
+function without_validity(v) {
+    anew(9, v, "-")
+    anulls(9)
+    operator("aand", 11, 10, 9)
+    alist(11)
+    operator("aor", 11, 9, 9)
+    alist(11)
 }
 
 # As many lengths as the list has items.
@@ -387,6 +387,7 @@ function in_storage(list, offset, spare, behind) {
     beside(1, 0, 0, offset)
     beside_three(2, 0, 1, 0)
     validities(0, 1)
+    without_validity(0)
     zip(8, 0)
 }
 
@@ -407,6 +408,17 @@ function in_storages_from(list) {
     if (length(list) < 5) {
         in_storages_from(list "0")
         in_storages_from(list "1")
+    }
+}
+
+# Bits of one value are appended at each own bit place.
+function at_each_place(n,    own) {
+    for (own = 0; own < 16; own++) {
+        new(9, substr(lists[4], 1, own))
+        fill(9, n, own % 2)
+        bits(9)
+        fill(9, n, 1 - own % 2)
+        bits(9)
     }
 }
 
@@ -447,12 +459,13 @@ function at_each_offset(n,    offset) {
 
 function small_lists(    n) {
     in_storages_from("")
-    in_each_storage(substr(repeated("100", 50), 1, 63))
-    in_each_storage(substr(repeated("100", 50), 1, 64))
-    in_each_storage(substr(repeated("100", 50), 1, 65))
-    in_each_storage(substr(repeated("100", 50), 1, 130))
-    for (n = 0; n <= 200; n++)
+    for (n = 63; n <= 65; n++)
+        in_each_storage(substr(repeated("100", 22), 1, n))
+    in_each_storage(substr(repeated("100", 44), 1, 130))
+    for (n = 0; n <= 200; n++) {
+        at_each_place(n)
         at_each_pair(n)
+    }
     for (n = 0; n <= 600; n++)
         at_each_offset(n)
 }
@@ -485,6 +498,20 @@ function large_growth(s) {
     count(10)
     pop(10)
     pop(10)
+    large_answers(10)
+}
+
+function large_answers(s) {
+    freeze(s)
+    negate(11, s)
+    count(11)
+    operator("or", 12, s, 11)
+    count(12)
+    table(12, tables[1], s " 11 12 " s)
+    count(12)
+    grown(s, 13)
+    append(13, 12)
+    count(13)
 }
 
 function large_offsets(list) {
