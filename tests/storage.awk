@@ -503,6 +503,8 @@ function large_growth(s) {
 
 function large_answers(s) {
     freeze(s)
+    table(11, 1, s)
+    count(11)
     negate(11, s)
     count(11)
     operator("or", 12, s, 11)

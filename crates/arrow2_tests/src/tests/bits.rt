@@ -66,41 +66,33 @@ fn many_bits_are_printed_whole(rt: HostRuntime) {
 }
 
 #[test]
-fn bits_stand_in_so_many_bytes(rt: HostRuntime) {
-    for (bits, bytes) in [(0, 0), (8, 1), (9, 2), (usize::MAX, 2305843009213693952)] {
-        assert!(rt; bytes_for(bits) == bytes);
-    }
-}
-
-#[test]
 fn single_bits_are_read_written_and_counted(rt: HostRuntime) {
-    assert!(rt; count_zeros(&[255, 0], 4, 8) == 4 && count_zeros(&[], 99, 0) == 0);
-    assert!(rt; set(0, 3, true) == 8 && is_set(8, 3));
+    has(&rt, &[bytes_for(0), bytes_for(8), bytes_for(9)], &[0, 1, 2]);
+    has(&rt, &[bytes_for(usize::MAX)], &[2305843009213693952]);
+    let zeros = [count_zeros(&[255, 0], 4, 8), count_zeros(&[], 99, 0)];
+    has(&rt, &zeros, &[4, 0]);
     let mut bytes = [0b00001101, 0];
     set_bit(&mut bytes, 9, true);
-    has(&rt, &bytes, &[0b00001101, 0b10]);
-    assert!(rt; get_bit(&bytes, 2) && !get_bit_from(&bytes, 7, 8));
+    has(&rt, &[set(0, 3, true), bytes[0], bytes[1]], &[8, 13, 0b10]);
+    let read = [is_set(8, 3), get_bit(&bytes, 2), get_bit_from(&bytes, 7, 8)];
+    has(&rt, &read, &[true, true, false]);
 }
 
 #[test]
 fn bits_are_walked_from_both_ends(rt: HostRuntime) {
     let alloc = rt.alloc();
-    let mut walk = BitmapIter::new(&[0b01011011], 2, 4);
-    let ends = (walk.next(), walk.next_back(), walk.len());
-    assert!(rt; matches!(ends, (Some(false), Some(false), 2)));
+    let mut bits = BitmapIter::new(&[0b01011011], 2, 4);
+    has(&rt, &[bits.next(), bits.next_back()], &[Some(false); 2]);
     let text = "BitmapIter { bytes: [91], offset: 2, index: 1, end: 3 }";
-    shows(&rt, alloc, &walk, text);
-    gives(
-        &rt,
-        alloc,
-        walk.clone().expect(&rt, "no memory"),
-        &[true, true],
-    );
-    let mut walk = BitmapIter::new(&[0b01011011], 0, 6);
-    let first = (walk.next(), walk.size_hint());
-    assert!(rt; matches!(first, (Some(true), (5, Some(5)))));
-    let ended = (walk.nth(usize::MAX), walk.next(), walk.next_back());
-    assert!(rt; matches!(ended, (None, None, None)));
+    shows(&rt, alloc, &bits, text);
+    let left = bits.clone().expect(&rt, "no memory");
+    has(&rt, &[left.len()], &[2]);
+    gives(&rt, alloc, left, &[true, true]);
+    let mut bits = BitmapIter::new(&[0b01011011], 0, 6);
+    let first = bits.next();
+    has(&rt, &[bits.size_hint()], &[(5, Some(5))]);
+    let ended = [first, bits.nth(usize::MAX), bits.next(), bits.next_back()];
+    has(&rt, &ended, &[Some(true), None, None, None]);
 }
 
 /// A walk, known by its bound alone, gives the word if there is one, and then the items of the rest, which
@@ -122,14 +114,13 @@ fn has_words<B: BitChunk, I: BitChunkIterExact<B>>(
 fn words_are_taken_at_a_bit_offset(rt: HostRuntime) {
     let alloc = rt.alloc();
     let words = BitChunks::<u8>::new(&[0b10110110, 0b01011011], 3, 10);
-    let left = (BitChunks::len(&words), words.size_hint());
-    assert!(rt; matches!(left, (1, (1, Some(1)))));
+    has(&rt, &[words.size_hint()], &[(1, Some(1))]);
     has_words(&rt, alloc, words, Some(118), 11, &[true, true]);
     let words = BitChunks::<u16>::new(&[255, 1, 128], 4, 20);
-    assert!(rt; BitChunks::len(&words) == 1);
+    has(&rt, &[BitChunks::len(&words)], &[1]);
     has_words(&rt, alloc, words, Some(31), 8, &[false, false, false, true]);
     let rest = BitChunks::<u64>::new(&[240, 255], 4, 8);
-    assert!(rt; rest.remainder().masked(8) == 255);
+    has(&rt, &[rest.remainder().masked(8)], &[255]);
     has_words(&rt, alloc, rest, None, 4095, &[true; 8]);
 }
 
@@ -137,10 +128,10 @@ fn words_are_taken_at_a_bit_offset(rt: HostRuntime) {
 fn words_are_taken_from_the_first_bit(rt: HostRuntime) {
     let alloc = rt.alloc();
     let rest = BitChunksExact::<u16>::new(&[255], 7);
-    assert!(rt; rest.is_empty());
+    has(&rt, &[rest.is_empty()], &[true]);
     has_words(&rt, alloc, rest, None, 255, &[true; 7]);
     let words = BitChunksExact::<u16>::new(&[255, 1, 1, 0b11011011], 23);
-    assert!(rt; BitChunksExact::len(&words) == 1);
+    has(&rt, &[BitChunksExact::len(&words)], &[1]);
     let text =
         "BitChunksExact { chunks: BitChunks { bytes: [255, 1, 1], shift: 0, count: 1, remainder: 1, remainder_len: 7 } }";
     shows(&rt, alloc, &words, text);

@@ -7,7 +7,7 @@ use super::checks::{has, shows};
 use arrow2_buffer::bytes::Bytes;
 use arrow2_buffer::laws::written_items_are_the_items;
 use arrow2_buffer::{Buffer, IntoIter};
-use arrow2_types::error::Error;
+use arrow2_types::error::{Error, Result};
 use std::alloc::Global;
 use std::convert::TryFrom;
 use std::process::Abort;
@@ -44,12 +44,13 @@ fn a_slice_shares_its_storage(rt: HostRuntime) {
     part.slice(1, 1);
     has(&rt, whole.as_slice(), &[1, 2, 3]);
     has(&rt, part.as_slice(), &[2]);
-    assert!(rt; part[0] == 2 && whole.iter().len() == 3);
-    assert!(rt; part.offset() == 1 && part.is_sliced() && !whole.is_sliced());
+    has(&rt, &[whole.iter().len(), part.offset()], &[3, 1]);
+    has(&rt, &[part.is_sliced(), whole.is_sliced()], &[true, false]);
+    has(&rt, &[part[0]], &[2]);
     shows(&rt, alloc, &part, "[2]");
     let (storage, offset, length) = part.into_inner();
     has(&rt, storage.as_slice(), &[1, 2, 3]);
-    assert!(rt; offset == 1 && length == 1);
+    has(&rt, &[offset, length], &[1, 1]);
 }
 
 #[test]
@@ -59,11 +60,8 @@ fn an_unshared_whole_gives_its_vector(rt: HostRuntime) {
     let items = whole.right().expect(&rt, "it is whole and not shared");
     has(&rt, items.as_slice(), &[1, 2, 3]);
     let part = buffer_of(&rt, alloc, &[1, 2, 3]).sliced(1, 2).into_mut();
-    has(
-        &rt,
-        part.left().expect(&rt, "it is sliced").as_slice(),
-        &[2, 3],
-    );
+    let part = part.left().expect(&rt, "it is sliced");
+    has(&rt, part.as_slice(), &[2, 3]);
     let whole = buffer_of(&rt, alloc, &[1, 2, 3]);
     let shared = whole.clone().expect(&rt, "no memory");
     assert!(rt; whole.into_mut().is_left() && shared.into_mut().is_right());
@@ -86,32 +84,36 @@ fn only_an_unshared_buffer_is_written(rt: HostRuntime) {
 }
 
 /// What a caller of `try_from_iter` knows: the items of the walk.
-fn collected(alloc: Global, walk: IntoIter<u32>) -> arrow2_types::error::Result<Buffer<u32>>
+fn collected(alloc: Global, walk: IntoIter<u32>) -> Result<Buffer<u32>>
     ensures { IfOk result (λ buffer. buffer ≡ whole_buffer walk) }
 {
     Buffer::try_from_iter(alloc, walk)
+}
+
+/// The call made a buffer of these items.
+fn has_items(rt: &impl Abort, made: Result<Buffer<u32>>, items: &[u32]) {
+    has(rt, made.expect(rt, "no memory").as_slice(), items);
 }
 
 #[test]
 fn a_walk_gives_each_item_once(rt: HostRuntime) {
     let alloc = rt.alloc();
     let mut walk = IntoIter::new(buffer_of(&rt, alloc, &[1, 2, 3, 4]));
-    let ends = (walk.next(), walk.next_back(), walk.size_hint());
-    assert!(rt; matches!(ends, (Some(1), Some(4), (2, Some(2)))));
+    has(&rt, &[walk.next(), walk.next_back()], &[Some(1), Some(4)]);
+    has(&rt, &[walk.size_hint()], &[(2, Some(2))]);
     let text = "IntoIter { values: [1, 2, 3, 4], index: 1, end: 3 }";
     shows(&rt, alloc, &walk, text);
-    let left = collected(alloc, walk.clone().expect(&rt, "no memory"));
-    has(&rt, left.expect(&rt, "no memory").as_slice(), &[2, 3]);
-    let ended = (walk.nth(usize::MAX), walk.next_back());
-    assert!(rt; matches!(ended, (None, None)));
+    let copy = walk.clone().expect(&rt, "no memory");
+    has_items(&rt, collected(alloc, copy), &[2, 3]);
+    has(&rt, &[walk.nth(usize::MAX), walk.next_back()], &[None; 2]);
     let mut walk = buffer_of(&rt, alloc, &[1, 2, 3]).into_iter();
-    let ended = (
+    let ended = [
         walk.next(),
         walk.nth(usize::MAX),
         walk.next(),
         walk.next_back(),
-    );
-    assert!(rt; matches!(ended, (Some(1), None, None, None)));
+    ];
+    has(&rt, &ended, &[Some(1), None, None, None]);
 }
 
 /// The bounds alone, as generic callers have them.

@@ -5,6 +5,7 @@ ghost use Rattle.arrow2_model.specs.Storage.{items_of};
 
 use arrow2_bitmap::immutable::Bitmap;
 use arrow2_bitmap::mutable::MutableBitmap;
+use arrow2_types::error::{Error, Result};
 use arrow2_types::native::NativeType;
 use arrow2_types::primitive::PrimitiveType;
 use std::alloc::Global;
@@ -44,18 +45,46 @@ pub(super) fn thawed(rt: &impl Abort, bitmap: &Bitmap) -> MutableBitmap
     copy.make_mut().expect(rt, "no memory")
 }
 
-/// A walk gives the items in this order, and no others.
-pub(super) fn gives<I: Iterator<Item = bool>>(
+/// An iterator gives the items in this order, and no others.
+pub(super) fn gives<T: PartialEq + Debug + Drop, I: Iterator<Item = T>>(
     rt: &impl Abort,
     alloc: Global,
-    walk: I,
-    items: &[bool],
+    items: I,
+    wanted: &[T],
 )
-    requires next { I.can_next walk }
-    requires finite { IsFinite (I.remaining walk) }
+    requires next { I.can_next items }
+    requires finite { IsFinite (I.remaining items) }
 {
-    let given: Vec<bool> = walk.collect(alloc).expect(rt, "no memory for the items");
-    assert_eq!(rt; given.as_slice(), items);
+    let given: Vec<T> = items.collect(alloc).expect(rt, "no memory for the items");
+    assert_eq!(rt; given.as_slice(), wanted);
+}
+
+/// The call made a bitmap of these items.
+pub(super) fn makes(rt: &impl Abort, alloc: Global, made: Result<Bitmap>, items: &[bool]) {
+    gives(rt, alloc, made.expect(rt, "no memory").iter(), items);
+}
+
+/// The call made a bitmap that grows, of these bytes.
+pub(super) fn stores(rt: &impl Abort, made: Result<MutableBitmap>, bytes: &[u8]) {
+    has(rt, made.expect(rt, "no memory").as_slice(), bytes);
+}
+
+/// The call refused with the text.
+pub(super) fn refuses<T: Drop>(rt: &impl Abort, alloc: Global, made: Result<T>, text: &str) {
+    let error = made.err().expect(rt, "accepted");
+    prints(rt, alloc, &error, text);
+}
+
+/// The call answered as an overflow.
+pub(super) fn overflows<T: Drop>(rt: &impl Abort, answer: Result<T>) {
+    assert!(rt; matches!(answer, Err(Error::Overflow)));
+}
+
+/// The bytes, in memory of their own.
+pub(super) fn bytes_of(rt: &impl Abort, alloc: Global, bytes: &[u8]) -> Vec<u8>
+    ensures { result.items ≡ bytes.now }
+{
+    bytes.to_vec(alloc).expect(rt, "no memory")
 }
 
 /// A native value has the name and the bytes in both orders, and is read back from them.

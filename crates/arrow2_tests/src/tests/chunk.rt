@@ -6,27 +6,23 @@ use arrow2_chunk::bit_chunk_iter::{BitChunkIter, BitChunkOnes};
 #[test]
 fn words_answer_as_their_bits(rt: HostRuntime) {
     let (a, b) = (0b10110110u8, 0b01011011u8);
-    assert!(rt; a.masked(3) == 6 && a.masked(8) == 182 && a.masked(0) == 0);
-    assert!(rt; a.bit_and(b) == a & b && a.bit_or(b) == a | b && a.bit_xor(b) == a ^ b);
-    assert!(rt; a.bit_not() == !a && a.up(3) == a << 3 && a.down(3) == a >> 3);
-    assert!(rt; BitChunk::bit(a, 1));
+    has(&rt, &[a.masked(3), a.masked(8), a.masked(0)], &[6, 182, 0]);
+    let both = [a.bit_and(b), a.bit_or(b), a.bit_xor(b)];
+    has(&rt, &both, &[a & b, a | b, a ^ b]);
+    let one = [a.bit_not(), a.up(3), a.down(3)];
+    has(&rt, &one, &[!a, a << 3, a >> 3]);
     let bytes = [0x78, 0x56, 0x34, 0x12];
     has(&rt, &BitChunk::to_ne_bytes(305419896u32), &bytes);
-    assert!(rt; <u32 as BitChunk>::from_ne_bytes(bytes) == 305419896);
-    assert!(rt; u32::from_ne_slice(&bytes) == 305419896);
+    let read = <u32 as BitChunk>::from_ne_bytes(bytes);
+    has(&rt, &[read, u32::from_ne_slice(&bytes)], &[305419896; 2]);
 }
 
 #[test]
 fn bits_come_in_turn_and_by_place(rt: HostRuntime) {
-    let bits = BitChunkIter::new(0b00010000u8, 7);
-    gives(
-        &rt,
-        rt.alloc(),
-        bits,
-        &[false, false, false, false, true, false, false],
-    );
-    let mut ones = BitChunkOnes::new(0b10000001u8);
-    let places = (ones.next(), ones.next(), ones.next());
-    assert!(rt; matches!(places, (Some(0), Some(7), None)));
-    assert!(rt; BitChunkOnes::new(0u8).next().is_none());
+    let alloc = rt.alloc();
+    has(&rt, &[BitChunk::bit(0b10110110u8, 1)], &[true]);
+    let items = [false, false, false, false, true, false, false];
+    gives(&rt, alloc, BitChunkIter::new(0b00010000u8, 7), &items);
+    gives(&rt, alloc, BitChunkOnes::new(0b10000001u8), &[0, 7]);
+    gives(&rt, alloc, BitChunkOnes::new(0u8), &[]);
 }

@@ -97,6 +97,8 @@ fn bits_are_counted_through_stored_bytes(rt: HostRuntime) {
     assert!(rt; count_zeros_counted(&mut stored, 3, 5) == 1);
     assert!(rt; recount(&mut stored, 0, 32, 8, 2, 28) == 6);
     assert!(rt; recount(&mut stored, 0, 32, 8, 20, 4) == 4);
+    let [first, last] = stored.fetch::<2>(2);
+    assert!(rt; stored.len() == 4 && first == 0x0f && last == 0xff);
 }
 
 #[tactic(auto, using(crate::proofs::ReadRows::counts))]
@@ -112,12 +114,4 @@ fn counts_fetch_each_byte_once(rt: HostRuntime) {
     let mut stored = Stored::new(&bytes, Reads::new());
     assert!(rt; count_zeros_counted(&mut stored, 3, 300) == 207);
     is_read(stored.into_reads(), 38);
-}
-
-#[test]
-fn stored_bytes_are_fetched(rt: HostRuntime) {
-    let mut stored = Stored::new(&[1, 2, 3, 4], Reads::new());
-    let [second, third] = stored.fetch::<2>(1);
-    assert!(rt; stored.len() == 4 && second == 2 && third == 3);
-    is_read(stored.into_reads(), 2);
 }

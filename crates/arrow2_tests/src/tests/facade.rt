@@ -1,5 +1,5 @@
 //! Each item of the one crate that users name, at its path: what stands here compiles.
-use super::checks::prints;
+use super::checks::{has, prints};
 pub use arrow2::array::{BooleanArray, BooleanIter};
 pub use arrow2::bitmap::utils::{
     BitChunkIterExact, BitChunks, BitChunksExact, BitChunksExactMut, BitmapIter, Reads,
@@ -39,9 +39,14 @@ impl fmt::Display for Bits {
 fn each_item_has_its_path(rt: HostRuntime) {
     let mut bytes = [0b101u8];
     utils::set_bit(&mut bytes, 1, true);
-    assert!(rt; utils::get_bit(&bytes, 1) && utils::get_bit_from(&bytes, 1, 1));
-    assert!(rt; utils::is_set(utils::set(0, 3, true), 3));
-    assert!(rt; utils::bytes_for(9) == 2 && utils::count_zeros(&bytes, 0, 8) == 5);
+    let bits = [
+        utils::get_bit(&bytes, 1),
+        utils::get_bit_from(&bytes, 1, 1),
+        utils::is_set(utils::set(0, 3, true), 3),
+    ];
+    has(&rt, &bits, &[true; 3]);
+    let counts = [utils::bytes_for(9), utils::count_zeros(&bytes, 0, 8)];
+    has(&rt, &counts, &[2, 5]);
     prints(&rt, rt.alloc(), &Bits, "[0b_____101]");
     laws::lists::part_of_a_part();
     laws::buffers::written_items_are_the_items::<u8>();

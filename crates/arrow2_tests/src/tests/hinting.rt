@@ -2,31 +2,38 @@
 ghost use Rattle.std.specs.Prelude.{◌+◌};
 ghost use Rattle.std.specs.Iterator.{at_most};
 
-use super::checks::gives;
+use super::checks::{has, makes, stores};
+use super::offset;
 use arrow2_bitmap::immutable::Bitmap;
 use arrow2_bitmap::mutable::MutableBitmap;
 use arrow2_buffer::Buffer;
+use arrow2_offset::Offsets;
+use arrow2_types::error::Result;
+use std::alloc::Global;
+use std::process::Abort;
 
-/// Gives `true` as often as is left. Its size hint falls by `falls` an item.
+/// Gives the numbers from 1 on, as many as are left. Its size hint falls by `falls` an item.
 #[derive(Drop)]
 struct Hinting {
+    given: usize,
     left: u64,
     hint: usize,
     falls: usize,
 }
 
 impl Iterator for Hinting {
-    type Item = bool;
+    type Item = usize;
 
     ghost remaining = { λ s. at_most (s.left + s.hint) };
 
-    fn next(&mut self) -> Option<bool> {
+    fn next(&mut self) -> Option<usize> {
         if self.left == 0 {
             return None;
         }
         self.left -= 1;
         self.hint = self.hint.saturating_sub(self.falls);
-        Some(true)
+        self.given = self.given.wrapping_add(1);
+        Some(self.given)
     }
 
     fn size_hint(&self) -> (usize, Option<usize>) {
@@ -34,30 +41,36 @@ impl Iterator for Hinting {
     }
 }
 
-/// Three times true, under a size hint that begins at `hint` and falls by `falls` an item.
-fn three_trues(hint: usize, falls: usize) -> Hinting {
+/// So many numbers, under a size hint that begins at `hint` and falls by `falls` an item.
+fn numbers(left: u64, (hint, falls): (usize, usize)) -> Hinting {
     Hinting {
-        left: 3,
+        given: 0,
+        left,
         hint,
         falls,
     }
 }
 
+/// The call made a buffer of these items.
+fn has_items(rt: &impl Abort, made: Result<Buffer<bool>>, items: &[bool]) {
+    has(rt, made.expect(rt, "no memory").as_slice(), items);
+}
+
+/// Under such a size hint, three trues are collected.
+fn are_collected(rt: &impl Abort, alloc: Global, hint: (usize, usize)) {
+    let grown = MutableBitmap::try_from_iter(alloc, numbers(3, hint).map(|_| true));
+    stores(rt, grown, &[7]);
+    let frozen = Bitmap::try_from_iter(alloc, numbers(3, hint).map(|_| true));
+    makes(rt, alloc, frozen, &[true; 3]);
+    let buffer = Buffer::try_from_iter(alloc, numbers(3, hint).map(|_| true));
+    has_items(rt, buffer, &[true; 3]);
+}
+
 #[test]
 fn a_size_hint_is_not_believed(rt: HostRuntime) {
     let alloc = rt.alloc();
-    let trues = [true, true, true].as_slice();
-    for (hint, falls) in [(usize::MAX, 1), (0, 0)] {
-        let grown = MutableBitmap::try_from_iter(alloc, three_trues(hint, falls));
-        gives(&rt, alloc, grown.expect(&rt, "no memory").iter(), trues);
-        let frozen = Bitmap::try_from_iter(alloc, three_trues(hint, falls));
-        gives(&rt, alloc, frozen.expect(&rt, "no memory").iter(), trues);
-        let buffer = Buffer::try_from_iter(alloc, three_trues(hint, falls));
-        gives(
-            &rt,
-            alloc,
-            buffer.expect(&rt, "no memory").into_iter(),
-            trues,
-        );
-    }
+    are_collected(&rt, alloc, (usize::MAX, 1));
+    are_collected(&rt, alloc, (0, 0));
+    let offsets = Offsets::<i64>::try_from_iter(alloc, numbers(2, (usize::MAX, 1)));
+    offset::makes(&rt, offsets, &[0, 1, 3]);
 }

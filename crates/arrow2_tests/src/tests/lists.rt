@@ -3,99 +3,69 @@ ghost use Rattle.std.specs.Prelude.{◌<◌};
 
 use std::alloc::{AllocError, Global};
 
+/// A list that plain code gives, where it found memory.
+pub(super) type Given = Result<Vec<bool>, AllocError>;
+
 /// The item at a place, and false behind the last one.
 pub(super) fn at(list: &[bool], i: usize) -> bool {
     matches!(list.get(i), Some(true))
 }
 
-/// How many items are false.
-pub(super) fn falses(list: &[bool]) -> usize {
-    list.iter().filter(|item| !**item).count()
+/// How many items are true.
+pub(super) fn trues(list: &[bool]) -> usize {
+    list.iter().filter(|item| **item).count()
 }
 
-/// Where each run of trues begins, and how long it is.
-pub(super) fn runs(alloc: Global, list: &[bool]) -> Result<Vec<(usize, usize)>, AllocError> {
-    let mut runs = Vec::new(alloc);
-    let mut start = 0;
-    for i in 0..list.len() + 1 {
-        if !at(list, i) {
-            if start < i {
-                runs.push((start, i - start))?;
-            }
-            start = i + 1;
-        }
-    }
-    Ok(runs)
-}
-
-/// The items of one list and those of another behind them.
-pub(super) fn joined(
-    alloc: Global,
-    front: &[bool],
-    back: &[bool],
-) -> Result<Vec<bool>, AllocError> {
-    let mut items = front.to_vec(alloc)?;
-    items.extend_from_slice(back)?;
+/// The items, and those of another list behind them.
+pub(super) fn joined(mut items: Vec<bool>, list: &[bool]) -> Given {
+    items.extend_from_slice(list)?;
     Ok(items)
 }
 
-/// The items with the one at a place turned.
-pub(super) fn turned(alloc: Global, list: &[bool], place: usize) -> Result<Vec<bool>, AllocError> {
-    let mut items = list.to_vec(alloc)?;
-    if let Some(item) = items.get_mut(place) {
-        *item = !*item;
-    }
-    Ok(items)
-}
-
-/// The items the other way round.
-pub(super) fn reversed(alloc: Global, list: &[bool]) -> Result<Vec<bool>, AllocError> {
-    list.iter().rev().copied().collect(alloc)
-}
-
-/// The `width` items from item `start` on as a word, the first one its lowest bit.
-fn word(list: &[bool], width: usize, start: usize) -> u64 {
-    let mut word = 0u64;
-    for k in 0..width {
-        if at(list, start.wrapping_add(k)) {
-            word |= 1 << (k % 64);
+/// Item `i` of lists of which each is moved by a place more within words of `width` items: those that stand there, added
+/// without carry.
+fn mixed_at(lists: &[&[bool]], width: usize, i: usize) -> bool
+    requires { 0 < width }
+{
+    let mut item = false;
+    for (k, list) in lists.iter().enumerate() {
+        if k <= i % width && at(list, i - k) {
+            item = !item;
         }
     }
-    word
+    item
 }
 
-/// The items that words of `width` bits have after `left ^ right << 1`. A list that is shorter than the right one is
-/// filled with false.
-pub(super) fn mixed(
-    alloc: Global,
-    left: &[bool],
-    right: &[bool],
-    width: usize,
-) -> Result<Vec<bool>, AllocError>
+/// All items of such lists.
+pub(super) fn mixed(alloc: Global, lists: &[&[bool]], width: usize) -> Given
     requires { 0 < width }
 {
     let mut items = Vec::new(alloc);
-    for i in 0..right.len() {
-        let k = i % width;
-        let answer = word(left, width, i - k) ^ word(right, width, i - k) << 1;
-        items.push((answer >> (k % 64)) & 1 == 1)?;
+    for i in 0..lists.last().map_or(0, |list| list.len()) {
+        items.push(mixed_at(lists, width, i))?;
     }
     Ok(items)
 }
 
-/// The items that a table answers: bit `a + 2 * b + 4 * c + 8 * d` of it. A list that is shorter than the first one is
-/// filled with false.
-pub(super) fn looked_up(
-    alloc: Global,
-    t: u16,
-    lists: [&[bool]; 4],
-) -> Result<Vec<bool>, AllocError> {
-    let [a, b, c, d] = lists;
+/// The items that a table answers: bit `a + 2 * b` of it.
+pub(super) fn looked_up(alloc: Global, t: u8, a: &[bool], b: &[bool]) -> Given {
     let mut items = Vec::new(alloc);
-    for i in 0..a.len() {
-        let low = usize::from(at(a, i)) | usize::from(at(b, i)) << 1;
-        let high = usize::from(at(c, i)) | usize::from(at(d, i)) << 1;
-        items.push((t >> ((low | high << 2) % 16)) & 1 == 1)?;
+    for (a, b) in a.iter().zip(b) {
+        let place = usize::from(*a) | usize::from(*b) << 1;
+        items.push((t >> (place % 8)) & 1 == 1)?;
+    }
+    Ok(items)
+}
+
+/// The values, null where their validity is false.
+pub(super) fn nulled(
+    alloc: Global,
+    values: &[bool],
+    valid: &[bool],
+) -> Result<Vec<Option<bool>>, AllocError> {
+    let mut items = Vec::new(alloc);
+    for (i, value) in values.iter().enumerate() {
+        items.push(if at(valid, i) { Some(*value) } else { None })?;
     }
     Ok(items)
 }
@@ -104,13 +74,8 @@ pub(super) fn looked_up(
 fn stored_byte(list: &[bool], offset: usize, spare: bool, index: usize) -> u8 {
     let mut byte = 0u8;
     for k in 0..8usize {
-        let place = index.wrapping_mul(8).wrapping_add(k);
-        let inside = offset <= place && place - offset < list.len();
-        if if inside {
-            at(list, place - offset)
-        } else {
-            spare
-        } {
+        let place = index.wrapping_mul(8).wrapping_add(k).wrapping_sub(offset);
+        if *list.get(place).unwrap_or(&spare) {
             byte |= 1 << k;
         }
     }
@@ -134,29 +99,19 @@ pub(super) fn stored(
 }
 
 /// The list of the lowest bits of a number.
-pub(super) fn of_number(
-    alloc: Global,
-    number: u64,
-    length: usize,
-) -> Result<Vec<bool>, AllocError> {
-    let mut items = Vec::new(alloc);
-    for i in 0..length {
-        items.push((number >> (i % 64)) & 1 == 1)?;
-    }
-    Ok(items)
+pub(super) fn of_number(alloc: Global, number: u64, length: usize) -> Given {
+    (0..length)
+        .map(|i| (number >> (i % 64)) & 1 == 1)
+        .collect(alloc)
 }
 
 /// The list that is true where 3 divides the place.
-pub(super) fn thirds(alloc: Global, length: usize) -> Result<Vec<bool>, AllocError> {
-    let mut items = Vec::new(alloc);
-    for i in 0..length {
-        items.push(i % 3 == 0)?;
-    }
-    Ok(items)
+pub(super) fn thirds(alloc: Global, length: usize) -> Given {
+    (0..length).map(|i| i % 3 == 0).collect(alloc)
 }
 
 /// A list without a pattern.
-pub(super) fn scattered(alloc: Global, seed: u64, length: usize) -> Result<Vec<bool>, AllocError> {
+pub(super) fn scattered(alloc: Global, seed: u64, length: usize) -> Given {
     let mut items = Vec::new(alloc);
     let mut state = seed;
     for _ in 0..length {

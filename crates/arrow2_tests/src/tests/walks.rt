@@ -1,7 +1,7 @@
 //! Runs of set items, and values beside their validity.
 ghost use Rattle.std.specs.Prelude.{◌≡◌, length};
 
-use super::checks::{bitmap_from, shows};
+use super::checks::{bitmap_from, gives, has, shows};
 use arrow2::bitmap::Bitmap;
 use arrow2::bitmap::utils::{BitmapIter, SlicesIterator, ZipValidity, ZipValidityIter};
 use arrow2::laws;
@@ -9,20 +9,6 @@ use std::alloc::Global;
 use std::iter::Copied;
 use std::process::Abort;
 use std::slice::Iter;
-
-/// A bitmap has these runs, and no others, and as many set items.
-fn has_runs(
-    rt: &impl Abort,
-    alloc: Global,
-    bitmap: &Bitmap,
-    runs: &[(usize, usize)],
-    slots: usize,
-) {
-    let walk = SlicesIterator::new(bitmap);
-    assert!(rt; walk.slots() == slots);
-    let given: Vec<(usize, usize)> = walk.collect(alloc).expect(rt, "no memory for the runs");
-    assert!(rt; given.as_slice() == runs);
-}
 
 /// The bitmap of `len` bits of the bytes, from bit `offset` on.
 fn bitmap_of(rt: &impl Abort, alloc: Global, bytes: &[u8], offset: usize, len: usize) -> Bitmap {
@@ -32,16 +18,18 @@ fn bitmap_of(rt: &impl Abort, alloc: Global, bytes: &[u8], offset: usize, len: u
     bitmap.sliced(offset, len)
 }
 
-/// The `len` bits from bit `offset` of the bytes on have these runs.
+/// The `len` bits from bit `offset` of the bytes on have these runs, and as many set items.
 fn bits_have_runs(
     rt: &impl Abort,
     alloc: Global,
-    bits: (&[u8], usize, usize),
+    (bytes, offset, len): (&[u8], usize, usize),
     runs: &[(usize, usize)],
     slots: usize,
 ) {
-    let bitmap = bitmap_of(rt, alloc, bits.0, bits.1, bits.2);
-    has_runs(rt, alloc, &bitmap, runs, slots);
+    let bitmap = bitmap_of(rt, alloc, bytes, offset, len);
+    let items = SlicesIterator::new(&bitmap);
+    assert!(rt; items.slots() == slots);
+    gives(rt, alloc, items, runs);
 }
 
 #[test]
@@ -50,46 +38,46 @@ fn runs_are_maximal_wherever_they_lie(rt: HostRuntime) {
     bits_have_runs(&rt, alloc, (&[0b00101111], 0, 8), &[(0, 4), (5, 1)], 5);
     bits_have_runs(&rt, alloc, (&[0xff; 3], 5, 16), &[(0, 16)], 16);
     bits_have_runs(&rt, alloc, (&[], 0, 0), &[], 0);
-    bits_have_runs(&rt, alloc, (&[0xff; 2], 5, 9), &[(0, 9)], 9);
-    bits_have_runs(&rt, alloc, (&[0b11111010], 0, 4), &[(1, 1), (3, 1)], 2);
-    bits_have_runs(&rt, alloc, (&[0b11010111], 3, 4), &[(1, 1), (3, 1)], 2);
-    let bytes = [0b11110001, 0xff, 0xff];
-    bits_have_runs(&rt, alloc, (&bytes, 0, 22), &[(0, 1), (4, 18)], 19);
     bits_have_runs(&rt, alloc, (&[0xff; 20], 3, 150), &[(0, 150)], 150);
-    let items = bitmap_from(&rt, alloc, &[false, true, false, true]);
-    has_runs(&rt, alloc, &items, &[(1, 1), (3, 1)], 2);
 }
 
-/// What comes of the values beside the items of a bitmap.
-fn beside<'a>(
+/// The values beside a validity.
+const VALUES: [u32; 4] = [1, 2, 3, 4];
+
+/// Values in turn.
+type Values<'a> = Copied<Iter<'a, u32>>;
+
+/// Values beside the items of a bitmap.
+type Zip<'a> = ZipValidity<Values<'a>, BitmapIter<'a>>;
+
+/// Values come beside their validity as these items, without nulls where that is all true.
+fn values_come(
     rt: &impl Abort,
-    values: &'a [u32],
-    validity: &'a Bitmap,
-) -> ZipValidity<Copied<Iter<'a, u32>>, BitmapIter<'a>> {
-    assert!(rt; values.len() == validity.len());
-    ZipValidity::new_with_validity(values.iter().copied(), Some(validity))
+    alloc: Global,
+    validity: &[bool],
+    items: &[Option<u32>],
+    required: bool,
+) {
+    let validity = bitmap_from(rt, alloc, validity);
+    assert!(rt; validity.len() == 3);
+    let zip = ZipValidity::new_with_validity(VALUES[..3].iter().copied(), Some(&validity));
+    assert!(rt; matches!(&zip, ZipValidity::Required(_)) == required && zip.len() == 3);
+    has(rt, &[zip.size_hint()], &[(3, Some(3))]);
+    gives(rt, alloc, zip, items);
 }
 
 #[test]
 fn values_come_beside_their_validity(rt: HostRuntime) {
     let alloc = rt.alloc();
-    let values = [1u32, 2, 3];
-    let mixed = bitmap_from(&rt, alloc, &[true, false, true]);
-    let mut zip = beside(&rt, &values, &mixed);
-    assert!(rt; matches!(&zip, ZipValidity::Optional(_)) && zip.len() == 3);
-    assert!(rt; matches!(zip.size_hint(), (3, Some(3))));
-    assert!(rt; matches!(zip.next(), Some(Some(1))));
-    assert!(rt; matches!(zip.next(), Some(None)));
-    assert!(rt; matches!(zip.next(), Some(Some(3))));
-    assert!(rt; zip.next().is_none());
-
-    let full = bitmap_from(&rt, alloc, &[true; 3]);
-    let mut zip = beside(&rt, &values, &full);
-    assert!(rt; matches!(&zip, ZipValidity::Required(_)) && zip.len() == 3);
-    assert!(rt; matches!(zip.size_hint(), (3, Some(3))));
-    assert!(rt; matches!(zip.next(), Some(Some(1))));
-    assert!(rt; zip.nth(usize::MAX).is_none());
-    assert!(rt; zip.next().is_none() && zip.next_back().is_none());
+    let validity = [true, false, true];
+    values_come(&rt, alloc, &validity, &[Some(1), None, Some(3)], false);
+    let items = [Some(1), Some(2), Some(3)];
+    values_come(&rt, alloc, &[true; 3], &items, true);
+    let validity = bitmap_from(&rt, alloc, &[true; 3]);
+    assert!(rt; validity.len() == 3);
+    let mut zip = ZipValidity::new_with_validity(VALUES[..3].iter().copied(), Some(&validity));
+    let given = [zip.next(), zip.nth(usize::MAX), zip.next(), zip.next_back()];
+    has(&rt, &given, &[Some(Some(1)), None, None, None]);
 }
 
 #[test]
@@ -97,72 +85,39 @@ fn derived_texts_name_the_parts(rt: HostRuntime) {
     let alloc = rt.alloc();
     let validity = bitmap_from(&rt, alloc, &[true, false]);
     assert!(rt; validity.len() == 2);
-    shows(
-        &rt,
-        alloc,
-        &SlicesIterator::new(&validity),
-        "SlicesIterator { bytes: [1], offset: 0, end: 2, place: Place { index: 0, word: 0, held: 0 }, slots: 1 }",
-    );
+    let runs = SlicesIterator::new(&validity);
+    let text =
+        "SlicesIterator { bytes: [1], offset: 0, end: 2, place: Place { index: 0, word: 0, held: 0 }, slots: 1 }";
+    shows(&rt, alloc, &runs, text);
     let values = [1u32, 2];
-    let mut zip = ZipValidity::new_with_validity(values.iter().copied(), Some(&validity));
-    shows(
-        &rt,
-        alloc,
-        &zip,
-        "Optional(ZipValidityIter { values: Copied { it: Iter([1, 2]) }, validity: BitmapIter { bytes: [1], offset: 0, index: 0, end: 2 } })",
-    );
-    assert!(rt; matches!(zip.size_hint(), (2, Some(2))));
-    assert!(rt; matches!(zip.next(), Some(Some(1))));
-    assert!(rt; matches!(zip.size_hint(), (1, Some(1))));
-    let required: ZipValidity<Copied<Iter<u32>>, BitmapIter> = ZipValidity::new(
-        values.iter().copied(),
-        None,
-    );
-    shows(
-        &rt,
-        alloc,
-        &required,
-        "Required(Copied { it: Iter([1, 2]) })",
-    );
+    let zip = ZipValidity::new_with_validity(values.iter().copied(), Some(&validity));
+    let text =
+        "Optional(ZipValidityIter { values: Copied { it: Iter([1, 2]) }, validity: BitmapIter { bytes: [1], offset: 0, index: 0, end: 2 } })";
+    shows(&rt, alloc, &zip, text);
+    let required: Zip = ZipValidity::new(values.iter().copied(), None);
+    let text = "Required(Copied { it: Iter([1, 2]) })";
+    shows(&rt, alloc, &required, text);
+    has(&rt, &[required.unwrap_required().next()], &[Some(1)]);
 }
 
 #[test]
-fn a_zip_is_walked_from_both_ends(rt: HostRuntime) {
+fn a_zip_is_iterated_from_both_ends(rt: HostRuntime) {
     let alloc = rt.alloc();
     let validity = bitmap_from(&rt, alloc, &[true, false, true, true]);
     assert!(rt; validity.len() == 4);
-    let zip = ZipValidityIter::new([1u32, 2, 3, 4].iter().copied(), validity.iter());
+    let zip = ZipValidityIter::new(VALUES.iter().copied(), validity.iter());
     let mut zip = zip.clone().expect(&rt, "no memory");
-    assert!(rt; matches!(zip.nth(1), Some(None)));
-    assert!(rt; matches!(zip.next_back(), Some(Some(4))));
-    assert!(rt; matches!(zip.next(), Some(Some(3))));
-    assert!(rt; zip.next().is_none());
-}
-
-#[test]
-fn a_zip_without_validity_tells_none(rt: HostRuntime) {
-    let values = [1u32, 2];
-    let zip: ZipValidity<Copied<Iter<u32>>, BitmapIter> = ZipValidity::new(
-        values.iter().copied(),
-        None,
-    );
-    assert!(rt; matches!(zip.unwrap_required().next(), Some(1)));
-}
-
-#[test]
-fn a_zip_with_validity_tells_nulls(rt: HostRuntime) {
-    let alloc = rt.alloc();
-    let values = [1u32, 2];
-    let validity = bitmap_from(&rt, alloc, &[false, true]);
-    assert!(rt; validity.len() == 2);
-    let mut zip = ZipValidity::new(values.iter().copied(), Some(validity.iter()));
-    assert!(rt; matches!(zip.next_back(), Some(Some(2))));
+    let given = [zip.nth(1), zip.next_back(), zip.next()];
+    has(&rt, &given, &[Some(None), Some(Some(4)), Some(Some(3))]);
+    has(&rt, &[zip.next()], &[None]);
+    let mut zip = ZipValidity::new(VALUES.iter().copied(), Some(validity.iter()));
+    has(&rt, &[zip.next_back()], &[Some(Some(4))]);
     let mut both = zip.unwrap_optional();
-    assert!(rt; both.len() == 1 && matches!(both.next(), Some(None)));
-    laws::walks::a_zip_walks_over_its_slots::<Copied<Iter<u32>>, BitmapIter, u32>();
-    laws::walks::a_zip_with_or_without_validity_walks_over_its_slots::<
-        Copied<Iter<u32>>,
-        BitmapIter,
-        u32,
-    >();
+    has(
+        &rt,
+        &[both.next(), both.next()],
+        &[Some(Some(1)), Some(None)],
+    );
+    laws::walks::a_zip_walks_over_its_slots::<Values, BitmapIter, u32>();
+    laws::walks::a_zip_with_or_without_validity_walks_over_its_slots::<Values, BitmapIter, u32>();
 }
