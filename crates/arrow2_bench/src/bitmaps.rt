@@ -57,7 +57,7 @@ pub extern "C" fn bench_bitmaps(
         b"slices" => on_bitmaps(alloc, bytes, parts, runs, slices),
         b"not" => on_bitmaps(alloc, bytes, parts, runs, not),
         b"unary" => on_bitmaps(alloc, bytes, parts, runs, rotated),
-        _ => 0,
+        _ => usize::MAX,
     }
 }
 
@@ -139,7 +139,7 @@ pub extern "C" fn bench_pairs(
         b"and" => on_both(alloc, left, left_parts, right, right_parts, runs, both),
         b"or" => on_both(alloc, left, left_parts, right, right_parts, runs, either),
         b"xor" => on_both(alloc, left, left_parts, right, right_parts, runs, one),
-        _ => 0,
+        _ => usize::MAX,
     }
 }
 

@@ -14,7 +14,7 @@ pub extern "C" fn bench_buffer(alloc: Global, call: &[u8], items: &[u64], parts:
         b"sliced" => on_slices(alloc, items, parts, length),
         b"into_iter" => on_slices(alloc, items, parts, added_up),
         b"as_slice" => on_slices(alloc, items, parts, mixed),
-        _ => 0,
+        _ => usize::MAX,
     }
 }
 
@@ -76,7 +76,7 @@ pub extern "C" fn bench_words(alloc: Global, call: &[u8], items: &[u64], runs: &
     match call {
         b"products" => on_firsts(items, runs, |items| products(alloc, items)),
         b"comparisons" => on_firsts(items, runs, |items| comparisons(alloc, items)),
-        _ => 0,
+        _ => usize::MAX,
     }
 }
 

@@ -22,7 +22,7 @@ pub extern "C" fn bench_bits(alloc: Global, call: &[u8], bytes: &[u8], parts: &[
         b"words_of_u8" => on_each(parts, |part| words::<u8>(bytes, part)),
         b"iter" => on_each(parts, |part| ones_of(bytes, part)),
         b"sliced" => on_whole(alloc, bytes, parts, sliced),
-        _ => 0,
+        _ => usize::MAX,
     }
 }
 
@@ -74,7 +74,7 @@ pub extern "C" fn bench_bytes(alloc: Global, call: &[u8], bytes: &[u8], runs: &[
         b"get" => on_whole(alloc, bytes, runs, get),
         b"iter_nth" => on_whole(alloc, bytes, runs, iter_nth),
         b"pieces" => on_whole(alloc, bytes, runs, pieces),
-        _ => 0,
+        _ => usize::MAX,
     }
 }
 
@@ -164,7 +164,11 @@ fn change_next(alloc: Global, bytes: &[u8], lengths: &[usize]) -> usize {
 /// Turns the bits of all chunks.
 fn turn_chunks(chunks: BitChunksExactMut<'_, u64>) {
     let mut chunks = chunks;
-    while chunks.change_next(turn) {}
+    for _ in 0..u64::MAX {
+        if !chunks.change_next(|chunk| turn(chunk)) {
+            break;
+        }
+    }
 }
 
 /// Turns the bits of the bytes.

@@ -18,7 +18,7 @@ pub extern "C" fn bench_bools(alloc: Global, call: &[u8], items: &[bool], runs: 
         b"push" => on_firsts(items, runs, |items| push(alloc, items)),
         b"from_bools" => on_firsts(items, runs, |items| from_bools(alloc, items)),
         b"try_from_iter" => on_firsts(items, runs, |items| try_from_iter(alloc, items)),
-        _ => 0,
+        _ => usize::MAX,
     }
 }
 
@@ -92,7 +92,7 @@ pub extern "C" fn bench_append(
     match call {
         b"extend_from_slice" => on_each(parts, |part| extend_from_slice(alloc, *own, bytes, part)),
         b"extend_constant" => on_each(parts, |part| extend_constant(alloc, *own, part.length)),
-        _ => 0,
+        _ => usize::MAX,
     }
 }
 
@@ -136,8 +136,8 @@ pub extern "C" fn bench_assign(
         b"xor_assign_by_bytes" => changed(alloc, own, bytes, parts, runs, xor_assign::<u8>),
         b"and_assign" => changed(alloc, own, bytes, parts, runs, and_assign),
         b"binary_assign_table" => changed(alloc, own, bytes, parts, runs, equal_by_table),
-        b"unary_assign_table" => changed(alloc, own, bytes, parts, runs, turned_by_table),
-        _ => 0,
+        b"unary_assign_table" => turned_by_table(alloc, own, runs),
+        _ => usize::MAX,
     }
 }
 
@@ -200,7 +200,14 @@ fn equal_by_table(own: &mut MutableBitmap, other: &Bitmap) {
     }
 }
 
-/// Turns all items.
-fn turned_by_table(own: &mut MutableBitmap, _: &Bitmap) {
-    unary_assign_table::<u8>(own, 0b01);
+/// Turns all items of a growing bitmap by a table, once for each run, and counts the items that are false then.
+fn turned_by_table(alloc: Global, own: &[u8], runs: &[usize]) -> usize {
+    let Ok(made) = growing(alloc, own, own.len().saturating_mul(8)) else {
+        return 0;
+    };
+    let mut bitmap = made;
+    for _ in runs {
+        unary_assign_table::<u8>(&mut bitmap, 0b01);
+    }
+    bitmap.unset_bits()
 }

@@ -6,7 +6,7 @@
 //! first run. So the time of the runs is the time of a call less that of a call with no runs.
 //!
 //! Nothing is required of the slices: a run that they do not allow adds 0. The number is 0 where memory runs out, and
-//! where no call has the name.
+//! the greatest of all where no call has the name.
 #![tactic(auto)]
 
 mod bitmaps;

@@ -16,7 +16,7 @@ pub extern "C" fn bench_numbers(alloc: Global, call: &[u8], numbers: &[usize]) -
         b"new_zeroed" => on_each(numbers, |number| {
             Ok(Bitmap::new_zeroed(alloc, *number)?.unset_bits())
         }),
-        _ => 0,
+        _ => usize::MAX,
     }
 }
 

@@ -13,7 +13,7 @@ pub extern "C" fn bench_slot(alloc: Global, call: &[u8], slots: &[usize], runs: 
     match call {
         b"try_from_lengths" => on_firsts(slots, runs, |slots| try_from_lengths(alloc, slots)),
         b"extend_from_lengths" => on_firsts(slots, runs, |slots| extend_from_lengths(alloc, slots)),
-        _ => 0,
+        _ => usize::MAX,
     }
 }
 
@@ -37,7 +37,7 @@ pub extern "C" fn bench_longs(alloc: Global, call: &[u8], items: &[i64], runs: &
         b"try_push" => on_firsts(items, runs, |slots| try_push(alloc, slots)),
         b"try_from" => try_from(alloc, items, runs),
         b"start_end" => start_ends(alloc, items, runs),
-        _ => 0,
+        _ => usize::MAX,
     }
 }
 
@@ -119,7 +119,7 @@ fn on_slices(call: &[u8], whole: &OffsetsBuffer<i64>, parts: &[Part]) -> usize {
         b"sliced" => on_each(parts, |part| last(&slice(whole, part)?)),
         b"lengths" => on_each(parts, |part| lengths(&slice(whole, part)?)),
         b"extend_from_slice" => on_each(parts, |part| extend_from_slice(&slice(whole, part)?)),
-        _ => 0,
+        _ => usize::MAX,
     }
 }
 

@@ -31,7 +31,7 @@ pub extern "C" fn bench_tables(
         b"ternary_table" => on_inputs(alloc, &all, parts, runs, ternary),
         b"quaternary_table" => on_inputs(alloc, &all, parts, runs, quaternary),
         b"and_kleene" => on_arrays(alloc, &all, parts, runs),
-        _ => 0,
+        _ => usize::MAX,
     }
 }
 

@@ -29,7 +29,7 @@ pub extern "C" fn bench_zips(
             |validity| zip_iter(numbers, validity),
         ),
         b"nth" => zip_nth(alloc, numbers, bytes, runs),
-        _ => 0,
+        _ => usize::MAX,
     }
 }
 
