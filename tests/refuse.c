@@ -1,5 +1,6 @@
 /* Preloaded, it refuses one request for memory: the one whose number, from 1 on, REFUSE gives, and says so on
-   descriptor 3. It takes no header, since the kit's compiler comes without any. */
+   descriptor 3. Where REFUSE is 0 it refuses none, and writes a line there for each. It takes no header, since the kit's
+   compiler comes without any. */
 typedef __SIZE_TYPE__ size_t;
 
 extern void *dlsym(void *handle, const char *name);
@@ -12,10 +13,14 @@ extern long write(int descriptor, const void *bytes, size_t count);
 
 static int refused(void) {
     static long left = -1;
+    static int lists;
     if (left < 0) {
         const char *number = getenv("REFUSE");
         left = number ? atol(number) : 0;
+        lists = left == 0;
     }
+    if (lists)
+        write(3, "requested\n", 10);
     if (left == 0 || --left > 0)
         return 0;
     write(3, "refused\n", 8);
