@@ -1,16 +1,17 @@
-# Writes a script and its replies: whatever bit offset, spare bits and spare bytes stand behind a list, each command replies
-# by the list alone. Up to `alist`, each function is a command or what it says of plain texts of 0 and 1.
+# Writes a script and its replies: each command replies by the list alone, whatever bit offset, spare bits and spare bytes
+# the list has in memory. The functions up to `alist` define the commands on texts of 0 and 1.
 #
 #   awk -v script=FILE -v replies=FILE -f tests/storage.awk
 #
 # With `-v large=1` lists, offsets and replies are longer than each block, cache and table of the layer.
 
+# Writes a line and its reply.
 function row(line, reply) {
     print line >script
     print reply >replies
 }
 
-# A command after which slot d holds the list.
+# Writes a command after which slot d holds the list.
 function holds(d, list, line) {
     row(line, "ok")
     held[d] = list
@@ -19,6 +20,7 @@ function holds(d, list, line) {
 function shown(list) { return list == "" ? "-" : list }
 function item(list, i) { return substr(list, i + 1, 1) }
 
+# Returns the text so many times.
 function repeated(text, times,    all) {
     for (; times > 0; times = int(times / 2)) {
         if (times % 2)
@@ -34,16 +36,16 @@ function reversed(text,    i, all) {
     return all
 }
 
-# Two digits a byte, whose lowest bit comes first.
+# Returns the hexadecimal digits of bytes, two a byte. The lowest bit of a byte comes first.
 function digits(text,    i, all) {
     for (i = 1; i < length(text); i += 8)
         all = all digits_of[substr(text, i, 8)]
     return all
 }
 
-# The list from a bit offset on, all other bits alike, and bytes more behind it.
-function raw(s, list, offset, spare, behind,    text, bytes) {
-    bytes = int((offset + length(list) + 7) / 8) + behind
+# Stores the list from a bit offset on. All other bits are equal, those of `extra` more bytes too.
+function raw(s, list, offset, spare, extra,    text, bytes) {
+    bytes = int((offset + length(list) + 7) / 8) + extra
     text = repeated(spare, offset) list
     text = digits(text repeated(spare, 8 * bytes - length(text)))
     holds(s, list, "raw " s " " shown(text) " " offset " " length(list))
@@ -70,7 +72,7 @@ function pop(s,    last) {
     held[s] = substr(held[s], 1, last)
 }
 
-# Where each run of trues begins, and how long it is.
+# Splits the list at its falses.
 function runs(s,    trues, i, n, at, all) {
     n = split(held[s], trues, "0")
     for (i = 1; i <= n; i++) {
@@ -81,14 +83,14 @@ function runs(s,    trues, i, n, at, all) {
     row("runs " s, shown(substr(all, 2)))
 }
 
-# A number of up to 32 bits, whose lowest one comes first.
+# Returns a number of up to 32 bits. The lowest bit comes first.
 function small_number(text,    i, n) {
     for (i = length(text); i > 0; i--)
         n = 2 * n + substr(text, i, 1)
     return n + 0
 }
 
-# A number of up to 64 bits in decimal: 2 ^ 32 is 4294 million and 967296.
+# Returns a number of up to 64 bits in decimal: 2 ^ 32 is 4294 million and 967296.
 function number(text,    high, low, millions) {
     high = small_number(substr(text, 33))
     low = high * 967296 + small_number(substr(text, 1, 32))
@@ -98,16 +100,16 @@ function number(text,    high, low, millions) {
 }
 
 function words_of(list, width,    i, all) {
-    if ((list, width) in told)
-        return told[list, width]
+    if ((list, width) in known)
+        return known[list, width]
     for (i = 1; i <= length(list); i += width)
         all = all " " number(substr(list, i, width))
-    return told[list, width] = substr(all, 2)
+    return known[list, width] = substr(all, 2)
 }
 
 function words(s, width) { row("words " s " " width, shown(words_of(held[s], width))) }
 
-# What a table of so many inputs answers: bit x + 2 * y + 4 * z + 8 * v of it for items x, y, z, v.
+# Defines a table of so many inputs: items x, y, z, v give bit x + 2 * y + 4 * z + 8 * v of t.
 function define(t, inputs,    i, k, items) {
     for (i = 0; i < 2 ^ inputs; i++) {
         items = ""
@@ -117,19 +119,20 @@ function define(t, inputs,    i, k, items) {
     }
 }
 
-# Rows of items, and of the answer behind them.
+# Defines a function by its rows: the items and the result, which is the last character.
 function define_rows(name, rows,    i, items) {
     for (i = split(rows, items, " "); i > 0; i--)
         answer[name, substr(items[i], 1, length(items[i]) - 1)] = substr(items[i], length(items[i]))
 }
 
+# Applies a function item by item.
 function one_by_one(t, x, y, z, v,    i, all) {
     for (i = 1; i <= length(x); i++)
         all = all answer[t, substr(x, i, 1) substr(y, i, 1) substr(z, i, 1) substr(v, i, 1)]
     return all
 }
 
-# Lists that were looked up are kept, so that those with an item more take one step.
+# Applies a function, and keeps its result, so that lists with one item more take one step.
 function looked_up(t, x, y, z, v,    n, half, key, front) {
     n = length(x)
     if (n > 1000) {
@@ -138,20 +141,20 @@ function looked_up(t, x, y, z, v,    n, half, key, front) {
             looked_up(t, substr(x, half + 1), substr(y, half + 1), substr(z, half + 1), substr(v, half + 1))
     }
     key = t " " x " " y " " z " " v
-    if (key in told)
-        return told[key]
+    if (key in known)
+        return known[key]
     front = t " " substr(x, 1, n - 1) " " substr(y, 1, n - 1) " " substr(z, 1, n - 1) " " substr(v, 1, n - 1)
-    if (front in told)
-        return told[key] = told[front] one_by_one(t, substr(x, n), substr(y, n), substr(z, n), substr(v, n))
-    return told[key] = one_by_one(t, x, y, z, v)
+    if (front in known)
+        return known[key] = known[front] one_by_one(t, substr(x, n), substr(y, n), substr(z, n), substr(v, n))
+    return known[key] = one_by_one(t, x, y, z, v)
 }
 
 function negate(d, a) { holds(d, looked_up("not", held[a]), "not " d " " a) }
 
-# The operator of the name, of bitmaps or of arrays.
+# Runs an operator on bitmaps, or on arrays.
 function operator(name, d, a, b) { holds(d, looked_up(name, held[a], held[b]), name " " d " " a " " b) }
 
-# The table of as many inputs as there are slots.
+# Runs a table of as many inputs as there are slots.
 function table(d, t, slots,    n, s) {
     n = split(slots, s, " ")
     holds(d, looked_up(t, held[s[1]], held[s[2]], held[s[3]], held[s[4]]), "table" n " " d " " t " " slots)
@@ -163,7 +166,7 @@ function inplace2(s, t, width, a) {
     holds(s, looked_up(t, held[s], held[a]), "inplace2 " s " " t " " width " " a)
 }
 
-# Offsets are held as their numbers, joined by a space.
+# Offsets are numbers joined by a space.
 function onew(s, first) { holds(s, first, "onew " s " " first) }
 function oext(s, list) { holds(s, extended(held[s], list), "oext " s " " shown(list)) }
 function ofreeze(s) { row("ofreeze " s, "ok") }
@@ -180,12 +183,12 @@ function extended(offsets, list,    numbers, more, n, i, last, all) {
 }
 
 function zipped(offsets, valid,    numbers, n, i, all) {
-    if ((offsets, valid) in told)
-        return told[offsets, valid]
+    if ((offsets, valid) in known)
+        return known[offsets, valid]
     n = split(offsets, numbers, " ")
     for (i = 1; i < n; i++)
         all = all " " (substr(valid, i, 1) == 1 ? numbers[i + 1] - numbers[i] : "null")
-    return told[offsets, valid] = substr(all, 2)
+    return known[offsets, valid] = substr(all, 2)
 }
 
 function zip(s, v) { row("zip " s " " v, shown(zipped(held[s], held[v]))) }
@@ -195,7 +198,7 @@ function aslice(s, i, n) { holds(s, substr(held[s], i + 1, n), "aslice " s " " i
 function anulls(s) { row("anulls " s, how_many(held[s], "n")) }
 function alist(s) { row("alist " s, shown(held[s])) }
 
-# A list without a pattern.
+# Returns a list without a pattern.
 function scattered(seed, n,    all) {
     for (; n > 0; n--) {
         seed = seed * 16807 % 2147483647
@@ -204,12 +207,13 @@ function scattered(seed, n,    all) {
     return all
 }
 
-# Slot d grows from the items of slot s.
+# Copies the items of slot s to slot d, which grows.
 function grown(s, d) {
     copy(s, d)
     thaw(d)
 }
 
+# Reads all items in each way.
 function reads(s,    i) {
     count(s)
     runs(s)
@@ -217,6 +221,7 @@ function reads(s,    i) {
         words(s, widths[i])
 }
 
+# Reads each item, and sets it in a copy.
 function each_item(s,    i, n) {
     n = length(held[s])
     for (i = 0; i < n; i++) {
@@ -230,6 +235,7 @@ function each_item(s,    i, n) {
     get(s, "18446744073709551615")
 }
 
+# Slices the list from each item on, and slices that part.
 function each_part(s,    start, n) {
     for (start = 0; start <= length(held[s]); start++) {
         n = length(held[s]) - start
@@ -243,6 +249,7 @@ function each_part(s,    start, n) {
     }
 }
 
+# Pushes each value, and pops two items.
 function both_ends(s,    bit) {
     for (bit = 0; bit < 2; bit++) {
         grown(s, 9)
@@ -260,7 +267,7 @@ function equal(a, b) {
     same(b, a)
 }
 
-# Equality goes by the items: the same ones, one less, and the last one turned.
+# Compares the list with itself, without its last item, and with that item negated.
 function equality(s,    n) {
     n = length(held[s])
     new(9, held[s])
@@ -279,6 +286,7 @@ function equality(s,    n) {
     equal(s, 9)
 }
 
+# Appends the list to up to nine items.
 function appended(s,    own) {
     for (own = 0; own < 10; own++) {
         new(9, substr(lists[4], 1, own))
@@ -287,7 +295,7 @@ function appended(s,    own) {
     }
 }
 
-# Changed in place at a width, slot s becomes what slot 9 holds.
+# Changes slot s in place at a width, and compares it with slot 9.
 function changed(s, t, turn, other) {
     grown(s, 10)
     if (other == "")
@@ -298,8 +306,8 @@ function changed(s, t, turn, other) {
     same(9, 10)
 }
 
-# Four tables, each of them in place at a width, which the turns exchange.
-function alone(s, turn,    i, t) {
+# Runs functions of one list. The turn selects the widths in place.
+function single(s, turn,    i, t) {
     negate(9, s)
     bits(9)
     for (i = 1; i <= 4; i++) {
@@ -310,8 +318,8 @@ function alone(s, turn,    i, t) {
     }
 }
 
-# Slots b and c hold one list.
-function beside(a, b, c, turn,    i, t) {
+# Runs functions of two lists. Slots b and c hold the same list.
+function pair(a, b, c, turn,    i, t) {
     for (i = 1; i <= 3; i++) {
         operator(names[i], 9, a, b)
         bits(9)
@@ -329,7 +337,8 @@ function beside(a, b, c, turn,    i, t) {
     }
 }
 
-function beside_three(a, b, c, e,    i) {
+# Runs functions of three and four lists.
+function wide_tables(a, b, c, e,    i) {
     for (i = 1; i <= 4; i++) {
         table(9, tables[i] % 256, a " " b " " c)
         bits(9)
@@ -338,7 +347,7 @@ function beside_three(a, b, c, e,    i) {
     }
 }
 
-# Values beside their validity.
+# Makes arrays of values with a validity.
 function validities(v, m) {
     anew(9, v, m)
     alist(9)
@@ -355,6 +364,7 @@ function validities(v, m) {
     alist(9)
 }
 
+# Makes an array without validity. Slot 10 holds one with a validity.
 function without_validity(v) {
     anew(9, v, "-")
     anulls(9)
@@ -364,7 +374,7 @@ function without_validity(v) {
     alist(11)
 }
 
-# As many lengths as the list has items.
+# Makes offsets of as many lengths as the list has items.
 function lengths(s, list,    i, all) {
     for (i = 1; i <= length(list); i++)
         all = all "," i % 7
@@ -373,8 +383,9 @@ function lengths(s, list,    i, all) {
     ofreeze(s)
 }
 
-function in_storage(list, offset, spare, behind) {
-    raw(0, list, offset, spare, behind)
+# Runs each command on a list in one storage.
+function in_storage(list, offset, spare, extra) {
+    raw(0, list, offset, spare, extra)
     bits(0)
     reads(0)
     each_item(0)
@@ -382,16 +393,16 @@ function in_storage(list, offset, spare, behind) {
     both_ends(0)
     equality(0)
     appended(0)
-    alone(0, offset)
-    beside(0, 1, 1, offset)
-    beside(1, 0, 0, offset)
-    beside_three(2, 0, 1, 0)
+    single(0, offset)
+    pair(0, 1, 1, offset)
+    pair(1, 0, 0, offset)
+    wide_tables(2, 0, 1, 0)
     validities(0, 1)
     without_validity(0)
     zip(8, 0)
 }
 
-# The list at each bit offset of a byte, spare bits all false and all true, with no, one and two spare bytes.
+# Stores the list at each bit offset of a byte, with spare bits all false and all true, and with 0 to 2 spare bytes.
 function in_each_storage(list,    i) {
     new(1, reversed(list))
     freeze(1)
@@ -402,7 +413,7 @@ function in_each_storage(list,    i) {
         in_storage(list, i % 8, int(i / 8) % 2, int(i / 16))
 }
 
-# Each list once that begins with this one and has at most five items.
+# Takes each list of at most five items that begins with this one.
 function in_storages_from(list) {
     in_each_storage(list)
     if (length(list) < 5) {
@@ -411,7 +422,7 @@ function in_storages_from(list) {
     }
 }
 
-# Bits of one value are appended at each own bit place.
+# Appends one value n times at each bit place.
 function at_each_place(n,    own) {
     for (own = 0; own < 16; own++) {
         new(9, substr(lists[4], 1, own))
@@ -422,7 +433,7 @@ function at_each_place(n,    own) {
     }
 }
 
-# A list is appended at each pair of an own and another bit place, and changes one that is stored at each place.
+# Appends a list at each pair of bit places, and changes lists in place by it.
 function at_each_pair(n,    own, other) {
     for (other = 0; other < 8; other++) {
         raw(0, substr(lists[2], 1, n), other, 1, 1)
@@ -438,7 +449,7 @@ function at_each_pair(n,    own, other) {
     }
 }
 
-# Lists of a length without a pattern, at each bit offset of the first one.
+# Stores lists of n items at each bit offset of the first one.
 function at_each_offset(n,    offset) {
     lengths(8, substr(lists[1], 1, n))
     for (offset = 0; offset < 16; offset++) {
@@ -449,14 +460,15 @@ function at_each_offset(n,    offset) {
         raw(4, substr(lists[4], 1, n), 15 - offset, 1, 1)
         reads(0)
         equality(0)
-        alone(0, n + offset)
-        beside(0, 2, 1, n + offset)
-        beside_three(0, 2, 3, 4)
+        single(0, n + offset)
+        pair(0, 2, 1, n + offset)
+        wide_tables(0, 2, 3, 4)
         validities(0, 2)
         zip(8, 2)
     }
 }
 
+# Runs all commands on lists of up to 600 items.
 function small_lists(    n) {
     in_storages_from("")
     for (n = 63; n <= 65; n++)
@@ -470,20 +482,21 @@ function small_lists(    n) {
         at_each_offset(n)
 }
 
+# Runs functions of 100,000 items.
 function large_lists(    s) {
     for (s = 0; s < 5; s++)
         raw(s, repeated(scattered(s ? s : 1, 1000), 100), 3 * s, 1, 1)
     bits(0)
     reads(0)
     equality(0)
-    alone(1, 1)
-    beside(0, 2, 2, 1)
-    beside(4, 0, 1, 2)
-    beside_three(0, 2, 3, 4)
+    single(1, 1)
+    pair(0, 2, 2, 1)
+    pair(4, 0, 1, 2)
+    wide_tables(0, 2, 3, 4)
     validities(2, 3)
 }
 
-# A bitmap is changed while another slot shares its bytes, and grows past a million items.
+# Changes a bitmap that shares its bytes, and lets it grow to more than a million items.
 function large_growth(s) {
     grown(s, 9)
     append(9, s)
@@ -498,10 +511,11 @@ function large_growth(s) {
     count(10)
     pop(10)
     pop(10)
-    large_answers(10)
+    large_functions(10)
 }
 
-function large_answers(s) {
+# Runs functions of a million items.
+function large_functions(s) {
     freeze(s)
     table(11, 1, s)
     count(11)
@@ -516,6 +530,7 @@ function large_answers(s) {
     count(13)
 }
 
+# Makes offsets of thousands of lengths.
 function large_offsets(list) {
     raw(1, list, 5, 1, 1)
     lengths(0, list)
@@ -525,6 +540,7 @@ function large_offsets(list) {
     equal(0, 2)
 }
 
+# Sets the tables that the functions look up.
 function prepare(    n, i, byte) {
     for (n = 0; n < 256; n++) {
         byte = ""

@@ -26,11 +26,6 @@ fn popped(rt: &impl Abort, made: Result<MutableBitmap>) -> Result<MutableBitmap>
     Ok(bitmap)
 }
 
-/// The bitmap that was made, with each item turned.
-fn turned(made: Result<MutableBitmap>) -> Result<MutableBitmap> {
-    Ok(!made?)
-}
-
 /// A bitmap has the items, which begin at this bit of the bytes, and prints as the text.
 fn is_stored(
     rt: &impl Abort,
@@ -56,7 +51,8 @@ fn bitmaps_are_parts_of_their_bytes(rt: HostRuntime) {
     let whole = bitmap_of(&rt, alloc, &bytes, 5);
     let items = [true, false, true, true, false];
     is_stored(&rt, alloc, &whole, &items, (&bytes, 0), "[0b___01101]");
-    let part = whole.sliced(1, 4);
+    let mut part = whole.clone().expect(&rt, "no memory");
+    part.slice(1, 4);
     is_stored(&rt, alloc, &part, &items[1..], (&bytes, 1), "[0b___0110_]");
     let three = bitmap_of(&rt, alloc, &[255], 3);
     is_stored(&rt, alloc, &three, &[true; 3], (&[255], 0), "[0b_____111]");
@@ -68,10 +64,13 @@ fn bitmaps_are_parts_of_their_bytes(rt: HostRuntime) {
 fn a_moved_slice_shows_the_bytes_that_it_touches(rt: HostRuntime) {
     let alloc = rt.alloc();
     let bytes = [0, 0, 0, 0b00010101];
-    let moved = bitmap_of(&rt, alloc, &bytes, 27).sliced(22, 5);
+    let copied = Bitmap::from_u8_slice(alloc, &bytes, 27);
+    let moved = copied.expect(&rt, "no memory").sliced(22, 5);
     let items = [false, false, true, false, true];
     let text = "[0b00______, 0b_____101]";
     is_stored(&rt, alloc, &moved, &items, (&bytes[2..], 6), text);
+    let copy = moved.clone().expect(&rt, "no memory");
+    stores(&rt, copy.make_mut(), &[20]);
     let (storage, offset, length, unset_bits) = moved.into_inner();
     has(&rt, storage.as_slice(), &bytes);
     has(&rt, &[offset, length, unset_bits], &[22, 5, 3]);
@@ -103,9 +102,8 @@ fn bytes_that_grow_are_canonical(rt: HostRuntime) {
     stores(&rt, MutableBitmap::from_len_set(alloc, 3), &[7]);
     let three = MutableBitmap::from_len_set(alloc, 3);
     stores(&rt, popped(&rt, three), &[3]);
-    stores(&rt, turned(MutableBitmap::from_len_zeroed(alloc, 3)), &[7]);
-    let part = bitmap_of(&rt, alloc, &[0, 0, 0, 0b00010101], 27).sliced(22, 5);
-    stores(&rt, part.make_mut(), &[20]);
+    let zeros = MutableBitmap::from_len_zeroed(alloc, 3).expect(&rt, "no memory");
+    stores(&rt, Ok(!zeros), &[7]);
 }
 
 #[test]
@@ -151,8 +149,14 @@ fn an_iterator_is_taken_from_both_ends(rt: HostRuntime) {
     shows(&rt, alloc, &items, text);
     let left = items.clone().expect(&rt, "no memory");
     gives(&rt, alloc, left, &[false, true, true, false]);
-    let ended = [items.nth(usize::MAX), items.next(), items.next_back()];
-    has(&rt, &ended, &[None, None, None]);
+    let mut items = bitmap_of(&rt, alloc, &[0b00101101], 6).into_iter();
+    let ended = [
+        items.next(),
+        items.nth(usize::MAX),
+        items.next(),
+        items.next_back(),
+    ];
+    has(&rt, &ended, &[Some(true), None, None, None]);
 }
 
 /// What a caller of `try_from_iter` knows: the items of the iterator are those of the bitmap.

@@ -1,4 +1,4 @@
-//! Worked rows of bits and of walks by words, and their printed texts.
+//! Worked rows of bits and of iterators by words, and their printed texts.
 ghost use Rattle.std.specs.Prelude.{◌≡◌, ◌+◌, ◌*◌, ◌<◌, ◌≤◌, length as count};
 
 use super::checks::{gives, has, shows};
@@ -95,8 +95,8 @@ fn bits_are_walked_from_both_ends(rt: HostRuntime) {
     has(&rt, &ended, &[Some(true), None, None, None]);
 }
 
-/// A walk, known by its bound alone, gives the word if there is one, and then the items of the rest, which
-/// stand in the word `rest`.
+/// Checks that an iterator, known by its bound alone, gives the word if there is one, and then the items of the rest,
+/// which are in the word `rest`.
 fn has_words<B: BitChunk, I: BitChunkIterExact<B>>(
     rt: &impl Abort,
     alloc: Global,
@@ -114,6 +114,7 @@ fn has_words<B: BitChunk, I: BitChunkIterExact<B>>(
 fn words_are_taken_at_a_bit_offset(rt: HostRuntime) {
     let alloc = rt.alloc();
     let words = BitChunks::<u8>::new(&[0b10110110, 0b01011011], 3, 10);
+    has(&rt, &[BitChunks::len(&words)], &[1]);
     has(&rt, &[words.size_hint()], &[(1, Some(1))]);
     has_words(&rt, alloc, words, Some(118), 11, &[true, true]);
     let words = BitChunks::<u16>::new(&[255, 1, 128], 4, 20);

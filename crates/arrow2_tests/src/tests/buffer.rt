@@ -83,14 +83,14 @@ fn only_an_unshared_buffer_is_written(rt: HostRuntime) {
     written_items_are_the_items::<u32>();
 }
 
-/// What a caller of `try_from_iter` knows: the items of the walk.
+/// Shows what a caller of `try_from_iter` knows: the items of the iterator.
 fn collected(alloc: Global, walk: IntoIter<u32>) -> Result<Buffer<u32>>
     ensures { IfOk result (λ buffer. buffer ≡ whole_buffer walk) }
 {
     Buffer::try_from_iter(alloc, walk)
 }
 
-/// The call made a buffer of these items.
+/// Checks that the call made a buffer of these items.
 fn has_items(rt: &impl Abort, made: Result<Buffer<u32>>, items: &[u32]) {
     has(rt, made.expect(rt, "no memory").as_slice(), items);
 }

@@ -21,14 +21,14 @@ fn clear(bytes: &mut [u8])
     bytes.fill(0);
 }
 
-/// The next chunk set to zeros: a caller that knows all of the walk afterwards.
+/// Sets the next chunk to zeros. The caller knows all of the iterator afterwards.
 fn clear_next<T>(walk: &mut BitChunksExactMut<'_, T>) -> bool
     ensures { OnTrue result (walk.new ≡ past walk.old walk.old.size (replicate walk.old.size 0)) }
 {
     walk.change_next(|chunk| clear(chunk))
 }
 
-/// A walk by chunks of two bytes over five, of which it lends two and shows the last.
+/// Iterates over five bytes by chunks of two, of which it lends two. The last byte is the remainder.
 fn walk_of(bytes: &mut [u8]) -> BitChunksExactMut<'_, u16>
     requires { length bytes.old ≡ 5 }
 {

@@ -14,7 +14,7 @@ fn grown_from(rt: &impl Abort, alloc: Global, items: &[bool]) -> MutableBitmap {
     MutableBitmap::from_bools(alloc, items).expect(rt, "no memory")
 }
 
-/// The items, and behind them so many bits from bit `offset` of the bytes on.
+/// Appends so many bits from bit `offset` of the bytes on to the items.
 fn extended(
     rt: &impl Abort,
     alloc: Global,
@@ -31,7 +31,7 @@ fn extended(
     grown
 }
 
-/// The bitmap is frozen: its length, how many items are false, and its runs.
+/// Freezes the bitmap, and checks its length, how many items are false, and its runs.
 fn has_runs(
     rt: &impl Abort,
     alloc: Global,
@@ -58,19 +58,14 @@ fn bits_and_words_are_appended_within_a_byte(rt: HostRuntime) {
     has_runs(&rt, alloc, grown, [155, 5], &[(5, 150)]);
 }
 
-/// A bitmap that is frozen stands at the first bit of the bytes.
-fn freezes(rt: &impl Abort, grown: MutableBitmap, bytes: &[u8], length: usize) {
-    let frozen = Bitmap::try_from(grown).expect(rt, "no memory");
-    let (storage, offset, items) = frozen.as_slice();
-    has(rt, storage, bytes);
-    assert!(rt; offset == 0 && items == length);
-}
-
 #[test]
 fn a_value_is_appended_behind_spare_bits(rt: HostRuntime) {
     let mut grown = MutableBitmap::from_vec(bytes_of(&rt, rt.alloc(), &[85, 255, 255]), 12);
     grown.extend_constant(4, false).expect(&rt, "no memory");
-    freezes(&rt, grown, &[85, 15], 16);
+    let frozen = Bitmap::try_from(grown).expect(&rt, "no memory");
+    let (storage, offset, length) = frozen.as_slice();
+    has(&rt, storage, &[85, 15]);
+    has(&rt, &[offset, length], &[0, 16]);
 }
 
 #[test]
@@ -85,7 +80,7 @@ fn room_is_made_and_given_back(rt: HostRuntime) {
     stores(&rt, Ok(grown), &[7]);
 }
 
-/// A validity of the items is there where one of them is false.
+/// Checks whether the items have a validity: where one of them is false.
 fn has_validity(rt: &impl Abort, alloc: Global, items: &[bool], is_there: bool) {
     let validity = grown_from(rt, alloc, items).into_validity();
     match validity.expect(rt, "no memory") {

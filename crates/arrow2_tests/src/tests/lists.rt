@@ -1,4 +1,4 @@
-//! What lists of booleans answer, by plain code that calls nothing of the layer.
+//! Functions of lists of booleans, by plain code that calls nothing of the layer.
 ghost use Rattle.std.specs.Prelude.{◌<◌};
 
 use std::alloc::{AllocError, Global};
@@ -6,24 +6,23 @@ use std::alloc::{AllocError, Global};
 /// A list that plain code gives, where it found memory.
 pub(super) type Given = Result<Vec<bool>, AllocError>;
 
-/// The item at a place, and false behind the last one.
+/// Returns the item at a place, and false after the last one.
 pub(super) fn at(list: &[bool], i: usize) -> bool {
     matches!(list.get(i), Some(true))
 }
 
-/// How many items are true.
+/// Counts the items that are true.
 pub(super) fn trues(list: &[bool]) -> usize {
     list.iter().filter(|item| **item).count()
 }
 
-/// The items, and those of another list behind them.
+/// Appends the items of another list.
 pub(super) fn joined(mut items: Vec<bool>, list: &[bool]) -> Given {
     items.extend_from_slice(list)?;
     Ok(items)
 }
 
-/// Item `i` of lists of which each is moved by a place more within words of `width` items: those that stand there, added
-/// without carry.
+/// Returns item `i` of the sum of lists without carry, list `k` moved by `k` places within words of `width` items.
 fn mixed_at(lists: &[&[bool]], width: usize, i: usize) -> bool
     requires { 0 < width }
 {
@@ -36,7 +35,7 @@ fn mixed_at(lists: &[&[bool]], width: usize, i: usize) -> bool
     item
 }
 
-/// All items of such lists.
+/// Returns all items of such lists.
 pub(super) fn mixed(alloc: Global, lists: &[&[bool]], width: usize) -> Given
     requires { 0 < width }
 {
@@ -47,7 +46,7 @@ pub(super) fn mixed(alloc: Global, lists: &[&[bool]], width: usize) -> Given
     Ok(items)
 }
 
-/// The items that a table answers: bit `a + 2 * b` of it.
+/// Looks each pair of items up in a table: bit `a + 2 * b` of it.
 pub(super) fn looked_up(alloc: Global, t: u8, a: &[bool], b: &[bool]) -> Given {
     let mut items = Vec::new(alloc);
     for (a, b) in a.iter().zip(b) {
@@ -57,7 +56,7 @@ pub(super) fn looked_up(alloc: Global, t: u8, a: &[bool], b: &[bool]) -> Given {
     Ok(items)
 }
 
-/// The values, null where their validity is false.
+/// Returns the values, null where their validity is false.
 pub(super) fn nulled(
     alloc: Global,
     values: &[bool],
@@ -82,7 +81,7 @@ fn stored_byte(list: &[bool], offset: usize, spare: bool, index: usize) -> u8 {
     byte
 }
 
-/// Bytes that hold a list from bit `offset` on, all other bits alike, and some bytes more behind them.
+/// Returns bytes that hold a list from bit `offset` on, all other bits alike, those of `behind` more bytes too.
 pub(super) fn stored(
     alloc: Global,
     list: &[bool],

@@ -38,10 +38,9 @@ fn shares<O: Offset>(rt: &impl Abort, made: Result<OffsetsBuffer<O>>, items: &[O
 #[test]
 fn growing_offsets_are_read(rt: HostRuntime) {
     let offsets = grown::<i32>(&rt, rt.alloc(), &[3, 4, 1, 2]);
-    assert!(rt; offsets.len() == 5);
+    assert!(rt; offsets.len() == 5 && offsets.len_proxy() == 4);
     has(&rt, &[*offsets.last(), offsets[1]], &[10, 3]);
     has(&rt, &[offsets.start_end(1)], &[(3, 7)]);
-    has(&rt, &[offsets.len_proxy()], &[4]);
 }
 
 /// Shared offsets have these lengths.
@@ -86,9 +85,10 @@ fn is_taken(rt: &impl Abort, given: Either<OffsetsBuffer<i32>, Offsets<i32>>, it
 #[test]
 fn shared_offsets_are_taken_back_where_nothing_is_sliced_off(rt: HostRuntime) {
     let alloc = rt.alloc();
-    let part = shared(&rt, alloc, &[5, 8, 8, 12]);
+    let mut part = shared(&rt, alloc, &[5, 8, 8, 12]);
     assert!(rt; part.len() == 4);
-    stays(&rt, part.sliced(1, 2).into_mut(), &[8, 8]);
+    part.slice(1, 2);
+    stays(&rt, part.into_mut(), &[8, 8]);
     let whole = shared(&rt, alloc, &[5, 8, 8, 12]);
     let other = whole.clone().expect(&rt, "no memory");
     stays(&rt, whole.into_mut(), &[5, 8, 8, 12]);

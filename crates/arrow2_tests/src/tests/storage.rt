@@ -1,5 +1,5 @@
-//! The storage test of what no command of a script reaches: whatever bit offset, spare bits and spare bytes stand behind a
-//! list, each call that shows no storage goes by the list alone.
+//! The storage test of the calls that no command of a script makes: each call that shows no storage depends on the list
+//! alone, whatever bit offset, spare bits and spare bytes the list has in memory.
 ghost use Rattle.std.specs.Prelude.{◌≡◌, ◌<◌, length};
 ghost use Rattle.arrow2_model.specs.Storage.{items_of};
 
@@ -25,7 +25,7 @@ use std::slice;
 /// A bitmap, and the list that it is to act as.
 type Of<'a, 'b> = (&'a Bitmap, &'b [bool]);
 
-/// The call made a bitmap of these items.
+/// Checks that the call made a bitmap of these items.
 fn makes(rt: &impl Abort, made: Result<Bitmap>, list: &Given) {
     let (Ok(bitmap), Ok(list)) = (made, list) else {
         panic!(rt; "no memory");
@@ -33,12 +33,12 @@ fn makes(rt: &impl Abort, made: Result<Bitmap>, list: &Given) {
     assert!(rt; bitmap.len() == list.len() && bitmap.iter().eq(list.iter().copied()));
 }
 
-/// The bitmap that was changed has these items.
+/// Checks that the bitmap that was changed has these items.
 fn becomes(rt: &impl Abort, changed: MutableBitmap, list: &Given) {
     makes(rt, Bitmap::try_from(changed), list);
 }
 
-/// Items are iterated from both ends.
+/// Iterates over the items from both ends.
 fn is_walked(rt: &impl Abort, (bitmap, list): Of) {
     assert!(rt; bitmap.iter().rev().eq(list.iter().rev().copied()));
     let (mut inwards, mut items) = (bitmap.iter(), list.iter().copied());
@@ -48,7 +48,7 @@ fn is_walked(rt: &impl Abort, (bitmap, list): Of) {
     }
 }
 
-/// An iterator skips to each place, and to the one behind the last.
+/// Skips to each place, and to the one after the last.
 fn is_skipped(rt: &impl Abort, (bitmap, list): Of) {
     for i in 0..list.len() + 1 {
         assert!(rt; bitmap.iter().nth(i) == list.get(i).copied());
@@ -56,7 +56,7 @@ fn is_skipped(rt: &impl Abort, (bitmap, list): Of) {
     }
 }
 
-/// Each part from item `start` on counts its own falses.
+/// Counts the falses of each part from item `start` on.
 fn is_counted_from(rt: &impl Abort, (bitmap, list): Of, start: usize) {
     assert!(rt; bitmap.len() == list.len() && start <= list.len());
     let mut falses = 0usize;
@@ -66,7 +66,7 @@ fn is_counted_from(rt: &impl Abort, (bitmap, list): Of, start: usize) {
     }
 }
 
-/// Words of this width hold the items one by one, and so does the rest.
+/// Checks that words of this width, and the rest, hold the items one by one.
 fn has_words<T: BitChunk>(rt: &impl Abort, (bitmap, list): Of) {
     let mut items = list.iter().copied();
     let words = bitmap.chunks::<T>();
@@ -77,14 +77,14 @@ fn has_words<T: BitChunk>(rt: &impl Abort, (bitmap, list): Of) {
     assert!(rt; rest.eq(items));
 }
 
-/// The word holds the next items.
+/// Checks that the word holds the next items.
 fn has_bits<T: BitChunk>(rt: &impl Abort, word: T, items: &mut Copied<slice::Iter<'_, bool>>) {
     for i in 0..T::WIDTH {
         assert!(rt; items.next() == Some(word.bit(i)));
     }
 }
 
-/// In place, functions of one and of two words of this width go by the words of the lists.
+/// Applies functions of one and of two words of this width in place.
 fn changes_by_words<T: BitChunk>(rt: &impl Abort, left: Of, right: Of) {
     let alloc = left.0.allocator();
     assert!(rt; left.0.len() == right.0.len() && T::WIDTH > 0);
@@ -100,7 +100,7 @@ fn changes_by_words<T: BitChunk>(rt: &impl Abort, left: Of, right: Of) {
     );
 }
 
-/// Words of each width go by the items, read and changed in place.
+/// Reads the words of each width, and changes them in place.
 fn goes_by_each_width(rt: &impl Abort, left: Of, right: Of) {
     has_words::<u8>(rt, left);
     has_words::<u16>(rt, left);
@@ -112,7 +112,7 @@ fn goes_by_each_width(rt: &impl Abort, left: Of, right: Of) {
     changes_by_words::<u64>(rt, left, right);
 }
 
-/// Functions of one to four words go by the words of the lists.
+/// Applies functions of one to four words.
 fn goes_by_words(rt: &impl Abort, inputs: [&Bitmap; 4], lists: [&[bool]; 4]) {
     let [a, b, c, d] = inputs;
     let alloc = a.allocator();
@@ -127,17 +127,17 @@ fn goes_by_words(rt: &impl Abort, inputs: [&Bitmap; 4], lists: [&[bool]; 4]) {
     makes(rt, made, &lists::mixed(alloc, &lists, 64));
 }
 
-/// What an operator makes of two bitmaps, and what it changes one into.
+/// The results of an operator: a new bitmap, and two that were changed in place.
 type Combined = (Result<Bitmap>, MutableBitmap, MutableBitmap);
 
-/// They have these items.
+/// Checks that all of them have these items.
 fn combines(rt: &impl Abort, (made, taken, changed): Combined, list: Given) {
     makes(rt, made, &list);
     becomes(rt, taken, &list);
     becomes(rt, changed, &list);
 }
 
-/// Operators go item by item, in new memory and in place.
+/// Applies the operators, in new memory and in place.
 fn goes_by_operators(rt: &impl Abort, (left, list): Of, (right, others): Of) {
     let alloc = left.allocator();
     assert!(rt; left.len() == right.len());
@@ -158,7 +158,7 @@ fn goes_by_operators(rt: &impl Abort, (left, list): Of, (right, others): Of) {
     becomes(rt, !thawed(rt, left), &turned);
 }
 
-/// The bytes of the list are appended at each own bit place.
+/// Appends the bytes of the list at each bit place.
 fn is_appended(rt: &impl Abort, (bitmap, list): Of) {
     let alloc = bitmap.allocator();
     let (bytes, offset, length) = bitmap.as_slice();
@@ -172,7 +172,7 @@ fn is_appended(rt: &impl Abort, (bitmap, list): Of) {
     }
 }
 
-/// The items are collected, and a validity has them where one of them is false.
+/// Collects the items, and makes a validity where one of them is false.
 fn is_collected(rt: &impl Abort, (bitmap, list): Of) {
     let alloc = bitmap.allocator();
     let items = list.to_vec(alloc);
@@ -187,7 +187,7 @@ fn is_collected(rt: &impl Abort, (bitmap, list): Of) {
     }
 }
 
-/// Values come as they are where the bitmap is true, and as null where it is false, beside it and in an array.
+/// Checks that values are null where the validity is false, in an iterator with it and in an array.
 fn tells_nulls(rt: &impl Abort, (validity, valid): Of, (values, list): Of) {
     let items = lists::nulled(values.allocator(), list, valid).expect(rt, "no memory");
     assert!(rt; validity.len() == list.len());
@@ -199,7 +199,7 @@ fn tells_nulls(rt: &impl Abort, (validity, valid): Of, (values, list): Of) {
     assert!(rt; array.iter().eq(items.iter().copied()));
 }
 
-/// What is asked of a bitmap goes by its list.
+/// Makes the calls on one bitmap.
 fn is_its_list(rt: &impl Abort, bitmap: Of) {
     is_walked(rt, bitmap);
     is_skipped(rt, bitmap);
@@ -210,14 +210,14 @@ fn is_its_list(rt: &impl Abort, bitmap: Of) {
     is_collected(rt, bitmap);
 }
 
-/// So does what is asked of it and of another one.
+/// Makes the calls on two bitmaps.
 fn answers_beside(rt: &impl Abort, left: Of, right: Of) {
     goes_by_each_width(rt, left, right);
     goes_by_operators(rt, left, right);
     tells_nulls(rt, left, right);
 }
 
-/// The list as a bitmap: from a bit offset on, all spare bits alike, with some bytes more behind it.
+/// Stores the list from a bit offset on, all spare bits alike, those of `behind` more bytes too.
 fn stored(
     rt: &impl Abort,
     alloc: Global,
@@ -233,12 +233,12 @@ fn stored(
     whole.sliced(offset, list.len())
 }
 
-/// A list of this length without a pattern.
+/// Returns a list of this length without a pattern.
 fn scattered(rt: &impl Abort, alloc: Global, seed: u64, length: usize) -> Vec<bool> {
     lists::scattered(alloc, seed, length).expect(rt, "no memory")
 }
 
-/// The list answers alike at each bit offset, spare bits all false and all true, with no, one and two spare bytes.
+/// Stores the list at each bit offset, with spare bits all false and all true, and with 0 to 2 spare bytes.
 fn in_each_storage(rt: &impl Abort, alloc: Global, list: &[bool]) {
     let others = scattered(rt, alloc, 3, list.len());
     let others = others.as_slice();
@@ -254,7 +254,7 @@ fn in_each_storage(rt: &impl Abort, alloc: Global, list: &[bool]) {
     }
 }
 
-/// Lists without a pattern answer beside each other, at each bit offset of the first one.
+/// Stores lists without a pattern at each bit offset of the first one.
 fn at_each_offset(rt: &impl Abort, alloc: Global, length: usize) {
     let (list, others) = (
         scattered(rt, alloc, 1, length),
@@ -276,7 +276,7 @@ fn at_each_offset(rt: &impl Abort, alloc: Global, length: usize) {
     }
 }
 
-/// A list that was made answers alike in each storage.
+/// Stores a list that was made in each storage.
 fn is_stored(rt: &impl Abort, alloc: Global, list: Given) {
     let list = list.expect(rt, "no memory");
     in_each_storage(rt, alloc, list.as_slice());

@@ -1,4 +1,4 @@
-//! Runs of set items, and values beside their validity.
+//! Runs of set items, and values with their validity.
 ghost use Rattle.std.specs.Prelude.{◌≡◌, length};
 
 use super::checks::{bitmap_from, gives, has, shows};
@@ -18,7 +18,7 @@ fn bitmap_of(rt: &impl Abort, alloc: Global, bytes: &[u8], offset: usize, len: u
     bitmap.sliced(offset, len)
 }
 
-/// The `len` bits from bit `offset` of the bytes on have these runs, and as many set items.
+/// Checks that the `len` bits from bit `offset` of the bytes on have these runs, and as many set items.
 fn bits_have_runs(
     rt: &impl Abort,
     alloc: Global,
@@ -41,16 +41,16 @@ fn runs_are_maximal_wherever_they_lie(rt: HostRuntime) {
     bits_have_runs(&rt, alloc, (&[0xff; 20], 3, 150), &[(0, 150)], 150);
 }
 
-/// The values beside a validity.
+/// The values that have a validity.
 const VALUES: [u32; 4] = [1, 2, 3, 4];
 
 /// Values in turn.
 type Values<'a> = Copied<Iter<'a, u32>>;
 
-/// Values beside the items of a bitmap.
+/// Values with the items of a bitmap.
 type Zip<'a> = ZipValidity<Values<'a>, BitmapIter<'a>>;
 
-/// Values come beside their validity as these items, without nulls where that is all true.
+/// Checks that values with their validity are these items, without nulls where that is all true.
 fn values_come(
     rt: &impl Abort,
     alloc: Global,
