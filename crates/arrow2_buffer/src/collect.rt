@@ -65,21 +65,14 @@ fn filled<T: Drop, I: Iterator<Item = T>>(items: Vec<T>, source: &mut I) -> (Vec
     }
 }
 
-/// Reserves four times the capacity, and where that is refused room for one item.
+/// Reserves four times the capacity.
 fn make_room<T>(items: &mut Vec<T>) -> Result<(), AllocError>
     ensures items { items.new.items ≡ items.old.items }
     ensures ok { OnOk result (vec_len items.new < vec_capacity items.new) }
 {
-    let more = if items.len() == 0 {
-        LEAST_CAPACITY
-    } else {
-        items
-            .len()
-            .saturating_mul(3)
-            .max(SECOND_CAPACITY - LEAST_CAPACITY)
-    };
-    if items.reserve_exact(more).is_err() {
-        items.reserve_exact(1)?;
+    if items.len() == 0 {
+        return items.reserve_exact(LEAST_CAPACITY);
     }
-    Ok(())
+    let more = items.len().saturating_mul(3);
+    items.reserve_exact(more.max(SECOND_CAPACITY - LEAST_CAPACITY))
 }

@@ -103,7 +103,7 @@ fn with_room<O>(mut offsets: Vec<O>) -> (Vec<O>, Result<(), AllocError>)
     (offsets, room)
 }
 
-/// Reserves four times the capacity in lengths, and where that is refused room for one.
+/// Reserves four times the capacity in lengths.
 #[cold]
 #[inline(never)]
 fn make_room<O>(offsets: &mut Vec<O>) -> Result<(), AllocError>
@@ -111,9 +111,5 @@ fn make_room<O>(offsets: &mut Vec<O>) -> Result<(), AllocError>
     ensures capacity { vec_capacity offsets.old ≤ vec_capacity offsets.new }
     ensures ok { OnOk result (vec_len offsets.new < vec_capacity offsets.new) }
 {
-    let more = offsets.len().saturating_mul(3).max(LEAST_CAPACITY);
-    if offsets.reserve_exact(more).is_err() {
-        offsets.reserve_exact(1)?;
-    }
-    Ok(())
+    offsets.reserve_exact(offsets.len().saturating_mul(3).max(LEAST_CAPACITY))
 }
