@@ -18,6 +18,9 @@ use std::mem;
 /// keeps at hand.
 pub(crate) const LEAST_CAPACITY: usize = 120;
 
+/// The capacity in lengths after the first.
+const SECOND_CAPACITY: usize = 512;
+
 /// Appends the lengths of an iterator that ends, and takes them off again where it refuses. Asks that the items
 /// are offsets. The iterator's size hint is not read.
 ///
@@ -103,7 +106,7 @@ fn with_room<O>(mut offsets: Vec<O>) -> (Vec<O>, Result<(), AllocError>)
     (offsets, room)
 }
 
-/// Reserves four times the capacity in lengths.
+/// Reserves four times the capacity in lengths. There is one offset more than there are lengths.
 #[cold]
 #[inline(never)]
 fn make_room<O>(offsets: &mut Vec<O>) -> Result<(), AllocError>
@@ -111,5 +114,10 @@ fn make_room<O>(offsets: &mut Vec<O>) -> Result<(), AllocError>
     ensures capacity { vec_capacity offsets.old ≤ vec_capacity offsets.new }
     ensures ok { OnOk result (vec_len offsets.new < vec_capacity offsets.new) }
 {
-    offsets.reserve_exact(offsets.len().saturating_mul(3).max(LEAST_CAPACITY))
+    let lengths = offsets.len().saturating_sub(1);
+    if lengths < LEAST_CAPACITY {
+        return offsets.reserve_exact(LEAST_CAPACITY);
+    }
+    let more = lengths.saturating_mul(3);
+    offsets.reserve_exact(more.max(SECOND_CAPACITY - LEAST_CAPACITY))
 }
