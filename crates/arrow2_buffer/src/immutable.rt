@@ -5,6 +5,7 @@ ghost use Rattle.std.specs.Borrow.{sem};
 ghost use Rattle.std.specs.Fmt.{debug_list};
 ghost use Rattle.std.specs.Fn.{FnOnceReturnsAtMut, FnOnceTakesAtMut};
 ghost use Rattle.std.specs.Iterator.{IsFinite};
+ghost use Rattle.std.specs.Iterator.Adapters.{IterYieldsInOrder};
 ghost use Rattle.std.specs.Iterator.Runs.{WholeRun};
 ghost use Rattle.std.specs.Ordering.{on};
 ghost use Rattle.std.specs.Slice.Iter.{iter_rest};
@@ -105,6 +106,7 @@ impl<T> Buffer<T> {
     /// A walk over the items, each by reference, from both ends.
     pub fn iter(&self) -> Iter<'_, T>
         ensures items { iter_rest result ≡ buffer_items self.now }
+        ensures runs { IterYieldsInOrder T }
     {
         self.as_slice().iter()
     }
