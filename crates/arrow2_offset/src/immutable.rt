@@ -208,6 +208,28 @@ impl<O: Offset> OffsetsBuffer<O> {
         self
     }
 
+    /// Keeps `slots` slots from slot `start` on, by one offset more, over the same storage. Takes no memory.
+    ///
+    /// Asks that they are inside: `start + slots` is at most [`OffsetsBuffer::len_proxy`]. arrow2 has
+    /// [`OffsetsBuffer::slice`] alone, which counts offsets.
+    pub fn slice_slots(&mut self, start: usize, slots: usize)
+        requires inside { start + slots ≤ length (lengths_of (buffer_items self.old)) }
+        ensures lengths { lengths_of (buffer_items self.new)
+            ≡ part (lengths_of (buffer_items self.old)) start slots }
+        ensures first { start_of (buffer_items self.new)
+            ≡ offset_at (start_of (buffer_items self.old))
+            (lengths_of (buffer_items self.old)) start }
+        ensures offsets { buffer_items self.new
+            ≡ part (buffer_items self.old) start (slots + 1) }
+        ensures storage { self.new ≡ record self.old {
+          offset = self.old.offset + start;
+          len = slots + 1;
+        } }
+    {
+        prove!(slots < self.len());
+        self.slice(start, slots + 1);
+    }
+
     /// The lengths of the slots, one by one, from both ends.
     pub fn lengths(&self) -> Lengths<'_, O>
         ensures { result ≡ lengths_of (buffer_items self.now) }
