@@ -1,0 +1,3 @@
+pub mod ValidItems
+pub mod ItemParts
+pub mod Slots

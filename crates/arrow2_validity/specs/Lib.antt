@@ -1,0 +1,2 @@
+pub mod OptionalValidity
+pub mod Refused

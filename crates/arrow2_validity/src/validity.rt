@@ -1,0 +1,232 @@
+//! Which items of an array are not null.
+ghost use Rattle.std.specs.Prelude.{◌≡◌, ◌+◌, ◌<◌, ◌≤◌, ◌↔◌, [], ◌∷◌, None, false, true, length, replicate, slice_index_or, string_bytes, option_map, MatchOption, IfOk, IfErr, IfSome, IsOk, IsTrue};
+ghost use Rattle.std.specs.Option.{ForSome};
+ghost use Rattle.arrow2_model.specs.Parts.{falses, part};
+ghost use Rattle.arrow2_model.specs.Storage.{items_of};
+ghost use Rattle.arrow2_model.specs.Tables.{each};
+ghost use Rattle.arrow2_growth.specs.Growth.{Appends};
+ghost use Rattle.arrow2_types.specs.Refusals.{IsInvalidArgument, error_of};
+ghost use Rattle.arrow2_validity.specs.OptionalValidity.{OptionalValidity, valid_items, sliced_validity};
+ghost use Rattle.arrow2_validity.specs.Refused.{unequal_lengths};
+
+use arrow2_bitmap::bitmap_ops::and;
+use arrow2_bitmap::{Bitmap, MutableBitmap};
+use arrow2_types::error::{Error, Result};
+use std::alloc::{AllocError, Global};
+use std::marker::Model;
+
+/// Which items of an array are not null: its number of items, and a bitmap. Without a bitmap no item is null.
+///
+/// Contracts see both; `valid_items` is the list of booleans that they stand for. Clones and slices share the bitmap's
+/// bytes. arrow2 has an `Option<Bitmap>` in each array.
+#[derive(Drop)]
+pub struct Validity {
+    len: usize,
+    bitmap: Option<Bitmap>,
+}
+
+impl Model for Validity {
+    ghost use Rattle.std.specs.Prelude.{◌≡◌, length};
+    ghost use Rattle.std.specs.Option.{ForSome};
+    ghost use Rattle.arrow2_model.specs.Storage.{items_of};
+    ghost use Rattle.arrow2_validity.specs.OptionalValidity.{OptionalValidity};
+
+    ghost Value = { OptionalValidity };
+
+    ghost view = { λ v. record { len = v.len; bitmap = v.bitmap } };
+
+    ghost invariant = { λ v. ForSome v.bitmap (λ bitmap. length (items_of bitmap) ≡ v.len) };
+}
+
+#[tactic(auto, using(crate::proofs::ValidItems::validities))]
+impl Validity {
+    /// Returns the validity of `len` items, none of which is null. Takes no memory.
+    pub fn all_valid(len: usize) -> Validity
+        ensures value { result ≡ record { len = len; bitmap = None } }
+        ensures items { valid_items result ≡ replicate len true }
+        ensures len { length (valid_items result) ≡ len }
+    {
+        Validity { len, bitmap: None }
+    }
+
+    /// Returns the validity of `len` items by a bitmap. Requires that the bitmap has as many.
+    pub fn new(len: usize, bitmap: Option<Bitmap>) -> Validity
+        requires same_length { ForSome bitmap (λ b. length (items_of b) ≡ len) }
+        ensures value { result ≡ record { len = len; bitmap = bitmap } }
+        ensures len { length (valid_items result) ≡ len }
+    {
+        Validity { len, bitmap }
+    }
+
+    /// Returns the validity of `len` items by a bitmap.
+    ///
+    /// # Errors
+    ///
+    /// `InvalidArgumentError` exactly if the bitmap has another length, or `OutOfMemory` there, if its text cannot be
+    /// allocated. The bitmap is then dropped.
+    pub fn try_new(len: usize, bitmap: Option<Bitmap>) -> Result<Validity>
+        ensures ok { IfOk result (λ v. v ≡ record { len = len; bitmap = bitmap }) }
+        ensures len { IfOk result (λ v. length (valid_items v) ≡ len) }
+        ensures accepted { IsOk result ↔ ForSome bitmap (λ b. length (items_of b) ≡ len) }
+        ensures refused { ForSome bitmap (λ b.
+            IfErr result (λ e. IsInvalidArgument e (unequal_lengths (length (items_of b)) len))) }
+    {
+        if let Some(bitmap) = &bitmap {
+            check_same_length(len, bitmap)?;
+        }
+        Ok(Validity::new(len, bitmap))
+    }
+
+    /// Returns the number of items, nulls too.
+    pub fn len(&self) -> usize
+        ensures items { result ≡ length (valid_items self.now) }
+        ensures value { result ≡ self.now.len }
+    {
+        self.len
+    }
+
+    /// Returns whether there is no item.
+    pub fn is_empty(&self) -> bool
+        ensures { IsTrue result ↔ (length (valid_items self.now) ≡ 0) }
+    {
+        self.len() == 0
+    }
+
+    /// Returns whether item `index` is not null. Requires that it is below the length.
+    pub fn is_valid(&self, index: usize) -> bool
+        requires below { index < length (valid_items self.now) }
+        ensures { result ≡ slice_index_or (valid_items self.now) index false }
+    {
+        match &self.bitmap {
+            Some(bitmap) => bitmap.get_bit(index),
+            None => true,
+        }
+    }
+
+    /// Returns the number of nulls. The bitmap keeps it, so nothing is counted.
+    pub fn null_count(&self) -> usize
+        ensures { result ≡ falses (valid_items self.now) }
+    {
+        match &self.bitmap {
+            Some(bitmap) => bitmap.unset_bits(),
+            None => 0,
+        }
+    }
+
+    /// Keeps `length` items from item `offset` on, over the same bytes. Requires that they are inside. Takes no memory.
+    pub fn slice(&mut self, offset: usize, len: usize)
+        requires inside { offset + len ≤ length (valid_items self.old) }
+        ensures items { valid_items self.new ≡ part (valid_items self.old) offset len }
+        ensures len { length (valid_items self.new) ≡ len }
+        ensures value { self.new ≡ sliced_validity self.old offset len }
+    {
+        self.len = len;
+        if let Some(bitmap) = &mut self.bitmap {
+            bitmap.slice(offset, len);
+        }
+    }
+
+    /// Returns the bitmap. Where there is none, no item is null.
+    pub fn bitmap(&self) -> Option<&Bitmap>
+        ensures value { option_map (λ b. b.now) result ≡ self.now.bitmap }
+        ensures items { MatchOption result
+            (valid_items self.now ≡ replicate (length (valid_items self.now)) true)
+            (λ b. items_of b.now ≡ valid_items self.now) }
+    {
+        self.bitmap.as_ref()
+    }
+
+    /// Returns the bitmap, and drops the rest.
+    pub fn into_bitmap(self) -> Option<Bitmap>
+        ensures { result ≡ self.bitmap }
+    {
+        self.bitmap
+    }
+
+    /// Appends what the `len` items from item `start` on are to a bitmap that grows. Requires that they are inside. Within the
+    /// capacity it does not allocate.
+    ///
+    /// # Errors
+    ///
+    /// `Overflow` exactly where the new length would pass `usize::MAX`, else `OutOfMemory` alone. After both the bitmap holds
+    /// the items that it held.
+    pub fn append_to(&self, start: usize, len: usize, grown: &mut MutableBitmap) -> Result<()>
+        requires inside { start + len ≤ length (valid_items self.now) }
+        ensures { Appends error_of result grown.old grown.new (part (valid_items self.now) start len) }
+    {
+        match &self.bitmap {
+            Some(bitmap) => append_part(bitmap, start, len, grown),
+            None => grown.extend_constant(len, true),
+        }
+    }
+
+    /// Returns which items are null neither here nor in `other`. Requires that both have one length.
+    ///
+    /// # Errors
+    ///
+    /// `OutOfMemory` alone, and only where both have a bitmap or the count of owners of one is full.
+    pub fn both(&self, other: &Validity) -> Result<Validity>
+        requires same_length { length (valid_items self.now) ≡ length (valid_items other.now) }
+        ensures items { IfOk result (λ v.
+            valid_items v ≡ each 8 (valid_items self.now ∷ valid_items other.now ∷ [])) }
+        ensures len { IfOk result (λ v. length (valid_items v) ≡ length (valid_items self.now)) }
+        ensures only { IfErr result (λ e. e ≡ Error.OutOfMemory) }
+    {
+        match (&self.bitmap, &other.bitmap) {
+            (None, _) => Ok(other.clone()?),
+            (_, None) => Ok(self.clone()?),
+            (Some(left), Some(right)) => Ok(Validity::new(self.len, Some(and(left, right)?))),
+        }
+    }
+}
+
+/// Shares the bytes. Takes no memory: it is refused only where a count of owners is full.
+impl Clone for Validity {
+    ghost is_clone = { λ a copy. copy ≡ a };
+
+    fn clone(&self) -> std::result::Result<Validity, AllocError> {
+        Ok(Validity {
+            len: self.len,
+            bitmap: self.bitmap.clone()?,
+        })
+    }
+}
+
+/// Appends the `len` items of a bitmap from item `start` on. Requires that they are inside.
+#[tactic(auto, using(arrow2_model::proofs::Walks::parts))]
+fn append_part(bitmap: &Bitmap, start: usize, len: usize, grown: &mut MutableBitmap) -> Result<()>
+    requires inside { start + len ≤ length (items_of bitmap.now) }
+    ensures { Appends error_of result grown.old grown.new (part (items_of bitmap.now) start len) }
+{
+    let (bytes, offset, _) = bitmap.as_slice();
+    let whole = bitmap.len();
+    prove!(start <= whole && len <= whole - start);
+    grown.extend_from_slice(bytes, offset + start, len)
+}
+
+/// Refuses a validity bitmap that does not have as many items as there are values.
+///
+/// # Errors
+///
+/// `InvalidArgumentError` exactly if the lengths differ, or `OutOfMemory` there, if its text cannot be allocated.
+pub fn check_same_length(values: usize, validity: &Bitmap) -> Result<()>
+    ensures accepted { IsOk result ↔ (length (items_of validity.now) ≡ values) }
+    ensures refused { IfErr result (λ e.
+        IsInvalidArgument e (unequal_lengths (length (items_of validity.now)) values)) }
+{
+    if validity.len() != values {
+        let text = refusal(validity.allocator(), validity.len(), values)?;
+        return Err(Error::InvalidArgumentError(text));
+    }
+    Ok(())
+}
+
+/// Returns the text that refuses a validity of this length for this many values.
+#[tactic(auto, unfolding(crate::specs::Refused::unequal_lengths))]
+fn refusal(alloc: Global, validity: usize, values: usize) -> std::result::Result<String, AllocError>
+    ensures { IfOk result (λ text. string_bytes text ≡ unequal_lengths validity values) }
+{
+    format!(in alloc;
+        "The length of the validity ({validity}) must equal the length of the values ({values})"
+    )
+}
