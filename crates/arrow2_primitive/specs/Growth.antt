@@ -1,0 +1,22 @@
+-- What growth of an array says.
+use Rattle.std.specs.Prelude.{◌≡◌, ◌+◌, ◌≤◌, ◌^◌, ◌↔◌, ◌⊎◌, List, ◌++◌, Option, length, Result, OnOk, OnErr, IsOk, IfErr, IsErrOf}
+use Rattle.arrow2_types.specs.declared.error.Error.{Error}
+use Rattle.arrow2_types.specs.declared.error.Error.TheVariants.{Overflow, OutOfMemory}
+use Rattle.arrow2_primitive.specs.Primitive.{GrowingPrimitive}
+
+-- growth by these items, all of them or none
+pub record AppendsItems {T X : Type 0} (r : Result T Error) (old new : GrowingPrimitive X) (more : List (Option X)) : Type 0 where
+  -- they stand behind the others
+  pub ok : OnOk r (new.items ≡ old.items ++ more)
+  -- an error leaves the items
+  pub err : OnErr r (new.items ≡ old.items)
+  -- the logical type stays
+  pub data_type : new.data_type ≡ old.data_type
+  -- it overflows exactly where there would be more items than a usize counts
+  pub overflow : IsErrOf r Overflow ↔ (2 ^ 64 ≤ length old.items + length more)
+  -- the only other error is refused memory
+  pub only : IfErr r (λ e. (e ≡ Overflow) ⊎ (e ≡ OutOfMemory))
+  -- within the capacity it does not allocate
+  pub succeeds : length old.items + length more ≤ old.capacity → IsOk r
+  -- the capacity never falls
+  pub capacity : old.capacity ≤ new.capacity

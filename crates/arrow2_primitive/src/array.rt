@@ -1,0 +1,308 @@
+//! An array of native values, each of which may be null.
+ghost use Rattle.std.specs.Prelude.{◌≡◌, ◌+◌, ◌<◌, ◌≤◌, ◌↔◌, None, Some, length, map, count_by, replicate, true, slice_index_or, OnOk, IsOk, IfOk, IfErr, IsTrue, MatchOption, option_map};
+ghost use Rattle.std.specs.List.{slice_get};
+ghost use Rattle.std.specs.Option.{ForSome, is_none, is_some};
+ghost use Rattle.std.specs.Slice.Iter.{iter_rest};
+ghost use Rattle.arrow2_model.specs.Buffers.{buffer_items};
+ghost use Rattle.arrow2_model.specs.Parts.{part};
+ghost use Rattle.arrow2_model.specs.Storage.{items_of};
+ghost use Rattle.arrow2_types.specs.Refusals.{IsInvalidArgument};
+ghost use Rattle.arrow2_validity.specs.OptionalValidity.{valid_items};
+ghost use Rattle.arrow2_validity.specs.Refused.{unequal_lengths};
+ghost use Rattle.arrow2_walks.specs.Zipped.{zipped};
+ghost use Rattle.arrow2_datatypes.specs.Types.{physical};
+ghost use Rattle.arrow2_datatypes.specs.declared.physical_type.PhysicalType.TheVariants.{Primitive};
+ghost use Rattle.arrow2_primitive.specs.Primitive.{PrimitiveParts, primitive_items, sliced_primitive, other_layout};
+
+use crate::iterator::PrimitiveIter;
+use arrow2_bitmap::Bitmap;
+use arrow2_buffer::Buffer;
+use arrow2_datatypes::DataType;
+use arrow2_types::error::{Error, Result};
+use arrow2_types::native::NativeType;
+use arrow2_validity::Validity;
+use std::alloc::{AllocError, Global};
+use std::marker::Model;
+use std::rc::Rc;
+use std::slice::Iter;
+
+/// An array of native values, each of which may be null.
+///
+/// Contracts see its logical type, its values and its validity; `primitive_items` is the list of its items. Slices and
+/// clones share all three.
+///
+/// Differs from arrow2: the logical type is shared by an `Rc`, so that a clone does not allocate.
+#[derive(Drop)]
+pub struct PrimitiveArray<T: NativeType> {
+    data_type: Rc<DataType>,
+    values: Buffer<T>,
+    validity: Validity,
+}
+
+impl<T: NativeType> Model for PrimitiveArray<T> {
+    ghost use Rattle.std.specs.Prelude.{◌≡◌, length};
+    ghost use Rattle.arrow2_model.specs.Buffers.{buffer_items};
+    ghost use Rattle.arrow2_validity.specs.OptionalValidity.{valid_items};
+    ghost use Rattle.arrow2_datatypes.specs.Types.{physical};
+    ghost use Rattle.arrow2_datatypes.specs.declared.physical_type.PhysicalType.TheVariants.{Primitive};
+    ghost use Rattle.arrow2_primitive.specs.Primitive.{PrimitiveParts};
+    ghost use Rattle.arrow2_datatypes.specs.contracts.DataType as logical_type;
+    ghost use Rattle.std.specs.Coded.{codes};
+
+    ghost Value = { PrimitiveParts T };
+
+    ghost coded = { Prim.hlevel (codes, logical_type.the_row.coded) };
+
+    ghost view = { λ a. record { data_type = a.data_type.value; values = a.values; validity = a.validity } };
+
+    ghost invariant = { λ a. (length (valid_items a.validity) ≡ length (buffer_items a.values))
+        × (physical a.data_type.value ≡ Primitive T.PRIMITIVE) };
+}
+
+#[tactic(auto, using(arrow2_validity::proofs::Slots::arrays))]
+impl<T: NativeType> PrimitiveArray<T> {
+    /// Returns the array of these values, each null where the validity is false. Without a validity none is null.
+    ///
+    /// # Errors
+    ///
+    /// `InvalidArgumentError` exactly if the validity has another length than the values, or else if the physical type of
+    /// `data_type` is not that of `T`; or `OutOfMemory`. What was handed in is then dropped.
+    pub fn try_new(
+        data_type: DataType,
+        values: Buffer<T>,
+        validity: Option<Bitmap>,
+    ) -> Result<PrimitiveArray<T>>
+        ensures ok { IfOk result (λ a. (a.data_type ≡ data_type) × (a.values ≡ values)
+            × (a.validity ≡ record { len = length (buffer_items values); bitmap = validity })) }
+        ensures accepted { OnOk result ((physical data_type ≡ Primitive T.PRIMITIVE)
+            × ForSome validity (λ v. length (items_of v) ≡ length (buffer_items values))) }
+        ensures unequal { ForSome validity (λ v. ¬ (length (items_of v) ≡ length (buffer_items values)) →
+            IfErr result (λ e.
+            IsInvalidArgument e
+            (unequal_lengths (length (items_of v)) (length (buffer_items values))))) }
+        ensures layout { ForSome validity (λ v. length (items_of v) ≡ length (buffer_items values)) →
+            ¬ (physical data_type ≡ Primitive T.PRIMITIVE) →
+            IfErr result (λ e. IsInvalidArgument e other_layout) }
+        ensures only { ForSome validity (λ v. length (items_of v) ≡ length (buffer_items values)) →
+            physical data_type ≡ Primitive T.PRIMITIVE → IfErr result (λ e. e ≡ Error.OutOfMemory) }
+    {
+        let alloc = values.allocator();
+        let validity = Validity::try_new(values.len(), validity)?;
+        check_layout::<T>(alloc, &data_type)?;
+        let data_type = Rc::new(alloc, data_type)?;
+        Ok(PrimitiveArray {
+            data_type,
+            values,
+            validity,
+        })
+    }
+
+    /// Returns the array of these values, each null where the validity is false. Without a validity none is null. Requires
+    /// that the physical type of `data_type` is that of `T`, and that the validity has the length of the values. Takes no
+    /// memory.
+    pub fn new(
+        data_type: Rc<DataType>,
+        values: Buffer<T>,
+        validity: Option<Bitmap>,
+    ) -> PrimitiveArray<T>
+        requires layout { physical data_type.value ≡ Primitive T.PRIMITIVE }
+        requires same_length { ForSome validity (λ v. length (items_of v) ≡ length (buffer_items values)) }
+        ensures { result ≡ record {
+          data_type = data_type.value;
+          values = values;
+          validity = record { len = length (buffer_items values); bitmap = validity };
+        } }
+    {
+        let validity = Validity::new(values.len(), validity);
+        PrimitiveArray {
+            data_type,
+            values,
+            validity,
+        }
+    }
+
+    /// Returns the logical type.
+    pub fn data_type(&self) -> &Rc<DataType>
+        ensures value { result.now.value ≡ self.now.data_type }
+        ensures layout { physical self.now.data_type ≡ Primitive T.PRIMITIVE }
+    {
+        &self.data_type
+    }
+
+    /// Returns the values. Those under nulls are what they are.
+    pub fn values(&self) -> &Buffer<T>
+        ensures value { result.now ≡ self.now.values }
+        ensures len { length (buffer_items result.now) ≡ length (primitive_items self.now) }
+    {
+        &self.values
+    }
+
+    /// Returns the number of items, nulls too.
+    pub fn len(&self) -> usize
+        ensures items { result ≡ length (primitive_items self.now) }
+        ensures values { result ≡ length (buffer_items self.now.values) }
+        ensures validity { result ≡ length (valid_items self.now.validity) }
+    {
+        self.values.len()
+    }
+
+    /// Returns whether it has no item.
+    pub fn is_empty(&self) -> bool
+        ensures { IsTrue result ↔ (length (primitive_items self.now) ≡ 0) }
+    {
+        self.len() == 0
+    }
+
+    /// Returns the number of nulls. The validity keeps it, so nothing is counted.
+    pub fn null_count(&self) -> usize
+        ensures { result ≡ count_by is_none (primitive_items self.now) }
+    {
+        self.validity.null_count()
+    }
+
+    /// Returns item `index`, or `None` where it is null. Requires that it is below the length.
+    ///
+    /// arrow2 returns what stands in the values.
+    pub fn get(&self, index: usize) -> Option<T>
+        requires below { index < length (primitive_items self.now) }
+        ensures { result ≡ slice_index_or (primitive_items self.now) index None }
+    {
+        let value = self.values[index];
+        self.validity.is_valid(index).then_some(value)
+    }
+
+    /// Returns what stands in the values at `index`, also under a null. Requires that it is below the length.
+    pub fn value(&self, index: usize) -> T
+        requires below { index < length (primitive_items self.now) }
+        ensures { result ≡ slice_index_or (buffer_items self.now.values) index result }
+    {
+        self.values[index]
+    }
+
+    /// Returns whether item `index` is not null. Requires that it is below the length.
+    pub fn is_valid(&self, index: usize) -> bool
+        requires below { index < length (primitive_items self.now) }
+        ensures { result ≡ is_some (slice_index_or (primitive_items self.now) index None) }
+    {
+        self.validity.is_valid(index)
+    }
+
+    /// Returns whether item `index` is null. Requires that it is below the length.
+    pub fn is_null(&self, index: usize) -> bool
+        requires below { index < length (primitive_items self.now) }
+        ensures { result ≡ is_none (slice_index_or (primitive_items self.now) index None) }
+    {
+        !self.is_valid(index)
+    }
+
+    /// Returns the validity bitmap. Where there is none, no item is null.
+    pub fn validity(&self) -> Option<&Bitmap>
+        ensures value { option_map (λ b. b.now) result ≡ self.now.validity.bitmap }
+        ensures items { MatchOption result
+            (map is_some (primitive_items self.now) ≡ replicate (length (primitive_items self.now)) true)
+            (λ b. items_of b.now ≡ map is_some (primitive_items self.now)) }
+    {
+        self.validity.bitmap()
+    }
+
+    /// Returns the items' validity: their number, and the bitmap.
+    pub fn optional_validity(&self) -> &Validity
+        ensures value { result.now ≡ self.now.validity }
+        ensures items { valid_items result.now ≡ map is_some (primitive_items self.now) }
+        ensures zipped { zipped (buffer_items self.now.values) (valid_items result.now)
+            ≡ primitive_items self.now }
+    {
+        &self.validity
+    }
+
+    /// Returns an iterator over the items, from both ends.
+    pub fn iter(&self) -> PrimitiveIter<'_, T>
+        ensures { result ≡ primitive_items self.now }
+    {
+        PrimitiveIter::new(self)
+    }
+
+    /// Returns an iterator over the values, those under nulls too.
+    pub fn values_iter(&self) -> Iter<'_, T>
+        ensures { iter_rest result ≡ buffer_items self.now.values }
+    {
+        self.values.iter()
+    }
+
+    /// Keeps `len` items from item `offset` on, over the same storage. Requires that they are inside. Takes no memory.
+    pub fn slice(&mut self, offset: usize, len: usize)
+        requires inside { offset + len ≤ length (primitive_items self.old) }
+        ensures items { primitive_items self.new ≡ part (primitive_items self.old) offset len }
+        ensures storage { self.new ≡ sliced_primitive self.old offset len }
+    {
+        self.values.slice(offset, len);
+        self.validity.slice(offset, len);
+    }
+
+    /// Returns the `len` items from item `offset` on, over the same storage. Requires that they are inside. Takes no memory.
+    pub fn sliced(mut self, offset: usize, len: usize) -> PrimitiveArray<T>
+        requires inside { offset + len ≤ length (primitive_items self) }
+        ensures items { primitive_items result ≡ part (primitive_items self) offset len }
+        ensures storage { result ≡ sliced_primitive self offset len }
+    {
+        self.slice(offset, len);
+        self
+    }
+
+    /// Returns the array of the same values with another validity. Requires that it has the length of the values. Takes no
+    /// memory.
+    pub fn with_validity(self, validity: Option<Bitmap>) -> PrimitiveArray<T>
+        requires same_length { ForSome validity (λ v.
+            length (items_of v) ≡ length (buffer_items self.values)) }
+        ensures { result ≡ record self {
+          validity = record { len = length (buffer_items self.values); bitmap = validity };
+        } }
+    {
+        let PrimitiveArray {
+            data_type,
+            values,
+            validity: _,
+        } = self;
+        PrimitiveArray::new(data_type, values, validity)
+    }
+
+    /// Returns the logical type, the values and the validity bitmap.
+    pub fn into_inner(self) -> (Rc<DataType>, Buffer<T>, Option<Bitmap>)
+        ensures data_type { result.0.value ≡ self.data_type }
+        ensures values { result.1 ≡ self.values }
+        ensures validity { result.2 ≡ self.validity.bitmap }
+    {
+        (self.data_type, self.values, self.validity.into_bitmap())
+    }
+}
+
+/// Shares the logical type, the values and the validity. Takes no memory: it is refused only where a count of owners is
+/// full.
+impl<T: NativeType> Clone for PrimitiveArray<T> {
+    ghost is_clone = { λ a copy. copy ≡ a };
+
+    fn clone(&self) -> std::result::Result<PrimitiveArray<T>, AllocError> {
+        Ok(PrimitiveArray {
+            data_type: self.data_type.clone()?,
+            values: self.values.clone()?,
+            validity: self.validity.clone()?,
+        })
+    }
+}
+
+/// Refuses a logical type whose physical type is not that of `T`.
+fn check_layout<T: NativeType>(alloc: Global, data_type: &DataType) -> Result<()>
+    ensures ok { OnOk result (physical data_type.now ≡ Primitive T.PRIMITIVE) }
+    ensures refused { ¬ (physical data_type.now ≡ Primitive T.PRIMITIVE) →
+        IfErr result (λ e. IsInvalidArgument e other_layout) }
+    ensures only { physical data_type.now ≡ Primitive T.PRIMITIVE → IsOk result }
+{
+    if !data_type.to_physical_type().eq_primitive(T::PRIMITIVE) {
+        let text = String::from_str(
+            alloc,
+            "PrimitiveArray can only be initialized with a DataType whose physical type is Primitive",
+        )?;
+        return Err(Error::InvalidArgumentError(text));
+    }
+    Ok(())
+}

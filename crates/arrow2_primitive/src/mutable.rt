@@ -1,0 +1,291 @@
+//! An array of native values that grows.
+ghost use Rattle.std.specs.Prelude.{◌≡◌, ◌+◌, ◌<◌, ◌≤◌, ◌^◌, ◌↔◌, ◌⊎◌, ◌++◌, [], ◌∷◌, None, Some, length, map, replicate, IfOk, IfErr, IsErrOf, IsOk, IfNone, MatchOption, OnOk, IsNone, IsTrue, count_by, Some};
+ghost use Rattle.std.specs.Option.{is_none};
+ghost use Rattle.arrow2_datatypes.specs.Types.{physical};
+ghost use Rattle.arrow2_datatypes.specs.declared.physical_type.PhysicalType.TheVariants.{Primitive};
+ghost use Rattle.arrow2_model.specs.Parts.{part};
+ghost use Rattle.arrow2_primitive.specs.Growth.{AppendsItems};
+ghost use Rattle.arrow2_primitive.specs.Primitive.{primitive_items, GrowingPrimitive};
+
+use crate::array::PrimitiveArray;
+use arrow2_bitmap::MutableBitmap;
+use arrow2_buffer::Buffer;
+use arrow2_datatypes::DataType;
+use arrow2_types::error::{Error, Result};
+use arrow2_types::native::NativeType;
+use arrow2_validity::Validity;
+use std::alloc::Global;
+use std::convert::TryFrom;
+use std::marker::Model;
+use std::rc::Rc;
+
+/// An array of native values that grows.
+///
+/// Contracts see its logical type, its items, and how many fit before it allocates.
+///
+/// Differs from arrow2: its validity is always there, and [`MutablePrimitiveArray::freeze`] leaves it out where no item is
+/// null.
+#[derive(Drop)]
+pub struct MutablePrimitiveArray<T: NativeType> {
+    data_type: Rc<DataType>,
+    values: Vec<T>,
+    validity: MutableBitmap,
+}
+
+impl<T: NativeType> Model for MutablePrimitiveArray<T> {
+    ghost use Rattle.std.specs.Prelude.{◌≡◌, length, min, vec_capacity};
+    ghost use Rattle.arrow2_walks.specs.Zipped.{zipped};
+    ghost use Rattle.arrow2_datatypes.specs.Types.{physical};
+    ghost use Rattle.arrow2_datatypes.specs.declared.physical_type.PhysicalType.TheVariants.{Primitive};
+    ghost use Rattle.arrow2_primitive.specs.Primitive.{GrowingPrimitive};
+    ghost use Rattle.arrow2_datatypes.specs.contracts.DataType as logical_type;
+    ghost use Rattle.std.specs.Coded.{codes};
+
+    ghost Value = { GrowingPrimitive T };
+
+    ghost coded = { Prim.hlevel (codes, logical_type.the_row.coded) };
+
+    ghost view = { λ a. record {
+      data_type = a.data_type.value;
+      items = zipped a.values.items a.validity.items;
+      capacity = min (vec_capacity a.values) a.validity.capacity;
+    } };
+
+    ghost invariant = { λ a. (length a.validity.items ≡ length a.values.items)
+        × (physical a.data_type.value ≡ Primitive T.PRIMITIVE) };
+}
+
+#[tactic(auto, using(crate::proofs::Growing::growing))]
+impl<T: NativeType> MutablePrimitiveArray<T> {
+    /// Returns an array without items, of the logical type of `T`'s own.
+    ///
+    /// # Errors
+    ///
+    /// `OutOfMemory` alone.
+    pub fn new(alloc: Global) -> Result<MutablePrimitiveArray<T>>
+        ensures items { IfOk result (λ a. a.items ≡ []) }
+        ensures data_type { IfOk result (λ a. physical a.data_type ≡ Primitive T.PRIMITIVE) }
+        ensures only { IfErr result (λ e. e ≡ Error.OutOfMemory) }
+    {
+        let data_type = Rc::new(alloc, DataType::from(T::PRIMITIVE))?;
+        Ok(MutablePrimitiveArray::of_type(alloc, data_type))
+    }
+
+    /// Returns an array without items, of this logical type. Requires that its physical type is that of `T`. Takes no memory.
+    pub fn of_type(alloc: Global, data_type: Rc<DataType>) -> MutablePrimitiveArray<T>
+        requires { physical data_type.value ≡ Primitive T.PRIMITIVE }
+        ensures items { result.items ≡ [] }
+        ensures data_type { result.data_type ≡ data_type.value }
+    {
+        MutablePrimitiveArray {
+            data_type,
+            values: Vec::new(alloc),
+            validity: MutableBitmap::new(alloc),
+        }
+    }
+
+    /// Returns the logical type.
+    pub fn data_type(&self) -> &Rc<DataType>
+        ensures value { result.now.value ≡ self.now.data_type }
+        ensures layout { physical self.now.data_type ≡ Primitive T.PRIMITIVE }
+    {
+        &self.data_type
+    }
+
+    /// Returns the number of items, nulls too.
+    pub fn len(&self) -> usize
+        ensures { result ≡ length self.now.items }
+    {
+        self.values.len()
+    }
+
+    /// Returns whether it has no item.
+    pub fn is_empty(&self) -> bool
+        ensures { IsTrue result ↔ (length self.now.items ≡ 0) }
+    {
+        self.len() == 0
+    }
+
+    /// Makes room for `additional` items more. Within the capacity it does not allocate.
+    ///
+    /// # Errors
+    ///
+    /// `Overflow` exactly where the length and `additional` pass `usize::MAX` together, else `OutOfMemory` alone. After both
+    /// the array holds the items that it held.
+    pub fn reserve(&mut self, additional: usize) -> Result<()>
+        ensures items { self.new.items ≡ self.old.items }
+        ensures data_type { self.new.data_type ≡ self.old.data_type }
+        ensures ok { OnOk result (length self.old.items + additional ≤ self.new.capacity) }
+        ensures overflow { IsErrOf result Error.Overflow ↔
+            (2 ^ 64 ≤ length self.old.items + additional) }
+        ensures only { IfErr result (λ e. (e ≡ Error.Overflow) ⊎ (e ≡ Error.OutOfMemory)) }
+        ensures succeeds { length self.old.items + additional ≤ self.old.capacity → IsOk result }
+        ensures capacity { self.old.capacity ≤ self.new.capacity }
+    {
+        self.validity.reserve(additional)?;
+        self.values.reserve(additional)?;
+        Ok(())
+    }
+
+    /// Appends an item. Within the capacity it does not allocate.
+    ///
+    /// # Errors
+    ///
+    /// `Overflow` exactly where the length is `usize::MAX`, else `OutOfMemory` alone. After both the array holds the items
+    /// that it held.
+    pub fn push(&mut self, item: Option<T>) -> Result<()>
+        ensures { AppendsItems result self.old self.new (item ∷ []) }
+    {
+        self.reserve(1)?;
+        self.validity.push(item.is_some())?;
+        self.values.push_reserved(item.unwrap_or(T::default()));
+        Ok(())
+    }
+
+    /// Appends a null, as [`MutablePrimitiveArray::push`] of `None`. Within the capacity it does not allocate.
+    ///
+    /// # Errors
+    ///
+    /// `Overflow` exactly where the length is `usize::MAX`, else `OutOfMemory` alone. After both the array holds the items
+    /// that it held.
+    pub fn push_null(&mut self) -> Result<()>
+        ensures { AppendsItems result self.old self.new (None ∷ []) }
+    {
+        self.push(None)
+    }
+
+    /// Appends values, none of which is null. Within the capacity it does not allocate.
+    ///
+    /// # Errors
+    ///
+    /// `Overflow` exactly where the new length would pass `usize::MAX`, else `OutOfMemory` alone. After both the array holds
+    /// the items that it held.
+    pub fn extend_from_slice(&mut self, values: &[T]) -> Result<()>
+        ensures { AppendsItems result self.old self.new (map (λ x. Some x) values.now) }
+    {
+        self.reserve(values.len())?;
+        self.validity.extend_constant(values.len(), true)?;
+        self.values.extend_from_slice(values)?;
+        Ok(())
+    }
+
+    /// Appends items. Within the capacity it does not allocate, else it allocates once, before it writes.
+    ///
+    /// # Errors
+    ///
+    /// `Overflow` exactly where the new length would pass `usize::MAX`, else `OutOfMemory` alone. After both the array holds
+    /// the items that it held.
+    pub fn extend_from_options(&mut self, items: &[Option<T>]) -> Result<()>
+        ensures { AppendsItems result self.old self.new items.now }
+    {
+        self.reserve(items.len())?;
+        for item in items {
+            self.push_within(*item);
+        }
+        Ok(())
+    }
+
+    /// Appends `additional` times the same item. Within the capacity it does not allocate, else it allocates once, before it
+    /// writes.
+    ///
+    /// # Errors
+    ///
+    /// `Overflow` exactly where the new length would pass `usize::MAX`, else `OutOfMemory` alone. After both the array holds
+    /// the items that it held.
+    pub fn extend_constant(&mut self, additional: usize, item: Option<T>) -> Result<()>
+        ensures { AppendsItems result self.old self.new (replicate additional item) }
+    {
+        self.reserve(additional)?;
+        self.validity.extend_constant(additional, item.is_some())?;
+        let len = self.values.len();
+        self.values
+            .resize(len + additional, item.unwrap_or(T::default()))?;
+        Ok(())
+    }
+
+    /// Appends the `len` items of an array from item `start` on. Requires that they are inside. Within the capacity it does not
+    /// allocate.
+    ///
+    /// # Errors
+    ///
+    /// `Overflow` exactly where the new length would pass `usize::MAX`, else `OutOfMemory` alone. After both the array holds
+    /// the items that it held.
+    pub fn extend_from_array(
+        &mut self,
+        array: &PrimitiveArray<T>,
+        start: usize,
+        len: usize,
+    ) -> Result<()>
+        requires inside { start + len ≤ length (primitive_items array.now) }
+        ensures { AppendsItems result self.old self.new (part (primitive_items array.now) start len) }
+    {
+        self.reserve(len)?;
+        array
+            .optional_validity()
+            .append_to(start, len, &mut self.validity)?;
+        self.values
+            .extend_from_slice(&array.values().as_slice()[start..start + len])?;
+        Ok(())
+    }
+
+    /// Takes the last item off and returns it, or `None` where there is none.
+    pub fn pop(&mut self) -> Option<Option<T>>
+        ensures last { MatchOption result (self.old.items ≡ []) (λ item.
+            self.old.items ≡ self.new.items ++ item ∷ []) }
+        ensures none { IfNone result (self.new.items ≡ []) }
+        ensures data_type { self.new.data_type ≡ self.old.data_type }
+        ensures capacity { self.new.capacity ≡ self.old.capacity }
+    {
+        let value = self.values.pop()?;
+        let is_valid = self.validity.pop()?;
+        Some(is_valid.then_some(value))
+    }
+
+    /// Gives back capacity that is not used, where the allocator takes it. It is never refused.
+    pub fn shrink_to_fit(&mut self) -> Result<()>
+        ensures ok { IsOk result }
+        ensures items { self.new.items ≡ self.old.items }
+        ensures data_type { self.new.data_type ≡ self.old.data_type }
+        ensures capacity { self.new.capacity ≤ self.old.capacity }
+    {
+        self.values.shrink_to_fit();
+        self.validity.shrink_to_fit()
+    }
+
+    /// Returns the array of the items, over the same storage. It has a validity bitmap only where an item is null.
+    ///
+    /// Stands for arrow2's `From<MutablePrimitiveArray>`.
+    ///
+    /// # Errors
+    ///
+    /// `OutOfMemory` alone. The items are then dropped.
+    pub fn freeze(self) -> Result<PrimitiveArray<T>>
+        ensures items { IfOk result (λ a. primitive_items a ≡ self.items) }
+        ensures data_type { IfOk result (λ a. a.data_type ≡ self.data_type) }
+        ensures validity { IfOk result (λ a.
+            IsNone a.validity.bitmap ↔ (count_by is_none self.items ≡ 0)) }
+        ensures only { IfErr result (λ e. e ≡ Error.OutOfMemory) }
+    {
+        let MutablePrimitiveArray {
+            data_type,
+            values,
+            validity,
+        } = self;
+        let values = Buffer::try_from(values)?;
+        let validity = validity.into_validity()?;
+        Ok(PrimitiveArray::new(data_type, values, validity))
+    }
+
+    /// Appends an item within the capacity.
+    fn push_within(&mut self, item: Option<T>)
+        requires { length self.old.items < self.old.capacity }
+        ensures items { self.new.items ≡ self.old.items ++ item ∷ [] }
+        ensures data_type { self.new.data_type ≡ self.old.data_type }
+        ensures capacity { self.old.capacity ≤ self.new.capacity }
+    {
+        let pushed = self.validity.push(item.is_some());
+        prove!(pushed.is_ok());
+        let _ = pushed;
+        self.values.push_reserved(item.unwrap_or(T::default()));
+    }
+}
