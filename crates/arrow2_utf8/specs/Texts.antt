@@ -1,0 +1,34 @@
+-- The bytes between offsets, and what is wrong with them (Arrow columnar format, "Variable-size Binary Layout").
+use Rattle.std.specs.Prelude.{◌≡◌, ℕ, ◌<◌, ◌≤◌, ℤ, List, [], length, take, drop, slice_index_or, All, IsUtf8}
+use Rattle.arrow2_offset.specs.Nested.{cut}
+use Rattle.arrow2_offset.specs.Offsets.{AreOffsets, start_of, lengths_of, last_of}
+use Rattle.arrow2_offset.specs.Refused.{first_broken}
+use Rattle.arrow2_utf8.specs.declared.specification.BrokenTexts.{BrokenTexts}
+use Rattle.arrow2_utf8.specs.declared.specification.BrokenTexts.TheVariants.{PastTheValues, NotUtf8}
+use Rattle.arrow2_utf8.specs.declared.specification.BrokenTextArray.{BrokenTextArray}
+use Rattle.arrow2_utf8.specs.declared.specification.BrokenTextArray.TheVariants.{Offsets, Texts}
+
+-- the values of each slot, from its offset to the next
+abbrev pub slot_values : List ℤ → List ℕ → List (List ℕ)
+slot_values offsets values = cut (drop (start_of offsets) values) (lengths_of offsets)
+
+-- no offset is past the values, and those of each slot are UTF-8
+pub record AreTexts (offsets : List ℤ) (values : List ℕ) : Type 0 where
+  pub inside : last_of offsets ≤ length values
+  pub texts : All IsUtf8 (slot_values offsets values)
+
+-- list k of bytes is no UTF-8, and each one before it is
+pub record IsFirstBroken (texts : List (List ℕ)) (k : ℕ) : Type 0 where
+  pub inside : k < length texts
+  pub before : All IsUtf8 (take k texts)
+  pub broken : IsUtf8 (slice_index_or texts k []) → ⊥
+
+-- it tells what is wrong with the values between offsets: the last offset is past them, or the first slot is not UTF-8
+abbrev pub TellsBrokenTexts : List ℤ → List ℕ → BrokenTexts → Type 0
+TellsBrokenTexts offsets values PastTheValues = length values < last_of offsets
+TellsBrokenTexts offsets values (NotUtf8 k) = (last_of offsets ≤ length values) × IsFirstBroken (slot_values offsets values) k
+
+-- the same of numbers that may be no offsets, which it tells first
+abbrev pub TellsBrokenArray : List ℤ → List ℕ → BrokenTextArray → Type 0
+TellsBrokenArray numbers values (Offsets rule) = (AreOffsets numbers → ⊥) × (rule ≡ first_broken numbers)
+TellsBrokenArray numbers values (Texts broken) = AreOffsets numbers × TellsBrokenTexts numbers values broken

@@ -1,0 +1,224 @@
+//! The test that the bytes between offsets are texts: of all bytes at once, and slot by slot where that fails.
+ghost use Rattle.std.specs.Prelude.{◌≡◌, ℕ, ◌<◌, ◌≤◌, ◌↔◌, All, [], length, map, sum, take, slice_index_or, IfErr, IsOk, IsTrue, IsUtf8, MatchOption};
+ghost use Rattle.std.specs.Str.{IsCharBoundary};
+ghost use Rattle.arrow2_model.specs.Buffers.{buffer_items};
+ghost use Rattle.arrow2_offset.specs.Offsets.{AreOffsets, offset_at, start_of, lengths_of, last_of};
+ghost use Rattle.arrow2_utf8.specs.Texts.{slot_values, AreTexts, IsFirstBroken, TellsBrokenTexts, TellsBrokenArray};
+
+use arrow2_index::offset::Offset;
+use arrow2_offset::{BrokenRule, OffsetsBuffer, broken_rule};
+use std::str;
+
+/// What is wrong with bytes between offsets that are not all texts.
+#[derive(Clone, Copy, Debug, PartialEq, Eq)]
+pub enum BrokenTexts {
+    /// The last offset is past the values.
+    PastTheValues,
+    /// The values of this slot are not UTF-8, and those of each slot before it are.
+    NotUtf8(usize),
+}
+
+/// What is wrong with numbers and bytes that are no offsets with texts between them.
+#[derive(Clone, Copy, Debug, PartialEq, Eq)]
+pub enum BrokenTextArray {
+    /// The numbers are not offsets: the first rule that they break.
+    Offsets(BrokenRule),
+    /// The numbers are offsets, and the bytes between them are not all texts.
+    Texts(BrokenTexts),
+}
+
+/// Tests that no offset is past so many values. Takes no memory.
+///
+/// Differs from arrow2, whose error has a text.
+///
+/// # Errors
+///
+/// `PastTheValues` exactly where the last offset is above `values_len`.
+pub fn try_check_offsets_bounds<O: Offset>(
+    offsets: &OffsetsBuffer<O>,
+    values_len: usize,
+) -> Result<(), BrokenTexts>
+    ensures accepted { IsOk result ↔ (last_of (buffer_items offsets.now) ≤ values_len) }
+    ensures only { IfErr result (λ broken. broken ≡ BrokenTexts.PastTheValues) }
+{
+    if offsets.last().to_usize() > values_len {
+        return Err(BrokenTexts::PastTheValues);
+    }
+    Ok(())
+}
+
+/// Tests that the values of each slot, from its offset to the next, are UTF-8. Takes no memory.
+///
+/// Values outside the offsets are not tested. All values between the first offset and the last are tested at once; only
+/// where that fails are they tested once more, slot by slot up to the first that is not UTF-8.
+///
+/// Differs from arrow2, whose error has a text, and names no slot.
+///
+/// # Errors
+///
+/// `PastTheValues` exactly where the last offset is past the values; else `NotUtf8` with the first slot whose values are
+/// not UTF-8, exactly where there is one.
+pub fn try_check_utf8<O: Offset>(
+    offsets: &OffsetsBuffer<O>,
+    values: &[u8],
+) -> Result<(), BrokenTexts>
+    ensures accepted { IsOk result ↔ AreTexts (buffer_items offsets.now) values.now }
+    ensures broken { IfErr result (λ broken.
+        TellsBrokenTexts (buffer_items offsets.now) values.now broken) }
+{
+    try_check_slots(offsets.as_slice(), values)
+}
+
+/// Tests that numbers are offsets, and that the values of each slot, from its offset to the next, are UTF-8. Takes no
+/// memory.
+///
+/// Differs from arrow2, whose error has a text, and names no slot.
+///
+/// # Errors
+///
+/// `Offsets` exactly where the numbers are not offsets, with the first rule that they break; else `Texts` exactly where
+/// [`try_check_utf8`] refuses, with what it answers.
+pub fn try_check_offsets_and_utf8<O: Offset>(
+    offsets: &[O],
+    values: &[u8],
+) -> Result<(), BrokenTextArray>
+    ensures accepted { IsOk result ↔ (AreOffsets (map O.value offsets.now)
+        × AreTexts (map O.value offsets.now) values.now) }
+    ensures broken { IfErr result (λ broken.
+        TellsBrokenArray (map O.value offsets.now) values.now broken) }
+{
+    if let Some(rule) = broken_rule(offsets) {
+        return Err(BrokenTextArray::Offsets(rule));
+    }
+    match try_check_slots(offsets, values) {
+        Ok(()) => Ok(()),
+        Err(broken) => Err(BrokenTextArray::Texts(broken)),
+    }
+}
+
+/// Returns the text of slot `slot`, of values that [`try_check_utf8`] took. Takes no memory.
+///
+/// Requires that `slot` is below [`OffsetsBuffer::len_proxy`]. arrow2 has no such call.
+pub fn text_at<'a, O: Offset>(offsets: &OffsetsBuffer<O>, values: &'a [u8], slot: usize) -> &'a str
+    requires texts { AreTexts (buffer_items offsets.now) values.now }
+    requires below { slot < length (lengths_of (buffer_items offsets.now)) }
+    ensures { result.now ≡ slice_index_or (slot_values (buffer_items offsets.now) values.now) slot
+        [] }
+{
+    let bytes = slot_of(offsets.as_slice(), values, slot);
+    unsafe { str::from_utf8_unchecked(bytes) }
+}
+
+/// The test of the values, by numbers that are known to be offsets.
+#[tactic(auto, using(crate::proofs::Between::places))]
+fn try_check_slots<O: Offset>(offsets: &[O], values: &[u8]) -> Result<(), BrokenTexts>
+    requires valid { AreOffsets (map O.value offsets.now) }
+    ensures accepted { IsOk result ↔ AreTexts (map O.value offsets.now) values.now }
+    ensures broken { IfErr result (λ broken.
+        TellsBrokenTexts (map O.value offsets.now) values.now broken) }
+{
+    if last_place(offsets) > values.len() {
+        return Err(BrokenTexts::PastTheValues);
+    }
+    if are_texts_at_once(offsets, values) {
+        return Ok(());
+    }
+    match first_broken(offsets, values) {
+        None => Ok(()),
+        Some(slot) => Err(BrokenTexts::NotUtf8(slot)),
+    }
+}
+
+/// Whether the values between the offsets are one text, and each offset stands between its characters.
+#[tactic(auto, using(crate::proofs::Between::places))]
+fn are_texts_at_once<O: Offset>(offsets: &[O], values: &[u8]) -> bool
+    requires valid { AreOffsets (map O.value offsets.now) }
+    requires inside { last_of (map O.value offsets.now) ≤ length values.now }
+    ensures { IsTrue result ↔ All IsUtf8 (slot_values (map O.value offsets.now) values.now) }
+{
+    let bytes = &values[place(offsets, 0)..last_place(offsets)];
+    bytes.is_ascii() || (is_text(bytes) && stand_between(offsets, bytes))
+}
+
+/// Whether each offset stands between characters of the bytes that they span. Reads all of them, with no branch.
+#[tactic(auto, using(crate::proofs::Between::places))]
+fn stand_between<O: Offset>(offsets: &[O], bytes: &[u8]) -> bool
+    requires valid { AreOffsets (map O.value offsets.now) }
+    requires spanned { length bytes.now ≡ sum (lengths_of (map O.value offsets.now)) }
+    ensures { IsTrue result ↔ ((k : ℕ) → k < length offsets.now
+        → IsCharBoundary bytes.now (sum (take k (lengths_of (map O.value offsets.now))))) }
+{
+    if bytes.is_empty() {
+        return true;
+    }
+    let start = place(offsets, 0);
+    let mut between = true;
+    for index in 0..offsets.len() {
+        between &= is_boundary(bytes, place(offsets, index) - start);
+    }
+    between
+}
+
+/// Whether a character may begin at a place, or the bytes end there. With no branch.
+fn is_boundary(bytes: &[u8], place: usize) -> bool
+    requires some { 0 < length bytes.now }
+    requires inside { place ≤ length bytes.now }
+    ensures { IsTrue result ↔ IsCharBoundary bytes.now place }
+{
+    let last = bytes.len() - 1;
+    let byte = bytes[place.min(last)];
+    (last < place) | (byte < 0x80) | (0xC0 <= byte)
+}
+
+/// The first slot whose values are not UTF-8.
+#[tactic(auto, using(crate::proofs::Between::places))]
+fn first_broken<O: Offset>(offsets: &[O], values: &[u8]) -> Option<usize>
+    requires valid { AreOffsets (map O.value offsets.now) }
+    requires inside { last_of (map O.value offsets.now) ≤ length values.now }
+    ensures { MatchOption result (All IsUtf8 (slot_values (map O.value offsets.now) values.now))
+        (λ slot. IsFirstBroken (slot_values (map O.value offsets.now) values.now) slot) }
+{
+    for slot in 0..offsets.len() - 1 {
+        if !is_text(slot_of(offsets, values, slot)) {
+            return Some(slot);
+        }
+    }
+    None
+}
+
+/// The values of a slot.
+#[tactic(auto, using(crate::proofs::Between::places))]
+fn slot_of<'a, O: Offset>(offsets: &[O], values: &'a [u8], slot: usize) -> &'a [u8]
+    requires valid { AreOffsets (map O.value offsets.now) }
+    requires inside { last_of (map O.value offsets.now) ≤ length values.now }
+    requires below { slot < length (lengths_of (map O.value offsets.now)) }
+    ensures { result.now ≡ slice_index_or (slot_values (map O.value offsets.now) values.now) slot
+        [] }
+{
+    &values[place(offsets, slot)..place(offsets, slot + 1)]
+}
+
+/// Whether the bytes are UTF-8.
+fn is_text(bytes: &[u8]) -> bool
+    ensures { IsTrue result ↔ IsUtf8 bytes.now }
+{
+    simdutf8::basic::from_utf8(bytes).is_ok()
+}
+
+/// The last offset.
+fn last_place<O: Offset>(offsets: &[O]) -> usize
+    requires { AreOffsets (map O.value offsets.now) }
+    ensures { result ≡ last_of (map O.value offsets.now) }
+{
+    offsets[offsets.len() - 1].to_usize()
+}
+
+/// The offset at an index.
+fn place<O: Offset>(offsets: &[O], index: usize) -> usize
+    requires valid { AreOffsets (map O.value offsets.now) }
+    requires below { index < length offsets.now }
+    ensures { result ≡ offset_at (start_of (map O.value offsets.now))
+        (lengths_of (map O.value offsets.now)) index }
+{
+    offsets[index].to_usize()
+}
