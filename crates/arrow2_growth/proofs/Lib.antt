@@ -1,3 +1,4 @@
+pub mod Asked
 pub mod Buffer
 pub mod Filled
 pub mod Packing

@@ -1,6 +1,7 @@
 //! Booleans that become bytes, by words of 64: appended at any bit place, and packed. What knows bytes and words alone.
 #![tactic(auto)]
 
+pub mod answered;
 pub mod extended;
 pub mod packed;
 pub mod packed_bits;
