@@ -1,10 +1,11 @@
 //! A bitmap over shared bytes.
-ghost use Rattle.std.specs.Prelude.{◌≡◌, ◌+◌, ◌*◌, ◌/◌, ◌%◌, ◌<◌, ◌≤◌, ◌↔◌, [], false, length, length as length', replicate, slice_index_or, take, OnOk, IfOk, IfErr, IsTrue, Some, MatchResult, vec_len, codes, IsErrOf, ◌^◌, ◌⊎◌};
+ghost use Rattle.std.specs.Prelude.{◌≡◌, ℕ, List, Bool, map, ◌+◌, ◌*◌, ◌/◌, ◌%◌, ◌<◌, ◌≤◌, ◌↔◌, [], false, length, length as length', replicate, slice_index_or, take, OnOk, IfOk, IfErr, IsTrue, Some, MatchResult, vec_len, codes, IsErrOf, ◌^◌, ◌⊎◌};
 ghost use Rattle.std.specs.Bool.{beq};
 ghost use Rattle.std.specs.Ordering.{on};
 ghost use Rattle.std.specs.Cmp.{partial_equiv_from_equiv, bool_eq_equiv, on_equiv};
 ghost use Rattle.std.specs.Cmp.Lexicographic.{pointwise, lists_equiv};
-ghost use Rattle.std.specs.List.{slice_get};
+ghost use Rattle.std.specs.List.{slice_get, range_with_len};
+ghost use Rattle.std.specs.Simd.Lanes.{zip2};
 ghost use Rattle.std.specs.Iterator.{IsFinite};
 ghost use Rattle.std.specs.Iterator.Runs.{WholeRun};
 ghost use Rattle.either.specs.Either.{MatchEither};
@@ -17,6 +18,7 @@ ghost use Rattle.arrow2_model.specs.Words.{spill};
 ghost use Rattle.arrow2_model.specs.Storage.{BitmapStorage, items_of};
 ghost use Rattle.arrow2_types.specs.Refusals.{IsInvalidArgument};
 ghost use Rattle.arrow2_types.specs.declared.error.Error.TheVariants.{OutOfMemory};
+ghost use Rattle.arrow2_bitmap.specs.Answered.{AnswersBelow, AnswersOfEach, AnswersOfPairs, IsAnswerAt, IsPairAnswerAt, MayBeAskedOfEach, MayBeAskedOfPairs};
 ghost use Rattle.arrow2_bitmap.specs.Collected.{GivesTooMany};
 ghost use Rattle.arrow2_bitmap.specs.Packed.{IsPacked};
 ghost use Rattle.arrow2_bitmap.specs.Refused.{too_long};
@@ -29,6 +31,7 @@ use arrow2_bits::iterator::BitmapIter;
 use arrow2_bits::{Reads, Stored, bytes_for, count_zeros, get_bit, recount, same_bits};
 use arrow2_buffer::bytes::Bytes;
 use arrow2_chunk::bit_chunk::BitChunk;
+use arrow2_growth::answered::answered;
 use arrow2_types::error::{Error, Result};
 use arrow2_types::native::NativeType;
 use either::Either;
@@ -217,6 +220,93 @@ impl Bitmap {
         ensures only { IfErr result (λ e. (e ≡ Error.Overflow) ⊎ (e ≡ Error.OutOfMemory)) }
     {
         Bitmap::try_from(MutableBitmap::try_from_iter(alloc, iter)?)
+    }
+
+    /// Returns the bitmap of what `f` answers to each number below `length`, in their order.
+    ///
+    /// Packs 64 answers at a time. Requires that `f` may be called at each of
+    /// these numbers. arrow2 has no such call: it collects an iterator.
+    ///
+    /// # Errors
+    ///
+    /// `OutOfMemory` alone.
+    pub fn try_from_fn<F: Fn(usize) -> bool>(alloc: Global, length: usize, f: F) -> Result<Bitmap>
+        requires callable { (index : ℕ) → index < length → F.pre f index }
+        ensures items { (test : ℕ → Bool) → AnswersBelow length (F.post f) test →
+            IfOk result (λ b. items_of b ≡ map test (range_with_len 0 length)) }
+        ensures answers { IfOk result (λ b. (index : ℕ) → index < length →
+            F.post f index (slice_index_or (items_of b) index false)) }
+        ensures len { IfOk result (λ b. length' (items_of b) ≡ length) }
+        ensures storage { IfOk result (λ b. IsPacked b) }
+        ensures only { IfErr result (λ e. e ≡ Error.OutOfMemory) }
+    {
+        let bytes = answered(alloc, length, f)?;
+        Bitmap::try_from(MutableBitmap::from_vec(bytes, length))
+    }
+
+    /// Returns the bitmap of what `f` answers to each item, in their order: that of a comparison, say.
+    ///
+    /// Packs 64 answers at a time. Requires that `f` may be called at each item.
+    /// arrow2 has no such call: it collects an iterator.
+    ///
+    /// # Errors
+    ///
+    /// `OutOfMemory` alone.
+    pub fn from_slice_with<T, F: Fn(&T) -> bool>(alloc: Global, items: &[T], f: F) -> Result<Bitmap>
+        requires callable { MayBeAskedOfEach items.now (F.pre f) }
+        ensures items { (test : T → Bool) → AnswersOfEach items.now (F.post f) test →
+            IfOk result (λ b. items_of b ≡ map test items.now) }
+        ensures answers { IfOk result (λ b. (index : ℕ) → index < length' items.now →
+            IsAnswerAt items.now (F.post f) index (slice_index_or (items_of b) index false)) }
+        ensures len { IfOk result (λ b. length' (items_of b) ≡ length' items.now) }
+        ensures storage { IfOk result (λ b. IsPacked b) }
+        ensures only { IfErr result (λ e. e ≡ Error.OutOfMemory) }
+    {
+        Bitmap::try_from_fn(
+            alloc,
+            items.len(),
+            |index|
+                requires inside { index < length' items.now }
+                requires callable { MayBeAskedOfEach items.now (F.pre f) }
+                ensures { IsAnswerAt items.entry.now (F.post f) index result }
+            { f(&items[index]) },
+        )
+    }
+
+    /// Returns the bitmap of what `f` answers to each item of one slice and the item of another in its place.
+    ///
+    /// Packs 64 answers at a time. Requires that both have one length, and that
+    /// `f` may be called at each pair. arrow2 has no such call: it collects an iterator.
+    ///
+    /// # Errors
+    ///
+    /// `OutOfMemory` alone.
+    pub fn from_slices_with<S, T, F: Fn(&S, &T) -> bool>(
+        alloc: Global,
+        left: &[S],
+        right: &[T],
+        f: F,
+    ) -> Result<Bitmap>
+        requires same_length { length' left.now ≡ length' right.now }
+        requires callable { MayBeAskedOfPairs left.now right.now (F.pre f) }
+        ensures items { (test : S → T → Bool) → AnswersOfPairs left.now right.now (F.post f) test →
+            IfOk result (λ b. items_of b ≡ zip2 test left.now right.now) }
+        ensures answers { IfOk result (λ b. (index : ℕ) → index < length' left.now →
+            IsPairAnswerAt left.now right.now (F.post f) index
+            (slice_index_or (items_of b) index false)) }
+        ensures len { IfOk result (λ b. length' (items_of b) ≡ length' left.now) }
+        ensures storage { IfOk result (λ b. IsPacked b) }
+        ensures only { IfErr result (λ e. e ≡ Error.OutOfMemory) }
+    {
+        Bitmap::try_from_fn(
+            alloc,
+            left.len(),
+            |index|
+                requires inside { (index < length' left.now) × (index < length' right.now) }
+                requires callable { MayBeAskedOfPairs left.now right.now (F.pre f) }
+                ensures { IsPairAnswerAt left.entry.now right.entry.now (F.post f) index result }
+            { f(&left[index], &right[index]) },
+        )
     }
 
     /// How many items it has.

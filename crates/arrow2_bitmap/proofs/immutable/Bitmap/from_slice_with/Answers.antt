@@ -1,0 +1,6 @@
+use Rattle.arrow2_model.specs.Storage.{items_of}
+use Rattle.arrow2_bitmap.proofs.Asked.{told-each, if-both}
+use Rattle.arrow2_bitmap.proofs.immutable.Bitmap.from_slice_with.Goals as goal
+
+pub returns-clause-items : goal.returns-clause-items
+returns-clause-items g c = λ test says. if-both c.try_from_fn.result (λ b size told. told-each c.args.items.now (items_of b) _ test size told says) c.try_from_fn.ensures.len c.try_from_fn.ensures.answers
