@@ -1,5 +1,5 @@
--- Items chosen by a mask.
-use Rattle.std.specs.Prelude.{List, [], ◌∷◌, Bool, if◌then◌else◌}
+-- Items chosen by a mask, and those that are not null.
+use Rattle.std.specs.Prelude.{List, [], ◌∷◌, Bool, Option, Some, None, if◌then◌else◌}
 
 -- the items at whose place the mask is true
 abbrev pub selected : {X : Type 0} → List X → List Bool → List X
@@ -13,3 +13,9 @@ chosen [] xs ys = []
 chosen (first ∷ mask) [] ys = []
 chosen (first ∷ mask) (x ∷ xs) [] = []
 chosen (first ∷ mask) (x ∷ xs) (y ∷ ys) = (if first then x else y) ∷ chosen mask xs ys
+
+-- the items that are not null
+abbrev pub there : {X : Type 0} → List (Option X) → List X
+there [] = []
+there (Some x ∷ items) = x ∷ there items
+there (None ∷ items) = there items

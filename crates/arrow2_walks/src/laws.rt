@@ -1,11 +1,12 @@
 //! Laws of the walks. Each function is its law and nothing else.
 ghost use Rattle.std.specs.Prelude.{◌≡◌, ◌↔◌, ℕ, ◌+◌, ◌<◌, ◌≤◌, All, Bool, List, Option, false, get_or, length, option_map, slice_index_or, true};
-ghost use Rattle.std.specs.List.{sum_by};
-ghost use Rattle.arrow2_model.specs.Parts.{falses};
+ghost use Rattle.std.specs.List.{sum_by, flat_map};
+ghost use Rattle.arrow2_model.specs.Parts.{falses, part};
 ghost use Rattle.arrow2_walks.specs.Runs.{runs, AreRuns, InRuns};
 ghost use Rattle.std.specs.Iterator.{YieldsFirst, YieldsLast, YieldsFirstBy, YieldsLastBy};
 ghost use Rattle.arrow2_walks.specs.declared.zip_validity.ZipValidityIter.{ZipValidityIter};
 ghost use Rattle.arrow2_walks.specs.declared.zip_validity.ZipValidity.{ZipValidity};
+ghost use Rattle.arrow2_walks.specs.Selected.{selected};
 ghost use Rattle.arrow2_walks.specs.Zips.{MatchZip, zip_validity_steps, either_steps, HasEqualLengths};
 ghost use Rattle.arrow2_walks.specs.Slots.{slots_of_both, slots_of};
 
@@ -77,4 +78,10 @@ pub fn lengths_of_runs_are_the_true_items()
 #[tactic(auto, using(crate::proofs::InnerRuns::runs_inside))]
 pub fn runs_lie_inside()
     ensures { (items : List Bool) → All (λ run. run.0 + run.1 ≤ length items) (runs items) }
+{}
+
+/// The parts of a list that the runs of a mask cut out, one behind the other, are the items that the mask selects.
+pub fn runs_cut_out_the_selected_items<X>()
+    ensures { (xs : List X) (mask : List Bool) → length mask ≡ length xs →
+        flat_map (λ run. part xs run.0 run.1) (runs mask) ≡ selected xs mask }
 {}
