@@ -1,3 +1,5 @@
-//! Arrays: values beside their validity.
+//! Arrays: values beside their validity; and the tests of what is to become one.
+
+pub mod specification;
 
 pub use arrow2_array::{BooleanArray, BooleanIter};
