@@ -18,5 +18,6 @@ mod lists;
 mod million;
 mod offset;
 mod storage;
+mod texts;
 mod types;
 mod walks;

@@ -1,0 +1,95 @@
+//! Texts between offsets that are written out, and how the test of them refuses.
+use arrow2_offset::{BrokenRule, OffsetsBuffer};
+use arrow2_utf8::{
+    BrokenTextArray, BrokenTexts, text_at, try_check_offsets_and_utf8, try_check_offsets_bounds,
+    try_check_utf8,
+};
+use std::convert::TryFrom;
+use std::process::Abort;
+
+/// Numbers and bytes are told this.
+fn is_told(rt: &impl Abort, offsets: &[i32], values: &[u8], answer: Result<(), BrokenTextArray>) {
+    assert!(rt; try_check_offsets_and_utf8(offsets, values) == answer);
+}
+
+#[test]
+fn numbers_and_bytes_that_are_texts_pass(rt: HostRuntime) {
+    is_told(&rt, &[0], b"", Ok(()));
+    is_told(&rt, &[0, 2, 2, 5], b"abcde", Ok(()));
+    is_told(&rt, &[0, 3, 3, 6, 6], "a\u{e9}\u{20ac}".as_bytes(), Ok(()));
+    // What stands before the first offset and behind the last is not tested.
+    is_told(&rt, &[1, 3, 3], b"\xff\xc3\xa9\xff", Ok(()));
+}
+
+#[test]
+fn the_first_fault_is_told(rt: HostRuntime) {
+    is_told(
+        &rt,
+        &[],
+        b"",
+        Err(BrokenTextArray::Offsets(BrokenRule::Empty)),
+    );
+    is_told(
+        &rt,
+        &[0, 2, 1],
+        b"a",
+        Err(BrokenTextArray::Offsets(BrokenRule::Falling)),
+    );
+    is_told(
+        &rt,
+        &[0, 1, 3],
+        b"\xffb",
+        Err(BrokenTextArray::Texts(BrokenTexts::PastTheValues)),
+    );
+    is_told(
+        &rt,
+        &[0, 1, 2, 3],
+        b"a\xffb",
+        Err(BrokenTextArray::Texts(BrokenTexts::NotUtf8(1))),
+    );
+    // The whole is a text, and a slot ends inside a character; then one with no values begins there.
+    is_told(
+        &rt,
+        &[0, 1, 2, 3],
+        b"a\xc3\xa9",
+        Err(BrokenTextArray::Texts(BrokenTexts::NotUtf8(1))),
+    );
+    is_told(
+        &rt,
+        &[0, 1, 2, 2],
+        b"a\xc3\xa9",
+        Err(BrokenTextArray::Texts(BrokenTexts::NotUtf8(1))),
+    );
+}
+
+/// A test answers this.
+fn answers(rt: &impl Abort, told: Result<(), BrokenTexts>, answer: Result<(), BrokenTexts>) {
+    assert!(rt; told == answer);
+}
+
+/// The values are texts, and this is that of slot 1.
+fn is_text(rt: &impl Abort, offsets: &OffsetsBuffer<i64>, values: &[u8], text: &str) {
+    let is_checked = 1 < offsets.len_proxy() && try_check_utf8(offsets, values).is_ok();
+    let is_read = is_checked && text_at(offsets, values, 1) == text;
+    assert!(rt; is_read);
+}
+
+#[test]
+fn wide_offsets_are_told_and_read(rt: HostRuntime) {
+    let numbers = vec![in rt.alloc(); 1i64, 3, 6].expect(&rt, "no memory");
+    let offsets = OffsetsBuffer::try_from(numbers).expect(&rt, "they are offsets");
+    let values = "a\u{e9}\u{20ac}".as_bytes();
+    answers(&rt, try_check_utf8(&offsets, values), Ok(()));
+    answers(
+        &rt,
+        try_check_utf8(&offsets, b"abc"),
+        Err(BrokenTexts::PastTheValues),
+    );
+    answers(&rt, try_check_offsets_bounds(&offsets, 6), Ok(()));
+    answers(
+        &rt,
+        try_check_offsets_bounds(&offsets, 5),
+        Err(BrokenTexts::PastTheValues),
+    );
+    is_text(&rt, &offsets, values, "\u{20ac}");
+}
