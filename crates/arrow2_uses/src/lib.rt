@@ -3,6 +3,7 @@
 
 pub mod buffers;
 pub mod columns;
+pub mod compared;
 pub mod first;
 pub mod generic;
 pub mod kernels;

@@ -1,0 +1,41 @@
+//! Bitmaps of what comparisons answer.
+ghost use Rattle.std.specs.Prelude.{◌≡◌, int_lt, length, map, IfOk, IfErr};
+ghost use Rattle.std.specs.Simd.Lanes.{zip2};
+ghost use Rattle.arrow2.specs.Buffers.{buffer_items};
+ghost use Rattle.arrow2.specs.Storage.{items_of};
+
+use arrow2::bitmap::Bitmap;
+use arrow2::buffer::Buffer;
+use arrow2::error::{Error, Result};
+
+/// Which values are below a bound.
+///
+/// # Errors
+///
+/// `OutOfMemory` alone.
+pub fn below(values: &Buffer<i64>, bound: i64) -> Result<Bitmap>
+    ensures items { IfOk result (λ b. items_of b
+        ≡ map (λ value. int_lt value bound) (buffer_items values.now)) }
+    ensures only { IfErr result (λ e. e ≡ Error.OutOfMemory) }
+{
+    Bitmap::from_slice_with(
+        values.allocator(),
+        values.as_slice(),
+        |value| *value < bound,
+    )
+}
+
+/// Which values are below those of another list in their place.
+///
+/// # Errors
+///
+/// `OutOfMemory` alone.
+pub fn below_each(values: &Buffer<i64>, bounds: &Buffer<i64>) -> Result<Bitmap>
+    requires same_length { length (buffer_items values.now) ≡ length (buffer_items bounds.now) }
+    ensures items { IfOk result (λ b. items_of b
+        ≡ zip2 int_lt (buffer_items values.now) (buffer_items bounds.now)) }
+    ensures only { IfErr result (λ e. e ≡ Error.OutOfMemory) }
+{
+    let (values, bounds, alloc) = (values.as_slice(), bounds.as_slice(), values.allocator());
+    Bitmap::from_slices_with(alloc, values, bounds, |value, bound| *value < *bound)
+}
