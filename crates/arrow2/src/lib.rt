@@ -7,6 +7,7 @@
 pub mod array;
 pub mod bitmap;
 pub mod buffer;
+pub mod compute;
 pub mod datatypes;
 pub mod error;
 pub mod laws;

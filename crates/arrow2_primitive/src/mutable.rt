@@ -84,6 +84,20 @@ impl<T: NativeType> MutablePrimitiveArray<T> {
         }
     }
 
+    /// Returns an array without items, of the logical type of `array`, which they share.
+    ///
+    /// # Errors
+    ///
+    /// `OutOfMemory` alone, and only where the count of owners is full.
+    pub fn like(array: &PrimitiveArray<T>) -> Result<MutablePrimitiveArray<T>>
+        ensures items { IfOk result (λ a. a.items ≡ []) }
+        ensures data_type { IfOk result (λ a. a.data_type ≡ array.now.data_type) }
+        ensures only { IfErr result (λ e. e ≡ Error.OutOfMemory) }
+    {
+        let data_type = array.data_type().clone()?;
+        Ok(MutablePrimitiveArray::of_type(array.values().allocator(), data_type))
+    }
+
     /// Returns the logical type.
     pub fn data_type(&self) -> &Rc<DataType>
         ensures value { result.now.value ≡ self.now.data_type }

@@ -1,0 +1,2 @@
+pub mod Filtered
+pub mod Sums
