@@ -39,8 +39,8 @@ pub use Rattle.arrow2_walks.specs.Places
 pub use Rattle.arrow2_walks.specs.Selected
 pub use Rattle.arrow2_walks.specs.Slots
 pub use Rattle.arrow2_walks.specs.Zips
+pub use Rattle.arrow2_validity.specs.OptionalValidity
 pub use Rattle.arrow2_array.specs.ArrayTexts
 pub use Rattle.arrow2_array.specs.Items
 pub use Rattle.arrow2_array.specs.Kleene
-pub use Rattle.arrow2_validity.specs.OptionalValidity
 pub use Rattle.arrow2_primitive.specs.Primitive

@@ -2,6 +2,6 @@
 
 pub mod specification;
 
-pub use arrow2_array::{BooleanArray, BooleanIter};
+pub use arrow2_array::{BooleanArray, BooleanIter, MutableBooleanArray};
 pub use arrow2_primitive::{MutablePrimitiveArray, PrimitiveArray, PrimitiveIter};
 pub use arrow2_validity::{Validity, check_same_length};

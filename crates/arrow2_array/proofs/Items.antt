@@ -1,98 +1,69 @@
--- The items of a boolean array, place by place, in parts, and counted.
-use Rattle.std.proofs.Common.{Bor, ◌≡◌, ℕ, ◌<◌, List, [], ◌∷◌, Bool, true, false, cond, map, length, get_or, replicate, refl, ap, sym, ◌∙◌, arith}
-use Rattle.std.specs.Prelude.{Option, Some, None, MatchOption}
+-- What boolean arrays are proved by, shared ones and ones that grow.
+use Rattle.std.proofs.Common.{◌≡◌, ◌∙◌, ◌↔◌, ℕ, zero, suc, ◌<◌, List, [], ◌∷◌, ◌++◌, Bool, true, false, length, get_or, map, replicate, refl, ap, sym, arith}
+use Rattle.std.specs.Prelude.{Option, Some, None, MatchOption, IsNone, IfSome, is_some, unwrap_or, slice_get}
 use Rattle.std.specs.Bool.{then_some}
-use Rattle.std.specs.Option.{ForSome, is_none, is_some, option_copied}
-use Rattle.std.proofs.lemmas.List.{length-replicate}
-use Rattle.std.proofs.lemmas.List.Sums.{sum_by-cons}
-use Rattle.arrow2_model.specs.Parts.{part, falses}
+use Rattle.std.proofs.lemmas.List.{length-replicate, length-map}
+use Rattle.std.proofs.Math.Nat.{min-le_left, min-le_right, le-min}
+use Rattle.arrow2_model.specs.Parts.{falses}
 use Rattle.arrow2_model.specs.Storage.{BitmapStorage, items_of}
+use Rattle.arrow2_model.proofs.Counts.{falses-all_true, falses-none}
+use Rattle.arrow2_model.proofs.Parts.{part-part, length-part}
 use Rattle.arrow2_walks.specs.Zipped.{slot, zipped}
-use Rattle.arrow2_model.proofs.Parts.{part-map}
-use Rattle.arrow2_walks.proofs.Zipped.{length-zipped, at-zipped, part-zipped, nulls-zipped}
-use Rattle.arrow2_array.specs.Items.{array_items, validity_items, nulls}
-
--- ---- values beside their validity
-
--- where all are valid none is null
-pub zipped-set : (xs : List Bool) → zipped xs (replicate (length xs) true) ≡ map (λ x. Some x) xs
-zipped-set [] = refl
-zipped-set (x ∷ xs) = ap (λ l. Some x ∷ l) (zipped-set xs)
-
--- which items are not null
-known-zipped : (xs vs : List Bool) → length vs ≡ length xs → map is_some (zipped xs vs) ≡ vs
-known-zipped [] [] e = refl
-known-zipped [] (v ∷ vs) e = absurd (omega (arith, e))
-known-zipped (x ∷ xs) [] e = absurd (omega (arith, e))
-known-zipped (x ∷ xs) (true ∷ vs) e = ap (λ l. true ∷ l) (known-zipped xs vs (omega (arith, e)))
-known-zipped (x ∷ xs) (false ∷ vs) e = ap (λ l. false ∷ l) (known-zipped xs vs (omega (arith, e)))
-
-nulls-some : (xs : List Bool) → nulls (map (λ x. Some x) xs) ≡ 0
-nulls-some [] = refl
-nulls-some (x ∷ xs) =
-    let a = sum_by-cons (λ o. cond (is_none o) 1 0) (Some x) (map (λ x. Some x) xs) in
-    let b = nulls-some xs in
-    omega (arith, a, b)
+use Rattle.arrow2_walks.proofs.Zipped.{append-zipped, at-zipped, push-zipped, slot-option}
+use Rattle.arrow2_validity.specs.OptionalValidity.{OptionalValidity, items_or_true, valid_items}
+use Rattle.arrow2_validity.proofs.Slots.{arrays, zipped-true}
+use Rattle.arrow2_validity.proofs.ValidItems.{items-some}
 
 -- ---- arrays
 
--- a validity is as long as the values
-abbrev pub Fits : BitmapStorage → Option BitmapStorage → Type 0
-Fits values validity = ForSome validity (λ v. length (items_of v) ≡ length (items_of values))
+-- a value at its place
+pub found : (xs : List Bool) (k : ℕ) (x : Bool) → k < length xs → x ≡ get_or xs k false → slice_get xs k ≡ Some x
+found [] k x h is = absurd (omega (arith, h))
+found (y ∷ xs) zero x h is = ap (λ z. Some z) (sym is)
+found (y ∷ xs) (suc k) x h is = found xs k x (omega (arith, h)) is
 
-pub length-validity : (values : BitmapStorage) (validity : Option BitmapStorage) → Fits values validity → length (validity_items (items_of values) validity) ≡ length (items_of values)
-length-validity values None h = length-replicate (length (items_of values)) true
-length-validity values (Some validity) h = h validity refl
+as_slot : (x v : Bool) → then_some v x ≡ slot x v
+as_slot x true = refl
+as_slot x false = refl
 
--- an array is its values beside its validity, all set where it has none
-pub as_zipped : (values : BitmapStorage) (validity : Option BitmapStorage) → array_items values validity ≡ zipped (items_of values) (validity_items (items_of values) validity)
-as_zipped values None = sym (zipped-set (items_of values))
-as_zipped values (Some validity) = refl
+-- an item, from its value and whether it is valid
+pub item-at : (xs vs : List Bool) (k : ℕ) (x v : Bool) → length vs ≡ length xs → k < length xs → x ≡ get_or xs k false → v ≡ get_or vs k false → then_some v x ≡ get_or (zipped xs vs) k None
+item-at xs vs k x v e h is-x is-v = as_slot x v ∙ (ap (λ y. slot y v) is-x ∙ (ap (slot (get_or xs k false)) is-v ∙ sym (at-zipped xs vs k false e h)))
 
-pub length-array : (values : BitmapStorage) (validity : Option BitmapStorage) → Fits values validity → length (array_items values validity) ≡ length (items_of values)
-length-array values validity h = ap length (as_zipped values validity) ∙ length-zipped (items_of values) _ (length-validity values validity h)
+-- the items by an optional bitmap
+pub items-by : (xs : List Bool) (n : ℕ) (validity : Option BitmapStorage) → n ≡ length xs
+    → MatchOption validity (zipped xs (items_or_true n validity) ≡ map (λ x. Some x) xs) (λ v. zipped xs (items_or_true n validity) ≡ zipped xs (items_of v))
+unfolding items_or_true
+items-by xs n None e = ap (λ k. zipped xs (replicate k true)) e ∙ zipped-true xs
+items-by xs n (Some v) e = refl
 
--- an item by its value and whether it is valid
-pub valid_item : (values validity : BitmapStorage) (k : ℕ) (value valid : Bool) → length (items_of validity) ≡ length (items_of values) → k < length (items_of values) → value ≡ get_or (items_of values) k false → valid ≡ get_or (items_of validity) k false
-    → then_some valid value ≡ get_or (array_items values (Some validity)) k None
-valid_item values validity k value valid e h is-value is-valid =
-    as_slot value valid ∙ (ap (λ b. slot b valid) is-value ∙ (ap (slot (get_or (items_of values) k false)) is-valid ∙ sym (at-zipped (items_of values) (items_of validity) k false e h)))
-  where
-    as_slot : (value valid : Bool) → then_some valid value ≡ slot value valid
-    as_slot value true = refl
-    as_slot value false = refl
+-- the bitmap has the length of the validity that it is taken from
+pub length-bitmap : (v : OptionalValidity) (n : ℕ) (b : BitmapStorage) → length (valid_items v) ≡ n → v.bitmap ≡ Some b → length (items_of b) ≡ n
+length-bitmap v n b e is = ap length (sym (items-some v.len b)) ∙ (ap (λ o. length (items_or_true v.len o)) (sym is) ∙ e)
 
--- a part of an array is its parts, side by side
-pub part-plain : (values values' : BitmapStorage) (a n : ℕ) → items_of values' ≡ part (items_of values) a n → array_items values' None ≡ part (array_items values None) a n
-part-plain values values' a n e = ap (map (λ x. Some x)) e ∙ sym (part-map (λ x. Some x) (items_of values) a n)
+pub ruleset booleans = (arrays, falses-all_true, found)
 
-pub part-valid : (values values' v v' : BitmapStorage) (a n : ℕ) → length (items_of v) ≡ length (items_of values) → items_of values' ≡ part (items_of values) a n → items_of v' ≡ part (items_of v) a n → array_items values' (Some v') ≡ part (array_items values (Some v)) a n
-part-valid values values' v v' a n h e f = ap (λ l. zipped l (items_of v')) e ∙ (ap (zipped (part (items_of values) a n)) f ∙ sym (part-zipped (items_of values) (items_of v) a n h))
+-- ---- arrays that grow
 
-pub nulls-array : (values : BitmapStorage) (validity : BitmapStorage) → length (items_of validity) ≡ length (items_of values) → nulls (array_items values (Some validity)) ≡ falses (items_of validity)
-nulls-array values validity h = nulls-zipped (items_of values) (items_of validity) h
+-- one item many times behind the others
+zipped-replicate : (n : ℕ) (x v : Bool) → zipped (replicate n x) (replicate n v) ≡ replicate n (slot x v)
+zipped-replicate zero x v = refl
+zipped-replicate (suc n) x v = ap (λ l. slot x v ∷ l) (zipped-replicate n x v)
 
-pub no_nulls : (values : BitmapStorage) → nulls (array_items values None) ≡ 0
-no_nulls values = nulls-some (items_of values)
+pub fill-zipped : (xs vs : List Bool) (n : ℕ) (o : Option Bool) (d : Bool) → length vs ≡ length xs → zipped (xs ++ replicate n (unwrap_or o d)) (vs ++ replicate n (is_some o)) ≡ zipped xs vs ++ replicate n o
+fill-zipped xs vs n o d e =
+    append-zipped xs (replicate n (unwrap_or o d)) vs (replicate n (is_some o)) e
+    ∙ ap (λ l. zipped xs vs ++ l) (zipped-replicate n (unwrap_or o d) (is_some o) ∙ ap (replicate n) (slot-option o d))
 
--- arrays of one length have values of one length
-pub same_lengths : (left right : BitmapStorage) (left_validity right_validity : Option BitmapStorage) (xs ys : List (Option Bool)) → Fits left left_validity → Fits right right_validity
-    → array_items left left_validity ≡ xs → array_items right right_validity ≡ ys → length xs ≡ length ys → length (items_of left) ≡ length (items_of right)
-same_lengths left right left_validity right_validity xs ys l r is-left is-right e =
-    sym (length-array left left_validity l) ∙ (ap length is-left ∙ (e ∙ (sym (ap length is-right) ∙ length-array right right_validity r)))
+-- the last item, taken off
+pub popped : (xs vs more others : List Bool) (x v : Bool) (o : Option Bool) → length vs ≡ length xs → xs ≡ more ++ x ∷ [] → vs ≡ others ++ v ∷ [] → o ≡ then_some v x → length others ≡ length more → zipped xs vs ≡ zipped more others ++ o ∷ []
+popped xs vs more others x v o e is-x is-v is-o f =
+    ap (λ l. zipped l vs) is-x ∙ (ap (zipped (more ++ x ∷ [])) is-v ∙ (push-zipped more others x v f ∙ ap (λ z. zipped more others ++ z ∷ []) (sym (as_slot x v) ∙ sym is-o)))
 
--- which items are not null
-pub known-array : (values : BitmapStorage) (validity : Option BitmapStorage) → Fits values validity → map is_some (array_items values validity) ≡ validity_items (items_of values) validity
-known-array values validity h = ap (map is_some) (as_zipped values validity) ∙ known-zipped (items_of values) (validity_items (items_of values) validity) (length-validity values validity h)
+-- a validity of which the bitmap is left out where nothing is false
+pub left-out : (n : ℕ) (vs : List Bool) (validity : Option BitmapStorage) → length vs ≡ n → (IsNone validity ↔ (falses vs ≡ 0)) → IfSome validity (λ b. items_of b ≡ vs) → items_or_true n validity ≡ vs
+unfolding items_or_true
+left-out n vs None e none some = ap (λ k. replicate k true) (sym e) ∙ sym (falses-none vs (none.0 refl))
+left-out n vs (Some b) e none some = some
 
--- the values, beside which items are not null, are the items
-pub known-values : (values : BitmapStorage) (validity : Option BitmapStorage) → Fits values validity → zipped (items_of values) (map is_some (array_items values validity)) ≡ array_items values validity
-known-values values validity h = ap (zipped (items_of values)) (known-array values validity h) ∙ sym (as_zipped values validity)
-
--- the validity, where there is one
-pub known-validity : (values : BitmapStorage) (validity : Option BitmapStorage) (items : List (Option Bool)) (r : Option (Bor BitmapStorage)) → Fits values validity → array_items values validity ≡ items → option_copied r ≡ validity
-    → MatchOption r (nulls items ≡ 0) (λ v. items_of v.now ≡ map is_some items)
-known-validity values None items None h is e = rw (← is) (no_nulls values)
-known-validity values (Some v) items None h is e = let never = e in cc
-known-validity values None items (Some w) h is e = let never = e in cc
-known-validity values (Some v) items (Some w) h is e = let same : w.now ≡ v = cc in rw (← is) (sym (known-array values (Some v) h ∙ ap items_of (sym same)))
+pub ruleset growing = (arrays, fill-zipped, part-part, length-part, length-replicate, length-map, min-le_left, min-le_right, le-min)

@@ -2,4 +2,3 @@ pub mod ArrayTexts
 pub mod Items
 pub mod Same
 pub mod Tables
-pub mod Walks

@@ -1,18 +1,15 @@
 -- Kleene's logic by truth tables over values and validities.
 use Rattle.std.proofs.Common.{◌≡◌, ℕ, zero, suc, ◌<◌, List, [], ◌∷◌, Bool, true, false, length, get_or, replicate, refl, ap, sym, ◌∙◌, arith}
-use Rattle.std.specs.Prelude.{Option, Some, None}
+use Rattle.std.specs.Prelude.{Option, None}
 use Rattle.std.proofs.lemmas.List.{ext_get_or, length-replicate, get_or-replicate}
 use Rattle.arrow2_model.specs.Bits.{bit}
-use Rattle.arrow2_model.specs.Storage.{BitmapStorage, items_of}
 use Rattle.arrow2_model.specs.Tables.{answer, each}
 use Rattle.arrow2_walks.specs.Zipped.{slot, zipped}
 use Rattle.arrow2_model.proofs.Kernels.{length-each, get_or-each, each_from}
 use Rattle.arrow2_walks.proofs.Zipped.{length-zipped, at-zipped}
-use Rattle.arrow2_array.specs.Items.{array_items, validity_items}
 use Rattle.arrow2_array.specs.Kleene.{kleene_and, kleene_or, by_items, Spells, kleene, values_table, known_table, beside_table}
 use Rattle.arrow2_array.specs.declared.kleene.Operator.{Operator}
 use Rattle.arrow2_array.specs.declared.kleene.Operator.TheVariants.{And, Or}
-use Rattle.arrow2_array.proofs.Items.{Fits, length-validity, as_zipped}
 
 -- ---- one item
 
@@ -138,32 +135,36 @@ values_small Or = omega arith
 
 -- ---- item by item
 
+-- items that are all valid, by another list of that length
+pub all_set : (ns xs : List Bool) → ns ≡ replicate (length ns) true → length ns ≡ length xs → ns ≡ replicate (length xs) true
+all_set ns xs is e = is ∙ ap (λ n. replicate n true) e
+
 -- where all are valid, a table that answers true there gives no more than all set
-pub all_known : (t : ℕ) (xs ys : List Bool) → ((a b : Bool) → answer t (a ∷ true ∷ b ∷ true ∷ []) ≡ true) → length xs ≡ length ys
-    → replicate (length xs) true ≡ each t (xs ∷ replicate (length xs) true ∷ ys ∷ replicate (length ys) true ∷ [])
-all_known t xs ys known e =
-    each_from t (xs ∷ replicate (length xs) true ∷ ys ∷ replicate (length ys) true ∷ []) (replicate (length xs) true) (length-replicate (length xs) true)
+pub all_known : (t : ℕ) (xs ns ys ms : List Bool) → ((a b : Bool) → answer t (a ∷ true ∷ b ∷ true ∷ []) ≡ true) → length xs ≡ length ys → ns ≡ replicate (length xs) true → ms ≡ replicate (length ys) true
+    → replicate (length xs) true ≡ each t (xs ∷ ns ∷ ys ∷ ms ∷ [])
+all_known t xs ns ys ms known e is-n is-m =
+    each_from t (xs ∷ ns ∷ ys ∷ ms ∷ []) (replicate (length xs) true) (length-replicate (length xs) true)
     (λ k k<.
     let left : get_or (replicate (length xs) true) k false ≡ true = get_or-replicate (length xs) k true false k< in
     let right : get_or (replicate (length ys) true) k false ≡ true = get_or-replicate (length ys) k true false (omega (arith, e)) in
-    left ∙ rw (left, right) (sym (known (get_or xs k false) (get_or ys k false))))
+    left ∙ rw (is-n, is-m, left, right) (sym (known (get_or xs k false) (get_or ys k false))))
 
 -- a table of three lists is that of four, one of which is all set
-pub beside_right : (t u : ℕ) (xs ns ys : List Bool) → ((a n b : Bool) → answer u (a ∷ n ∷ b ∷ []) ≡ answer t (a ∷ n ∷ b ∷ true ∷ [])) → length xs ≡ length ys
-    → each u (xs ∷ ns ∷ ys ∷ []) ≡ each t (xs ∷ ns ∷ ys ∷ replicate (length ys) true ∷ [])
-beside_right t u xs ns ys beside e =
-    each_from t (xs ∷ ns ∷ ys ∷ replicate (length ys) true ∷ []) (each u (xs ∷ ns ∷ ys ∷ [])) (length-each u (xs ∷ ns ∷ ys ∷ []))
+pub beside_right : (t u : ℕ) (xs ns ys ms : List Bool) → ((a n b : Bool) → answer u (a ∷ n ∷ b ∷ []) ≡ answer t (a ∷ n ∷ b ∷ true ∷ [])) → length xs ≡ length ys → ms ≡ replicate (length ys) true
+    → each u (xs ∷ ns ∷ ys ∷ []) ≡ each t (xs ∷ ns ∷ ys ∷ ms ∷ [])
+beside_right t u xs ns ys ms beside e is =
+    each_from t (xs ∷ ns ∷ ys ∷ ms ∷ []) (each u (xs ∷ ns ∷ ys ∷ [])) (length-each u (xs ∷ ns ∷ ys ∷ []))
     (λ k k<.
     let set : get_or (replicate (length ys) true) k false ≡ true = get_or-replicate (length ys) k true false (omega (arith, e)) in
-    get_or-each u (xs ∷ ns ∷ ys ∷ []) k k< ∙ rw set (beside (get_or xs k false) (get_or ns k false) (get_or ys k false)))
+    get_or-each u (xs ∷ ns ∷ ys ∷ []) k k< ∙ rw (is, set) (beside (get_or xs k false) (get_or ns k false) (get_or ys k false)))
 
-pub beside_left : (t u : ℕ) (xs ys ms : List Bool) → ((a b m : Bool) → answer u (b ∷ m ∷ a ∷ []) ≡ answer t (a ∷ true ∷ b ∷ m ∷ [])) → length xs ≡ length ys
-    → each u (ys ∷ ms ∷ xs ∷ []) ≡ each t (xs ∷ replicate (length xs) true ∷ ys ∷ ms ∷ [])
-beside_left t u xs ys ms behind e =
-    each_from t (xs ∷ replicate (length xs) true ∷ ys ∷ ms ∷ []) (each u (ys ∷ ms ∷ xs ∷ [])) (length-each u (ys ∷ ms ∷ xs ∷ []) ∙ sym e)
+pub beside_left : (t u : ℕ) (xs ns ys ms : List Bool) → ((a b m : Bool) → answer u (b ∷ m ∷ a ∷ []) ≡ answer t (a ∷ true ∷ b ∷ m ∷ [])) → length xs ≡ length ys → ns ≡ replicate (length xs) true
+    → each u (ys ∷ ms ∷ xs ∷ []) ≡ each t (xs ∷ ns ∷ ys ∷ ms ∷ [])
+beside_left t u xs ns ys ms behind e is =
+    each_from t (xs ∷ ns ∷ ys ∷ ms ∷ []) (each u (ys ∷ ms ∷ xs ∷ [])) (length-each u (ys ∷ ms ∷ xs ∷ []) ∙ sym e)
     (λ k k<.
     let set : get_or (replicate (length xs) true) k false ≡ true = get_or-replicate (length xs) k true false k< in
-    get_or-each u (ys ∷ ms ∷ xs ∷ []) k (omega (arith, e)) ∙ rw set (behind (get_or xs k false) (get_or ys k false) (get_or ms k false)))
+    get_or-each u (ys ∷ ms ∷ xs ∷ []) k (omega (arith, e)) ∙ rw (is, set) (behind (get_or xs k false) (get_or ys k false) (get_or ms k false)))
 
 length-by_items : (f : Option Bool → Option Bool → Option Bool) (xs ys : List (Option Bool)) → length xs ≡ length ys → length (by_items f xs ys) ≡ length xs
 length-by_items f [] ys e = refl
@@ -196,25 +197,3 @@ by_tables v t f xs ns ys ms spelled n y m =
     ∙ (spelled (get_or xs k false) (get_or ns k false) (get_or ys k false) (get_or ms k false)
     ∙ sym (get_or-by_items f (zipped xs ns) (zipped ys ms) k (lx ∙ sym (ly ∙ y)) (omega (arith, lx, h))
     ∙ (ap (λ o. f o (get_or (zipped ys ms) k None)) (at-zipped xs ns k false n h) ∙ ap (f (slot (get_or xs k false) (get_or ns k false))) (at-zipped ys ms k false (m ∙ sym y) (omega (arith, y, h)))))))))
-
--- ---- arrays
-
--- an array whose values and validity are answers of the two tables is what f makes of two arrays
-pub by_arrays : (v t : ℕ) (f : Option Bool → Option Bool → Option Bool) (left right values : BitmapStorage) (left_validity right_validity validity : Option BitmapStorage) → Spells v t f
-    → length (items_of left) ≡ length (items_of right) → Fits left left_validity → Fits right right_validity → items_of values ≡ each v (items_of left ∷ items_of right ∷ [])
-    → validity_items (items_of left) validity ≡ each t (items_of left ∷ validity_items (items_of left) left_validity ∷ items_of right ∷ validity_items (items_of right) right_validity ∷ [])
-    → array_items values validity ≡ by_items f (array_items left left_validity) (array_items right right_validity)
-by_arrays v t f left right values left_validity right_validity validity spelled e l r is is-validity =
-    let xs = items_of left in
-    let ys = items_of right in
-    let ns = validity_items xs left_validity in
-    let ms = validity_items ys right_validity in
-    as_zipped values validity
-    ∙ (ap (λ l. zipped l (validity_items (items_of values) validity)) is
-    ∙ (ap (zipped (each v (xs ∷ ys ∷ []))) (same_validity xs (items_of values) validity (sym (ap length is ∙ length-each v (xs ∷ ys ∷ []))) ∙ is-validity)
-    ∙ (by_tables v t f xs ns ys ms spelled (length-validity left left_validity l) (sym e) (length-validity right right_validity r ∙ sym e)
-    ∙ (ap (λ l. by_items f l (zipped ys ms)) (sym (as_zipped left left_validity)) ∙ ap (by_items f (array_items left left_validity)) (sym (as_zipped right right_validity))))))
-  where
-    same_validity : (xs ys : List Bool) (o : Option BitmapStorage) → length xs ≡ length ys → validity_items ys o ≡ validity_items xs o
-    same_validity xs ys None e = ap (λ n. replicate n true) (sym e)
-    same_validity xs ys (Some b) e = refl

@@ -1,19 +1,28 @@
--- The items of a boolean array: each is a boolean, or null.
-use Rattle.std.specs.Prelude.{ℕ, List, Bool, true, Option, Some, None, length, map, replicate, count_by}
+-- What contracts see of boolean arrays.
+use Rattle.std.specs.Prelude.{ℕ, List, Bool, Option, count_by}
 use Rattle.std.specs.Option.{is_none}
 use Rattle.arrow2_model.specs.Storage.{BitmapStorage, items_of}
 use Rattle.arrow2_walks.specs.Zipped.{zipped}
+use Rattle.arrow2_validity.specs.OptionalValidity.{OptionalValidity, valid_items, sliced_bitmap, sliced_validity}
 
--- by the values and the validity: without validity none is null
-abbrev pub array_items : BitmapStorage → Option BitmapStorage → List (Option Bool)
-array_items values None = map (λ value. Some value) (items_of values)
-array_items values (Some validity) = zipped (items_of values) (items_of validity)
+-- an array: its values, and which of them are not null
+pub record BooleanParts : Type 0 where
+  pub values : BitmapStorage
+  pub validity : OptionalValidity
 
--- which values are not null: all where there is no validity
-abbrev pub validity_items : List Bool → Option BitmapStorage → List Bool
-validity_items values None = replicate (length values) true
-validity_items values (Some validity) = items_of validity
+-- the items: each value that is not null, and None for the others
+abbrev pub boolean_items : BooleanParts → List (Option Bool)
+boolean_items a = zipped (items_of a.values) (valid_items a.validity)
+
+-- the n items from item `offset` on, over the same bytes
+abbrev pub sliced_boolean : BooleanParts → ℕ → ℕ → BooleanParts
+sliced_boolean a offset n = record { values = sliced_bitmap a.values offset n; validity = sliced_validity a.validity offset n }
 
 -- how many items are null (Arrow columnar format, "Null count")
 abbrev pub nulls : List (Option Bool) → ℕ
 nulls items = count_by is_none items
+
+-- an array that grows: its items, and how many fit before it allocates
+pub record GrowingBoolean : Type 0 where
+  pub items : List (Option Bool)
+  pub capacity : ℕ

@@ -1,4 +1,4 @@
 pub mod ArrayTexts
+pub mod Growth
 pub mod Items
 pub mod Kleene
-pub mod Refused

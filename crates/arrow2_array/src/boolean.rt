@@ -1,59 +1,74 @@
 //! An array of booleans, each of which may be null.
-ghost use Rattle.std.specs.Prelude.{◌≡◌, ◌+◌, ◌≤◌, ◌<◌, ◌↔◌, Bool, true, Option, None, length as length', map, slice_index_or, OnOk, IsOk, IfOk, IfErr, IsTrue, MatchOption, string_bytes};
+ghost use Rattle.std.specs.Prelude.{◌≡◌, ◌+◌, ◌≤◌, ◌<◌, ◌↔◌, [], ◌∷◌, Bool, Option, Some, None, length as length', map, slice_index_or, option_map, OnOk, IsOk, IsNone, IfOk, IfErr, IfSome, IsTrue, MatchOption};
 ghost use Rattle.std.specs.Bool.{beq};
-ghost use Rattle.std.specs.Cmp.{partial_equiv_from_equiv, bool_eq_equiv};
+ghost use Rattle.std.specs.Cmp.{partial_equiv_from_equiv, bool_eq_equiv, on_equiv};
 ghost use Rattle.std.specs.Cmp.Lexicographic.{pointwise, lists_equiv, options_equiv};
-ghost use Rattle.std.specs.Option.{ForSome, is_some, option_eq};
+ghost use Rattle.std.specs.List.{slice_get};
+ghost use Rattle.std.specs.Option.{ForSome, is_some, is_none, option_eq};
+ghost use Rattle.std.specs.Ordering.{on};
 ghost use Rattle.arrow2_model.specs.Parts.{part};
 ghost use Rattle.arrow2_model.specs.Storage.{items_of};
+ghost use Rattle.arrow2_model.specs.Tables.{each};
+ghost use Rattle.arrow2_bitmap.specs.Packed.{IsPacked};
 ghost use Rattle.arrow2_walks.specs.Zipped.{zipped};
 ghost use Rattle.arrow2_types.specs.Refusals.{IsInvalidArgument};
-ghost use Rattle.arrow2_array.specs.Items.{array_items, nulls};
-ghost use Rattle.arrow2_array.specs.Kleene.{by_items, kleene, kleene_and, kleene_or};
-ghost use Rattle.arrow2_array.specs.Refused.{unequal_lengths};
+ghost use Rattle.arrow2_validity.specs.OptionalValidity.{valid_items};
+ghost use Rattle.arrow2_validity.specs.Refused.{unequal_lengths};
+ghost use Rattle.arrow2_array.specs.Items.{boolean_items, sliced_boolean, nulls};
+ghost use Rattle.arrow2_array.specs.Kleene.{by_items, kleene, kleene_and, kleene_or, known_table, values_table};
 
 use crate::iterator::BooleanIter;
 use crate::kleene::{Operator, validity_by};
+use crate::mutable::MutableBooleanArray;
 use arrow2_bitmap::Bitmap;
 use arrow2_tables::bitmap_ops::binary_table;
 use arrow2_types::error::{Error, Result};
+use arrow2_validity::Validity;
 use std::alloc::{AllocError, Global};
 use std::marker::Model;
 
-/// An array of booleans, each of which may be null: contracts see the list of its items, `None` where it is null.
-/// Slices and clones share the bytes.
+/// An array of booleans, each of which may be null.
 ///
-/// arrow2's has a data type too: `Boolean`, or an extension of it.
+/// Contracts see its values and its validity; `boolean_items` is the list of its items. Slices and clones share the bytes
+/// of both.
+///
+/// Differs from arrow2, whose array has a logical type too: `Boolean`, or an extension of it.
 #[derive(Drop)]
 pub struct BooleanArray {
     values: Bitmap,
-    validity: Option<Bitmap>,
+    validity: Validity,
 }
 
 impl Model for BooleanArray {
-    ghost use Rattle.std.specs.Prelude.{◌≡◌, List, Bool, Option, length};
-    ghost use Rattle.std.specs.Option.{ForSome};
+    ghost use Rattle.std.specs.Prelude.{◌≡◌, length};
     ghost use Rattle.arrow2_model.specs.Storage.{items_of};
-    ghost use Rattle.arrow2_array.specs.Items.{array_items};
+    ghost use Rattle.arrow2_validity.specs.OptionalValidity.{valid_items};
+    ghost use Rattle.arrow2_array.specs.Items.{BooleanParts};
 
-    ghost Value = { List (Option Bool) };
+    ghost Value = { BooleanParts };
 
-    ghost view = { λ a. array_items a.values a.validity };
+    ghost view = { λ a. record { values = a.values; validity = a.validity } };
 
-    ghost invariant = { λ a. ForSome a.validity (λ validity.
-        length (items_of validity) ≡ length (items_of a.values)) };
+    ghost invariant = { λ a. length (valid_items a.validity) ≡ length (items_of a.values) };
 }
 
+#[tactic(auto, using(crate::proofs::Items::booleans))]
 impl BooleanArray {
-    /// The array of these values, null where the validity is false. Without validity none is null.
+    /// Returns the array of these values, each null where the validity is false. Without a validity none is null.
     ///
     /// # Errors
     ///
-    /// `InvalidArgumentError` exactly if the lengths differ, or `OutOfMemory` there, where its text finds no memory. Both are
-    /// then dropped.
+    /// `InvalidArgumentError` exactly if the lengths differ, or `OutOfMemory` there, if its text cannot be allocated. Both
+    /// are then dropped.
     pub fn try_new(values: Bitmap, validity: Option<Bitmap>) -> Result<BooleanArray>
-        ensures ok { IfOk result (λ a. a ≡ array_items values validity) }
-        ensures len { IfOk result (λ a. length' a ≡ length' (items_of values)) }
+        ensures ok { IfOk result (λ a. a ≡ record {
+          values = values;
+          validity = record { len = length' (items_of values); bitmap = validity };
+        }) }
+        ensures items { IfOk result (λ a. MatchOption validity
+            (boolean_items a ≡ map (λ value. Some value) (items_of values))
+            (λ v. boolean_items a ≡ zipped (items_of values) (items_of v))) }
+        ensures len { IfOk result (λ a. length' (boolean_items a) ≡ length' (items_of values)) }
         ensures accepted { IsOk result ↔ ForSome validity (λ v. length' (items_of v)
             ≡ length' (items_of values)) }
         ensures refused { ForSome validity (λ v.
@@ -61,87 +76,197 @@ impl BooleanArray {
             IsInvalidArgument e
             (unequal_lengths (length' (items_of v)) (length' (items_of values))))) }
     {
-        if let Some(validity) = &validity {
-            check_lengths(&values, validity)?;
-        }
+        let validity = Validity::try_new(values.len(), validity)?;
         Ok(BooleanArray { values, validity })
     }
 
-    /// How many items it has, nulls too.
+    /// Returns the array of these values, each null where the validity is false. Without a validity none is null. Requires
+    /// that the validity has the length of the values, where arrow2 panics. Takes no memory.
+    pub fn new(values: Bitmap, validity: Option<Bitmap>) -> BooleanArray
+        requires same_length { ForSome validity (λ v. length' (items_of v) ≡ length' (items_of values)) }
+        ensures value { result ≡ record {
+          values = values;
+          validity = record { len = length' (items_of values); bitmap = validity };
+        } }
+        ensures items { MatchOption validity
+            (boolean_items result ≡ map (λ value. Some value) (items_of values))
+            (λ v. boolean_items result ≡ zipped (items_of values) (items_of v)) }
+        ensures len { length' (boolean_items result) ≡ length' (items_of values) }
+    {
+        let validity = Validity::new(values.len(), validity);
+        BooleanArray { values, validity }
+    }
+
+    /// Returns the array of these items. It has a validity bitmap exactly where an item is null. What stands in the values under
+    /// a null is left open.
+    ///
+    /// Stands for arrow2's `From` of a slice.
+    ///
+    /// # Errors
+    ///
+    /// `OutOfMemory` alone.
+    #[tactic(auto, using(crate::proofs::Items::growing))]
+    pub fn from_options(alloc: Global, items: &[Option<bool>]) -> Result<BooleanArray>
+        ensures items { IfOk result (λ a. boolean_items a ≡ items.now) }
+        ensures bitmap { IfOk result (λ a. IsNone a.validity.bitmap ↔ (nulls items.now ≡ 0)) }
+        ensures storage { IfOk result (λ a. IsPacked a.values) }
+        ensures packed { IfOk result (λ a. IfSome a.validity.bitmap (λ v. IsPacked v)) }
+        ensures only { IfErr result (λ e. e ≡ Error.OutOfMemory) }
+    {
+        let mut array = MutableBooleanArray::with_capacity(alloc, items.len())?;
+        for item in items {
+            array.push(*item)?;
+        }
+        array.freeze()
+    }
+
+    /// Returns the number of items, nulls too.
     pub fn len(&self) -> usize
-        ensures { result ≡ length' self.now }
+        ensures items { result ≡ length' (boolean_items self.now) }
+        ensures values { result ≡ length' (items_of self.now.values) }
+        ensures validity { result ≡ length' (valid_items self.now.validity) }
     {
         self.values.len()
     }
 
-    /// Whether it has no item.
+    /// Returns whether it has no item.
     pub fn is_empty(&self) -> bool
-        ensures { IsTrue result ↔ (length' self.now ≡ 0) }
+        ensures { IsTrue result ↔ (length' (boolean_items self.now) ≡ 0) }
     {
         self.len() == 0
     }
 
-    /// Item `index`, `None` where it is null. Asks that it is below the length, where arrow2 panics.
+    /// Returns item `index`, or `None` where it is null. Requires that it is below the length, where arrow2 panics.
     pub fn get(&self, index: usize) -> Option<bool>
-        requires below { index < length' self.now }
-        ensures { result ≡ slice_index_or self.now index None }
+        requires below { index < length' (boolean_items self.now) }
+        ensures { result ≡ slice_index_or (boolean_items self.now) index None }
     {
         let value = self.values.get_bit(index);
-        match &self.validity {
-            Some(validity) => validity.get_bit(index).then_some(value),
-            None => Some(value),
-        }
+        self.validity.is_valid(index).then_some(value)
     }
 
-    /// Returns the values. The contract states those of items that are not null; what stands under a null it leaves open.
+    /// Returns what stands in the values at `index`, also under a null. Requires that it is below the length, where arrow2
+    /// panics.
+    pub fn value(&self, index: usize) -> bool
+        requires below { index < length' (boolean_items self.now) }
+        ensures { slice_get (items_of self.now.values) index ≡ Some result }
+    {
+        self.values.get_bit(index)
+    }
+
+    /// Returns whether item `index` is not null. Requires that it is below the length.
+    pub fn is_valid(&self, index: usize) -> bool
+        requires below { index < length' (boolean_items self.now) }
+        ensures { result ≡ is_some (slice_index_or (boolean_items self.now) index None) }
+    {
+        self.validity.is_valid(index)
+    }
+
+    /// Returns whether item `index` is null. Requires that it is below the length.
+    pub fn is_null(&self, index: usize) -> bool
+        requires below { index < length' (boolean_items self.now) }
+        ensures { result ≡ is_none (slice_index_or (boolean_items self.now) index None) }
+    {
+        !self.is_valid(index)
+    }
+
+    /// Returns the values. Those under nulls are what they are.
     pub fn values(&self) -> &Bitmap
-        ensures items { zipped (items_of result.now) (map is_some self.now) ≡ self.now }
-        ensures len { length' (items_of result.now) ≡ length' self.now }
+        ensures value { result.now ≡ self.now.values }
+        ensures items { zipped (items_of result.now) (map is_some (boolean_items self.now))
+            ≡ boolean_items self.now }
+        ensures len { length' (items_of result.now) ≡ length' (boolean_items self.now) }
     {
         &self.values
     }
 
-    /// Returns which items are not null. Where it returns `None`, no item is null; the contract does not state whether an
-    /// array keeps a validity that has no null.
+    /// Returns the validity bitmap. Where there is none, no item is null.
     pub fn validity(&self) -> Option<&Bitmap>
-        ensures { MatchOption result (nulls self.now ≡ 0) (λ validity.
-            items_of validity.now ≡ map is_some self.now) }
+        ensures value { option_map (λ b. b.now) result ≡ self.now.validity.bitmap }
+        ensures items { MatchOption result (nulls (boolean_items self.now) ≡ 0) (λ b.
+            items_of b.now ≡ map is_some (boolean_items self.now)) }
     {
-        self.validity.as_ref()
+        self.validity.bitmap()
     }
 
-    /// How many items are null. The count is kept, so it takes no walk.
+    /// Returns the items' validity: their number, and the bitmap. arrow2 has no such call.
+    pub fn optional_validity(&self) -> &Validity
+        ensures value { result.now ≡ self.now.validity }
+        ensures items { valid_items result.now ≡ map is_some (boolean_items self.now) }
+        ensures len { length' (valid_items result.now) ≡ length' (boolean_items self.now) }
+        ensures zipped { zipped (items_of self.now.values) (valid_items result.now)
+            ≡ boolean_items self.now }
+    {
+        &self.validity
+    }
+
+    /// Returns the number of nulls. The validity keeps it, so nothing is counted.
     pub fn null_count(&self) -> usize
-        ensures { result ≡ nulls self.now }
+        ensures { result ≡ nulls (boolean_items self.now) }
     {
-        match &self.validity {
-            Some(validity) => validity.unset_bits(),
-            None => 0,
-        }
+        self.validity.null_count()
     }
 
-    /// Keeps `length` items from item `offset` on. Requires that they are inside. It is over the same bytes, which the contract
-    /// does not state. Takes no memory.
+    /// Keeps `length` items from item `offset` on, over the same bytes. Requires that they are inside. Takes no memory.
     pub fn slice(&mut self, offset: usize, length: usize)
-        requires inside { offset + length ≤ length' self.old }
-        ensures items { self.new ≡ part self.old offset length }
-        ensures len { length' self.new ≡ length }
+        requires inside { offset + length ≤ length' (boolean_items self.old) }
+        ensures items { boolean_items self.new ≡ part (boolean_items self.old) offset length }
+        ensures len { length' (boolean_items self.new) ≡ length }
+        ensures storage { self.new ≡ sliced_boolean self.old offset length }
     {
         self.values.slice(offset, length);
-        if let Some(validity) = &mut self.validity {
-            validity.slice(offset, length);
-        }
+        self.validity.slice(offset, length);
     }
 
-    /// The items, from the first one on.
-    pub fn iter(&self) -> BooleanIter<'_>
-        ensures { result ≡ self.now }
+    /// Returns the `length` items from item `offset` on, over the same bytes. Requires that they are inside. Takes no memory.
+    pub fn sliced(mut self, offset: usize, length: usize) -> BooleanArray
+        requires inside { offset + length ≤ length' (boolean_items self) }
+        ensures items { boolean_items result ≡ part (boolean_items self) offset length }
+        ensures len { length' (boolean_items result) ≡ length }
+        ensures storage { result ≡ sliced_boolean self offset length }
     {
-        BooleanIter::new(&self.values, self.validity.as_ref())
+        self.slice(offset, length);
+        self
     }
 
-    /// Item by item, whether both are true: false where one of them is false, and null where that is not known. Asks
-    /// that both have one length.
+    /// Returns the array of the same values with another validity. Requires that it has the length of the values, where
+    /// arrow2 panics. Takes no memory.
+    pub fn with_validity(self, validity: Option<Bitmap>) -> BooleanArray
+        requires same_length { ForSome validity (λ v.
+            length' (items_of v) ≡ length' (items_of self.values)) }
+        ensures value { result ≡ record {
+          values = self.values;
+          validity = record { len = length' (items_of self.values); bitmap = validity };
+        } }
+        ensures items { MatchOption validity
+            (boolean_items result ≡ map (λ value. Some value) (items_of self.values))
+            (λ v. boolean_items result ≡ zipped (items_of self.values) (items_of v)) }
+        ensures len { length' (boolean_items result) ≡ length' (boolean_items self) }
+    {
+        BooleanArray::new(self.values, validity)
+    }
+
+    /// Returns the values and the validity bitmap. Takes no memory.
+    ///
+    /// Differs from arrow2, which returns the logical type too.
+    pub fn into_inner(self) -> (Bitmap, Option<Bitmap>)
+        ensures values { result.0 ≡ self.values }
+        ensures validity { result.1 ≡ self.validity.bitmap }
+        ensures len { length' (items_of result.0) ≡ length' (boolean_items self) }
+        ensures same_length { ForSome result.1 (λ v. length' (items_of v) ≡ length' (items_of result.0)) }
+    {
+        (self.values, self.validity.into_bitmap())
+    }
+
+    /// Returns an iterator over the items, from both ends.
+    pub fn iter(&self) -> BooleanIter<'_>
+        ensures { result ≡ boolean_items self.now }
+    {
+        BooleanIter::new(self)
+    }
+
+    /// Returns, item by item, whether both are true: false where one of them is false, and null where that is not known.
+    /// The values are what `and` makes of the values, also under nulls. Requires that both have one length.
     ///
     /// In arrow2 it is `compute::boolean_kleene::and`, which refuses other lengths.
     ///
@@ -149,16 +274,25 @@ impl BooleanArray {
     ///
     /// `OutOfMemory` alone.
     pub fn and_kleene(&self, other: &BooleanArray) -> Result<BooleanArray>
-        requires same_length { length' self.now ≡ length' other.now }
-        ensures items { IfOk result (λ a. a ≡ by_items kleene_and self.now other.now) }
-        ensures len { IfOk result (λ a. length' a ≡ length' self.now) }
+        requires same_length { length' (boolean_items self.now) ≡ length' (boolean_items other.now) }
+        ensures items { IfOk result (λ a.
+            boolean_items a ≡ by_items kleene_and (boolean_items self.now) (boolean_items other.now)) }
+        ensures len { IfOk result (λ a. length' (boolean_items a) ≡ length' (boolean_items self.now)) }
+        ensures values { IfOk result (λ a. items_of a.values
+            ≡ each 8 (items_of self.now.values ∷ items_of other.now.values ∷ [])) }
+        ensures validity { IfOk result (λ a. valid_items a.validity
+            ≡ each 53060 (items_of self.now.values ∷ valid_items self.now.validity
+            ∷ items_of other.now.values ∷ valid_items other.now.validity ∷ [])) }
+        ensures bitmap { IfOk result (λ a. IsNone a.validity.bitmap
+            ↔ (IsNone self.now.validity.bitmap × IsNone other.now.validity.bitmap)) }
+        ensures storage { IfOk result (λ a. IsPacked a.values) }
         ensures only { IfErr result (λ e. e ≡ Error.OutOfMemory) }
     {
         self.by_operator(Operator::And, other)
     }
 
-    /// Item by item, whether one is true, or both: true where one of them is true, and null where that is not known.
-    /// Asks that both have one length.
+    /// Returns, item by item, whether one is true, or both: true where one of them is true, and null where that is not
+    /// known. The values are what `or` makes of the values, also under nulls. Requires that both have one length.
     ///
     /// In arrow2 it is `compute::boolean_kleene::or`, which refuses other lengths.
     ///
@@ -166,19 +300,37 @@ impl BooleanArray {
     ///
     /// `OutOfMemory` alone.
     pub fn or_kleene(&self, other: &BooleanArray) -> Result<BooleanArray>
-        requires same_length { length' self.now ≡ length' other.now }
-        ensures items { IfOk result (λ a. a ≡ by_items kleene_or self.now other.now) }
-        ensures len { IfOk result (λ a. length' a ≡ length' self.now) }
+        requires same_length { length' (boolean_items self.now) ≡ length' (boolean_items other.now) }
+        ensures items { IfOk result (λ a.
+            boolean_items a ≡ by_items kleene_or (boolean_items self.now) (boolean_items other.now)) }
+        ensures len { IfOk result (λ a. length' (boolean_items a) ≡ length' (boolean_items self.now)) }
+        ensures values { IfOk result (λ a. items_of a.values
+            ≡ each 14 (items_of self.now.values ∷ items_of other.now.values ∷ [])) }
+        ensures validity { IfOk result (λ a. valid_items a.validity
+            ≡ each 64648 (items_of self.now.values ∷ valid_items self.now.validity
+            ∷ items_of other.now.values ∷ valid_items other.now.validity ∷ [])) }
+        ensures bitmap { IfOk result (λ a. IsNone a.validity.bitmap
+            ↔ (IsNone self.now.validity.bitmap × IsNone other.now.validity.bitmap)) }
+        ensures storage { IfOk result (λ a. IsPacked a.values) }
         ensures only { IfErr result (λ e. e ≡ Error.OutOfMemory) }
     {
         self.by_operator(Operator::Or, other)
     }
 
-    /// What the operator makes of both, item by item: by its tables.
+    /// Returns what the operator makes of both, item by item: by its tables.
     fn by_operator(&self, operator: Operator, other: &BooleanArray) -> Result<BooleanArray>
-        requires same_length { length' self.now ≡ length' other.now }
-        ensures items { IfOk result (λ a. a ≡ by_items (kleene operator) self.now other.now) }
-        ensures len { IfOk result (λ a. length' a ≡ length' self.now) }
+        requires same_length { length' (boolean_items self.now) ≡ length' (boolean_items other.now) }
+        ensures items { IfOk result (λ a. boolean_items a
+            ≡ by_items (kleene operator) (boolean_items self.now) (boolean_items other.now)) }
+        ensures len { IfOk result (λ a. length' (boolean_items a) ≡ length' (boolean_items self.now)) }
+        ensures values { IfOk result (λ a. items_of a.values
+            ≡ each (values_table operator) (items_of self.now.values ∷ items_of other.now.values ∷ [])) }
+        ensures validity { IfOk result (λ a. valid_items a.validity
+            ≡ each (known_table operator) (items_of self.now.values ∷ valid_items self.now.validity
+            ∷ items_of other.now.values ∷ valid_items other.now.validity ∷ [])) }
+        ensures bitmap { IfOk result (λ a. IsNone a.validity.bitmap
+            ↔ (IsNone self.now.validity.bitmap × IsNone other.now.validity.bitmap)) }
+        ensures storage { IfOk result (λ a. IsPacked a.values) }
         ensures only { IfErr result (λ e. e ≡ Error.OutOfMemory) }
     {
         let values = binary_table(&self.values, &other.values, operator.values())?;
@@ -198,7 +350,7 @@ impl<'a> IntoIterator for &'a BooleanArray {
 
     type IntoIter = BooleanIter<'a>;
 
-    ghost into_iter_gives = { λ a walk. walk ≡ a.now };
+    ghost into_iter_gives = { λ a walk. walk ≡ boolean_items a.now };
 
     fn into_iter(self) -> BooleanIter<'a> {
         self.iter()
@@ -217,25 +369,26 @@ impl Clone for BooleanArray {
     }
 }
 
-/// Equality of the lists: nulls are equal, whatever values stand under them.
+/// Equality of the items: nulls are equal, whatever values stand under them.
 impl PartialEq for BooleanArray {
-    ghost eq = { pointwise (option_eq beq) };
+    ghost eq = { on boolean_items (pointwise (option_eq beq)) };
 
-    ghost laws = { partial_equiv_from_equiv (lists_equiv (options_equiv bool_eq_equiv)) };
+    ghost laws = { partial_equiv_from_equiv (on_equiv boolean_items (lists_equiv (options_equiv bool_eq_equiv))) };
 
     fn eq(&self, other: &BooleanArray) -> bool
-        ensures told { result ≡ pointwise (option_eq beq) self.now other.now }
-        ensures same { IsTrue result ↔ (self.now ≡ other.now) }
+        ensures told { result
+            ≡ pointwise (option_eq beq) (boolean_items self.now) (boolean_items other.now) }
+        ensures same { IsTrue result ↔ (boolean_items self.now ≡ boolean_items other.now) }
     {
         self.len() == other.len() && same_items(self.iter(), other.iter())
     }
 }
 
 impl Eq for BooleanArray {
-    ghost laws = { lists_equiv (options_equiv bool_eq_equiv) };
+    ghost laws = { on_equiv boolean_items (lists_equiv (options_equiv bool_eq_equiv)) };
 }
 
-/// Whether two walks of as many items give the same.
+/// Returns whether two iterators of as many items yield the same.
 fn same_items(items: BooleanIter<'_>, others: BooleanIter<'_>) -> bool
     requires same_length { length' items ≡ length' others }
     ensures { result ≡ pointwise (option_eq beq) items.entry others.entry }
@@ -246,29 +399,4 @@ fn same_items(items: BooleanIter<'_>, others: BooleanIter<'_>) -> bool
         }
     }
     true
-}
-
-/// Refuses a validity that has not as many items as there are values.
-fn check_lengths(values: &Bitmap, validity: &Bitmap) -> Result<()>
-    ensures accepted { IsOk result ↔
-        (length' (items_of validity.now) ≡ length' (items_of values.now)) }
-    ensures refused { IfErr result (λ e.
-        IsInvalidArgument e
-        (unequal_lengths (length' (items_of validity.now)) (length' (items_of values.now)))) }
-{
-    if validity.len() != values.len() {
-        let text = refusal(values.allocator(), validity.len(), values.len())?;
-        return Err(Error::InvalidArgumentError(text));
-    }
-    Ok(())
-}
-
-/// The text of the refusal of a validity of so many items for so many values.
-#[tactic(auto, unfolding(crate::specs::Refused::unequal_lengths))]
-fn refusal(alloc: Global, validity: usize, values: usize) -> std::result::Result<String, AllocError>
-    ensures { IfOk result (λ text. string_bytes text ≡ unequal_lengths validity values) }
-{
-    format!(in alloc;
-        "The length of the validity ({validity}) must equal the length of the values ({values})"
-    )
 }

@@ -2,6 +2,7 @@
 ghost use Rattle.std.specs.Prelude.{◌≡◌, Some};
 ghost use Rattle.std.specs.Fmt.{WritesOnOk, WritesStyledOnOk};
 ghost use Rattle.arrow2_array.specs.ArrayTexts.{array_text, item_word};
+ghost use Rattle.arrow2_array.specs.Items.{boolean_items};
 
 use crate::boolean::BooleanArray;
 use std::fmt;
@@ -9,7 +10,7 @@ use std::fmt;
 /// The items in brackets behind the name of the type: each is `true`, `false` or `None`. The formatter's options change
 /// nothing.
 impl fmt::Debug for BooleanArray {
-    ghost debug_output = { λ a. Some (array_text a) };
+    ghost debug_output = { λ a. Some (array_text (boolean_items a)) };
 
     fn fmt<W: fmt::Write>(&self, f: &mut fmt::Formatter<W>) -> fmt::Result {
         write_array(self, f)
@@ -18,8 +19,8 @@ impl fmt::Debug for BooleanArray {
 
 /// Writes the text of an array.
 fn write_array<W: fmt::Write>(array: &BooleanArray, f: &mut fmt::Formatter<W>) -> fmt::Result
-    ensures writes { WritesOnOk W.write_str_gives f.old result (array_text array.now) f.new }
-    ensures styled { WritesStyledOnOk W.write_str_gives f.old result (array_text array.now) f.new }
+    ensures writes { WritesOnOk W.write_str_gives f.old result (array_text (boolean_items array.now)) f.new }
+    ensures styled { WritesStyledOnOk W.write_str_gives f.old result (array_text (boolean_items array.now)) f.new }
 {
     f.write_str("BooleanArray[")?;
     for index in 0..array.len() {

@@ -1,49 +1,61 @@
-//! A walk over the items of a boolean array.
-ghost use Rattle.std.specs.Prelude.{◌≡◌, length, Some, IfSome, option_map};
-ghost use Rattle.std.specs.Option.{ForSome};
+//! An iterator over the items of a boolean array.
+ghost use Rattle.std.specs.Prelude.{◌≡◌, length, Some, IfSome};
 ghost use Rattle.std.specs.Iterator.{YieldsFirst, YieldsLast, item_count, UpTo};
 ghost use Rattle.std.specs.Iterator.SizeHint.{IsWithinCount};
-ghost use Rattle.arrow2_model.specs.Storage.{items_of};
-ghost use Rattle.arrow2_array.specs.Items.{array_items};
+ghost use Rattle.arrow2_array.specs.Items.{boolean_items};
 
-use arrow2_bitmap::Bitmap;
-use arrow2_bits::iterator::BitmapIter;
-use arrow2_walks::ZipValidity;
+use crate::boolean::BooleanArray;
+use std::alloc::AllocError;
 use std::marker::Model;
 
-/// A walk over the items of a boolean array: contracts see the list of those still to come.
+/// An iterator over the items of a boolean array, from both ends: contracts see the list of those still to come.
 ///
 /// In arrow2 it is a `ZipValidity`.
 #[derive(Drop)]
 pub struct BooleanIter<'a> {
-    items: ZipValidity<BitmapIter<'a>, BitmapIter<'a>>,
+    array: &'a BooleanArray,
+    index: usize,
+    end: usize,
 }
 
 impl<'a> Model for BooleanIter<'a> {
-    ghost use Rattle.std.specs.Prelude.{List, Bool, Option};
-    ghost use Rattle.arrow2_walks.specs.Zips.{MatchZip, HasEqualLengths};
-    ghost use Rattle.arrow2_walks.specs.Slots.{slots_of};
+    ghost use Rattle.std.specs.Prelude.{◌-◌, ◌≤◌, List, Bool, Option, length};
+    ghost use Rattle.arrow2_model.specs.Parts.{part};
+    ghost use Rattle.arrow2_array.specs.Items.{boolean_items};
 
     ghost Value = { List (Option Bool) };
 
-    ghost view = { λ i. slots_of (λ s. s) (λ s. s) i.items };
+    ghost view = { λ i. part (boolean_items i.array.now) i.index (i.end - i.index) };
 
-    ghost invariant = { λ i. MatchZip i.items (λ _. Unit {0}) (HasEqualLengths (λ s. s) (λ s. s)) };
+    ghost invariant = { λ i. (i.index ≤ i.end) × (i.end ≤ length (boolean_items i.array.now)) };
 }
 
+#[tactic(auto, using(arrow2_validity::proofs::ItemParts::iterating))]
 impl<'a> BooleanIter<'a> {
-    /// The walk over these values, null where the validity is false. Asks that both have one length.
-    pub(crate) fn new(values: &'a Bitmap, validity: Option<&'a Bitmap>) -> BooleanIter<'a>
-        requires same_length { ForSome validity (λ v. length (items_of v.now)
-            ≡ length (items_of values.now)) }
-        ensures { result ≡ array_items values.entry.now (option_map (λ v. v.now) validity.entry) }
+    /// Returns an iterator over all items.
+    pub(crate) fn new(array: &'a BooleanArray) -> BooleanIter<'a>
+        ensures { result ≡ boolean_items array.entry.now }
     {
         BooleanIter {
-            items: ZipValidity::new_with_validity(values.iter(), validity),
+            array,
+            index: 0,
+            end: array.len(),
         }
     }
 }
 
+/// The same items still to come. Takes no memory.
+impl<'a> Clone for BooleanIter<'a> {
+    ghost is_clone = { λ i copy. copy ≡ i };
+
+    ghost is_infallible = { λ i. Unit {0} };
+
+    fn clone(&self) -> Result<BooleanIter<'a>, AllocError> {
+        Ok(BooleanIter { ..*self })
+    }
+}
+
+#[tactic(auto, using(arrow2_validity::proofs::ItemParts::iterating))]
 impl<'a> Iterator for BooleanIter<'a> {
     type Item = Option<bool>;
 
@@ -52,7 +64,12 @@ impl<'a> Iterator for BooleanIter<'a> {
     ghost remaining = { item_count (λ s. s) };
 
     fn next(&mut self) -> Option<Option<bool>> {
-        self.items.next()
+        if self.index == self.end {
+            return None;
+        }
+        let item = self.array.get(self.index);
+        self.index += 1;
+        Some(item)
     }
 
     /// Both bounds are the number of items still to come.
@@ -61,21 +78,27 @@ impl<'a> Iterator for BooleanIter<'a> {
         ensures upper { IfSome result.1 (UpTo (item_count (λ s. s) self.now)) }
         ensures exact { (result.0 ≡ length self.now) × (result.1 ≡ Some (length self.now)) }
     {
-        let left = self.items.len();
+        let left = self.len();
         (left, Some(left))
     }
 }
 
+#[tactic(auto, using(arrow2_validity::proofs::ItemParts::iterating))]
 impl<'a> DoubleEndedIterator for BooleanIter<'a> {
     ghost next_back_gives = { YieldsLast (λ s. s) };
 
     fn next_back(&mut self) -> Option<Option<bool>> {
-        self.items.next_back()
+        if self.index == self.end {
+            return None;
+        }
+        self.end -= 1;
+        Some(self.array.get(self.end))
     }
 }
 
+#[tactic(auto, using(arrow2_validity::proofs::ItemParts::iterating))]
 impl<'a> ExactSizeIterator for BooleanIter<'a> {
     fn len(&self) -> usize {
-        self.items.len()
+        self.end - self.index
     }
 }

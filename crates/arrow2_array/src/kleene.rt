@@ -1,14 +1,14 @@
 //! Which answers of Kleene's logic are known, by truth tables.
-ghost use Rattle.std.specs.Prelude.{◌≡◌, [], ◌∷◌, length as length', IfOk, IfErr};
-ghost use Rattle.std.specs.Option.{ForSome};
+ghost use Rattle.std.specs.Prelude.{◌≡◌, ◌↔◌, [], ◌∷◌, length as length', Some, IsNone, IfOk, IfErr};
 ghost use Rattle.arrow2_model.specs.Storage.{items_of};
 ghost use Rattle.arrow2_model.specs.Tables.{each};
-ghost use Rattle.arrow2_array.specs.Items.{validity_items};
+ghost use Rattle.arrow2_validity.specs.OptionalValidity.{valid_items};
 ghost use Rattle.arrow2_array.specs.Kleene.{beside_table, known_table, values_table};
 
 use arrow2_bitmap::Bitmap;
 use arrow2_tables::bitmap_ops::{quaternary_table, ternary_table};
 use arrow2_types::error::{Error, Result};
+use arrow2_validity::Validity;
 
 /// Whether both values are true: bit `left + 2 * right`.
 pub const AND_VALUES: u8 = 0b1000;
@@ -73,33 +73,45 @@ impl Operator {
     }
 }
 
-/// For which items of two arrays the answer is known, where a missing validity is all set: by the table of three inputs
-/// where one is missing. Where both are missing, so is that of the answer.
+/// Returns for which items of two arrays the answer is known, by the table of three inputs where one has no validity bitmap.
+/// Where both have none, so has the answer.
 pub(crate) fn validity_by(
     operator: Operator,
     left: &Bitmap,
-    left_validity: &Option<Bitmap>,
+    left_validity: &Validity,
     right: &Bitmap,
-    right_validity: &Option<Bitmap>,
-) -> Result<Option<Bitmap>>
+    right_validity: &Validity,
+) -> Result<Validity>
     requires same_length { length' (items_of left.now) ≡ length' (items_of right.now) }
-    requires left_length { ForSome left_validity.now (λ v. length' (items_of v)
-        ≡ length' (items_of left.now)) }
-    requires right_length { ForSome right_validity.now (λ v. length' (items_of v)
-        ≡ length' (items_of right.now)) }
-    ensures items { IfOk result (λ v. validity_items (items_of left.now) v
-        ≡ each (known_table operator) (items_of left.now ∷ validity_items (items_of left.now) left_validity.now
-        ∷ items_of right.now ∷ validity_items (items_of right.now) right_validity.now ∷ [])) }
-    ensures len { IfOk result (λ v.
-        ForSome v (λ b. length' (items_of b) ≡ length' (items_of left.now))) }
+    requires left_length { length' (valid_items left_validity.now) ≡ length' (items_of left.now) }
+    requires right_length { length' (valid_items right_validity.now) ≡ length' (items_of right.now) }
+    ensures items { IfOk result (λ v. valid_items v
+        ≡ each (known_table operator) (items_of left.now ∷ valid_items left_validity.now
+        ∷ items_of right.now ∷ valid_items right_validity.now ∷ [])) }
+    ensures len { IfOk result (λ v. length' (valid_items v) ≡ length' (items_of left.now)) }
+    ensures bitmap { IfOk result (λ v. IsNone v.bitmap
+        ↔ (IsNone left_validity.now.bitmap × IsNone right_validity.now.bitmap)) }
     ensures only { IfErr result (λ e. e ≡ Error.OutOfMemory) }
 {
     let t = operator.known();
     let beside = operator.known_beside();
-    match (left_validity, right_validity) {
-        (None, None) => Ok(None),
-        (Some(valid), None) => Ok(Some(ternary_table(left, valid, right, beside)?)),
-        (None, Some(valid)) => Ok(Some(ternary_table(right, valid, left, beside)?)),
-        (Some(valid), Some(other)) => Ok(Some(quaternary_table(left, valid, right, other, t)?)),
+    let len = left.len();
+    match (left_validity.bitmap(), right_validity.bitmap()) {
+        (None, None) => Ok(Validity::all_valid(len)),
+        (Some(valid), None) => Ok(known_by(len, ternary_table(left, valid, right, beside)?)),
+        (None, Some(valid)) => Ok(known_by(len, ternary_table(right, valid, left, beside)?)),
+        (Some(valid), Some(other)) => {
+            Ok(known_by(len, quaternary_table(left, valid, right, other, t)?))
+        }
     }
+}
+
+/// Returns the validity of this bitmap, whose length it is.
+#[tactic(auto, using(arrow2_validity::proofs::ValidItems::validities))]
+fn known_by(len: usize, known: Bitmap) -> Validity
+    requires same_length { length' (items_of known) ≡ len }
+    ensures items { valid_items result ≡ items_of known }
+    ensures bitmap { result.bitmap ≡ Some known }
+{
+    Validity::new(len, Some(known))
 }

@@ -1,10 +1,12 @@
-//! Boolean arrays: bitmaps of values beside a bitmap that tells which of them are null.
+//! Boolean arrays: bitmaps of values beside their validity, shared ones and ones that grow.
 #![tactic(auto)]
 
 pub mod boolean;
 mod fmt;
 pub mod iterator;
 pub mod kleene;
+pub mod mutable;
 
 pub use boolean::BooleanArray;
 pub use iterator::BooleanIter;
+pub use mutable::MutableBooleanArray;

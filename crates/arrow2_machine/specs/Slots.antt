@@ -1,6 +1,7 @@
 -- What a slot of the program holds, as the machine of lists sees it.
 use Rattle.std.specs.Prelude.{ℤ, List}
 use Rattle.arrow2.specs.Buffers.{buffer_items}
+use Rattle.arrow2.specs.Items.{boolean_items}
 use Rattle.arrow2.specs.Offsets.{start_of, lengths_of}
 use Rattle.arrow2.specs.Storage.{items_of}
 use Rattle.arrow2_machine.specs.Held.{Held}
@@ -19,4 +20,4 @@ held_in (Frozen bitmap) = machine.Frozen (items_of bitmap)
 held_in (Growing bitmap) = machine.Growing bitmap.items
 held_in (FrozenOffsets offsets) = machine.FrozenOffsets (offsets_in (buffer_items offsets))
 held_in (GrowingOffsets offsets) = machine.GrowingOffsets (record { start = offsets.start; lengths = offsets.lengths })
-held_in (Array array) = machine.Array array
+held_in (Array array) = machine.Array (boolean_items array)

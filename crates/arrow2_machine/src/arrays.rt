@@ -3,6 +3,7 @@ ghost use Rattle.std.specs.Prelude.{◌≡◌, length as count_of, option_map, O
 ghost use Rattle.arrow2_machine.specs.BitmapOutcomes.{part_inside};
 ghost use Rattle.arrow2_machine.specs.Held.{at, array as array_in, Array};
 ghost use Rattle.arrow2_machine.specs.ArrayOutcomes.{arrayed, array_text, counted_nulls, sliced_array, two_arrays, combined, array_outcome};
+ghost use Rattle.arrow2.specs.Items.{boolean_items};
 ghost use Rattle.arrow2.specs.Kleene.{kleene_and, kleene_or};
 ghost use Rattle.arrow2_machine.specs.Outcomes.{Gives, Carries, Writes, Answers};
 
@@ -56,15 +57,15 @@ fn array_of(
     values: SlotIndex,
     validity: Option<SlotIndex>,
 ) -> Result<BooleanArray, CommandError>
-    ensures { Gives (λ array. Array array) result
+    ensures { Gives (λ array. Array (boolean_items array)) result
         (arrayed (at slots.now values) (option_map (at slots.now) validity)) }
 {
     let array = match validity {
         Some(validity) => {
             let (values, validity) = two_bitmaps(slots, values, validity)?;
-            BooleanArray::try_new(values.clone()?, Some(validity.clone()?))?
+            BooleanArray::new(values.clone()?, Some(validity.clone()?))
         }
-        None => BooleanArray::try_new(slots[values.get()].frozen()?.clone()?, None)?,
+        None => BooleanArray::new(slots[values.get()].frozen()?.clone()?, None),
     };
     Ok(array)
 }
@@ -75,7 +76,7 @@ fn array_of(
 ///
 /// `Kind`, `Length` or `OutOfMemory`.
 fn both(slots: &[Slot; 16], left: SlotIndex, right: SlotIndex) -> Result<BooleanArray, CommandError>
-    ensures { Gives (λ array. Array array) result
+    ensures { Gives (λ array. Array (boolean_items array)) result
         (combined kleene_and (at slots.now left) (at slots.now right)) }
 {
     let (left, right) = two_boolean_arrays(slots, left, right)?;
@@ -92,7 +93,7 @@ fn either(
     left: SlotIndex,
     right: SlotIndex,
 ) -> Result<BooleanArray, CommandError>
-    ensures { Gives (λ array. Array array) result
+    ensures { Gives (λ array. Array (boolean_items array)) result
         (combined kleene_or (at slots.now left) (at slots.now right)) }
 {
     let (left, right) = two_boolean_arrays(slots, left, right)?;
@@ -109,9 +110,9 @@ fn two_boolean_arrays(
     first: SlotIndex,
     second: SlotIndex,
 ) -> Result<(&BooleanArray, &BooleanArray), Refusal>
-    ensures gives { Answers (λ a. (a.0.now, a.1.now)) result
+    ensures gives { Answers (λ a. (boolean_items a.0.now, boolean_items a.1.now)) result
         (two_arrays (at slots.now first) (at slots.now second)) }
-    ensures same_length { IfOk result (λ a. count_of a.0.now ≡ count_of a.1.now) }
+    ensures same_length { IfOk result (λ a. count_of (boolean_items a.0.now) ≡ count_of (boolean_items a.1.now)) }
 {
     let first = slots[first.get()].array()?;
     let second = slots[second.get()].array()?;
@@ -125,7 +126,7 @@ fn two_boolean_arrays(
 impl Slot {
     /// A slot with a boolean array.
     fn with_array(array: BooleanArray) -> Slot
-        ensures { result ≡ Array array }
+        ensures { result ≡ Array (boolean_items array) }
     {
         Slot {
             contents: Contents::Array(array),
@@ -138,7 +139,7 @@ impl Slot {
     ///
     /// `Kind` alone.
     fn array(&self) -> Result<&BooleanArray, Refusal>
-        ensures { Answers (λ array. array.now) result (array_in self.now) }
+        ensures { Answers (λ array. boolean_items array.now) result (array_in self.now) }
     {
         match &self.contents {
             Contents::Array(array) => Ok(array),
@@ -187,7 +188,8 @@ impl Slot {
 
 /// Cuts a boolean array to its `length` items from item `offset` on, where they are inside.
 fn cut(array: &mut BooleanArray, offset: u64, length: u64) -> Result<(), Refusal>
-    ensures gives { Answers (λ _. array.new) result (part_inside array.old offset length) }
+    ensures gives { Answers (λ _. boolean_items array.new) result
+        (part_inside (boolean_items array.old) offset length) }
     ensures err { OnErr result (array.new ≡ array.old) }
 {
     let len = array.len() as u64;

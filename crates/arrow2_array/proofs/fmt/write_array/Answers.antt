@@ -4,6 +4,7 @@ use Rattle.std.specs.Fmt.{HasWrittenStyled}
 use Rattle.std.proofs.Output.{has_written_styled_append, has_written_styled_of_eq}
 use Rattle.arrow2_model.proofs.Written.{plain_written}
 use Rattle.arrow2_array.specs.ArrayTexts.{item_word, listed}
+use Rattle.arrow2_array.specs.Items.{boolean_items}
 use Rattle.arrow2_array.proofs.ArrayTexts.{listed-none, listed-first, listed-more}
 use Rattle.arrow2_array.proofs.fmt.write_array.Goals as goal
 use Rattle.arrow2_array.proofs.fmt.write_array.Goals.{then-index-gt0+in_ok-write_str-2, else-index-gt0}
@@ -14,7 +15,7 @@ loop-index-init g c = λ flush. c.in_ok-write_str.ensures.styled flush (refl {a 
 
 pub loop-index-preserved : goal.loop-index-preserved
 loop-index-preserved g c = λ flush.
-    let xs = c.args.array.now in
+    let xs = boolean_items c.args.array.now in
     let i = c.loop-index.index in
     let took = g.W.Write.write_str_gives in
     let so_far = c.loop-index.invariant flush in
@@ -42,7 +43,7 @@ loop-index-preserved g c = λ flush.
 
 pub returns-clause-styled : goal.returns-clause-styled
 returns-clause-styled g c = λ flush ok.
-    let xs = c.args.array.now in
+    let xs = boolean_items c.args.array.now in
     let so_far = c.loop-index.invariant flush in
     let all : take c.loop-index.index xs ≡ xs = take_all c.loop-index.index xs (omega (arith, c.loop-index-test.false, c.len-index-end.ensures)) in
     has_written_styled_of_eq _ _ _ _ _ (ap (λ t. (codes "BooleanArray[" ++ listed t) ++ codes "]") all ∙ append_assoc (codes "BooleanArray[") (listed xs) (codes "]"))

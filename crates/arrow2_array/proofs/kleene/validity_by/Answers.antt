@@ -1,21 +1,41 @@
-use Rattle.std.proofs.Common.{◌∙◌}
+use Rattle.std.proofs.Common.{◌∙◌, ap, replicate, true}
 use Rattle.arrow2_model.specs.Storage.{items_of}
+use Rattle.arrow2_validity.specs.OptionalValidity.{valid_items}
 use Rattle.arrow2_array.specs.Kleene.{beside_table, known_table}
-use Rattle.arrow2_array.proofs.Tables.{all_known, behind, beside, beside_left, beside_right, known}
+use Rattle.arrow2_array.proofs.Tables.{all_known, all_set, behind, beside, beside_left, beside_right, known}
 use Rattle.arrow2_array.proofs.kleene.validity_by.Goals as goal
 
 pub returns-in-None-None-clause-items : goal.returns-in-None-None-clause-items
 returns-in-None-None-clause-items c =
-    rw (c.in-None-None.is-0, c.in-None-None.is-1) (all_known (known_table c.args.operator) (items_of c.args.left.now) (items_of c.args.right.now) (known c.args.operator) c.requires.same_length)
+    let o = c.args.operator in
+    let xs = items_of c.args.left.now in
+    let ys = items_of c.args.right.now in
+    let ns = valid_items c.args.left_validity.now in
+    let ms = valid_items c.args.right_validity.now in
+    let left = all_set ns xs (rw c.in-None-None.is-0 at c.bitmap.ensures.items) c.requires.left_length in
+    let right = all_set ms ys (rw c.in-None-None.is-1 at c.bitmap-2.ensures.items) c.requires.right_length in
+    c.all_valid.ensures.items ∙ (ap (λ n. replicate n true) c.len-len.ensures.items ∙ all_known (known_table o) xs ns ys ms (known o) c.requires.same_length left right)
 
 pub returns-in_ok-ternary_table-in-None-Some-clause-items : goal.returns-in_ok-ternary_table-in-None-Some-clause-items
 returns-in_ok-ternary_table-in-None-Some-clause-items c =
-    rw (c.in-None-Some.is-0, c.in-None-Some.is-1) (
-    (rw c.known_beside-beside.ensures at c.in_ok-ternary_table-in-None-Some.ensures.items)
-    ∙ beside_left (known_table c.args.operator) (beside_table c.args.operator) (items_of c.args.left.now) (items_of c.args.right.now) (items_of c.in-None-Some.valid) (behind c.args.operator) c.requires.same_length)
+    let o = c.args.operator in
+    let xs = items_of c.args.left.now in
+    let ys = items_of c.args.right.now in
+    let ns = valid_items c.args.left_validity.now in
+    let ms = valid_items c.args.right_validity.now in
+    let left = all_set ns xs (rw c.in-None-Some.is-0 at c.bitmap.ensures.items) c.requires.left_length in
+    let right = rw c.in-None-Some.is-1 at c.bitmap-2.ensures.items in
+    c.known_by.ensures.items ∙ ((rw (c.known_beside-beside.ensures, right) at c.in_ok-ternary_table-in-None-Some.ensures.items)
+    ∙ beside_left (known_table o) (beside_table o) xs ns ys ms (behind o) c.requires.same_length left)
 
 pub returns-in_ok-ternary_table-in-Some-None-clause-items : goal.returns-in_ok-ternary_table-in-Some-None-clause-items
 returns-in_ok-ternary_table-in-Some-None-clause-items c =
-    rw (c.in-Some-None.is-0, c.in-Some-None.is-1) (
-    (rw c.known_beside-beside.ensures at c.in_ok-ternary_table-in-Some-None.ensures.items)
-    ∙ beside_right (known_table c.args.operator) (beside_table c.args.operator) (items_of c.args.left.now) (items_of c.in-Some-None.valid) (items_of c.args.right.now) (beside c.args.operator) c.requires.same_length)
+    let o = c.args.operator in
+    let xs = items_of c.args.left.now in
+    let ys = items_of c.args.right.now in
+    let ns = valid_items c.args.left_validity.now in
+    let ms = valid_items c.args.right_validity.now in
+    let left = rw c.in-Some-None.is-0 at c.bitmap.ensures.items in
+    let right = all_set ms ys (rw c.in-Some-None.is-1 at c.bitmap-2.ensures.items) c.requires.right_length in
+    c.known_by-in-Some-None.ensures.items ∙ ((rw (c.known_beside-beside.ensures, left) at c.in_ok-ternary_table-in-Some-None.ensures.items)
+    ∙ beside_right (known_table o) (beside_table o) xs ns ys ms (beside o) c.requires.same_length right)

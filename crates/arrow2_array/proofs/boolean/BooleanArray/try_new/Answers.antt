@@ -1,10 +1,6 @@
-use Rattle.std.proofs.Common.{rules}
-use Rattle.arrow2_array.proofs.Items.{length-array}
+use Rattle.arrow2_model.specs.Storage.{items_of}
+use Rattle.arrow2_array.proofs.Items.{items-by}
 use Rattle.arrow2_array.proofs.boolean.BooleanArray.try_new.Goals as goal
-use Rattle.arrow2_array.proofs.boolean.BooleanArray.try_new.Goals.{in-Some+in_ok-check_lengths, in_default}
 
-pub returns-clause-len : goal.returns-clause-len
-returns-clause-len c = elim c.match-validity.branch [
-  | in-Some+in_ok-check_lengths w ↦ length-array c.args.values c.args.validity (λ v is. search rules)
-  | in_default w ↦ length-array c.args.values c.args.validity (λ v is. search rules)
-]
+pub returns-clause-items : goal.returns-clause-items
+returns-clause-items c = rw c.in_ok-validity.ensures.ok (items-by (items_of c.args.values) c.len.result c.args.validity c.len.ensures.items)

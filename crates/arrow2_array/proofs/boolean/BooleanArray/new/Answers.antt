@@ -1,0 +1,6 @@
+use Rattle.arrow2_model.specs.Storage.{items_of}
+use Rattle.arrow2_array.proofs.Items.{items-by}
+use Rattle.arrow2_array.proofs.boolean.BooleanArray.new.Goals as goal
+
+pub returns-clause-items : goal.returns-clause-items
+returns-clause-items c = rw c.new-validity.ensures.value (items-by (items_of c.args.values) c.len.result c.args.validity c.len.ensures.items)

@@ -1,0 +1,223 @@
+//! An array of booleans that grows.
+ghost use Rattle.std.specs.Prelude.{◌≡◌, ◌+◌, ◌≤◌, ◌^◌, ◌↔◌, ◌⊎◌, ◌++◌, [], ◌∷◌, None, length, replicate, IfOk, IfErr, IsErrOf, IsOk, IfNone, IsNone, IfSome, IsTrue, MatchOption, OnOk};
+ghost use Rattle.arrow2_types.specs.Refusals.{error_of};
+ghost use Rattle.arrow2_model.specs.Parts.{part};
+ghost use Rattle.arrow2_model.specs.Storage.{items_of};
+ghost use Rattle.arrow2_growth.specs.Growth.{Appends};
+ghost use Rattle.arrow2_bitmap.specs.Packed.{IsPacked};
+ghost use Rattle.arrow2_array.specs.Growth.{AppendsItems};
+ghost use Rattle.arrow2_array.specs.Items.{boolean_items, nulls};
+
+use crate::boolean::BooleanArray;
+use arrow2_bitmap::{Bitmap, MutableBitmap};
+use arrow2_types::error::{Error, Result};
+use std::alloc::Global;
+use std::convert::TryFrom;
+use std::marker::Model;
+
+/// An array of booleans that grows.
+///
+/// Contracts see its items, and how many fit before it allocates.
+///
+/// Differs from arrow2: its validity is always there, and [`MutableBooleanArray::freeze`] leaves it out where no item is
+/// null.
+#[derive(Drop)]
+pub struct MutableBooleanArray {
+    values: MutableBitmap,
+    validity: MutableBitmap,
+}
+
+impl Model for MutableBooleanArray {
+    ghost use Rattle.std.specs.Prelude.{◌≡◌, length, min};
+    ghost use Rattle.arrow2_walks.specs.Zipped.{zipped};
+    ghost use Rattle.arrow2_array.specs.Items.{GrowingBoolean};
+
+    ghost Value = { GrowingBoolean };
+
+    ghost view = { λ a. record {
+      items = zipped a.values.items a.validity.items;
+      capacity = min a.values.capacity a.validity.capacity;
+    } };
+
+    ghost invariant = { λ a. length a.validity.items ≡ length a.values.items };
+}
+
+#[tactic(auto, using(crate::proofs::Items::growing))]
+impl MutableBooleanArray {
+    /// Returns an array without items. Takes no memory.
+    pub fn new(alloc: Global) -> MutableBooleanArray
+        ensures { result.items ≡ [] }
+    {
+        MutableBooleanArray {
+            values: MutableBitmap::new(alloc),
+            validity: MutableBitmap::new(alloc),
+        }
+    }
+
+    /// Returns an array without items, with room for `capacity` of them.
+    ///
+    /// # Errors
+    ///
+    /// `OutOfMemory` alone.
+    pub fn with_capacity(alloc: Global, capacity: usize) -> Result<MutableBooleanArray>
+        ensures ok { IfOk result (λ a. a.items ≡ []) }
+        ensures capacity { IfOk result (λ a. capacity ≤ a.capacity) }
+        ensures only { IfErr result (λ e. e ≡ Error.OutOfMemory) }
+    {
+        Ok(MutableBooleanArray {
+            values: MutableBitmap::with_capacity(alloc, capacity)?,
+            validity: MutableBitmap::with_capacity(alloc, capacity)?,
+        })
+    }
+
+    /// Returns the number of items, nulls too.
+    pub fn len(&self) -> usize
+        ensures { result ≡ length self.now.items }
+    {
+        self.values.len()
+    }
+
+    /// Returns whether it has no item.
+    pub fn is_empty(&self) -> bool
+        ensures { IsTrue result ↔ (length self.now.items ≡ 0) }
+    {
+        self.len() == 0
+    }
+
+    /// Returns how many items fit before it allocates, those that it holds too.
+    pub fn capacity(&self) -> usize
+        ensures value { result ≡ self.now.capacity }
+        ensures held { length self.now.items ≤ result }
+    {
+        self.values.capacity().min(self.validity.capacity())
+    }
+
+    /// Makes room for `additional` items more. Within the capacity it does not allocate.
+    ///
+    /// # Errors
+    ///
+    /// `Overflow` exactly where the length and `additional` pass `usize::MAX` together, else `OutOfMemory` alone. After both
+    /// the array holds the items that it held.
+    pub fn reserve(&mut self, additional: usize) -> Result<()>
+        ensures items { self.new.items ≡ self.old.items }
+        ensures ok { OnOk result (length self.old.items + additional ≤ self.new.capacity) }
+        ensures overflow { IsErrOf result Error.Overflow ↔
+            (2 ^ 64 ≤ length self.old.items + additional) }
+        ensures only { IfErr result (λ e. (e ≡ Error.Overflow) ⊎ (e ≡ Error.OutOfMemory)) }
+        ensures succeeds { length self.old.items + additional ≤ self.old.capacity → IsOk result }
+        ensures capacity { self.old.capacity ≤ self.new.capacity }
+    {
+        self.validity.reserve(additional)?;
+        self.values.reserve(additional)?;
+        Ok(())
+    }
+
+    /// Appends an item. Within the capacity it does not allocate.
+    ///
+    /// # Errors
+    ///
+    /// `Overflow` exactly where the length is `usize::MAX`, else `OutOfMemory` alone. After both the array holds the items
+    /// that it held.
+    pub fn push(&mut self, item: Option<bool>) -> Result<()>
+        ensures { AppendsItems result self.old self.new (item ∷ []) }
+    {
+        self.reserve(1)?;
+        self.validity.push(item.is_some())?;
+        self.values.push(item.unwrap_or(false))?;
+        Ok(())
+    }
+
+    /// Appends a null, as [`MutableBooleanArray::push`] of `None` does. Within the capacity it does not allocate.
+    ///
+    /// # Errors
+    ///
+    /// `Overflow` exactly where the length is `usize::MAX`, else `OutOfMemory` alone. After both the array holds the items
+    /// that it held.
+    pub fn push_null(&mut self) -> Result<()>
+        ensures { AppendsItems result self.old self.new (None ∷ []) }
+    {
+        self.push(None)
+    }
+
+    /// Appends `item` `additional` times. Within the capacity it does not allocate.
+    ///
+    /// # Errors
+    ///
+    /// `Overflow` exactly where the new length would pass `usize::MAX`, else `OutOfMemory` alone. After both the array holds
+    /// the items that it held.
+    pub fn extend_constant(&mut self, additional: usize, item: Option<bool>) -> Result<()>
+        ensures { AppendsItems result self.old self.new (replicate additional item) }
+    {
+        self.reserve(additional)?;
+        self.validity.extend_constant(additional, item.is_some())?;
+        self.values
+            .extend_constant(additional, item.unwrap_or(false))?;
+        Ok(())
+    }
+
+    /// Appends the `len` items of another array from item `start` on, whatever stands under its nulls. Requires that they are
+    /// inside. Within the capacity it does not allocate. In arrow2 it is `GrowableBoolean::extend`.
+    ///
+    /// # Errors
+    ///
+    /// `Overflow` exactly where the new length would pass `usize::MAX`, else `OutOfMemory` alone. After both the array holds
+    /// the items that it held.
+    pub fn extend_from_array(
+        &mut self,
+        array: &BooleanArray,
+        start: usize,
+        len: usize,
+    ) -> Result<()>
+        requires inside { start + len ≤ length (boolean_items array.now) }
+        ensures { AppendsItems result self.old self.new (part (boolean_items array.now) start len) }
+    {
+        self.reserve(len)?;
+        array
+            .optional_validity()
+            .append_to(start, len, &mut self.validity)?;
+        extend_part(&mut self.values, array.values(), start, len)?;
+        Ok(())
+    }
+
+    /// Takes the last item off and returns it, or `None` where there is none.
+    ///
+    /// Differs from arrow2, which answers an array without items as it answers a null.
+    pub fn pop(&mut self) -> Option<Option<bool>>
+        ensures last { MatchOption result (self.old.items ≡ []) (λ item.
+            self.old.items ≡ self.new.items ++ item ∷ []) }
+        ensures none { IfNone result (self.new.items ≡ []) }
+        ensures capacity { self.new.capacity ≡ self.old.capacity }
+    {
+        let value = self.values.pop()?;
+        let valid = self.validity.pop()?;
+        Some(valid.then_some(value))
+    }
+
+    /// Returns the array of the items, over the same bytes. It has a validity bitmap exactly where an item is null. What stands
+    /// in the values under a null is left open.
+    ///
+    /// # Errors
+    ///
+    /// `OutOfMemory` alone. The items are then dropped.
+    pub fn freeze(self) -> Result<BooleanArray>
+        ensures items { IfOk result (λ a. boolean_items a ≡ self.items) }
+        ensures bitmap { IfOk result (λ a. IsNone a.validity.bitmap ↔ (nulls self.items ≡ 0)) }
+        ensures storage { IfOk result (λ a. IsPacked a.values) }
+        ensures packed { IfOk result (λ a. IfSome a.validity.bitmap (λ v. IsPacked v)) }
+        ensures only { IfErr result (λ e. e ≡ Error.OutOfMemory) }
+    {
+        let validity = self.validity.into_validity()?;
+        let values = Bitmap::try_from(self.values)?;
+        Ok(BooleanArray::new(values, validity))
+    }
+}
+
+/// Appends the `len` items of a bitmap from item `start` on.
+#[tactic(auto, using(crate::proofs::Items::growing))]
+fn extend_part(items: &mut MutableBitmap, bitmap: &Bitmap, start: usize, len: usize) -> Result<()>
+    requires inside { start + len ≤ length (items_of bitmap.now) }
+    ensures { Appends error_of result items.old items.new (part (items_of bitmap.now) start len) }
+{
+    let (bytes, offset, _) = bitmap.as_slice();
+    items.extend_from_slice(bytes, offset + start, len)
+}
