@@ -97,6 +97,15 @@ impl BooleanArray {
         BooleanArray { values, validity }
     }
 
+    /// Returns the array of these values, each null where the validity says so. Requires that both have one length. Takes no
+    /// memory. arrow2 has no such call.
+    pub fn from_parts(values: Bitmap, validity: Validity) -> BooleanArray
+        requires same_length { length' (valid_items validity) ≡ length' (items_of values) }
+        ensures { result ≡ record { values = values; validity = validity } }
+    {
+        BooleanArray { values, validity }
+    }
+
     /// Returns the array of these items. It has a validity bitmap exactly where an item is null. What stands in the values under
     /// a null is left open.
     ///

@@ -1,2 +1,3 @@
 pub mod Filtered
 pub mod Sums
+pub mod Compared

@@ -1,1 +1,2 @@
 pub mod Aggregates
+pub mod Comparisons
