@@ -3,6 +3,7 @@
 //! may be refused was refused.
 #![tactic(auto)]
 
+mod arrays;
 mod bitmaps;
 mod calls;
 mod growing;
@@ -21,6 +22,7 @@ fn all<R: Print + Eprint>(rt: &R, alloc: Global) -> Result<()> {
     bitmaps::all(rt, alloc)?;
     growing::all(rt, alloc)?;
     walks::all(rt, alloc)?;
+    arrays::all(rt, alloc)?;
     offsets::all(rt, alloc)?;
     silent::all(rt, alloc)
 }

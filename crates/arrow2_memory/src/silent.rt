@@ -1,10 +1,10 @@
 //! Calls that do not allocate: other owners, pushes below the capacity, and changes in place. What they are made on is made
 //! first, so that no request for memory comes behind the first line that they show.
-use crate::calls::{refused, show};
+use crate::calls::{input, refused, show};
 use crate::items::{growing_items, items};
 use crate::offsets::five_shared;
 use crate::walks::array;
-use arrow2_array::BooleanArray;
+use arrow2_array::{BooleanArray, MutableBooleanArray};
 use arrow2_bitmap::assign_ops::{binary_assign, unary_assign};
 use arrow2_bitmap::immutable::Bitmap;
 use arrow2_bitmap::mutable::MutableBitmap;
@@ -47,6 +47,19 @@ fn push_lengths<R: Print + Eprint>(rt: &R, offsets: &mut Offsets<i32>) {
         refused(rt, "Offsets::try_push_usize below the capacity", &pushed);
     }
     show(rt, "Offsets::try_push_usize below the capacity", offsets);
+}
+
+/// Pushes as many items to an array as there is room for, and names a push that is refused.
+fn push_options<R: Print + Eprint>(rt: &R, array: &mut MutableBooleanArray) {
+    for i in 0..20usize {
+        let pushed = array.push((i % 3 > 0).then_some(i % 2 == 0));
+        refused(rt, "MutableBooleanArray::push below the capacity", &pushed);
+    }
+    show(
+        rt,
+        "MutableBooleanArray::push below the capacity",
+        &array.len(),
+    );
 }
 
 /// Moves the bits of a word.
@@ -149,6 +162,11 @@ fn roomy(alloc: Global) -> Result<(MutableBitmap, Offsets<i32>)> {
     Ok((bitmap, Offsets::with_capacity(alloc, 20)?))
 }
 
+/// An array that is pushed to. A refusal becomes an overflow, as of each input.
+fn roomy_array(alloc: Global) -> Result<MutableBooleanArray> {
+    input(MutableBooleanArray::with_capacity(alloc, 20))
+}
+
 /// What has other owners.
 fn owned(alloc: Global) -> Result<(BooleanArray, OffsetsBuffer<i32>)> {
     Ok((array(alloc)?, five_shared(alloc)?))
@@ -158,12 +176,14 @@ fn owned(alloc: Global) -> Result<(BooleanArray, OffsetsBuffer<i32>)> {
 pub(crate) fn all<R: Print + Eprint>(rt: &R, alloc: Global) -> Result<()> {
     let (mut lhs, rhs) = sides(alloc).or(sides(alloc))?;
     let (mut bitmap, mut offsets) = roomy(alloc).or(roomy(alloc))?;
+    let mut options = roomy_array(alloc).or(roomy_array(alloc))?;
     let (array, shared) = owned(alloc).or(owned(alloc))?;
     let _ = println!(rt; "calls that do not allocate");
     owners(rt, &array);
     owners_of_offsets(rt, &shared);
     push_items(rt, &mut bitmap);
     push_lengths(rt, &mut offsets);
+    push_options(rt, &mut options);
     words::<_, u8>(rt, &mut lhs, &rhs);
     words::<_, u16>(rt, &mut lhs, &rhs);
     words::<_, u32>(rt, &mut lhs, &rhs);

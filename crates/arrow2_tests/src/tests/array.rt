@@ -1,10 +1,12 @@
 //! Boolean arrays: what is read, shown and refused.
 ghost use Rattle.std.specs.Prelude.{◌≡◌, length};
 ghost use Rattle.arrow2_model.specs.Storage.{items_of};
+ghost use Rattle.arrow2_array.specs.Items.{boolean_items};
 
 use super::checks::{gives, refuses, shows};
-use arrow2_array::BooleanArray;
+use arrow2_array::{BooleanArray, MutableBooleanArray};
 use arrow2_bitmap::Bitmap;
+use arrow2_types::error::Result;
 use std::alloc::Global;
 use std::process::Abort;
 
@@ -17,7 +19,7 @@ fn bitmap_of(rt: &impl Abort, alloc: Global, byte: u8) -> Bitmap
 
 /// The array of a thousand values that are valid where the bits of `validity` are set.
 fn array_of(rt: &impl Abort, alloc: Global, values: u8, validity: u8) -> BooleanArray
-    ensures { length result ≡ 1000 }
+    ensures { length (boolean_items result) ≡ 1000 }
 {
     let values = bitmap_of(rt, alloc, values);
     let validity = bitmap_of(rt, alloc, validity);
@@ -63,4 +65,45 @@ fn a_validity_of_another_length_is_refused(rt: HostRuntime) {
     let text =
         "Invalid argument error: The length of the validity (2) must equal the length of the values (3)";
     refuses(&rt, alloc, made, text);
+}
+
+#[test]
+fn both_parts_are_taken_and_put_together(rt: HostRuntime) {
+    let alloc = rt.alloc();
+    let array = array_of(&rt, alloc, 0b10101010, 0b11001100);
+    assert!(rt; array.is_null(0) && array.is_valid(2) && array.value(1) && !array.value(0));
+    assert!(rt; array.optional_validity().null_count() == 500);
+    let (values, validity) = array.into_inner();
+    let array = BooleanArray::new(values, validity);
+    let array = array.with_validity(None).sliced(1, 2);
+    shows(&rt, alloc, &array, "BooleanArray[true, false]");
+}
+
+/// The call made an array with the text.
+fn made(rt: &impl Abort, alloc: Global, made: Result<BooleanArray>, text: &str) {
+    let array = made.expect(rt, "no memory");
+    shows(rt, alloc, &array, text);
+}
+
+/// The call was not refused.
+fn grew(rt: &impl Abort, growth: Result<()>) {
+    assert!(rt; growth.is_ok());
+}
+
+#[test]
+fn arrays_are_made_of_options_and_grow(rt: HostRuntime) {
+    let alloc = rt.alloc();
+    let items = [Some(true), None, Some(false)];
+    let text = "BooleanArray[true, None, false]";
+    made(&rt, alloc, BooleanArray::from_options(alloc, &items), text);
+    let other = array_of(&rt, alloc, 0b10101010, 0b11001100);
+    let mut array = MutableBooleanArray::new(alloc);
+    grew(&rt, array.reserve(2));
+    grew(&rt, array.push(Some(false)));
+    grew(&rt, array.push_null());
+    grew(&rt, array.extend_constant(2, Some(true)));
+    grew(&rt, array.extend_from_array(&other, 1, 3));
+    assert!(rt; array.len() == 7 && array.pop() == Some(Some(true)) && !array.is_empty());
+    let text = "BooleanArray[false, None, true, true, None, false]";
+    made(&rt, alloc, array.freeze(), text);
 }

@@ -1,6 +1,6 @@
 //! Each item of the one crate that users name, at its path: what stands here compiles.
 use super::checks::{has, prints};
-pub use arrow2::array::{BooleanArray, BooleanIter};
+pub use arrow2::array::{BooleanArray, BooleanIter, MutableBooleanArray};
 pub use arrow2::bitmap::utils::{
     BitChunkIterExact, BitChunks, BitChunksExact, BitChunksExactMut, BitmapIter, Reads,
     SlicesIterator, Stored, ZipValidity, ZipValidityIter, count_zeros_counted, recount,

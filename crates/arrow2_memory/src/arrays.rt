@@ -1,0 +1,100 @@
+//! Boolean arrays of given items, and arrays that grow.
+use crate::calls::{Row, input, made, refused, show};
+use crate::walks::array;
+use arrow2_array::{BooleanArray, MutableBooleanArray};
+use arrow2_types::error::Result;
+use std::alloc::Global;
+use std::io::{Eprint, Print};
+
+/// Arrays of given items.
+fn given(alloc: Global) -> [Row<BooleanArray>; 2] {
+    let items = [Some(true), None, Some(false)];
+    [
+        (
+            "BooleanArray::from_options",
+            BooleanArray::from_options(alloc, &items),
+        ),
+        ("MutableBooleanArray::freeze", frozen(alloc)),
+    ]
+}
+
+/// The array of three nulls, frozen.
+fn frozen(alloc: Global) -> Result<BooleanArray> {
+    let mut grown = MutableBooleanArray::new(alloc);
+    input(grown.extend_constant(3, None))?;
+    grown.freeze()
+}
+
+/// The number of items of an array that has room for more.
+fn roomy(alloc: Global) -> [Row<usize>; 1] {
+    let array = MutableBooleanArray::with_capacity(alloc, 20);
+    [(
+        "MutableBooleanArray::with_capacity",
+        array.map(|array| array.len()),
+    )]
+}
+
+/// How an array grows, and how its capacity does.
+#[derive(Clone, Copy)]
+enum Growth {
+    /// By one item.
+    Push,
+    /// By a null.
+    PushNull,
+    /// By one item many times.
+    ExtendConstant,
+    /// By the second half of another array.
+    ExtendFromArray,
+    /// By capacity alone.
+    Reserve,
+}
+
+/// Changes the array so.
+fn grow(growth: Growth, array: &mut MutableBooleanArray, other: &BooleanArray) -> Row<()> {
+    match growth {
+        Growth::Push => ("MutableBooleanArray::push", array.push(Some(true))),
+        Growth::PushNull => ("MutableBooleanArray::push_null", array.push_null()),
+        Growth::ExtendConstant => (
+            "MutableBooleanArray::extend_constant",
+            array.extend_constant(90, None),
+        ),
+        Growth::ExtendFromArray => (
+            "MutableBooleanArray::extend_from_array",
+            array.extend_from_array(other, other.len() / 2, other.len() - other.len() / 2),
+        ),
+        Growth::Reserve => ("MutableBooleanArray::reserve", array.reserve(90)),
+    }
+}
+
+/// Shows how many items an empty array has then. Where memory was refused, it has none, and is changed once more.
+fn grown<R: Print + Eprint>(rt: &R, alloc: Global, growth: Growth, other: &BooleanArray) {
+    let mut array = MutableBooleanArray::new(alloc);
+    let (call, made) = grow(growth, &mut array, other);
+    if refused(rt, call, &made) {
+        if !array.is_empty() {
+            show(rt, "changed though refused", &array.len());
+        }
+        let (_, again) = grow(growth, &mut array, other);
+        show(rt, call, &again);
+    } else {
+        show(rt, call, &made);
+    }
+    show(rt, call, &array.len());
+}
+
+/// Makes each of these calls.
+pub(crate) fn all<R: Print + Eprint>(rt: &R, alloc: Global) -> Result<()> {
+    made(rt, &given(alloc), &given(alloc));
+    made(rt, &roomy(alloc), &roomy(alloc));
+    let other = array(alloc).or(array(alloc))?;
+    for growth in [
+        Growth::Push,
+        Growth::PushNull,
+        Growth::ExtendConstant,
+        Growth::ExtendFromArray,
+        Growth::Reserve,
+    ] {
+        grown(rt, alloc, growth, &other);
+    }
+    Ok(())
+}
