@@ -35,6 +35,25 @@ fn collected(alloc: Global) -> Result<Bitmap> {
     Bitmap::try_from_iter(alloc, (0..600usize).map(|i| i % 3 == 0))
 }
 
+/// Bitmaps of what functions of numbers and of items answer.
+fn answered(alloc: Global) -> [Row<Bitmap>; 3] {
+    let bytes = [0b1011_0110, 0b1];
+    [
+        (
+            "Bitmap::try_from_fn",
+            Bitmap::try_from_fn(alloc, 9, |i| i % 2 == 0),
+        ),
+        (
+            "Bitmap::from_slice_with",
+            Bitmap::from_slice_with(alloc, &bytes, |byte| *byte == 1),
+        ),
+        (
+            "Bitmap::from_slices_with",
+            Bitmap::from_slices_with(alloc, &bytes, &bytes, |one, other| *one == *other),
+        ),
+    ]
+}
+
 /// Bitmaps of a vector, of a growing bitmap and of an iterator.
 fn moved(alloc: Global) -> [Row<Bitmap>; 5] {
     let none = MutableBitmap::new(alloc);
@@ -118,6 +137,7 @@ fn by_names(bitmap: &Bitmap) -> [Row<Bitmap>; 7] {
 /// Makes each of these calls.
 pub(crate) fn all<R: Print + Eprint>(rt: &R, alloc: Global) -> Result<()> {
     made(rt, &given(alloc), &given(alloc));
+    made(rt, &answered(alloc), &answered(alloc));
     made(rt, &moved(alloc), &moved(alloc));
     let bitmap = items(alloc, 1).or(items(alloc, 1))?;
     made(rt, &by_words(&bitmap), &by_words(&bitmap));
