@@ -44,3 +44,4 @@ pub use Rattle.arrow2_array.specs.ArrayTexts
 pub use Rattle.arrow2_array.specs.Items
 pub use Rattle.arrow2_array.specs.Kleene
 pub use Rattle.arrow2_primitive.specs.Primitive
+pub use Rattle.arrow2_compute.specs.Aggregates

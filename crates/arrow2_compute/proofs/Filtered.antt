@@ -1,7 +1,7 @@
 -- Loops of kernels: what is there so far, and that it is no more than there is in all.
 use Rattle.std.proofs.Common.{◌≡◌, ℕ, zero, suc, ◌+◌, ◌<◌, ◌≤◌, List, [], ◌∷◌, ◌++◌, Bool, length, take, get_or, refl, ap, sym, ◌∙◌, append_assoc, arith, add-one}
 use Rattle.std.specs.List.{flat_map}
-use Rattle.std.proofs.lemmas.List.{length-append, take_all}
+use Rattle.std.proofs.lemmas.List.{length-append}
 use Rattle.std.proofs.Math.Seq.{take-length}
 use Rattle.arrow2_model.specs.Parts.{part}
 use Rattle.arrow2_model.proofs.Parts.{length-part}

@@ -1,2 +1,1 @@
 pub mod Aggregates
-pub mod Comparisons

@@ -18,7 +18,6 @@ use arrow2_types::native::NativeType;
 /// # Errors
 ///
 /// `OutOfMemory` alone.
-#[tactic(auto, using(crate::proofs::Compared::comparing))]
 pub fn tested<T: NativeType, F: Fn(&T) -> bool>(
     array: &PrimitiveArray<T>,
     test: F,

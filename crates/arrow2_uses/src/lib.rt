@@ -1,6 +1,7 @@
 //! Small callers of the memory layer, each with a contract of its own. They name the crate `arrow2` alone.
 #![tactic(auto)]
 
+pub mod arrays;
 pub mod buffers;
 pub mod columns;
 pub mod compared;

@@ -1,10 +1,9 @@
-use Rattle.std.proofs.Common.{◌≡◌, ◌∙◌, ℕ, ◌+◌, ◌<◌, ◌≤◌, ◌^◌, ◌++◌, length, ap, subst, arith, rules}
+use Rattle.std.proofs.Common.{◌≡◌, ◌∙◌, ℕ, ◌+◌, ◌<◌, ◌≤◌, ◌^◌, length, ap, subst, arith}
 use Rattle.std.specs.Prelude.{IfOk}
 use Rattle.std.proofs.lemmas.Grind.{common_steps}
 use Rattle.arrow2_model.specs.Parts.{part}
 use Rattle.arrow2_model.specs.Storage.{items_of}
 use Rattle.arrow2_primitive.specs.Primitive.{primitive_items}
-use Rattle.arrow2_walks.specs.Runs.{runs}
 use Rattle.arrow2_walks.specs.Selected.{selected}
 use Rattle.arrow2_walks.proofs.Left.{left-all, left-done}
 use Rattle.arrow2_walks.proofs.Selected.{length-selected, selected-runs}

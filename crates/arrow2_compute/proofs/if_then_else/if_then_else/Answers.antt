@@ -1,4 +1,4 @@
-use Rattle.std.proofs.Common.{◌≡◌, ◌+◌, ◌<◌, ◌^◌, length, take, ap, arith}
+use Rattle.std.proofs.Common.{◌+◌, ◌<◌, ◌^◌, length, take, ap, arith}
 use Rattle.std.proofs.lemmas.Grind.{common_steps}
 use Rattle.arrow2_model.specs.Storage.{items_of}
 use Rattle.arrow2_primitive.specs.Primitive.{primitive_items}
