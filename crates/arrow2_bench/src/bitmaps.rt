@@ -48,16 +48,24 @@ pub extern "C" fn bench_bitmaps(
     parts: &[Part],
     runs: &[usize],
 ) -> usize {
-    match call {
-        b"make_mut" => on_bitmaps(alloc, bytes, parts, runs, make_mut),
-        b"iter" => on_bitmaps(alloc, bytes, parts, runs, iter),
-        b"iter_places" => on_bitmaps(alloc, bytes, parts, runs, iter_places),
-        b"iter_back" => on_bitmaps(alloc, bytes, parts, runs, iter_back),
-        b"debug" => on_bitmaps(alloc, bytes, parts, runs, debug),
-        b"slices" => on_bitmaps(alloc, bytes, parts, runs, slices),
-        b"not" => on_bitmaps(alloc, bytes, parts, runs, not),
-        b"unary" => on_bitmaps(alloc, bytes, parts, runs, rotated),
-        _ => usize::MAX,
+    if call == b"make_mut".as_slice() {
+        on_bitmaps(alloc, bytes, parts, runs, make_mut)
+    } else if call == b"iter".as_slice() {
+        on_bitmaps(alloc, bytes, parts, runs, iter)
+    } else if call == b"iter_places".as_slice() {
+        on_bitmaps(alloc, bytes, parts, runs, iter_places)
+    } else if call == b"iter_back".as_slice() {
+        on_bitmaps(alloc, bytes, parts, runs, iter_back)
+    } else if call == b"debug".as_slice() {
+        on_bitmaps(alloc, bytes, parts, runs, debug)
+    } else if call == b"slices".as_slice() {
+        on_bitmaps(alloc, bytes, parts, runs, slices)
+    } else if call == b"not".as_slice() {
+        on_bitmaps(alloc, bytes, parts, runs, not)
+    } else if call == b"unary".as_slice() {
+        on_bitmaps(alloc, bytes, parts, runs, rotated)
+    } else {
+        usize::MAX
     }
 }
 
@@ -134,12 +142,16 @@ pub extern "C" fn bench_pairs(
     right_parts: &[Part],
     runs: &[usize],
 ) -> usize {
-    match call {
-        b"equal" => on_both(alloc, left, left_parts, right, right_parts, runs, equal),
-        b"and" => on_both(alloc, left, left_parts, right, right_parts, runs, both),
-        b"or" => on_both(alloc, left, left_parts, right, right_parts, runs, either),
-        b"xor" => on_both(alloc, left, left_parts, right, right_parts, runs, one),
-        _ => usize::MAX,
+    if call == b"equal".as_slice() {
+        on_both(alloc, left, left_parts, right, right_parts, runs, equal)
+    } else if call == b"and".as_slice() {
+        on_both(alloc, left, left_parts, right, right_parts, runs, both)
+    } else if call == b"or".as_slice() {
+        on_both(alloc, left, left_parts, right, right_parts, runs, either)
+    } else if call == b"xor".as_slice() {
+        on_both(alloc, left, left_parts, right, right_parts, runs, one)
+    } else {
+        usize::MAX
     }
 }
 

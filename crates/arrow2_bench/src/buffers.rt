@@ -10,11 +10,14 @@ use std::convert::TryFrom;
 /// Calls on slices of one buffer of a copy of the items.
 #[unsafe(no_mangle)]
 pub extern "C" fn bench_buffer(alloc: Global, call: &[u8], items: &[u64], parts: &[Part]) -> usize {
-    match call {
-        b"sliced" => on_slices(alloc, items, parts, length),
-        b"into_iter" => on_slices(alloc, items, parts, added_up),
-        b"as_slice" => on_slices(alloc, items, parts, mixed),
-        _ => usize::MAX,
+    if call == b"sliced".as_slice() {
+        on_slices(alloc, items, parts, length)
+    } else if call == b"into_iter".as_slice() {
+        on_slices(alloc, items, parts, added_up)
+    } else if call == b"as_slice".as_slice() {
+        on_slices(alloc, items, parts, mixed)
+    } else {
+        usize::MAX
     }
 }
 
@@ -73,10 +76,12 @@ fn mixed(buffer: Buffer<u64>) -> usize {
 /// Calls that collect the first numbers, as many as each run says.
 #[unsafe(no_mangle)]
 pub extern "C" fn bench_words(alloc: Global, call: &[u8], items: &[u64], runs: &[usize]) -> usize {
-    match call {
-        b"products" => on_firsts(items, runs, |items| products(alloc, items)),
-        b"comparisons" => on_firsts(items, runs, |items| comparisons(alloc, items)),
-        _ => usize::MAX,
+    if call == b"products".as_slice() {
+        on_firsts(items, runs, |items| products(alloc, items))
+    } else if call == b"comparisons".as_slice() {
+        on_firsts(items, runs, |items| comparisons(alloc, items))
+    } else {
+        usize::MAX
     }
 }
 

@@ -15,14 +15,20 @@ use std::alloc::Global;
 /// Calls on a part of the bits of the bytes.
 #[unsafe(no_mangle)]
 pub extern "C" fn bench_bits(alloc: Global, call: &[u8], bytes: &[u8], parts: &[Part]) -> usize {
-    match call {
-        b"count_zeros" => on_each(parts, |part| zeros_of(bytes, part)),
-        b"words" => on_each(parts, |part| words::<u64>(bytes, part)),
-        b"words_of_u32" => on_each(parts, |part| words::<u32>(bytes, part)),
-        b"words_of_u8" => on_each(parts, |part| words::<u8>(bytes, part)),
-        b"iter" => on_each(parts, |part| ones_of(bytes, part)),
-        b"sliced" => on_whole(alloc, bytes, parts, sliced),
-        _ => usize::MAX,
+    if call == b"count_zeros".as_slice() {
+        on_each(parts, |part| zeros_of(bytes, part))
+    } else if call == b"words".as_slice() {
+        on_each(parts, |part| words::<u64>(bytes, part))
+    } else if call == b"words_of_u32".as_slice() {
+        on_each(parts, |part| words::<u32>(bytes, part))
+    } else if call == b"words_of_u8".as_slice() {
+        on_each(parts, |part| words::<u8>(bytes, part))
+    } else if call == b"iter".as_slice() {
+        on_each(parts, |part| ones_of(bytes, part))
+    } else if call == b"sliced".as_slice() {
+        on_whole(alloc, bytes, parts, sliced)
+    } else {
+        usize::MAX
     }
 }
 
@@ -67,14 +73,20 @@ fn sliced(whole: &Bitmap, part: &Part) -> Result<usize> {
 /// Calls on the bytes and a number.
 #[unsafe(no_mangle)]
 pub extern "C" fn bench_bytes(alloc: Global, call: &[u8], bytes: &[u8], runs: &[usize]) -> usize {
-    match call {
-        b"from_u8_slice" => on_each(runs, |length| copied(alloc, bytes, *length)),
-        b"pop" => on_each(runs, |length| pop(alloc, bytes, *length)),
-        b"change_next" => change_next(alloc, bytes, runs),
-        b"get" => on_whole(alloc, bytes, runs, get),
-        b"iter_nth" => on_whole(alloc, bytes, runs, iter_nth),
-        b"pieces" => on_whole(alloc, bytes, runs, pieces),
-        _ => usize::MAX,
+    if call == b"from_u8_slice".as_slice() {
+        on_each(runs, |length| copied(alloc, bytes, *length))
+    } else if call == b"pop".as_slice() {
+        on_each(runs, |length| pop(alloc, bytes, *length))
+    } else if call == b"change_next".as_slice() {
+        change_next(alloc, bytes, runs)
+    } else if call == b"get".as_slice() {
+        on_whole(alloc, bytes, runs, get)
+    } else if call == b"iter_nth".as_slice() {
+        on_whole(alloc, bytes, runs, iter_nth)
+    } else if call == b"pieces".as_slice() {
+        on_whole(alloc, bytes, runs, pieces)
+    } else {
+        usize::MAX
     }
 }
 

@@ -14,11 +14,14 @@ use std::alloc::Global;
 /// Calls that make a bitmap of the first items, as many as each run says.
 #[unsafe(no_mangle)]
 pub extern "C" fn bench_bools(alloc: Global, call: &[u8], items: &[bool], runs: &[usize]) -> usize {
-    match call {
-        b"push" => on_firsts(items, runs, |items| push(alloc, items)),
-        b"from_bools" => on_firsts(items, runs, |items| from_bools(alloc, items)),
-        b"try_from_iter" => on_firsts(items, runs, |items| try_from_iter(alloc, items)),
-        _ => usize::MAX,
+    if call == b"push".as_slice() {
+        on_firsts(items, runs, |items| push(alloc, items))
+    } else if call == b"from_bools".as_slice() {
+        on_firsts(items, runs, |items| from_bools(alloc, items))
+    } else if call == b"try_from_iter".as_slice() {
+        on_firsts(items, runs, |items| try_from_iter(alloc, items))
+    } else {
+        usize::MAX
     }
 }
 
@@ -89,10 +92,12 @@ pub extern "C" fn bench_append(
     let Some(own) = own.first() else {
         return 0;
     };
-    match call {
-        b"extend_from_slice" => on_each(parts, |part| extend_from_slice(alloc, *own, bytes, part)),
-        b"extend_constant" => on_each(parts, |part| extend_constant(alloc, *own, part.length)),
-        _ => usize::MAX,
+    if call == b"extend_from_slice".as_slice() {
+        on_each(parts, |part| extend_from_slice(alloc, *own, bytes, part))
+    } else if call == b"extend_constant".as_slice() {
+        on_each(parts, |part| extend_constant(alloc, *own, part.length))
+    } else {
+        usize::MAX
     }
 }
 
@@ -131,13 +136,18 @@ pub extern "C" fn bench_assign(
     parts: &[Part],
     runs: &[usize],
 ) -> usize {
-    match call {
-        b"xor_assign" => changed(alloc, own, bytes, parts, runs, xor_assign::<u64>),
-        b"xor_assign_by_bytes" => changed(alloc, own, bytes, parts, runs, xor_assign::<u8>),
-        b"and_assign" => changed(alloc, own, bytes, parts, runs, and_assign),
-        b"binary_assign_table" => changed(alloc, own, bytes, parts, runs, equal_by_table),
-        b"unary_assign_table" => turned_by_table(alloc, own, runs),
-        _ => usize::MAX,
+    if call == b"xor_assign".as_slice() {
+        changed(alloc, own, bytes, parts, runs, xor_assign::<u64>)
+    } else if call == b"xor_assign_by_bytes".as_slice() {
+        changed(alloc, own, bytes, parts, runs, xor_assign::<u8>)
+    } else if call == b"and_assign".as_slice() {
+        changed(alloc, own, bytes, parts, runs, and_assign)
+    } else if call == b"binary_assign_table".as_slice() {
+        changed(alloc, own, bytes, parts, runs, equal_by_table)
+    } else if call == b"unary_assign_table".as_slice() {
+        turned_by_table(alloc, own, runs)
+    } else {
+        usize::MAX
     }
 }
 

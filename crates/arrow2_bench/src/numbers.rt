@@ -10,13 +10,16 @@ use std::alloc::Global;
 /// Calls on a number.
 #[unsafe(no_mangle)]
 pub extern "C" fn bench_numbers(alloc: Global, call: &[u8], numbers: &[usize]) -> usize {
-    match call {
-        b"index_range" => on_each(numbers, index_range),
-        b"ones" => on_each(numbers, ones),
-        b"new_zeroed" => on_each(numbers, |number| {
+    if call == b"index_range".as_slice() {
+        on_each(numbers, index_range)
+    } else if call == b"ones".as_slice() {
+        on_each(numbers, ones)
+    } else if call == b"new_zeroed".as_slice() {
+        on_each(numbers, |number| {
             Ok(Bitmap::new_zeroed(alloc, *number)?.unset_bits())
-        }),
-        _ => usize::MAX,
+        })
+    } else {
+        usize::MAX
     }
 }
 

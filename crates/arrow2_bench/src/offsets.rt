@@ -10,10 +10,12 @@ use std::convert::TryFrom;
 /// Calls that make offsets of the first lengths of slots, as many as each run says.
 #[unsafe(no_mangle)]
 pub extern "C" fn bench_slot(alloc: Global, call: &[u8], slots: &[usize], runs: &[usize]) -> usize {
-    match call {
-        b"try_from_lengths" => on_firsts(slots, runs, |slots| try_from_lengths(alloc, slots)),
-        b"extend_from_lengths" => on_firsts(slots, runs, |slots| extend_from_lengths(alloc, slots)),
-        _ => usize::MAX,
+    if call == b"try_from_lengths".as_slice() {
+        on_firsts(slots, runs, |slots| try_from_lengths(alloc, slots))
+    } else if call == b"extend_from_lengths".as_slice() {
+        on_firsts(slots, runs, |slots| extend_from_lengths(alloc, slots))
+    } else {
+        usize::MAX
     }
 }
 
@@ -33,11 +35,14 @@ fn extend_from_lengths(alloc: Global, slots: &[usize]) -> Result<usize> {
 /// Calls on numbers of 64 bits, which are lengths or offsets, and a number.
 #[unsafe(no_mangle)]
 pub extern "C" fn bench_longs(alloc: Global, call: &[u8], items: &[i64], runs: &[usize]) -> usize {
-    match call {
-        b"try_push" => on_firsts(items, runs, |slots| try_push(alloc, slots)),
-        b"try_from" => try_from(alloc, items, runs),
-        b"start_end" => start_ends(alloc, items, runs),
-        _ => usize::MAX,
+    if call == b"try_push".as_slice() {
+        on_firsts(items, runs, |slots| try_push(alloc, slots))
+    } else if call == b"try_from".as_slice() {
+        try_from(alloc, items, runs)
+    } else if call == b"start_end".as_slice() {
+        start_ends(alloc, items, runs)
+    } else {
+        usize::MAX
     }
 }
 
@@ -115,11 +120,14 @@ pub extern "C" fn bench_offset(alloc: Global, call: &[u8], items: &[i64], parts:
 
 /// Makes the call on slices of a buffer of offsets.
 fn on_slices(call: &[u8], whole: &OffsetsBuffer<i64>, parts: &[Part]) -> usize {
-    match call {
-        b"sliced" => on_each(parts, |part| last(&slice(whole, part)?)),
-        b"lengths" => on_each(parts, |part| lengths(&slice(whole, part)?)),
-        b"extend_from_slice" => on_each(parts, |part| extend_from_slice(&slice(whole, part)?)),
-        _ => usize::MAX,
+    if call == b"sliced".as_slice() {
+        on_each(parts, |part| last(&slice(whole, part)?))
+    } else if call == b"lengths".as_slice() {
+        on_each(parts, |part| lengths(&slice(whole, part)?))
+    } else if call == b"extend_from_slice".as_slice() {
+        on_each(parts, |part| extend_from_slice(&slice(whole, part)?))
+    } else {
+        usize::MAX
     }
 }
 

@@ -27,11 +27,14 @@ pub extern "C" fn bench_tables(
     runs: &[usize],
 ) -> usize {
     let all = [first, second, third, fourth];
-    match call {
-        b"ternary_table" => on_inputs(alloc, &all, parts, runs, ternary),
-        b"quaternary_table" => on_inputs(alloc, &all, parts, runs, quaternary),
-        b"and_kleene" => on_arrays(alloc, &all, parts, runs),
-        _ => usize::MAX,
+    if call == b"ternary_table".as_slice() {
+        on_inputs(alloc, &all, parts, runs, ternary)
+    } else if call == b"quaternary_table".as_slice() {
+        on_inputs(alloc, &all, parts, runs, quaternary)
+    } else if call == b"and_kleene".as_slice() {
+        on_arrays(alloc, &all, parts, runs)
+    } else {
+        usize::MAX
     }
 }
 

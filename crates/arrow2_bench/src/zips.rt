@@ -19,17 +19,20 @@ pub extern "C" fn bench_zips(
     parts: &[Part],
     runs: &[usize],
 ) -> usize {
-    match call {
-        b"zip" => on_bitmaps(alloc, bytes, parts, runs, |validity| zip(numbers, validity)),
-        b"iter" => on_bitmaps(
+    if call == b"zip".as_slice() {
+        on_bitmaps(alloc, bytes, parts, runs, |validity| zip(numbers, validity))
+    } else if call == b"iter".as_slice() {
+        on_bitmaps(
             alloc,
             bytes,
             parts,
             runs,
             |validity| zip_iter(numbers, validity),
-        ),
-        b"nth" => zip_nth(alloc, numbers, bytes, runs),
-        _ => usize::MAX,
+        )
+    } else if call == b"nth".as_slice() {
+        zip_nth(alloc, numbers, bytes, runs)
+    } else {
+        usize::MAX
     }
 }
 
