@@ -55,7 +55,7 @@ fn each_item_has_its_path(rt: HostRuntime) {
 }
 
 #[test]
-fn the_readme_holds(rt: HostRuntime) -> Result<(), Fail> {
+fn a_bitmap_is_sliced_and_grows(rt: HostRuntime) -> Result<(), Fail> {
     let alloc = rt.alloc();
     let bitmap = Bitmap::try_new(vec![in alloc; 0b00001101u8]?, 5)?;
     assert!(rt; bitmap.len() == 5);
