@@ -1,0 +1,2 @@
+pub mod SlotItems
+pub mod SlotLists

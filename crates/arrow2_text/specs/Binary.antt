@@ -1,0 +1,65 @@
+-- What contracts see of arrays of byte strings and of texts.
+use Rattle.std.specs.Prelude.{◌≡◌, ℕ, ◌+◌, Bool, ℤ, List, Option, length, if◌then◌else◌}
+use Rattle.std.specs.Option.{ForSome}
+use Rattle.arrow2_model.specs.Buffers.{BufferStorage, buffer_items}
+use Rattle.arrow2_model.specs.Storage.{BitmapStorage, items_of}
+use Rattle.arrow2_walks.specs.Zipped.{zipped}
+use Rattle.arrow2_offset.specs.Offsets.{lengths_of}
+use Rattle.arrow2_utf8.specs.Texts.{slot_values}
+use Rattle.arrow2_validity.specs.OptionalValidity.{OptionalValidity, valid_items, sliced_validity}
+use Rattle.arrow2_datatypes.specs.declared.DataType.{DataType, Binary, LargeBinary, Utf8, LargeUtf8}
+use Rattle.arrow2_datatypes.specs.declared.physical_type.PhysicalType.{PhysicalType}
+use Rattle.arrow2_datatypes.specs.declared.physical_type.PhysicalType.TheVariants as Physical
+
+-- an array: its logical type, where the bytes of each slot begin, the bytes, and which slots are not null
+pub record BinaryParts : Type 0 where
+  pub data_type : DataType
+  pub offsets : BufferStorage ℤ
+  pub values : BufferStorage ℕ
+  pub validity : OptionalValidity
+
+-- the bytes of each slot, under nulls too
+abbrev pub binary_values : BinaryParts → List (List ℕ)
+binary_values a = slot_values (buffer_items a.offsets) (buffer_items a.values)
+
+-- the items: the bytes of each slot that is not null, and None for the others
+abbrev pub binary_items : BinaryParts → List (Option (List ℕ))
+binary_items a = zipped (binary_values a) (valid_items a.validity)
+
+-- a validity bitmap, where there is one, has a bit for each slot
+abbrev pub HasBitPerSlot : List ℤ → Option BitmapStorage → Type 0
+HasBitPerSlot offsets validity = ForSome validity (λ v. length (items_of v) ≡ length (lengths_of offsets))
+
+-- an array of these parts
+abbrev pub binary_of : DataType → BufferStorage ℤ → BufferStorage ℕ → Option BitmapStorage → BinaryParts
+binary_of data_type offsets values validity = record {
+  data_type = data_type;
+  offsets = offsets;
+  values = values;
+  validity = record { len = length (lengths_of (buffer_items offsets)); bitmap = validity };
+}
+
+-- the n slots from slot `start` on, by one offset more, over the same storage
+abbrev pub sliced_binary : BinaryParts → ℕ → ℕ → BinaryParts
+sliced_binary a start n = record {
+  data_type = a.data_type;
+  offsets = record a.offsets { offset = a.offsets.offset + start; len = n + 1 };
+  values = a.values;
+  validity = sliced_validity a.validity start n;
+}
+
+-- how byte strings are laid out, by whether their offsets have 64 bits
+abbrev pub binary_layout : Bool → PhysicalType
+binary_layout large = if large then Physical.LargeBinary else Physical.Binary
+
+-- how texts are laid out, by whether their offsets have 64 bits
+abbrev pub text_layout : Bool → PhysicalType
+text_layout large = if large then Physical.LargeUtf8 else Physical.Utf8
+
+-- the logical type of byte strings where nothing else is said
+abbrev pub default_binary : Bool → DataType
+default_binary large = if large then LargeBinary else Binary
+
+-- the logical type of texts where nothing else is said
+abbrev pub default_text : Bool → DataType
+default_text large = if large then LargeUtf8 else Utf8

@@ -1,0 +1,79 @@
+-- What growth of arrays of byte strings and of texts says.
+use Rattle.std.specs.Prelude.{◌≡◌, ℕ, ◌+◌, ◌<◌, ◌≤◌, ◌^◌, ◌↔◌, ◌⊎◌, List, ◌++◌, Bool, Option, length, Result, OnOk, OnErr, IsOk, IfErr, IsErrOf}
+use Rattle.arrow2_types.specs.declared.error.Error.{Error}
+use Rattle.arrow2_types.specs.declared.error.Error.TheVariants.{Overflow, OutOfMemory}
+use Rattle.arrow2_walks.specs.Zipped.{zipped}
+use Rattle.arrow2_datatypes.specs.declared.DataType.{DataType}
+
+-- an array that grows: its logical type, its items, how many bytes their slots have, under nulls too, and how many items
+-- and how many bytes fit before it allocates
+pub record GrowingBinary : Type 0 where
+  pub data_type : DataType
+  pub items : List (Option (List ℕ))
+  pub bytes : ℕ
+  pub capacity : ℕ
+  pub byte_capacity : ℕ
+
+-- the same, where the bytes under nulls are seen too
+pub record GrowingSlots : Type 0 where
+  pub data_type : DataType
+  pub values : List (List ℕ)
+  pub valid : List Bool
+  pub bytes : ℕ
+  pub capacity : ℕ
+  pub byte_capacity : ℕ
+
+-- what is seen of it where those are not
+abbrev pub growing_binary : GrowingSlots → GrowingBinary
+growing_binary s = record {
+  data_type = s.data_type;
+  items = zipped s.values s.valid;
+  bytes = s.bytes;
+  capacity = s.capacity;
+  byte_capacity = s.byte_capacity;
+}
+
+-- growth by these items, whose slots have so many bytes, all of them or none, where the last offset may reach the greatest
+-- one and not pass it
+pub record AppendsBinary {T : Type 0} (greatest : ℕ) (r : Result T Error) (old new : GrowingBinary) (more : List (Option (List ℕ))) (bytes : ℕ) : Type 0 where
+  -- they stand behind the others
+  pub ok : OnOk r (new.items ≡ old.items ++ more)
+  pub ok_bytes : OnOk r (new.bytes ≡ old.bytes + bytes)
+  -- an error leaves the items
+  pub err : OnErr r (new.items ≡ old.items)
+  pub err_bytes : OnErr r (new.bytes ≡ old.bytes)
+  -- the logical type stays
+  pub data_type : new.data_type ≡ old.data_type
+  -- it overflows exactly where the last offset would pass the greatest one, or there would be more items than a usize counts
+  pub overflow : IsErrOf r Overflow ↔ ((greatest < old.bytes + bytes) ⊎ (2 ^ 64 ≤ length old.items + length more))
+  -- the only other error is refused memory
+  pub only : IfErr r (λ e. (e ≡ Overflow) ⊎ (e ≡ OutOfMemory))
+  -- within both capacities it does not allocate
+  pub succeeds : length old.items + length more ≤ old.capacity → old.bytes + bytes ≤ old.byte_capacity → old.bytes + bytes ≤ greatest → IsOk r
+  -- no capacity falls
+  pub capacity : old.capacity ≤ new.capacity
+  pub byte_capacity : old.byte_capacity ≤ new.byte_capacity
+
+-- the same, by slots and by which of them are not null
+pub record AppendsSlots {T : Type 0} (greatest : ℕ) (r : Result T Error) (old new : GrowingSlots) (values : List (List ℕ)) (valid : List Bool) (bytes : ℕ) : Type 0 where
+  -- they stand behind the others
+  pub ok_values : OnOk r (new.values ≡ old.values ++ values)
+  pub ok_valid : OnOk r (new.valid ≡ old.valid ++ valid)
+  pub ok_bytes : OnOk r (new.bytes ≡ old.bytes + bytes)
+  -- an error leaves the slots
+  pub err_values : OnErr r (new.values ≡ old.values)
+  pub err_valid : OnErr r (new.valid ≡ old.valid)
+  pub err_bytes : OnErr r (new.bytes ≡ old.bytes)
+  -- the logical type stays
+  pub data_type : new.data_type ≡ old.data_type
+  -- the last offset does not pass the greatest one
+  pub fits : old.bytes ≤ greatest
+  -- it overflows exactly where it would, or there would be more slots than a usize counts
+  pub overflow : IsErrOf r Overflow ↔ ((greatest < old.bytes + bytes) ⊎ (2 ^ 64 ≤ length old.valid + length valid))
+  -- the only other error is refused memory
+  pub only : IfErr r (λ e. (e ≡ Overflow) ⊎ (e ≡ OutOfMemory))
+  -- within both capacities it does not allocate
+  pub succeeds : length old.valid + length valid ≤ old.capacity → old.bytes + bytes ≤ old.byte_capacity → old.bytes + bytes ≤ greatest → IsOk r
+  -- no capacity falls
+  pub capacity : old.capacity ≤ new.capacity
+  pub byte_capacity : old.byte_capacity ≤ new.byte_capacity

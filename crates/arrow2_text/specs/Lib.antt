@@ -1,0 +1,3 @@
+pub mod Binary
+pub mod Growth
+pub mod Refused

@@ -1,0 +1,139 @@
+//! How parts that are no array are refused.
+ghost use Rattle.std.specs.Prelude.{◌≡◌, ◌<◌, ◌≤◌, ◌↔◌, length, IfErr, IsOk, IsTrue};
+ghost use Rattle.arrow2_model.specs.Buffers.{buffer_items};
+ghost use Rattle.arrow2_offset.specs.Offsets.{last_of};
+ghost use Rattle.arrow2_types.specs.Refusals.{IsInvalidArgument};
+ghost use Rattle.arrow2_datatypes.specs.Types.{physical};
+ghost use Rattle.arrow2_utf8.specs.Texts.{AreTexts};
+ghost use Rattle.arrow2_text.specs.Binary.{binary_layout, default_binary, default_text, text_layout};
+ghost use Rattle.arrow2_text.specs.Refused.{not_utf8, other_binary_layout, other_text_layout, past_the_values};
+
+use arrow2_datatypes::{DataType, PhysicalType};
+use arrow2_index::offset::Offset;
+use arrow2_offset::OffsetsBuffer;
+use arrow2_types::error::{Error, Result};
+use arrow2_utf8::{BrokenTexts, try_check_utf8};
+use std::alloc::Global;
+
+/// Returns the error of an invalid argument in these words, or that of refused memory, where they find none.
+pub(crate) fn refusal(alloc: Global, words: &str) -> Error
+    ensures { IsInvalidArgument result words.now }
+{
+    match String::from_str(alloc, words) {
+        Ok(text) => Error::InvalidArgumentError(text),
+        Err(_) => Error::OutOfMemory,
+    }
+}
+
+/// Refuses offsets the last of which is past so many values.
+pub(crate) fn check_bounds<O: Offset>(
+    alloc: Global,
+    offsets: &OffsetsBuffer<O>,
+    values: usize,
+) -> Result<()>
+    ensures accepted { IsOk result ↔ (last_of (buffer_items offsets.now) ≤ values) }
+    ensures refused { IfErr result (λ e. IsInvalidArgument e past_the_values) }
+{
+    if offsets.last().to_usize() > values {
+        return Err(refusal(alloc, "offsets must not exceed the values length"));
+    }
+    Ok(())
+}
+
+/// Refuses offsets the last of which is past the values, and values that are not UTF-8 between two offsets.
+pub(crate) fn check_texts<O: Offset>(
+    alloc: Global,
+    offsets: &OffsetsBuffer<O>,
+    values: &[u8],
+) -> Result<()>
+    ensures accepted { IsOk result ↔ AreTexts (buffer_items offsets.now) values.now }
+    ensures past { length values.now < last_of (buffer_items offsets.now) →
+        IfErr result (λ e. IsInvalidArgument e past_the_values) }
+    ensures broken { last_of (buffer_items offsets.now) ≤ length values.now →
+        IfErr result (λ e. IsInvalidArgument e not_utf8) }
+{
+    match try_check_utf8(offsets, values) {
+        Ok(()) => Ok(()),
+        Err(BrokenTexts::PastTheValues) => {
+            Err(refusal(alloc, "offsets must not exceed the values length"))
+        }
+        Err(BrokenTexts::NotUtf8(_)) => Err(refusal(
+            alloc,
+            "the values of each slot must be UTF-8",
+        )),
+    }
+}
+
+/// Refuses a logical type that is not laid out as byte strings are.
+pub(crate) fn check_binary_layout<O: Offset>(alloc: Global, data_type: &DataType) -> Result<()>
+    ensures accepted { IsOk result ↔ (physical data_type.now ≡ binary_layout O.IS_LARGE) }
+    ensures refused { IfErr result (λ e. IsInvalidArgument e other_binary_layout) }
+{
+    if !is_binary(data_type.to_physical_type(), O::IS_LARGE) {
+        return Err(refusal(
+            alloc,
+            "BinaryArray can only be initialized with DataType::Binary or DataType::LargeBinary",
+        ));
+    }
+    Ok(())
+}
+
+/// Refuses a logical type that is not laid out as texts are.
+pub(crate) fn check_text_layout<O: Offset>(alloc: Global, data_type: &DataType) -> Result<()>
+    ensures accepted { IsOk result ↔ (physical data_type.now ≡ text_layout O.IS_LARGE) }
+    ensures refused { IfErr result (λ e. IsInvalidArgument e other_text_layout) }
+{
+    if !is_text(data_type.to_physical_type(), O::IS_LARGE) {
+        return Err(refusal(
+            alloc,
+            "Utf8Array can only be initialized with DataType::Utf8 or DataType::LargeUtf8",
+        ));
+    }
+    Ok(())
+}
+
+/// Returns whether this is how byte strings are laid out.
+fn is_binary(layout: PhysicalType, large: bool) -> bool
+    ensures { IsTrue result ↔ (layout ≡ binary_layout large) }
+{
+    match layout {
+        PhysicalType::Binary => !large,
+        PhysicalType::LargeBinary => large,
+        _ => false,
+    }
+}
+
+/// Returns whether this is how texts are laid out.
+fn is_text(layout: PhysicalType, large: bool) -> bool
+    ensures { IsTrue result ↔ (layout ≡ text_layout large) }
+{
+    match layout {
+        PhysicalType::Utf8 => !large,
+        PhysicalType::LargeUtf8 => large,
+        _ => false,
+    }
+}
+
+/// Returns the logical type of byte strings.
+pub(crate) fn binary_type<O: Offset>() -> DataType
+    ensures value { result ≡ default_binary O.IS_LARGE }
+    ensures layout { physical result ≡ binary_layout O.IS_LARGE }
+{
+    if O::IS_LARGE {
+        DataType::LargeBinary
+    } else {
+        DataType::Binary
+    }
+}
+
+/// Returns the logical type of texts.
+pub(crate) fn text_type<O: Offset>() -> DataType
+    ensures value { result ≡ default_text O.IS_LARGE }
+    ensures layout { physical result ≡ text_layout O.IS_LARGE }
+{
+    if O::IS_LARGE {
+        DataType::LargeUtf8
+    } else {
+        DataType::Utf8
+    }
+}

@@ -1,0 +1,219 @@
+//! Bytes between offsets beside their validity: what arrays of byte strings and of texts store.
+ghost use Rattle.std.specs.Prelude.{◌≡◌, ◌+◌, ◌<◌, ◌≤◌, [], None, Some, IsTrue, length, map, count_by, slice_index_or, sum};
+ghost use Rattle.std.specs.Option.{is_none, is_some};
+ghost use Rattle.arrow2_model.specs.Buffers.{buffer_items};
+ghost use Rattle.arrow2_model.specs.Parts.{part};
+ghost use Rattle.arrow2_offset.specs.Offsets.{last_of, lengths_of, offset_at, start_of};
+ghost use Rattle.arrow2_walks.specs.Zipped.{zipped};
+ghost use Rattle.arrow2_validity.specs.OptionalValidity.{valid_items};
+ghost use Rattle.arrow2_text.specs.Binary.{binary_items, binary_values, sliced_binary};
+
+use arrow2_buffer::Buffer;
+use arrow2_datatypes::DataType;
+use arrow2_index::offset::Offset;
+use arrow2_offset::OffsetsBuffer;
+use arrow2_validity::Validity;
+use std::alloc::AllocError;
+use std::marker::Model;
+use std::rc::Rc;
+
+/// Bytes between offsets beside their validity, and a logical type.
+#[derive(Drop)]
+pub(crate) struct Slots<O: Offset> {
+    data_type: Rc<DataType>,
+    offsets: OffsetsBuffer<O>,
+    values: Buffer<u8>,
+    validity: Validity,
+}
+
+impl<O: Offset> Model for Slots<O> {
+    ghost use Rattle.std.specs.Prelude.{◌≡◌, ◌≤◌, length};
+    ghost use Rattle.arrow2_model.specs.Buffers.{buffer_items};
+    ghost use Rattle.arrow2_offset.specs.Offsets.{lengths_of, last_of};
+    ghost use Rattle.arrow2_validity.specs.OptionalValidity.{valid_items};
+    ghost use Rattle.arrow2_text.specs.Binary.{BinaryParts};
+    ghost use Rattle.std.specs.Coded.{codes};
+    ghost use Rattle.arrow2_datatypes.specs.contracts.DataType as logical_type;
+
+    ghost Value = { BinaryParts };
+
+    ghost coded = { Prim.hlevel (codes, logical_type.the_row.coded) };
+
+    ghost view = { λ a. record {
+      data_type = a.data_type.value;
+      offsets = a.offsets;
+      values = a.values;
+      validity = a.validity;
+    } };
+
+    ghost invariant = { λ a. (last_of (buffer_items a.offsets) ≤ length (buffer_items a.values))
+        × (length (valid_items a.validity) ≡ length (lengths_of (buffer_items a.offsets))) };
+}
+
+#[tactic(auto, using(crate::proofs::SlotLists::slotted))]
+impl<O: Offset> Slots<O> {
+    /// Returns the slots of these parts. Requires that the last offset is not past the values, and that the validity has an
+    /// item for each slot.
+    pub(crate) fn new(
+        data_type: Rc<DataType>,
+        offsets: OffsetsBuffer<O>,
+        values: Buffer<u8>,
+        validity: Validity,
+    ) -> Slots<O>
+        requires inside { last_of (buffer_items offsets) ≤ length (buffer_items values) }
+        requires same_length { length (valid_items validity) ≡ length (lengths_of (buffer_items offsets)) }
+        ensures { result ≡ record {
+          data_type = data_type.value;
+          offsets = offsets;
+          values = values;
+          validity = validity;
+        } }
+    {
+        Slots {
+            data_type,
+            offsets,
+            values,
+            validity,
+        }
+    }
+
+    /// Returns the logical type.
+    pub(crate) fn data_type(&self) -> &Rc<DataType>
+        ensures { result.now.value ≡ self.now.data_type }
+    {
+        &self.data_type
+    }
+
+    /// Returns the offsets.
+    pub(crate) fn offsets(&self) -> &OffsetsBuffer<O>
+        ensures value { result.now ≡ self.now.offsets }
+        ensures slots { length (lengths_of (buffer_items result.now)) ≡ length (binary_items self.now) }
+    {
+        &self.offsets
+    }
+
+    /// Returns the bytes.
+    pub(crate) fn values(&self) -> &Buffer<u8>
+        ensures value { result.now ≡ self.now.values }
+        ensures inside { last_of (buffer_items self.now.offsets) ≤ length (buffer_items result.now) }
+    {
+        &self.values
+    }
+
+    /// Returns the validity.
+    pub(crate) fn validity(&self) -> &Validity
+        ensures value { result.now ≡ self.now.validity }
+        ensures known { valid_items result.now ≡ map is_some (binary_items self.now) }
+        ensures zipped { zipped (binary_values self.now) (valid_items result.now) ≡ binary_items self.now }
+    {
+        &self.validity
+    }
+
+    /// Returns the number of slots.
+    pub(crate) fn len(&self) -> usize
+        ensures items { result ≡ length (binary_items self.now) }
+        ensures values { result ≡ length (binary_values self.now) }
+        ensures lengths { result ≡ length (lengths_of (buffer_items self.now.offsets)) }
+        ensures validity { result ≡ length (valid_items self.now.validity) }
+    {
+        self.offsets.len_proxy()
+    }
+
+    /// Returns the number of nulls.
+    pub(crate) fn null_count(&self) -> usize
+        ensures { result ≡ count_by is_none (binary_items self.now) }
+    {
+        self.validity.null_count()
+    }
+
+    /// Returns the bytes of a slot, which are those of the item where it is not null. Requires that it is one of them.
+    pub(crate) fn value(&self, index: usize) -> &[u8]
+        requires below { index < length (binary_items self.now) }
+        ensures value { result.now ≡ slice_index_or (binary_values self.now) index [] }
+        ensures item { IsTrue (is_some (slice_index_or (binary_items self.now) index None)) →
+            slice_index_or (binary_items self.now) index None ≡ Some result.now }
+    {
+        // The validity is read for what the type keeps: it has an item for each slot.
+        let _ = &self.validity;
+        self.bytes_at(index)
+    }
+
+    /// Returns the bytes of a slot. Requires that it is one of them.
+    fn bytes_at(&self, index: usize) -> &[u8]
+        requires below { index < length (binary_items self.now) }
+        ensures { result.now ≡ slice_index_or (binary_values self.now) index [] }
+    {
+        let (start, end) = self.offsets.start_end(index);
+        &self.values.as_slice()[start..end]
+    }
+
+    /// Returns the offset behind the first `index` slots. Requires that there are as many.
+    fn place(&self, index: usize) -> usize
+        requires inside { index ≤ length (lengths_of (buffer_items self.now.offsets)) }
+        ensures { result ≡ offset_at (start_of (buffer_items self.now.offsets))
+            (lengths_of (buffer_items self.now.offsets)) index }
+    {
+        if index == self.offsets.len_proxy() {
+            return self.offsets.last().to_usize();
+        }
+        self.offsets.start_end(index).0
+    }
+
+    /// Returns the bytes of `len` slots from slot `start` on. Requires that they are inside.
+    pub(crate) fn bytes_of(&self, start: usize, len: usize) -> &[u8]
+        requires inside { start + len ≤ length (binary_items self.now) }
+        ensures bytes { result.now ≡ part (buffer_items self.now.values)
+            (offset_at (start_of (buffer_items self.now.offsets)) (lengths_of (buffer_items self.now.offsets)) start)
+            (sum (part (lengths_of (buffer_items self.now.offsets)) start len)) }
+        ensures len { length result.now ≡ sum (part (lengths_of (buffer_items self.now.offsets)) start len) }
+    {
+        let count = self.len();
+        prove!(start <= count && len <= count - start);
+        let (from, to) = (self.place(start), self.place(start + len));
+        &self.values.as_slice()[from..to]
+    }
+
+    /// Returns whether a slot is not null. Requires that it is one of them.
+    pub(crate) fn is_valid(&self, index: usize) -> bool
+        requires below { index < length (binary_items self.now) }
+        ensures { result ≡ is_some (slice_index_or (binary_items self.now) index None) }
+    {
+        self.validity.is_valid(index)
+    }
+
+    /// Keeps `len` slots from slot `start` on. Requires that they are inside.
+    pub(crate) fn slice(&mut self, start: usize, len: usize)
+        requires inside { start + len ≤ length (binary_items self.old) }
+        ensures items { binary_items self.new ≡ part (binary_items self.old) start len }
+        ensures values { binary_values self.new ≡ part (binary_values self.old) start len }
+        ensures storage { self.new ≡ sliced_binary self.old start len }
+    {
+        self.offsets.slice_slots(start, len);
+        self.validity.slice(start, len);
+    }
+
+    /// Returns the parts.
+    pub(crate) fn into_parts(self) -> (Rc<DataType>, OffsetsBuffer<O>, Buffer<u8>, Validity)
+        ensures data_type { result.0.value ≡ self.data_type }
+        ensures offsets { result.1 ≡ self.offsets }
+        ensures values { result.2 ≡ self.values }
+        ensures validity { result.3 ≡ self.validity }
+        ensures inside { last_of (buffer_items result.1) ≤ length (buffer_items result.2) }
+        ensures same_length { length (valid_items result.3) ≡ length (lengths_of (buffer_items result.1)) }
+    {
+        (self.data_type, self.offsets, self.values, self.validity)
+    }
+}
+
+impl<O: Offset> Clone for Slots<O> {
+    ghost is_clone = { λ a copy. copy ≡ a };
+
+    fn clone(&self) -> std::result::Result<Slots<O>, AllocError> {
+        Ok(Slots {
+            data_type: self.data_type.clone()?,
+            offsets: self.offsets.clone()?,
+            values: self.values.clone()?,
+            validity: self.validity.clone()?,
+        })
+    }
+}
