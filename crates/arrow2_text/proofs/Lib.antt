@@ -1,2 +1,4 @@
+pub mod GrowthItems
 pub mod SlotItems
 pub mod SlotLists
+pub mod TextItems

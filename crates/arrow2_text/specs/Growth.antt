@@ -56,6 +56,8 @@ pub record AppendsBinary {T : Type 0} (greatest : ℕ) (r : Result T Error) (old
 
 -- the same, by slots and by which of them are not null
 pub record AppendsSlots {T : Type 0} (greatest : ℕ) (r : Result T Error) (old new : GrowingSlots) (values : List (List ℕ)) (valid : List Bool) (bytes : ℕ) : Type 0 where
+  -- as many of them are told to be null or not as there are
+  pub same : length old.valid ≡ length old.values
   -- they stand behind the others
   pub ok_values : OnOk r (new.values ≡ old.values ++ values)
   pub ok_valid : OnOk r (new.valid ≡ old.valid ++ valid)

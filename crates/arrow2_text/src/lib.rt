@@ -2,9 +2,14 @@
 #![tactic(auto)]
 
 pub mod binary;
+mod growing;
 pub mod iterator;
+pub mod mutable_binary;
 mod refusals;
 mod slots;
+pub mod utf8;
 
 pub use binary::BinaryArray;
-pub use iterator::BinaryIter;
+pub use iterator::{BinaryIter, Utf8Iter};
+pub use mutable_binary::MutableBinaryArray;
+pub use utf8::Utf8Array;

@@ -1,0 +1,230 @@
+//! Bytes between offsets beside their validity, as they grow.
+ghost use Rattle.std.specs.Prelude.{◌≡◌, ◌+◌, ◌<◌, ◌≤◌, ◌^◌, ◌↔◌, ◌⊎◌, [], ◌∷◌, length, sum, count_by, IfErr, IfOk, IsErrOf, IsNone, IsOk, OnOk};
+ghost use Rattle.arrow2_model.specs.Buffers.{buffer_items};
+ghost use Rattle.std.specs.Option.{is_none};
+ghost use Rattle.arrow2_walks.specs.Zipped.{zipped};
+ghost use Rattle.arrow2_model.specs.Parts.{part};
+ghost use Rattle.arrow2_offset.specs.Offsets.{lengths_of};
+ghost use Rattle.arrow2_validity.specs.OptionalValidity.{valid_items};
+ghost use Rattle.arrow2_text.specs.Binary.{binary_items, binary_values};
+ghost use Rattle.arrow2_text.specs.Growth.{AppendsSlots};
+
+use crate::slots::Slots;
+use arrow2_bitmap::MutableBitmap;
+use arrow2_buffer::Buffer;
+use arrow2_datatypes::DataType;
+use arrow2_index::offset::Offset;
+use arrow2_offset::{Offsets, OffsetsBuffer};
+use arrow2_types::error::{Error, Result};
+use arrow2_validity::Validity;
+use std::alloc::Global;
+use std::convert::TryFrom;
+use std::marker::Model;
+use std::rc::Rc;
+
+/// Bytes between offsets beside their validity, as they grow, and a logical type.
+#[derive(Drop)]
+pub(crate) struct Growing<O: Offset> {
+    data_type: Rc<DataType>,
+    offsets: Offsets<O>,
+    values: Vec<u8>,
+    validity: MutableBitmap,
+}
+
+impl<O: Offset> Model for Growing<O> {
+    ghost use Rattle.std.specs.Prelude.{◌≡◌, length, min, sum, vec_capacity};
+    ghost use Rattle.arrow2_offset.specs.Nested.{cut};
+    ghost use Rattle.arrow2_text.specs.Growth.{GrowingSlots};
+    ghost use Rattle.std.specs.Coded.{codes};
+    ghost use Rattle.arrow2_datatypes.specs.contracts.DataType as logical_type;
+
+    ghost Value = { GrowingSlots };
+
+    ghost coded = { Prim.hlevel (codes, logical_type.the_row.coded) };
+
+    ghost view = { λ g. record {
+      data_type = g.data_type.value;
+      values = cut g.values.items g.offsets.lengths;
+      valid = g.validity.items;
+      bytes = length g.values.items;
+      capacity = min g.offsets.capacity g.validity.capacity;
+      byte_capacity = vec_capacity g.values;
+    } };
+
+    ghost invariant = { λ g. (g.offsets.start ≡ 0)
+        × (sum g.offsets.lengths ≡ length g.values.items)
+        × (length g.validity.items ≡ length g.offsets.lengths) };
+}
+
+#[tactic(auto, using(crate::proofs::SlotLists::growing))]
+impl<O: Offset> Growing<O> {
+    /// Returns no slots, with room for so many of them and for so many bytes.
+    pub(crate) fn with_capacity(
+        data_type: Rc<DataType>,
+        alloc: Global,
+        capacity: usize,
+        byte_capacity: usize,
+    ) -> Result<Growing<O>>
+        ensures data_type { IfOk result (λ g. g.data_type ≡ data_type.value) }
+        ensures ok { IfOk result (λ g. (g.values ≡ []) × (g.valid ≡ []) × (g.bytes ≡ 0)) }
+        ensures capacity { IfOk result (λ g.
+            (capacity ≤ g.capacity) × (byte_capacity ≤ g.byte_capacity)) }
+        ensures overflow { IsErrOf result Error.Overflow ↔ (2 ^ 64 ≤ capacity + 1) }
+        ensures only { IfErr result (λ e. (e ≡ Error.Overflow) ⊎ (e ≡ Error.OutOfMemory)) }
+    {
+        let offsets = Offsets::with_capacity(alloc, capacity)?;
+        let validity = MutableBitmap::with_capacity(alloc, capacity)?;
+        let values = Vec::with_capacity(alloc, byte_capacity)?;
+        Ok(Growing {
+            data_type,
+            offsets,
+            values,
+            validity,
+        })
+    }
+
+    /// Returns no slots, with room for so many of them and for so many bytes. The logical type is made shared.
+    pub(crate) fn of_default(
+        data_type: DataType,
+        alloc: Global,
+        capacity: usize,
+        byte_capacity: usize,
+    ) -> Result<Growing<O>>
+        ensures data_type { IfOk result (λ g. g.data_type ≡ data_type) }
+        ensures ok { IfOk result (λ g. (g.values ≡ []) × (g.valid ≡ []) × (g.bytes ≡ 0)) }
+        ensures capacity { IfOk result (λ g.
+            (capacity ≤ g.capacity) × (byte_capacity ≤ g.byte_capacity)) }
+        ensures overflow { IsErrOf result Error.Overflow ↔ (2 ^ 64 ≤ capacity + 1) }
+        ensures only { IfErr result (λ e. (e ≡ Error.Overflow) ⊎ (e ≡ Error.OutOfMemory)) }
+    {
+        if capacity == usize::MAX {
+            return Err(Error::Overflow);
+        }
+        let data_type = Rc::new(alloc, data_type)?;
+        Growing::with_capacity(data_type, alloc, capacity, byte_capacity)
+    }
+
+    /// Returns the logical type.
+    pub(crate) fn data_type(&self) -> &Rc<DataType>
+        ensures { result.now.value ≡ self.now.data_type }
+    {
+        &self.data_type
+    }
+
+    /// Returns the number of slots.
+    pub(crate) fn len(&self) -> usize
+        ensures values { result ≡ length self.now.values }
+        ensures valid { result ≡ length self.now.valid }
+    {
+        self.offsets.len_proxy()
+    }
+
+    /// Returns the number of bytes.
+    pub(crate) fn bytes(&self) -> usize
+        ensures value { result ≡ self.now.bytes }
+        ensures fits { result ≤ O.MAX }
+    {
+        self.offsets.last().to_usize()
+    }
+
+    /// Makes room for so many slots more, and so many bytes.
+    pub(crate) fn reserve(&mut self, slots: usize, bytes: usize) -> Result<()>
+        ensures data_type { self.new.data_type ≡ self.old.data_type }
+        ensures same { length self.old.valid ≡ length self.old.values }
+        ensures values { self.new.values ≡ self.old.values }
+        ensures valid { self.new.valid ≡ self.old.valid }
+        ensures bytes { self.new.bytes ≡ self.old.bytes }
+        ensures ok { OnOk result (length self.old.valid + slots ≤ self.new.capacity) }
+        ensures ok_bytes { OnOk result (self.old.bytes + bytes ≤ self.new.byte_capacity) }
+        ensures overflow { IsErrOf result Error.Overflow ↔ (2 ^ 64 ≤ length self.old.valid + slots) }
+        ensures only { IfErr result (λ e. (e ≡ Error.Overflow) ⊎ (e ≡ Error.OutOfMemory)) }
+        ensures succeeds { length self.old.valid + slots ≤ self.old.capacity →
+            self.old.bytes + bytes ≤ self.old.byte_capacity → IsOk result }
+        ensures capacity { self.old.capacity ≤ self.new.capacity }
+        ensures byte_capacity { self.old.byte_capacity ≤ self.new.byte_capacity }
+    {
+        self.validity.reserve(slots)?;
+        self.offsets.reserve(slots)?;
+        self.values.reserve(bytes)?;
+        Ok(())
+    }
+
+    /// Makes room for so many slots more, and so many bytes. Refuses first where the last offset would pass the greatest one.
+    fn reserve_below(&mut self, slots: usize, bytes: usize) -> Result<()>
+        ensures data_type { self.new.data_type ≡ self.old.data_type }
+        ensures same { length self.old.valid ≡ length self.old.values }
+        ensures values { self.new.values ≡ self.old.values }
+        ensures valid { self.new.valid ≡ self.old.valid }
+        ensures bytes { self.new.bytes ≡ self.old.bytes }
+        ensures ok { OnOk result (length self.old.valid + slots ≤ self.new.capacity) }
+        ensures ok_bytes { OnOk result (self.old.bytes + bytes ≤ self.new.byte_capacity) }
+        ensures ok_fits { OnOk result (self.old.bytes + bytes ≤ O.MAX) }
+        ensures fits { self.old.bytes ≤ O.MAX }
+        ensures overflow { IsErrOf result Error.Overflow ↔
+            ((O.MAX < self.old.bytes + bytes) ⊎ (2 ^ 64 ≤ length self.old.valid + slots)) }
+        ensures only { IfErr result (λ e. (e ≡ Error.Overflow) ⊎ (e ≡ Error.OutOfMemory)) }
+        ensures succeeds { length self.old.valid + slots ≤ self.old.capacity →
+            self.old.bytes + bytes ≤ self.old.byte_capacity → self.old.bytes + bytes ≤ O.MAX → IsOk result }
+        ensures capacity { self.old.capacity ≤ self.new.capacity }
+        ensures byte_capacity { self.old.byte_capacity ≤ self.new.byte_capacity }
+    {
+        // The length is read for what the type keeps: as many slots are told to be null or not as there are.
+        let _ = self.len();
+        if bytes > O::MAX - self.bytes() {
+            return Err(Error::Overflow);
+        }
+        self.reserve(slots, bytes)
+    }
+
+    /// Appends a slot.
+    pub(crate) fn push(&mut self, value: &[u8], valid: bool) -> Result<()>
+        ensures { AppendsSlots O.MAX result self.old self.new (value.now ∷ []) (valid ∷ []) (length value.now) }
+    {
+        self.reserve_below(1, value.len())?;
+        self.values.extend_from_slice(value)?;
+        self.offsets.try_push_usize(value.len())?;
+        self.validity.push(valid)?;
+        Ok(())
+    }
+
+    /// Appends `len` slots of others from slot `start` on. Requires that they are inside.
+    #[tactic(auto, using(crate::proofs::GrowthItems::extending))]
+    pub(crate) fn extend(&mut self, slots: &Slots<O>, start: usize, len: usize) -> Result<()>
+        requires inside { start + len ≤ length (binary_items slots.now) }
+        ensures { AppendsSlots O.MAX result self.old self.new (part (binary_values slots.now) start len)
+            (part (valid_items slots.now.validity) start len)
+            (sum (part (lengths_of (buffer_items slots.now.offsets)) start len)) }
+    {
+        let count = slots.len();
+        prove!(start <= count && len <= count - start);
+        let bytes = slots.bytes_of(start, len);
+        let offsets = slots.offsets();
+        prove!(len < offsets.len() && start < offsets.len() - len);
+        self.reserve_below(len, bytes.len())?;
+        self.values.extend_from_slice(bytes)?;
+        self.offsets.try_extend_from_slice(offsets, start, len)?;
+        slots.validity().append_to(start, len, &mut self.validity)?;
+        Ok(())
+    }
+
+    /// Returns the slots, with no bitmap where none is null.
+    pub(crate) fn freeze(self) -> Result<Slots<O>>
+        ensures data_type { IfOk result (λ s. s.data_type ≡ self.data_type) }
+        ensures values { IfOk result (λ s. binary_values s ≡ self.values) }
+        ensures valid { IfOk result (λ s. valid_items s.validity ≡ self.valid) }
+        ensures bitmap { IfOk result (λ s.
+            IsNone s.validity.bitmap ↔ (count_by is_none (zipped self.values self.valid) ≡ 0)) }
+        ensures only { IfErr result (λ e. e ≡ Error.OutOfMemory) }
+    {
+        let Growing {
+            data_type,
+            offsets,
+            values,
+            validity,
+        } = self;
+        let offsets = OffsetsBuffer::try_from(offsets)?;
+        let values = Buffer::try_from(values)?;
+        let validity = Validity::new(offsets.len_proxy(), validity.into_validity()?);
+        Ok(Slots::new(data_type, offsets, values, validity))
+    }
+}

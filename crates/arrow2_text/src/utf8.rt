@@ -1,0 +1,361 @@
+//! An array of texts, each of which may be null.
+ghost use Rattle.std.specs.Prelude.{◌≡◌, ◌+◌, ◌<◌, ◌≤◌, ◌↔◌, [], None, Some, true, length, map, count_by, replicate, slice_index_or, IfErr, IfOk, IsTrue, MatchOption, OnOk, option_map};
+ghost use Rattle.std.specs.Option.{ForSome, is_none, is_some, option_copied};
+ghost use Rattle.arrow2_model.specs.Buffers.{buffer_items};
+ghost use Rattle.arrow2_model.specs.Parts.{part};
+ghost use Rattle.arrow2_model.specs.Storage.{items_of};
+ghost use Rattle.arrow2_types.specs.Refusals.{IsInvalidArgument};
+ghost use Rattle.arrow2_walks.specs.Zipped.{zipped};
+ghost use Rattle.arrow2_offset.specs.Offsets.{lengths_of, last_of};
+ghost use Rattle.arrow2_validity.specs.OptionalValidity.{valid_items};
+ghost use Rattle.arrow2_validity.specs.Refused.{unequal_lengths};
+ghost use Rattle.arrow2_datatypes.specs.Types.{physical};
+ghost use Rattle.arrow2_utf8.specs.Texts.{AreTexts};
+ghost use Rattle.arrow2_text.specs.Binary.{HasBitPerSlot, binary_items, binary_of, binary_values, default_binary, default_text, sliced_binary, text_layout};
+ghost use Rattle.arrow2_text.specs.Refused.{not_utf8, other_text_layout, past_the_values};
+
+use crate::binary::BinaryArray;
+use crate::iterator::Utf8Iter;
+use crate::refusals::{binary_type, check_text_layout, check_texts, text_type};
+use crate::slots::Slots;
+use arrow2_bitmap::Bitmap;
+use arrow2_buffer::Buffer;
+use arrow2_datatypes::DataType;
+use arrow2_index::offset::Offset;
+use arrow2_offset::OffsetsBuffer;
+use arrow2_types::error::{Error, Result};
+use arrow2_validity::Validity;
+use std::alloc::AllocError;
+use std::marker::Model;
+use std::rc::Rc;
+use std::str;
+
+/// An array of texts, each of which may be null, by offsets into one buffer of bytes. Each slot is UTF-8, also under a null.
+///
+/// Contracts see its logical type, its offsets, its bytes and its validity; `binary_items` is the list of its items, each
+/// the list of its bytes. Slices and clones share all four.
+///
+/// Differs from arrow2: the logical type is shared by an `Rc`, so that a clone does not allocate.
+#[derive(Drop)]
+pub struct Utf8Array<O: Offset> {
+    slots: Slots<O>,
+}
+
+impl<O: Offset> Model for Utf8Array<O> {
+    ghost use Rattle.std.specs.Prelude.{◌≡◌};
+    ghost use Rattle.arrow2_model.specs.Buffers.{buffer_items};
+    ghost use Rattle.arrow2_utf8.specs.Texts.{AreTexts};
+    ghost use Rattle.arrow2_datatypes.specs.Types.{physical};
+    ghost use Rattle.arrow2_text.specs.Binary.{BinaryParts, text_layout};
+    ghost use Rattle.std.specs.Coded.{codes};
+    ghost use Rattle.arrow2_datatypes.specs.contracts.DataType as logical_type;
+
+    ghost Value = { BinaryParts };
+
+    ghost coded = { Prim.hlevel (codes, logical_type.the_row.coded) };
+
+    ghost view = { λ a. a.slots };
+
+    ghost invariant = { λ a. (physical a.slots.data_type ≡ text_layout O.IS_LARGE)
+        × AreTexts (buffer_items a.slots.offsets) (buffer_items a.slots.values) };
+}
+
+impl<O: Offset> Utf8Array<O> {
+    /// Returns the array of the bytes between the offsets, each null where the validity is false. Without a validity none
+    /// is null.
+    ///
+    /// # Errors
+    ///
+    /// `InvalidArgumentError` exactly if the last offset is past the values, or else if a slot is not UTF-8, also under a null
+    /// or where it begins inside a character, or else if the validity has another length than there are slots, or else if the
+    /// physical type of `data_type` is not `Utf8`, or `LargeUtf8` where `O` has 64 bits; or `OutOfMemory`. What was handed in
+    /// is then dropped.
+    pub fn try_new(
+        data_type: DataType,
+        offsets: OffsetsBuffer<O>,
+        values: Buffer<u8>,
+        validity: Option<Bitmap>,
+    ) -> Result<Utf8Array<O>>
+        ensures ok { IfOk result (λ a. a ≡ binary_of data_type offsets values validity) }
+        ensures accepted { OnOk result (AreTexts (buffer_items offsets) (buffer_items values)
+            × HasBitPerSlot (buffer_items offsets) validity
+            × (physical data_type ≡ text_layout O.IS_LARGE)) }
+        ensures past { length (buffer_items values) < last_of (buffer_items offsets) →
+            IfErr result (λ e. IsInvalidArgument e past_the_values) }
+        ensures broken { last_of (buffer_items offsets) ≤ length (buffer_items values) →
+            ¬ AreTexts (buffer_items offsets) (buffer_items values) →
+            IfErr result (λ e. IsInvalidArgument e not_utf8) }
+        ensures unequal { AreTexts (buffer_items offsets) (buffer_items values) →
+            ForSome validity (λ v. ¬ (length (items_of v) ≡ length (lengths_of (buffer_items offsets))) →
+            IfErr result (λ e. IsInvalidArgument e
+            (unequal_lengths (length (items_of v)) (length (lengths_of (buffer_items offsets)))))) }
+        ensures layout { AreTexts (buffer_items offsets) (buffer_items values) →
+            HasBitPerSlot (buffer_items offsets) validity →
+            ¬ (physical data_type ≡ text_layout O.IS_LARGE) →
+            IfErr result (λ e. IsInvalidArgument e other_text_layout) }
+        ensures only { AreTexts (buffer_items offsets) (buffer_items values) →
+            HasBitPerSlot (buffer_items offsets) validity →
+            physical data_type ≡ text_layout O.IS_LARGE → IfErr result (λ e. e ≡ Error.OutOfMemory) }
+    {
+        let alloc = values.allocator();
+        check_texts(alloc, &offsets, values.as_slice())?;
+        let validity = Validity::try_new(offsets.len_proxy(), validity)?;
+        check_text_layout::<O>(alloc, &data_type)?;
+        let data_type = Rc::new(alloc, data_type)?;
+        Ok(Utf8Array {
+            slots: Slots::new(data_type, offsets, values, validity),
+        })
+    }
+
+    /// Returns the array of the bytes between the offsets, each null where the validity is false. Without a validity none
+    /// is null. Requires that the physical type of `data_type` is `Utf8`, or `LargeUtf8` where `O` has 64 bits, that
+    /// each slot is within the values and UTF-8, and that the validity has a bit for each slot. Takes no memory.
+    pub fn new(
+        data_type: Rc<DataType>,
+        offsets: OffsetsBuffer<O>,
+        values: Buffer<u8>,
+        validity: Option<Bitmap>,
+    ) -> Utf8Array<O>
+        requires layout { physical data_type.value ≡ text_layout O.IS_LARGE }
+        requires texts { AreTexts (buffer_items offsets) (buffer_items values) }
+        requires same_length { HasBitPerSlot (buffer_items offsets) validity }
+        ensures { result ≡ binary_of data_type.value offsets values validity }
+    {
+        let validity = Validity::new(offsets.len_proxy(), validity);
+        Utf8Array {
+            slots: Slots::new(data_type, offsets, values, validity),
+        }
+    }
+
+    /// Returns the array of these slots. Requires that their logical type is one of texts, and that each is UTF-8.
+    pub(crate) fn of_slots(slots: Slots<O>) -> Utf8Array<O>
+        requires layout { physical slots.data_type ≡ text_layout O.IS_LARGE }
+        requires texts { AreTexts (buffer_items slots.offsets) (buffer_items slots.values) }
+        ensures { result ≡ slots }
+    {
+        Utf8Array { slots }
+    }
+
+    /// Returns the slots.
+    pub(crate) fn slots(&self) -> &Slots<O>
+        ensures value { result.now ≡ self.now }
+        ensures texts { AreTexts (buffer_items result.now.offsets) (buffer_items result.now.values) }
+    {
+        &self.slots
+    }
+
+    /// Returns the logical type of texts: `Utf8`, or `LargeUtf8` where `O` has 64 bits.
+    pub fn default_data_type() -> DataType
+        ensures value { result ≡ default_text O.IS_LARGE }
+        ensures layout { physical result ≡ text_layout O.IS_LARGE }
+    {
+        text_type::<O>()
+    }
+
+    /// Returns the logical type.
+    pub fn data_type(&self) -> &Rc<DataType>
+        ensures value { result.now.value ≡ self.now.data_type }
+        ensures layout { physical self.now.data_type ≡ text_layout O.IS_LARGE }
+    {
+        self.slots.data_type()
+    }
+
+    /// Returns the offsets: where the bytes of each slot begin, and where the last ones end.
+    pub fn offsets(&self) -> &OffsetsBuffer<O>
+        ensures value { result.now ≡ self.now.offsets }
+        ensures slots { length (lengths_of (buffer_items result.now)) ≡ length (binary_items self.now) }
+    {
+        self.slots.offsets()
+    }
+
+    /// Returns the bytes, those outside the offsets too.
+    pub fn values(&self) -> &Buffer<u8>
+        ensures value { result.now ≡ self.now.values }
+        ensures texts { AreTexts (buffer_items self.now.offsets) (buffer_items result.now) }
+    {
+        self.slots.values()
+    }
+
+    /// Returns the number of items, nulls too.
+    pub fn len(&self) -> usize
+        ensures items { result ≡ length (binary_items self.now) }
+        ensures values { result ≡ length (binary_values self.now) }
+        ensures slots { result ≡ length (lengths_of (buffer_items self.now.offsets)) }
+        ensures validity { result ≡ length (valid_items self.now.validity) }
+    {
+        self.slots.len()
+    }
+
+    /// Returns whether it has no item.
+    pub fn is_empty(&self) -> bool
+        ensures { IsTrue result ↔ (length (binary_items self.now) ≡ 0) }
+    {
+        self.len() == 0
+    }
+
+    /// Returns the number of nulls. The validity keeps it, so nothing is counted.
+    pub fn null_count(&self) -> usize
+        ensures { result ≡ count_by is_none (binary_items self.now) }
+    {
+        self.slots.null_count()
+    }
+
+    /// Returns the text of item `index`, or `None` where it is null. Requires that it is below the length.
+    ///
+    /// arrow2 answers `None` past the length too.
+    pub fn get(&self, index: usize) -> Option<&str>
+        requires below { index < length (binary_items self.now) }
+        ensures { option_copied result ≡ slice_index_or (binary_items self.now) index None }
+    {
+        let value = self.value(index);
+        self.is_valid(index).then_some(value)
+    }
+
+    /// Returns the text of slot `index`, also under a null. Requires that it is below the length.
+    pub fn value(&self, index: usize) -> &str
+        requires below { index < length (binary_items self.now) }
+        ensures value { result.now ≡ slice_index_or (binary_values self.now) index [] }
+        ensures item { IsTrue (is_some (slice_index_or (binary_items self.now) index None)) →
+            slice_index_or (binary_items self.now) index None ≡ Some result.now }
+    {
+        prove!(index < self.slots.len());
+        let bytes = self.slots.value(index);
+        unsafe { str::from_utf8_unchecked(bytes) }
+    }
+
+    /// Returns whether item `index` is not null. Requires that it is below the length.
+    pub fn is_valid(&self, index: usize) -> bool
+        requires below { index < length (binary_items self.now) }
+        ensures { result ≡ is_some (slice_index_or (binary_items self.now) index None) }
+    {
+        self.slots.is_valid(index)
+    }
+
+    /// Returns whether item `index` is null. Requires that it is below the length.
+    #[tactic(auto, using(arrow2_validity::proofs::Slots::arrays))]
+    pub fn is_null(&self, index: usize) -> bool
+        requires below { index < length (binary_items self.now) }
+        ensures { result ≡ is_none (slice_index_or (binary_items self.now) index None) }
+    {
+        !self.slots.is_valid(index)
+    }
+
+    /// Returns the validity bitmap. Where there is none, no item is null.
+    pub fn validity(&self) -> Option<&Bitmap>
+        ensures value { option_map (λ b. b.now) result ≡ self.now.validity.bitmap }
+        ensures items { MatchOption result
+            (map is_some (binary_items self.now) ≡ replicate (length (binary_items self.now)) true)
+            (λ b. items_of b.now ≡ map is_some (binary_items self.now)) }
+    {
+        self.optional_validity().bitmap()
+    }
+
+    /// Returns the items' validity: their number, and the bitmap.
+    pub fn optional_validity(&self) -> &Validity
+        ensures value { result.now ≡ self.now.validity }
+        ensures len { length (valid_items result.now) ≡ length (binary_items self.now) }
+        ensures items { valid_items result.now ≡ map is_some (binary_items self.now) }
+        ensures zipped { zipped (binary_values self.now) (valid_items result.now) ≡ binary_items self.now }
+    {
+        self.slots.validity()
+    }
+
+    /// Returns an iterator over the items, from both ends.
+    pub fn iter(&self) -> Utf8Iter<'_, O>
+        ensures { result ≡ binary_items self.now }
+    {
+        Utf8Iter::new(self)
+    }
+
+    /// Keeps `len` items from item `offset` on, over the same storage. Requires that they are inside. Takes no memory.
+    pub fn slice(&mut self, offset: usize, len: usize)
+        requires inside { offset + len ≤ length (binary_items self.old) }
+        ensures items { binary_items self.new ≡ part (binary_items self.old) offset len }
+        ensures values { binary_values self.new ≡ part (binary_values self.old) offset len }
+        ensures storage { self.new ≡ sliced_binary self.old offset len }
+    {
+        self.slots.slice(offset, len);
+        // The bytes are read for what the type keeps: the last offset is not past them.
+        let _ = self.slots.values();
+    }
+
+    /// Returns the `len` items from item `offset` on, over the same storage. Requires that they are inside. Takes no memory.
+    pub fn sliced(mut self, offset: usize, len: usize) -> Utf8Array<O>
+        requires inside { offset + len ≤ length (binary_items self) }
+        ensures items { binary_items result ≡ part (binary_items self) offset len }
+        ensures values { binary_values result ≡ part (binary_values self) offset len }
+        ensures storage { result ≡ sliced_binary self offset len }
+    {
+        self.slice(offset, len);
+        self
+    }
+
+    /// Returns the array of the same slots with another validity. Requires that it has a bit for each slot. Takes no memory.
+    pub fn with_validity(self, validity: Option<Bitmap>) -> Utf8Array<O>
+        requires same_length { HasBitPerSlot (buffer_items self.offsets) validity }
+        ensures { result ≡ binary_of self.data_type self.offsets self.values validity }
+    {
+        let (data_type, offsets, values, _) = self.slots.into_parts();
+        Utf8Array::new(data_type, offsets, values, validity)
+    }
+
+    /// Returns the byte strings of the same slots, over the same storage, of their own logical type.
+    ///
+    /// # Errors
+    ///
+    /// `OutOfMemory` alone.
+    pub fn to_binary(&self) -> Result<BinaryArray<O>>
+        ensures ok { IfOk result (λ a.
+            a ≡ record self.now { data_type = default_binary O.IS_LARGE }) }
+        ensures only { IfErr result (λ e. e ≡ Error.OutOfMemory) }
+    {
+        to_byte_strings(self.slots.clone()?)
+    }
+
+    /// Returns the byte strings of the same slots, over the same storage, of their own logical type. arrow2 has
+    /// [`Utf8Array::to_binary`] alone.
+    ///
+    /// # Errors
+    ///
+    /// `OutOfMemory` alone. The array is then dropped.
+    pub fn into_binary(self) -> Result<BinaryArray<O>>
+        ensures ok { IfOk result (λ a. a ≡ record self { data_type = default_binary O.IS_LARGE }) }
+        ensures only { IfErr result (λ e. e ≡ Error.OutOfMemory) }
+    {
+        to_byte_strings(self.slots)
+    }
+
+    /// Returns the logical type, the offsets, the bytes and the validity bitmap.
+    pub fn into_inner(self) -> (Rc<DataType>, OffsetsBuffer<O>, Buffer<u8>, Option<Bitmap>)
+        ensures data_type { result.0.value ≡ self.data_type }
+        ensures offsets { result.1 ≡ self.offsets }
+        ensures values { result.2 ≡ self.values }
+        ensures validity { result.3 ≡ self.validity.bitmap }
+        ensures texts { AreTexts (buffer_items result.1) (buffer_items result.2) }
+    {
+        let (data_type, offsets, values, validity) = self.slots.into_parts();
+        (data_type, offsets, values, validity.into_bitmap())
+    }
+}
+
+/// Shares the logical type, the offsets, the bytes and the validity. Takes no memory: it is refused only where a count of
+/// owners is full.
+impl<O: Offset> Clone for Utf8Array<O> {
+    ghost is_clone = { λ a copy. copy ≡ a };
+
+    fn clone(&self) -> std::result::Result<Utf8Array<O>, AllocError> {
+        Ok(Utf8Array {
+            slots: self.slots.clone()?,
+        })
+    }
+}
+
+/// Returns the byte strings of these slots, of their own logical type.
+fn to_byte_strings<O: Offset>(slots: Slots<O>) -> Result<BinaryArray<O>>
+    ensures ok { IfOk result (λ a. a ≡ record slots { data_type = default_binary O.IS_LARGE }) }
+    ensures only { IfErr result (λ e. e ≡ Error.OutOfMemory) }
+{
+    let (_, offsets, values, validity) = slots.into_parts();
+    let data_type = Rc::new(values.allocator(), binary_type::<O>())?;
+    Ok(BinaryArray::of_slots(Slots::new(data_type, offsets, values, validity)))
+}
