@@ -1,3 +1,4 @@
+pub mod GrowingTexts
 pub mod GrowthItems
 pub mod SlotItems
 pub mod SlotLists

@@ -1,3 +1,4 @@
+pub mod AllTexts
 pub mod Binary
 pub mod Growth
 pub mod Refused

@@ -1,0 +1,228 @@
+//! An array of texts that grows.
+ghost use Rattle.std.specs.Prelude.{◌≡◌, ◌+◌, ◌<◌, ◌≤◌, ◌^◌, ◌↔◌, ◌⊎◌, [], ◌∷◌, None, length, sum, count_by, map, if◌then◌else◌, IfErr, IfOk, IsErrOf, IsNone, IsOk, IsTrue, OnOk};
+ghost use Rattle.std.specs.Option.{is_none, option_copied, option_map_or};
+ghost use Rattle.arrow2_model.specs.Buffers.{buffer_items};
+ghost use Rattle.arrow2_model.specs.Parts.{part};
+ghost use Rattle.arrow2_walks.specs.Zipped.{zipped};
+ghost use Rattle.arrow2_offset.specs.Offsets.{lengths_of};
+ghost use Rattle.arrow2_datatypes.specs.Types.{physical};
+ghost use Rattle.arrow2_text.specs.Binary.{binary_items, text_layout, default_text};
+ghost use Rattle.arrow2_text.specs.Growth.{AppendsBinary};
+
+use crate::growing::Growing;
+use crate::refusals::text_type;
+use crate::utf8::Utf8Array;
+use arrow2_datatypes::DataType;
+use arrow2_index::offset::Offset;
+use arrow2_types::error::{Error, Result};
+use std::alloc::Global;
+use std::marker::Model;
+use std::rc::Rc;
+
+/// An array of texts that grows.
+///
+/// Contracts see its logical type, its items, how many bytes their slots have, and how many items and bytes fit before it
+/// allocates.
+///
+/// Differs from arrow2: its validity is always there, and [`MutableUtf8Array::freeze`] leaves it out where no item is null.
+#[derive(Drop)]
+pub struct MutableUtf8Array<O: Offset> {
+    slots: Growing<O>,
+}
+
+impl<O: Offset> Model for MutableUtf8Array<O> {
+    ghost use Rattle.std.specs.Prelude.{◌≡◌};
+    ghost use Rattle.arrow2_text.specs.AllTexts.{AreUtf8};
+    ghost use Rattle.arrow2_datatypes.specs.Types.{physical};
+    ghost use Rattle.arrow2_text.specs.Binary.{text_layout};
+    ghost use Rattle.arrow2_text.specs.Growth.{GrowingBinary, growing_binary};
+    ghost use Rattle.std.specs.Coded.{codes};
+    ghost use Rattle.arrow2_datatypes.specs.contracts.DataType as logical_type;
+
+    ghost Value = { GrowingBinary };
+
+    ghost coded = { Prim.hlevel (codes, logical_type.the_row.coded) };
+
+    ghost view = { λ a. growing_binary a.slots };
+
+    ghost invariant = { λ a. (physical a.slots.data_type ≡ text_layout O.IS_LARGE)
+        × AreUtf8 a.slots.values };
+}
+
+#[tactic(auto, using(crate::proofs::SlotLists::growing))]
+impl<O: Offset> MutableUtf8Array<O> {
+    /// Returns an array without items, of the logical type of texts.
+    ///
+    /// # Errors
+    ///
+    /// `OutOfMemory` alone.
+    pub fn new(alloc: Global) -> Result<MutableUtf8Array<O>>
+        ensures data_type { IfOk result (λ a. a.data_type ≡ default_text O.IS_LARGE) }
+        ensures items { IfOk result (λ a. (a.items ≡ []) × (a.bytes ≡ 0)) }
+        ensures only { IfErr result (λ e. e ≡ Error.OutOfMemory) }
+    {
+        MutableUtf8Array::with_capacity(alloc, 0, 0)
+    }
+
+    /// Returns an array without items, of this logical type. Requires that its physical type is `Utf8`, or `LargeUtf8`
+    /// where `O` has 64 bits.
+    ///
+    /// # Errors
+    ///
+    /// `OutOfMemory` alone.
+    pub fn of_type(alloc: Global, data_type: Rc<DataType>) -> Result<MutableUtf8Array<O>>
+        requires { physical data_type.value ≡ text_layout O.IS_LARGE }
+        ensures data_type { IfOk result (λ a. a.data_type ≡ data_type.value) }
+        ensures items { IfOk result (λ a. (a.items ≡ []) × (a.bytes ≡ 0)) }
+        ensures only { IfErr result (λ e. e ≡ Error.OutOfMemory) }
+    {
+        let slots = Growing::with_capacity(data_type, alloc, 0, 0)?;
+        Ok(MutableUtf8Array { slots })
+    }
+
+    /// Returns an array without items, of the logical type of texts, with room for so many items and bytes.
+    ///
+    /// In arrow2 it is `with_capacities`.
+    ///
+    /// # Errors
+    ///
+    /// `Overflow` exactly where `capacity` is `usize::MAX`, since there is one offset more; else `OutOfMemory` alone.
+    pub fn with_capacity(
+        alloc: Global,
+        capacity: usize,
+        byte_capacity: usize,
+    ) -> Result<MutableUtf8Array<O>>
+        ensures data_type { IfOk result (λ a. a.data_type ≡ default_text O.IS_LARGE) }
+        ensures items { IfOk result (λ a. (a.items ≡ []) × (a.bytes ≡ 0)) }
+        ensures capacity { IfOk result (λ a.
+            (capacity ≤ a.capacity) × (byte_capacity ≤ a.byte_capacity)) }
+        ensures overflow { IsErrOf result Error.Overflow ↔ (2 ^ 64 ≤ capacity + 1) }
+        ensures only { IfErr result (λ e. (e ≡ Error.Overflow) ⊎ (e ≡ Error.OutOfMemory)) }
+    {
+        let slots = Growing::of_default(text_type::<O>(), alloc, capacity, byte_capacity)?;
+        Ok(MutableUtf8Array { slots })
+    }
+
+    /// Returns the logical type.
+    pub fn data_type(&self) -> &Rc<DataType>
+        ensures value { result.now.value ≡ self.now.data_type }
+        ensures layout { physical self.now.data_type ≡ text_layout O.IS_LARGE }
+    {
+        self.slots.data_type()
+    }
+
+    /// Returns the number of items, nulls too.
+    pub fn len(&self) -> usize
+        ensures { result ≡ length self.now.items }
+    {
+        self.slots.len()
+    }
+
+    /// Returns whether it has no item.
+    pub fn is_empty(&self) -> bool
+        ensures { IsTrue result ↔ (length self.now.items ≡ 0) }
+    {
+        self.len() == 0
+    }
+
+    /// Makes room for so many items more, and so many bytes. Within both capacities it does not allocate.
+    ///
+    /// # Errors
+    ///
+    /// `Overflow` exactly where the length and `additional` pass `usize::MAX` together, else `OutOfMemory` alone. After both
+    /// the array holds the items that it held.
+    pub fn reserve(&mut self, additional: usize, bytes: usize) -> Result<()>
+        ensures items { self.new.items ≡ self.old.items }
+        ensures bytes { self.new.bytes ≡ self.old.bytes }
+        ensures data_type { self.new.data_type ≡ self.old.data_type }
+        ensures ok { OnOk result (length self.old.items + additional ≤ self.new.capacity) }
+        ensures ok_bytes { OnOk result (self.old.bytes + bytes ≤ self.new.byte_capacity) }
+        ensures overflow { IsErrOf result Error.Overflow ↔
+            (2 ^ 64 ≤ length self.old.items + additional) }
+        ensures only { IfErr result (λ e. (e ≡ Error.Overflow) ⊎ (e ≡ Error.OutOfMemory)) }
+        ensures succeeds { length self.old.items + additional ≤ self.old.capacity →
+            self.old.bytes + bytes ≤ self.old.byte_capacity → IsOk result }
+        ensures capacity { self.old.capacity ≤ self.new.capacity }
+        ensures byte_capacity { self.old.byte_capacity ≤ self.new.byte_capacity }
+    {
+        self.slots.reserve(additional, bytes)
+    }
+
+    /// Appends an item. Within both capacities it does not allocate.
+    ///
+    /// # Errors
+    ///
+    /// `Overflow` exactly where the last offset would pass `O::MAX`, or the length is `usize::MAX`; else `OutOfMemory` alone.
+    /// After both the array holds the items that it held.
+    pub fn push(&mut self, item: Option<&str>) -> Result<()>
+        ensures { AppendsBinary O.MAX result self.old self.new (option_copied item.entry ∷ [])
+            (option_map_or length (option_copied item.entry) 0) }
+    {
+        match item {
+            Some(text) => self.push_slot(text, true),
+            None => self.push_slot("", false),
+        }
+    }
+
+    /// Appends a null, as [`MutableUtf8Array::push`] of `None`. Within the capacity it does not allocate.
+    ///
+    /// # Errors
+    ///
+    /// `Overflow` exactly where the length is `usize::MAX`, else `OutOfMemory` alone. After both the array holds the items
+    /// that it held.
+    pub fn push_null(&mut self) -> Result<()>
+        ensures { AppendsBinary O.MAX result self.old self.new (None ∷ []) 0 }
+    {
+        self.push_slot("", false)
+    }
+
+    /// Appends a slot.
+    fn push_slot(&mut self, text: &str, valid: bool) -> Result<()>
+        ensures { AppendsBinary O.MAX result self.old self.new (zipped (text.now ∷ []) (valid ∷ [])) (length text.now) }
+    {
+        self.slots.push(text.as_bytes(), valid)
+    }
+
+    /// Appends the `len` items of an array from item `start` on, with what stands under nulls. Requires that they are inside.
+    /// Within both capacities it does not allocate.
+    ///
+    /// arrow2 has it in `growable`.
+    ///
+    /// # Errors
+    ///
+    /// `Overflow` exactly where the last offset would pass `O::MAX`, or the new length `usize::MAX`; else `OutOfMemory` alone.
+    /// After both the array holds the items that it held.
+    pub fn extend_from_array(
+        &mut self,
+        array: &Utf8Array<O>,
+        start: usize,
+        len: usize,
+    ) -> Result<()>
+        requires inside { start + len ≤ length (binary_items array.now) }
+        ensures { AppendsBinary O.MAX result self.old self.new (part (binary_items array.now) start len)
+            (sum (part (lengths_of (buffer_items array.now.offsets)) start len)) }
+    {
+        let slots = array.slots();
+        let count = slots.len();
+        prove!(start <= count && len <= count - start);
+        self.slots.extend(slots, start, len)
+    }
+
+    /// Returns the array of the items, with no test of them. It has no bitmap where none is null.
+    ///
+    /// # Errors
+    ///
+    /// `OutOfMemory` alone. The items are then dropped.
+    pub fn freeze(self) -> Result<Utf8Array<O>>
+        ensures items { IfOk result (λ a. binary_items a ≡ self.items) }
+        ensures data_type { IfOk result (λ a. a.data_type ≡ self.data_type) }
+        ensures bitmap { IfOk result (λ a.
+            IsNone a.validity.bitmap ↔ (count_by is_none self.items ≡ 0)) }
+        ensures only { IfErr result (λ e. e ≡ Error.OutOfMemory) }
+    {
+        let slots = self.slots.freeze()?;
+        // The bytes are read for what the type keeps: the last offset is not past them.
+        let _ = slots.values();
+        Ok(Utf8Array::of_slots(slots))
+    }
+}
