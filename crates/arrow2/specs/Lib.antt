@@ -45,3 +45,5 @@ pub use Rattle.arrow2_array.specs.Items
 pub use Rattle.arrow2_array.specs.Kleene
 pub use Rattle.arrow2_primitive.specs.Primitive
 pub use Rattle.arrow2_compute.specs.Aggregates
+pub use Rattle.arrow2_text.specs.Binary
+pub use Rattle.arrow2_text.specs.AllTexts

@@ -1,7 +1,10 @@
-//! Arrays: values beside their validity; and the tests of what is to become one.
+//! Arrays: values beside their validity, shared and growing; and the tests of what is to become one.
 
 pub mod specification;
 
 pub use arrow2_array::{BooleanArray, BooleanIter, MutableBooleanArray};
 pub use arrow2_primitive::{MutablePrimitiveArray, PrimitiveArray, PrimitiveIter};
+pub use arrow2_text::{
+    BinaryArray, BinaryIter, MutableBinaryArray, MutableUtf8Array, Utf8Array, Utf8Iter,
+};
 pub use arrow2_validity::{Validity, check_same_length};
