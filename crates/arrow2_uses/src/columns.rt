@@ -1,5 +1,5 @@
 //! A column of one's own: values beside their validity, and a builder that survives refused memory.
-ghost use Rattle.std.specs.Prelude.{◌≡◌, ◌+◌, ◌<◌, ◌≤◌, ◌++◌, ◌⊎◌, [], ◌∷◌, All, None, length as length', map, count_by, slice_index_or, if◌then◌else◌, IfOk, IfErr, OnOk, OnErr};
+ghost use Rattle.std.specs.Prelude.{◌≡◌, ◌+◌, ◌^◌, ◌<◌, ◌≤◌, ◌++◌, ◌⊎◌, [], ◌∷◌, All, None, length as length', map, count_by, slice_index_or, if◌then◌else◌, IfOk, IfErr, IsErrOf, OnOk, OnErr};
 ghost use Rattle.std.specs.Option.{is_none};
 ghost use Rattle.std.specs.List.{flat_map};
 ghost use Rattle.arrow2.specs.Buffers.{buffer_items};
@@ -87,6 +87,7 @@ impl<T: NativeType> Column<T> {
         requires inside { All (λ place. place < length' self.now) places.now }
         ensures ok { IfOk result (λ c.
             c ≡ map (λ place. slice_index_or self.now place None) places.now) }
+        ensures overflow { IsErrOf result Error.Overflow → 2 ^ 64 ≤ length' places.now }
         ensures only { IfErr result (λ e. (e ≡ Error.Overflow) ⊎ (e ≡ Error.OutOfMemory)) }
     {
         let mut taken = ColumnBuilder::new(self.validity.allocator());
@@ -153,6 +154,7 @@ impl<T: NativeType> ColumnBuilder<T> {
     pub fn push(&mut self, item: Option<T>) -> Result<()>
         ensures ok { OnOk result (self.new ≡ self.old ++ item ∷ []) }
         ensures err { OnErr result (self.new ≡ self.old) }
+        ensures overflow { IsErrOf result Error.Overflow → 2 ^ 64 ≤ length' self.old + 1 }
         ensures only { IfErr result (λ e. (e ≡ Error.Overflow) ⊎ (e ≡ Error.OutOfMemory)) }
     {
         self.values.reserve(1)?;
@@ -164,6 +166,7 @@ impl<T: NativeType> ColumnBuilder<T> {
     /// Appends an item where it is to be kept.
     fn push_if(&mut self, keep: bool, item: Option<T>) -> Result<()>
         ensures ok { OnOk result (self.new ≡ self.old ++ (if keep then item ∷ [] else [])) }
+        ensures overflow { IsErrOf result Error.Overflow → 2 ^ 64 ≤ length' self.old + 1 }
         ensures only { IfErr result (λ e. (e ≡ Error.Overflow) ⊎ (e ≡ Error.OutOfMemory)) }
     {
         if keep {
@@ -180,6 +183,8 @@ impl<T: NativeType> ColumnBuilder<T> {
     pub fn extend(&mut self, column: &Column<T>) -> Result<()>
         ensures ok { OnOk result (self.new ≡ self.old ++ column.now) }
         ensures err { OnErr result (self.new ≡ self.old) }
+        ensures overflow { IsErrOf result Error.Overflow →
+            2 ^ 64 ≤ length' self.old + length' column.now }
         ensures only { IfErr result (λ e. (e ≡ Error.Overflow) ⊎ (e ≡ Error.OutOfMemory)) }
     {
         let count = self.values.len();
