@@ -189,8 +189,6 @@ impl<O: Offset> BinaryArray<O> {
     }
 
     /// Returns the bytes of item `index`, or `None` where it is null. Requires that it is below the length.
-    ///
-    /// arrow2 answers `None` past the length too.
     pub fn get(&self, index: usize) -> Option<&[u8]>
         requires below { index < length (binary_items self.now) }
         ensures { option_copied result ≡ slice_index_or (binary_items self.now) index None }

@@ -201,8 +201,6 @@ impl<O: Offset> Utf8Array<O> {
     }
 
     /// Returns the text of item `index`, or `None` where it is null. Requires that it is below the length.
-    ///
-    /// arrow2 answers `None` past the length too.
     pub fn get(&self, index: usize) -> Option<&str>
         requires below { index < length (binary_items self.now) }
         ensures { option_copied result ≡ slice_index_or (binary_items self.now) index None }
