@@ -1,0 +1,143 @@
+//! Arrays of numbers and their kernels.
+ghost use Rattle.std.specs.Prelude.{◌≡◌, length};
+ghost use Rattle.arrow2.specs.Primitive.{primitive_items};
+ghost use Rattle.arrow2.specs.Storage.{items_of};
+
+use arrow2::array::{MutablePrimitiveArray, PrimitiveArray};
+use arrow2::bitmap::Bitmap;
+use arrow2::buffer::Buffer;
+use arrow2::compute::aggregate::sum;
+use arrow2::compute::concatenate::concatenate;
+use arrow2::compute::filter::filter;
+use arrow2::compute::if_then_else::if_then_else;
+use arrow2::compute::take::take;
+use arrow2::datatypes;
+use arrow2::error::Result;
+use std::alloc::Global;
+use std::process::Abort;
+
+/// Returns the item at a place of the lists that the kernels are tried on: every third is null.
+fn item_at(place: usize) -> Option<i64> {
+    if place % 3 == 1 {
+        return None;
+    }
+    Some((place % 251) as i64 - 100)
+}
+
+/// Returns whether the mask is true at a place.
+fn is_kept(place: usize) -> bool {
+    place % 7 < 4 && place % 2 == 0
+}
+
+/// Returns the array of the items at the places below `len`, behind nulls that are sliced off.
+fn array_of(rt: &impl Abort, alloc: Global, len: usize) -> PrimitiveArray<i64>
+    ensures { length (primitive_items result) ≡ len }
+{
+    let items = MutablePrimitiveArray::<i64>::new(alloc);
+    let mut items = items.expect(rt, "memory");
+    items.extend_constant(3, None).expect(rt, "memory");
+    for place in 0..len {
+        items.push(item_at(place)).expect(rt, "memory");
+    }
+    let mut array = items.freeze().expect(rt, "memory");
+    assert!(rt; 3 <= array.len() && array.len() - 3 == len);
+    array.slice(3, len);
+    array
+}
+
+/// Returns the mask of the places below `len`, from bit 3 of its bytes on.
+fn mask_of(rt: &impl Abort, alloc: Global, len: usize) -> Bitmap
+    ensures { length (items_of result) ≡ len }
+{
+    let whole = len.checked_add(3).expect(rt, "few items");
+    let mask = Bitmap::try_from_fn(alloc, whole, |place| place >= 3 && is_kept(place - 3));
+    mask.expect(rt, "memory").sliced(3, len)
+}
+
+/// Returns the items that a test of their places keeps.
+fn listed(rt: &impl Abort, alloc: Global, len: usize, only_kept: bool) -> Vec<Option<i64>> {
+    let mut items = Vec::new(alloc);
+    for place in 0..len {
+        if !only_kept || is_kept(place) {
+            items.push(item_at(place)).expect(rt, "memory");
+        }
+    }
+    items
+}
+
+/// Checks that an array has these items.
+fn has(rt: &impl Abort, alloc: Global, array: Result<PrimitiveArray<i64>>, items: &[Option<i64>]) {
+    let array = array.expect(rt, "memory");
+    let own: Vec<Option<i64>> = array.iter().collect(alloc).expect(rt, "memory");
+    assert!(rt; own.as_slice() == items);
+}
+
+/// Checks the kernels at a length.
+fn kernels_agree(rt: &impl Abort, alloc: Global, len: usize) {
+    let array = array_of(rt, alloc, len);
+    let mask = mask_of(rt, alloc, len);
+    let all = listed(rt, alloc, len, false);
+    let kept = listed(rt, alloc, len, true);
+    has(rt, alloc, filter(&array, &mask), kept.as_slice());
+    has(
+        rt,
+        alloc,
+        if_then_else(&mask, &array, &array),
+        all.as_slice(),
+    );
+    has(rt, alloc, concatenate(&array, &[]), all.as_slice());
+}
+
+#[test]
+fn kernels_agree_with_lists_at_many_lengths(rt: HostRuntime) {
+    let alloc = rt.alloc();
+    for len in 0..300 {
+        kernels_agree(&rt, alloc, len);
+    }
+    kernels_agree(&rt, alloc, 100_000);
+}
+
+#[test]
+fn a_sum_leaves_nulls_out(rt: HostRuntime) {
+    let alloc = rt.alloc();
+    let array = array_of(&rt, alloc, 4);
+    assert!(rt; sum(&array) == -295);
+}
+
+/// Checks that an array is refused in these words.
+fn refuses(rt: &impl Abort, alloc: Global, made: Result<PrimitiveArray<i64>>, text: &str) {
+    let error = made.err().expect(rt, "it is refused");
+    let own = format!(in alloc; "{error}");
+    assert!(rt; own.expect(rt, "memory").as_str() == text);
+}
+
+#[test]
+fn arrays_are_refused_by_what_is_wrong(rt: HostRuntime) {
+    let alloc = rt.alloc();
+    let values = Buffer::<i64>::new(alloc).expect(&rt, "memory");
+    let copy = values.clone().expect(&rt, "memory");
+    let validity = mask_of(&rt, alloc, 2);
+    let int64 = datatypes::DataType::Int64;
+    refuses(
+        &rt,
+        alloc,
+        PrimitiveArray::try_new(int64, values, Some(validity)),
+        "Invalid argument error: The length of the validity (2) must equal the length of the values (0)",
+    );
+    refuses(
+        &rt,
+        alloc,
+        PrimitiveArray::try_new(datatypes::DataType::Int32, copy, None),
+        "Invalid argument error: PrimitiveArray can only be initialized with a DataType whose physical type is Primitive",
+    );
+}
+
+#[test]
+fn items_come_from_both_ends(rt: HostRuntime) {
+    let alloc = rt.alloc();
+    let array = array_of(&rt, alloc, 5);
+    let back: Vec<Option<i64>> = array.iter().rev().collect(alloc).expect(&rt, "memory");
+    assert!(rt; back.as_slice() == [None, Some(-97), Some(-98), None, Some(-100)].as_slice());
+    let taken = take(&array, &[4, 0, 1]);
+    has(&rt, alloc, taken, [None, Some(-100), None].as_slice());
+}
