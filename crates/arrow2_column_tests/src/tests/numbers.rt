@@ -3,10 +3,13 @@ ghost use Rattle.std.specs.Prelude.{◌≡◌, length};
 ghost use Rattle.arrow2.specs.Primitive.{primitive_items};
 ghost use Rattle.arrow2.specs.Storage.{items_of};
 
-use arrow2::array::{MutablePrimitiveArray, PrimitiveArray};
+use arrow2::array::{BooleanArray, MutablePrimitiveArray, PrimitiveArray};
 use arrow2::bitmap::Bitmap;
 use arrow2::buffer::Buffer;
 use arrow2::compute::aggregate::sum;
+use arrow2::compute::comparison::{
+    eq_scalar, gt_eq_scalar, gt_scalar, lt_eq_scalar, lt_scalar, neq_scalar,
+};
 use arrow2::compute::concatenate::concatenate;
 use arrow2::compute::filter::filter;
 use arrow2::compute::if_then_else::if_then_else;
@@ -140,4 +143,57 @@ fn items_come_from_both_ends(rt: HostRuntime) {
     assert!(rt; back.as_slice() == [None, Some(-97), Some(-98), None, Some(-100)].as_slice());
     let taken = take(&array, &[4, 0, 1]);
     has(&rt, alloc, taken, [None, Some(-100), None].as_slice());
+}
+
+/// Checks that a comparison has these answers.
+fn answers(rt: &impl Abort, alloc: Global, made: Result<BooleanArray>, items: &[Option<bool>]) {
+    let array = made.expect(rt, "memory");
+    let own: Vec<Option<bool>> = array.iter().collect(alloc).expect(rt, "memory");
+    assert!(rt; own.as_slice() == items);
+}
+
+#[test]
+fn comparisons_are_null_where_an_item_is(rt: HostRuntime) {
+    let alloc = rt.alloc();
+    let array = array_of(&rt, alloc, 4);
+    let (yes, no) = (Some(true), Some(false));
+    answers(&rt, alloc, eq_scalar(&array, -98), &[no, None, yes, no]);
+    answers(&rt, alloc, neq_scalar(&array, -98), &[yes, None, no, yes]);
+    answers(&rt, alloc, lt_scalar(&array, -98), &[yes, None, no, no]);
+    answers(&rt, alloc, lt_eq_scalar(&array, -98), &[yes, None, yes, no]);
+    answers(&rt, alloc, gt_scalar(&array, -98), &[no, None, no, yes]);
+    answers(&rt, alloc, gt_eq_scalar(&array, -98), &[no, None, yes, yes]);
+}
+
+/// Returns the array that the calls of a builder make: two values, a null, a value, and a value twice.
+fn built(rt: &impl Abort, alloc: Global) -> PrimitiveArray<u8> {
+    let items = MutablePrimitiveArray::<u8>::new(alloc);
+    let mut items = items.expect(rt, "memory");
+    items.reserve(6).expect(rt, "memory");
+    items.extend_from_slice(&[1, 2]).expect(rt, "memory");
+    items
+        .extend_from_options(&[None, Some(3)])
+        .expect(rt, "memory");
+    items.push_null().expect(rt, "memory");
+    assert!(rt; items.pop() == Some(None));
+    items.extend_constant(2, Some(4)).expect(rt, "memory");
+    items.shrink_to_fit().expect(rt, "memory");
+    assert!(rt; items.len() == 6 && !items.is_empty());
+    items.freeze().expect(rt, "memory")
+}
+
+#[test]
+fn each_call_of_a_builder_is_made(rt: HostRuntime) {
+    let alloc = rt.alloc();
+    let array = built(&rt, alloc);
+    let copy = array.clone().expect(&rt, "memory");
+    let items: Vec<Option<u8>> = copy.iter().collect(alloc).expect(&rt, "memory");
+    let expected = [Some(1), Some(2), None, Some(3), Some(4), Some(4)];
+    assert!(rt; items.as_slice() == expected.as_slice());
+    assert!(rt; array.len() == 6 && array.null_count() == 1);
+    assert!(rt; array.is_null(2) && array.is_valid(3) && array.value(3) == 3);
+    let part = array.sliced(3, 2).with_validity(None);
+    assert!(rt; part.values_iter().len() == 2 && part.validity().is_none());
+    let (_, values, validity) = part.into_inner();
+    assert!(rt; values.offset() == 3 && validity.is_none());
 }
