@@ -1,8 +1,13 @@
 # Prints each public call whose clauses or documentation name want of memory: `Type::call`, `call` outside a type, or
-# the head of an `impl` of a trait. A call that never takes any says so: `Takes no memory`, with no `where` behind it.
+# the head of an `impl` of a trait. A call that never does says so: "Does not allocate", or "Takes no memory", with no
+# condition after it.
 # With `words`, those alone whose documentation has them.
 /^ *}/ { said = "" }
-{ said = said $0 "\n" }
+{
+    line = $0
+    sub(/^ *\/\/\/ ?/, " ", line)
+    said = said line
+}
 /^impl/ {
     owner = $0
     gsub(/'[a-z],? ?/, "", owner)
@@ -21,7 +26,7 @@
         call = owner ~ / for / ? owner : type "::" call
 }
 /\{$/ && call != "" {
-    if (public && said ~ /OutOfMemory|AllocError/ && said !~ /Takes no memory[.:]/ && said ~ words)
+    if (public && said ~ /OutOfMemory|AllocError/ && said !~ /(Takes no memory|Does not allocate)[.:]/ && said ~ words)
         print call
     call = said = ""
 }

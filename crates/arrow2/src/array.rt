@@ -3,7 +3,9 @@
 pub mod specification;
 
 pub use arrow2_array::{BooleanArray, BooleanIter, MutableBooleanArray};
-pub use arrow2_primitive::{MutablePrimitiveArray, PrimitiveArray, PrimitiveIter};
+pub use arrow2_primitive::{
+    MutablePrimitiveArray, NonNullValuesIter, PrimitiveArray, PrimitiveIter,
+};
 pub use arrow2_text::{
     BinaryArray, BinaryIter, MutableBinaryArray, MutableUtf8Array, Utf8Array, Utf8Iter,
 };

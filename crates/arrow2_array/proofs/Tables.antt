@@ -129,10 +129,6 @@ pub behind : (o : Operator) (a b m : Bool) → answer (beside_table o) (b ∷ m 
 behind And = and_behind
 behind Or = or_behind
 
-pub values_small : (o : Operator) → values_table o < 16
-values_small And = omega arith
-values_small Or = omega arith
-
 -- ---- item by item
 
 -- items that are all valid, by another list of that length

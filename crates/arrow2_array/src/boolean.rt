@@ -21,7 +21,7 @@ use crate::iterator::BooleanIter;
 use crate::kleene::{Operator, validity_by};
 use crate::mutable::MutableBooleanArray;
 use arrow2_bitmap::Bitmap;
-use arrow2_tables::bitmap_ops::binary_table;
+use arrow2_bitmap::bitmap_ops::binary_table;
 use arrow2_types::error::{Error, Result};
 use arrow2_validity::Validity;
 use std::alloc::{AllocError, Global};
@@ -80,8 +80,8 @@ impl BooleanArray {
         Ok(BooleanArray { values, validity })
     }
 
-    /// Returns the array of these values, each null where the validity is false. Without a validity none is null. Requires
-    /// that the validity has the length of the values, where arrow2 panics. Takes no memory.
+    /// Returns the array of these values, each null where the validity is false. Without a validity none is null.
+    /// Requires that the validity has the length of the values, where arrow2 panics. Does not allocate.
     pub fn new(values: Bitmap, validity: Option<Bitmap>) -> BooleanArray
         requires same_length { ForSome validity (λ v. length' (items_of v) ≡ length' (items_of values)) }
         ensures value { result ≡ record {
@@ -97,8 +97,8 @@ impl BooleanArray {
         BooleanArray { values, validity }
     }
 
-    /// Returns the array of these values, each null where the validity says so. Requires that both have one length. Takes no
-    /// memory. arrow2 has no such call.
+    /// Returns the array of these values, each null where the validity says so. Requires that both have one length.
+    /// Does not allocate. arrow2 has no such call.
     pub fn from_parts(values: Bitmap, validity: Validity) -> BooleanArray
         requires same_length { length' (valid_items validity) ≡ length' (items_of values) }
         ensures { result ≡ record { values = values; validity = validity } }
@@ -216,7 +216,8 @@ impl BooleanArray {
         self.validity.null_count()
     }
 
-    /// Keeps `length` items from item `offset` on, over the same bytes. Requires that they are inside. Takes no memory.
+    /// Keeps `length` items from item `offset` on, over the same bytes. Requires that they are inside. Does not
+    /// allocate.
     pub fn slice(&mut self, offset: usize, length: usize)
         requires inside { offset + length ≤ length' (boolean_items self.old) }
         ensures items { boolean_items self.new ≡ part (boolean_items self.old) offset length }
@@ -227,7 +228,8 @@ impl BooleanArray {
         self.validity.slice(offset, length);
     }
 
-    /// Returns the `length` items from item `offset` on, over the same bytes. Requires that they are inside. Takes no memory.
+    /// Returns the `length` items from item `offset` on, over the same bytes. Requires that they are inside. Does not
+    /// allocate.
     pub fn sliced(mut self, offset: usize, length: usize) -> BooleanArray
         requires inside { offset + length ≤ length' (boolean_items self) }
         ensures items { boolean_items result ≡ part (boolean_items self) offset length }
@@ -239,7 +241,7 @@ impl BooleanArray {
     }
 
     /// Returns the array of the same values with another validity. Requires that it has the length of the values, where
-    /// arrow2 panics. Takes no memory.
+    /// arrow2 panics. Does not allocate.
     pub fn with_validity(self, validity: Option<Bitmap>) -> BooleanArray
         requires same_length { ForSome validity (λ v.
             length' (items_of v) ≡ length' (items_of self.values)) }
@@ -255,7 +257,7 @@ impl BooleanArray {
         BooleanArray::new(self.values, validity)
     }
 
-    /// Returns the values and the validity bitmap. Takes no memory.
+    /// Returns the values and the validity bitmap. Does not allocate.
     ///
     /// Differs from arrow2, which returns the logical type too.
     pub fn into_inner(self) -> (Bitmap, Option<Bitmap>)
@@ -366,7 +368,7 @@ impl<'a> IntoIterator for &'a BooleanArray {
     }
 }
 
-/// Shares the bytes. Takes no memory: it is refused only where a count of owners is full.
+/// Shares the bytes. Does not allocate: it is refused only where a count of owners is full.
 impl Clone for BooleanArray {
     ghost is_clone = { λ a copy. copy ≡ a };
 

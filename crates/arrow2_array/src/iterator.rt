@@ -44,7 +44,7 @@ impl<'a> BooleanIter<'a> {
     }
 }
 
-/// The same items still to come. Takes no memory.
+/// The same items still to come. Does not allocate.
 impl<'a> Clone for BooleanIter<'a> {
     ghost is_clone = { λ i copy. copy ≡ i };
 

@@ -44,7 +44,7 @@ impl Model for MutableBooleanArray {
 
 #[tactic(auto, using(crate::proofs::Items::growing))]
 impl MutableBooleanArray {
-    /// Returns an array without items. Takes no memory.
+    /// Returns an array without items. Does not allocate.
     pub fn new(alloc: Global) -> MutableBooleanArray
         ensures { result.items ≡ [] }
     {

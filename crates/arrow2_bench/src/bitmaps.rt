@@ -176,7 +176,7 @@ fn on_both<F: Fn(&Bitmap, &Bitmap) -> Result<usize>>(
     on_pairs(left.as_slice(), right.as_slice(), runs, call)
 }
 
-/// Whether they are equal.
+/// Returns whether they are equal.
 fn equal(left: &Bitmap, right: &Bitmap) -> Result<usize> {
     Ok(usize::from(left == right))
 }

@@ -3,11 +3,10 @@ ghost use Rattle.std.specs.Prelude.{◌+◌, ◌*◌, ◌≤◌, length};
 
 use crate::bitmaps::bitmaps;
 use crate::runs::{Part, on_each, on_firsts};
-use arrow2_bitmap::assign_ops::binary_assign;
+use arrow2_bitmap::assign_ops::{binary_assign, binary_assign_table, unary_assign_table};
 use arrow2_bitmap::immutable::Bitmap;
 use arrow2_bitmap::mutable::MutableBitmap;
 use arrow2_chunk::bit_chunk::BitChunk;
-use arrow2_tables::assign_ops::{binary_assign_table, unary_assign_table};
 use arrow2_types::error::Result;
 use std::alloc::Global;
 

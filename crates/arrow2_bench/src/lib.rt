@@ -13,9 +13,11 @@
 mod bitmaps;
 mod buffers;
 mod bytes;
+mod columns;
 mod growing;
 mod numbers;
 mod offsets;
 mod runs;
 mod tables;
+mod texts;
 mod zips;

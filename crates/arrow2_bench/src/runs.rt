@@ -14,7 +14,7 @@ pub struct Part {
 }
 
 impl Part {
-    /// Whether it is a part of something of this length.
+    /// Returns whether it is a part of something of this length.
     pub fn is_within(&self, length: usize) -> bool
         ensures { IsTrue result ↔ (self.now.offset + self.now.length ≤ length) }
     {

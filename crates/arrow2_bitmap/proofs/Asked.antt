@@ -1,11 +1,11 @@
 -- Answers as items: what each of them is says the list.
-use Rattle.std.proofs.Common.{◌≡◌, ℕ, zero, suc, ◌+◌, ◌<◌, List, [], ◌∷◌, Bool, false, map, length, get_or, refl, ap, sym, ◌∙◌, subst, arith, zero-add}
+use Rattle.std.proofs.Common.{◌≡◌, ℕ, ◌<◌, List, Bool, false, map, length, get_or, ap, sym, ◌∙◌, arith, zero-add}
 use Rattle.std.specs.Prelude.{Result, Ok, Err, IfOk}
 use Rattle.std.specs.List.{range_with_len}
 use Rattle.std.specs.Simd.Lanes.{zip2}
 use Rattle.std.proofs.lemmas.List.{ext_get_or, get_or-map, length-map}
 use Rattle.std.proofs.lemmas.List.FromFn.{length-map-range_with_len, get_or-map-range_with_len}
-use Rattle.std.proofs.lemmas.Simd.{get_or-zip2}
+use Rattle.std.proofs.lemmas.Simd.{length-zip2, get_or-zip2}
 use denote.Ref.{Bor}
 use Rattle.arrow2_bitmap.specs.Answered.{AnswersBelow, AnswersOfEach, AnswersOfPairs, IsAnswerAt, IsPairAnswerAt}
 
@@ -35,11 +35,6 @@ module _ {X : Type 0} where
 
 -- of the items of two lists, place by place
 module _ {X Y : Type 0} where
-  length-zip2 : (f : X → Y → Bool) (xs : List X) (ys : List Y) → length xs ≡ length ys → length (zip2 f xs ys) ≡ length xs
-  length-zip2 f [] ys e = refl
-  length-zip2 f (x ∷ xs) [] e = absurd (omega (arith, e))
-  length-zip2 f (x ∷ xs) (y ∷ ys) e = ap suc (length-zip2 f xs ys (omega (arith, e)))
-
   pub told-pairs : (xs : List X) (ys : List Y) (items : List Bool) (answers : Bor X → Bor Y → Bool → Type 0) (test : X → Y → Bool) → length xs ≡ length ys → length items ≡ length xs
       → ((k : ℕ) → k < length xs → IsPairAnswerAt xs ys answers k (get_or items k false)) → AnswersOfPairs xs ys answers test → items ≡ zip2 test xs ys
   told-pairs xs ys items answers test alike size given says =

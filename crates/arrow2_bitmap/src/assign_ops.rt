@@ -1,4 +1,4 @@
-//! Bitmaps that grow, changed in place by functions of words, and their operators. None of these calls takes memory.
+//! Bitmaps that grow, changed in place by functions of words, and their operators. None of these calls allocates.
 ghost use Rattle.std.specs.Prelude.{◌≡◌, ℕ, [], ◌∷◌, length};
 ghost use Rattle.arrow2_model.specs.Kernels.{unary_kernel, binary_kernel, IsUnary, IsBinary};
 ghost use Rattle.arrow2_model.specs.Storage.{items_of};
@@ -15,7 +15,7 @@ use arrow2_kernels::tables::binary_answers;
 use std::ops::{BitAnd, BitAndAssign, BitOr, BitOrAssign, BitXor, BitXorAssign, Not};
 
 /// Writes what `op` answers to each word of `T` in its place. In the last word false stands behind the items, and what
-/// `op` sets there is cleared. Takes no memory. Asks that `op` answers every word.
+/// `op` sets there is cleared. Does not allocate. Requires that `op` answers every word.
 ///
 /// Differs from arrow2: spare bits don't reach `op`, and are false afterwards.
 pub fn unary_assign<T: BitChunk, F: Fn(T) -> T>(bitmap: &mut MutableBitmap, op: F)
@@ -32,7 +32,7 @@ pub fn unary_assign<T: BitChunk, F: Fn(T) -> T>(bitmap: &mut MutableBitmap, op: 
 }
 
 /// Writes what `op` answers to each word of `T` and the word of `rhs` at its place. In the last words false stands
-/// behind the items, and what `op` sets there is cleared. Takes no memory. Asks that both have one length, and
+/// behind the items, and what `op` sets there is cleared. Does not allocate. Requires that both have one length, and
 /// that `op` answers every two words.
 ///
 /// Differs from arrow2: spare bits don't reach `op`, and are false afterwards.
@@ -56,24 +56,24 @@ pub fn binary_assign<T: BitChunk, F: Fn(T, T) -> T>(lhs: &mut MutableBitmap, rhs
     }
 }
 
-/// Makes each item the answer of table `t` for it: bit `a1` of `t`. Goes by 32 bytes at a time. Takes no memory. Of `t` the
-/// two lowest bits are read.
+/// Makes each item what table `t` gives for it: bit `a1` of `t`. Goes by 32 bytes at a time, whatever `W` is. Reads the
+/// two lowest bits of `t`. Does not allocate.
 ///
-/// In arrow2 it has no name.
-pub fn unary_assign_by_table(bitmap: &mut MutableBitmap, t: u8)
+/// arrow2 has no such call.
+pub fn unary_assign_table<W: BitChunk>(bitmap: &mut MutableBitmap, t: u8)
     ensures items { bitmap.new.items ≡ each t (bitmap.old.items ∷ []) }
     ensures capacity { bitmap.new.capacity ≡ bitmap.old.capacity }
 {
     bitmap.bits.answer(t);
 }
 
-/// Makes each item the answer of table `t` for it and the item of `rhs`: bit `a1 + 2 * a2` of `t`. Goes by 32 bytes at a time
-/// where `rhs` begins at a whole byte, else by words of `T`. Takes no memory. Of `t` the four lowest bits are read. Asks
-/// that both have one length.
+/// Makes each item what table `t` gives for it and the item of `rhs`: bit `a1 + 2 * a2` of `t`. Goes by 32 bytes at a
+/// time where `rhs` begins at a whole byte, else by words of `W`, and gives the same list whatever `W` is. Reads the
+/// four lowest bits of `t`. Requires that both have one length. Does not allocate.
 ///
-/// In arrow2 it has no name.
+/// arrow2 has no such call.
 #[inline(always)]
-pub fn binary_assign_by_table<T: BitChunk>(lhs: &mut MutableBitmap, rhs: &Bitmap, t: u8)
+pub fn binary_assign_table<W: BitChunk>(lhs: &mut MutableBitmap, rhs: &Bitmap, t: u8)
     requires same_length { length lhs.old.items ≡ length (items_of rhs.now) }
     ensures items { lhs.new.items ≡ each t (lhs.old.items ∷ items_of rhs.now ∷ []) }
     ensures capacity { lhs.new.capacity ≡ lhs.old.capacity }
@@ -82,11 +82,11 @@ pub fn binary_assign_by_table<T: BitChunk>(lhs: &mut MutableBitmap, rhs: &Bitmap
     if offset == 0 {
         lhs.bits.answer_beside(bytes, t);
     } else {
-        binary_assign(lhs, rhs, |x: T, y: T| binary_answers(u16::from(t), x, y));
+        binary_assign(lhs, rhs, |x: W, y: W| binary_answers(u16::from(t), x, y));
     }
 }
 
-/// Item by item, whether both are true. Takes no memory. Asks that both have one length. In arrow2 it stands on
+/// Item by item, whether both are true. Does not allocate. Requires that both have one length. In arrow2 it stands on
 /// `&mut MutableBitmap`.
 impl<'a> BitAndAssign<&'a Bitmap> for MutableBitmap {
     ghost can_bitand_assign = { λ m b. length m.items ≡ length (items_of b.now) };
@@ -99,7 +99,7 @@ impl<'a> BitAndAssign<&'a Bitmap> for MutableBitmap {
     }
 }
 
-/// Item by item, whether both are true. Takes no memory. Asks that both have one length.
+/// Item by item, whether both are true. Does not allocate. Requires that both have one length.
 impl<'a> BitAnd<&'a Bitmap> for MutableBitmap {
     type Output = MutableBitmap;
 
@@ -115,8 +115,8 @@ impl<'a> BitAnd<&'a Bitmap> for MutableBitmap {
     }
 }
 
-/// Item by item, whether one is true, or both. Takes no memory. Asks that both have one length. In arrow2 it stands on
-/// `&mut MutableBitmap`.
+/// Item by item, whether one is true, or both. Does not allocate. Requires that both have one length. In arrow2 it
+/// stands on `&mut MutableBitmap`.
 impl<'a> BitOrAssign<&'a Bitmap> for MutableBitmap {
     ghost can_bitor_assign = { λ m b. length m.items ≡ length (items_of b.now) };
 
@@ -128,7 +128,7 @@ impl<'a> BitOrAssign<&'a Bitmap> for MutableBitmap {
     }
 }
 
-/// Item by item, whether one is true, or both. Takes no memory. Asks that both have one length.
+/// Item by item, whether one is true, or both. Does not allocate. Requires that both have one length.
 impl<'a> BitOr<&'a Bitmap> for MutableBitmap {
     type Output = MutableBitmap;
 
@@ -144,8 +144,8 @@ impl<'a> BitOr<&'a Bitmap> for MutableBitmap {
     }
 }
 
-/// Item by item, whether one is true, and not both. Takes no memory. Asks that both have one length. In arrow2 it stands on
-/// `&mut MutableBitmap`.
+/// Item by item, whether one is true, and not both. Does not allocate. Requires that both have one length. In arrow2 it
+/// stands on `&mut MutableBitmap`.
 impl<'a> BitXorAssign<&'a Bitmap> for MutableBitmap {
     ghost can_bitxor_assign = { λ m b. length m.items ≡ length (items_of b.now) };
 
@@ -157,7 +157,7 @@ impl<'a> BitXorAssign<&'a Bitmap> for MutableBitmap {
     }
 }
 
-/// Item by item, whether one is true, and not both. Takes no memory. Asks that both have one length.
+/// Item by item, whether one is true, and not both. Does not allocate. Requires that both have one length.
 impl<'a> BitXor<&'a Bitmap> for MutableBitmap {
     type Output = MutableBitmap;
 
@@ -173,7 +173,7 @@ impl<'a> BitXor<&'a Bitmap> for MutableBitmap {
     }
 }
 
-/// Item by item, whether it is false. Takes no memory.
+/// Item by item, whether it is false. Does not allocate.
 impl Not for MutableBitmap {
     type Output = MutableBitmap;
 
@@ -195,7 +195,7 @@ fn and_assign(lhs: &mut MutableBitmap, rhs: &Bitmap)
     if are_all(rhs, false) {
         lhs.bits.fill(false);
     } else if !are_all(rhs, true) {
-        binary_assign_by_table::<u64>(lhs, rhs, 0b1000);
+        binary_assign_table::<u64>(lhs, rhs, 0b1000);
     }
 }
 
@@ -208,7 +208,7 @@ fn or_assign(lhs: &mut MutableBitmap, rhs: &Bitmap)
     if are_all(rhs, true) {
         lhs.bits.fill(true);
     } else if !are_all(rhs, false) {
-        binary_assign_by_table::<u64>(lhs, rhs, 0b1110);
+        binary_assign_table::<u64>(lhs, rhs, 0b1110);
     }
 }
 
@@ -218,7 +218,7 @@ fn xor_assign(lhs: &mut MutableBitmap, rhs: &Bitmap)
     ensures items { lhs.new.items ≡ each 6 (lhs.old.items ∷ items_of rhs.now ∷ []) }
     ensures capacity { lhs.new.capacity ≡ lhs.old.capacity }
 {
-    binary_assign_by_table::<u64>(lhs, rhs, 0b0110);
+    binary_assign_table::<u64>(lhs, rhs, 0b0110);
 }
 
 /// Item by item, whether it is false.
@@ -226,5 +226,5 @@ fn not_assign(bitmap: &mut MutableBitmap)
     ensures items { bitmap.new.items ≡ each 1 (bitmap.old.items ∷ []) }
     ensures capacity { bitmap.new.capacity ≡ bitmap.old.capacity }
 {
-    unary_assign_by_table(bitmap, 0b01);
+    unary_assign_table::<u64>(bitmap, 0b01);
 }

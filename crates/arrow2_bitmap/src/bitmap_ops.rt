@@ -21,10 +21,10 @@ use std::alloc::Global;
 use std::convert::TryFrom;
 use std::ops::{BitAnd, BitOr, BitXor, Not};
 
-/// The bitmap of what `op` answers to each row of words, for lists of `length` items. Asks that all lists have so many, and
-/// that `op` answers every row.
+/// The bitmap of what `op` answers to each row of words, for lists of `length` items. Requires that all lists have so
+/// many, and that `op` answers every row.
 ///
-/// In arrow2 it has no name.
+/// arrow2 has no such call.
 ///
 /// # Errors
 ///
@@ -54,10 +54,10 @@ pub fn from_rows<S: WordRows<u64>, F: Fn(S::Row) -> u64>(
     Bitmap::from_u8_vec(bytes, length)
 }
 
-/// The bitmap of what `op` answers to each word of 64 items. In the last word false stands behind the items. Asks that `op`
-/// answers every word.
+/// The bitmap of what `op` answers to each word of 64 items. In the last word false stands behind the items. Requires
+/// that `op` answers every word.
 ///
-/// Differs from arrow2: spare bits don't reach `op`, nor does a word behind the last item. It answers no `Result`.
+/// Differs from arrow2: spare bits don't reach `op`, nor does a word behind the last item. It returns no `Result`.
 ///
 /// # Errors
 ///
@@ -84,9 +84,9 @@ pub fn unary<F: Fn(u64) -> u64>(lhs: &Bitmap, op: F) -> Result<Bitmap>
 }
 
 /// The bitmap of what `op` answers to each two words of 64 items at one place. In the last words false stands behind
-/// the items. Asks that both have one length, and that `op` answers every two words.
+/// the items. Requires that both have one length, and that `op` answers every two words.
 ///
-/// Differs from arrow2: spare bits don't reach `op`, nor do words behind the last item. It answers no `Result`.
+/// Differs from arrow2: spare bits don't reach `op`, nor do words behind the last item. It returns no `Result`.
 ///
 /// # Errors
 ///
@@ -116,16 +116,16 @@ pub fn binary<F: Fn(u64, u64) -> u64>(lhs: &Bitmap, rhs: &Bitmap, op: F) -> Resu
     )
 }
 
-/// The answers of table `t` of one input, item by item: bit `a1` of `t`. Goes by 32 bytes at a time where the items begin
-/// at a whole byte, else by words. Of `t` the two lowest bits are read.
+/// Returns, item by item, what table `t` of one input gives: bit `a1` of `t`. Goes by 32 bytes at a time where the items
+/// begin at a whole byte, else by words. Reads the two lowest bits of `t`.
 ///
-/// In arrow2 it has no name.
+/// arrow2 has no such call.
 ///
 /// # Errors
 ///
 /// `OutOfMemory` alone.
 #[inline(always)]
-pub fn unary_by_table(lhs: &Bitmap, t: u8) -> Result<Bitmap>
+pub fn unary_table(lhs: &Bitmap, t: u8) -> Result<Bitmap>
     ensures items { IfOk result (λ b. items_of b ≡ each t (items_of lhs.now ∷ [])) }
     ensures len { IfOk result (λ b. length' (items_of b) ≡ length' (items_of lhs.now)) }
     ensures storage { IfOk result (λ b. IsPacked b) }
@@ -141,16 +141,16 @@ pub fn unary_by_table(lhs: &Bitmap, t: u8) -> Result<Bitmap>
     }
 }
 
-/// The answers of table `t` of two inputs, item by item: bit `a1 + 2 * a2` of `t`. Goes by 32 bytes at a time where both
-/// begin at a whole byte, else by words. Of `t` the four lowest bits are read. Asks that both have one length.
+/// Returns, item by item, what table `t` of two inputs gives: bit `a1 + 2 * a2` of `t`. Goes by 32 bytes at a time where
+/// both begin at a whole byte, else by words. Reads the four lowest bits of `t`. Requires that both have one length.
 ///
-/// In arrow2 it has no name.
+/// arrow2 has no such call.
 ///
 /// # Errors
 ///
 /// `OutOfMemory` alone.
 #[inline(always)]
-pub fn binary_by_table(lhs: &Bitmap, rhs: &Bitmap, t: u8) -> Result<Bitmap>
+pub fn binary_table(lhs: &Bitmap, rhs: &Bitmap, t: u8) -> Result<Bitmap>
     requires same_length { length' (items_of lhs.now) ≡ length' (items_of rhs.now) }
     ensures items { IfOk result (λ b. items_of b
         ≡ each t (items_of lhs.now ∷ items_of rhs.now ∷ [])) }
@@ -169,7 +169,7 @@ pub fn binary_by_table(lhs: &Bitmap, rhs: &Bitmap, t: u8) -> Result<Bitmap>
     }
 }
 
-/// Item by item, whether both are true. Asks that both have one length. arrow2 answers no `Result`.
+/// Item by item, whether both are true. Requires that both have one length. arrow2 returns no `Result`.
 ///
 /// # Errors
 ///
@@ -185,11 +185,11 @@ pub fn and(lhs: &Bitmap, rhs: &Bitmap) -> Result<Bitmap>
     if one_is_all(lhs, rhs, false) {
         filled(lhs.allocator(), lhs.len(), false)
     } else {
-        binary_by_table(lhs, rhs, 0b1000)
+        binary_table(lhs, rhs, 0b1000)
     }
 }
 
-/// Item by item, whether one is true, or both. Asks that both have one length. arrow2 answers no `Result`.
+/// Item by item, whether one is true, or both. Requires that both have one length. arrow2 returns no `Result`.
 ///
 /// # Errors
 ///
@@ -205,11 +205,11 @@ pub fn or(lhs: &Bitmap, rhs: &Bitmap) -> Result<Bitmap>
     if one_is_all(lhs, rhs, true) {
         filled(lhs.allocator(), lhs.len(), true)
     } else {
-        binary_by_table(lhs, rhs, 0b1110)
+        binary_table(lhs, rhs, 0b1110)
     }
 }
 
-/// Item by item, whether one is true, and not both. Asks that both have one length. arrow2 answers no `Result`.
+/// Item by item, whether one is true, and not both. Requires that both have one length. arrow2 returns no `Result`.
 ///
 /// # Errors
 ///
@@ -226,7 +226,7 @@ pub fn xor(lhs: &Bitmap, rhs: &Bitmap) -> Result<Bitmap>
     let right = value_of_all(rhs);
     match (left, right) {
         (Some(left), Some(right)) => filled(lhs.allocator(), lhs.len(), left != right),
-        _ => binary_by_table(lhs, rhs, 0b0110),
+        _ => binary_table(lhs, rhs, 0b0110),
     }
 }
 
@@ -272,7 +272,7 @@ impl<'a, 'b> BitXor<&'b Bitmap> for &'a Bitmap {
     }
 }
 
-/// Item by item, whether it is false. arrow2 answers no `Result`.
+/// Item by item, whether it is false. arrow2 returns no `Result`.
 impl<'a> Not for &'a Bitmap {
     type Output = Result<Bitmap>;
 
@@ -290,10 +290,10 @@ fn complement(bitmap: &Bitmap) -> Result<Bitmap>
     ensures storage { IfOk result (λ b. IsPacked b) }
     ensures only { IfErr result (λ e. e ≡ Error.OutOfMemory) }
 {
-    unary_by_table(bitmap, 0b01)
+    unary_table(bitmap, 0b01)
 }
 
-/// Whether the items of one of the two are all `value`. Takes no walk.
+/// Returns whether the items of one of the two are all `value`. Takes no walk.
 fn one_is_all(lhs: &Bitmap, rhs: &Bitmap, value: bool) -> bool
     ensures { IsTrue result → (items_of lhs.now ≡ replicate (length' (items_of lhs.now)) value)
         ⊎ (items_of rhs.now ≡ replicate (length' (items_of rhs.now)) value) }

@@ -105,8 +105,8 @@ impl Bitmap {
         Bitmap::from_u8_vec(bytes, length)
     }
 
-    /// The first `length` bits of the bytes, which it keeps, every one. Asks that there are as many; arrow2's page says the
-    /// contrary.
+    /// The first `length` bits of the bytes, which it keeps, every one. Requires that there are as many; arrow2's page
+    /// says the contrary.
     ///
     /// # Errors
     ///
@@ -150,8 +150,8 @@ impl Bitmap {
         })
     }
 
-    /// The first `length` bits of a copy of the bytes, every one. Asks that there are as many; arrow2's page says the
-    /// contrary.
+    /// The first `length` bits of a copy of the bytes, every one. Requires that there are as many; arrow2's page says
+    /// the contrary.
     ///
     /// # Errors
     ///
@@ -326,7 +326,7 @@ impl Bitmap {
         self.bytes.allocator()
     }
 
-    /// Whether it has no item.
+    /// Returns whether it has no item.
     pub fn is_empty(&self) -> bool
         ensures { IsTrue result ↔ (length (items_of self.now) ≡ 0) }
     {
@@ -352,7 +352,7 @@ impl Bitmap {
         }
     }
 
-    /// Item `index`. Asks that it is below the length; arrow2 takes each index inside the bytes.
+    /// Item `index`. Requires that it is below the length; arrow2 takes each index inside the bytes.
     pub fn get_bit(&self, index: usize) -> bool
         requires below { index < length (items_of self.now) }
         ensures { result ≡ slice_index_or (items_of self.now) index false }
@@ -406,8 +406,8 @@ impl Bitmap {
         self.unset_bits()
     }
 
-    /// How many of the `length` items from item `offset` on are false. Asks that they are inside.
-    /// Counts them anew. arrow2 counts past its end, up to the bytes.
+    /// How many of the `length` items from item `offset` on are false. Requires that they are inside. Counts them anew.
+    /// arrow2 counts past its end, up to the bytes.
     pub fn null_count_range(&self, offset: usize, length: usize) -> usize
         requires inside { offset + length ≤ length' (items_of self.now) }
         ensures { result ≡ falses (part (items_of self.now) offset length) }
@@ -416,8 +416,8 @@ impl Bitmap {
         count_zeros(self.bytes.as_slice(), self.offset + offset, length)
     }
 
-    /// Keeps `length` items from item `offset` on, over the same bytes. Asks that they are inside.
-    /// Takes no memory.
+    /// Keeps `length` items from item `offset` on, over the same bytes. Requires that they are inside. Does not
+    /// allocate.
     pub fn slice(&mut self, offset: usize, length: usize)
         requires inside { offset + length ≤ length' (items_of self.old) }
         ensures storage { self.new ≡ record {
@@ -493,8 +493,8 @@ impl Bitmap {
         (self.bytes, self.offset, self.length, self.unset_bits)
     }
 
-    /// The bitmap to be changed in place, on the right, where no one shares the bytes and the
-    /// items begin at bit 0; else the bitmap as it was, on the left. Takes no memory.
+    /// The bitmap to be changed in place, on the right, where no one shares the bytes and the items begin at bit 0;
+    /// else the bitmap as it was, on the left. Does not allocate.
     pub fn into_mut(self) -> Either<Bitmap, MutableBitmap>
         ensures { MatchEither result (λ b. b ≡ self) (λ m. (self.offset ≡ 0)
             × (m.items ≡ items_of self)) }
@@ -519,7 +519,7 @@ impl Bitmap {
         }
     }
 
-    /// The bitmap to be changed: in place where [`Bitmap::into_mut`] can, else a copy. arrow2 answers no `Result`.
+    /// The bitmap to be changed: in place where [`Bitmap::into_mut`] can, else a copy. arrow2 returns no `Result`.
     ///
     /// # Errors
     ///
@@ -535,7 +535,7 @@ impl Bitmap {
     }
 }
 
-/// A copy of the items, to be changed. Asks for memory once.
+/// A copy of the items, to be changed. Allocates once.
 fn copied(bitmap: &Bitmap) -> Result<MutableBitmap>
     ensures ok { IfOk result (λ m. m.items ≡ items_of bitmap.now) }
     ensures only { IfErr result (λ e. e ≡ Error.OutOfMemory) }
@@ -610,7 +610,7 @@ impl Eq for Bitmap {
     ghost laws = { on_equiv items_of (lists_equiv bool_eq_equiv) };
 }
 
-/// Shares the bytes. Takes no memory: it is refused only where the count of owners is full.
+/// Shares the bytes. Does not allocate: it is refused only where the count of owners is full.
 impl Clone for Bitmap {
     ghost is_clone = { λ a b. b ≡ a };
 

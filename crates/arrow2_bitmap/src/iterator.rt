@@ -33,7 +33,7 @@ impl Model for IntoIter {
 
 #[tactic(auto, using(crate::proofs::Walk::walking))]
 impl IntoIter {
-    /// The walk over all items of `values`.
+    /// Returns an iterator over all items of `values`.
     pub fn new(values: Bitmap) -> IntoIter
         ensures { result ≡ items_of values }
     {
@@ -87,8 +87,8 @@ impl DoubleEndedIterator for IntoIter {
     }
 }
 
-/// The same items still to come, over the same bytes. Takes no memory: it is refused only where the
-/// count of owners is full.
+/// The same items still to come, over the same bytes. Does not allocate: it is refused only where the count of owners
+/// is full.
 impl Clone for IntoIter {
     ghost is_clone = { λ i copy. copy ≡ i };
 

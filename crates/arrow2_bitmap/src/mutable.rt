@@ -48,7 +48,7 @@ impl Model for MutableBitmap {
 }
 
 impl MutableBitmap {
-    /// An empty bitmap. Takes no memory.
+    /// An empty bitmap. Does not allocate.
     pub fn new(alloc: Global) -> MutableBitmap
         ensures { result.items ≡ [] }
     {
@@ -58,8 +58,8 @@ impl MutableBitmap {
     }
 
     /// The first `length` bits of the bytes. Spare bytes are cut and spare bits cleared, in place, and the room of the
-    /// vector stays. Takes no memory where there are as many bits. In arrow2 spare bytes stay, and `push` may write into
-    /// the wrong byte.
+    /// vector stays. Does not allocate where there are as many bits. In arrow2 spare bytes stay, and `push` may write
+    /// into the wrong byte.
     ///
     /// # Errors
     ///
@@ -77,9 +77,9 @@ impl MutableBitmap {
         Ok(MutableBitmap::from_vec(bytes, length))
     }
 
-    /// The first `length` bits of the bytes. Asks that there are as many.
-    /// Spare bytes are cut and spare bits cleared, in place, and the room of the vector stays. Takes no memory.
-    /// In arrow2 spare bytes stay, and `push` may write into the wrong byte.
+    /// The first `length` bits of the bytes. Requires that there are as many. Spare bytes are cut and spare bits
+    /// cleared, in place, and the room of the vector stays. Does not allocate. In arrow2 spare bytes stay, and `push`
+    /// may write into the wrong byte.
     pub fn from_vec(bytes: Vec<u8>, length: usize) -> MutableBitmap
         requires inside { length ≤ 8 * vec_len bytes }
         ensures items { result.items ≡ take length (bits bytes.items) }
@@ -170,8 +170,8 @@ impl MutableBitmap {
         Ok(MutableBitmap::from_vec(packed(alloc, items)?, items.len()))
     }
 
-    /// Adds one item at the end. Below the capacity it takes no memory. arrow2 answers no `Result`, and its length may
-    /// wrap.
+    /// Adds one item at the end. Below the capacity it does not allocate. arrow2 returns no `Result`, and its length
+    /// may wrap.
     ///
     /// # Errors
     ///
@@ -184,8 +184,8 @@ impl MutableBitmap {
         Ok(())
     }
 
-    /// Appends `value` `additional` times. Within the capacity it takes no memory, else it asks for it once, before it
-    /// writes. arrow2 answers no `Result`.
+    /// Appends `value` `additional` times. Within the capacity it does not allocate, else it allocates once, before it
+    /// writes. arrow2 returns no `Result`.
     ///
     /// # Errors
     ///
@@ -198,9 +198,9 @@ impl MutableBitmap {
         Ok(())
     }
 
-    /// Appends the `length` bits from bit `offset` of `slice` on. Asks that they are inside.
-    /// Within the capacity it takes no memory, else it asks for it once, before it writes. arrow2 answers no `Result`, and
-    /// copies the spare bits of the last byte.
+    /// Appends the `length` bits from bit `offset` of `slice` on. Requires that they are inside. Within the capacity it
+    /// does not allocate, else it allocates once, before it writes. arrow2 returns no `Result`, and copies the spare
+    /// bits of the last byte.
     ///
     /// # Errors
     ///
@@ -214,8 +214,8 @@ impl MutableBitmap {
         Ok(())
     }
 
-    /// Appends the items of a bitmap, as [`MutableBitmap::extend_from_slice`] does. Within the capacity it takes no memory,
-    /// else it asks for it once, before it writes. arrow2 answers no `Result`.
+    /// Appends the items of a bitmap, as [`MutableBitmap::extend_from_slice`] does. Within the capacity it does not
+    /// allocate, else it allocates once, before it writes. arrow2 returns no `Result`.
     ///
     /// # Errors
     ///
@@ -228,7 +228,7 @@ impl MutableBitmap {
         self.extend_from_slice(slice, offset, bitmap.len())
     }
 
-    /// Makes room for `additional` items more. Within the capacity it takes no memory. arrow2 answers no `Result`.
+    /// Makes room for `additional` items more. Within the capacity it does not allocate. arrow2 returns no `Result`.
     ///
     /// # Errors
     ///
@@ -248,7 +248,7 @@ impl MutableBitmap {
         Ok(())
     }
 
-    /// Gives back room that is not used, where the allocator takes it. arrow2 answers no `Result`.
+    /// Gives back room that is not used, where the allocator takes it. arrow2 returns no `Result`.
     ///
     /// It is never refused: where a smaller block finds no memory, the items stay where they are.
     pub fn shrink_to_fit(&mut self) -> Result<()>
@@ -297,7 +297,7 @@ impl MutableBitmap {
         self.bits.pop()
     }
 
-    /// Item `index`. Asks that it is below the length; arrow2 takes each index inside the bytes.
+    /// Item `index`. Requires that it is below the length; arrow2 takes each index inside the bytes.
     pub fn get(&self, index: usize) -> bool
         requires below { index < length self.now.items }
         ensures { result ≡ slice_index_or self.now.items index false }
@@ -306,8 +306,8 @@ impl MutableBitmap {
         get_bit(self.as_slice(), index)
     }
 
-    /// Writes item `index`, and leaves every other. Asks that it is below the length; arrow2 takes each index inside the
-    /// bytes.
+    /// Writes item `index`, and leaves every other. Requires that it is below the length; arrow2 takes each index
+    /// inside the bytes.
     pub fn set(&mut self, index: usize, value: bool)
         requires below { index < length self.old.items }
         ensures items { self.new.items ≡ slice_set self.old.items index value }
@@ -357,7 +357,7 @@ impl MutableBitmap {
         self.bits.allocator()
     }
 
-    /// Whether it has no item.
+    /// Returns whether it has no item.
     pub fn is_empty(&self) -> bool
         ensures { IsTrue result ↔ (length self.now.items ≡ 0) }
     {
@@ -404,7 +404,7 @@ impl MutableBitmap {
 ///
 /// # Errors
 ///
-/// Where memory is refused.
+/// If an allocation fails.
 impl Clone for MutableBitmap {
     ghost is_clone = { λ a b. b.items ≡ a.items };
 

@@ -1,17 +1,41 @@
--- The table of the bytes with one bit set, and the two halves of a byte.
-use Rattle.std.proofs.Common.{◌≡◌, ℕ, suc, ◌*◌, ◌%◌, ◌^◌, ◌<◌, ◌==◌, List, [], ◌∷◌, ◌++◌, false, get_or, ap, refl, arith}
-use Rattle.std.specs.Prelude.{codes, ◌/◌}
+-- The tables by which a bit is written, and the two halves of a byte.
+use Rattle.std.proofs.Common.{◌≡◌, ℕ, suc, ◌+◌, ◌-◌, ◌*◌, ◌%◌, ◌^◌, ◌<◌, ◌==◌, List, [], ◌∷◌, ◌++◌, false, get_or, ap, refl, ◌∙◌, arith}
+use Rattle.std.specs.Prelude.{Bool, true, codes, ◌/◌}
+use Rattle.std.specs.Int.{bit_not, from_bool, w8}
 use Rattle.std.proofs.lemmas.List.FromFn.{get_or-map-range_with_len}
+use Rattle.std.proofs.lemmas.List.{get_or_append_left, get_or-append_right}
 use Rattle.arrow2_model.specs.Shown.{shown_byte}
 use Rattle.arrow2_bits.specs.Digits.{four_digits}
 use Rattle.arrow2_model.specs.Bits.{bit, bits}
 use Rattle.arrow2_model.proofs.Shown.{bit_alone}
 
-abbrev pub table : List ℕ
-table = 1 ∷ 2 ∷ 4 ∷ 8 ∷ 16 ∷ 32 ∷ 64 ∷ 128 ∷ []
+-- which bits a byte keeps beside bit i
+abbrev pub kept : List ℕ
+kept = 254 ∷ 253 ∷ 251 ∷ 247 ∷ 239 ∷ 223 ∷ 191 ∷ 127 ∷ []
 
-pub one_at : (i : ℕ) → i < 8 → get_or table i 0 ≡ 1 * 2 ^ i % 2 ^ 8
-one_at i h = get_or-map-range_with_len (λ i. 1 * 2 ^ i % 2 ^ 8) 0 8 i i 0 h (omega arith)
+abbrev none : List ℕ
+none = 0 ∷ 0 ∷ 0 ∷ 0 ∷ 0 ∷ 0 ∷ 0 ∷ 0 ∷ []
+
+abbrev each_bit : List ℕ
+each_bit = 1 ∷ 2 ∷ 4 ∷ 8 ∷ 16 ∷ 32 ∷ 64 ∷ 128 ∷ []
+
+-- what is written at bit i: nothing, or, 8 places behind, that bit
+abbrev pub written : List ℕ
+written = none ++ each_bit
+
+pub kept_at : (i : ℕ) → i < 8 → get_or kept i 0 ≡ bit_not w8 (1 * 2 ^ i % 2 ^ 8)
+kept_at i h = get_or-map-range_with_len (λ i. bit_not w8 (1 * 2 ^ i % 2 ^ 8)) 0 8 i i 0 h (omega arith)
+
+pub written_at : (i : ℕ) (value : Bool) → i < 8 → get_or written (8 * from_bool value + i) 0 ≡ from_bool value * 2 ^ i % 2 ^ 8
+written_at i true h =
+    let at : 8 * 1 + i - 8 ≡ i = omega arith in
+    get_or-append_right none each_bit 8 (8 * 1 + i) 0 refl (omega arith)
+    ∙ (ap (λ j. get_or each_bit j 0) at ∙ get_or-map-range_with_len (λ j. 1 * 2 ^ j % 2 ^ 8) 0 8 i i 0 h (omega arith))
+written_at i false h =
+    let at : 8 * 0 + i ≡ i = omega arith in
+    let zero : 0 ≡ 0 * 2 ^ i % 2 ^ 8 = omega arith in
+    ap (λ j. get_or written j 0) at
+    ∙ (get_or_append_left none each_bit 0 i (omega arith) ∙ (get_or-map-range_with_len (λ _. 0) 0 8 i i 0 h (omega arith) ∙ zero))
 
 -- a byte is shown by its two halves
 pub halves : (x : ℕ) → codes "0b" ++ (four_digits (x / 16) ++ four_digits (x % 16)) ≡ shown_byte (x ∷ []) 0 8 0

@@ -37,7 +37,7 @@ impl<'a> Stored<'a> {
         self.bytes.len()
     }
 
-    /// The `N` bytes from byte `i` on, for `N` reads. Asks that there are as many.
+    /// The `N` bytes from byte `i` on, for `N` reads. Requires that there are as many.
     pub fn fetch<const N: usize>(&mut self, i: usize) -> [u8; N]
         requires inside { i + N ≤ length self.old.bytes }
         ensures fetched { result ≡ part self.old.bytes i N }

@@ -11,8 +11,8 @@ use arrow2_chunk::bit_chunk::BitChunk;
 use arrow2_chunk::bit_chunk_iter::BitChunkIter;
 use std::marker::Model;
 
-/// A walk over a list of booleans by words: the full words come in order, and what stands behind
-/// them is the remainder.
+/// An iterator over a list of booleans by words: the full words come in order, and what stands behind them is the
+/// remainder.
 ///
 /// Differs from arrow2: it stands on no `TrustedLen`.
 pub trait BitChunkIterExact<B: BitChunk>: Iterator<Item = B> {
@@ -82,7 +82,7 @@ impl<'a, T: BitChunk> Model for BitChunks<'a, T> {
 }
 
 impl<'a, T: BitChunk> BitChunks<'a, T> {
-    /// The walk over the `len` bits from bit `offset` on. Asks that they are inside the bytes.
+    /// Returns an iterator over the `len` bits from bit `offset` on. Requires that they are inside the bytes.
     pub fn new(bytes: &'a [u8], offset: usize, len: usize) -> BitChunks<'a, T>
         requires { offset + len ≤ 8 * length bytes.now }
         ensures items { result.items ≡ part (bits bytes.entry.now) offset len }

@@ -27,7 +27,7 @@ impl<'a, T: BitChunk> Model for BitChunksExact<'a, T> {
 }
 
 impl<'a, T: BitChunk> BitChunksExact<'a, T> {
-    /// The walk over the first `length` bits. Asks that they are inside the bytes.
+    /// Returns an iterator over the first `length` bits. Requires that they are inside the bytes.
     pub fn new(bytes: &'a [u8], length: usize) -> BitChunksExact<'a, T>
         requires { length ≤ 8 * length' bytes.now }
         ensures items { result.items ≡ part (bits bytes.entry.now) 0 length }
@@ -46,7 +46,7 @@ impl<'a, T: BitChunk> BitChunksExact<'a, T> {
         BitChunks::len(&self.chunks)
     }
 
-    /// Whether no full word is still to come.
+    /// Returns whether no full word is still to come.
     pub fn is_empty(&self) -> bool
         ensures { IsTrue result ↔ (length' (full_words T.BitChunk.WIDTH self.now.items) ≡ 0) }
     {

@@ -46,7 +46,7 @@ impl<'a, T> Model for BitChunksExactMut<'a, T> {
 }
 
 impl<'a, T: BitChunk> BitChunksExactMut<'a, T> {
-    /// The walk over the first `length` bits. Asks that they are inside the bytes, where arrow2 panics.
+    /// Returns an iterator over the first `length` bits. Requires that they are inside the bytes, where arrow2 panics.
     pub fn new(bytes: &'a mut [u8], length: usize) -> BitChunksExactMut<'a, T>
         requires { length ≤ 8 * length' bytes.old }
         ensures bytes { result.bytes ≡ take
@@ -96,8 +96,8 @@ impl<'a, T> BitChunksExactMut<'a, T> {
         Some(chunk)
     }
 
-    /// Changes the next chunk in place by `change`, and answers whether there was one. Afterwards the walk
-    /// stands behind the chunk, and every other byte is as it was. Asks that `change` may be called on the chunk, where
+    /// Changes the next chunk in place by `change`, and answers whether there was one. Afterwards the walk stands
+    /// behind the chunk, and every other byte is as it was. Requires that `change` may be called on the chunk, where
     /// there is one.
     ///
     /// arrow2 has the iterator alone.

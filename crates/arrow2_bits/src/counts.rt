@@ -10,8 +10,8 @@ use crate::lanes::ones_of;
 use arrow2_chunk::bit_chunk::BitChunk;
 use std::simd::prelude::*;
 
-/// How many of the `len` bits from bit `offset` on are not set.
-/// Asks that they are inside the bytes, or that `len` is 0; arrow2's page refuses what ends with the bytes.
+/// How many of the `len` bits from bit `offset` on are not set. Requires that they are inside the bytes, or that `len`
+/// is 0; arrow2's page refuses what ends with the bytes.
 pub fn count_zeros(bytes: &[u8], offset: usize, len: usize) -> usize
     requires { 0 < len → offset + len ≤ 8 * length bytes.now }
     ensures { result ≡ falses (part (bits bytes.now) offset len) }
@@ -19,8 +19,8 @@ pub fn count_zeros(bytes: &[u8], offset: usize, len: usize) -> usize
     count_zeros_counted(&mut Stored::new(bytes, Reads::new()), offset, len)
 }
 
-/// The same as [`count_zeros`], of bytes whose reads are counted: it fetches each byte that holds one of the bits, once.
-/// Asks that the bits are inside the bytes, or that `len` is 0. arrow2 counts no reads.
+/// The same as [`count_zeros`], of bytes whose reads are counted: it fetches each byte that holds one of the bits,
+/// once. Requires that the bits are inside the bytes, or that `len` is 0. arrow2 counts no reads.
 pub fn count_zeros_counted(stored: &mut Stored<'_>, offset: usize, len: usize) -> usize
     requires inside { 0 < len → offset + len ≤ 8 * length stored.old.bytes }
     ensures zeros { result ≡ falses (part (bits stored.old.bytes) offset len) }
@@ -34,8 +34,8 @@ pub fn count_zeros_counted(stored: &mut Stored<'_>, offset: usize, len: usize) -
 /// from bit `offset` on are not: the answer of [`count_zeros_counted`], for at most `len / 16 + 4` reads.
 ///
 /// It counts the bits asked for where they are less than half of all, rounded down, else the head and the tail around
-/// them, which it takes away, and nothing where they are all. Asks that the `len` bits are inside the bytes, and the
-/// others among them. arrow2 has it inside the slice of a bitmap.
+/// them, which it takes away, and nothing where they are all. Requires that the `len` bits are inside the bytes, and
+/// the others among them. arrow2 has it inside the slice of a bitmap.
 pub fn recount(
     stored: &mut Stored<'_>,
     offset: usize,

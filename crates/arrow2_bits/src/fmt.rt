@@ -12,8 +12,8 @@ use std::fmt;
 /// eight bits from the highest to the lowest, with `_` for a bit that is none of them, in brackets
 /// and joined by commas. No bits are `[]`. The formatter's options change nothing.
 ///
-/// Asks that `offset` is below 8, and that the bits are inside the bytes or that `length` is 0.
-/// arrow2 may print a byte behind the bits in place of the last one.
+/// Requires that `offset` is below 8, and that the bits are inside the bytes or that `length` is 0. arrow2 may print a
+/// byte behind the bits in place of the last one.
 ///
 /// # Errors
 ///
@@ -49,7 +49,7 @@ pub fn fmt<W: fmt::Write>(
     f.write_str("]")
 }
 
-/// The digits of four bits, from the highest to the lowest. Asks that the number is below 16.
+/// The digits of four bits, from the highest to the lowest. Requires that the number is below 16.
 #[tactic(auto, unfolding(arrow2_model::specs::Bits::bit))]
 fn digits(half: u8) -> &'static str
     requires { half < 16 }

@@ -1,15 +1,15 @@
-//! A walk over the bits of bytes, from both ends.
-ghost use Rattle.std.specs.Prelude.{◌≡◌, ◌+◌, ◌*◌, ◌^◌, ◌<◌, ◌≤◌, length, Some, IfSome};
+//! An iterator over the bits of bytes, from both ends.
+ghost use Rattle.std.specs.Prelude.{◌≡◌, ◌+◌, ◌*◌, ◌^◌, ◌<◌, ◌≤◌, length, false, slice_index_or, Some, IfSome};
 ghost use Rattle.std.specs.Iterator.{YieldsFirst, YieldsLast, item_count, UpTo};
 ghost use Rattle.std.specs.Iterator.SizeHint.{IsWithinCount};
 ghost use Rattle.arrow2_model.specs.Bits.{bits};
 ghost use Rattle.arrow2_model.specs.Parts.{part};
 
-use crate::get_bit_from;
+use crate::{get_bit, get_bit_from};
 use std::alloc::AllocError;
 use std::marker::Model;
 
-/// A walk over bits: contracts see it as the list of the items still to come.
+/// An iterator over bits: contracts see it as the list of the items still to come.
 ///
 /// Its `nth` is the standard library's over `next`, and goes to the end; arrow2's adds to the place without a test.
 #[derive(Debug, Drop)]
@@ -34,21 +34,25 @@ impl<'a> Model for BitmapIter<'a> {
 
 #[tactic(auto, using(arrow2_model::proofs::Walks::walking))]
 impl<'a> BitmapIter<'a> {
-    /// The walk over the `len` bits from bit `offset` on. Asks that they are inside the bytes.
+    /// Returns an iterator over the `len` bits from bit `offset` on. Requires that they are inside the bytes.
     pub fn new(bytes: &'a [u8], offset: usize, len: usize) -> BitmapIter<'a>
         requires { offset + len ≤ 8 * length bytes.now }
         ensures { result ≡ part (bits bytes.entry.now) offset len }
     {
-        BitmapIter {
-            bytes,
-            offset,
-            index: 0,
-            end: len,
+        if len <= usize::MAX - 7 {
+            BitmapIter::within(&bytes[offset / 8..], offset % 8, len)
+        } else {
+            BitmapIter {
+                bytes,
+                offset,
+                index: 0,
+                end: len,
+            }
         }
     }
 
-    /// The same walk, whose places are told by one number each, so that the compiler adds nothing at an item. Asks
-    /// also that the place behind the last bit fits a `usize`.
+    /// The same iterator, whose places are told by one number each, so that the compiler adds nothing at an item.
+    /// Requires also that the place behind the last bit fits a `usize`.
     pub fn within(bytes: &'a [u8], offset: usize, len: usize) -> BitmapIter<'a>
         requires inside { offset + len ≤ 8 * length bytes.now }
         requires fits { offset + len < 2 ^ 64 }
@@ -63,7 +67,7 @@ impl<'a> BitmapIter<'a> {
     }
 }
 
-/// The same items still to come. Takes no memory.
+/// The same items still to come. Does not allocate.
 impl<'a> Clone for BitmapIter<'a> {
     ghost is_clone = { λ i copy. copy ≡ i };
 
@@ -86,7 +90,7 @@ impl<'a> Iterator for BitmapIter<'a> {
         if self.index == self.end {
             return None;
         }
-        let value = get_bit_from(self.bytes, self.offset, self.index);
+        let value = bit_at(self.bytes, self.offset, self.index);
         self.index += 1;
         Some(value)
     }
@@ -111,7 +115,7 @@ impl<'a> DoubleEndedIterator for BitmapIter<'a> {
             return None;
         }
         self.end -= 1;
-        Some(get_bit_from(self.bytes, self.offset, self.end))
+        Some(bit_at(self.bytes, self.offset, self.end))
     }
 }
 
@@ -119,5 +123,17 @@ impl<'a> DoubleEndedIterator for BitmapIter<'a> {
 impl<'a> ExactSizeIterator for BitmapIter<'a> {
     fn len(&self) -> usize {
         self.end - self.index
+    }
+}
+
+/// Returns bit `offset + i`. Most iterators have offset 0, which the compiler tests once for a whole loop. Requires that it is inside the bytes.
+fn bit_at(bytes: &[u8], offset: usize, i: usize) -> bool
+    requires { offset + i < 8 * length bytes.now }
+    ensures { result ≡ slice_index_or (bits bytes.now) (offset + i) false }
+{
+    if offset == 0 {
+        get_bit(bytes, i)
+    } else {
+        get_bit_from(bytes, offset, i)
     }
 }

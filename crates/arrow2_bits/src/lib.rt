@@ -21,10 +21,13 @@ pub use counter::Reads;
 pub use counts::{count_zeros, count_zeros_counted, recount};
 pub use same::same_bits;
 
-/// At place i the byte whose bit i alone is set: read in place of a shift by a variable.
-const BITS: [u8; 8] = [1, 2, 4, 8, 16, 32, 64, 128];
+/// At index i the byte whose bit i alone is clear: read in place of a shift by a variable.
+const KEPT: [u8; 8] = [254, 253, 251, 247, 239, 223, 191, 127];
 
-/// Whether bit `i` of the byte is set. Asks that `i` is below 8.
+/// What is written at bit i: at index i nothing, at index 8 + i the byte whose bit i alone is set.
+const WRITTEN: [u8; 16] = [0, 0, 0, 0, 0, 0, 0, 0, 1, 2, 4, 8, 16, 32, 64, 128];
+
+/// Returns whether bit `i` of the byte is set. Requires that `i` is below 8.
 pub fn is_set(byte: u8, i: usize) -> bool
     requires { i < 8 }
     ensures { result ≡ bit byte i }
@@ -32,19 +35,15 @@ pub fn is_set(byte: u8, i: usize) -> bool
     (byte >> i) & 1 == 1
 }
 
-/// The byte with bit `i` set to `value` and every other bit as it was. Asks that `i` is below 8.
+/// The byte with bit `i` set to `value` and every other bit as it was. Requires that `i` is below 8.
 pub fn set(byte: u8, i: usize, value: bool) -> u8
     requires { i < 8 }
     ensures { unnum 8 result ≡ slice_set (unnum 8 byte) i value }
 {
-    if value {
-        byte | BITS[i]
-    } else {
-        byte & !BITS[i]
-    }
+    (byte & KEPT[i]) | WRITTEN[8 * usize::from(value) + i]
 }
 
-/// Bit `i` of the bytes. Asks that `i` is below eight times their number.
+/// Bit `i` of the bytes. Requires that `i` is below eight times their number.
 pub fn get_bit(bytes: &[u8], i: usize) -> bool
     requires { i < 8 * length bytes.now }
     ensures { result ≡ slice_index_or (bits bytes.now) i false }
@@ -52,8 +51,8 @@ pub fn get_bit(bytes: &[u8], i: usize) -> bool
     is_set(bytes[i / 8], i % 8)
 }
 
-/// Bit `offset + i` of the bytes, a sum that need not fit a `usize`.
-/// Asks that it is below eight times their number.
+/// Bit `offset + i` of the bytes, a sum that need not fit a `usize`. Requires that it is below eight times their
+/// number.
 pub fn get_bit_from(bytes: &[u8], offset: usize, i: usize) -> bool
     requires { offset + i < 8 * length bytes.now }
     ensures { result ≡ slice_index_or (bits bytes.now) (offset + i) false }
@@ -62,8 +61,8 @@ pub fn get_bit_from(bytes: &[u8], offset: usize, i: usize) -> bool
     is_set(bytes[offset / 8 + i / 8 + within / 8], within % 8)
 }
 
-/// Writes bit `i` of the bytes, and leaves every other bit as it was.
-/// Asks that `i` is below eight times their number; arrow2's page asks `i` below an eighth of it.
+/// Writes bit `i` of the bytes, and leaves every other bit as it was. Requires that `i` is below eight times their
+/// number; arrow2's page asks `i` below an eighth of it.
 pub fn set_bit(bytes: &mut [u8], i: usize, value: bool)
     requires { i < 8 * length bytes.old }
     ensures { bits bytes.new ≡ slice_set (bits bytes.old) i value }

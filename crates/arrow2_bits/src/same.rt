@@ -6,8 +6,8 @@ ghost use Rattle.arrow2_model.specs.Parts.{part};
 use crate::chunk_iterator::BitChunks;
 use arrow2_chunk::bit_chunk::BitChunk;
 
-/// Whether the `len` bits of `left` from bit `left_offset` on are those of `right` from bit `right_offset` on, by words
-/// of 64 bits. Asks that both are inside the bytes.
+/// Returns whether the `len` bits of `left` from bit `left_offset` on are those of `right` from bit `right_offset` on,
+/// by words of 64 bits. Requires that both are inside the bytes.
 ///
 /// arrow2 has it inside the equality of bitmaps.
 pub fn same_bits(

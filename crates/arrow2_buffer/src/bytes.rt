@@ -25,7 +25,7 @@ impl<T> Model for Bytes<T> {
     ghost view = { λ b. b.items.items };
 }
 
-/// Takes no memory.
+/// Does not allocate.
 impl<T> From<Vec<T>> for Bytes<T> {
     ghost from_gives = { λ items b. b ≡ items.items };
 
@@ -42,7 +42,7 @@ impl<T> Bytes<T> {
         self.items.as_slice()
     }
 
-    /// The vector that it holds. Takes no memory.
+    /// The vector that it holds. Does not allocate.
     ///
     /// Stands for arrow2's `get_vec`, which only that crate can call.
     pub fn into_vec(self) -> Vec<T>

@@ -81,14 +81,14 @@ impl<T> Buffer<T> {
         self.storage.allocator()
     }
 
-    /// Whether it has no items.
+    /// Returns whether it has no items.
     pub fn is_empty(&self) -> bool
         ensures { IsTrue result ↔ (buffer_items self.now ≡ []) }
     {
         self.len == 0
     }
 
-    /// Whether the storage holds more than its items.
+    /// Returns whether the storage holds more than its items.
     pub fn is_sliced(&self) -> bool
         ensures sliced { IsTrue result ↔ (buffer_items self.now ≢ self.now.storage) }
         ensures whole { OnFalse result (buffer_items self.now ≡ self.now.storage) }
@@ -103,7 +103,7 @@ impl<T> Buffer<T> {
         &self.storage.as_slice()[self.offset..self.offset + self.len]
     }
 
-    /// A walk over the items, each by reference, from both ends.
+    /// An iterator over the items, each by reference, from both ends.
     pub fn iter(&self) -> Iter<'_, T>
         ensures items { iter_rest result ≡ buffer_items self.now }
         ensures runs { IterYieldsInOrder T }
@@ -118,9 +118,9 @@ impl<T> Buffer<T> {
         self.offset
     }
 
-    /// Keeps `length` items from item `offset` on, over the same storage. Takes no memory.
+    /// Keeps `length` items from item `offset` on, over the same storage. Does not allocate.
     ///
-    /// Asks that `offset + length` is at most [`Buffer::len`]; arrow2's page speaks of the offset alone.
+    /// Requires that `offset + length` is at most [`Buffer::len`]; arrow2's page speaks of the offset alone.
     pub fn slice(&mut self, offset: usize, length: usize)
         requires inside { offset + length ≤ length' (buffer_items self.old) }
         ensures items { buffer_items self.new ≡ part (buffer_items self.old) offset length }
@@ -135,9 +135,9 @@ impl<T> Buffer<T> {
         self.len = length;
     }
 
-    /// The `length` items from item `offset` on, over the same storage. Takes no memory.
+    /// The `length` items from item `offset` on, over the same storage. Does not allocate.
     ///
-    /// Asks that `offset + length` is at most [`Buffer::len`].
+    /// Requires that `offset + length` is at most [`Buffer::len`].
     pub fn sliced(mut self, offset: usize, length: usize) -> Self
         requires inside { offset + length ≤ length' (buffer_items self) }
         ensures items { buffer_items result ≡ part (buffer_items self) offset length }
@@ -148,9 +148,8 @@ impl<T> Buffer<T> {
         self
     }
 
-    /// The items, to be written, where no one else shares the storage; `None` elsewhere. Takes no
-    /// memory. Afterwards the buffer holds what was written there, and the rest of the storage is as it
-    /// was.
+    /// The items, to be written, where no one else shares the storage; `None` elsewhere. Does not allocate. Afterwards
+    /// the buffer holds what was written there, and the rest of the storage is as it was.
     ///
     /// A caller that is proved uses [`Buffer::change_slice`], since it learns nothing of a loan inside
     /// an `Option`.
@@ -163,8 +162,8 @@ impl<T> Buffer<T> {
         lend_unshared(&mut self.storage, start, end)
     }
 
-    /// Changes the items in place by `change` where no one else shares the storage, and answers
-    /// whether it did. Takes no memory. Asks that `change` may be called on the items.
+    /// Changes the items in place by `change` where no one else shares the storage, and answers whether it did. Does
+    /// not allocate. Requires that `change` may be called on the items.
     ///
     /// arrow2 has [`Buffer::get_mut_slice`] alone.
     pub fn change_slice<F: FnOnce(&mut [T])>(&mut self, change: F) -> bool
@@ -190,8 +189,8 @@ impl<T> Buffer<T> {
         (self.storage, self.offset, self.len)
     }
 
-    /// The vector where no one shares the storage and nothing is sliced off, and the buffer itself
-    /// elsewhere. Either side holds the same list. Takes no memory.
+    /// The vector where no one shares the storage and nothing is sliced off, and the buffer itself elsewhere. Either
+    /// side holds the same list. Does not allocate.
     ///
     /// Differs from arrow2, which gives the whole vector of a sliced buffer.
     pub fn into_mut(self) -> Either<Self, Vec<T>>
@@ -312,7 +311,7 @@ impl<T: Drop> TryFrom<Vec<T>> for Buffer<T> {
     }
 }
 
-/// The item at a place. Asks that there is one.
+/// The item at a place. Requires that there is one.
 impl<T> Index<usize> for Buffer<T> {
     type Output = T;
 
@@ -355,8 +354,7 @@ impl<T: fmt::Debug> fmt::Debug for Buffer<T> {
     }
 }
 
-/// The same storage, offset and length. Takes no memory: it is refused only where the count of owners
-/// is full.
+/// The same storage, offset and length. Does not allocate: it is refused only where the count of owners is full.
 impl<T: Drop> Clone for Buffer<T> {
     ghost is_clone = { λ b copy. copy ≡ b };
 

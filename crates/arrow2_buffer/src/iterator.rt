@@ -32,7 +32,7 @@ impl<T: Copy> Model for IntoIter<T> {
 
 #[tactic(auto, using(crate::proofs::Part::walking))]
 impl<T: Copy> IntoIter<T> {
-    /// The walk over all items of `values`.
+    /// Returns an iterator over all items of `values`.
     pub fn new(values: Buffer<T>) -> Self
         ensures { result ≡ buffer_items values }
     {
@@ -93,8 +93,7 @@ impl<T: Copy> ExactSizeIterator for IntoIter<T> {
     }
 }
 
-/// The same items still to come. Takes no memory: it is refused only where the count of the buffer's
-/// owners is full.
+/// The same items still to come. Does not allocate: it is refused only where the count of the buffer's owners is full.
 impl<T: Copy> Clone for IntoIter<T> {
     ghost is_clone = { λ i copy. copy ≡ i };
 

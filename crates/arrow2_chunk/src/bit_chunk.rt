@@ -1,5 +1,5 @@
 //! Words as lists of bits.
-ghost use Rattle.std.specs.Prelude.{◌≡◌, ◌+◌, ◌-◌, ◌*◌, ◌<◌, ◌≤◌, ◌^◌, ◌++◌, ◌&&◌, ◌||◌, ℕ, List, length, take, drop, replicate, map, not, false, pos, refl, [], ◌∷◌, MatchOption};
+ghost use Rattle.std.specs.Prelude.{◌≡◌, ◌+◌, ◌-◌, ◌*◌, ◌<◌, ◌≤◌, ◌^◌, ◌++◌, ◌&&◌, ◌||◌, ℕ, List, length, take, drop, replicate, map, not, false, pos, refl, [], ◌∷◌};
 ghost use Rattle.std.specs.Bool.{xor};
 ghost use Rattle.std.proofs.Common.{lit≤};
 ghost use lib.Lanes.{zip2};
@@ -43,18 +43,18 @@ pub trait BitChunk: PrimInt + NativeType {
         ensures fits { number result < 2 ^ WIDTH }
         ensures value { number result ≡ natural_from Self.SIZE (Self.Bytes.items bytes) };
 
-    /// The word whose bytes these are in little-endian order. Asks for as many bytes as a word has.
+    /// The word whose bytes these are in little-endian order. Requires as many bytes as a word has.
     fn from_ne_slice(bytes: &[u8]) -> Self
         requires { length bytes.now ≡ Self.SIZE }
         ensures fits { number result < 2 ^ WIDTH }
         ensures bits { unnum WIDTH (number result) ≡ bits bytes.now };
 
-    /// Bit `i`. Asks that `i` is below `WIDTH`.
+    /// Bit `i`. Requires that `i` is below `WIDTH`.
     fn bit(self, i: usize) -> bool
         requires { i < WIDTH }
         ensures { result ≡ bit (number self) i };
 
-    /// The lowest `len` bits, and false above them. Asks that `len` is at most `WIDTH`.
+    /// The lowest `len` bits, and false above them. Requires that `len` is at most `WIDTH`.
     fn masked(self, len: usize) -> Self
         requires { len ≤ WIDTH }
         ensures fits { number result < 2 ^ WIDTH }
@@ -84,26 +84,27 @@ pub trait BitChunk: PrimInt + NativeType {
         ensures fits { number result < 2 ^ WIDTH }
         ensures bits { unnum WIDTH (number result) ≡ map not (unnum WIDTH (number self)) };
 
-    /// Moves bit `i` to `i + k`: what leaves the word is dropped, and false comes in. Asks that `k` is
-    /// below `WIDTH`.
+    /// Moves bit `i` to `i + k`: what leaves the word is dropped, and false comes in. Requires that `k` is below
+    /// `WIDTH`.
     fn up(self, k: usize) -> Self
         requires { k < WIDTH }
         ensures fits { number result < 2 ^ WIDTH }
         ensures bits { unnum WIDTH (number result)
             ≡ replicate k false ++ take (WIDTH - k) (unnum WIDTH (number self)) };
 
-    /// Moves bit `i` to `i - k`: what leaves the word is dropped, and false comes in. Asks that `k` is
-    /// below `WIDTH`.
+    /// Moves bit `i` to `i - k`: what leaves the word is dropped, and false comes in. Requires that `k` is below
+    /// `WIDTH`.
     fn down(self, k: usize) -> Self
         requires { k < WIDTH }
         ensures fits { number result < 2 ^ WIDTH }
         ensures bits { unnum WIDTH (number result)
             ≡ drop k (unnum WIDTH (number self)) ++ replicate k false };
 
-    /// The place of the lowest set bit, or `None` where no bit is set.
-    fn first_one(self) -> Option<usize>
-        ensures { MatchOption result (ones (unnum WIDTH (number self)) ≡ []) (λ i.
-            ones (unnum WIDTH (number self)) ≡ i ∷ drop 1 (ones (unnum WIDTH (number self)))) };
+    /// Returns the index of the lowest set bit. Requires that a bit is set.
+    fn first_one(self) -> usize
+        requires { 0 < length (ones (unnum WIDTH (number self))) }
+        ensures { ones (unnum WIDTH (number self))
+            ≡ result ∷ drop 1 (ones (unnum WIDTH (number self))) };
 
     /// The word without its lowest set bit, where it has one.
     fn without_first_one(self) -> Self
@@ -204,12 +205,8 @@ impl BitChunk for u8 {
         self >> k
     }
 
-    fn first_one(self) -> Option<usize> {
-        if self == 0 {
-            None
-        } else {
-            Some(u8::trailing_zeros(self) as usize)
-        }
+    fn first_one(self) -> usize {
+        u8::trailing_zeros(self) as usize
     }
 
     fn without_first_one(self) -> u8 {
@@ -287,12 +284,8 @@ impl BitChunk for u16 {
         self >> k
     }
 
-    fn first_one(self) -> Option<usize> {
-        if self == 0 {
-            None
-        } else {
-            Some(u16::trailing_zeros(self) as usize)
-        }
+    fn first_one(self) -> usize {
+        u16::trailing_zeros(self) as usize
     }
 
     fn without_first_one(self) -> u16 {
@@ -370,12 +363,8 @@ impl BitChunk for u32 {
         self >> k
     }
 
-    fn first_one(self) -> Option<usize> {
-        if self == 0 {
-            None
-        } else {
-            Some(u32::trailing_zeros(self) as usize)
-        }
+    fn first_one(self) -> usize {
+        u32::trailing_zeros(self) as usize
     }
 
     fn without_first_one(self) -> u32 {
@@ -453,12 +442,8 @@ impl BitChunk for u64 {
         self >> k
     }
 
-    fn first_one(self) -> Option<usize> {
-        if self == 0 {
-            None
-        } else {
-            Some(u64::trailing_zeros(self) as usize)
-        }
+    fn first_one(self) -> usize {
+        u64::trailing_zeros(self) as usize
     }
 
     fn without_first_one(self) -> u64 {

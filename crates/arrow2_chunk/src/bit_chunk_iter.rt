@@ -8,7 +8,7 @@ ghost use Rattle.arrow2_chunk.specs.Ones.{ones};
 use crate::bit_chunk::BitChunk;
 use std::marker::Model;
 
-/// A walk over the lowest bits of a word: contracts see the list of the items still to come.
+/// An iterator over the lowest bits of a word: contracts see the list of the items still to come.
 #[derive(Drop)]
 pub struct BitChunkIter<T: BitChunk> {
     value: T,
@@ -30,7 +30,7 @@ impl<T: BitChunk> Model for BitChunkIter<T> {
 
 #[tactic(auto, using(arrow2_model::proofs::Chunks::word_walk))]
 impl<T: BitChunk> BitChunkIter<T> {
-    /// The walk over the lowest `len` bits of the word. Asks that `len` is at most `WIDTH`.
+    /// Returns an iterator over the lowest `len` bits of the word. Requires that `len` is at most `WIDTH`.
     pub fn new(value: T, len: usize) -> BitChunkIter<T>
         requires { len ≤ T.WIDTH }
         ensures { result ≡ take len (unnum T.WIDTH (T.number value)) }
@@ -71,29 +71,33 @@ impl<T: BitChunk> Iterator for BitChunkIter<T> {
     }
 }
 
-/// A walk over the places of the set bits of a word, rising: contracts see the list of the places still
-/// to come. Each step goes to the next set bit at once.
+/// An iterator over the indices of the set bits of a word, rising: contracts see the list of those still to come. Each
+/// step goes to the next set bit at once.
 #[derive(Drop)]
 pub struct BitChunkOnes<T: BitChunk> {
     value: T,
+    left: usize,
 }
 
 impl<T: BitChunk> Model for BitChunkOnes<T> {
-    ghost use Rattle.std.specs.Prelude.{List, ℕ};
+    ghost use Rattle.std.specs.Prelude.{◌≡◌, List, ℕ, length};
     ghost use Rattle.arrow2_model.specs.Bits.{unnum};
     ghost use Rattle.arrow2_chunk.specs.Ones.{ones};
 
     ghost Value = { List ℕ };
 
     ghost view = { λ i. ones (unnum T.WIDTH (T.number i.value)) };
+
+    ghost invariant = { λ i. i.left ≡ length (ones (unnum T.WIDTH (T.number i.value))) };
 }
 
 impl<T: BitChunk> BitChunkOnes<T> {
-    /// The walk over the places of the set bits of the word.
+    /// Returns an iterator over the indices of the set bits of the word.
     pub fn new(value: T) -> BitChunkOnes<T>
         ensures { result ≡ ones (unnum T.WIDTH (T.number value)) }
     {
-        BitChunkOnes { value }
+        let left = value.ones_count();
+        BitChunkOnes { value, left }
     }
 }
 
@@ -105,18 +109,18 @@ impl<T: BitChunk> Iterator for BitChunkOnes<T> {
     ghost remaining = { item_count (λ s. s) };
 
     fn next(&mut self) -> Option<usize> {
-        let place = self.value.first_one()?;
+        self.left = self.left.checked_sub(1)?;
+        let index = self.value.first_one();
         self.value = self.value.without_first_one();
-        Some(place)
+        Some(index)
     }
 
-    /// Both bounds are the number of places still to come.
+    /// Both bounds are the number of indices still to come.
     fn size_hint(&self) -> (usize, Option<usize>)
         ensures lower { IsWithinCount result.0 (item_count (λ s. s) self.now) }
         ensures upper { IfSome result.1 (UpTo (item_count (λ s. s) self.now)) }
         ensures exact { (result.0 ≡ length self.now) × (result.1 ≡ Some (length self.now)) }
     {
-        let left = self.value.ones_count();
-        (left, Some(left))
+        (self.left, Some(self.left))
     }
 }

@@ -51,7 +51,7 @@ impl fmt::Display for days_ms {
     }
 }
 
-/// Each part negated. Asks that neither part is the least `i32`, of which arrow2's overflows.
+/// Each part negated. Requires that neither part is the least `i32`, of which arrow2's overflows.
 impl Neg for days_ms {
     type Output = days_ms;
 
@@ -180,7 +180,7 @@ impl fmt::Display for months_days_ns {
     }
 }
 
-/// Each part negated. Asks that no part is the least of its type, of which arrow2's overflows.
+/// Each part negated. Requires that no part is the least of its type, of which arrow2's overflows.
 impl Neg for months_days_ns {
     type Output = months_days_ns;
 

@@ -131,7 +131,7 @@ impl Hash for i256 {
     }
 }
 
-/// The number negated. Asks that it is not the least one, which has no opposite.
+/// The number negated. Requires that it is not the least one, which has no opposite.
 #[tactic(auto, using(arrow2_model::proofs::Words256::words256))]
 impl Neg for i256 {
     type Output = i256;

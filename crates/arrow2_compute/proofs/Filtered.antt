@@ -1,8 +1,11 @@
 -- Loops of kernels: what is there so far, and that it is no more than there is in all.
-use Rattle.std.proofs.Common.{◌≡◌, ℕ, zero, suc, ◌+◌, ◌<◌, ◌≤◌, List, [], ◌∷◌, ◌++◌, Bool, length, take, get_or, refl, ap, sym, ◌∙◌, append_assoc, arith, add-one}
+use Rattle.std.proofs.Common.{◌≡◌, ℕ, zero, suc, ◌+◌, ◌<◌, ◌≤◌, List, [], ◌∷◌, ◌++◌, Bool, length, take, get_or, refl, ap, sym, ◌∙◌, append_assoc, arith, add-one, inl, inr, rules}
+use Rattle.std.specs.Prelude.{◌^◌, ◌↔◌, ◌⊎◌, Result, Ok, Err, IfErr, IsErrOf}
 use Rattle.std.specs.List.{flat_map}
 use Rattle.std.proofs.lemmas.List.{length-append}
 use Rattle.std.proofs.Math.Seq.{take-length}
+use Rattle.arrow2_types.specs.declared.error.Error.{Error}
+use Rattle.arrow2_types.specs.declared.error.Error.TheVariants.{Overflow, OutOfMemory}
 use Rattle.arrow2_model.specs.Parts.{part}
 use Rattle.arrow2_model.proofs.Parts.{length-part}
 use Rattle.arrow2_walks.specs.Selected.{chosen}
@@ -49,3 +52,12 @@ pub part-whole : {X : Type 0} (xs : List X) (n : ℕ) → n ≡ length xs → pa
 part-whole xs n e = ap (λ k. take k xs) e ∙ take-length xs
 
 pub ruleset joining = (part-whole, length-part)
+
+-- growth that cannot overflow is refused for want of memory alone
+pub only-memory : {V : Type 0} (r : Result V Error) (n : ℕ) → (IsErrOf r Overflow ↔ (2 ^ 64 ≤ n)) → IfErr r (λ e. (e ≡ Overflow) ⊎ (e ≡ OutOfMemory)) → n < 2 ^ 64 → IfErr r (λ e. e ≡ OutOfMemory)
+only-memory (Ok v) n over only less = tt
+only-memory {V = V} (Err e) n over only less = by-error only
+  where
+    by-error : (e ≡ Overflow) ⊎ (e ≡ OutOfMemory) → e ≡ OutOfMemory
+    by-error (inl h) = let said : IsErrOf {T = V} (Err e) Overflow = search (rules, h) in let never = over.0 said in absurd (omega (arith, never, less))
+    by-error (inr h) = h

@@ -1,3 +1,8 @@
 pub mod Filtered
 pub mod Sums
 pub mod Compared
+pub mod Paired
+pub mod Masked
+pub mod Best
+pub mod Converted
+pub mod Weighed

@@ -1,8 +1,10 @@
 //! Comparisons of items, null where an item is null.
-ghost use Rattle.std.specs.Prelude.{◌≡◌, [], ◌∷◌, Bool, length, map, not, option_map, IfOk, IfErr};
+ghost use Rattle.std.specs.Prelude.{◌≡◌, ◌<◌, [], ◌∷◌, Bool, length, map, not, option_map, IfOk, IfErr};
 ghost use Rattle.std.specs.Ordering.{partial_lt, partial_le, partial_gt, partial_ge};
+ghost use Rattle.std.specs.Simd.Lanes.{zip2};
 ghost use Rattle.arrow2_array.specs.Items.{boolean_items};
 ghost use Rattle.arrow2_bitmap.specs.Answered.{MayBeAskedOfEach, AnswersOfEach};
+ghost use Rattle.arrow2_compute.specs.Pairs.{of_both, IsTestedAt};
 ghost use Rattle.arrow2_model.specs.Buffers.{buffer_items};
 ghost use Rattle.arrow2_primitive.specs.Primitive.{primitive_items};
 
@@ -122,4 +124,141 @@ pub fn gt_eq_scalar<T: NativeType + PartialOrd>(
     ensures only { IfErr result (λ e. e ≡ Error.OutOfMemory) }
 {
     tested(array, |value| *value >= scalar)
+}
+
+/// Returns, place by place, what a test says of the values of both, and null where an item of either is null. Requires that
+/// both have one length, and that the test may be called at any two values.
+///
+/// # Errors
+///
+/// `OutOfMemory` alone.
+fn tested_both<T: NativeType, F: Fn(T, T) -> bool>(
+    lhs: &PrimitiveArray<T>,
+    rhs: &PrimitiveArray<T>,
+    test: F,
+) -> Result<BooleanArray>
+    requires same_length { length (primitive_items lhs.now) ≡ length (primitive_items rhs.now) }
+    requires callable { (left right : T) → F.pre test left right }
+    ensures items { (answer : T → T → Bool) →
+        ((left right : T) (said : Bool) → F.post test left right said → said ≡ answer left right) →
+        IfOk result (λ a. boolean_items a
+        ≡ zip2 (of_both answer) (primitive_items lhs.now) (primitive_items rhs.now)) }
+    ensures only { IfErr result (λ e. e ≡ Error.OutOfMemory) }
+{
+    let values = lhs.values();
+    let left = values.as_slice();
+    let right = rhs.values().as_slice();
+    let tested = Bitmap::try_from_fn(
+        values.allocator(),
+        left.len(),
+        |index|
+            requires inside { (index < length left.now) × (index < length right.now) }
+            requires callable { (x y : T) → F.pre test x y }
+            ensures { IsTestedAt left.entry.now right.entry.now (F.post test) index result }
+        { test(left[index], right[index]) },
+    )?;
+    let validity = lhs.optional_validity().both(rhs.optional_validity())?;
+    Ok(BooleanArray::from_parts(tested, validity))
+}
+
+/// Returns, place by place, whether the item of `lhs` equals that of `rhs`, and null where either is null. Requires
+/// that both have one length.
+///
+/// # Errors
+///
+/// `OutOfMemory` alone.
+pub fn eq<T: NativeType>(lhs: &PrimitiveArray<T>, rhs: &PrimitiveArray<T>) -> Result<BooleanArray>
+    requires same_length { length (primitive_items lhs.now) ≡ length (primitive_items rhs.now) }
+    ensures items { IfOk result (λ a. boolean_items a
+        ≡ zip2 (of_both T.PartialEq.eq) (primitive_items lhs.now) (primitive_items rhs.now)) }
+    ensures only { IfErr result (λ e. e ≡ Error.OutOfMemory) }
+{
+    tested_both(lhs, rhs, |left, right| left == right)
+}
+
+/// Returns, place by place, whether the item of `lhs` differs from that of `rhs`, and null where either is null. Requires
+/// that both have one length.
+///
+/// # Errors
+///
+/// `OutOfMemory` alone.
+pub fn neq<T: NativeType>(lhs: &PrimitiveArray<T>, rhs: &PrimitiveArray<T>) -> Result<BooleanArray>
+    requires same_length { length (primitive_items lhs.now) ≡ length (primitive_items rhs.now) }
+    ensures items { IfOk result (λ a. boolean_items a
+        ≡ zip2 (of_both (λ left right. not (T.PartialEq.eq left right))) (primitive_items lhs.now) (primitive_items rhs.now)) }
+    ensures only { IfErr result (λ e. e ≡ Error.OutOfMemory) }
+{
+    tested_both(lhs, rhs, |left, right| left != right)
+}
+
+/// Returns, place by place, whether the item of `lhs` is below that of `rhs`, and null where either is null. Requires
+/// that both have one length.
+///
+/// # Errors
+///
+/// `OutOfMemory` alone.
+pub fn lt<T: NativeType + PartialOrd>(
+    lhs: &PrimitiveArray<T>,
+    rhs: &PrimitiveArray<T>,
+) -> Result<BooleanArray>
+    requires same_length { length (primitive_items lhs.now) ≡ length (primitive_items rhs.now) }
+    ensures items { IfOk result (λ a. boolean_items a
+        ≡ zip2 (of_both (partial_lt T.PartialOrd.partial_cmp)) (primitive_items lhs.now) (primitive_items rhs.now)) }
+    ensures only { IfErr result (λ e. e ≡ Error.OutOfMemory) }
+{
+    tested_both(lhs, rhs, |left, right| left < right)
+}
+
+/// Returns, place by place, whether the item of `lhs` is at most that of `rhs`, and null where either is null. Requires
+/// that both have one length.
+///
+/// # Errors
+///
+/// `OutOfMemory` alone.
+pub fn lt_eq<T: NativeType + PartialOrd>(
+    lhs: &PrimitiveArray<T>,
+    rhs: &PrimitiveArray<T>,
+) -> Result<BooleanArray>
+    requires same_length { length (primitive_items lhs.now) ≡ length (primitive_items rhs.now) }
+    ensures items { IfOk result (λ a. boolean_items a
+        ≡ zip2 (of_both (partial_le T.PartialOrd.partial_cmp)) (primitive_items lhs.now) (primitive_items rhs.now)) }
+    ensures only { IfErr result (λ e. e ≡ Error.OutOfMemory) }
+{
+    tested_both(lhs, rhs, |left, right| left <= right)
+}
+
+/// Returns, place by place, whether the item of `lhs` is above that of `rhs`, and null where either is null. Requires
+/// that both have one length.
+///
+/// # Errors
+///
+/// `OutOfMemory` alone.
+pub fn gt<T: NativeType + PartialOrd>(
+    lhs: &PrimitiveArray<T>,
+    rhs: &PrimitiveArray<T>,
+) -> Result<BooleanArray>
+    requires same_length { length (primitive_items lhs.now) ≡ length (primitive_items rhs.now) }
+    ensures items { IfOk result (λ a. boolean_items a
+        ≡ zip2 (of_both (partial_gt T.PartialOrd.partial_cmp)) (primitive_items lhs.now) (primitive_items rhs.now)) }
+    ensures only { IfErr result (λ e. e ≡ Error.OutOfMemory) }
+{
+    tested_both(lhs, rhs, |left, right| left > right)
+}
+
+/// Returns, place by place, whether the item of `lhs` is at least that of `rhs`, and null where either is null. Requires
+/// that both have one length.
+///
+/// # Errors
+///
+/// `OutOfMemory` alone.
+pub fn gt_eq<T: NativeType + PartialOrd>(
+    lhs: &PrimitiveArray<T>,
+    rhs: &PrimitiveArray<T>,
+) -> Result<BooleanArray>
+    requires same_length { length (primitive_items lhs.now) ≡ length (primitive_items rhs.now) }
+    ensures items { IfOk result (λ a. boolean_items a
+        ≡ zip2 (of_both (partial_ge T.PartialOrd.partial_cmp)) (primitive_items lhs.now) (primitive_items rhs.now)) }
+    ensures only { IfErr result (λ e. e ≡ Error.OutOfMemory) }
+{
+    tested_both(lhs, rhs, |left, right| left >= right)
 }

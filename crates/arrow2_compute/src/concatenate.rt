@@ -1,8 +1,13 @@
 //! Arrays one behind the other.
-ghost use Rattle.std.specs.Prelude.{◌≡◌, ◌≤◌, ◌^◌, ◌⊎◌, ◌++◌, length, IfOk, IfErr, IsErrOf};
+ghost use Rattle.std.specs.Prelude.{◌≡◌, ◌+◌, ◌<◌, ◌≤◌, ◌^◌, ◌⊎◌, ◌++◌, length, sum_by, IfOk, IfErr, IsErrOf};
 ghost use Rattle.std.specs.List.{flat_map};
+ghost use Rattle.arrow2_array.specs.Items.{boolean_items};
+ghost use Rattle.arrow2_compute.specs.Sizes.{slot_bytes};
 ghost use Rattle.arrow2_primitive.specs.Primitive.{primitive_items};
+ghost use Rattle.arrow2_text.specs.Binary.{binary_items};
 
+use crate::binary::Binary;
+use arrow2_array::{BooleanArray, MutableBooleanArray};
 use arrow2_primitive::{MutablePrimitiveArray, PrimitiveArray};
 use arrow2_types::error::{Error, Result};
 use arrow2_types::native::NativeType;
@@ -32,4 +37,55 @@ pub fn concatenate<T: NativeType>(
         joined.extend_from_array(array, 0, array.len())?;
     }
     joined.freeze()
+}
+
+/// Returns the byte strings or texts of `first` and of these arrays, one behind the other, with the logical type of `first`.
+///
+/// In arrow2 it is `concatenate`.
+///
+/// # Errors
+///
+/// `Overflow` only where all slots have more bytes than the greatest offset, those under nulls too, or there are more items
+/// than a `usize` counts; else `OutOfMemory` alone.
+#[tactic(auto, using(crate::proofs::Filtered::joining))]
+pub fn concatenate_binary<A: Binary>(first: &A, others: &[&A]) -> Result<A>
+    ensures items { IfOk result (λ a. binary_items (A.parts a) ≡ binary_items (A.parts first.now)
+        ++ flat_map (λ array. binary_items (A.parts array.now)) others.now) }
+    ensures data_type { IfOk result (λ a. (A.parts a).data_type ≡ (A.parts first.now).data_type) }
+    ensures overflow { IsErrOf result Error.Overflow →
+        (A.GREATEST < slot_bytes (A.parts first.now)
+        + sum_by (λ array. slot_bytes (A.parts array.now)) others.now)
+        ⊎ (2 ^ 64 ≤ length (binary_items (A.parts first.now)
+        ++ flat_map (λ array. binary_items (A.parts array.now)) others.now)) }
+    ensures only { IfErr result (λ e. (e ≡ Error.Overflow) ⊎ (e ≡ Error.OutOfMemory)) }
+{
+    let mut joined = first.like()?;
+    A::push_items(&mut joined, first, 0, first.count())?;
+    for array in others {
+        A::push_items(&mut joined, *array, 0, array.count())?;
+    }
+    A::freeze(joined)
+}
+
+/// Returns the booleans of `first` and of these arrays, one behind the other.
+///
+/// In arrow2 it is `concatenate`.
+///
+/// # Errors
+///
+/// `Overflow` only where there are more items than a `usize` counts, else `OutOfMemory` alone.
+#[tactic(auto, using(crate::proofs::Filtered::joining))]
+pub fn concatenate_boolean(first: &BooleanArray, others: &[&BooleanArray]) -> Result<BooleanArray>
+    ensures items { IfOk result (λ a. boolean_items a
+        ≡ boolean_items first.now ++ flat_map (λ array. boolean_items array.now) others.now) }
+    ensures overflow { IsErrOf result Error.Overflow → 2 ^ 64 ≤ length (boolean_items first.now
+        ++ flat_map (λ array. boolean_items array.now) others.now) }
+    ensures only { IfErr result (λ e. (e ≡ Error.Overflow) ⊎ (e ≡ Error.OutOfMemory)) }
+{
+    let mut items = MutableBooleanArray::new(first.values().allocator());
+    items.extend_from_array(first, 0, first.len())?;
+    for array in others {
+        items.extend_from_array(array, 0, array.len())?;
+    }
+    items.freeze()
 }

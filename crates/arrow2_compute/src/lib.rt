@@ -2,6 +2,9 @@
 #![tactic(auto)]
 
 pub mod aggregate;
+pub mod binary;
+pub mod boolean;
+pub mod cast;
 pub mod comparison;
 pub mod concatenate;
 pub mod filter;

@@ -21,7 +21,7 @@ pub struct Field {
 }
 
 impl Field {
-    /// A field with no metadata. Takes no memory: `alloc` is for the metadata to come, where arrow2 takes none.
+    /// A field with no metadata. Does not allocate: `alloc` is for the metadata to come, where arrow2 takes none.
     pub fn new(alloc: Global, name: String, data_type: DataType, is_nullable: bool) -> Field
         ensures name { result.name ≡ name }
         ensures data_type { result.data_type ≡ data_type }

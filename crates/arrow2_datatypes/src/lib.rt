@@ -252,14 +252,14 @@ impl UnionMode {
         }
     }
 
-    /// Whether it is `Sparse`.
+    /// Returns whether it is `Sparse`.
     pub fn is_sparse(&self) -> bool
         ensures { IsTrue result ↔ (self.now ≡ UnionMode.Sparse) }
     {
         matches!(self, UnionMode::Sparse)
     }
 
-    /// Whether it is `Dense`.
+    /// Returns whether it is `Dense`.
     pub fn is_dense(&self) -> bool
         ensures { IsTrue result ↔ (self.now ≡ UnionMode.Dense) }
     {
@@ -270,7 +270,7 @@ impl UnionMode {
 /// The extension that a field's metadata names: the text under `ARROW:extension:name`, and the one under
 /// `ARROW:extension:metadata` where it is there. `None` where the name is not there, whatever else is.
 ///
-/// arrow2 answers no `Result`.
+/// arrow2 returns no `Result`.
 ///
 /// # Errors
 ///

@@ -60,7 +60,7 @@ pub enum IntegerType {
 }
 
 impl PhysicalType {
-    /// Whether it is `Primitive` of this native type.
+    /// Returns whether it is `Primitive` of this native type.
     pub fn eq_primitive(&self, primitive: PrimitiveType) -> bool
         ensures { IsTrue result ↔ (self.now ≡ PhysicalType.Primitive primitive) }
     {

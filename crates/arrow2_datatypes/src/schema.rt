@@ -18,7 +18,7 @@ pub struct Schema {
 }
 
 impl Schema {
-    /// The schema of these fields, with no metadata. Takes no memory.
+    /// The schema of these fields, with no metadata. Does not allocate.
     ///
     /// Stands for arrow2's `From`, and with no fields for its `Default`.
     pub fn from_fields(alloc: Global, fields: Vec<Field>) -> Schema
@@ -42,8 +42,9 @@ impl Schema {
         }
     }
 
-    /// The schema of the fields that the predicate accepts, each by its place among all of them and by itself, in order.
-    /// The metadata stays. Takes no memory. Asks that the predicate may be called at each place and the field there.
+    /// The schema of the fields that the predicate accepts, each by its place among all of them and by itself, in
+    /// order. The metadata stays. Does not allocate. Requires that the predicate may be called at each place and the
+    /// field there.
     pub fn filter<F: Fn(usize, &Field) -> bool>(self, predicate: F) -> Schema
         requires { MayBeAsked (F.pre predicate) self.fields.items }
         ensures fields { (accepts : ℕ → Field → Bool) →

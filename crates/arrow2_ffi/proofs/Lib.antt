@@ -1,5 +1,7 @@
 mod BoolSteps
 mod OffsetCodes
+mod OptionalKleene
 mod PlaceSteps
 mod RunSteps
+mod TextCodes
 mod WriteSteps

@@ -5,9 +5,11 @@ use Rattle.arrow2_model.specs.Parts.{part}
 use Rattle.arrow2_model.specs.Tables.{each}
 use Rattle.arrow2_walks.specs.Zipped.{zipped}
 use Rattle.arrow2_array.specs.Kleene.{by_items}
-use Rattle.arrow2_ffi.specs.Ranges.{Holds, AreInside, inputs_of}
+use Rattle.arrow2_ffi.specs.Validities.{SaysOf, valid_items, validity_of}
+use Rattle.arrow2_ffi.specs.Ranges.{IsInside, Holds, AreInside, inputs_of}
 use Rattle.arrow2_ffi.specs.Writes.{Stores, Writes}
 use Rattle.arrow2_ffi.specs.declared.kleene.Nullable.{Nullable}
+use Rattle.arrow2_ffi.specs.declared.kleene_optional.Side.{Side}
 
 -- values and their validity: of each the bytes, and the first bit
 pub record Input : Type 0 where
@@ -42,3 +44,36 @@ pub record StoresKleene (f : Option Bool → Option Bool → Option Bool) (t kno
 -- the code of a call that writes these
 abbrev pub WritesKleene : (code : ℕ) → (Option Bool → Option Bool → Option Bool) → (t known n : ℕ) → (left right : Input) → (values new_values validity new_validity : List ℕ) → Type 0
 WritesKleene code f t known n left right values new_values validity new_validity = Writes code (AreInside n (parts_of left right)) (Holds values n × Holds validity n) (StoresKleene f t known n left right new_values new_validity) ((new_values ≡ values) × (new_validity ≡ validity))
+
+-- values, and their validity where some may be null
+pub record OptionalInput : Type 0 where
+  pub values : List ℕ × ℕ
+  pub validity : Option (List ℕ × ℕ)
+
+-- the same of the slices that a call has
+abbrev pub optional_of : Side → OptionalInput
+optional_of x = record { values = (x.values.0.now, x.values.1); validity = validity_of x.validity }
+
+-- n of the values, and which of n items are not null
+abbrev pub first_values : ℕ → OptionalInput → List Bool
+first_values n x = part (bits x.values.0) x.values.1 n
+
+abbrev pub first_valid : ℕ → OptionalInput → List Bool
+first_valid n x = valid_items x.validity n
+
+-- n of both are inside
+abbrev pub IsWholeInside : ℕ → OptionalInput → Type 0
+IsWholeInside n x = IsInside x.values.0 x.values.1 n × SaysOf x.validity n
+
+-- what f makes of n items is stored, by a table of the values and one of which of them are known
+pub record StoresOptionalKleene (f : Option Bool → Option Bool → Option Bool) (t known n : ℕ) (left right : OptionalInput) (new_values new_validity : List ℕ) : Type 0 where
+  -- item by item
+  pub items : zipped (take n (bits new_values)) (take n (bits new_validity)) ≡ by_items f (zipped (first_values n left) (first_valid n left)) (zipped (first_values n right) (first_valid n right))
+  -- the values, also those of nulls
+  pub values : Stores new_values n (each t (first_values n left ∷ first_values n right ∷ []))
+  -- the validity
+  pub validity : Stores new_validity n (each known (first_values n left ∷ first_valid n left ∷ first_values n right ∷ first_valid n right ∷ []))
+
+-- the code of a call that writes these
+abbrev pub WritesOptionalKleene : (code : ℕ) → (Option Bool → Option Bool → Option Bool) → (t known n : ℕ) → (left right : OptionalInput) → (values new_values validity new_validity : List ℕ) → Type 0
+WritesOptionalKleene code f t known n left right values new_values validity new_validity = Writes code (IsWholeInside n left × IsWholeInside n right) (Holds values n × Holds validity n) (StoresOptionalKleene f t known n left right new_values new_validity) ((new_values ≡ values) × (new_validity ≡ validity))

@@ -43,7 +43,7 @@ pub extern "C" fn arrow2_unpack(bytes: &[u8], offset: usize, out: &mut [bool]) -
     ARROW2_OK
 }
 
-/// Writes the booleans as bits, by words. Asks for as many bytes as hold them.
+/// Writes the booleans as bits, by words. Requires as many bytes as hold them.
 fn write_packed(items: &[bool], out: &mut [u8])
     requires exact { Holds out.old (length items.now) }
     ensures { Stores out.new (length items.now) items.now }
@@ -56,7 +56,7 @@ fn write_packed(items: &[bool], out: &mut [u8])
     );
 }
 
-/// Writes as many bits as `out` has items as booleans. Asks that they are inside.
+/// Writes as many bits as `out` has items as booleans. Requires that they are inside.
 fn write_unpacked(bits: Bits<'_>, out: &mut [bool])
     requires inside { HasBits bits (length out.old) }
     ensures { out.new ≡ first_bits bits.entry (length out.old) }

@@ -1,4 +1,5 @@
-//! What an export answers. Where it is not [`ARROW2_OK`], nothing was written.
+//! What an export answers. Where it is not [`ARROW2_OK`], nothing was written but, by a check, the index or slot of
+//! what it refuses.
 
 /// The call did what it says.
 pub const ARROW2_OK: u32 = 0;
@@ -24,6 +25,18 @@ pub const ARROW2_SPEC_NEGATIVE: u32 = 6;
 /// What should be offsets has a number that is below the one before it.
 pub const ARROW2_SPEC_FALLING: u32 = 7;
 
+/// The number of nulls is not the declared one.
+pub const ARROW2_NULLS: u32 = 8;
+
+/// An offset is past what the offsets cut.
+pub const ARROW2_PAST: u32 = 9;
+
+/// The bytes of a slot are not UTF-8.
+pub const ARROW2_UTF8: u32 = 10;
+
+/// An index is negative, or not below the number of items that it points into.
+pub const ARROW2_INDEX: u32 = 11;
+
 // The header and callers have these numbers.
 const _: () = prove!(ARROW2_OK == 0);
 
@@ -40,3 +53,11 @@ const _: () = prove!(ARROW2_SPEC_EMPTY == 5);
 const _: () = prove!(ARROW2_SPEC_NEGATIVE == 6);
 
 const _: () = prove!(ARROW2_SPEC_FALLING == 7);
+
+const _: () = prove!(ARROW2_NULLS == 8);
+
+const _: () = prove!(ARROW2_PAST == 9);
+
+const _: () = prove!(ARROW2_UTF8 == 10);
+
+const _: () = prove!(ARROW2_INDEX == 11);

@@ -27,7 +27,7 @@ pub(crate) fn refusal<O: Offset>(offsets: &[O]) -> Option<u32>
     }
 }
 
-/// Whether the numbers are offsets, and else which rule they break first.
+/// Returns whether the numbers are offsets, and else which rule they break first.
 pub(crate) fn check<O: Offset>(offsets: &[O]) -> u32
     ensures ok { result ≡ ARROW2_OK ↔ AreOffsets (map O.value offsets.now) }
     ensures broken { result ≢ ARROW2_OK →

@@ -45,7 +45,7 @@ pub extern "C" fn arrow2_set_places(
 }
 
 /// Writes the places of set bits from place `at` on, as many as fit, and answers how many these are and where to go on.
-/// Asks that the bits are inside, and the place too.
+/// Requires that the bits are inside, and the place too.
 fn write_places(bits: Bits<'_>, end: usize, at: usize, places: &mut [usize]) -> (usize, usize)
     requires inside { HasBits bits end }
     requires within { at ≤ end }
@@ -71,7 +71,7 @@ fn write_places(bits: Bits<'_>, end: usize, at: usize, places: &mut [usize]) -> 
 }
 
 /// Writes the places of the word's set bits, counted from `base` on, behind the first `count` places, as many as fit.
-/// Answers how many places there are then, and the first that did not fit. Asks for room for `count` places, and that
+/// Answers how many places there are then, and the first that did not fit. Requires room for `count` places, and that
 /// each place fits a `usize`.
 fn write_ones(word: u64, base: usize, count: usize, places: &mut [usize]) -> (usize, Option<usize>)
     requires few { count ≤ length' places.old }

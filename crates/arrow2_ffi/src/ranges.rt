@@ -8,28 +8,28 @@ use arrow2_bits::bytes_for;
 #[derive(Clone, Copy)]
 pub(crate) struct Bits<'a>(pub(crate) &'a [u8], pub(crate) usize);
 
-/// Whether there are `length` bits.
+/// Returns whether there are `length` bits.
 pub(crate) fn are_inside(bits: Bits<'_>, length: usize) -> bool
     ensures { IsTrue result ↔ HasBits bits.entry length }
 {
     bits.1 as u128 + length as u128 <= 8 * bits.0.len() as u128
 }
 
-/// Whether there are `length` bits of both.
+/// Returns whether there are `length` bits of both.
 pub(crate) fn are_both_inside(first: Bits<'_>, second: Bits<'_>, length: usize) -> bool
     ensures { IsTrue result ↔ (HasBits first.entry length × HasBits second.entry length) }
 {
     are_inside(first, length) && are_inside(second, length)
 }
 
-/// Whether the bytes are as many as hold so many bits.
+/// Returns whether the bytes are as many as hold so many bits.
 pub(crate) fn hold(bytes: &[u8], length: usize) -> bool
     ensures { IsTrue result ↔ Holds bytes.now length }
 {
     bytes.len() == bytes_for(length)
 }
 
-/// Whether there is a bit `index`.
+/// Returns whether there is a bit `index`.
 pub(crate) fn has_bit(bytes: &[u8], index: usize) -> bool
     ensures { IsTrue result ↔ (index < 8 * length bytes.now) }
 {

@@ -48,8 +48,8 @@ pub extern "C" fn arrow2_runs(
     ARROW2_OK
 }
 
-/// Writes the runs from place `at` on, as many as fit, and answers how many these are and where to go on. Asks that the
-/// bits are inside, the place too, and for as many starts as lengths.
+/// Writes the runs from place `at` on, as many as fit, and answers how many these are and where to go on. Requires that
+/// the bits are inside, the place too, and for as many starts as lengths.
 fn write_runs(
     bits: Bits<'_>,
     end: usize,

@@ -7,7 +7,18 @@ use crate::bits::{
     arrow2_copy_bits, arrow2_count_zeros, arrow2_equal_bits, arrow2_get_bit, arrow2_set_bit,
 };
 use crate::booleans::{arrow2_pack, arrow2_unpack};
+use crate::buffers::{arrow2_bits_check, arrow2_validity_check, arrow2_values_check};
+use crate::cuts::{
+    arrow2_offsets32_check_inside, arrow2_offsets64_check_inside, arrow2_texts32_check,
+    arrow2_texts64_check,
+};
+use crate::dictionary::{
+    arrow2_indices_i8_check, arrow2_indices_i16_check, arrow2_indices_i32_check,
+    arrow2_indices_i64_check, arrow2_indices_u8_check, arrow2_indices_u16_check,
+    arrow2_indices_u32_check, arrow2_indices_u64_check,
+};
 use crate::kleene::{arrow2_and_kleene, arrow2_or_kleene};
+use crate::kleene_optional::{arrow2_and_kleene_optional, arrow2_or_kleene_optional};
 use crate::offset_widths::{arrow2_offsets_narrow, arrow2_offsets_widen};
 use crate::offsets::{
     arrow2_offsets32_check, arrow2_offsets32_from_lengths, arrow2_offsets32_from_zero,
@@ -150,6 +161,45 @@ fn kleenes_logic_tells_values_and_validities_apart(rt: HostRuntime) {
 }
 
 #[test]
+fn a_missing_validity_is_all_valid(rt: HostRuntime) {
+    let (mut values, mut validity) = ([0; 2], [0; 2]);
+    let code = arrow2_and_kleene_optional(
+        &LEFT,
+        1,
+        &LEFT_VALIDITY,
+        2,
+        false,
+        &RIGHT,
+        3,
+        &[],
+        9,
+        true,
+        9,
+        &mut values,
+        &mut validity,
+    );
+    wrote(&rt, code, &values, &[0xb0, 0x01]);
+    wrote(&rt, code, &validity, &[0xdf, 0x00]);
+    let code = arrow2_or_kleene_optional(
+        &LEFT,
+        1,
+        &[],
+        9,
+        true,
+        &RIGHT,
+        3,
+        &RIGHT_VALIDITY,
+        4,
+        false,
+        9,
+        &mut values,
+        &mut validity,
+    );
+    wrote(&rt, code, &values, &[0xfe, 0x01]);
+    wrote(&rt, code, &validity, &[0xbf, 0x01]);
+}
+
+#[test]
 fn runs_and_places_are_written(rt: HostRuntime) {
     let (mut at, mut count) = (0, 0);
     let (mut starts, mut lengths) = ([0; 2], [0; 2]);
@@ -204,4 +254,67 @@ fn each_code_has_its_number(rt: HostRuntime) {
     returned(&rt, arrow2_offsets32_check(&[]), 5);
     returned(&rt, arrow2_offsets64_check(&[-1]), 6);
     returned(&rt, arrow2_offsets32_check(&[1, 0]), 7);
+}
+
+#[test]
+fn buffers_are_checked(rt: HostRuntime) {
+    returned(&rt, arrow2_validity_check(&[0b0000_0110], 1, 4, 2), 0);
+    returned(&rt, arrow2_validity_check(&[0b0000_0110], 1, 4, -1), 0);
+    returned(&rt, arrow2_validity_check(&[0b0000_0110], 1, 4, 3), 8);
+    returned(&rt, arrow2_validity_check(&[0b0000_0110], 1, 8, 0), 1);
+    returned(&rt, arrow2_bits_check(1, 3, 5), 0);
+    returned(&rt, arrow2_bits_check(1, 3, 6), 1);
+    returned(&rt, arrow2_values_check(24, 8, 1, 2), 0);
+    returned(&rt, arrow2_values_check(23, 8, 1, 2), 1);
+    returned(&rt, arrow2_values_check(0, 0, 1, 2), 0);
+    returned(&rt, arrow2_values_check(usize::MAX, 1, usize::MAX, 1), 1);
+}
+
+/// The check returned this code and wrote this place, or left 77.
+fn found(rt: &impl Abort, code: u32, place: usize, wanted: (u32, usize)) {
+    assert_eq!(rt; (code, place), wanted);
+}
+
+#[test]
+fn offsets_and_texts_are_checked(rt: HostRuntime) {
+    let mut index = 77;
+    let code = arrow2_offsets32_check_inside(&[0, 2, 5], 5, &mut index);
+    found(&rt, code, index, (0, 77));
+    let code = arrow2_offsets32_check_inside(&[0, 2, 5], 4, &mut index);
+    found(&rt, code, index, (9, 2));
+    let code = arrow2_offsets64_check_inside(&[0, 5, 2, 1], 5, &mut index);
+    found(&rt, code, index, (7, 2));
+    let code = arrow2_offsets64_check_inside(&[9], 8, &mut index);
+    found(&rt, code, index, (9, 0));
+    let code = arrow2_texts32_check(&[1, 1, 3, 4], &[0xff, 0xc3, 0xa9, 0x41], &mut index);
+    found(&rt, code, index, (0, 0));
+    let code = arrow2_texts32_check(&[1, 1, 2, 4], &[0xff, 0xc3, 0xa9, 0x41], &mut index);
+    found(&rt, code, index, (10, 1));
+    let code = arrow2_texts64_check(&[1, 3, 5], &[0xff, 0xc3, 0xa9, 0x41], &mut index);
+    found(&rt, code, index, (9, 2));
+    let code = arrow2_texts64_check(&[-1], &[], &mut index);
+    found(&rt, code, index, (6, 2));
+}
+
+#[test]
+fn indices_are_checked(rt: HostRuntime) {
+    let mut slot = 77;
+    let code = arrow2_indices_i8_check(&[2, -1, 1], &[0b1010], 1, false, 3, &mut slot);
+    found(&rt, code, slot, (0, 77));
+    let code = arrow2_indices_i8_check(&[2, -1, 1], &[], 9, true, 3, &mut slot);
+    found(&rt, code, slot, (11, 1));
+    let code = arrow2_indices_u8_check(&[0, 1, 3], &[], 9, true, 3, &mut slot);
+    found(&rt, code, slot, (11, 2));
+    let code = arrow2_indices_i16_check(&[0, 1, 3], &[0b0010], 7, false, 3, &mut slot);
+    found(&rt, code, slot, (1, 2));
+    let code = arrow2_indices_u16_check(&[9, 1, 3], &[0b0110_0000], 4, false, 3, &mut slot);
+    found(&rt, code, slot, (11, 2));
+    let code = arrow2_indices_i32_check(&[i32::MIN, 1], &[], 0, true, 3, &mut slot);
+    found(&rt, code, slot, (11, 0));
+    let code = arrow2_indices_u32_check(&[0, 3], &[], 0, true, 3, &mut slot);
+    found(&rt, code, slot, (11, 1));
+    let code = arrow2_indices_i64_check(&[0, 0, 0, -1], &[], 0, true, 3, &mut slot);
+    found(&rt, code, slot, (11, 3));
+    let code = arrow2_indices_u64_check(&[u64::MAX], &[], 0, true, usize::MAX, &mut slot);
+    found(&rt, code, slot, (11, 0));
 }

@@ -1,16 +1,21 @@
 -- The bytes behind packed bits.
-use Rattle.std.proofs.Common.{◌≡◌, ◌≢◌, ◌∙◌, ℕ, zero, suc, ◌+◌, ◌-◌, ◌*◌, ◌/◌, ◌%◌, ◌^◌, ◌<◌, ◌≤◌, List, [], ◌∷◌, ◌++◌, Bool, true, false, take, replicate, length, get_or, set, refl, subst, ap, inl, inr, arith}
-use Rattle.std.specs.Prelude.{pos, bit_or}
+use Rattle.std.proofs.Common.{◌≡◌, ◌≢◌, ◌∙◌, ℕ, zero, suc, ◌+◌, ◌-◌, ◌*◌, ◌/◌, ◌%◌, ◌^◌, ◌<◌, ◌≤◌, List, [], ◌∷◌, ◌++◌, Bool, true, false, take, replicate, length, get_or, set, refl, subst, sym, ap, inl, inr, arith}
+use Rattle.std.specs.Prelude.{pos, bit_and, bit_or, max, ◌==◌}
 use Rattle.std.proofs.lemmas.Bool.{cases_lt, cases_eq}
 use Rattle.std.specs.Int.{from_bool}
+use Rattle.std.proofs.lemmas.List.FromFn.{get_or-map-range_with_len}
+use Rattle.std.proofs.lemmas.Nat.Bits.{bit_at_or, bit_at_ones, bit_at_cat_low, bit_at_cat_high, bit_at-zero, bit_at-lt}
+use Rattle.std.specs.Int.{bit_at}
+use Rattle.std.proofs.Math.Nat.{mod-le}
 use Rattle.std.proofs.lemmas.List.{length-take, length-take-le, length-set, length-replicate, take_more, get_or-take, get_or-set_same, get_or-set_other, get_or-replicate, get_or_append_left, get_or-append_right, get_or_past}
 use Rattle.std.proofs.Math.Seq.{take-set-lt}
+use Rattle.std.proofs.lemmas.List.{take-set-le}
 use Rattle.std.proofs.lemmas.Grind.{get_or_default_zero}
-use Rattle.std.proofs.lemmas.Nat.{one_shl, or_of_8}
-use Rattle.arrow2_model.specs.Bits.{bits, unnum}
+use Rattle.std.proofs.lemmas.Nat.{one_shl, or_of_8, and_mask, pow_pos}
+use Rattle.arrow2_model.specs.Bits.{bit, bits, unnum}
 use Rattle.arrow2_model.specs.Canonical.{IsCanonical}
 use Rattle.arrow2_model.specs.Digits.{low_digits, digits}
-use Rattle.arrow2_model.proofs.Bits.{length-bits, bits-set}
+use Rattle.arrow2_model.proofs.Bits.{bit_is, length-bits, bits-set}
 use Rattle.arrow2_model.proofs.Canonical.{canonical-nil, pushed_byte, pushed_bit, cut_whole, cut_within}
 use Rattle.arrow2_model.proofs.Digits.{low_digits-zero, low_digits-suc, digits-natural}
 
@@ -75,6 +80,62 @@ cut_bits bytes front after n x h some e is was fits =
     let byte : x ≡ get_or (take ((n + 7) / 8) bytes) (n / 8) 0 = is ∙ (get_or_default_zero front (n / 8) x m ∙ ap (λ f. get_or f (n / 8) 0) e) in
     let now : after ≡ set (take ((n + 7) / 8) bytes) (n / 8) (x % 2 ^ (n % 8)) = was ∙ (ap (λ f. set f (n / 8) (x % (1 * 2 ^ (n % 8) % 256))) e ∙ ap (λ y. set (take ((n + 7) / 8) bytes) (n / 8) (x % y)) low) in
     rw now (cut_within bytes n (x % 2 ^ (n % 8)) h some (ap (λ b. b % 2 ^ (n % 8)) byte) (subst AreBytes now fits))
+
+-- which bits of a byte are below bit i
+abbrev pub below : List ℕ
+below = 0 ∷ 1 ∷ 3 ∷ 7 ∷ 15 ∷ 31 ∷ 63 ∷ 127 ∷ []
+
+below_at : (i : ℕ) → i < 8 → get_or below i 0 ≡ 2 ^ i - 1
+below_at i h = get_or-map-range_with_len (λ i. 2 ^ i - 1) 0 8 i i 0 h (omega arith)
+
+-- and which are not
+abbrev pub above : List ℕ
+above = 255 ∷ 254 ∷ 252 ∷ 248 ∷ 240 ∷ 224 ∷ 192 ∷ 128 ∷ []
+
+above_at : (i : ℕ) → i < 8 → get_or above i 0 ≡ (2 ^ (8 - i) - 1) * 2 ^ i + 0
+above_at i h = get_or-map-range_with_len (λ i. (2 ^ (8 - i) - 1) * 2 ^ i + 0) 0 8 i i 0 h (omega arith)
+
+above_bit : (x p i : ℕ) → p < 8 → bit (bit_or x (get_or above p 0)) i ≡ (max (bit_at x i) (bit_at ((2 ^ (8 - p) - 1) * 2 ^ p + 0) i) == 1)
+above_bit x p i h = ap (λ a. bit (bit_or x a) i) (above_at p h) ∙ (bit_is (bit_or x ((2 ^ (8 - p) - 1) * 2 ^ p + 0)) i ∙ ap (λ b. b == 1) (bit_at_or x ((2 ^ (8 - p) - 1) * 2 ^ p + 0) i))
+
+-- the bits of a byte whose bits from bit p on were set
+pub above_kept : (x p i : ℕ) → p < 8 → i < p → bit (bit_or x (get_or above p 0)) i ≡ bit x i
+above_kept x p i h below =
+    let none : bit_at ((2 ^ (8 - p) - 1) * 2 ^ p + 0) i ≡ 0 = bit_at_cat_low (2 ^ (8 - p) - 1) p 0 i below ∙ bit_at-zero i in
+    above_bit x p i h ∙ (ap (λ b. b == 1) (rw none (omega arith)) ∙ sym (bit_is x i))
+
+pub above_set : (x p i : ℕ) → p ≤ i → i < 8 → bit (bit_or x (get_or above p 0)) i ≡ true
+above_set x p i from h =
+    let one : bit_at ((2 ^ (8 - p) - 1) * 2 ^ p + 0) i ≡ 1 = bit_at_cat_high (2 ^ (8 - p) - 1) p 0 i (pow_pos p) from ∙ bit_at_ones (8 - p) (i - p) (omega (arith, from, h)) in
+    let low = bit_at-lt x i in
+    let all : max (bit_at x i) (bit_at ((2 ^ (8 - p) - 1) * 2 ^ p + 0) i) ≡ 1 = rw one (omega (arith, low)) in
+    above_bit x p i (omega arith) ∙ ap (λ b. b == 1) all
+
+-- bytes that lose their last item: its bit is cleared, and its byte goes if it was alone there
+pub cut_last : (bytes after : List ℕ) (n last x : ℕ) → IsCanonical bytes n → n ≡ last + 1 → x ≡ get_or bytes (last / 8) x → after ≡ take ((last + 7) / 8) (set bytes (last / 8) (bit_and x (get_or below (last % 8) 0))) → IsCanonical after last × (take last (bits after) ≡ take last (bits bytes))
+cut_last bytes after n last x canonical e is was =
+    let k : ℕ = last / 8 in
+    let m : ℕ = (last + 7) / 8 in
+    let p : ℕ = last % 8 in
+    let byte : x ≡ get_or bytes k 0 = is ∙ get_or_default_zero bytes k x (omega (arith, canonical.exact, e)) in
+    let mask : bit_and x (get_or below p 0) ≡ x % 2 ^ p = ap (bit_and x) (below_at p (omega arith)) ∙ and_mask x p in
+    let small : x < 256 = rw byte (canonical.fits k) in
+    let now : after ≡ take m (set bytes k (x % 2 ^ p)) = was ∙ ap (λ y. take m (set bytes k y)) mask in
+    let fits : AreBytes after = rw now (take_fits m (set bytes k (x % 2 ^ p)) (set_fits bytes k (x % 2 ^ p) canonical.fits (mod_small x (2 ^ p) small))) in
+    elim (cases_lt 0 p) [
+      | inl some ↦
+          let inside : k < m = omega arith in
+          let moved : after ≡ set (take m bytes) k (x % 2 ^ p) = now ∙ take-set-lt m bytes k (x % 2 ^ p) inside in
+          let front : get_or (take m bytes) k 0 ≡ x = get_or-take m bytes k 0 inside ∙ sym byte in
+          rw moved (cut_within bytes last (x % 2 ^ p) (omega (arith, canonical.exact, e)) some (ap (λ y. y % 2 ^ p) (sym front)) (subst AreBytes moved fits))
+      | inr none ↦
+          let past : m ≤ k = omega (arith, none) in
+          let moved : after ≡ take m bytes = now ∙ take-set-le m bytes k (x % 2 ^ p) past in
+          rw moved (cut_whole bytes last (omega (arith, canonical.exact, e)) (omega (arith, none)) (subst AreBytes moved fits))
+    ]
+  where
+    mod_small : (x m : ℕ) → x < 256 → x % m < 256
+    mod_small x m h = let le = mod-le x m in omega (arith, le, h)
 
 -- an item in the last byte
 pub push_place : (bytes after : List ℕ) (n x y : ℕ) (v : Bool) → IsCanonical bytes n → 0 < n % 8 → x ≡ get_or bytes (n / 8) x → y ≡ from_bool v → after ≡ set bytes (n / 8) (bit_or x (y * 2 ^ (n % 8) % 256)) → IsCanonical after (n + 1) × (take (n + 1) (bits after) ≡ take n (bits bytes) ++ v ∷ [])

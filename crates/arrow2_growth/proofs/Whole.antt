@@ -9,9 +9,10 @@ use Rattle.arrow2_model.specs.Bits.{bits, unnum}
 use Rattle.arrow2_model.specs.Canonical.{IsCanonical}
 use Rattle.arrow2_model.specs.Parts.{part}
 use Rattle.arrow2_model.proofs.Bits.{length-unnum, get_or-unnum, bits-cons, bits-append, length-bits}
-use Rattle.arrow2_model.proofs.Bytes.{take-bits, drop-bits, bits-ones, bits-zeros, part-bits-drop}
-use Rattle.arrow2_model.proofs.Parts.{part-add, length-part}
-use Rattle.arrow2_growth.proofs.Buffer.{AreBytes, append_fits, copies_fit}
+use Rattle.arrow2_model.proofs.Bytes.{take-bits, drop-bits, part-bits-drop}
+use Rattle.arrow2_model.proofs.Parts.{part-add}
+use Rattle.arrow2_model.proofs.Walks.{length-part_bits}
+use Rattle.arrow2_growth.proofs.Buffer.{AreBytes, append_fits}
 use Rattle.arrow2_growth.proofs.Pushed.{Hold, held, before}
 
 -- ---- whole bytes
@@ -46,19 +47,6 @@ pushed_bytes bytes after more n canonical whole e fits =
           behind bytes after more k e ge
           ∙ (ap (λ j. get_or (bits more) (k - j) false) (sym ends) ∙ sym (get_or-append_right own (bits more) n k false u (omega (arith, ge, ends))))
     ])
-
--- bytes that were filled up with one byte
-pub filled_up : (bytes after : List ℕ) (l m c b : ℕ) → after ≡ take (l + c) bytes ++ replicate (l + c - m) b → l ≡ length bytes → m ≡ length bytes → after ≡ bytes ++ replicate c b
-filled_up bytes after l m c b e is-l is-m =
-    let count : l + c - m ≡ c = omega arith in
-    e ∙ (ap (λ (t : List ℕ). t ++ replicate (l + c - m) b) (take_all (l + c) bytes (omega (arith, is-l))) ∙ ap (λ k. bytes ++ replicate k b) count)
-
--- all bits of one byte so many times behind items that end a byte
-pub pushed_copies : (bytes after : List ℕ) (n l m c b : ℕ) → IsCanonical bytes n → (0 < c → n % 8 ≡ 0) → after ≡ take (l + c) bytes ++ replicate (l + c - m) b → l ≡ length bytes → m ≡ length bytes → b < 256 → Hold after (n + 8 * c) (take n (bits bytes) ++ bits (replicate c b))
-pushed_copies bytes after n l m c b canonical whole e is-l is-m fits =
-    let count : length (replicate c b) ≡ c = length-replicate c b in
-    subst (λ k. Hold after (n + 8 * k) (take n (bits bytes) ++ bits (replicate c b))) count
-    (pushed_bytes bytes after (replicate c b) n canonical (λ some. whole (omega (arith, count, some))) (filled_up bytes after l m c b e is-l is-m) (copies_fit c b fits))
 
 -- the lowest bits of a byte, as those of a word
 low_bits : (b r : ℕ) → r ≤ 8 → take r (unnum 8 b) ≡ take r (unnum 64 b)
@@ -95,42 +83,6 @@ pub pushed_whole_front : (slice : List ℕ) (own after : List Bool) (c : ℕ) �
 pushed_whole_front slice own after c inside whole front =
     let count : 8 * (c / 8) ≡ c = omega arith in
     front ∙ ap (λ (t : List Bool). own ++ t) (sym (take-bits slice (c / 8) (omega arith)) ∙ ap (λ k. take k (bits slice)) count)
-
--- ---- one value
-
-unnum-all : unnum 64 18446744073709551615 ≡ replicate 64 true
-unfolding unnum
-unnum-all = refl
-
-unnum-none : unnum 64 0 ≡ replicate 64 false
-unfolding unnum
-unnum-none = refl
-
--- a word and a byte all bits of which are one value
-abbrev pub Are : Bool → ℕ → ℕ → Type 0
-Are v word byte = (unnum 64 word ≡ replicate 64 v) × ((m : ℕ) → bits (replicate m byte) ≡ replicate (8 * m) v)
-
-pub are_true : Are true 18446744073709551615 255
-are_true = (unnum-all, bits-ones)
-
-pub are_false : Are false 0 0
-are_false = (unnum-none, bits-zeros)
-
--- the first items of a word that has one value alone
-pub constant_word : (v : Bool) (a word : ℕ) → unnum 64 word ≡ replicate 64 v → a ≤ 64 → take a (unnum 64 word) ≡ replicate a v
-constant_word v a word are few = ap (take a) are ∙ take-replicate a 64 v few
-
--- a value behind items: by a word up to the end of the byte, by bytes, and by a word
-pub constant_items : (own first second third : List Bool) (v : Bool) (a h q r word byte : ℕ) → Are v word byte → a ≡ h + 8 * q + r → h ≤ 64 → r ≤ 64 → first ≡ own ++ take h (unnum 64 word) → second ≡ first ++ bits (replicate q byte) → third ≡ second ++ take r (unnum 64 word) → third ≡ own ++ replicate a v
-constant_items own first second third v a h q r word byte are sum few less f s l =
-    let head = constant_word v h word are.0 few in
-    let last = constant_word v r word are.0 less in
-    let one : first ≡ own ++ replicate h v = f ∙ ap (λ (x : List Bool). own ++ x) head in
-    let two : second ≡ own ++ replicate (h + 8 * q) v =
-    s ∙ (ap (λ (x : List Bool). x ++ bits (replicate q byte)) one ∙ (append_assoc own (replicate h v) (bits (replicate q byte)) ∙ ap (λ (x : List Bool). own ++ x) (ap (λ (x : List Bool). replicate h v ++ x) (are.1 q) ∙ replicate-append-replicate h (8 * q) v))) in
-    l
-    ∙ (ap (λ (x : List Bool). x ++ take r (unnum 64 word)) two
-    ∙ (append_assoc own (replicate (h + 8 * q) v) (take r (unnum 64 word)) ∙ ap (λ (x : List Bool). own ++ x) (ap (λ (x : List Bool). replicate (h + 8 * q) v ++ x) last ∙ (replicate-append-replicate (h + 8 * q) r v ∙ ap (λ k. replicate k v) (sym sum)))))
 
 -- ---- the items of a walk
 
@@ -197,7 +149,4 @@ length-append_word xs k x few = omega (arith, length-append xs (take k (unnum 64
 pub length-append_bits : (xs : List Bool) (bytes : List ℕ) → length (xs ++ bits bytes) ≡ length xs + 8 * length bytes
 length-append_bits xs bytes = omega (arith, length-append xs (bits bytes), length-bits bytes)
 
-pub length-bits_part : (bytes : List ℕ) (offset count : ℕ) → offset + count ≤ 8 * length bytes → length (part (bits bytes) offset count) ≡ count
-length-bits_part bytes offset count inside = length-part (bits bytes) offset count (omega (arith, length-bits bytes))
-
-pub ruleset extending = (length-append_word, length-append_bits, length-bits_part, length-append, length-replicate, length-bits, length-word, length-block)
+pub ruleset extending = (length-append_word, length-append_bits, length-part_bits, length-append, length-replicate, length-bits, length-word, length-block)

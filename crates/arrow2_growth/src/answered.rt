@@ -6,12 +6,12 @@ use crate::packed::word_of;
 use arrow2_chunk::bit_chunk::BitChunk;
 use std::alloc::{AllocError, Global};
 
-/// The bytes of what `f` answers to each number below `length`, with spare bits behind them. Asks for memory once, before
-/// it asks `f`. Asks that `f` may be called at each of these numbers.
+/// The bytes of what `f` answers to each number below `length`, with spare bits behind them. Allocates once, before it
+/// asks `f`. Requires that `f` may be called at each of these numbers.
 ///
 /// # Errors
 ///
-/// Where memory is refused.
+/// If an allocation fails.
 pub fn answered<F: Fn(usize) -> bool>(
     alloc: Global,
     length: usize,

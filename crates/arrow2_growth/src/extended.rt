@@ -13,7 +13,8 @@ use std::alloc::AllocError;
 
 #[tactic(auto, using(crate::proofs::Whole::extending))]
 impl PackedBits {
-    /// Appends the `count` bits from bit `offset` of `slice` on. Asks that they are inside. All memory is asked for first.
+    /// Appends the `count` bits from bit `offset` of `slice` on. Requires that they are inside. It allocates at most
+    /// once, before it writes.
     ///
     /// # Errors
     ///
@@ -36,7 +37,7 @@ impl PackedBits {
         Ok(())
     }
 
-    /// Appends `value` `additional` times. All memory is asked for first.
+    /// Appends `value` `additional` times. It allocates at most once, before it writes.
     ///
     /// # Errors
     ///
@@ -47,28 +48,17 @@ impl PackedBits {
             (replicate additional value) }
     {
         self.reserve(additional)?;
-        if additional <= 64 {
-            self.push_word(if value { u64::MAX } else { 0 }, additional)?;
+        let total = self.len() + additional;
+        if value {
+            self.append_trues(total)?;
         } else {
-            self.push_value(value, additional)?;
+            self.append_falses(total)?;
         }
         Ok(())
     }
 
-    /// Appends `value` `count` times: by a word up to the end of the last byte, by bytes, and by a word.
-    fn push_value(&mut self, value: bool, count: usize) -> Result<(), AllocError>
-        requires fits { length self.old.items + count < 2 ^ 64 }
-        ensures { Pushes result self.old self.new (replicate count value) }
-    {
-        let (word, byte) = if value { (u64::MAX, u8::MAX) } else { (0, 0) };
-        let head = count.min((8 - self.len() % 8) % 8);
-        self.push_word(word, head)?;
-        self.push_copies(byte, (count - head) / 8)?;
-        self.push_word(word, (count - head) % 8)
-    }
-
-    /// Appends the `count` bits from bit `offset` of `slice` on: by bytes where they begin a byte, else by words. Asks
-    /// that the items end a byte, where a bit is appended at all, and that they are inside.
+    /// Appends the `count` bits from bit `offset` of `slice` on: by bytes where they begin a byte, else by words.
+    /// Requires that the items end a byte, where a bit is appended at all, and that they are inside.
     fn push_part(&mut self, slice: &[u8], offset: usize, count: usize) -> Result<(), AllocError>
         requires whole { 0 < count → length self.old.items % 8 ≡ 0 }
         requires inside { offset + count ≤ 8 * length slice.now }
@@ -82,8 +72,8 @@ impl PackedBits {
         }
     }
 
-    /// Appends the first `count` bits of `slice`: whole bytes at once. Asks that the items end a byte, where a bit is
-    /// appended at all, and that `slice` has as many bits.
+    /// Appends the first `count` bits of `slice`: whole bytes at once. Requires that the items end a byte, where a bit
+    /// is appended at all, and that `slice` has as many bits.
     fn push_front(&mut self, slice: &[u8], count: usize) -> Result<(), AllocError>
         requires whole { 0 < count → length self.old.items % 8 ≡ 0 }
         requires inside { count ≤ 8 * length slice.now }
@@ -99,8 +89,8 @@ impl PackedBits {
         Ok(())
     }
 
-    /// Appends the items of a walk by words: eight words at once, and those that are left one by one. Asks that the items
-    /// end a byte, where one is appended at all.
+    /// Appends the items of a walk by words: eight words at once, and those that are left one by one. Requires that the
+    /// items end a byte, where one is appended at all.
     fn push_blocks(&mut self, chunks: BitChunks<'_, u64>) -> Result<(), AllocError>
         requires whole { 0 < length chunks.items → length self.old.items % 8 ≡ 0 }
         requires fits { length self.old.items + length chunks.items < 2 ^ 64 }
@@ -126,7 +116,7 @@ impl PackedBits {
     }
 }
 
-/// The bytes of the next eight words. Asks that there are as many.
+/// The bytes of the next eight words. Requires that there are as many.
 fn next_block(chunks: &mut BitChunks<'_, u64>) -> [u8; 64]
     requires { 8 ≤ length (full_words 64 chunks.old.items) }
     ensures size { length result ≡ 64 }

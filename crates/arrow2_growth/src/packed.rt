@@ -69,11 +69,11 @@ fn fill<I: Iterator<Item = bool>>(items: &mut I, block: &mut [bool; 64]) -> usiz
     64
 }
 
-/// The bytes of the items, with spare bits behind them. Asks for memory once.
+/// The bytes of the items, with spare bits behind them. Allocates once.
 ///
 /// # Errors
 ///
-/// Where memory is refused.
+/// If an allocation fails.
 pub fn packed(alloc: Global, items: &[bool]) -> Result<Vec<u8>, AllocError>
     ensures enough { IfOk result (λ bytes. length items.now ≤ 8 * vec_len bytes) }
     ensures items { IfOk result (λ bytes. take (length items.now) (bits bytes.items) ≡ items.now) }
@@ -107,7 +107,7 @@ fn lanes_of(items: &[bool; 64]) -> [u8; 64]
     lanes
 }
 
-/// The items, and false behind them. Asks that they are no more than a word has.
+/// The items, and false behind them. Requires that they are no more than a word has.
 pub fn padded(items: &[bool]) -> [bool; 64]
     requires { length items.now ≤ 64 }
     ensures front { take (length items.now) result ≡ items.now }

@@ -1,5 +1,5 @@
 //! Booleans packed into bytes, which grow.
-ghost use Rattle.std.specs.Prelude.{◌≡◌, ◌+◌, ◌-◌, ◌*◌, ◌/◌, ◌%◌, ◌<◌, ◌≤◌, ◌^◌, ◌↔◌, ℕ, IsTrue, List, Bool, [], ◌∷◌, ◌++◌, false, length, length as length', take, replicate, slice_set, min, OnOk, OnErr, IsOk, IfOk, IfNone, IsErrOf, MatchOption, vec_len, vec_capacity};
+ghost use Rattle.std.specs.Prelude.{◌≡◌, ◌+◌, ◌-◌, ◌*◌, ◌/◌, ◌%◌, ◌<◌, ◌≤◌, ◌^◌, ◌↔◌, ◌⊎◌, ℕ, IsTrue, List, Bool, [], ◌∷◌, ◌++◌, true, false, slice_index_or, length, length as length', take, replicate, slice_set, min, OnOk, OnErr, IsOk, IfOk, IfNone, IsErrOf, MatchOption, vec_len, vec_capacity};
 ghost use Rattle.arrow2_model.specs.Bits.{bit, bits, unnum};
 ghost use Rattle.arrow2_model.specs.Canonical.{canonical_bytes, IsCanonical};
 ghost use Rattle.arrow2_model.specs.Kernels.{kernel, word, words_at};
@@ -9,7 +9,7 @@ ghost use Rattle.arrow2_growth.specs.Growth.{Appends, Pushes};
 ghost use Rattle.arrow2_types.specs.declared.refusal.Refusal.TheVariants as refusal;
 ghost use Rattle.std.specs.declared.alloc.Global.{Global};
 
-use arrow2_bits::{bytes_for, get_bit, set};
+use arrow2_bits::{bytes_for, is_set, set};
 use arrow2_chunk::bit_chunk::BitChunk;
 use arrow2_kernels::assigned::assign_rows;
 use arrow2_kernels::lane_assigned::{assign_binary, assign_unary};
@@ -17,6 +17,12 @@ use arrow2_kernels::rows::WordRows;
 use arrow2_types::refusal::Refusal;
 use std::alloc::{AllocError, Global};
 use std::marker::Model;
+
+/// At index i the byte whose bits below i are set: read in place of a shift by a variable.
+const BELOW: [u8; 8] = [0, 1, 3, 7, 15, 31, 63, 127];
+
+/// At index i the byte whose other bits are set.
+const ABOVE: [u8; 8] = [255, 254, 252, 248, 240, 224, 192, 128];
 
 /// Booleans packed into bytes, which grow: contracts see the items, and how many it has room for.
 ///
@@ -45,7 +51,7 @@ impl Model for PackedBits {
 
 #[tactic(auto, using(crate::proofs::Buffer::buffers))]
 impl PackedBits {
-    /// No items. Takes no memory.
+    /// No items. Does not allocate.
     pub fn new(alloc: Global) -> PackedBits
         ensures { result.items ≡ [] }
     {
@@ -59,7 +65,7 @@ impl PackedBits {
     ///
     /// # Errors
     ///
-    /// Where memory is refused.
+    /// If an allocation fails.
     pub fn with_capacity(alloc: Global, capacity: usize) -> Result<PackedBits, AllocError>
         ensures items { IfOk result (λ b. b.items ≡ []) }
         ensures capacity { IfOk result (λ b. capacity ≤ b.capacity) }
@@ -69,7 +75,7 @@ impl PackedBits {
     }
 
     /// The first `length` bits of the bytes. Spare bytes are cut and spare bits cleared, in place, and the room of the
-    /// vector stays. Asks that there are as many. Takes no memory.
+    /// vector stays. Requires that there are as many. Does not allocate.
     pub fn from_vec(bytes: Vec<u8>, length: usize) -> PackedBits
         requires inside { length ≤ 8 * vec_len bytes }
         ensures items { result.items ≡ take length (bits bytes.items) }
@@ -164,7 +170,7 @@ impl PackedBits {
         self.length = 0;
     }
 
-    /// Adds one item. Below the capacity it takes no memory.
+    /// Adds one item. Below the capacity it does not allocate.
     ///
     /// # Errors
     ///
@@ -186,12 +192,12 @@ impl PackedBits {
     }
 
     /// Appends the first `count` items of `word`: what fits into the last byte goes there, and what is left behind it.
-    /// Spare bits stay false, whatever the word has behind these items. Asks that `count` is at most 64, and that all
-    /// items are no more than `usize::MAX`.
+    /// Spare bits stay false, whatever the word has behind these items. Requires that `count` is at most 64, and that
+    /// all items are no more than `usize::MAX`.
     ///
     /// # Errors
     ///
-    /// Where memory is refused. The items are as before then.
+    /// If an allocation fails. The items are as before then.
     pub(crate) fn push_word(&mut self, word: u64, count: usize) -> Result<(), AllocError>
         requires few { count ≤ 64 }
         requires fits { length self.old.items + count < 2 ^ 64 }
@@ -216,8 +222,8 @@ impl PackedBits {
         Ok(())
     }
 
-    /// Appends all bits of `slice`. Asks that the items end a byte, where a bit is appended at all, and that all items
-    /// are no more than `usize::MAX`.
+    /// Appends all bits of `slice`. Requires that the items end a byte, where a bit is appended at all, and that all
+    /// items are no more than `usize::MAX`.
     pub(crate) fn push_bytes(&mut self, slice: &[u8]) -> Result<(), AllocError>
         requires whole { 0 < length' slice.now → length self.old.items % 8 ≡ 0 }
         requires fits { length self.old.items + 8 * length' slice.now < 2 ^ 64 }
@@ -229,16 +235,30 @@ impl PackedBits {
         Ok(())
     }
 
-    /// Appends all bits of `byte` `count` times. Asks that the items end a byte, where it is appended at all, and that
-    /// all items are no more than `usize::MAX`.
-    pub(crate) fn push_copies(&mut self, byte: u8, count: usize) -> Result<(), AllocError>
-        requires whole { 0 < count → length self.old.items % 8 ≡ 0 }
-        requires fits { length self.old.items + 8 * count < 2 ^ 64 }
-        ensures pushes { Pushes result self.old self.new (bits (replicate count byte)) }
+    /// Appends false until there are `total` items. Requires that there are no more than that.
+    pub(crate) fn append_falses(&mut self, total: usize) -> Result<(), AllocError>
+        requires more { length self.old.items ≤ total }
+        ensures pushes { Pushes result self.old self.new
+            (replicate (total - length self.old.items) false) }
         ensures err { OnErr result (self.new.items ≡ self.old.items) }
     {
-        self.bytes.resize(self.bytes.len() + count, byte)?;
-        self.length += 8 * count;
+        self.bytes.resize(bytes_for(total), 0)?;
+        self.length = total;
+        Ok(())
+    }
+
+    /// Appends true until there are `total` items: whole bytes, and then the bits before and behind them are mended.
+    /// Requires that there are no more than that.
+    pub(crate) fn append_trues(&mut self, total: usize) -> Result<(), AllocError>
+        requires more { length self.old.items ≤ total }
+        ensures pushes { Pushes result self.old self.new
+            (replicate (total - length self.old.items) true) }
+        ensures err { OnErr result (self.new.items ≡ self.old.items) }
+    {
+        self.bytes.resize(bytes_for(total), u8::MAX)?;
+        set_above(&mut self.bytes, self.length);
+        cut(&mut self.bytes, total);
+        self.length = total;
         Ok(())
     }
 
@@ -250,13 +270,14 @@ impl PackedBits {
         ensures capacity { self.new.capacity ≡ self.old.capacity }
     {
         let last = self.length.checked_sub(1)?;
-        let item = get_bit(self.bytes.as_slice(), last);
-        cut(&mut self.bytes, last);
+        let byte = self.bytes[last / 8];
+        self.bytes[last / 8] = byte & BELOW[last % 8];
+        self.bytes.truncate(bytes_for(last));
         self.length = last;
-        Some(item)
+        Some(is_set(byte, last % 8))
     }
 
-    /// Writes item `index`, and leaves every other. Asks that there is one.
+    /// Writes item `index`, and leaves every other. Requires that there is one.
     pub fn set(&mut self, index: usize, value: bool)
         requires below { index < length self.old.items }
         ensures items { self.new.items ≡ slice_set self.old.items index value }
@@ -267,7 +288,7 @@ impl PackedBits {
     }
 
     /// Writes what `op` answers to each word of the items, and to the row of words beside it, in place of that word.
-    /// Takes no memory. Asks for rows of as many items.
+    /// Does not allocate. Requires rows of as many items.
     pub fn assign_rows<T: BitChunk, S: WordRows<T>, F: Fn(T, S::Row) -> T>(
         &mut self,
         rows: S,
@@ -290,8 +311,8 @@ impl PackedBits {
         assign_rows(self.bytes.as_mut_slice(), self.length, rows, op);
     }
 
-    /// Makes each item the answer of table `t` for it and the bit of `other` at its place, 32 bytes at a time. Takes no
-    /// memory. Asks for as many bits.
+    /// Makes each item the answer of table `t` for it and the bit of `other` at its place, 32 bytes at a time. Does not
+    /// allocate. Requires as many bits.
     pub fn answer_beside(&mut self, other: &[u8], t: u8)
         requires inside { length self.old.items ≤ 8 * length other.now }
         ensures items { self.new.items ≡ each t (self.old.items
@@ -301,7 +322,7 @@ impl PackedBits {
         assign_binary(self.bytes.as_mut_slice(), other, self.length, t);
     }
 
-    /// Makes each item the answer of table `t` for it, 32 bytes at a time. Takes no memory.
+    /// Makes each item the answer of table `t` for it, 32 bytes at a time. Does not allocate.
     pub fn answer(&mut self, t: u8)
         ensures items { self.new.items ≡ each t (self.old.items ∷ []) }
         ensures capacity { self.new.capacity ≡ self.old.capacity }
@@ -309,13 +330,29 @@ impl PackedBits {
         assign_unary(self.bytes.as_mut_slice(), self.length, t);
     }
 
-    /// Makes each item `value`. Takes no memory.
+    /// Makes each item `value`. Does not allocate.
     pub fn fill(&mut self, value: bool)
         ensures items { self.new.items ≡ replicate (length self.old.items) value }
         ensures capacity { self.new.capacity ≡ self.old.capacity }
     {
         fill_bytes(&mut self.bytes, if value { u8::MAX } else { 0 });
         cut(&mut self.bytes, self.length);
+    }
+}
+
+/// Sets the bits of a byte behind the first `length` bits, where these end within it. Requires that it is there.
+fn set_above(bytes: &mut Vec<u8>, length: usize)
+    requires inside { length ≤ 8 * length' bytes.old.items }
+    ensures kept { (k : ℕ) → (k < length) ⊎ (8 * ((length + 7) / 8) ≤ k) →
+        slice_index_or (bits bytes.new.items) k false ≡ slice_index_or (bits bytes.old.items) k false }
+    ensures written { (k : ℕ) → length ≤ k → k < 8 * ((length + 7) / 8) →
+        slice_index_or (bits bytes.new.items) k false ≡ true }
+    ensures len { length' bytes.new.items ≡ length' bytes.old.items }
+    ensures capacity { vec_capacity bytes.new ≡ vec_capacity bytes.old }
+{
+    if length % 8 != 0 {
+        let byte = &mut bytes[length / 8];
+        *byte |= ABOVE[length % 8];
     }
 }
 
@@ -336,7 +373,7 @@ fn cut(bytes: &mut Vec<u8>, length: usize)
 ///
 /// # Errors
 ///
-/// Where memory is refused.
+/// If an allocation fails.
 impl Clone for PackedBits {
     ghost is_clone = { λ a b. b.items ≡ a.items };
 
@@ -357,7 +394,8 @@ fn fill_bytes(bytes: &mut Vec<u8>, byte: u8)
     bytes.as_mut_slice().fill(byte);
 }
 
-/// Appends the first `count` of eight bytes. All of them, as most often, are one store. Asks that `count` is at most 8.
+/// Appends the first `count` of eight bytes. All of them, as most often, are one store. Requires that `count` is at
+/// most 8.
 fn push_first(bytes: &mut Vec<u8>, eight: &[u8; 8], count: usize) -> Result<(), AllocError>
     requires { count ≤ 8 }
     ensures ok { OnOk result (bytes.new.items ≡ bytes.old.items ++ take count eight.now) }
@@ -372,7 +410,7 @@ fn push_first(bytes: &mut Vec<u8>, eight: &[u8; 8], count: usize) -> Result<(), 
     }
 }
 
-/// The byte with the first items of `word` from bit `place` on. Asks that none of its bits is set there.
+/// The byte with the first items of `word` from bit `place` on. Requires that none of its bits is set there.
 fn merged(byte: u8, word: u64, place: usize) -> u8
     requires place { place < 8 }
     requires clear { (i : ℕ) → place ≤ i → i < 8 → bit byte i ≡ false }

@@ -14,7 +14,7 @@ use std::ops::{AddAssign, Sub};
 ///
 /// Differs from arrow2: what doesn't fit is asked not to come, in place of wrapping.
 pub trait Index: NativeType + Ord + AddAssign + Sub<Self, Output = Self> + One + Num + CheckedAdd {
-    /// The number as a `usize`. Asks that it is not negative.
+    /// The number as a `usize`. Requires that it is not negative.
     fn to_usize(&self) -> usize
         requires { pos 0 ≤ℤ Self.value self.now }
         ensures value { pos result ≡ Self.value self.now }
@@ -25,23 +25,23 @@ pub trait Index: NativeType + Ord + AddAssign + Sub<Self, Output = Self> + One +
         ensures some { IfSome result (λ x. Self.value x ≡ pos index) }
         ensures fits { IsSome result ↔ Self.fits (pos index) };
 
-    /// The same number in this type. Asks that it fits.
+    /// The same number in this type. Requires that it fits.
     fn from_as_usize(index: usize) -> Self
         requires { Self.fits (pos index) }
         ensures { Self.value result ≡ pos index };
 
-    /// How far `end` is above the number. Asks that it is not below. Not in arrow2.
+    /// How far `end` is above the number. Requires that it is not below. Not in arrow2.
     fn distance_to(self, end: Self) -> usize
         requires { Self.value self ≤ℤ Self.value end }
         ensures { pos result ≡ Self.value end -ℤ Self.value self };
 
-    /// The next number. Asks that the number is below `end`, so that there is a next one. Not in arrow2.
+    /// The next number. Requires that the number is below `end`, so that there is a next one. Not in arrow2.
     fn next_towards(self, end: Self) -> Self
         requires { Self.value self <ℤ Self.value end }
         ensures { Self.value result ≡ Self.value self +ℤ pos 1 };
 
-    /// The walk from `start` up to the number before `end`, or `None` where one of the two does not fit.
-    /// Asks that `start` is at most `end`, which arrow2 tests last.
+    /// The walk from `start` up to the number before `end`, or `None` where one of the two does not fit. Requires that
+    /// `start` is at most `end`, which arrow2 tests last.
     final fn range(start: usize, end: usize) -> Option<IndexRange<Self>>
         requires { start ≤ end }
         ensures some { IfSome result (λ range. range ≡ integers (pos start) (pos end)) }
@@ -248,7 +248,7 @@ impl Index for u64 {
     }
 }
 
-/// A walk over a range of numbers: contracts see the values of the numbers still to come.
+/// An iterator over a range of numbers: contracts see the values of the numbers still to come.
 #[derive(Drop)]
 pub struct IndexRange<I: Index> {
     start: I,
@@ -268,7 +268,7 @@ impl<I: Index> Model for IndexRange<I> {
 
 #[tactic(auto, using(crate::proofs::Ranges::ranges))]
 impl<I: Index> IndexRange<I> {
-    /// The walk from `start` up to the number before `end`. Asks that `start` is at most `end`.
+    /// The walk from `start` up to the number before `end`. Requires that `start` is at most `end`.
     pub fn new(start: I, end: I) -> IndexRange<I>
         requires { I.value start ≤ℤ I.value end }
         ensures { result ≡ integers (I.value start) (I.value end) }

@@ -10,8 +10,8 @@ use arrow2_chunk::bit_chunk::BitChunk;
 use std::convert::AsSlice;
 
 /// Writes what `op` answers to each word of the first `length` bits, and to the row of words beside it, in place of
-/// that word. Spare bits are false afterwards, whatever they were, and whatever `op` sets there. Takes no memory.
-/// Asks for as many bytes as hold so many bits, for lists of `length` items all, and that `op` answers every word.
+/// that word. Spare bits are false afterwards, whatever they were, and whatever `op` sets there. Does not allocate.
+/// Requires as many bytes as hold so many bits, for lists of `length` items all, and that `op` answers every word.
 pub fn assign_rows<T: BitChunk, S: WordRows<T>, F: Fn(T, S::Row) -> T>(
     bytes: &mut [u8],
     length: usize,
@@ -43,7 +43,7 @@ pub fn assign_rows<T: BitChunk, S: WordRows<T>, F: Fn(T, S::Row) -> T>(
     }
 }
 
-/// The word whose first bytes are the `count` ones from byte `at` on. Asks that these are inside the bytes, and no
+/// The word whose first bytes are the `count` ones from byte `at` on. Requires that these are inside the bytes, and no
 /// more than a word has.
 fn word_at<T: BitChunk>(bytes: &[u8], at: usize, count: usize) -> T
     requires inside { at + count ≤ length' bytes.now }
@@ -57,7 +57,7 @@ fn word_at<T: BitChunk>(bytes: &[u8], at: usize, count: usize) -> T
     T::from_ne_slice(&padded[..T::SIZE])
 }
 
-/// Writes the first `count` bytes of the word from byte `at` on. Asks that these are inside the bytes, and no more
+/// Writes the first `count` bytes of the word from byte `at` on. Requires that these are inside the bytes, and no more
 /// than a word has.
 fn put_word<T: BitChunk>(bytes: &mut [u8], at: usize, count: usize, word: T)
     requires inside { at + count ≤ length' bytes.old }
@@ -71,7 +71,7 @@ fn put_word<T: BitChunk>(bytes: &mut [u8], at: usize, count: usize, word: T)
     write_over(&mut bytes[at..at + count], &word.as_slice()[..count]);
 }
 
-/// Writes the bytes of `word` in place of `bytes`. Asks for as many. A single byte is stored by itself: as a copy, it
+/// Writes the bytes of `word` in place of `bytes`. Requires as many. A single byte is stored by itself: as a copy, it
 /// keeps LLVM from making a loop over bytes wide.
 fn write_over(bytes: &mut [u8], word: &[u8])
     requires size { length' word.now ≡ length' bytes.old }

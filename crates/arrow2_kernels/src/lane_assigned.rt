@@ -9,8 +9,8 @@ use crate::tables::{binary_answers, unary_answers};
 use std::simd::prelude::*;
 
 /// Writes the answers of table `t` for the first `length` bits, and for those of `other`, in place. Spare bits are
-/// false afterwards, whatever they were. Takes no memory. Asks for as many bytes as hold so many bits, and for as many
-/// of `other` at least.
+/// false afterwards, whatever they were. Does not allocate. Requires as many bytes as hold so many bits, and for as
+/// many of `other` at least.
 pub fn assign_binary(bytes: &mut [u8], other: &[u8], length: usize, t: u8)
     requires exact { length' bytes.old ≡ (length + 7) / 8 }
     requires inside { length ≤ 8 * length' other.now }
@@ -105,7 +105,7 @@ fn write_unary(bytes: &mut [u8], t: u8)
     }
 }
 
-/// Clears the bits behind the first `length`. Takes no memory. Asks for as many bytes as hold so many bits.
+/// Clears the bits behind the first `length`. Does not allocate. Requires as many bytes as hold so many bits.
 pub fn clear_spare(bytes: &mut [u8], length: usize)
     requires exact { length' bytes.old ≡ (length + 7) / 8 }
     ensures canonical { IsCanonical bytes.new length }
@@ -116,7 +116,7 @@ pub fn clear_spare(bytes: &mut [u8], length: usize)
     }
 }
 
-/// Keeps of byte `last` its lowest `count` bits. Asks that there is one, and for less than eight.
+/// Keeps of byte `last` its lowest `count` bits. Requires that there is one, and for less than eight.
 fn clear_last(bytes: &mut [u8], last: usize, count: usize)
     requires inside { last < length' bytes.old }
     requires few { count < 8 }

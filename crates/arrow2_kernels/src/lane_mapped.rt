@@ -12,11 +12,11 @@ use std::alloc::{AllocError, Global};
 const BLOCK: usize = 4096;
 
 /// The bytes of the answers of table `t` for the first `length` bits of both: as many bytes as hold so many bits, with
-/// spare bits false. Asks for memory once. Asks that both hold so many bits.
+/// spare bits false. Allocates once. Requires that both hold so many bits.
 ///
 /// # Errors
 ///
-/// Where memory is refused.
+/// If an allocation fails.
 pub fn map_binary(
     alloc: Global,
     left: &[u8],
@@ -41,7 +41,7 @@ pub fn map_binary(
 ///
 /// # Errors
 ///
-/// Where memory is refused.
+/// If an allocation fails.
 pub fn map_unary(alloc: Global, list: &[u8], length: usize, t: u8) -> Result<Vec<u8>, AllocError>
     requires { length ≤ 8 * length' list.now }
     ensures canonical { IfOk result (λ v. IsCanonical v.items length) }
@@ -53,7 +53,8 @@ pub fn map_unary(alloc: Global, list: &[u8], length: usize, t: u8) -> Result<Vec
     Ok(bytes)
 }
 
-/// Appends the answers of table `t` for each bit of both to no bytes, a block at a time. Asks for as many bytes of both.
+/// Appends the answers of table `t` for each bit of both to no bytes, a block at a time. Requires as many bytes of
+/// both.
 fn append_blocks(bytes: &mut Vec<u8>, left: &[u8], right: &[u8], t: u8) -> Result<(), AllocError>
     requires empty { bytes.old.items ≡ [] }
     requires alike { length' left.now ≡ length' right.now }
@@ -67,7 +68,7 @@ fn append_blocks(bytes: &mut Vec<u8>, left: &[u8], right: &[u8], t: u8) -> Resul
     append_binary(bytes, &left[BLOCK * whole..], &right[BLOCK * whole..], t)
 }
 
-/// Appends the answers of table `t` for each bit of both. Asks for as many bytes of both.
+/// Appends the answers of table `t` for each bit of both. Requires as many bytes of both.
 fn append_binary(bytes: &mut Vec<u8>, left: &[u8], right: &[u8], t: u8) -> Result<(), AllocError>
     requires alike { length' left.now ≡ length' right.now }
     ensures { OnOk result (bits bytes.new.items ≡ bits bytes.old.items

@@ -11,9 +11,9 @@ use crate::rows::WordRows;
 use arrow2_bits::bytes_for;
 use std::alloc::{AllocError, Global};
 
-/// Writes what `op` answers to each row of words over `bytes`, from bit 0 on, for lists of `length` items. Spare bits are
-/// false afterwards. Takes no memory. Asks for as many bytes as hold so many bits, that all lists have so many items, and
-/// that `op` answers every row.
+/// Writes what `op` answers to each row of words over `bytes`, from bit 0 on, for lists of `length` items. Spare bits
+/// are false afterwards. Does not allocate. Requires as many bytes as hold so many bits, that all lists have so many
+/// items, and that `op` answers every row.
 pub fn write_rows<S: WordRows<u64>, F: Fn(S::Row) -> u64>(
     bytes: &mut [u8],
     length: usize,
@@ -35,12 +35,12 @@ pub fn write_rows<S: WordRows<u64>, F: Fn(S::Row) -> u64>(
 }
 
 /// The bytes of what `op` answers to each row of words, for lists of `length` items: as many bytes as hold so many
-/// bits, with spare bits false. Asks for memory once. Asks that all lists have so many items, and that `op` answers every
+/// bits, with spare bits false. Allocates once. Requires that all lists have so many items, and that `op` answers every
 /// row.
 ///
 /// # Errors
 ///
-/// Where memory is refused.
+/// If an allocation fails.
 pub fn map_rows<S: WordRows<u64>, F: Fn(S::Row) -> u64>(
     alloc: Global,
     length: usize,

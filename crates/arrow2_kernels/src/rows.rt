@@ -31,7 +31,7 @@ pub trait WordRows<B: BitChunk>: Drop {
         ensures row { GivesRow B.BitChunk.WIDTH words (length self.old) (row_at self.old) result
             (length self.new) (row_at self.new) };
 
-    /// The row of the items that are left, with false behind them. Asks that they are fewer than a word has.
+    /// The row of the items that are left, with false behind them. Requires that they are fewer than a word has.
     fn rest_row(&self) -> Self::Row
         requires alike { alike self.now }
         requires short { length self.now < B.BitChunk.WIDTH }

@@ -170,7 +170,7 @@ impl Slot {
         Ok(self.array()?.null_count())
     }
 
-    /// Cuts a boolean array to its `length` items from item `offset` on. Takes no memory.
+    /// Cuts a boolean array to its `length` items from item `offset` on. Does not allocate.
     ///
     /// # Errors
     ///

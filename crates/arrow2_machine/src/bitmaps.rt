@@ -150,7 +150,7 @@ impl Slot {
         }
     }
 
-    /// Cuts a frozen bitmap to its `length` items from item `offset` on. Takes no memory.
+    /// Cuts a frozen bitmap to its `length` items from item `offset` on. Does not allocate.
     ///
     /// # Errors
     ///

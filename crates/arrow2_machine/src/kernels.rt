@@ -189,8 +189,8 @@ impl Slot {
         }
     }
 
-    /// Makes each item of a growing bitmap the answer of a table for it, the same for each width of words. Takes no
-    /// memory.
+    /// Makes each item of a growing bitmap the answer of a table for it, the same for each width of words. Does not
+    /// allocate.
     ///
     /// # Errors
     ///
@@ -208,8 +208,8 @@ impl Slot {
         }
     }
 
-    /// Makes each item of a growing bitmap the answer of a table for it and the item of another bitmap, the same for each
-    /// width of words. Takes no memory.
+    /// Makes each item of a growing bitmap the answer of a table for it and the item of another bitmap, the same for
+    /// each width of words. Does not allocate.
     ///
     /// # Errors
     ///
@@ -251,7 +251,7 @@ fn assign_table(bitmap: &mut MutableBitmap, table: Below<4>, width: Width)
     }
 }
 
-/// Makes each item the answer of a table for it and the other item at its place. Asks that both have one length.
+/// Makes each item the answer of a table for it and the other item at its place. Requires that both have one length.
 fn assign_table_beside(bitmap: &mut MutableBitmap, table: Below<16>, width: Width, other: &Bitmap)
     requires same_length { length bitmap.old.items ≡ length (items_of other.now) }
     ensures { bitmap.new.items ≡ each table (bitmap.old.items ∷ items_of other.now ∷ []) }

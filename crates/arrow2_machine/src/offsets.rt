@@ -155,7 +155,7 @@ impl Slot {
         }
     }
 
-    /// Cuts frozen offsets to `count` of them from offset `first` on. Takes no memory.
+    /// Cuts frozen offsets to `count` of them from offset `first` on. Does not allocate.
     ///
     /// # Errors
     ///
@@ -191,7 +191,7 @@ impl Slot {
     }
 }
 
-/// Growing offsets with one offset alone. Asks that it is not negative.
+/// Growing offsets with one offset alone. Requires that it is not negative.
 fn offsets_of(alloc: Global, first: i32) -> Result<Offsets<i32>, AllocError>
     requires { pos 0 ≤ℤ first }
     ensures { IfOk result (λ o. (o.start ≡ unsigned_abs first) × (o.lengths ≡ [])) }

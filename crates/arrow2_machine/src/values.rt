@@ -49,7 +49,7 @@ impl Slot {
         Ok(Slot { contents })
     }
 
-    /// Whether two slots hold the same list.
+    /// Returns whether two slots hold the same list.
     ///
     /// # Errors
     ///

@@ -2,14 +2,12 @@
 use crate::calls::{Row, made};
 use crate::items::items;
 use arrow2_bitmap::bitmap_ops::{
-    and, binary, binary_by_table, from_rows, or, unary, unary_by_table, xor,
+    and, binary, binary_table, from_rows, or, unary, unary_table, xor,
 };
 use arrow2_bitmap::immutable::Bitmap;
 use arrow2_bitmap::mutable::MutableBitmap;
 use arrow2_kernels::rows::OneList;
-use arrow2_tables::bitmap_ops::{
-    binary_table, quaternary, quaternary_table, ternary, ternary_table, unary_table,
-};
+use arrow2_tables::bitmap_ops::{quaternary, quaternary_table, ternary, ternary_table};
 use arrow2_types::error::Result;
 use std::alloc::Global;
 use std::convert::TryFrom;
@@ -108,12 +106,10 @@ fn by_four(bitmap: &Bitmap) -> Result<Bitmap> {
     quaternary_table(bitmap, bitmap, bitmap, bitmap, 0b0111_1111_1111_1110)
 }
 
-/// Truth tables, and those of the operators.
-fn by_tables(bitmap: &Bitmap) -> [Row<Bitmap>; 6] {
+/// Truth tables.
+fn by_tables(bitmap: &Bitmap) -> [Row<Bitmap>; 4] {
     let (one, two) = (bitmap, bitmap);
     [
-        ("unary_by_table", unary_by_table(one, 0b01)),
-        ("binary_by_table", binary_by_table(one, two, 0b0110)),
         ("unary_table", unary_table(one, 0b01)),
         ("binary_table", binary_table(one, two, 0b0111)),
         ("ternary_table", ternary_table(one, two, one, 0b0111_1110)),

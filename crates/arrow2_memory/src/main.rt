@@ -8,8 +8,10 @@ mod bitmaps;
 mod calls;
 mod growing;
 mod items;
+mod numbers;
 mod offsets;
 mod silent;
+mod strings;
 mod walks;
 
 use arrow2_types::error::Result;
@@ -23,6 +25,8 @@ fn all<R: Print + Eprint>(rt: &R, alloc: Global) -> Result<()> {
     growing::all(rt, alloc)?;
     walks::all(rt, alloc)?;
     arrays::all(rt, alloc)?;
+    numbers::all(rt, alloc)?;
+    strings::all(rt, alloc)?;
     offsets::all(rt, alloc)?;
     silent::all(rt, alloc)
 }

@@ -6,12 +6,12 @@ use Rattle.std.specs.Int.Signed.{lt_z}
 use Rattle.std.proofs.Common.{to_z, of_z}
 use Rattle.std.proofs.lemmas.Int.{ints}
 use Rattle.std.proofs.lemmas.List.{append-nil, length-map, length-replicate, map-append, take-map, take_all}
-use Rattle.std.proofs.Math.Seq.{take-add}
 use Rattle.arrow2_model.specs.Parts.{part}
 use Rattle.arrow2_model.specs.Buffers.{BufferStorage, buffer_items, whole_buffer}
 use Rattle.arrow2_offset.specs.Offsets.{running_sums, offsets_list, numbers_of, AreOffsets, AreOffsetsUpTo, start_of, lengths_of, offset_at, last_of}
 use Rattle.arrow2_offset.proofs.OffsetLists.{Spells, spells, spelled, length-lengths_of, get_or-offsets, repeat_spells, take_spells, part_spells, map-replicate, sum-append, sum-cons}
 use Rattle.arrow2_model.proofs.Parts.{part-map}
+use Rattle.arrow2_offset.proofs.Nested.{sum-part}
 use Rattle.arrow2_offset.proofs.Appending.{pushed as pushed_one, last_grown, same_naturals, value_at, value_last}
 
 -- ---- sums
@@ -26,13 +26,6 @@ sum-take-next [] zero = refl
 sum-take-next [] (suc k) = refl
 sum-take-next (n ∷ ns) zero = refl
 sum-take-next (n ∷ ns) (suc k) = omega (arith, sum-cons n (take (suc k) ns), sum-cons n (take k ns), sum-take-next ns k)
-
--- those before a part, and the part
-pub sum-part-le : (ns : List ℕ) (a n : ℕ) → sum (take a ns) + sum (part ns a n) ≤ sum ns
-sum-part-le ns a n =
-    let e : sum (take (a + n) ns) ≡ sum (take a ns) + sum (part ns a n) = ap sum (take-add a n ns) ∙ sum-append (take a ns) (part ns a n) in
-    let h = sum-take-le ns (a + n) in
-    omega arith
 
 sum-zeros : (k : ℕ) → sum (replicate k 0) ≡ 0
 sum-zeros zero = refl
@@ -129,7 +122,7 @@ module _ {X : Type 0} (value : X → ℤ) where
       let is : buffer_items (numbers_of value c) ≡ part xs a n = part-map value c.storage c.offset c.len ∙ (ap (map value) e ∙ (sym (part-map value (buffer_items b) a n) ∙ ap (λ ys. part ys a n) (sym same))) in
       let p = part_spells xs a n h.0 some (omega arith) in
       let s : Spells (buffer_items (numbers_of value c)) (offset_at (start_of xs) (lengths_of xs) a) (part (lengths_of xs) a (n - 1)) = rw is p in
-      let t = sum-part-le (lengths_of xs) a (n - 1) in
+      let t = sum-part (lengths_of xs) a (n - 1) in
       (up_to max (buffer_items (numbers_of value c)) (offset_at (start_of xs) (lengths_of xs) a) (part (lengths_of xs) a (n - 1)) s (omega (arith, h.1)), s.from, s.by)
 
   -- a whole list of offsets

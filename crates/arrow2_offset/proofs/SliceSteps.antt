@@ -9,7 +9,8 @@ use Rattle.arrow2_offset.proofs.OffsetLists.{get_or-offsets, get_or-offsets_list
 use Rattle.arrow2_model.proofs.Parts.{get_or-part}
 use Rattle.arrow2_offset.proofs.Appending.{value_at}
 use Rattle.arrow2_offset.proofs.Written.{one_more}
-use Rattle.arrow2_offset.proofs.Growing.{sum-part-le, sum-take-le, sum-take-next}
+use Rattle.arrow2_offset.proofs.Nested.{sum-part}
+use Rattle.arrow2_offset.proofs.Growing.{sum-take-le, sum-take-next}
 
 -- ---- one item more is written, of the values that the items stand for
 
@@ -78,7 +79,7 @@ pub within_last : (xs : List ℤ) (from n k : ℕ) → offset_at 0 (part (length
 within_last xs from n k =
     let ns : List ℕ = lengths_of xs in
     let a = sum-take-le (part ns from n) k in
-    let b = sum-part-le ns from n in
+    let b = sum-part ns from n in
     omega arith
 
 -- a running sum is at most the last one

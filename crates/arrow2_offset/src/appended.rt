@@ -21,8 +21,8 @@ pub(crate) const LEAST_CAPACITY: usize = 120;
 /// The capacity in lengths after the first.
 const SECOND_CAPACITY: usize = 512;
 
-/// Appends the lengths of an iterator that ends, and takes them off again where it refuses. Asks that the items
-/// are offsets. The iterator's size hint is not read.
+/// Appends the lengths of an iterator that ends, and takes them off again where it refuses. Requires that the items are
+/// offsets. The iterator's size hint is not read.
 ///
 /// # Errors
 ///

@@ -18,7 +18,7 @@ pub enum BrokenRule {
     Falling,
 }
 
-/// The first rule that the numbers break, or `None` where they are offsets. Takes no memory.
+/// The first rule that the numbers break, or `None` where they are offsets. Does not allocate.
 ///
 /// In arrow2 the test is private, and answers an error with a text.
 pub fn broken_rule<O: Offset>(offsets: &[O]) -> Option<BrokenRule>
@@ -74,7 +74,7 @@ fn out_of_spec(alloc: Global, text: &str) -> Error
     }
 }
 
-/// Whether no item is below the one before it. Reads all of them, with no branch.
+/// Returns whether no item is below the one before it. Reads all of them, with no branch.
 fn is_rising<O: Offset>(offsets: &[O]) -> bool
     ensures { IsTrue result ↔ ((k : ℕ) → k + 1 < length offsets.now →
         slice_index_or (map O.value offsets.now) k (pos 0) ≤ℤ slice_index_or

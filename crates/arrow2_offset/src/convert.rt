@@ -104,7 +104,7 @@ fn widened(alloc: Global, offsets: &[i32]) -> std::result::Result<Vec<i64>, Allo
     Ok(wide)
 }
 
-/// The same numbers, in 32 bits each. Asks that they are offsets that fit.
+/// The same numbers, in 32 bits each. Requires that they are offsets that fit.
 fn narrowed(alloc: Global, offsets: &[i64]) -> std::result::Result<Vec<i32>, AllocError>
     requires { AreOffsetsUpTo 2147483647 offsets.now }
     ensures { IfOk result (λ narrow. narrow.items ≡ offsets.now) }

@@ -61,8 +61,8 @@ impl<O: Offset> OffsetsBuffer<O> {
         OffsetsBuffer::try_from(Offsets::new(alloc)?)
     }
 
-    /// The offsets as they grow, where no one shares the storage and nothing is sliced off, and the
-    /// offsets themselves elsewhere. Either side holds the same list. Takes no memory.
+    /// The offsets as they grow, where no one shares the storage and nothing is sliced off, and the offsets themselves
+    /// elsewhere. Either side holds the same list. Does not allocate.
     ///
     /// Differs from arrow2, which gives the whole storage of sliced offsets.
     pub fn into_mut(self) -> Either<Self, Offsets<O>>
@@ -119,7 +119,7 @@ impl<O: Offset> OffsetsBuffer<O> {
         offsets
     }
 
-    /// The offsets of `length` slots from slot `start` on: one more than slots. Asks that they are inside.
+    /// The offsets of `length` slots from slot `start` on: one more than slots. Requires that they are inside.
     pub(crate) fn offsets_of_slots(&self, start: usize, length: usize) -> &[O]
         requires { start + length < count_of (buffer_items self.now) }
         ensures valid { AreOffsets (map O.value result.now) }
@@ -154,8 +154,7 @@ impl<O: Offset> OffsetsBuffer<O> {
         &offsets[offsets.len() - 1]
     }
 
-    /// Where slot `index` starts and where it ends. Asks that `index` is below
-    /// [`OffsetsBuffer::len_proxy`].
+    /// Where slot `index` starts and where it ends. Requires that `index` is below [`OffsetsBuffer::len_proxy`].
     ///
     /// arrow2's documentation says [`OffsetsBuffer::len`].
     pub fn start_end(&self, index: usize) -> (usize, usize)
@@ -169,9 +168,9 @@ impl<O: Offset> OffsetsBuffer<O> {
         slot_span(self.as_slice(), index)
     }
 
-    /// Keeps `length` offsets from offset `offset` on, over the same storage. Takes no memory.
+    /// Keeps `length` offsets from offset `offset` on, over the same storage. Does not allocate.
     ///
-    /// Asks that `length` is above 0, and that they are inside: `offset + length` is at most
+    /// Requires that `length` is above 0, and that they are inside: `offset + length` is at most
     /// [`OffsetsBuffer::len`].
     pub fn slice(&mut self, offset: usize, length: usize)
         requires some { 0 < length }
@@ -191,7 +190,7 @@ impl<O: Offset> OffsetsBuffer<O> {
         self.buffer.slice(offset, length);
     }
 
-    /// The `length` offsets from offset `offset` on, over the same storage. Takes no memory.
+    /// The `length` offsets from offset `offset` on, over the same storage. Does not allocate.
     ///
     /// Asks what [`OffsetsBuffer::slice`] asks. arrow2 has `slice` alone.
     pub fn sliced(mut self, offset: usize, length: usize) -> Self
@@ -208,9 +207,9 @@ impl<O: Offset> OffsetsBuffer<O> {
         self
     }
 
-    /// Keeps `slots` slots from slot `start` on, by one offset more, over the same storage. Takes no memory.
+    /// Keeps `slots` slots from slot `start` on, by one offset more, over the same storage. Does not allocate.
     ///
-    /// Asks that they are inside: `start + slots` is at most [`OffsetsBuffer::len_proxy`]. arrow2 has
+    /// Requires that they are inside: `start + slots` is at most [`OffsetsBuffer::len_proxy`]. arrow2 has
     /// [`OffsetsBuffer::slice`] alone, which counts offsets.
     pub fn slice_slots(&mut self, start: usize, slots: usize)
         requires inside { start + slots ≤ length (lengths_of (buffer_items self.old)) }
@@ -237,7 +236,7 @@ impl<O: Offset> OffsetsBuffer<O> {
         Lengths::new(self.as_slice())
     }
 
-    /// The buffer of the offsets. Takes no memory.
+    /// The buffer of the offsets. Does not allocate.
     pub fn into_inner(self) -> Buffer<O>
         ensures numbers { numbers_of O.value result ≡ self }
         ensures valid { AreOffsetsUpTo O.MAX (map O.value (buffer_items result)) }
@@ -307,7 +306,7 @@ impl<O: Offset> TryFrom<Offsets<O>> for OffsetsBuffer<O> {
     }
 }
 
-/// The offset at a place. Asks that there is one.
+/// The offset at a place. Requires that there is one.
 impl<O: Offset> Index<usize> for OffsetsBuffer<O> {
     type Output = O;
 
@@ -321,8 +320,8 @@ impl<O: Offset> Index<usize> for OffsetsBuffer<O> {
     }
 }
 
-/// The same storage, place and number of offsets. Takes no memory: it is refused only where the count of
-/// owners is full.
+/// The same storage, place and number of offsets. Does not allocate: it is refused only where the count of owners is
+/// full.
 impl<O: Offset> Clone for OffsetsBuffer<O> {
     ghost is_clone = { λ b copy. copy ≡ b };
 

@@ -29,7 +29,7 @@ impl<'a, O: Offset> Model for Lengths<'a, O> {
 }
 
 impl<'a, O: Offset> Lengths<'a, O> {
-    /// The walk over the lengths between the offsets.
+    /// Returns an iterator over the lengths between the offsets.
     pub(crate) fn new(offsets: &'a [O]) -> Lengths<'a, O>
         requires { AreOffsets (map O.value offsets.now) }
         ensures { result ≡ lengths_of (map O.value offsets.entry.now) }
@@ -38,7 +38,7 @@ impl<'a, O: Offset> Lengths<'a, O> {
     }
 }
 
-/// The same lengths still to come. Takes no memory.
+/// The same lengths still to come. Does not allocate.
 impl<'a, O: Offset> Clone for Lengths<'a, O> {
     ghost is_clone = { λ walk copy. copy ≡ walk };
 

@@ -154,7 +154,7 @@ impl<O: Offset> Offsets<O> {
         self.offsets.capacity().saturating_sub(1)
     }
 
-    /// Makes room for `additional` more lengths. Within the capacity it takes no memory. arrow2 answers no `Result`.
+    /// Makes room for `additional` more lengths. Within the capacity it does not allocate. arrow2 returns no `Result`.
     ///
     /// # Errors
     ///
@@ -171,7 +171,7 @@ impl<O: Offset> Offsets<O> {
         Ok(())
     }
 
-    /// Gives back room that is not used, where the allocator takes it. arrow2 answers no `Result`.
+    /// Gives back room that is not used, where the allocator takes it. arrow2 returns no `Result`.
     ///
     /// It is never refused: where a smaller block finds no memory, the offsets stay where they are.
     pub fn shrink_to_fit(&mut self) -> Result<()>
@@ -183,7 +183,7 @@ impl<O: Offset> Offsets<O> {
         Ok(())
     }
 
-    /// Appends one length. Asks that it is not negative. Below the capacity it takes no memory.
+    /// Appends one length. Requires that it is not negative. Below the capacity it does not allocate.
     ///
     /// arrow2's documentation asks for a length above 0.
     ///
@@ -200,7 +200,7 @@ impl<O: Offset> Offsets<O> {
         Ok(())
     }
 
-    /// Appends one length. Below the capacity it takes no memory.
+    /// Appends one length. Below the capacity it does not allocate.
     ///
     /// # Errors
     ///
@@ -213,7 +213,8 @@ impl<O: Offset> Offsets<O> {
         Ok(())
     }
 
-    /// Appends the lengths of an iterator that ends. Its size hint is not read. Within the capacity it takes no memory.
+    /// Appends the lengths of an iterator that ends. Its size hint is not read. Within the capacity it does not
+    /// allocate.
     ///
     /// Differs from arrow2, whose sums wrap, and which keeps the lengths that it took where it answers
     /// `Overflow`.
@@ -234,7 +235,7 @@ impl<O: Offset> Offsets<O> {
         Ok(())
     }
 
-    /// Appends the lengths of other offsets. Within the capacity it takes no memory.
+    /// Appends the lengths of other offsets. Within the capacity it does not allocate.
     ///
     /// Differs from arrow2, which tests the other's last offset in place of the sum of its lengths.
     ///
@@ -249,8 +250,8 @@ impl<O: Offset> Offsets<O> {
         Ok(())
     }
 
-    /// Appends `length` of the lengths of other offsets, from length `start` on. Asks that `length` is
-    /// 0, or that `start + length` is below the number of the other's offsets. Within the capacity it takes no memory.
+    /// Appends `length` of the lengths of other offsets, from length `start` on. Requires that `length` is 0, or that
+    /// `start + length` is below the number of the other's offsets. Within the capacity it does not allocate.
     ///
     /// Differs from arrow2, which tests the other's last offset in place of the sum of the lengths.
     ///
@@ -277,7 +278,7 @@ impl<O: Offset> Offsets<O> {
         Ok(())
     }
 
-    /// Appends `additional` lengths 0. Within the capacity it takes no memory.
+    /// Appends `additional` lengths 0. Within the capacity it does not allocate.
     ///
     /// # Errors
     ///
@@ -304,8 +305,7 @@ impl<O: Offset> Offsets<O> {
         &self.offsets[self.offsets.len() - 1]
     }
 
-    /// Where slot `index` starts and where it ends. Asks that `index` is below
-    /// [`Offsets::len_proxy`].
+    /// Where slot `index` starts and where it ends. Requires that `index` is below [`Offsets::len_proxy`].
     ///
     /// arrow2's documentation says [`Offsets::len`].
     pub fn start_end(&self, index: usize) -> (usize, usize)
@@ -356,7 +356,7 @@ impl<O: Offset> Offsets<O> {
         Some(offset)
     }
 
-    /// The vector of the offsets. Takes no memory.
+    /// The vector of the offsets. Does not allocate.
     pub fn into_inner(self) -> Vec<O>
         ensures offsets { map O.value result.items ≡ map pos (offsets_of self) }
         ensures lengths { lengths_of (map O.value result.items) ≡ self.lengths }
@@ -410,7 +410,7 @@ impl<O: Offset> Offsets<O> {
         self.offsets.reserve(additional)
     }
 
-    /// Appends one length. Asks that there is room for it.
+    /// Appends one length. Requires that there is room for it.
     fn push_within(&mut self, length: usize)
         requires room { slots self.old < self.old.capacity }
         requires fits { last_of_growing self.old + length ≤ O.MAX }
@@ -487,7 +487,7 @@ impl<O: Offset> TryFrom<Vec<O>> for Offsets<O> {
 ///
 /// # Errors
 ///
-/// Where memory is refused.
+/// If an allocation fails.
 impl<O: Offset> Clone for Offsets<O> {
     ghost is_clone = { SameOffsets };
 
@@ -497,7 +497,7 @@ impl<O: Offset> Clone for Offsets<O> {
     }
 }
 
-/// The offset at a place. Asks that there is one.
+/// The offset at a place. Requires that there is one.
 impl<O: Offset> Index<usize> for Offsets<O> {
     type Output = O;
 

@@ -1,4 +1,4 @@
-//! Offsets and lengths in slices that are the caller's: read, and written one by one. Takes no memory.
+//! Offsets and lengths in slices that are the caller's: read, and written one by one. Does not allocate.
 //!
 //! arrow2 has these loops inside its offsets alone.
 ghost use Rattle.std.specs.Prelude.{◌≡◌, ◌+◌, ◌-◌, ◌*◌, ◌<◌, ◌≤◌, ◌↔◌, pos, map, length, sum, IsTrue};
@@ -15,7 +15,7 @@ pub fn last<O: Offset>(offsets: &[O]) -> usize
     offsets[offsets.len() - 1].to_usize()
 }
 
-/// Writes how far each offset is from the next one. Asks for one length less than offsets.
+/// Writes how far each offset is from the next one. Requires one length less than offsets.
 pub fn write_lengths<O: Offset>(offsets: &[O], lengths: &mut [usize])
     requires are { AreOffsets (map O.value offsets.now) }
     requires exact { length offsets.now ≡ length lengths.old + 1 }
@@ -26,7 +26,7 @@ pub fn write_lengths<O: Offset>(offsets: &[O], lengths: &mut [usize])
     }
 }
 
-/// Whether the start and all lengths, added up exactly, are an offset.
+/// Returns whether the start and all lengths, added up exactly, are an offset.
 pub fn fits<O: Offset>(start: usize, lengths: &[usize]) -> bool
     ensures { IsTrue result ↔ (last_offset start lengths.now ≤ O.MAX) }
 {
@@ -56,8 +56,8 @@ fn total(start: usize, lengths: &[usize]) -> u128
     sum
 }
 
-/// Writes the start, and behind it the running sums of the lengths. Asks for one offset more than lengths, and that
-/// the last of them is an offset.
+/// Writes the start, and behind it the running sums of the lengths. Requires one offset more than lengths, and that the
+/// last of them is an offset.
 pub fn write_sums<O: Offset>(start: usize, lengths: &[usize], offsets: &mut [O])
     requires exact { length offsets.old ≡ length lengths.now + 1 }
     requires fits { last_offset start lengths.now ≤ O.MAX }
@@ -71,8 +71,8 @@ pub fn write_sums<O: Offset>(start: usize, lengths: &[usize], offsets: &mut [O])
     }
 }
 
-/// Writes as many offsets as `out` has, from offset `from` on, each less the first of them. Asks that there is one, and
-/// that they are inside.
+/// Writes as many offsets as `out` has, from offset `from` on, each less the first of them. Requires that there is one,
+/// and that they are inside.
 pub fn write_part<O: Offset>(offsets: &[O], from: usize, out: &mut [O])
     requires are { AreOffsetsUpTo O.MAX (map O.value offsets.now) }
     requires some { 0 < length out.old }

@@ -1,9 +1,8 @@
 -- Arrays that grow: values and validity, by as many items each.
-use Rattle.std.proofs.Common.{◌≡◌, ℕ, zero, suc, ◌+◌, ◌-◌, ◌≤◌, List, [], ◌∷◌, ◌++◌, Bool, true, false, length, take, drop, replicate, map, refl, ap, sym, ◌∙◌, arith, add-suc}
+use Rattle.std.proofs.Common.{◌≡◌, ℕ, zero, suc, ◌+◌, ◌-◌, List, [], ◌∷◌, ◌++◌, Bool, true, false, length, take, drop, replicate, map, refl, ap, sym, ◌∙◌, arith}
 use Rattle.std.specs.Prelude.{Option, Some, None, ◌↔◌, is_some, unwrap_or, IsNone, IfSome}
 use Rattle.std.specs.Bool.{then_some}
 use Rattle.std.proofs.Math.Nat.{min-le_left, min-le_right, le-min}
-use Rattle.std.proofs.Math.Seq.{take-length}
 use Rattle.std.proofs.lemmas.List.{length-map, length-replicate, length-append, take_all}
 use Rattle.arrow2_model.specs.Buffers.{BufferStorage, buffer_items}
 use Rattle.arrow2_model.specs.Parts.{part, falses}
@@ -11,15 +10,12 @@ use Rattle.arrow2_model.specs.Storage.{BitmapStorage, items_of}
 use Rattle.arrow2_model.proofs.Counts.{falses-none}
 use Rattle.arrow2_model.proofs.Parts.{length-part}
 use Rattle.arrow2_walks.specs.Zipped.{slot, zipped}
+use Rattle.arrow2_walks.proofs.Left.{part-between}
 use Rattle.arrow2_walks.proofs.Zipped.{append-zipped, part-zipped, push-zipped, slot-option}
 use Rattle.arrow2_validity.specs.OptionalValidity.{items_or_true}
 use Rattle.arrow2_validity.proofs.Slots.{arrays, zipped-true}
 
 module _ {X : Type 0} where
-  -- a part by where it starts and where it ends
-  pub part-between : (xs : List X) (start size : ℕ) → take (start + size - start) (drop start xs) ≡ part xs start size
-  part-between xs start size = let n : start + size - start ≡ size = omega arith in ap (λ k. take k (drop start xs)) n
-
   -- values behind others, none of which is null
   pub append-true : (xs ys : List X) (vs : List Bool) → length vs ≡ length xs → zipped (xs ++ ys) (vs ++ replicate (length ys) true) ≡ zipped xs vs ++ map (λ x. Some x) ys
   append-true xs ys vs e = append-zipped xs ys vs (replicate (length ys) true) e ∙ ap (λ l. zipped xs vs ++ l) (zipped-true ys)
@@ -53,6 +49,11 @@ module _ {X : Type 0} where
       as_option : (v : Bool) (x : X) → slot x v ≡ then_some v x
       as_option true x = refl
       as_option false x = refl
+
+  -- the items of an array without a bitmap
+  pub all-there : (b : BufferStorage X) (xs : List X) → buffer_items b ≡ xs → zipped (buffer_items b) (items_or_true (length (buffer_items b)) None) ≡ map (λ x. Some x) xs
+  unfolding items_or_true
+  all-there b xs is = rw is (zipped-true xs)
 
   -- the items of an array over the values and the validity that grew, which has no bitmap where no item is null
   pub frozen : (xs : List X) (vs : List Bool) (b : BufferStorage X) (bitmap : Option BitmapStorage) → length vs ≡ length xs → buffer_items b ≡ xs

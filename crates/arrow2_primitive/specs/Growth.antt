@@ -1,5 +1,6 @@
 -- What growth of an array says.
-use Rattle.std.specs.Prelude.{◌≡◌, ◌+◌, ◌≤◌, ◌^◌, ◌↔◌, ◌⊎◌, List, ◌++◌, Option, length, Result, OnOk, OnErr, IsOk, IfErr, IsErrOf}
+use Rattle.std.specs.Prelude.{◌≡◌, ◌+◌, ◌≤◌, ◌^◌, ◌↔◌, ◌⊎◌, ◌-◌, List, ◌++◌, Option, Some, length, Result, OnOk, OnErr, IsOk, IfErr, IsErrOf}
+use Rattle.std.specs.Iterator.{YieldsThen}
 use Rattle.arrow2_types.specs.declared.error.Error.{Error}
 use Rattle.arrow2_types.specs.declared.error.Error.TheVariants.{Overflow, OutOfMemory}
 use Rattle.arrow2_primitive.specs.Primitive.{GrowingPrimitive}
@@ -20,3 +21,7 @@ pub record AppendsItems {T X : Type 0} (r : Result T Error) (old new : GrowingPr
   pub succeeds : length old.items + length more ≤ old.capacity → IsOk r
   -- the capacity never falls
   pub capacity : old.capacity ≤ new.capacity
+
+-- 2 ^ 64 - 1 items came, and one more
+abbrev pub GivesTooManyItems : {S X : Type 0} → (S → Option X → S → Type 0) → S → Type 0
+GivesTooManyItems {S} {X} steps s = (xs : List X) × (x : X) × (t : S) × YieldsThen steps s xs (Some x) t × (length xs ≡ 2 ^ 64 - 1)

@@ -1,27 +1,34 @@
 //! An array of native values, each of which may be null.
-ghost use Rattle.std.specs.Prelude.{◌≡◌, ◌+◌, ◌<◌, ◌≤◌, ◌↔◌, None, Some, length, map, count_by, replicate, true, slice_index_or, OnOk, IsOk, IfOk, IfErr, IsTrue, MatchOption, option_map};
+ghost use Rattle.std.specs.Prelude.{◌≡◌, ◌+◌, ◌<◌, ◌≤◌, ◌↔◌, None, Some, length, map, count_by, replicate, true, slice_index_or, ⊤, OnOk, IsNone, IsOk, IfOk, IfErr, IfSome, IsTrue, MatchOption, option_map};
 ghost use Rattle.std.specs.List.{slice_get};
 ghost use Rattle.std.specs.Option.{ForSome, is_none, is_some};
 ghost use Rattle.std.specs.Slice.Iter.{iter_rest};
-ghost use Rattle.arrow2_model.specs.Buffers.{buffer_items};
+ghost use Rattle.either.specs.Either.{MatchEither};
+ghost use Rattle.arrow2_model.specs.Buffers.{buffer_items, whole_buffer};
 ghost use Rattle.arrow2_model.specs.Parts.{part};
+ghost use Rattle.arrow2_bitmap.specs.Packed.{IsPacked};
+ghost use Rattle.arrow2_walks.specs.Selected.{there};
 ghost use Rattle.arrow2_model.specs.Storage.{items_of};
 ghost use Rattle.arrow2_types.specs.Refusals.{IsInvalidArgument};
 ghost use Rattle.arrow2_validity.specs.OptionalValidity.{valid_items};
 ghost use Rattle.arrow2_validity.specs.Refused.{unequal_lengths};
 ghost use Rattle.arrow2_walks.specs.Zipped.{zipped};
-ghost use Rattle.arrow2_datatypes.specs.Types.{physical};
+ghost use Rattle.arrow2_datatypes.specs.Types.{of_primitive, physical};
 ghost use Rattle.arrow2_datatypes.specs.declared.physical_type.PhysicalType.TheVariants.{Primitive};
 ghost use Rattle.arrow2_primitive.specs.Primitive.{PrimitiveParts, primitive_items, sliced_primitive, other_layout};
 
-use crate::iterator::PrimitiveIter;
+use crate::iterator::{NonNullValuesIter, PrimitiveIter};
+use crate::mutable::MutablePrimitiveArray;
 use arrow2_bitmap::Bitmap;
 use arrow2_buffer::Buffer;
 use arrow2_datatypes::DataType;
+use arrow2_datatypes::laws::a_native_type_is_laid_out_as_itself;
 use arrow2_types::error::{Error, Result};
 use arrow2_types::native::NativeType;
 use arrow2_validity::Validity;
+use either::Either;
 use std::alloc::{AllocError, Global};
+use std::convert::TryFrom;
 use std::marker::Model;
 use std::rc::Rc;
 use std::slice::Iter;
@@ -97,9 +104,9 @@ impl<T: NativeType> PrimitiveArray<T> {
         })
     }
 
-    /// Returns the array of these values, each null where the validity is false. Without a validity none is null. Requires
-    /// that the physical type of `data_type` is that of `T`, and that the validity has the length of the values. Takes no
-    /// memory.
+    /// Returns the array of these values, each null where the validity is false. Without a validity none is null.
+    /// Requires that the physical type of `data_type` is that of `T`, and that the validity has the length of the
+    /// values. Does not allocate.
     pub fn new(
         data_type: Rc<DataType>,
         values: Buffer<T>,
@@ -119,6 +126,60 @@ impl<T: NativeType> PrimitiveArray<T> {
             values,
             validity,
         }
+    }
+
+    /// Returns the array of these values, none of which is null, over their storage, of the logical type of `T`'s own.
+    ///
+    /// # Errors
+    ///
+    /// `OutOfMemory` alone. The values are then dropped.
+    pub fn from_vec(values: Vec<T>) -> Result<PrimitiveArray<T>>
+        ensures items { IfOk result (λ a. primitive_items a ≡ map (λ x. Some x) values.items) }
+        ensures data_type { IfOk result (λ a. a.data_type ≡ of_primitive T.PRIMITIVE) }
+        ensures storage { IfOk result (λ a. a.values ≡ whole_buffer values.items) }
+        ensures bitmap { IfOk result (λ a. IsNone a.validity.bitmap) }
+        ensures only { IfErr result (λ e. e ≡ Error.OutOfMemory) }
+    {
+        let data_type = native_type::<T>(*values.allocator())?;
+        let values = Buffer::try_from(values)?;
+        Ok(PrimitiveArray::new(data_type, values, None))
+    }
+
+    /// Returns the array of a copy of these values, none of which is null, of the logical type of `T`'s own.
+    ///
+    /// # Errors
+    ///
+    /// `OutOfMemory` alone.
+    pub fn from_slice(alloc: Global, values: &[T]) -> Result<PrimitiveArray<T>>
+        ensures items { IfOk result (λ a. primitive_items a ≡ map (λ x. Some x) values.now) }
+        ensures data_type { IfOk result (λ a. a.data_type ≡ of_primitive T.PRIMITIVE) }
+        ensures storage { IfOk result (λ a. a.values ≡ whole_buffer values.now) }
+        ensures bitmap { IfOk result (λ a. IsNone a.validity.bitmap) }
+        ensures only { IfErr result (λ e. e ≡ Error.OutOfMemory) }
+    {
+        PrimitiveArray::from_vec(Vec::from_slice(alloc, values)?)
+    }
+
+    /// Returns the array of these items, of the logical type of `T`'s own. It has a validity bitmap exactly where an item is
+    /// null. What stands in the values under a null is left open.
+    ///
+    /// Stands for arrow2's `From` of a slice.
+    ///
+    /// # Errors
+    ///
+    /// `OutOfMemory` alone.
+    pub fn from_options(alloc: Global, items: &[Option<T>]) -> Result<PrimitiveArray<T>>
+        ensures items { IfOk result (λ a. primitive_items a ≡ items.now) }
+        ensures data_type { IfOk result (λ a. a.data_type ≡ of_primitive T.PRIMITIVE) }
+        ensures storage { IfOk result (λ a. a.values ≡ whole_buffer (buffer_items a.values)) }
+        ensures bitmap { IfOk result (λ a.
+            IsNone a.validity.bitmap ↔ (count_by is_none items.now ≡ 0)) }
+        ensures packed { IfOk result (λ a. IfSome a.validity.bitmap (λ b. IsPacked b)) }
+        ensures only { IfErr result (λ e. e ≡ Error.OutOfMemory) }
+    {
+        let mut array = MutablePrimitiveArray::with_capacity(alloc, items.len())?;
+        array.extend_from_options(items)?;
+        array.freeze()
     }
 
     /// Returns the logical type.
@@ -222,6 +283,13 @@ impl<T: NativeType> PrimitiveArray<T> {
         PrimitiveIter::new(self)
     }
 
+    /// Returns an iterator over the values that are not null, in their order.
+    pub fn non_null_values_iter(&self) -> NonNullValuesIter<'_, T>
+        ensures { result ≡ there (primitive_items self.now) }
+    {
+        NonNullValuesIter::new(self)
+    }
+
     /// Returns an iterator over the values, those under nulls too.
     pub fn values_iter(&self) -> Iter<'_, T>
         ensures { iter_rest result ≡ buffer_items self.now.values }
@@ -229,7 +297,8 @@ impl<T: NativeType> PrimitiveArray<T> {
         self.values.iter()
     }
 
-    /// Keeps `len` items from item `offset` on, over the same storage. Requires that they are inside. Takes no memory.
+    /// Keeps `len` items from item `offset` on, over the same storage. Requires that they are inside. Does not
+    /// allocate.
     pub fn slice(&mut self, offset: usize, len: usize)
         requires inside { offset + len ≤ length (primitive_items self.old) }
         ensures items { primitive_items self.new ≡ part (primitive_items self.old) offset len }
@@ -239,7 +308,8 @@ impl<T: NativeType> PrimitiveArray<T> {
         self.validity.slice(offset, len);
     }
 
-    /// Returns the `len` items from item `offset` on, over the same storage. Requires that they are inside. Takes no memory.
+    /// Returns the `len` items from item `offset` on, over the same storage. Requires that they are inside. Does not
+    /// allocate.
     pub fn sliced(mut self, offset: usize, len: usize) -> PrimitiveArray<T>
         requires inside { offset + len ≤ length (primitive_items self) }
         ensures items { primitive_items result ≡ part (primitive_items self) offset len }
@@ -249,8 +319,8 @@ impl<T: NativeType> PrimitiveArray<T> {
         self
     }
 
-    /// Returns the array of the same values with another validity. Requires that it has the length of the values. Takes no
-    /// memory.
+    /// Returns the array of the same values with another validity. Requires that it has the length of the values. Does
+    /// not allocate.
     pub fn with_validity(self, validity: Option<Bitmap>) -> PrimitiveArray<T>
         requires same_length { ForSome validity (λ v.
             length (items_of v) ≡ length (buffer_items self.values)) }
@@ -266,6 +336,45 @@ impl<T: NativeType> PrimitiveArray<T> {
         PrimitiveArray::new(data_type, values, validity)
     }
 
+    /// Returns the array as it grows, over the same storage, on the right, where nobody else shares the values and the bitmap,
+    /// none of the values is sliced off, and the bitmap's items begin at bit 0; else the array as it was, on the left.
+    ///
+    /// Differs from arrow2, whose array that grows needs no bitmap where no item is null.
+    ///
+    /// # Errors
+    ///
+    /// `OutOfMemory` alone, and only where the array has no bitmap or somebody else shares it. The array is then dropped.
+    pub fn into_mut(self) -> Result<Either<PrimitiveArray<T>, MutablePrimitiveArray<T>>>
+        ensures ok { IfOk result (λ r. MatchEither r (λ a. a ≡ self)
+            (λ m. (m.items ≡ primitive_items self) × (m.data_type ≡ self.data_type))) }
+        ensures whole { IfOk result (λ r. MatchEither r (λ _. ⊤) (λ _. self.values ≡ whole_buffer self.values.storage)) }
+        ensures only { IfErr result (λ e. e ≡ Error.OutOfMemory) }
+    {
+        let PrimitiveArray {
+            data_type,
+            values,
+            validity,
+        } = self;
+        let alloc = values.allocator();
+        match values.into_mut() {
+            Either::Left(values) => Ok(Either::Left(PrimitiveArray {
+                data_type,
+                values,
+                validity,
+            })),
+            Either::Right(values) => match validity.into_mut(alloc)? {
+                Either::Left(validity) => Ok(Either::Left(PrimitiveArray {
+                    data_type,
+                    values: Buffer::try_from(values)?,
+                    validity,
+                })),
+                Either::Right(validity) => Ok(Either::Right(MutablePrimitiveArray::of_parts(
+                    data_type, values, validity,
+                ))),
+            },
+        }
+    }
+
     /// Returns the logical type, the values and the validity bitmap.
     pub fn into_inner(self) -> (Rc<DataType>, Buffer<T>, Option<Bitmap>)
         ensures data_type { result.0.value ≡ self.data_type }
@@ -276,8 +385,8 @@ impl<T: NativeType> PrimitiveArray<T> {
     }
 }
 
-/// Shares the logical type, the values and the validity. Takes no memory: it is refused only where a count of owners is
-/// full.
+/// Shares the logical type, the values and the validity. Does not allocate: it is refused only where a count of owners
+/// is full.
 impl<T: NativeType> Clone for PrimitiveArray<T> {
     ghost is_clone = { λ a copy. copy ≡ a };
 
@@ -288,6 +397,17 @@ impl<T: NativeType> Clone for PrimitiveArray<T> {
             validity: self.validity.clone()?,
         })
     }
+}
+
+/// Returns the logical type of `T`'s own.
+pub(crate) fn native_type<T: NativeType>(
+    alloc: Global,
+) -> std::result::Result<Rc<DataType>, AllocError>
+    ensures value { IfOk result (λ t. t.value ≡ of_primitive T.PRIMITIVE) }
+    ensures layout { IfOk result (λ t. physical t.value ≡ Primitive T.PRIMITIVE) }
+{
+    a_native_type_is_laid_out_as_itself();
+    Ok(Rc::new(alloc, DataType::from(T::PRIMITIVE))?)
 }
 
 /// Refuses a logical type whose physical type is not that of `T`.

@@ -2,6 +2,7 @@
 ghost use Rattle.std.specs.Prelude.{◌≡◌, length, Some, IfSome};
 ghost use Rattle.std.specs.Iterator.{YieldsFirst, YieldsLast, item_count, UpTo};
 ghost use Rattle.std.specs.Iterator.SizeHint.{IsWithinCount};
+ghost use Rattle.arrow2_walks.specs.Selected.{there};
 ghost use Rattle.arrow2_primitive.specs.Primitive.{primitive_items};
 
 use crate::array::PrimitiveArray;
@@ -45,7 +46,7 @@ impl<'a, T: NativeType> PrimitiveIter<'a, T> {
     }
 }
 
-/// The same items still to come. Takes no memory.
+/// The same items still to come. Does not allocate.
 impl<'a, T: NativeType> Clone for PrimitiveIter<'a, T> {
     ghost is_clone = { λ i copy. copy ≡ i };
 
@@ -101,5 +102,59 @@ impl<'a, T: NativeType> DoubleEndedIterator for PrimitiveIter<'a, T> {
 impl<'a, T: NativeType> ExactSizeIterator for PrimitiveIter<'a, T> {
     fn len(&self) -> usize {
         self.end - self.index
+    }
+}
+
+/// An iterator over the values of an array that are not null, in their order: contracts see the list of those still to come.
+#[derive(Drop)]
+pub struct NonNullValuesIter<'a, T: NativeType> {
+    items: PrimitiveIter<'a, T>,
+}
+
+impl<'a, T: NativeType> Model for NonNullValuesIter<'a, T> {
+    ghost use Rattle.std.specs.Prelude.{List};
+    ghost use Rattle.arrow2_walks.specs.Selected.{there};
+
+    ghost Value = { List T };
+
+    ghost view = { λ i. there i.items };
+}
+
+impl<'a, T: NativeType> NonNullValuesIter<'a, T> {
+    /// Returns an iterator over all of them.
+    pub(crate) fn new(array: &'a PrimitiveArray<T>) -> NonNullValuesIter<'a, T>
+        ensures { result ≡ there (primitive_items array.entry.now) }
+    {
+        NonNullValuesIter {
+            items: PrimitiveIter::new(array),
+        }
+    }
+}
+
+/// The same values still to come. Does not allocate.
+impl<'a, T: NativeType> Clone for NonNullValuesIter<'a, T> {
+    ghost is_clone = { λ i copy. copy ≡ i };
+
+    fn clone(&self) -> Result<NonNullValuesIter<'a, T>, AllocError> {
+        Ok(NonNullValuesIter {
+            items: self.items.clone()?,
+        })
+    }
+}
+
+impl<'a, T: NativeType> Iterator for NonNullValuesIter<'a, T> {
+    type Item = T;
+
+    ghost next_gives = { YieldsFirst (λ s. s) };
+
+    ghost remaining = { item_count (λ s. s) };
+
+    fn next(&mut self) -> Option<T> {
+        while let Some(item) = self.items.next() {
+            if item.is_some() {
+                return item;
+            }
+        }
+        None
     }
 }

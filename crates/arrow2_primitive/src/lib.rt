@@ -2,9 +2,11 @@
 #![tactic(auto)]
 
 pub mod array;
+mod equal;
+mod fmt;
 pub mod iterator;
 pub mod mutable;
 
 pub use array::PrimitiveArray;
-pub use iterator::PrimitiveIter;
+pub use iterator::{NonNullValuesIter, PrimitiveIter};
 pub use mutable::MutablePrimitiveArray;

@@ -1,13 +1,18 @@
 //! An array of native values that grows.
-ghost use Rattle.std.specs.Prelude.{◌≡◌, ◌+◌, ◌<◌, ◌≤◌, ◌^◌, ◌↔◌, ◌⊎◌, ◌++◌, [], ◌∷◌, None, Some, length, map, replicate, IfOk, IfErr, IsErrOf, IsOk, IfNone, MatchOption, OnOk, IsNone, IsTrue, count_by, Some};
+ghost use Rattle.std.specs.Prelude.{◌≡◌, ◌+◌, ◌<◌, ◌≤◌, ◌^◌, ◌↔◌, ◌⊎◌, ◌++◌, [], ◌∷◌, None, Some, length, map, replicate, IfOk, IfErr, IfSome, IsErrOf, IsOk, IfNone, MatchOption, OnOk, IsNone, IsTrue, count_by, Some};
 ghost use Rattle.std.specs.Option.{is_none};
-ghost use Rattle.arrow2_datatypes.specs.Types.{physical};
+ghost use Rattle.std.specs.Iterator.{IsFinite};
+ghost use Rattle.std.specs.Iterator.Runs.{WholeRun};
+ghost use Rattle.arrow2_datatypes.specs.Types.{of_primitive, physical};
 ghost use Rattle.arrow2_datatypes.specs.declared.physical_type.PhysicalType.TheVariants.{Primitive};
+ghost use Rattle.arrow2_model.specs.Buffers.{buffer_items, whole_buffer};
 ghost use Rattle.arrow2_model.specs.Parts.{part};
-ghost use Rattle.arrow2_primitive.specs.Growth.{AppendsItems};
+ghost use Rattle.arrow2_bitmap.specs.Packed.{IsPacked};
+ghost use Rattle.arrow2_walks.specs.Zipped.{zipped};
+ghost use Rattle.arrow2_primitive.specs.Growth.{AppendsItems, GivesTooManyItems};
 ghost use Rattle.arrow2_primitive.specs.Primitive.{primitive_items, GrowingPrimitive};
 
-use crate::array::PrimitiveArray;
+use crate::array::{PrimitiveArray, native_type};
 use arrow2_bitmap::MutableBitmap;
 use arrow2_buffer::Buffer;
 use arrow2_datatypes::DataType;
@@ -64,14 +69,34 @@ impl<T: NativeType> MutablePrimitiveArray<T> {
     /// `OutOfMemory` alone.
     pub fn new(alloc: Global) -> Result<MutablePrimitiveArray<T>>
         ensures items { IfOk result (λ a. a.items ≡ []) }
-        ensures data_type { IfOk result (λ a. physical a.data_type ≡ Primitive T.PRIMITIVE) }
+        ensures data_type { IfOk result (λ a. a.data_type ≡ of_primitive T.PRIMITIVE) }
+        ensures layout { IfOk result (λ a. physical a.data_type ≡ Primitive T.PRIMITIVE) }
         ensures only { IfErr result (λ e. e ≡ Error.OutOfMemory) }
     {
-        let data_type = Rc::new(alloc, DataType::from(T::PRIMITIVE))?;
-        Ok(MutablePrimitiveArray::of_type(alloc, data_type))
+        MutablePrimitiveArray::with_capacity(alloc, 0)
     }
 
-    /// Returns an array without items, of this logical type. Requires that its physical type is that of `T`. Takes no memory.
+    /// Returns an array without items, of the logical type of `T`'s own, with room for `capacity` of them.
+    ///
+    /// # Errors
+    ///
+    /// `OutOfMemory` alone.
+    pub fn with_capacity(alloc: Global, capacity: usize) -> Result<MutablePrimitiveArray<T>>
+        ensures items { IfOk result (λ a. a.items ≡ []) }
+        ensures capacity { IfOk result (λ a. capacity ≤ a.capacity) }
+        ensures data_type { IfOk result (λ a. a.data_type ≡ of_primitive T.PRIMITIVE) }
+        ensures layout { IfOk result (λ a. physical a.data_type ≡ Primitive T.PRIMITIVE) }
+        ensures only { IfErr result (λ e. e ≡ Error.OutOfMemory) }
+    {
+        Ok(MutablePrimitiveArray {
+            data_type: native_type::<T>(alloc)?,
+            values: Vec::with_capacity(alloc, capacity)?,
+            validity: MutableBitmap::with_capacity(alloc, capacity)?,
+        })
+    }
+
+    /// Returns an array without items, of this logical type. Requires that its physical type is that of `T`. Does not
+    /// allocate.
     pub fn of_type(alloc: Global, data_type: Rc<DataType>) -> MutablePrimitiveArray<T>
         requires { physical data_type.value ≡ Primitive T.PRIMITIVE }
         ensures items { result.items ≡ [] }
@@ -84,7 +109,8 @@ impl<T: NativeType> MutablePrimitiveArray<T> {
         }
     }
 
-    /// Returns an array without items, of the logical type of `array`, which they share.
+    /// Returns an array without items, of the logical type of `array`, which they share. Does not allocate: it is
+    /// refused only where the count of owners is full.
     ///
     /// # Errors
     ///
@@ -96,6 +122,68 @@ impl<T: NativeType> MutablePrimitiveArray<T> {
     {
         let data_type = array.data_type().clone()?;
         Ok(MutablePrimitiveArray::of_type(array.values().allocator(), data_type))
+    }
+
+    /// Returns the array of the items of an iterator that ends, in its order, of the logical type of `T`'s own. Does not read
+    /// its size hint.
+    ///
+    /// Stands for arrow2's `FromIterator`.
+    ///
+    /// # Errors
+    ///
+    /// `Overflow` only after `usize::MAX` items and one more, else `OutOfMemory` alone.
+    pub fn try_from_iter<I: IntoIterator<Item = Option<T>>>(
+        alloc: Global,
+        iter: I,
+    ) -> Result<MutablePrimitiveArray<T>>
+        requires { (it : I.IntoIter) → I.into_iter_gives iter it →
+            I.IntoIter.can_next it × IsFinite (I.IntoIter.remaining it) }
+        ensures items { IfOk result (λ a. (it : I.IntoIter) × I.into_iter_gives iter it
+            × WholeRun I.IntoIter.next_gives it (λ p. a.items ≡ p.items)) }
+        ensures data_type { IfOk result (λ a. a.data_type ≡ of_primitive T.PRIMITIVE) }
+        ensures overflow { IsErrOf result Error.Overflow →
+            (it : I.IntoIter) × I.into_iter_gives iter it × GivesTooManyItems I.IntoIter.next_gives it }
+        ensures only { IfErr result (λ e. (e ≡ Error.Overflow) ⊎ (e ≡ Error.OutOfMemory)) }
+    {
+        MutablePrimitiveArray::collected(alloc, iter.into_iter())
+    }
+
+    /// Returns the array of the items of an iterator that ends.
+    fn collected<I: Iterator<Item = Option<T>> + Drop>(
+        alloc: Global,
+        items: I,
+    ) -> Result<MutablePrimitiveArray<T>>
+        requires can { I.can_next items }
+        requires ends { IsFinite (I.remaining items) }
+        ensures items { IfOk result (λ a. WholeRun I.next_gives items (λ p. a.items ≡ p.items)) }
+        ensures data_type { IfOk result (λ a. a.data_type ≡ of_primitive T.PRIMITIVE) }
+        ensures overflow { IsErrOf result Error.Overflow → GivesTooManyItems I.next_gives items }
+        ensures only { IfErr result (λ e. (e ≡ Error.Overflow) ⊎ (e ≡ Error.OutOfMemory)) }
+    {
+        let mut array = MutablePrimitiveArray::new(alloc)?;
+        for item in items {
+            array.push(item)?;
+        }
+        Ok(array)
+    }
+
+    /// Returns the array of these values and this validity, over their storage. Requires that the physical type of `data_type`
+    /// is that of `T`, and that the validity has the length of the values.
+    pub(crate) fn of_parts(
+        data_type: Rc<DataType>,
+        values: Vec<T>,
+        validity: MutableBitmap,
+    ) -> MutablePrimitiveArray<T>
+        requires layout { physical data_type.value ≡ Primitive T.PRIMITIVE }
+        requires same_length { length validity.items ≡ length values.items }
+        ensures items { result.items ≡ zipped values.items validity.items }
+        ensures data_type { result.data_type ≡ data_type.value }
+    {
+        MutablePrimitiveArray {
+            data_type,
+            values,
+            validity,
+        }
     }
 
     /// Returns the logical type.
@@ -118,6 +206,14 @@ impl<T: NativeType> MutablePrimitiveArray<T> {
         ensures { IsTrue result ↔ (length self.now.items ≡ 0) }
     {
         self.len() == 0
+    }
+
+    /// Returns how many items fit before it allocates, those that it holds too.
+    pub fn capacity(&self) -> usize
+        ensures value { result ≡ self.now.capacity }
+        ensures held { length self.now.items ≤ result }
+    {
+        self.values.capacity().min(self.validity.capacity())
     }
 
     /// Makes room for `additional` items more. Within the capacity it does not allocate.
@@ -183,7 +279,7 @@ impl<T: NativeType> MutablePrimitiveArray<T> {
         Ok(())
     }
 
-    /// Appends items. Within the capacity it does not allocate, else it allocates once, before it writes.
+    /// Appends items. Within the capacity it does not allocate, else it allocates before it writes.
     ///
     /// # Errors
     ///
@@ -199,7 +295,7 @@ impl<T: NativeType> MutablePrimitiveArray<T> {
         Ok(())
     }
 
-    /// Appends `additional` times the same item. Within the capacity it does not allocate, else it allocates once, before it
+    /// Appends `additional` times the same item. Within the capacity it does not allocate, else it allocates before it
     /// writes.
     ///
     /// # Errors
@@ -266,7 +362,8 @@ impl<T: NativeType> MutablePrimitiveArray<T> {
         self.validity.shrink_to_fit()
     }
 
-    /// Returns the array of the items, over the same storage. It has a validity bitmap only where an item is null.
+    /// Returns the array of the items, over the same storage, of which nothing is sliced off. It has a validity bitmap exactly
+    /// where an item is null.
     ///
     /// Stands for arrow2's `From<MutablePrimitiveArray>`.
     ///
@@ -278,6 +375,8 @@ impl<T: NativeType> MutablePrimitiveArray<T> {
         ensures data_type { IfOk result (λ a. a.data_type ≡ self.data_type) }
         ensures validity { IfOk result (λ a.
             IsNone a.validity.bitmap ↔ (count_by is_none self.items ≡ 0)) }
+        ensures storage { IfOk result (λ a. a.values ≡ whole_buffer (buffer_items a.values)) }
+        ensures packed { IfOk result (λ a. IfSome a.validity.bitmap (λ b. IsPacked b)) }
         ensures only { IfErr result (λ e. e ≡ Error.OutOfMemory) }
     {
         let MutablePrimitiveArray {

@@ -18,7 +18,7 @@ pub trait Word<'a>: Drop {
         ensures { result ≡ says word.entry.now };
 }
 
-/// Whether the first of several digits is 0.
+/// Returns whether the first of several digits is 0.
 fn has_leading_zero(word: &[u8]) -> bool
     ensures { IsTrue result ↔ (1 < length word.now × slice_index word.now 0 ≡ 48) }
 {
@@ -169,7 +169,7 @@ impl<'a> Word<'a> for Width {
     }
 }
 
-/// Whether each byte is `0` or `1`.
+/// Returns whether each byte is `0` or `1`.
 fn are_bits(bytes: &[u8]) -> bool
     ensures { result ≡ list_all is_bit_byte bytes.now }
 {
@@ -217,7 +217,7 @@ impl<'a> Word<'a> for BitText<'a> {
     }
 }
 
-/// Whether each byte is a hexadecimal digit, `0` to `9` or `a` to `f`.
+/// Returns whether each byte is a hexadecimal digit, `0` to `9` or `a` to `f`.
 fn are_hex_digits(bytes: &[u8]) -> bool
     ensures { result ≡ list_all is_hex_digit bytes.now }
 {
@@ -343,7 +343,7 @@ impl<'a> Word<'a> for NumberText<'a> {
     }
 }
 
-/// Whether each word is a number.
+/// Returns whether each word is a number.
 fn are_numbers(words: Parts<'_>) -> bool
     ensures { result ≡ list_all is_number words.entry }
 {

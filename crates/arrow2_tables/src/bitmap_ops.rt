@@ -1,20 +1,20 @@
-//! New bitmaps from three and four bitmaps, and from truth tables.
-ghost use Rattle.std.specs.Prelude.{◌≡◌, ◌<◌, ℕ, [], ◌∷◌, length as length', IfOk, IfErr};
+//! New bitmaps from three and four bitmaps: functions of words, and truth tables.
+ghost use Rattle.std.specs.Prelude.{◌≡◌, ℕ, [], ◌∷◌, length as length', IfOk, IfErr};
 ghost use Rattle.arrow2_model.specs.Kernels.{ternary_kernel, quaternary_kernel, IsTernary, IsQuaternary};
 ghost use Rattle.arrow2_model.specs.Storage.{items_of};
 ghost use Rattle.arrow2_model.specs.Tables.{each, ActsTernary, ActsQuaternary};
 ghost use Rattle.arrow2_bitmap.specs.Packed.{IsPacked};
 
-use arrow2_bitmap::bitmap_ops::{binary_by_table, from_rows, unary_by_table};
+use arrow2_bitmap::bitmap_ops::from_rows;
 use arrow2_bitmap::immutable::Bitmap;
 use arrow2_kernels::rows::{Beside, OneList, Pair};
 use arrow2_kernels::tables::{quaternary_answers, ternary_answers};
 use arrow2_types::error::{Error, Result};
 
 /// The bitmap of what `op` answers to each three words of 64 items at one place. In the last words false stands behind
-/// the items. Asks that all have one length, and that `op` answers whatever words.
+/// the items. Requires that all have one length, and that `op` answers whatever words.
 ///
-/// Differs from arrow2: spare bits don't reach `op`, nor do words behind the last item. It answers no `Result`.
+/// Differs from arrow2: spare bits don't reach `op`, nor do words behind the last item. It returns no `Result`.
 ///
 /// # Errors
 ///
@@ -59,9 +59,9 @@ pub fn ternary<F: Fn(u64, u64, u64) -> u64>(
 }
 
 /// The bitmap of what `op` answers to each four words of 64 items at one place. In the last words false stands behind
-/// the items. Asks that all have one length, and that `op` answers whatever words.
+/// the items. Requires that all have one length, and that `op` answers whatever words.
 ///
-/// Differs from arrow2: spare bits don't reach `op`, nor do words behind the last item. It answers no `Result`.
+/// Differs from arrow2: spare bits don't reach `op`, nor do words behind the last item. It returns no `Result`.
 ///
 /// # Errors
 ///
@@ -115,46 +115,10 @@ fn pair<'a>(left: &'a Bitmap, right: &'a Bitmap) -> Pair<'a>
     }
 }
 
-/// The answers of table `t` of one input, item by item: bit `a1` of `t`. Asks that `t` is below 4.
+/// The answers of table `t` of three inputs, item by item: bit `a1 + 2 * a2 + 4 * a3` of `t`. Requires that all have
+/// one length.
 ///
-/// In arrow2 it has no name.
-///
-/// # Errors
-///
-/// `OutOfMemory` alone.
-pub fn unary_table(a1: &Bitmap, t: u8) -> Result<Bitmap>
-    requires table { t < 4 }
-    ensures items { IfOk result (λ b. items_of b ≡ each t (items_of a1.now ∷ [])) }
-    ensures len { IfOk result (λ b. length' (items_of b) ≡ length' (items_of a1.now)) }
-    ensures storage { IfOk result (λ b. IsPacked b) }
-    ensures only { IfErr result (λ e. e ≡ Error.OutOfMemory) }
-{
-    unary_by_table(a1, t)
-}
-
-/// The answers of table `t` of two inputs, item by item: bit `a1 + 2 * a2` of `t`. Asks that `t` is below 16, and that both
-/// have one length.
-///
-/// In arrow2 it has no name.
-///
-/// # Errors
-///
-/// `OutOfMemory` alone.
-pub fn binary_table(a1: &Bitmap, a2: &Bitmap, t: u8) -> Result<Bitmap>
-    requires table { t < 16 }
-    requires same_length { length' (items_of a1.now) ≡ length' (items_of a2.now) }
-    ensures items { IfOk result (λ b. items_of b
-        ≡ each t (items_of a1.now ∷ items_of a2.now ∷ [])) }
-    ensures len { IfOk result (λ b. length' (items_of b) ≡ length' (items_of a1.now)) }
-    ensures storage { IfOk result (λ b. IsPacked b) }
-    ensures only { IfErr result (λ e. e ≡ Error.OutOfMemory) }
-{
-    binary_by_table(a1, a2, t)
-}
-
-/// The answers of table `t` of three inputs, item by item: bit `a1 + 2 * a2 + 4 * a3` of `t`. Asks that all have one length.
-///
-/// In arrow2 it has no name.
+/// arrow2 has no such call.
 ///
 /// # Errors
 ///
@@ -171,9 +135,10 @@ pub fn ternary_table(a1: &Bitmap, a2: &Bitmap, a3: &Bitmap, t: u8) -> Result<Bit
     ternary(a1, a2, a3, |x, y, z| ternary_answers(u16::from(t), x, y, z))
 }
 
-/// The answers of table `t` of four inputs, item by item: bit `a1 + 2 * a2 + 4 * a3 + 8 * a4` of `t`. Asks that all have one length.
+/// The answers of table `t` of four inputs, item by item: bit `a1 + 2 * a2 + 4 * a3 + 8 * a4` of `t`. Requires that all
+/// have one length.
 ///
-/// In arrow2 it has no name.
+/// arrow2 has no such call.
 ///
 /// # Errors
 ///

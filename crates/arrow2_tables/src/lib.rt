@@ -1,5 +1,4 @@
-//! Truth tables over bitmaps, and the kernels of three and of four inputs.
+//! Kernels of three and of four bitmaps, and their truth tables.
 #![tactic(auto)]
 
-pub mod assign_ops;
 pub mod bitmap_ops;

@@ -1,3 +1,4 @@
+pub mod Collected
 pub mod GrowingTexts
 pub mod GrowthItems
 pub mod SlotItems

@@ -1,12 +1,15 @@
 -- Slots between offsets beside their validity.
-use Rattle.std.proofs.Common.{◌≡◌, ℕ, zero, suc, ◌+◌, ◌≤◌, List, [], ◌∷◌, ◌++◌, Bool, true, false, not, cond, length, sum, take, drop, replicate, refl, ap, sym, ◌∙◌, arith}
+use Rattle.std.proofs.Common.{◌≡◌, ℕ, ◌+◌, ◌≤◌, List, [], ◌∷◌, ◌++◌, Bool, true, false, not, cond, get_or, length, sum, take, drop, replicate, refl, ap, sym, ◌∙◌, arith}
 use Rattle.std.proofs.Math.Nat.{min-le_left, min-le_right, le-min}
-use Rattle.std.proofs.lemmas.List.{length-take, take_all}
+use Rattle.std.proofs.lemmas.List.{length-append, length-drop, length-take, take_all, take_more, take-append-drop}
 use Rattle.std.proofs.lemmas.List.Sums.{sum_by-cons, sum_by-append}
-use Rattle.std.proofs.Math.Seq.{take-add}
+use Rattle.std.proofs.Math.Seq.{get_or-append_seam, take-add}
+use Rattle.std.specs.Prelude.{Option, Some, None, MatchOption}
+use Rattle.arrow2_model.specs.Buffers.{BufferStorage, buffer_items, whole_buffer}
 use Rattle.arrow2_model.specs.Parts.{falses, part}
 use Rattle.arrow2_offset.specs.Nested.{cut}
-use Rattle.arrow2_offset.proofs.Nested.{nested, length-cut, extend-cut, part-cut, sum-part}
+use Rattle.arrow2_offset.proofs.Nested.{nested, length-cut, extend-cut, part-cut, push-cut, sum-part}
+use Rattle.arrow2_offset.proofs.Appending.{sum-push}
 use Rattle.arrow2_walks.specs.Zipped.{zipped}
 use Rattle.arrow2_walks.proofs.Zipped.{length-zipped}
 use Rattle.arrow2_validity.proofs.Slots.{arrays}
@@ -39,6 +42,45 @@ sum-take-all ns k e = ap sum (take_all k ns (omega (arith, e)))
 -- the last offset of a part is not past that of the whole
 pub last-part : (start : ℕ) (ns : List ℕ) (a n first : ℕ) (ms : List ℕ) (top : ℕ) → first ≡ start + sum (take a ns) → ms ≡ part ns a n → start + sum ns ≤ top → first + sum ms ≤ top
 last-part start ns a n first ms top is-first is-ms h = let s = sum-part ns a n in rw (is-first, is-ms) (omega (arith, s, h))
+
+-- all lengths are those before the last, and the last
+pub sum-parts : (ns : List ℕ) (k : ℕ) → k + 1 ≡ length ns → sum ns ≡ sum (take k ns) + get_or ns k 0
+sum-parts ns k e =
+    let split : ns ≡ take k ns ++ get_or ns k 0 ∷ [] = sym (take_all (k + 1) ns (omega (arith, e))) ∙ take_more ns k 0 (omega (arith, e)) in
+    ap sum split ∙ sum-push (take k ns) (get_or ns k 0)
+
+-- the last slot of those that have all bytes, behind the others
+pub pop-cut : {X : Type 0} (xs : List X) (ns : List ℕ) (k : ℕ) → k + 1 ≡ length ns → sum ns ≡ length xs → cut xs ns ≡ cut (take (sum (take k ns)) xs) (take k ns) ++ part xs (sum (take k ns)) (get_or ns k 0) ∷ []
+pop-cut xs ns k e whole =
+    let s = sum (take k ns) in
+    let n = get_or ns k 0 in
+    let split : ns ≡ take k ns ++ n ∷ [] = sym (take_all (k + 1) ns (omega (arith, e))) ∙ take_more ns k 0 (omega (arith, e)) in
+    let sums = ap sum split ∙ sum-push (take k ns) n in
+    let front = length-take s xs in
+    let behind = length-drop s xs in
+    let last : part xs s n ≡ drop s xs = take_all n (drop s xs) (omega (arith, behind, sums, whole)) in
+    ap (cut xs) split ∙ (ap (λ l. cut l (take k ns ++ n ∷ [])) (sym (take-append-drop s xs))
+    ∙ (push-cut (take s xs) (drop s xs) (take k ns) n (omega (arith, front, sums, whole)) (omega (arith, behind, sums, whole))
+    ∙ ap (λ l. cut (take s xs) (take k ns) ++ l ∷ []) (sym last)))
+
+-- the buffer of all that another one stores is that one, where nothing of it is sliced off
+pub whole-again : {X : Type 0} (b : BufferStorage X) (v : List X) (n : ℕ) → v ≡ buffer_items b → v ≡ b.storage → n ≡ length (buffer_items b) → n ≡ b.len → b.offset + n ≤ length b.storage → whole_buffer v ≡ b
+whole-again b v n items whole count len inside =
+    let l = ap length items in
+    let m = ap length whole in
+    let offset : 0 ≡ b.offset = omega (arith, l, m, count, inside) in
+    let size : length v ≡ b.len = omega (arith, l, count, len) in
+    λ i. record { storage = whole i; offset = offset i; len = size i }
+
+-- the last item, taken off
+pub popped-bits : (r : Option Bool) (old new : List Bool) (k : ℕ) → k + 1 ≡ length old → MatchOption r (old ≡ []) (λ item. old ≡ new ++ item ∷ []) → old ≡ new ++ get_or old k false ∷ []
+popped-bits None old new k e h = absurd (omega (arith, e, ap length h))
+popped-bits (Some v) old new k e h =
+    let n = length-append new (v ∷ []) in
+    let l = ap length h in
+    let same : k ≡ length new = omega (arith, n, l, e) in
+    let is : get_or old k false ≡ v = ap (λ xs. get_or xs k false) h ∙ (ap (λ j. get_or (new ++ v ∷ []) j false) same ∙ get_or-append_seam new v [] false) in
+    h ∙ ap (λ b. new ++ b ∷ []) (sym is)
 
 -- as many items as lengths
 pub length-slots : {X : Type 0} (xs : List X) (ns : List ℕ) (vs : List Bool) → length vs ≡ length ns → length (zipped (cut xs ns) vs) ≡ length ns

@@ -1,5 +1,5 @@
 -- Texts of a part of the slots.
-use Rattle.std.proofs.Common.{◌≡◌, ◌≤◌, ℕ, List, length}
+use Rattle.std.proofs.Common.{◌≡◌, ◌≤◌, ℕ, length}
 use Rattle.std.specs.Prelude.{IsUtf8}
 use Rattle.std.proofs.lemmas.List.Elements.{All-take, All-drop}
 use Rattle.arrow2_model.specs.Buffers.{buffer_items}

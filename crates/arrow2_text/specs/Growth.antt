@@ -1,8 +1,11 @@
 -- What growth of arrays of byte strings and of texts says.
-use Rattle.std.specs.Prelude.{◌≡◌, ℕ, ◌+◌, ◌<◌, ◌≤◌, ◌^◌, ◌↔◌, ◌⊎◌, List, ◌++◌, Bool, Option, length, Result, OnOk, OnErr, IsOk, IfErr, IsErrOf}
+use Rattle.std.specs.Prelude.{◌≡◌, ℕ, ◌+◌, ◌<◌, ◌≤◌, ◌^◌, ◌↔◌, ◌⊎◌, List, [], ◌∷◌, ◌++◌, Bool, false, Option, None, length, map, sum, option_map, MatchOption, IfNone, IfSome, Result, OnOk, OnErr, IsOk, IfErr, IfOk, IsErrOf}
+use Rattle.std.specs.Option.{option_copied, option_map_or}
+use Rattle.std.specs.Iterator.{Yields}
+use Rattle.std.specs.Borrow.{Bor}
 use Rattle.arrow2_types.specs.declared.error.Error.{Error}
 use Rattle.arrow2_types.specs.declared.error.Error.TheVariants.{Overflow, OutOfMemory}
-use Rattle.arrow2_walks.specs.Zipped.{zipped}
+use Rattle.arrow2_walks.specs.Zipped.{slot, zipped}
 use Rattle.arrow2_datatypes.specs.declared.DataType.{DataType}
 
 -- an array that grows: its logical type, its items, how many bytes their slots have, under nulls too, and how many items
@@ -79,3 +82,55 @@ pub record AppendsSlots {T : Type 0} (greatest : ℕ) (r : Result T Error) (old 
   -- no capacity falls
   pub capacity : old.capacity ≤ new.capacity
   pub byte_capacity : old.byte_capacity ≤ new.byte_capacity
+
+-- taking the last item off: where it is not null its bytes are returned, as a value of their own
+pub record PopsBinary {V : Type 0} (bytes_of : V → List ℕ) (r : Result (Option (Option V)) Error) (old new : GrowingBinary) : Type 0 where
+  -- it stood behind those that are left
+  pub last : IfOk r (λ o. MatchOption o (old.items ≡ []) (λ item. old.items ≡ new.items ++ option_map bytes_of item ∷ []))
+  -- where there was none there is none left
+  pub none : IfOk r (λ o. IfNone o (new.items ≡ []))
+  -- its bytes are gone, also those under a null
+  pub bytes : IfOk r (λ o. IfSome o (λ item. MatchOption item (new.bytes ≤ old.bytes) (λ value. old.bytes ≡ new.bytes + length (bytes_of value))))
+  -- an error leaves the items
+  pub err : OnErr r (new.items ≡ old.items)
+  pub err_bytes : OnErr r (new.bytes ≡ old.bytes)
+  -- the logical type and the capacities stay
+  pub data_type : new.data_type ≡ old.data_type
+  pub capacity : new.capacity ≡ old.capacity
+  pub byte_capacity : new.byte_capacity ≡ old.byte_capacity
+  -- the only error is refused memory, and a null takes none
+  pub only : IfErr r (λ e. e ≡ OutOfMemory)
+  pub succeeds : (front : List (Option (List ℕ))) → old.items ≡ front ++ None ∷ [] → IsOk r
+
+-- the same, by slots and by which of them are not null
+pub record PopsSlot {V : Type 0} (bytes_of : V → List ℕ) (r : Result (Option (Option V)) Error) (old new : GrowingSlots) : Type 0 where
+  -- as many of them are told to be null or not as there are
+  pub same : length old.valid ≡ length old.values
+  pub same_left : length new.valid ≡ length new.values
+  -- it stood behind those that are left
+  pub some : IfOk r (λ o. IfSome o (λ item. (value : List ℕ) × (valid : Bool) × (old.values ≡ new.values ++ value ∷ []) × (old.valid ≡ new.valid ++ valid ∷ []) × (old.bytes ≡ new.bytes + length value) × (option_map bytes_of item ≡ slot value valid)))
+  -- where there was none there is none left
+  pub none : IfOk r (λ o. IfNone o ((old.values ≡ []) × (new.values ≡ []) × (new.valid ≡ [])))
+  -- an error leaves the slots
+  pub err_values : OnErr r (new.values ≡ old.values)
+  pub err_valid : OnErr r (new.valid ≡ old.valid)
+  pub err_bytes : OnErr r (new.bytes ≡ old.bytes)
+  -- the logical type and the capacities stay
+  pub data_type : new.data_type ≡ old.data_type
+  pub capacity : new.capacity ≡ old.capacity
+  pub byte_capacity : new.byte_capacity ≡ old.byte_capacity
+  -- the only error is refused memory, and a null takes none
+  pub only : IfErr r (λ e. e ≡ OutOfMemory)
+  pub succeeds : (front : List Bool) → old.valid ≡ front ++ false ∷ [] → IsOk r
+
+-- the items of an iterator, each by its bytes
+abbrev pub items_by_bytes : List (Option (Bor (List ℕ))) → List (Option (List ℕ))
+items_by_bytes items = map option_copied items
+
+-- how many bytes items have
+abbrev pub bytes_of_items : List (Option (List ℕ)) → ℕ
+bytes_of_items items = sum (map (λ item. option_map_or length item 0) items)
+
+-- items came whose bytes pass the greatest offset, or more items than a usize counts
+abbrev pub GivesPastOffset : {S : Type 0} → ℕ → (S → Option (Option (Bor (List ℕ))) → S → Type 0) → S → Type 0
+GivesPastOffset {S} greatest steps s = (xs : List (Option (Bor (List ℕ)))) × (t : S) × Yields steps s xs t × ((greatest < bytes_of_items (items_by_bytes xs)) ⊎ (2 ^ 64 ≤ length xs))

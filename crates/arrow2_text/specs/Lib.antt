@@ -1,4 +1,5 @@
 pub mod AllTexts
+pub mod ArrayTexts
 pub mod Binary
 pub mod Growth
 pub mod Refused

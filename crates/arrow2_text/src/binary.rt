@@ -1,6 +1,7 @@
 //! An array of byte strings, each of which may be null.
-ghost use Rattle.std.specs.Prelude.{◌≡◌, ◌+◌, ◌<◌, ◌≤◌, ◌↔◌, [], None, Some, true, length, map, count_by, replicate, slice_index_or, IfErr, IfOk, IsTrue, MatchOption, OnOk, option_map};
+ghost use Rattle.std.specs.Prelude.{◌≡◌, ◌+◌, ◌<◌, ◌≤◌, ◌↔◌, ◌⊎◌, [], None, Some, true, length, map, count_by, replicate, slice_index_or, sum, IsErrOf, IsNone, IfErr, IfOk, IsTrue, MatchOption, OnOk, option_map};
 ghost use Rattle.std.specs.Option.{ForSome, is_none, is_some, option_copied};
+ghost use Rattle.either.specs.Either.{MatchEither};
 ghost use Rattle.arrow2_model.specs.Buffers.{buffer_items};
 ghost use Rattle.arrow2_model.specs.Parts.{part};
 ghost use Rattle.arrow2_model.specs.Storage.{items_of};
@@ -11,9 +12,11 @@ ghost use Rattle.arrow2_validity.specs.OptionalValidity.{valid_items};
 ghost use Rattle.arrow2_validity.specs.Refused.{unequal_lengths};
 ghost use Rattle.arrow2_datatypes.specs.Types.{physical};
 ghost use Rattle.arrow2_text.specs.Binary.{HasBitPerSlot, binary_items, binary_layout, binary_of, binary_values, default_binary, sliced_binary};
+ghost use Rattle.arrow2_text.specs.Growth.{bytes_of_items, items_by_bytes};
 ghost use Rattle.arrow2_text.specs.Refused.{past_the_values, other_binary_layout};
 
 use crate::iterator::BinaryIter;
+use crate::mutable_binary::MutableBinaryArray;
 use crate::refusals::{binary_type, check_binary_layout, check_bounds};
 use crate::slots::Slots;
 use arrow2_bitmap::Bitmap;
@@ -23,7 +26,8 @@ use arrow2_index::offset::Offset;
 use arrow2_offset::OffsetsBuffer;
 use arrow2_types::error::{Error, Result};
 use arrow2_validity::Validity;
-use std::alloc::AllocError;
+use either::Either;
+use std::alloc::{AllocError, Global};
 use std::marker::Model;
 use std::rc::Rc;
 
@@ -97,9 +101,10 @@ impl<O: Offset> BinaryArray<O> {
         })
     }
 
-    /// Returns the array of the bytes between the offsets, each null where the validity is false. Without a validity none
-    /// is null. Requires that the physical type of `data_type` is `Binary`, or `LargeBinary` where `O` has 64 bits, that the
-    /// last offset is not past the values, and that the validity has a bit for each slot. Takes no memory.
+    /// Returns the array of the bytes between the offsets, each null where the validity is false. Without a validity
+    /// none is null. Requires that the physical type of `data_type` is `Binary`, or `LargeBinary` where `O` has 64
+    /// bits, that the last offset is not past the values, and that the validity has a bit for each slot. Does not
+    /// allocate.
     pub fn new(
         data_type: Rc<DataType>,
         offsets: OffsetsBuffer<O>,
@@ -138,6 +143,47 @@ impl<O: Offset> BinaryArray<O> {
         ensures layout { physical result ≡ binary_layout O.IS_LARGE }
     {
         binary_type::<O>()
+    }
+
+    /// Returns the array of a copy of these byte strings, none of which is null.
+    ///
+    /// # Errors
+    ///
+    /// `Overflow` only where their bytes pass `O::MAX`, else `OutOfMemory` alone.
+    pub fn from_slice(alloc: Global, values: &[&[u8]]) -> Result<BinaryArray<O>>
+        ensures items { IfOk result (λ a. binary_items a ≡ map (λ value. Some value.now) values.entry.now) }
+        ensures data_type { IfOk result (λ a. a.data_type ≡ default_binary O.IS_LARGE) }
+        ensures bitmap { IfOk result (λ a. IsNone a.validity.bitmap) }
+        ensures overflow { IsErrOf result Error.Overflow → O.MAX < sum (map (λ value. length value.now) values.entry.now) }
+        ensures only { IfErr result (λ e. (e ≡ Error.Overflow) ⊎ (e ≡ Error.OutOfMemory)) }
+    {
+        let mut array = MutableBinaryArray::with_capacity(alloc, values.len(), 0)?;
+        for value in values {
+            array.push(Some(*value))?;
+        }
+        array.freeze()
+    }
+
+    /// Returns the array of a copy of these items. It has a validity bitmap exactly where an item is null.
+    ///
+    /// Stands for arrow2's `From` of a slice.
+    ///
+    /// # Errors
+    ///
+    /// `Overflow` only where their bytes pass `O::MAX`, else `OutOfMemory` alone.
+    pub fn from_options(alloc: Global, items: &[Option<&[u8]>]) -> Result<BinaryArray<O>>
+        ensures items { IfOk result (λ a. binary_items a ≡ items_by_bytes items.entry.now) }
+        ensures data_type { IfOk result (λ a. a.data_type ≡ default_binary O.IS_LARGE) }
+        ensures bitmap { IfOk result (λ a.
+            IsNone a.validity.bitmap ↔ (count_by is_none (items_by_bytes items.entry.now) ≡ 0)) }
+        ensures overflow { IsErrOf result Error.Overflow → O.MAX < bytes_of_items (items_by_bytes items.entry.now) }
+        ensures only { IfErr result (λ e. (e ≡ Error.Overflow) ⊎ (e ≡ Error.OutOfMemory)) }
+    {
+        let mut array = MutableBinaryArray::with_capacity(alloc, items.len(), 0)?;
+        for item in items {
+            array.push(*item)?;
+        }
+        array.freeze()
     }
 
     /// Returns the logical type.
@@ -251,7 +297,8 @@ impl<O: Offset> BinaryArray<O> {
         BinaryIter::new(self)
     }
 
-    /// Keeps `len` items from item `offset` on, over the same storage. Requires that they are inside. Takes no memory.
+    /// Keeps `len` items from item `offset` on, over the same storage. Requires that they are inside. Does not
+    /// allocate.
     pub fn slice(&mut self, offset: usize, len: usize)
         requires inside { offset + len ≤ length (binary_items self.old) }
         ensures items { binary_items self.new ≡ part (binary_items self.old) offset len }
@@ -261,7 +308,8 @@ impl<O: Offset> BinaryArray<O> {
         self.slots.slice(offset, len);
     }
 
-    /// Returns the `len` items from item `offset` on, over the same storage. Requires that they are inside. Takes no memory.
+    /// Returns the `len` items from item `offset` on, over the same storage. Requires that they are inside. Does not
+    /// allocate.
     pub fn sliced(mut self, offset: usize, len: usize) -> BinaryArray<O>
         requires inside { offset + len ≤ length (binary_items self) }
         ensures items { binary_items result ≡ part (binary_items self) offset len }
@@ -272,13 +320,34 @@ impl<O: Offset> BinaryArray<O> {
         self
     }
 
-    /// Returns the array of the same slots with another validity. Requires that it has a bit for each slot. Takes no memory.
+    /// Returns the array of the same slots with another validity. Requires that it has a bit for each slot. Does not
+    /// allocate.
     pub fn with_validity(self, validity: Option<Bitmap>) -> BinaryArray<O>
         requires same_length { HasBitPerSlot (buffer_items self.offsets) validity }
         ensures { result ≡ binary_of self.data_type self.offsets self.values validity }
     {
         let (data_type, offsets, values, _) = self.slots.into_parts();
         BinaryArray::new(data_type, offsets, values, validity)
+    }
+
+    /// Returns the array as it grows, over the same storage, on the right, where nobody else shares it and nothing is sliced off;
+    /// else the array as it was, on the left.
+    ///
+    /// Differs from arrow2, whose array that grows needs no bitmap where no item is null.
+    ///
+    /// # Errors
+    ///
+    /// `OutOfMemory` alone, and only where the array has no bitmap, or somebody else shares a part of it. The array is then
+    /// dropped.
+    pub fn into_mut(self) -> Result<Either<BinaryArray<O>, MutableBinaryArray<O>>>
+        ensures ok { IfOk result (λ r. MatchEither r (λ a. a ≡ self)
+            (λ m. (m.items ≡ binary_items self) × (m.data_type ≡ self.data_type))) }
+        ensures only { IfErr result (λ e. e ≡ Error.OutOfMemory) }
+    {
+        match self.slots.into_mut()? {
+            Either::Left(slots) => Ok(Either::Left(BinaryArray { slots })),
+            Either::Right(slots) => Ok(Either::Right(MutableBinaryArray::of_slots(slots))),
+        }
     }
 
     /// Returns the logical type, the offsets, the bytes and the validity bitmap.
@@ -293,8 +362,8 @@ impl<O: Offset> BinaryArray<O> {
     }
 }
 
-/// Shares the logical type, the offsets, the bytes and the validity. Takes no memory: it is refused only where a count of
-/// owners is full.
+/// Shares the logical type, the offsets, the bytes and the validity. Does not allocate: it is refused only where a
+/// count of owners is full.
 impl<O: Offset> Clone for BinaryArray<O> {
     ghost is_clone = { λ a copy. copy ≡ a };
 

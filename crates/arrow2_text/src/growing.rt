@@ -1,13 +1,14 @@
 //! Bytes between offsets beside their validity, as they grow.
-ghost use Rattle.std.specs.Prelude.{◌≡◌, ◌+◌, ◌<◌, ◌≤◌, ◌^◌, ◌↔◌, ◌⊎◌, [], ◌∷◌, length, sum, count_by, IfErr, IfOk, IsErrOf, IsNone, IsOk, OnOk};
+ghost use Rattle.std.specs.Prelude.{◌≡◌, ◌+◌, ◌<◌, ◌≤◌, ◌^◌, ◌↔◌, ◌⊎◌, [], ◌∷◌, false, length, sum, count_by, option_map, IfErr, IfOk, IsErrOf, IsNone, IsOk, OnOk};
 ghost use Rattle.arrow2_model.specs.Buffers.{buffer_items};
 ghost use Rattle.std.specs.Option.{is_none};
-ghost use Rattle.arrow2_walks.specs.Zipped.{zipped};
+ghost use Rattle.arrow2_walks.specs.Zipped.{slot, zipped};
 ghost use Rattle.arrow2_model.specs.Parts.{part};
 ghost use Rattle.arrow2_offset.specs.Offsets.{lengths_of};
 ghost use Rattle.arrow2_validity.specs.OptionalValidity.{valid_items};
 ghost use Rattle.arrow2_text.specs.Binary.{binary_items, binary_values};
-ghost use Rattle.arrow2_text.specs.Growth.{AppendsSlots};
+ghost use Rattle.arrow2_offset.specs.Nested.{cut};
+ghost use Rattle.arrow2_text.specs.Growth.{AppendsSlots, PopsSlot};
 
 use crate::slots::Slots;
 use arrow2_bitmap::MutableBitmap;
@@ -102,6 +103,30 @@ impl<O: Offset> Growing<O> {
         }
         let data_type = Rc::new(alloc, data_type)?;
         Growing::with_capacity(data_type, alloc, capacity, byte_capacity)
+    }
+
+    /// Returns the slots of these parts. Requires that the offsets begin at 0 and end behind the last byte, and that the validity
+    /// has an item for each slot.
+    pub(crate) fn of_parts(
+        data_type: Rc<DataType>,
+        offsets: Offsets<O>,
+        values: Vec<u8>,
+        validity: MutableBitmap,
+    ) -> Growing<O>
+        requires start { offsets.start ≡ 0 }
+        requires whole { sum offsets.lengths ≡ length values.items }
+        requires same_length { length validity.items ≡ length offsets.lengths }
+        ensures values { result.values ≡ cut values.items offsets.lengths }
+        ensures valid { result.valid ≡ validity.items }
+        ensures data_type { result.data_type ≡ data_type.value }
+        ensures bytes { result.bytes ≡ length values.items }
+    {
+        Growing {
+            data_type,
+            offsets,
+            values,
+            validity,
+        }
     }
 
     /// Returns the logical type.
@@ -207,6 +232,24 @@ impl<O: Offset> Growing<O> {
         Ok(())
     }
 
+    /// Takes the last slot off and returns a copy of its bytes, or `None` of them where it is null, or `None` where there is no
+    /// slot.
+    pub(crate) fn pop(&mut self) -> Result<Option<Option<Vec<u8>>>>
+        ensures { PopsSlot (λ value. value.items) result self.old self.new }
+    {
+        let Some(last) = self.len().checked_sub(1) else {
+            return Ok(None);
+        };
+        let (start, end) = self.offsets.start_end(last);
+        let valid = self.validity.get(last);
+        let bytes = &self.values.as_slice()[start..end];
+        let item = copied(*self.values.allocator(), bytes, valid)?;
+        self.values.truncate(start);
+        let _ = self.offsets.pop();
+        let _ = self.validity.pop();
+        Ok(Some(item))
+    }
+
     /// Returns the slots, with no bitmap where none is null.
     pub(crate) fn freeze(self) -> Result<Slots<O>>
         ensures data_type { IfOk result (λ s. s.data_type ≡ self.data_type) }
@@ -226,5 +269,18 @@ impl<O: Offset> Growing<O> {
         let values = Buffer::try_from(values)?;
         let validity = Validity::new(offsets.len_proxy(), validity.into_validity()?);
         Ok(Slots::new(data_type, offsets, values, validity))
+    }
+}
+
+/// Returns a copy of the bytes of a slot, or `None` where it is null.
+fn copied(alloc: Global, bytes: &[u8], valid: bool) -> Result<Option<Vec<u8>>>
+    ensures ok { IfOk result (λ item. option_map (λ value. value.items) item ≡ slot bytes.now valid) }
+    ensures only { IfErr result (λ e. e ≡ Error.OutOfMemory) }
+    ensures succeeds { valid ≡ false → IsOk result }
+{
+    if valid {
+        Ok(Some(bytes.to_vec(alloc)?))
+    } else {
+        Ok(None)
     }
 }

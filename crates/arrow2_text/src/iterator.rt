@@ -45,7 +45,7 @@ impl<'a, O: Offset> BinaryIter<'a, O> {
     }
 }
 
-/// The same items still to come. Takes no memory.
+/// The same items still to come. Does not allocate.
 impl<'a, O: Offset> Clone for BinaryIter<'a, O> {
     ghost is_clone = { λ i copy. copy ≡ i };
 
@@ -138,7 +138,7 @@ impl<'a, O: Offset> Utf8Iter<'a, O> {
     }
 }
 
-/// The same items still to come. Takes no memory.
+/// The same items still to come. Does not allocate.
 impl<'a, O: Offset> Clone for Utf8Iter<'a, O> {
     ghost is_clone = { λ i copy. copy ≡ i };
 

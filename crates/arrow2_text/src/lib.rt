@@ -2,6 +2,8 @@
 #![tactic(auto)]
 
 pub mod binary;
+mod equal;
+mod fmt;
 mod growing;
 pub mod iterator;
 pub mod mutable_binary;

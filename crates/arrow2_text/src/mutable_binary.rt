@@ -1,12 +1,14 @@
 //! An array of byte strings that grows.
 ghost use Rattle.std.specs.Prelude.{◌≡◌, ◌+◌, ◌<◌, ◌≤◌, ◌^◌, ◌↔◌, ◌⊎◌, [], ◌∷◌, None, length, sum, count_by, map, if◌then◌else◌, IfErr, IfOk, IsErrOf, IsNone, IsOk, IsTrue, OnOk};
+ghost use Rattle.std.specs.Iterator.{IsFinite};
+ghost use Rattle.std.specs.Iterator.Runs.{WholeRun};
 ghost use Rattle.std.specs.Option.{is_none, option_copied, option_map_or};
 ghost use Rattle.arrow2_model.specs.Buffers.{buffer_items};
 ghost use Rattle.arrow2_model.specs.Parts.{part};
 ghost use Rattle.arrow2_offset.specs.Offsets.{lengths_of};
 ghost use Rattle.arrow2_datatypes.specs.Types.{physical};
 ghost use Rattle.arrow2_text.specs.Binary.{binary_items, binary_layout, default_binary};
-ghost use Rattle.arrow2_text.specs.Growth.{AppendsBinary};
+ghost use Rattle.arrow2_text.specs.Growth.{AppendsBinary, GivesPastOffset, PopsBinary, growing_binary, items_by_bytes};
 
 use crate::binary::BinaryArray;
 use crate::growing::Growing;
@@ -98,6 +100,70 @@ impl<O: Offset> MutableBinaryArray<O> {
     {
         let slots = Growing::of_default(binary_type::<O>(), alloc, capacity, byte_capacity)?;
         Ok(MutableBinaryArray { slots })
+    }
+
+    /// Takes the last item off and returns a copy of it, or `None` where there is none. A null does not allocate.
+    ///
+    /// Differs from arrow2, which answers an array without items as it answers a null.
+    ///
+    /// # Errors
+    ///
+    /// `OutOfMemory` alone. The array then holds the items that it held.
+    pub fn pop(&mut self) -> Result<Option<Option<Vec<u8>>>>
+        ensures { PopsBinary (λ value. value.items) result self.old self.new }
+    {
+        self.slots.pop()
+    }
+
+    /// Returns the array of the items of an iterator that ends, in its order, of the logical type of byte strings. Does not read its
+    /// size hint.
+    ///
+    /// # Errors
+    ///
+    /// `Overflow` only where the bytes of the items pass `O::MAX`, or there are more items than `usize::MAX`; else
+    /// `OutOfMemory` alone.
+    pub fn try_from_iter<'a, I: IntoIterator<Item = Option<&'a [u8]>>>(
+        alloc: Global,
+        iter: I,
+    ) -> Result<MutableBinaryArray<O>>
+        requires { (it : I.IntoIter) → I.into_iter_gives iter it →
+            I.IntoIter.can_next it × IsFinite (I.IntoIter.remaining it) }
+        ensures items { IfOk result (λ a. (it : I.IntoIter) × I.into_iter_gives iter it
+            × WholeRun I.IntoIter.next_gives it (λ p. a.items ≡ items_by_bytes p.items)) }
+        ensures data_type { IfOk result (λ a. a.data_type ≡ default_binary O.IS_LARGE) }
+        ensures overflow { IsErrOf result Error.Overflow →
+            (it : I.IntoIter) × I.into_iter_gives iter it × GivesPastOffset O.MAX I.IntoIter.next_gives it }
+        ensures only { IfErr result (λ e. (e ≡ Error.Overflow) ⊎ (e ≡ Error.OutOfMemory)) }
+    {
+        MutableBinaryArray::collected(alloc, iter.into_iter())
+    }
+
+    /// Returns the array of the items of an iterator that ends.
+    fn collected<'a, I: Iterator<Item = Option<&'a [u8]>> + Drop>(
+        alloc: Global,
+        items: I,
+    ) -> Result<MutableBinaryArray<O>>
+        requires can { I.can_next items }
+        requires ends { IsFinite (I.remaining items) }
+        ensures items { IfOk result (λ a.
+            WholeRun I.next_gives items (λ p. a.items ≡ items_by_bytes p.items)) }
+        ensures data_type { IfOk result (λ a. a.data_type ≡ default_binary O.IS_LARGE) }
+        ensures overflow { IsErrOf result Error.Overflow → GivesPastOffset O.MAX I.next_gives items }
+        ensures only { IfErr result (λ e. (e ≡ Error.Overflow) ⊎ (e ≡ Error.OutOfMemory)) }
+    {
+        let mut array = MutableBinaryArray::new(alloc)?;
+        for item in items {
+            array.push(item)?;
+        }
+        Ok(array)
+    }
+
+    /// Returns the array of these slots, over their storage.
+    pub(crate) fn of_slots(slots: Growing<O>) -> MutableBinaryArray<O>
+        requires { physical slots.data_type ≡ binary_layout O.IS_LARGE }
+        ensures { result ≡ growing_binary slots }
+    {
+        MutableBinaryArray { slots }
     }
 
     /// Returns the logical type.

@@ -1,5 +1,7 @@
 //! An array of texts that grows.
-ghost use Rattle.std.specs.Prelude.{◌≡◌, ◌+◌, ◌<◌, ◌≤◌, ◌^◌, ◌↔◌, ◌⊎◌, [], ◌∷◌, None, length, sum, count_by, map, if◌then◌else◌, IfErr, IfOk, IsErrOf, IsNone, IsOk, IsTrue, OnOk};
+ghost use Rattle.std.specs.Prelude.{◌≡◌, ◌+◌, ◌<◌, ◌≤◌, ◌^◌, ◌↔◌, ◌⊎◌, [], ◌∷◌, None, length, sum, count_by, map, if◌then◌else◌, option_map, string_bytes, IfErr, IfOk, IfSome, IsErrOf, IsNone, IsOk, IsTrue, IsUtf8, OnOk};
+ghost use Rattle.std.specs.Iterator.{IsFinite};
+ghost use Rattle.std.specs.Iterator.Runs.{WholeRun};
 ghost use Rattle.std.specs.Option.{is_none, option_copied, option_map_or};
 ghost use Rattle.arrow2_model.specs.Buffers.{buffer_items};
 ghost use Rattle.arrow2_model.specs.Parts.{part};
@@ -7,7 +9,8 @@ ghost use Rattle.arrow2_walks.specs.Zipped.{zipped};
 ghost use Rattle.arrow2_offset.specs.Offsets.{lengths_of};
 ghost use Rattle.arrow2_datatypes.specs.Types.{physical};
 ghost use Rattle.arrow2_text.specs.Binary.{binary_items, text_layout, default_text};
-ghost use Rattle.arrow2_text.specs.Growth.{AppendsBinary};
+ghost use Rattle.arrow2_text.specs.AllTexts.{AreUtf8};
+ghost use Rattle.arrow2_text.specs.Growth.{AppendsBinary, GivesPastOffset, PopsBinary, growing_binary, items_by_bytes};
 
 use crate::growing::Growing;
 use crate::refusals::text_type;
@@ -101,6 +104,72 @@ impl<O: Offset> MutableUtf8Array<O> {
     {
         let slots = Growing::of_default(text_type::<O>(), alloc, capacity, byte_capacity)?;
         Ok(MutableUtf8Array { slots })
+    }
+
+    /// Takes the last item off and returns a copy of it, or `None` where there is none. A null does not allocate.
+    ///
+    /// Differs from arrow2, which answers an array without items as it answers a null.
+    ///
+    /// # Errors
+    ///
+    /// `OutOfMemory` alone. The array then holds the items that it held.
+    pub fn pop(&mut self) -> Result<Option<Option<String>>>
+        ensures { PopsBinary string_bytes result self.old self.new }
+    {
+        let item = self.slots.pop()?;
+        Ok(as_texts(item))
+    }
+
+    /// Returns the array of the items of an iterator that ends, in its order, of the logical type of texts. Does not read its
+    /// size hint.
+    ///
+    /// # Errors
+    ///
+    /// `Overflow` only where the bytes of the items pass `O::MAX`, or there are more items than `usize::MAX`; else
+    /// `OutOfMemory` alone.
+    pub fn try_from_iter<'a, I: IntoIterator<Item = Option<&'a str>>>(
+        alloc: Global,
+        iter: I,
+    ) -> Result<MutableUtf8Array<O>>
+        requires { (it : I.IntoIter) → I.into_iter_gives iter it →
+            I.IntoIter.can_next it × IsFinite (I.IntoIter.remaining it) }
+        ensures items { IfOk result (λ a. (it : I.IntoIter) × I.into_iter_gives iter it
+            × WholeRun I.IntoIter.next_gives it (λ p. a.items ≡ items_by_bytes p.items)) }
+        ensures data_type { IfOk result (λ a. a.data_type ≡ default_text O.IS_LARGE) }
+        ensures overflow { IsErrOf result Error.Overflow →
+            (it : I.IntoIter) × I.into_iter_gives iter it × GivesPastOffset O.MAX I.IntoIter.next_gives it }
+        ensures only { IfErr result (λ e. (e ≡ Error.Overflow) ⊎ (e ≡ Error.OutOfMemory)) }
+    {
+        MutableUtf8Array::collected(alloc, iter.into_iter())
+    }
+
+    /// Returns the array of the items of an iterator that ends.
+    fn collected<'a, I: Iterator<Item = Option<&'a str>> + Drop>(
+        alloc: Global,
+        items: I,
+    ) -> Result<MutableUtf8Array<O>>
+        requires can { I.can_next items }
+        requires ends { IsFinite (I.remaining items) }
+        ensures items { IfOk result (λ a.
+            WholeRun I.next_gives items (λ p. a.items ≡ items_by_bytes p.items)) }
+        ensures data_type { IfOk result (λ a. a.data_type ≡ default_text O.IS_LARGE) }
+        ensures overflow { IsErrOf result Error.Overflow → GivesPastOffset O.MAX I.next_gives items }
+        ensures only { IfErr result (λ e. (e ≡ Error.Overflow) ⊎ (e ≡ Error.OutOfMemory)) }
+    {
+        let mut array = MutableUtf8Array::new(alloc)?;
+        for item in items {
+            array.push(item)?;
+        }
+        Ok(array)
+    }
+
+    /// Returns the array of these slots, over their storage.
+    pub(crate) fn of_slots(slots: Growing<O>) -> MutableUtf8Array<O>
+        requires layout { physical slots.data_type ≡ text_layout O.IS_LARGE }
+        requires texts { AreUtf8 slots.values }
+        ensures { result ≡ growing_binary slots }
+    {
+        MutableUtf8Array { slots }
     }
 
     /// Returns the logical type.
@@ -224,5 +293,18 @@ impl<O: Offset> MutableUtf8Array<O> {
         // The bytes are read for what the type keeps: the last offset is not past them.
         let _ = slots.values();
         Ok(Utf8Array::of_slots(slots))
+    }
+}
+
+/// Returns the text of the bytes that were taken off. Requires that they are UTF-8.
+fn as_texts(item: Option<Option<Vec<u8>>>) -> Option<Option<String>>
+    requires { IfSome item (λ slot. IfSome slot (λ bytes. IsUtf8 bytes.items)) }
+    ensures { option_map (option_map string_bytes) result
+        ≡ option_map (option_map (λ bytes. bytes.items)) item }
+{
+    match item {
+        Some(Some(bytes)) => Some(Some(unsafe { String::from_utf8_unchecked(bytes) })),
+        Some(None) => Some(None),
+        None => None,
     }
 }

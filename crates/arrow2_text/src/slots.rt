@@ -1,19 +1,26 @@
 //! Bytes between offsets beside their validity: what arrays of byte strings and of texts store.
-ghost use Rattle.std.specs.Prelude.{◌≡◌, ◌+◌, ◌<◌, ◌≤◌, [], None, Some, IsTrue, length, map, count_by, slice_index_or, sum};
-ghost use Rattle.std.specs.Option.{is_none, is_some};
-ghost use Rattle.arrow2_model.specs.Buffers.{buffer_items};
+ghost use Rattle.std.specs.Prelude.{◌≡◌, ◌+◌, ◌<◌, ◌≤◌, [], None, Some, IfErr, IfOk, IsTrue, length, map, count_by, pos, slice_index_or, sum};
+ghost use Rattle.std.specs.Bool.{Decides};
+ghost use Rattle.std.specs.Option.{is_none, is_some, option_copied};
+ghost use Rattle.either.specs.Either.{MatchEither};
+ghost use Rattle.arrow2_model.specs.Buffers.{buffer_items, whole_buffer};
 ghost use Rattle.arrow2_model.specs.Parts.{part};
-ghost use Rattle.arrow2_offset.specs.Offsets.{last_of, lengths_of, offset_at, start_of};
+ghost use Rattle.arrow2_offset.specs.Nested.{cut};
+ghost use Rattle.arrow2_offset.specs.Offsets.{last_of, lengths_of, offset_at, offsets_of, start_of};
 ghost use Rattle.arrow2_walks.specs.Zipped.{zipped};
 ghost use Rattle.arrow2_validity.specs.OptionalValidity.{valid_items};
 ghost use Rattle.arrow2_text.specs.Binary.{binary_items, binary_values, sliced_binary};
 
+use crate::growing::Growing;
 use arrow2_buffer::Buffer;
 use arrow2_datatypes::DataType;
 use arrow2_index::offset::Offset;
-use arrow2_offset::OffsetsBuffer;
+use arrow2_offset::{Offsets, OffsetsBuffer};
+use arrow2_types::error::{Error, Result};
 use arrow2_validity::Validity;
+use either::Either;
 use std::alloc::AllocError;
+use std::convert::TryFrom;
 use std::marker::Model;
 use std::rc::Rc;
 
@@ -192,6 +199,57 @@ impl<O: Offset> Slots<O> {
         self.validity.slice(start, len);
     }
 
+    /// Returns the bytes of a slot, or `None` where it is null. Requires that it is one of them.
+    fn get(&self, index: usize) -> Option<&[u8]>
+        requires below { index < length (binary_items self.now) }
+        ensures { option_copied result ≡ slice_index_or (binary_items self.now) index None }
+    {
+        let value = self.value(index);
+        self.is_valid(index).then_some(value)
+    }
+
+    /// Returns whether both have the same items, whatever stands under nulls.
+    pub(crate) fn same_items(&self, other: &Slots<O>) -> bool
+        ensures { Decides result (binary_items self.now ≡ binary_items other.now) }
+    {
+        let count = self.len();
+        if count != other.len() {
+            return false;
+        }
+        for index in 0..count {
+            if !same_item(self.get(index), other.get(index)) {
+                return false;
+            }
+        }
+        true
+    }
+
+    /// Returns the slots as they grow, over the same storage, on the right, where nobody else shares it and nothing is sliced
+    /// off; else the slots as they were, on the left.
+    pub(crate) fn into_mut(self) -> Result<Either<Slots<O>, Growing<O>>>
+        ensures ok { IfOk result (λ r. MatchEither r (λ s. s ≡ self) (λ g.
+            (g.values ≡ binary_values self) × (g.valid ≡ valid_items self.validity)
+            × (g.data_type ≡ self.data_type))) }
+        ensures only { IfErr result (λ e. e ≡ Error.OutOfMemory) }
+    {
+        let (first, last) = (self.offsets.first(), self.offsets.last());
+        if first.to_usize() != 0 || last.to_usize() != self.values.len() {
+            return Ok(Either::Left(self));
+        }
+        let Slots {
+            data_type,
+            offsets,
+            values,
+            validity,
+        } = self;
+        match offsets.into_mut() {
+            Either::Left(offsets) => Ok(Either::Left(Slots::new(
+                data_type, offsets, values, validity,
+            ))),
+            Either::Right(offsets) => thawed(data_type, offsets, values, validity),
+        }
+    }
+
     /// Returns the parts.
     pub(crate) fn into_parts(self) -> (Rc<DataType>, OffsetsBuffer<O>, Buffer<u8>, Validity)
         ensures data_type { result.0.value ≡ self.data_type }
@@ -205,6 +263,62 @@ impl<O: Offset> Slots<O> {
     }
 }
 
+/// Returns whether two items are the same: both null, or of the same bytes.
+fn same_item(item: Option<&[u8]>, other: Option<&[u8]>) -> bool
+    ensures { Decides result (option_copied item.entry ≡ option_copied other.entry) }
+{
+    match (item, other) {
+        (Some(bytes), Some(others)) => bytes == others,
+        (None, None) => true,
+        _ => false,
+    }
+}
+
+/// Returns the slots of these parts as they grow, where nobody else shares the bytes and the bitmap, and none of the bytes is
+/// sliced off; else the slots. Requires that the offsets begin at 0 and end behind the last byte.
+fn thawed<O: Offset>(
+    data_type: Rc<DataType>,
+    offsets: Offsets<O>,
+    values: Buffer<u8>,
+    validity: Validity,
+) -> Result<Either<Slots<O>, Growing<O>>>
+    requires start { offsets.start ≡ 0 }
+    requires whole { sum offsets.lengths ≡ length (buffer_items values) }
+    requires same_length { length (valid_items validity) ≡ length offsets.lengths }
+    ensures ok { IfOk result (λ r. MatchEither r
+        (λ s. s ≡ record {
+          data_type = data_type.value;
+          offsets = whole_buffer (map pos (offsets_of offsets));
+          values = values;
+          validity = validity;
+        })
+        (λ g. (g.values ≡ cut (buffer_items values) offsets.lengths)
+        × (g.valid ≡ valid_items validity) × (g.data_type ≡ data_type.value))) }
+    ensures only { IfErr result (λ e. e ≡ Error.OutOfMemory) }
+{
+    let alloc = values.allocator();
+    // The length is read for what the type keeps: the bytes are inside the storage.
+    let _ = values.len();
+    let values = match values.into_mut() {
+        Either::Left(values) => {
+            let offsets = OffsetsBuffer::try_from(offsets)?;
+            return Ok(Either::Left(Slots::new(data_type, offsets, values, validity)));
+        }
+        Either::Right(values) => values,
+    };
+    match validity.into_mut(alloc)? {
+        Either::Left(validity) => {
+            let offsets = OffsetsBuffer::try_from(offsets)?;
+            let values = Buffer::try_from(values)?;
+            Ok(Either::Left(Slots::new(data_type, offsets, values, validity)))
+        }
+        Either::Right(validity) => Ok(Either::Right(Growing::of_parts(
+            data_type, offsets, values, validity,
+        ))),
+    }
+}
+
+/// Shares all parts. Does not allocate: it is refused only where a count of owners is full.
 impl<O: Offset> Clone for Slots<O> {
     ghost is_clone = { λ a copy. copy ≡ a };
 

@@ -100,7 +100,7 @@ impl fmt::Display for Error {
 
 impl std::error::Error for Error {}
 
-/// Takes no memory.
+/// Does not allocate.
 impl From<AllocError> for Error {
     ghost from_gives = { λ _ e. e ≡ OutOfMemory };
 
@@ -109,7 +109,7 @@ impl From<AllocError> for Error {
     }
 }
 
-/// The value that found no room is dropped. Takes no memory.
+/// The value that found no room is dropped. Does not allocate.
 impl<T: Drop> From<AllocFailed<T>> for Error {
     ghost from_gives = { λ _ e. e ≡ OutOfMemory };
 
@@ -118,7 +118,7 @@ impl<T: Drop> From<AllocFailed<T>> for Error {
     }
 }
 
-/// Takes no memory.
+/// Does not allocate.
 impl From<io::Error> for Error {
     ghost from_gives = { λ error e. e ≡ Io error };
 

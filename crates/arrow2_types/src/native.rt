@@ -61,17 +61,17 @@ pub trait NativeType: Copy + Debug + PartialEq + Default {
     fn from_be_bytes(bytes: Self::Bytes) -> Self
         ensures { result ≡ of_be (Self.Bytes.items bytes) };
 
-    /// The array of these bytes, which generic code can hand to `from_le_bytes` or write to. Asks for `SIZE` bytes.
+    /// The array of these bytes, which generic code can hand to `from_le_bytes` or write to. Requires `SIZE` bytes.
     fn bytes_of_slice(bytes: &[u8]) -> Self::Bytes
         requires { length bytes.now ≡ SIZE }
         ensures { Self.Bytes.items result ≡ bytes.now };
 
-    /// The value whose bytes these are in little-endian order. Asks for `SIZE` bytes.
+    /// The value whose bytes these are in little-endian order. Requires `SIZE` bytes.
     fn from_le_slice(bytes: &[u8]) -> Self
         requires { length bytes.now ≡ SIZE }
         ensures { result ≡ of_le bytes.now };
 
-    /// The value whose bytes these are in big-endian order. Asks for `SIZE` bytes.
+    /// The value whose bytes these are in big-endian order. Requires `SIZE` bytes.
     fn from_be_slice(bytes: &[u8]) -> Self
         requires { length bytes.now ≡ SIZE }
         ensures { result ≡ of_be bytes.now };

@@ -18,7 +18,7 @@ pub enum Refusal {
     OutOfMemory,
 }
 
-/// Takes no memory.
+/// Does not allocate.
 impl From<AllocError> for Refusal {
     ghost from_gives = { λ _ refusal. refusal ≡ OutOfMemory };
 
@@ -27,7 +27,7 @@ impl From<AllocError> for Refusal {
     }
 }
 
-/// The value that found no room is dropped. Takes no memory.
+/// The value that found no room is dropped. Does not allocate.
 impl<T: Drop> From<AllocFailed<T>> for Refusal {
     ghost from_gives = { λ _ refusal. refusal ≡ OutOfMemory };
 
@@ -36,7 +36,7 @@ impl<T: Drop> From<AllocFailed<T>> for Refusal {
     }
 }
 
-/// Takes no memory.
+/// Does not allocate.
 impl From<Refusal> for Error {
     ghost from_gives = { λ refusal e. e ≡ error_of refusal };
 

@@ -38,7 +38,7 @@ impl<T: NativeType> Model for Column<T> {
 
 #[tactic(auto, using(arrow2::proofs::Columns::columns))]
 impl<T: NativeType> Column<T> {
-    /// The column of these values, null where the validity is false. Asks for as many bits as values.
+    /// The column of these values, null where the validity is false. Requires as many bits as values.
     pub fn new(values: Buffer<T>, validity: Bitmap) -> Column<T>
         requires same_length { length' (items_of validity) ≡ length' (buffer_items values) }
         ensures { result ≡ zipped (buffer_items values) (items_of validity) }
@@ -60,7 +60,7 @@ impl<T: NativeType> Column<T> {
         self.validity.unset_bits()
     }
 
-    /// Item `index`, `None` where it is null. Asks that it is below the length.
+    /// Item `index`, `None` where it is null. Requires that it is below the length.
     pub fn get(&self, index: usize) -> Option<T>
         requires below { index < length' self.now }
         ensures { result ≡ slice_index_or self.now index None }
@@ -69,7 +69,7 @@ impl<T: NativeType> Column<T> {
         self.validity.get_bit(index).then_some(value)
     }
 
-    /// Keeps `length` items from item `offset` on. Asks that they are inside.
+    /// Keeps `length` items from item `offset` on. Requires that they are inside.
     pub fn slice(&mut self, offset: usize, length: usize)
         requires inside { offset + length ≤ length' self.old }
         ensures { self.new ≡ part self.old offset length }
@@ -78,7 +78,7 @@ impl<T: NativeType> Column<T> {
         self.validity.slice(offset, length);
     }
 
-    /// The items at these places. Asks that each is below the length.
+    /// The items at these places. Requires that each is below the length.
     ///
     /// # Errors
     ///
@@ -97,7 +97,7 @@ impl<T: NativeType> Column<T> {
         taken.finish()
     }
 
-    /// The items at whose place the mask is true. Asks that it has one item for each of the column's.
+    /// The items at whose place the mask is true. Requires that it has one item for each of the column's.
     ///
     /// # Errors
     ///
@@ -228,8 +228,8 @@ pub fn concat<T: NativeType>(alloc: Global, columns: &[Column<T>]) -> Result<Col
     joined.finish()
 }
 
-/// Item by item, that of the first column where the mask is true, and that of the other elsewhere. Asks that all have
-/// one length.
+/// Item by item, that of the first column where the mask is true, and that of the other elsewhere. Requires that all
+/// have one length.
 ///
 /// # Errors
 ///

@@ -23,7 +23,7 @@ pub fn low_first<T: NativeType>(alloc: Global, values: &[T]) -> Result<Vec<u8>>
     Ok(bytes)
 }
 
-/// Whether each index is below `bound`. Asks that none is negative.
+/// Returns whether each index is below `bound`. Requires that none is negative.
 pub fn all_below<I: Index>(indices: &[I], bound: usize) -> bool
     requires natural { All (λ x. pos 0 ≤ℤ I.value x) indices.now }
     ensures { IsTrue result ↔ All (λ x. I.value x <ℤ pos bound) indices.now }

@@ -21,7 +21,7 @@ pub fn without(bitmap: &Bitmap, other: &Bitmap) -> Result<Bitmap>
     binary_table(bitmap, other, 2)
 }
 
-/// The same in place, which takes no memory.
+/// The same in place, which does not allocate.
 pub fn remove(bitmap: &mut MutableBitmap, other: &Bitmap)
     requires same_length { length bitmap.old.items ≡ length (items_of other.now) }
     ensures { bitmap.new.items ≡ each 2 (bitmap.old.items ∷ items_of other.now ∷ []) }

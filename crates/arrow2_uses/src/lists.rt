@@ -42,7 +42,7 @@ impl Model for TextLists {
 
 #[tactic(auto, using(arrow2::proofs::Columns::columns, arrow2::proofs::Nested::nested))]
 impl TextLists {
-    /// The lists of these texts that begin at the offsets, null where the validity is false. Asks for a validity of as
+    /// The lists of these texts that begin at the offsets, null where the validity is false. Requires a validity of as
     /// many items as there are lists, and that the offsets stay inside the texts.
     pub fn new(offsets: OffsetsBuffer<i32>, texts: Texts, validity: Bitmap) -> TextLists
         requires same_length { length' (items_of validity)
@@ -65,7 +65,7 @@ impl TextLists {
         self.offsets.len_proxy()
     }
 
-    /// Whether list `index` is null. Asks that it is below the length.
+    /// Returns whether list `index` is null. Requires that it is below the length.
     pub fn is_null(&self, index: usize) -> bool
         requires below { index < length' self.now }
         ensures { result ≡ is_none (slice_index_or self.now index None) }
@@ -73,8 +73,8 @@ impl TextLists {
         !self.validity.get_bit(index)
     }
 
-    /// Text `place` of list `index`, or `None` where the list is null or has no such text. Asks that there is such a
-    /// list.
+    /// Text `place` of list `index`, or `None` where the list is null or has no such text. Requires that there is such
+    /// a list.
     pub fn get(&self, index: usize, place: usize) -> Option<&[u8]>
         requires below { index < length' self.now }
         ensures { option_copied result ≡ option_and_then (λ texts. slice_get texts place)
@@ -86,7 +86,7 @@ impl TextLists {
         text_of(&self.offsets, &self.texts, index, place)
     }
 
-    /// Keeps `length` lists from list `offset` on. Asks that they are inside.
+    /// Keeps `length` lists from list `offset` on. Requires that they are inside.
     pub fn slice(&mut self, offset: usize, length: usize)
         requires inside { offset + length ≤ length' self.old }
         ensures { self.new ≡ part self.old offset length }
@@ -97,8 +97,8 @@ impl TextLists {
     }
 }
 
-/// Text `place` of the texts from offset `index` to the one behind it, or `None` where there are not so many. Asks that
-/// there is such an offset, and that the offsets stay inside the texts.
+/// Text `place` of the texts from offset `index` to the one behind it, or `None` where there are not so many. Requires
+/// that there is such an offset, and that the offsets stay inside the texts.
 fn text_of<'a>(
     offsets: &OffsetsBuffer<i32>,
     texts: &'a Texts,

@@ -1,9 +1,12 @@
-//! Walks of a bitmap: by its items, and by its words.
-ghost use Rattle.std.specs.Prelude.{◌≡◌, ◌+◌, ◌⊎◌, length, map, not, IfOk, IfErr};
+//! Loops over a bitmap, by its items and by its words, over the words of bytes, and over a buffer.
+ghost use Rattle.std.specs.Prelude.{◌≡◌, ◌+◌, ◌*◌, ◌≤◌, ◌⊎◌, int_lt, length, map, not, count_by, IfOk, IfErr};
+ghost use Rattle.arrow2.specs.Buffers.{buffer_items};
 ghost use Rattle.arrow2.specs.Parts.{falses};
 ghost use Rattle.arrow2.specs.Storage.{items_of};
 
+use arrow2::bitmap::utils::BitChunksExactMut;
 use arrow2::bitmap::{Bitmap, MutableBitmap};
+use arrow2::buffer::Buffer;
 use arrow2::error::{Error, Result};
 use arrow2::types::BitChunk;
 use std::alloc::Global;
@@ -37,4 +40,36 @@ pub fn true_items(b: &Bitmap) -> usize
     }
     let last = BitChunk::masked(words.remainder(), words.remainder_len());
     total + last.ones_count()
+}
+
+/// Inverts the full words of the first `len` bits, in place. Requires that they are inside the bytes.
+pub fn invert_words(bytes: &mut [u8], len: usize)
+    requires inside { len ≤ 8 * length bytes.old }
+    ensures { length bytes.new ≡ length bytes.old }
+{
+    let mut chunks = BitChunksExactMut::<u64>::new(bytes, len);
+    while chunks.change_next(invert) {}
+}
+
+/// Inverts each byte.
+fn invert(bytes: &mut [u8])
+    ensures { length bytes.new ≡ length bytes.old }
+{
+    for byte in bytes.iter_mut() {
+        *byte = !*byte;
+    }
+}
+
+/// Returns the number of values below `bound`.
+pub fn count_below(values: &Buffer<i64>, bound: i64) -> usize
+    ensures { result ≡ count_by (λ value. int_lt value bound) (buffer_items values.now) }
+{
+    let values = values.as_slice();
+    let mut count = 0;
+    for value in values {
+        if *value < bound {
+            count += 1;
+        }
+    }
+    count
 }

@@ -24,7 +24,7 @@ pub fn nullable_columns(schema: Schema) -> Schema
     schema.filter(|_, field| field.is_nullable)
 }
 
-/// The columns at whose place the mask is true. Asks for as many items as columns.
+/// The columns at whose place the mask is true. Requires as many items as columns.
 pub fn masked_columns(schema: Schema, mask: &[bool]) -> Schema
     requires same_length { length mask.now ≡ length schema.fields.items }
     ensures columns { result.fields.items ≡ accepted (λ place _.

@@ -46,7 +46,7 @@ impl Texts {
         self.offsets.len_proxy()
     }
 
-    /// The bytes of text `index`. Asks that it is below the length.
+    /// The bytes of text `index`. Requires that it is below the length.
     pub fn get(&self, index: usize) -> &[u8]
         requires below { index < length' self.now }
         ensures { result.now ≡ slice_index_or self.now index [] }
@@ -55,7 +55,7 @@ impl Texts {
         &self.bytes.as_slice()[start..end]
     }
 
-    /// Keeps `length` texts from text `offset` on. Asks that they are inside.
+    /// Keeps `length` texts from text `offset` on. Requires that they are inside.
     pub fn slice(&mut self, offset: usize, length: usize)
         requires inside { offset + length ≤ length' self.old }
         ensures { self.new ≡ part self.old offset length }
@@ -151,7 +151,7 @@ impl TextsBuilder {
     }
 }
 
-/// The bytes that these offsets span. Asks that they stay inside the bytes.
+/// The bytes that these offsets span. Requires that they stay inside the bytes.
 fn bytes_of<'a>(offsets: &OffsetsBuffer<i32>, bytes: &'a Buffer<u8>) -> &'a [u8]
     requires inside { last_of (buffer_items offsets.now) ≤ length' (buffer_items bytes.now) }
     ensures { result.now ≡ part (buffer_items bytes.now) (start_of (buffer_items offsets.now))
@@ -178,7 +178,7 @@ pub fn gather(alloc: Global, texts: &[&str]) -> Result<Texts>
     gathered.finish()
 }
 
-/// The length of each text, or `None` where it is null. Asks for a validity of as many items as there are texts.
+/// The length of each text, or `None` where it is null. Requires a validity of as many items as there are texts.
 ///
 /// # Errors
 ///

@@ -27,7 +27,7 @@ pub enum BrokenTextArray {
     Texts(BrokenTexts),
 }
 
-/// Tests that no offset is past so many values. Takes no memory.
+/// Tests that no offset is past so many values. Does not allocate.
 ///
 /// Differs from arrow2, whose error has a text.
 ///
@@ -47,7 +47,7 @@ pub fn try_check_offsets_bounds<O: Offset>(
     Ok(())
 }
 
-/// Tests that the values of each slot, from its offset to the next, are UTF-8. Takes no memory.
+/// Tests that the values of each slot, from its offset to the next, are UTF-8. Does not allocate.
 ///
 /// Values outside the offsets are not tested. All values between the first offset and the last are tested at once; only
 /// where that fails are they tested once more, slot by slot up to the first that is not UTF-8.
@@ -69,8 +69,8 @@ pub fn try_check_utf8<O: Offset>(
     try_check_slots(offsets.as_slice(), values)
 }
 
-/// Tests that numbers are offsets, and that the values of each slot, from its offset to the next, are UTF-8. Takes no
-/// memory.
+/// Tests that numbers are offsets, and that the values of each slot, from its offset to the next, are UTF-8. Does not
+/// allocate.
 ///
 /// Differs from arrow2, whose error has a text, and names no slot.
 ///
@@ -96,7 +96,7 @@ pub fn try_check_offsets_and_utf8<O: Offset>(
     }
 }
 
-/// Returns the text of slot `slot`, of values that [`try_check_utf8`] took. Takes no memory.
+/// Returns the text of slot `slot`, of values that [`try_check_utf8`] took. Does not allocate.
 ///
 /// Requires that `slot` is below [`OffsetsBuffer::len_proxy`]. arrow2 has no such call.
 pub fn text_at<'a, O: Offset>(offsets: &OffsetsBuffer<O>, values: &'a [u8], slot: usize) -> &'a str
@@ -159,7 +159,7 @@ fn stand_between<O: Offset>(offsets: &[O], bytes: &[u8]) -> bool
     between
 }
 
-/// Whether a character may begin at a place, or the bytes end there. With no branch.
+/// Returns whether a character may begin at a place, or the bytes end there. With no branch.
 fn is_boundary(bytes: &[u8], place: usize) -> bool
     requires some { 0 < length bytes.now }
     requires inside { place ≤ length bytes.now }
@@ -198,7 +198,7 @@ fn slot_of<'a, O: Offset>(offsets: &[O], values: &'a [u8], slot: usize) -> &'a [
     &values[place(offsets, slot)..place(offsets, slot + 1)]
 }
 
-/// Whether the bytes are UTF-8.
+/// Returns whether the bytes are UTF-8.
 fn is_text(bytes: &[u8]) -> bool
     ensures { IsTrue result ↔ IsUtf8 bytes.now }
 {

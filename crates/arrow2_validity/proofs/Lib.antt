@@ -1,3 +1,5 @@
 pub mod ValidItems
 pub mod ItemParts
 pub mod Slots
+pub mod Alike
+pub mod Printed

@@ -1,7 +1,8 @@
 -- Values beside their validity: which items are null, and values that are all there.
-use Rattle.std.proofs.Common.{◌≡◌, ℕ, zero, suc, ◌<◌, List, [], ◌∷◌, Bool, true, false, not, length, get_or, replicate, map, refl, ap, sym, ◌∙◌, arith}
+use Rattle.std.proofs.Common.{◌≡◌, ℕ, zero, suc, ◌<◌, List, [], ◌∷◌, Bool, true, false, not, cond, count_by, length, get_or, replicate, map, refl, ap, arith}
 use Rattle.std.specs.Prelude.{Option, Some, None, is_some}
 use Rattle.std.specs.Option.{is_none}
+use Rattle.std.proofs.lemmas.List.Sums.{sum_by-cons}
 use Rattle.arrow2_walks.specs.Zipped.{slot, zipped}
 use Rattle.arrow2_walks.proofs.Zipped.{length-zipped, part-zipped, append-zipped, push-zipped, slot-option, nulls-zipped, at-zipped}
 
@@ -18,6 +19,17 @@ module _ {X : Type 0} where
   known-zipped (x ∷ xs) [] e = absurd (omega (arith, e))
   known-zipped (x ∷ xs) (true ∷ vs) e = ap (λ l. true ∷ l) (known-zipped xs vs (omega (arith, e)))
   known-zipped (x ∷ xs) (false ∷ vs) e = ap (λ l. false ∷ l) (known-zipped xs vs (omega (arith, e)))
+
+  -- where no item is null they are the values
+  pub no-null : (xs : List X) (vs : List Bool) → length (zipped xs vs) ≡ length xs → count_by is_none (zipped xs vs) ≡ 0 → zipped xs vs ≡ map (λ x. Some x) xs
+  no-null [] vs e none = refl
+  no-null (x ∷ xs) [] e none = absurd (omega (arith, e))
+  no-null (x ∷ xs) (true ∷ vs) e none =
+      let a = sum_by-cons (λ o. cond (is_none o) 1 0) (Some x) (zipped xs vs) in
+      ap (λ l. Some x ∷ l) (no-null xs vs (omega (arith, e)) (omega (arith, a, none)))
+  no-null (x ∷ xs) (false ∷ vs) e none =
+      let a = sum_by-cons (λ o. cond (is_none o) 1 0) (slot x false) (zipped xs vs) in
+      absurd (omega (arith, a, none))
 
   -- whether an item is not null, by its place
   pub valid-zipped : (xs : List X) (vs : List Bool) (k : ℕ) → length vs ≡ length xs → k < length xs → is_some (get_or (zipped xs vs) k None) ≡ get_or vs k false

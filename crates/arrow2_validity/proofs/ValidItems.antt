@@ -1,17 +1,16 @@
 -- What a validity says of each item, whether it has a bitmap or not.
-use Rattle.std.proofs.Common.{Bor, ◌≡◌, ℕ, ◌+◌, ◌<◌, ◌≤◌, List, [], ◌∷◌, Bool, true, false, length, get_or, take, drop, replicate, refl, ap, sym, ◌∙◌, arith, zero, suc}
+use Rattle.std.proofs.Common.{Bor, ◌≡◌, ℕ, ◌+◌, ◌<◌, ◌≤◌, List, [], ◌∷◌, Bool, true, false, length, get_or, replicate, refl, ap, sym, ◌∙◌, arith}
 use Rattle.std.specs.Prelude.{Option, Some, None, MatchOption}
 use Rattle.std.specs.Option.{ForSome, option_copied}
 use Rattle.arrow2_model.specs.Bits.{bit}
 use Rattle.std.proofs.lemmas.List.{length-replicate, get_or-replicate, ext_get_or}
-use Rattle.std.proofs.lemmas.List.Sums.{sum_by-cons}
 use Rattle.arrow2_model.specs.Parts.{part, falses}
 use Rattle.arrow2_model.specs.Storage.{BitmapStorage, items_of}
 use Rattle.arrow2_model.specs.Tables.{answer, each}
 use Rattle.arrow2_model.proofs.Parts.{get_or-part, length-part}
 use Rattle.arrow2_model.proofs.Counts.{falses-all_true}
 use Rattle.arrow2_model.proofs.Kernels.{each_from}
-use Rattle.arrow2_validity.specs.OptionalValidity.{OptionalValidity, items_or_true, valid_items, sliced_bitmap}
+use Rattle.arrow2_validity.specs.OptionalValidity.{items_or_true}
 
 module _ (n : ℕ) where
   pub items-none : items_or_true n None ≡ replicate n true

@@ -1,2 +1,3 @@
 pub mod OptionalValidity
 pub mod Refused
+pub mod ItemTexts

@@ -1,6 +1,7 @@
 //! Which items of an array are not null: an optional bitmap beside the number of items.
 #![tactic(auto)]
 
+pub mod fmt;
 pub mod validity;
 
 pub use validity::{Validity, check_same_length};

@@ -1,6 +1,7 @@
 //! Which items of an array are not null.
-ghost use Rattle.std.specs.Prelude.{◌≡◌, ◌+◌, ◌<◌, ◌≤◌, ◌↔◌, [], ◌∷◌, None, false, true, length, replicate, slice_index_or, string_bytes, option_map, MatchOption, IfOk, IfErr, IfSome, IsOk, IsTrue};
+ghost use Rattle.std.specs.Prelude.{◌≡◌, ◌+◌, ◌<◌, ◌≤◌, ◌↔◌, [], ◌∷◌, None, false, true, length, replicate, slice_index_or, string_bytes, option_map, MatchOption, IfOk, IfErr, IfSome, IsNone, IsOk, IsSome, IsTrue};
 ghost use Rattle.std.specs.Option.{ForSome};
+ghost use Rattle.either.specs.Either.{MatchEither};
 ghost use Rattle.arrow2_model.specs.Parts.{falses, part};
 ghost use Rattle.arrow2_model.specs.Storage.{items_of};
 ghost use Rattle.arrow2_model.specs.Tables.{each};
@@ -12,6 +13,7 @@ ghost use Rattle.arrow2_validity.specs.Refused.{unequal_lengths};
 use arrow2_bitmap::bitmap_ops::and;
 use arrow2_bitmap::{Bitmap, MutableBitmap};
 use arrow2_types::error::{Error, Result};
+use either::Either;
 use std::alloc::{AllocError, Global};
 use std::marker::Model;
 
@@ -40,7 +42,7 @@ impl Model for Validity {
 
 #[tactic(auto, using(crate::proofs::ValidItems::validities))]
 impl Validity {
-    /// Returns the validity of `len` items, none of which is null. Takes no memory.
+    /// Returns the validity of `len` items, none of which is null. Does not allocate.
     pub fn all_valid(len: usize) -> Validity
         ensures value { result ≡ record { len = len; bitmap = None } }
         ensures items { valid_items result ≡ replicate len true }
@@ -113,7 +115,8 @@ impl Validity {
         }
     }
 
-    /// Keeps `length` items from item `offset` on, over the same bytes. Requires that they are inside. Takes no memory.
+    /// Keeps `length` items from item `offset` on, over the same bytes. Requires that they are inside. Does not
+    /// allocate.
     pub fn slice(&mut self, offset: usize, len: usize)
         requires inside { offset + len ≤ length (valid_items self.old) }
         ensures items { valid_items self.new ≡ part (valid_items self.old) offset len }
@@ -143,6 +146,27 @@ impl Validity {
         self.bitmap
     }
 
+    /// Returns the bitmap as it grows, where nobody else shares its bytes and its items begin at bit 0, else the validity as it
+    /// was. Without a bitmap it is one of true items.
+    ///
+    /// # Errors
+    ///
+    /// `OutOfMemory` alone, and only where there is no bitmap.
+    pub fn into_mut(self, alloc: Global) -> Result<Either<Validity, MutableBitmap>>
+        ensures ok { IfOk result (λ r. MatchEither r (λ v. v ≡ self) (λ m. m.items ≡ valid_items self)) }
+        ensures only { IfErr result (λ e. e ≡ Error.OutOfMemory) }
+        ensures succeeds { IsSome self.bitmap → IsOk result }
+    {
+        let Validity { len, bitmap } = self;
+        let Some(bitmap) = bitmap else {
+            return Ok(Either::Right(MutableBitmap::from_len_set(alloc, len)?));
+        };
+        match bitmap.into_mut() {
+            Either::Left(bitmap) => Ok(Either::Left(Validity::new(len, Some(bitmap)))),
+            Either::Right(bitmap) => Ok(Either::Right(bitmap)),
+        }
+    }
+
     /// Appends what the `len` items from item `start` on are to a bitmap that grows. Requires that they are inside. Within the
     /// capacity it does not allocate.
     ///
@@ -160,7 +184,8 @@ impl Validity {
         }
     }
 
-    /// Returns which items are null neither here nor in `other`. Requires that both have one length.
+    /// Returns which items are null neither here nor in `other`, with no bitmap exactly where neither has one. Requires that
+    /// both have one length.
     ///
     /// # Errors
     ///
@@ -170,6 +195,8 @@ impl Validity {
         ensures items { IfOk result (λ v.
             valid_items v ≡ each 8 (valid_items self.now ∷ valid_items other.now ∷ [])) }
         ensures len { IfOk result (λ v. length (valid_items v) ≡ length (valid_items self.now)) }
+        ensures bitmap { IfOk result (λ v.
+            IsNone v.bitmap ↔ (IsNone self.now.bitmap × IsNone other.now.bitmap)) }
         ensures only { IfErr result (λ e. e ≡ Error.OutOfMemory) }
     {
         match (&self.bitmap, &other.bitmap) {
@@ -180,7 +207,7 @@ impl Validity {
     }
 }
 
-/// Shares the bytes. Takes no memory: it is refused only where a count of owners is full.
+/// Shares the bytes. Does not allocate: it is refused only where a count of owners is full.
 impl Clone for Validity {
     ghost is_clone = { λ a copy. copy ≡ a };
 

@@ -64,7 +64,7 @@ impl Pieces {
         self.bitmaps.len()
     }
 
-    /// Piece `p`. Asks that it is below the number of pieces.
+    /// Piece `p`. Requires that it is below the number of pieces.
     pub fn get(&self, p: usize) -> &Bitmap
         requires below { p < length self.now.pieces }
         ensures { piece_of result.now ≡ piece_at self.now.pieces p }
@@ -80,8 +80,8 @@ impl Pieces {
         bitmaps
     }
 
-    /// Cuts piece `p` in two: its first `i` items and the others take its place. Asks that there are such a piece and
-    /// as many items. Takes its memory before it counts.
+    /// Cuts piece `p` in two: its first `i` items and the others take its place. Requires that there are such a piece
+    /// and as many items. Takes its memory before it counts.
     ///
     /// # Errors
     ///

@@ -17,8 +17,8 @@ pub struct Place {
 }
 
 /// The first place from `at` on whose bit, counted from bit `offset` on, is `value`, or `end` where there is none. Each
-/// word is read once, and shifted as it is passed. Asks that bits up to `end` are inside, and that `at` holds bits from
-/// its place on.
+/// word is read once, and shifted as it is passed. Requires that bits up to `end` are inside, and that `at` holds bits
+/// from its place on.
 ///
 /// In arrow2 it is inside the iterator over runs.
 pub fn first_place(bytes: &[u8], offset: usize, end: usize, at: Place, value: bool) -> Place

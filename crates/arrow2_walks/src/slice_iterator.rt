@@ -11,8 +11,8 @@ use arrow2_bitmap::Bitmap;
 use std::alloc::AllocError;
 use std::marker::Model;
 
-/// A walk over the maximal runs of set items of a bitmap, rising, each by its first place and its length: contracts see
-/// the runs still to come, and the number of set items in all.
+/// An iterator over the maximal runs of set items of a bitmap, rising, each by its first place and its length:
+/// contracts see the runs still to come, and the number of set items in all.
 ///
 /// arrow2's page gives (6, 1) as the last run of 00101111, which is (5, 1).
 #[derive(Debug, Drop)]
@@ -45,7 +45,7 @@ impl<'a> Model for SlicesIterator<'a> {
 
 #[tactic(auto, using(crate::proofs::TakenRuns::taking_runs))]
 impl<'a> SlicesIterator<'a> {
-    /// The walk over all runs of the bitmap.
+    /// Returns an iterator over all runs of the bitmap.
     pub fn new(values: &'a Bitmap) -> SlicesIterator<'a>
         ensures runs { result.runs ≡ runs (items_of values.entry.now) }
         ensures slots { result.slots + falses (items_of values.entry.now)
@@ -89,7 +89,7 @@ impl<'a> SlicesIterator<'a> {
     }
 }
 
-/// The same runs still to come. Takes no memory.
+/// The same runs still to come. Does not allocate.
 impl<'a> Clone for SlicesIterator<'a> {
     ghost is_clone = { λ i copy. copy ≡ i };
 

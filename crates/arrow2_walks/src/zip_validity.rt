@@ -11,8 +11,8 @@ ghost use Rattle.arrow2_walks.specs.Zips.{values_of, validity_of, either_values,
 use arrow2_bitmap::Bitmap;
 use arrow2_bits::iterator::BitmapIter;
 
-/// A walk over values and their validity, from both ends: an item is `Some` of its value where it is valid, and `None`
-/// where it is not.
+/// An iterator over values and their validity, from both ends: an item is `Some` of its value where it is valid, and
+/// `None` where it is not.
 ///
 /// Differs from arrow2: `nth` is the standard library's, over `next`, and the type of the values is no parameter.
 #[derive(Debug, Clone, Drop)]
@@ -22,7 +22,7 @@ pub struct ZipValidityIter<I, V> {
 }
 
 impl<I: Iterator, V: Iterator<Item = bool>> ZipValidityIter<I, V> {
-    /// The walk over both. Asks that they have equally many items; arrow2 compares their size hints.
+    /// Returns an iterator over both. Requires that they have equally many items; arrow2 compares their size hints.
     pub fn new(values: I, validity: V) -> ZipValidityIter<I, V>
         requires same_length { GiveEquallyMany I.next_gives V.next_gives values validity }
         ensures values { values_of result ≡ values }
@@ -93,8 +93,8 @@ where
     }
 }
 
-/// A walk over values, with their validity or without it, from both ends: without it each item is `Some` of its value.
-/// A caller may match on it, for a path of its own where no value is missing.
+/// An iterator over values, with their validity or without it, from both ends: without it each item is `Some` of its
+/// value. A caller may match on it, for a path of its own where no value is missing.
 #[derive(Debug, Clone, Drop)]
 pub enum ZipValidity<I, V> {
     /// Each value is there.
@@ -104,7 +104,7 @@ pub enum ZipValidity<I, V> {
 }
 
 impl<I: Iterator, V: Iterator<Item = bool>> ZipValidity<I, V> {
-    /// `Optional` exactly where a validity is given. Asks that it has equally many items.
+    /// `Optional` exactly where a validity is given. Requires that it has equally many items.
     pub fn new(values: I, validity: Option<V>) -> ZipValidity<I, V>
         requires same_length { ForSome validity (λ v.
             GiveEquallyMany I.next_gives V.next_gives values v) }
@@ -117,7 +117,7 @@ impl<I: Iterator, V: Iterator<Item = bool>> ZipValidity<I, V> {
         }
     }
 
-    /// The values. Asks that they come without validity.
+    /// The values. Requires that they come without validity.
     pub fn unwrap_required(self) -> I
     where
         V: Drop,
@@ -131,7 +131,7 @@ impl<I: Iterator, V: Iterator<Item = bool>> ZipValidity<I, V> {
         }
     }
 
-    /// The values and their validity. Asks that there is one.
+    /// The values and their validity. Requires that there is one.
     pub fn unwrap_optional(self) -> ZipValidityIter<I, V>
     where
         V: Drop,
@@ -147,8 +147,8 @@ impl<I: Iterator, V: Iterator<Item = bool>> ZipValidity<I, V> {
 }
 
 impl<'a, I: Iterator> ZipValidity<I, BitmapIter<'a>> {
-    /// `Optional` exactly where a validity is given that has an unset item. Asks that it has as many items as there are
-    /// values, also where none of them is unset; arrow2 does not test it there.
+    /// `Optional` exactly where a validity is given that has an unset item. Requires that it has as many items as there
+    /// are values, also where none of them is unset; arrow2 does not test it there.
     pub fn new_with_validity(
         values: I,
         validity: Option<&'a Bitmap>,

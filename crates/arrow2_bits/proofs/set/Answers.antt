@@ -1,10 +1,17 @@
+use Rattle.std.proofs.Common.{◌≡◌, ℕ, ◌*◌, ◌%◌, ◌^◌, Bool, List, false, get_or, set, bit_and, ap, sym, ◌∙◌, arith}
+use Rattle.std.specs.Int.{bit_not}
 use Rattle.std.specs.Int as width
-use Rattle.arrow2_model.proofs.Bits.{unnum-or, unnum-and-not}
-use Rattle.arrow2_bits.proofs.Tables.{one_at}
+use Rattle.std.proofs.lemmas.List.{get_or-set_same, set-set}
+use Rattle.arrow2_model.specs.Bits.{bit, unnum}
+use Rattle.arrow2_model.proofs.Bits.{length-unnum, get_or-unnum, unnum-and-not}
+use Rattle.arrow2_model.proofs.Canonical.{unnum-or_bool}
+use Rattle.arrow2_bits.proofs.Tables.{kept_at, written_at}
 use Rattle.arrow2_bits.proofs.set.Goals as goal
 
-pub returns-then-value : goal.returns-then-value
-returns-then-value c = rw (c.if-value.true, one_at c.args.i c.requires) (unnum-or width.w8 c.args.byte c.args.i c.requires)
-
-pub returns-else-value : goal.returns-else-value
-returns-else-value c = rw (c.if-value.false, one_at c.args.i c.requires) (unnum-and-not width.w8 c.args.byte c.args.i c.requires)
+pub returns : goal.returns
+returns c =
+    let byte = c.args.byte in let i = c.args.i in
+    let x : ℕ = bit_and byte (bit_not width.w8 (1 * 2 ^ i % 2 ^ 8)) in
+    let cleared : unnum 8 x ≡ set (unnum 8 byte) i false = unnum-and-not width.w8 byte i c.requires in
+    let clear : bit x i ≡ false = sym (get_or-unnum 8 x i false c.requires) ∙ (ap (λ (items : List Bool). get_or items i false) cleared ∙ get_or-set_same (unnum 8 byte) i false false (omega (arith, c.requires, length-unnum 8 byte))) in
+    rw (kept_at i c.requires, c.from.ensures, written_at i c.args.value c.requires) (unnum-or_bool x i c.args.value c.requires clear ∙ (ap (λ (items : List Bool). set items i c.args.value) cleared ∙ set-set (unnum 8 byte) i false c.args.value))

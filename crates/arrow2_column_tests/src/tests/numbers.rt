@@ -16,7 +16,9 @@ use arrow2::compute::if_then_else::if_then_else;
 use arrow2::compute::take::take;
 use arrow2::datatypes;
 use arrow2::error::Result;
+use either::Either;
 use std::alloc::Global;
+use std::fmt::Debug;
 use std::process::Abort;
 
 /// Returns the item at a place of the lists that the kernels are tried on: every third is null.
@@ -196,4 +198,123 @@ fn each_call_of_a_builder_is_made(rt: HostRuntime) {
     assert!(rt; part.values_iter().len() == 2 && part.validity().is_none());
     let (_, values, validity) = part.into_inner();
     assert!(rt; values.offset() == 3 && validity.is_none());
+}
+
+/// Returns the array of these items of 32 bits.
+fn small(rt: &impl Abort, alloc: Global, items: &[Option<i32>]) -> PrimitiveArray<i32> {
+    PrimitiveArray::from_options(alloc, items).expect(rt, "memory")
+}
+
+/// Returns the `len` items from item `offset` on, which must be inside.
+fn part(
+    rt: &impl Abort,
+    array: PrimitiveArray<i32>,
+    offset: usize,
+    len: usize,
+) -> PrimitiveArray<i32> {
+    assert!(rt; offset <= array.len() && len <= array.len() - offset);
+    array.sliced(offset, len)
+}
+
+/// Checks that an array prints as this.
+fn prints<T: Debug>(rt: &impl Abort, alloc: Global, value: &T, text: &str) {
+    let own = format!(in alloc; "{value:?}");
+    assert!(rt; own.expect(rt, "memory").as_str() == text);
+}
+
+#[test]
+fn arrays_print_their_logical_type_and_their_items(rt: HostRuntime) {
+    let alloc = rt.alloc();
+    let array = small(&rt, alloc, &[Some(1), None, Some(-3)]);
+    prints(&rt, alloc, &array, "Int32[1, None, -3]");
+    prints(&rt, alloc, &part(&rt, array, 3, 0), "Int32[]");
+    let values = PrimitiveArray::from_slice(alloc, &[i128::MAX]);
+    let values = values.expect(&rt, "memory");
+    prints(
+        &rt,
+        alloc,
+        &values,
+        "Decimal(32, 32)[170141183460469231731687303715884105727]",
+    );
+}
+
+/// Checks whether two arrays are equal, both ways.
+fn compares(
+    rt: &impl Abort,
+    array: &PrimitiveArray<i32>,
+    other: &PrimitiveArray<i32>,
+    equal: bool,
+) {
+    assert!(rt; (array == other) == equal && (other == array) == equal);
+}
+
+#[test]
+fn what_stands_under_nulls_is_not_compared(rt: HostRuntime) {
+    let alloc = rt.alloc();
+    let array = small(&rt, alloc, &[Some(1), None, Some(3)]);
+    let values = PrimitiveArray::from_slice(alloc, &[1, 2, 3]);
+    let values = values.expect(&rt, "memory");
+    compares(&rt, &array, &values, false);
+    let (_, _, validity) = array.clone().expect(&rt, "memory").into_inner();
+    let masked = values.values().clone().expect(&rt, "memory");
+    let masked = PrimitiveArray::try_new(datatypes::DataType::Int32, masked, validity);
+    compares(&rt, &array, &masked.expect(&rt, "memory"), true);
+    compares(&rt, &values, &small(&rt, alloc, &[Some(1), Some(2)]), false);
+    let numbers = small(&rt, alloc, &[Some(1), Some(2), Some(3)]);
+    compares(&rt, &values, &numbers, true);
+    let (_, numbers, _) = numbers.into_inner();
+    let dates = PrimitiveArray::try_new(datatypes::DataType::Date32, numbers, None);
+    compares(&rt, &values, &dates.expect(&rt, "memory"), false);
+}
+
+/// Checks that an array becomes one that grows exactly where it is said so, and that it then takes another item.
+fn thaws(rt: &impl Abort, alloc: Global, array: PrimitiveArray<i32>, owned: bool, text: &str) {
+    match array.into_mut().expect(rt, "memory") {
+        Either::Left(array) => {
+            assert!(rt; !owned);
+            prints(rt, alloc, &array, text);
+        }
+        Either::Right(mut items) => {
+            assert!(rt; owned);
+            items.push(None).expect(rt, "memory");
+            prints(rt, alloc, &items.freeze().expect(rt, "memory"), text);
+        }
+    }
+}
+
+#[test]
+fn an_array_of_its_own_grows_again(rt: HostRuntime) {
+    let alloc = rt.alloc();
+    let items = [Some(1), None, Some(3)];
+    let array = small(&rt, alloc, &items);
+    thaws(&rt, alloc, array, true, "Int32[1, None, 3, None]");
+    let array = small(&rt, alloc, &[Some(7)]);
+    thaws(&rt, alloc, array, true, "Int32[7, None]");
+    let array = part(&rt, small(&rt, alloc, &items), 1, 2);
+    thaws(&rt, alloc, array, false, "Int32[None, 3]");
+    let array = small(&rt, alloc, &items);
+    let shared = array.clone().expect(&rt, "memory");
+    thaws(&rt, alloc, array, false, "Int32[1, None, 3]");
+    let (_, values, validity) = shared.into_inner();
+    let validity = validity.expect(&rt, "a null");
+    let copy = validity.clone().expect(&rt, "memory");
+    let array = PrimitiveArray::try_new(datatypes::DataType::Int32, values, Some(validity));
+    let array = array.expect(&rt, "memory");
+    thaws(&rt, alloc, array, false, "Int32[1, None, 3]");
+    assert!(rt; copy.len() == 3);
+}
+
+#[test]
+fn arrays_are_made_of_iterators(rt: HostRuntime) {
+    let alloc = rt.alloc();
+    let items = MutablePrimitiveArray::try_from_iter(alloc, array_of(&rt, alloc, 300).iter());
+    let items = items.expect(&rt, "memory");
+    assert!(rt; items.len() == 300 && items.capacity() >= 300);
+    let array = items.freeze().expect(&rt, "memory");
+    assert!(rt; array == array_of(&rt, alloc, 300));
+    let values: Vec<i64> = array
+        .non_null_values_iter()
+        .collect(alloc)
+        .expect(&rt, "memory");
+    assert!(rt; values.len() == 200 && values.as_slice()[..3] == [-100, -98, -97]);
 }

@@ -83,7 +83,7 @@ fn bits_are_walked_from_both_ends(rt: HostRuntime) {
     let alloc = rt.alloc();
     let mut bits = BitmapIter::new(&[0b01011011], 2, 4);
     has(&rt, &[bits.next(), bits.next_back()], &[Some(false); 2]);
-    let text = "BitmapIter { bytes: [91], offset: 2, index: 1, end: 3 }";
+    let text = "BitmapIter { bytes: [91], offset: 0, index: 3, end: 5 }";
     shows(&rt, alloc, &bits, text);
     let left = bits.clone().expect(&rt, "no memory");
     has(&rt, &[left.len()], &[2]);

@@ -33,7 +33,7 @@ fn read_by_slice(
     reads
 }
 
-/// Asks that so many bytes were read.
+/// Requires that so many bytes were read.
 fn is_read(reads: Reads, bytes: u64)
     requires { reads ≡ bytes }
 {
@@ -68,7 +68,7 @@ fn cut(rt: &impl Abort, pieces: &mut Pieces, p: usize, length: usize, i: usize)
     pieces.cut(p, i).expect(rt, "no memory");
 }
 
-/// Asks that the cuts have read so many bytes.
+/// Requires that the cuts have read so many bytes.
 fn have_read(pieces: &Pieces, bytes: u64)
     requires { pieces.now.reads ≡ bytes }
 {}

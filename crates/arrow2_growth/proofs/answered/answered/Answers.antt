@@ -1,6 +1,4 @@
-use Rattle.std.proofs.Common.{◌≡◌, ℕ, ◌+◌, ◌*◌, ◌<◌, ◌/◌, ◌%◌, length, refl, subst, arith}
-use Rattle.std.proofs.lemmas.List.{length-append}
-use Rattle.arrow2_model.proofs.Bits.{length-bits}
+use Rattle.std.proofs.Common.{◌≡◌, ℕ, ◌+◌, ◌*◌, ◌<◌, ◌/◌, ◌%◌, arith}
 use Rattle.arrow2_growth.proofs.Asked.{each-word}
 use Rattle.arrow2_growth.proofs.answered.answered.Goals as goal
 

@@ -4,11 +4,8 @@ use Rattle.arrow2_validity.specs.OptionalValidity.{valid_items}
 use Rattle.arrow2_walks.proofs.Zipped.{length-zipped}
 use Rattle.arrow2_array.specs.Items.{boolean_items}
 use Rattle.arrow2_array.specs.Kleene.{by_items, kleene, known_table, values_table}
-use Rattle.arrow2_array.proofs.Tables.{by_tables, spelled, values_small}
+use Rattle.arrow2_array.proofs.Tables.{by_tables, spelled}
 use Rattle.arrow2_array.proofs.boolean.BooleanArray.by_operator.Goals as goal
-
-pub binary_table-requires-clause-table : goal.binary_table-requires-clause-table
-binary_table-requires-clause-table c = omega (arith, c.values.ensures, values_small c.args.operator)
 
 pub returns-clause-items : goal.returns-clause-items
 returns-clause-items c =

@@ -1,4 +1,4 @@
-use Rattle.std.proofs.Common.{◌≡◌, ◌<◌, ℕ, [], length, ap, arith}
+use Rattle.std.proofs.Common.{◌<◌, ℕ, [], length, ap, arith}
 use Rattle.arrow2_text.specs.Binary.{BinaryParts, binary_items, binary_values}
 use Rattle.arrow2_text.proofs.utf8.Utf8Array.value.Goals as goal
 

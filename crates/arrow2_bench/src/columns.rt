@@ -1,0 +1,184 @@
+//! Columns of numbers, with nulls and without.
+
+use crate::runs::on_each;
+use arrow2_bitmap::Bitmap;
+use arrow2_buffer::Buffer;
+use arrow2_compute::aggregate::{min, sum};
+use arrow2_compute::comparison::{lt, lt_scalar};
+use arrow2_compute::filter::filter;
+use arrow2_compute::take::take;
+use arrow2_datatypes::DataType;
+use arrow2_primitive::{MutablePrimitiveArray, PrimitiveArray};
+use arrow2_types::error::Result;
+use std::alloc::Global;
+
+/// Calls on the first items of a column, and as many bits of the mask, as each run says. The column has no nulls where
+/// its validity has no byte.
+#[unsafe(no_mangle)]
+pub extern "C" fn bench_columns(
+    alloc: Global,
+    call: &[u8],
+    values: &[i64],
+    validity: &[u8],
+    mask: &[u8],
+    runs: &[usize],
+) -> usize {
+    let inputs = Inputs {
+        values,
+        validity,
+        mask,
+        runs,
+    };
+    if call == b"filter".as_slice() {
+        on_columns(alloc, &inputs, filtered)
+    } else if call == b"lt_scalar".as_slice() {
+        on_columns(alloc, &inputs, below)
+    } else if call == b"lt".as_slice() {
+        on_columns(alloc, &inputs, below_next)
+    } else if call == b"sum".as_slice() {
+        on_columns(alloc, &inputs, added_up)
+    } else if call == b"min".as_slice() {
+        on_columns(alloc, &inputs, least)
+    } else {
+        usize::MAX
+    }
+}
+
+/// What a call on columns works on.
+struct Inputs<'a> {
+    values: &'a [i64],
+    validity: &'a [u8],
+    mask: &'a [u8],
+    runs: &'a [usize],
+}
+
+/// Makes the call on the first items, and as many bits of the mask, as each run says.
+fn on_columns<F: Fn(&PrimitiveArray<i64>, &Bitmap) -> Result<usize>>(
+    alloc: Global,
+    inputs: &Inputs<'_>,
+    call: F,
+) -> usize
+    requires { F.IsAlwaysCallable call }
+{
+    let (Ok(column), Ok(mask)) = (
+        column(alloc, inputs.values, inputs.validity),
+        bitmap(alloc, inputs.mask, inputs.values.len()),
+    ) else {
+        return 0;
+    };
+    on_each(inputs.runs, |run| {
+        if *run > column.len() || *run > mask.len() {
+            return Ok(0);
+        }
+        call(
+            &column.clone()?.sliced(0, *run),
+            &mask.clone()?.sliced(0, *run),
+        )
+    })
+}
+
+/// The column of these values, whose nulls are the bits that are not set. No byte of validity: no null.
+fn column(alloc: Global, values: &[i64], validity: &[u8]) -> Result<PrimitiveArray<i64>> {
+    let validity = if validity.is_empty() {
+        None
+    } else {
+        Some(bitmap(alloc, validity, values.len())?)
+    };
+    let values = Buffer::try_from(Vec::from_slice(alloc, values)?)?;
+    PrimitiveArray::try_new(DataType::Int64, values, validity)
+}
+
+/// The bitmap of the first `len` bits.
+fn bitmap(alloc: Global, bytes: &[u8], len: usize) -> Result<Bitmap> {
+    Bitmap::try_new(Vec::from_slice(alloc, bytes)?, len)
+}
+
+/// Counts the items that the mask selects, and adds the last value.
+fn filtered(column: &PrimitiveArray<i64>, mask: &Bitmap) -> Result<usize> {
+    if column.len() != mask.len() {
+        return Ok(0);
+    }
+    last_and_count(&filter(column, mask)?)
+}
+
+/// How many items there are and, where it is not null, how far the last one is from 0, added up.
+fn last_and_count(column: &PrimitiveArray<i64>) -> Result<usize> {
+    let Some(last) = column.len().checked_sub(1) else {
+        return Ok(0);
+    };
+    let value = column.get(last).unwrap_or(0);
+    Ok(column.len().wrapping_add(value.unsigned_abs() as usize))
+}
+
+/// Counts the values that are not below 0.
+fn below(column: &PrimitiveArray<i64>, _: &Bitmap) -> Result<usize> {
+    Ok(lt_scalar(column, 0)?.values().unset_bits())
+}
+
+/// Counts the values that are not below the next one.
+fn below_next(column: &PrimitiveArray<i64>, _: &Bitmap) -> Result<usize> {
+    let Some(len) = column.len().checked_sub(1) else {
+        return Ok(0);
+    };
+    let first = column.clone()?.sliced(0, len);
+    let next = column.clone()?.sliced(1, len);
+    Ok(lt(&first, &next)?.values().unset_bits())
+}
+
+/// The least item, or 0 where there is none.
+fn least(column: &PrimitiveArray<i64>, _: &Bitmap) -> Result<usize> {
+    match min(column) {
+        Some(value) => Ok(value.unsigned_abs() as usize),
+        None => Ok(0),
+    }
+}
+
+/// The lowest bits of how far the sum is from 0.
+fn added_up(column: &PrimitiveArray<i64>, _: &Bitmap) -> Result<usize> {
+    Ok((sum(column).unsigned_abs() % (1 << 64)) as usize)
+}
+
+/// Takes the first items at these indices, as many as each run says.
+#[unsafe(no_mangle)]
+pub extern "C" fn bench_take(
+    alloc: Global,
+    values: &[i64],
+    validity: &[u8],
+    indices: &[usize],
+    runs: &[usize],
+) -> usize {
+    let Ok(column) = column(alloc, values, validity) else {
+        return 0;
+    };
+    if indices.iter().any(|index| *index >= column.len()) {
+        return 0;
+    }
+    on_each(runs, |run| match indices.get(..*run) {
+        Some(firsts) => last_and_count(&take(&column, firsts)?),
+        None => Ok(0),
+    })
+}
+
+/// Builds columns of the first options, as many as each run says: a value where the item beside it is true.
+#[unsafe(no_mangle)]
+pub extern "C" fn bench_options(
+    alloc: Global,
+    values: &[i64],
+    valid: &[bool],
+    runs: &[usize],
+) -> usize {
+    on_each(runs, |run| match (values.get(..*run), valid.get(..*run)) {
+        (Some(values), Some(valid)) => last_and_count(&built(alloc, values, valid)?),
+        _ => Ok(0),
+    })
+}
+
+/// The column of the options, pushed one by one.
+fn built(alloc: Global, values: &[i64], valid: &[bool]) -> Result<PrimitiveArray<i64>> {
+    let mut column = MutablePrimitiveArray::new(alloc)?;
+    column.reserve(values.len())?;
+    for (value, valid) in values.iter().zip(valid) {
+        column.push(valid.then_some(*value))?;
+    }
+    column.freeze()
+}

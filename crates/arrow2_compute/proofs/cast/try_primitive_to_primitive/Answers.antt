@@ -1,0 +1,14 @@
+use Rattle.arrow2_primitive.specs.Primitive.{primitive_items}
+use Rattle.arrow2_compute.specs.Casts.{not_fitting}
+use Rattle.arrow2_compute.proofs.Converted.{same-numbers, if-ok, if-err, out_of_memory}
+use Rattle.arrow2_compute.proofs.cast.try_primitive_to_primitive.Goals as goal
+
+pub returns-clause-items : goal.returns-clause-items
+returns-clause-items g c =
+    if-ok c.primitive_to_primitive.result
+    (λ a h. same-numbers g.I.Number.value g.O.Number.value g.O.Number.fits (primitive_items c.args.array.now) (primitive_items a) c.in_ok-check_fits.ensures.accepted h)
+    c.primitive_to_primitive.ensures.items
+
+pub returns-clause-refused : goal.returns-clause-refused
+returns-clause-refused g c =
+    if-err c.primitive_to_primitive.result (λ e is index first. out_of_memory e (not_fitting index) is) c.primitive_to_primitive.ensures.only

@@ -1,0 +1,51 @@
+use Rattle.std.proofs.Common.{Bor, ◌≡◌, ◌∙◌, ◌+◌, ◌++◌, length, get_or, take, append_assoc, ap, subst, arith}
+use Rattle.std.specs.Prelude.{IfOk, sum_by}
+use Rattle.std.specs.List.{flat_map}
+use Rattle.std.proofs.lemmas.Grind.{common_steps}
+use Rattle.std.proofs.lemmas.List.{take_all, length-append, take_more}
+use Rattle.std.proofs.lemmas.List.Sums.{sum_by_push, sum_by-take-le}
+use Rattle.arrow2_model.specs.Buffers.{buffer_items}
+use Rattle.arrow2_offset.specs.Offsets.{lengths_of}
+use Rattle.arrow2_text.specs.Binary.{binary_items}
+use Rattle.arrow2_compute.specs.Sizes.{slot_bytes}
+use Rattle.arrow2_compute.proofs.Filtered.{flat_map-more, length-first, part-whole}
+use Rattle.arrow2_compute.proofs.concatenate.concatenate_binary.Goals as goal
+
+pub loop-array-preserved : goal.loop-array-preserved
+loop-array-preserved g c =
+    let before = c.loop-array.invariant in
+    let index = c.loop-array.array-index in
+    let others = c.args.others.now in
+    let size = λ (array : Bor _). slot_bytes (g.A.Binary.parts array.now) in
+    let more = flat_map-more (λ array. binary_items (g.A.Binary.parts array.now)) others index c.array-item.result c.loop-array-test.true in
+    let heavier = ap (sum_by size) (take_more others index c.array-item.result c.loop-array-test.true) ∙ sum_by_push size (take index others) (get_or others index c.array-item.result) in
+    grind (arith, common_steps, before, more, heavier, append_assoc)
+
+-- what overflows is no more than all items
+pub returns-in_err-push_items-2-clause-overflow : goal.returns-in_err-push_items-2-clause-overflow
+returns-in_err-push_items-2-clause-overflow g c =
+    let first = binary_items (g.A.Binary.parts c.args.first.now) in
+    let others = c.args.others.now in
+    let index = c.loop-array.array-index in
+    let array = c.array-item.result in
+    let items = λ (a : Bor _). binary_items (g.A.Binary.parts a.now) in
+    let size = λ (a : Bor _). slot_bytes (g.A.Binary.parts a.now) in
+    let count = c.count-in-loop-array in
+    let more = ap length (flat_map-more items others index array c.loop-array-test.true) in
+    let joined = length-append (flat_map items (take index others)) (items (get_or others index array)) in
+    let before = ap length c.loop-array.invariant.items in
+    let kept = length-append first (flat_map items (take index others)) in
+    let all = length-append first (flat_map items others) in
+    let few = length-first items others (index + 1) in
+    let whole = part-whole (binary_items (g.A.Binary.parts array.now)) count.result count.ensures.items in
+    let heavier = ap (sum_by size) (take_more others index array c.loop-array-test.true) ∙ sum_by_push size (take index others) (get_or others index array) in
+    let most = sum_by-take-le size others (index + 1) in
+    let bytes = c.loop-array.invariant.bytes in
+    let slots = part-whole (lengths_of (buffer_items (g.A.Binary.parts array.now).offsets)) count.result count.ensures.slots in
+    grind (arith, common_steps, more, joined, before, kept, all, few, whole, heavier, most, bytes, slots)
+
+pub returns-clause-items : goal.returns-clause-items
+returns-clause-items g c =
+    let items = λ (array : Bor _). binary_items (g.A.Binary.parts array.now) in
+    let all = c.loop-array.invariant.items ∙ ap (λ arrays. binary_items (g.A.Binary.parts c.args.first.now) ++ flat_map items arrays) (take_all c.loop-array.array-index c.args.others.now c.loop-array-test.false) in
+    subst (λ z. IfOk c.freeze.result (λ a. binary_items (g.A.Binary.parts a) ≡ z)) all c.freeze.ensures.items

@@ -1,0 +1,29 @@
+use Rattle.std.proofs.Common.{◌+◌, ◌<◌, ◌^◌, None, false, get_or, length, take, ap, ◌∙◌, arith}
+use Rattle.std.specs.Prelude.{sum_by, if◌then◌else◌}
+use Rattle.std.proofs.lemmas.Grind.{common_steps}
+use Rattle.std.proofs.lemmas.List.Sums.{sum_by_push}
+use Rattle.arrow2_model.specs.Storage.{items_of}
+use Rattle.arrow2_text.specs.Binary.{binary_items}
+use Rattle.arrow2_walks.specs.Selected.{chosen}
+use Rattle.arrow2_walks.proofs.Selected.{chosen-more}
+use Rattle.arrow2_compute.specs.Sizes.{item_bytes}
+use Rattle.arrow2_compute.proofs.Filtered.{length-chosen}
+use Rattle.arrow2_compute.proofs.Weighed.{chosen-fits}
+use Rattle.arrow2_compute.proofs.if_then_else.if_then_else_binary.Goals as goal
+
+-- what overflows is no more than all items
+pub returns-in_err-push_either-clause-overflow : goal.returns-in_err-push_either-clause-overflow
+returns-in_err-push_either-clause-overflow g c =
+    let ms = items_of c.args.mask.now in
+    let xs = binary_items (g.A.Binary.parts c.args.lhs.now) in
+    let ys = binary_items (g.A.Binary.parts c.args.rhs.now) in
+    let place = c.loop-place.place in
+    let items = g.A.Binary.growing c.loop-place.items in
+    let few = length-chosen place ms (take place xs) (take place ys) in
+    let counted : length items.items + 1 < 2 ^ 64 = omega (arith, few, ap length c.loop-place.invariant.items, c.loop-place-test.true, c.len-place-end.ensures.items) in
+    let in_mask : place < length ms = omega (arith, c.loop-place-test.true, c.len-place-end.ensures.items) in
+    let more = ap (sum_by item_bytes) (chosen-more ms xs ys place in_mask (omega (arith, in_mask, c.requires.left)) (omega (arith, in_mask, c.requires.right))) in
+    let push = sum_by_push item_bytes (chosen (take place ms) (take place xs) (take place ys)) (if get_or ms place false then get_or xs place None else get_or ys place None) in
+    let most = chosen-fits item_bytes (place + 1) ms xs ys in
+    let bytes = c.loop-place.invariant.bytes ∙ ap (sum_by item_bytes) c.loop-place.invariant.items in
+    grind (arith, common_steps, counted, more, push, most, bytes)

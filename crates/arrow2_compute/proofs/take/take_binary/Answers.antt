@@ -1,0 +1,27 @@
+use Rattle.std.proofs.Common.{◌≡◌, ℕ, ◌+◌, ◌<◌, ◌^◌, None, length, map, take, ap, subst, ◌∙◌, arith}
+use Rattle.std.specs.Prelude.{IfOk, slice_index_or, sum_by}
+use Rattle.std.proofs.lemmas.Grind.{common_steps}
+use Rattle.std.proofs.lemmas.List.{take_all, length-map, length-take}
+use Rattle.arrow2_text.specs.Binary.{binary_items}
+use Rattle.arrow2_compute.specs.Sizes.{item_bytes}
+use Rattle.arrow2_compute.proofs.Weighed.{taken-fits}
+use Rattle.arrow2_compute.proofs.take.take_binary.Goals as goal
+
+-- what overflows is no more than all items
+pub returns-in_err-push_item-clause-overflow : goal.returns-in_err-push_item-clause-overflow
+returns-in_err-push_item-clause-overflow g c =
+    let items = λ (index : ℕ). slice_index_or (binary_items (g.A.Binary.parts c.args.array.now)) index None in
+    let indices = c.args.indices.now in
+    let place = c.loop-index.index-index in
+    let taken = g.A.Binary.growing c.loop-index.taken in
+    let few : length taken.items ≡ length (take place indices) = ap length c.loop-index.invariant.items ∙ length-map (take place indices) items in
+    let counted : length taken.items + 1 < 2 ^ 64 = omega (arith, few, length-take place indices, c.loop-index-test.true) in
+    let most = taken-fits item_bytes items indices place 0 c.loop-index-test.true in
+    let bytes = c.loop-index.invariant.bytes ∙ ap (sum_by item_bytes) c.loop-index.invariant.items in
+    grind (arith, common_steps, counted, most, bytes)
+
+pub returns-clause-items : goal.returns-clause-items
+returns-clause-items g c =
+    let items = λ (index : ℕ). slice_index_or (binary_items (g.A.Binary.parts c.args.array.now)) index None in
+    let all = c.loop-index.invariant.items ∙ ap (map items) (take_all c.loop-index.index-index c.args.indices.now c.loop-index-test.false) in
+    subst (λ z. IfOk c.freeze.result (λ a. binary_items (g.A.Binary.parts a) ≡ z)) all c.freeze.ensures.items

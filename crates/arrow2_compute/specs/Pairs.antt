@@ -1,0 +1,16 @@
+-- What is made of two items, one of each of two arrays.
+use Rattle.std.specs.Prelude.{◌≡◌, ℕ, List, Bool, Option, Some, None, slice_index_or}
+
+-- what f makes of both, and None where one of them is null
+abbrev pub of_both : {X Y Z : Type 0} → (X → Y → Z) → Option X → Option Y → Option Z
+of_both f None y = None
+of_both f (Some x) None = None
+of_both f (Some x) (Some y) = Some (f x y)
+
+-- this was said of the items of two lists at a place
+pub record IsTestedAt {X Y : Type 0} (xs : List X) (ys : List Y) (says : X → Y → Bool → Type 0) (index : ℕ) (said : Bool) : Type 0 where
+  pub left : X
+  pub right : Y
+  pub left_there : slice_index_or xs index left ≡ left
+  pub right_there : slice_index_or ys index right ≡ right
+  pub told : says left right said

@@ -1,0 +1,160 @@
+//! Arrays of byte strings and of texts, by what kernels need of them.
+ghost use Rattle.std.specs.Prelude.{◌≡◌, ◌+◌, ◌<◌, ◌≤◌, [], ◌∷◌, ℕ, None, length, sum, slice_index_or, IfOk, IfErr};
+ghost use Rattle.arrow2_compute.specs.Sizes.{item_bytes};
+ghost use Rattle.arrow2_model.specs.Buffers.{buffer_items};
+ghost use Rattle.arrow2_model.specs.Parts.{part};
+ghost use Rattle.arrow2_offset.specs.Offsets.{lengths_of};
+ghost use Rattle.arrow2_text.specs.Binary.{BinaryParts, binary_items};
+ghost use Rattle.arrow2_text.specs.Growth.{AppendsBinary, GrowingBinary};
+
+use arrow2_index::offset::Offset;
+use arrow2_text::{BinaryArray, MutableBinaryArray, MutableUtf8Array, Utf8Array};
+use arrow2_types::error::{Error, Result};
+
+/// An array of byte strings or of texts: its kernels are the same, whatever its offsets are.
+pub trait Binary: Drop {
+    // What contracts see of it.
+    ghost parts: { Self → BinaryParts };
+
+    // The greatest offset.
+    ghost GREATEST: { ℕ };
+
+    /// The array that grows into one.
+    type Growing: Drop;
+
+    // What contracts see of that.
+    ghost growing: { Self.Growing → GrowingBinary };
+
+    /// Returns the number of items, nulls too.
+    fn count(&self) -> usize
+        ensures items { result ≡ length (binary_items (parts self.now)) }
+        ensures slots { result ≡ length (lengths_of (buffer_items (parts self.now).offsets)) }
+        ensures fits { sum (lengths_of (buffer_items (parts self.now).offsets)) ≤ GREATEST };
+
+    /// Returns an array without items, of the same logical type.
+    ///
+    /// # Errors
+    ///
+    /// `OutOfMemory` alone.
+    fn like(&self) -> Result<Self::Growing>
+        ensures items { IfOk result (λ a. ((growing a).items ≡ []) × ((growing a).bytes ≡ 0)) }
+        ensures data_type { IfOk result (λ a. (growing a).data_type ≡ (parts self.now).data_type) }
+        ensures only { IfErr result (λ e. e ≡ Error.OutOfMemory) };
+
+    /// Appends item `index` of an array. Requires that it is below the length.
+    ///
+    /// # Errors
+    ///
+    /// `Overflow` exactly where the last offset would pass the greatest one, or the length is `usize::MAX`; else `OutOfMemory`
+    /// alone. After both it holds the items that it held.
+    fn push_item(grown: &mut Self::Growing, array: &Self, index: usize) -> Result<()>
+        requires below { index < length (binary_items (parts array.now)) }
+        ensures { AppendsBinary GREATEST result (growing grown.old) (growing grown.new)
+            (slice_index_or (binary_items (parts array.now)) index None ∷ [])
+            (item_bytes (slice_index_or (binary_items (parts array.now)) index None)) };
+
+    /// Appends the `len` items of an array from item `start` on, with what stands under nulls. Requires that they are inside.
+    ///
+    /// # Errors
+    ///
+    /// As of `push_item`.
+    fn push_items(grown: &mut Self::Growing, array: &Self, start: usize, len: usize) -> Result<()>
+        requires inside { start + len ≤ length (binary_items (parts array.now)) }
+        ensures { AppendsBinary GREATEST result (growing grown.old) (growing grown.new)
+            (part (binary_items (parts array.now)) start len)
+            (sum (part (lengths_of (buffer_items (parts array.now).offsets)) start len)) };
+
+    /// Returns the array of the items.
+    ///
+    /// # Errors
+    ///
+    /// `OutOfMemory` alone. The items are then dropped.
+    fn freeze(grown: Self::Growing) -> Result<Self>
+        ensures items { IfOk result (λ a. binary_items (parts a) ≡ (growing grown).items) }
+        ensures data_type { IfOk result (λ a. (parts a).data_type ≡ (growing grown).data_type) }
+        ensures only { IfErr result (λ e. e ≡ Error.OutOfMemory) };
+}
+
+impl<O: Offset> Binary for BinaryArray<O> {
+    ghost parts = { λ a. a };
+
+    ghost GREATEST = { O.MAX };
+
+    type Growing = MutableBinaryArray<O>;
+
+    ghost growing = { λ a. a };
+
+    fn count(&self) -> usize {
+        // The last offset is read for what offsets keep: it is at most the greatest one.
+        let _ = self.offsets().last();
+        self.len()
+    }
+
+    fn like(&self) -> Result<MutableBinaryArray<O>> {
+        let data_type = self.data_type().clone()?;
+        MutableBinaryArray::of_type(self.values().allocator(), data_type)
+    }
+
+    fn push_item(
+        grown: &mut MutableBinaryArray<O>,
+        array: &BinaryArray<O>,
+        index: usize,
+    ) -> Result<()> {
+        grown.push(array.get(index))
+    }
+
+    fn push_items(
+        grown: &mut MutableBinaryArray<O>,
+        array: &BinaryArray<O>,
+        start: usize,
+        len: usize,
+    ) -> Result<()> {
+        grown.extend_from_array(array, start, len)
+    }
+
+    fn freeze(grown: MutableBinaryArray<O>) -> Result<BinaryArray<O>> {
+        grown.freeze()
+    }
+}
+
+impl<O: Offset> Binary for Utf8Array<O> {
+    ghost parts = { λ a. a };
+
+    ghost GREATEST = { O.MAX };
+
+    type Growing = MutableUtf8Array<O>;
+
+    ghost growing = { λ a. a };
+
+    fn count(&self) -> usize {
+        // The last offset is read for what offsets keep: it is at most the greatest one.
+        let _ = self.offsets().last();
+        self.len()
+    }
+
+    fn like(&self) -> Result<MutableUtf8Array<O>> {
+        let data_type = self.data_type().clone()?;
+        MutableUtf8Array::of_type(self.values().allocator(), data_type)
+    }
+
+    fn push_item(
+        grown: &mut MutableUtf8Array<O>,
+        array: &Utf8Array<O>,
+        index: usize,
+    ) -> Result<()> {
+        grown.push(array.get(index))
+    }
+
+    fn push_items(
+        grown: &mut MutableUtf8Array<O>,
+        array: &Utf8Array<O>,
+        start: usize,
+        len: usize,
+    ) -> Result<()> {
+        grown.extend_from_array(array, start, len)
+    }
+
+    fn freeze(grown: MutableUtf8Array<O>) -> Result<Utf8Array<O>> {
+        grown.freeze()
+    }
+}

@@ -1,0 +1,131 @@
+//! Which items of an array are null.
+ghost use Rattle.std.specs.Prelude.{◌≡◌, Bool, List, Some, map, not, IfOk, IfErr, IsNone};
+ghost use Rattle.std.specs.Option.{is_some};
+ghost use Rattle.arrow2_model.specs.Storage.{items_of};
+ghost use Rattle.arrow2_array.specs.Items.{boolean_items};
+ghost use Rattle.arrow2_primitive.specs.Primitive.{primitive_items};
+ghost use Rattle.arrow2_text.specs.Binary.{binary_items};
+ghost use Rattle.arrow2_validity.specs.OptionalValidity.{valid_items};
+
+use arrow2_array::BooleanArray;
+use arrow2_bitmap::{Bitmap, MutableBitmap};
+use arrow2_index::offset::Offset;
+use arrow2_primitive::PrimitiveArray;
+use arrow2_text::{BinaryArray, Utf8Array};
+use arrow2_types::error::{Error, Result};
+use arrow2_types::native::NativeType;
+use arrow2_validity::Validity;
+use std::alloc::Global;
+use std::convert::TryFrom;
+
+/// An array whose items may be null, of any type: what arrow2 has as `dyn Array`.
+pub trait Nullable {
+    // Item by item whether it is not null.
+    ghost known: { Self → List Bool };
+
+    /// Returns which items are not null.
+    fn known(&self) -> &Validity
+        ensures { valid_items result.now ≡ known self.now };
+
+    /// Returns the allocator of the values.
+    fn allocator(&self) -> Global;
+}
+
+impl<T: NativeType> Nullable for PrimitiveArray<T> {
+    ghost known = { λ a. map is_some (primitive_items a) };
+
+    fn known(&self) -> &Validity {
+        self.optional_validity()
+    }
+
+    fn allocator(&self) -> Global {
+        self.values().allocator()
+    }
+}
+
+impl Nullable for BooleanArray {
+    ghost known = { λ a. map is_some (boolean_items a) };
+
+    fn known(&self) -> &Validity {
+        self.optional_validity()
+    }
+
+    fn allocator(&self) -> Global {
+        self.values().allocator()
+    }
+}
+
+impl<O: Offset> Nullable for BinaryArray<O> {
+    ghost known = { λ a. map is_some (binary_items a) };
+
+    fn known(&self) -> &Validity {
+        self.optional_validity()
+    }
+
+    fn allocator(&self) -> Global {
+        self.values().allocator()
+    }
+}
+
+impl<O: Offset> Nullable for Utf8Array<O> {
+    ghost known = { λ a. map is_some (binary_items a) };
+
+    fn known(&self) -> &Validity {
+        self.optional_validity()
+    }
+
+    fn allocator(&self) -> Global {
+        self.values().allocator()
+    }
+}
+
+/// Returns, item by item, whether it is null. No item of the result is.
+///
+/// # Errors
+///
+/// `OutOfMemory` alone.
+pub fn is_null<A: Nullable>(array: &A) -> Result<BooleanArray>
+    ensures items { IfOk result (λ a. boolean_items a ≡ map (λ known. Some (not known)) (A.known array.now)) }
+    ensures validity { IfOk result (λ a. IsNone a.validity.bitmap) }
+    ensures only { IfErr result (λ e. e ≡ Error.OutOfMemory) }
+{
+    let nulls = nulls_of(array.allocator(), array.known())?;
+    Ok(BooleanArray::new(nulls, None))
+}
+
+/// Returns, item by item, whether it is not null. No item of the result is null. Where the array has a validity bitmap, the
+/// values of the result share its bytes.
+///
+/// # Errors
+///
+/// `OutOfMemory` alone.
+pub fn is_not_null<A: Nullable>(array: &A) -> Result<BooleanArray>
+    ensures items { IfOk result (λ a. boolean_items a ≡ map (λ known. Some known) (A.known array.now)) }
+    ensures validity { IfOk result (λ a. IsNone a.validity.bitmap) }
+    ensures only { IfErr result (λ e. e ≡ Error.OutOfMemory) }
+{
+    let known = known_of(array.allocator(), array.known())?;
+    Ok(BooleanArray::new(known, None))
+}
+
+/// Returns the bitmap of which items are null.
+fn nulls_of(alloc: Global, validity: &Validity) -> Result<Bitmap>
+    ensures items { IfOk result (λ b. items_of b ≡ map not (valid_items validity.now)) }
+    ensures only { IfErr result (λ e. e ≡ Error.OutOfMemory) }
+{
+    match validity.bitmap() {
+        Some(bitmap) => !bitmap,
+        None => Bitmap::new_zeroed(alloc, validity.len()),
+    }
+}
+
+/// Returns the bitmap of which items are not null.
+fn known_of(alloc: Global, validity: &Validity) -> Result<Bitmap>
+    ensures items { IfOk result (λ b. items_of b ≡ valid_items validity.now) }
+    ensures only { IfErr result (λ e. e ≡ Error.OutOfMemory) }
+{
+    match validity.bitmap() {
+        Some(bitmap) => Ok(bitmap.clone()?),
+        None => Bitmap::try_from(MutableBitmap::from_len_set(alloc, validity.len())?),
+    }
+}

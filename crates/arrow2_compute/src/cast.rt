@@ -1,0 +1,118 @@
+//! Numbers of one type as those of another.
+ghost use Rattle.std.specs.Prelude.{◌≡◌, ℕ, IfOk, IfErr, IsOk, MatchBool, OnOk, All};
+ghost use Rattle.std.specs.List.{AllZip};
+ghost use Rattle.arrow2_types.specs.Refusals.{IsInvalidArgument};
+ghost use Rattle.arrow2_datatypes.specs.Types.{physical};
+ghost use Rattle.arrow2_datatypes.specs.declared.physical_type.PhysicalType.TheVariants.{Primitive};
+ghost use Rattle.arrow2_compute.specs.Casts.{IsCast, IsSameNumber, IsFirstMisfit, Fits, not_fitting};
+ghost use Rattle.arrow2_primitive.specs.Primitive.{primitive_items};
+
+use arrow2_datatypes::DataType;
+use arrow2_primitive::{MutablePrimitiveArray, PrimitiveArray};
+use arrow2_types::error::{Error, Result};
+use arrow2_types::native::NativeType;
+use num_traits::PrimInt;
+use std::alloc::Global;
+use std::rc::Rc;
+
+/// Returns the same numbers as another type, null where that type does not have the number, and where the item is null.
+/// Requires that the physical type of `data_type` is that of `O`.
+///
+/// Differs from arrow2, which takes floats too.
+///
+/// # Errors
+///
+/// `OutOfMemory` alone.
+pub fn primitive_to_primitive<I: NativeType + PrimInt, O: NativeType + PrimInt>(
+    array: &PrimitiveArray<I>,
+    data_type: Rc<DataType>,
+) -> Result<PrimitiveArray<O>>
+    requires layout { physical data_type.value ≡ Primitive O.PRIMITIVE }
+    ensures items { IfOk result (λ a. AllZip (IsCast I.value O.value O.fits)
+        (primitive_items array.now) (primitive_items a)) }
+    ensures data_type { IfOk result (λ a. a.data_type ≡ data_type.value) }
+    ensures only { IfErr result (λ e. e ≡ Error.OutOfMemory) }
+{
+    let mut numbers = MutablePrimitiveArray::of_type(array.values().allocator(), data_type);
+    numbers.reserve(array.len())?;
+    for index in 0..array.len() {
+        numbers.push(cast_item(array.get(index)))?;
+    }
+    numbers.freeze()
+}
+
+/// Returns the same numbers as another type, null where the item is null. Requires that the physical type of `data_type` is
+/// that of `O`.
+///
+/// It goes over the numbers twice: first to see that they fit, before anything is allocated. arrow2 has no such call.
+///
+/// # Errors
+///
+/// `InvalidArgumentError` exactly where the other type lacks a number, naming the first such item; or `OutOfMemory`.
+pub fn try_primitive_to_primitive<I: NativeType + PrimInt, O: NativeType + PrimInt>(
+    array: &PrimitiveArray<I>,
+    data_type: Rc<DataType>,
+) -> Result<PrimitiveArray<O>>
+    requires layout { physical data_type.value ≡ Primitive O.PRIMITIVE }
+    ensures items { IfOk result (λ a. AllZip (IsSameNumber I.value O.value)
+        (primitive_items array.now) (primitive_items a)) }
+    ensures data_type { IfOk result (λ a. a.data_type ≡ data_type.value) }
+    ensures accepted { OnOk result (All (Fits I.value O.fits) (primitive_items array.now)) }
+    ensures refused { IfErr result (λ e. (index : ℕ) →
+        IsFirstMisfit I.value O.fits (primitive_items array.now) index →
+        IsInvalidArgument e (not_fitting index)) }
+    ensures only { All (Fits I.value O.fits) (primitive_items array.now) →
+        IfErr result (λ e. e ≡ Error.OutOfMemory) }
+{
+    check_fits::<I, O>(array)?;
+    primitive_to_primitive(array, data_type)
+}
+
+/// Refuses an array one of whose numbers the other type lacks.
+fn check_fits<I: NativeType + PrimInt, O: NativeType + PrimInt>(
+    array: &PrimitiveArray<I>,
+) -> Result<()>
+    ensures accepted { OnOk result (All (Fits I.value O.fits) (primitive_items array.now)) }
+    ensures refused { IfErr result (λ e. (index : ℕ) →
+        IsFirstMisfit I.value O.fits (primitive_items array.now) index →
+        IsInvalidArgument e (not_fitting index)) }
+    ensures only { All (Fits I.value O.fits) (primitive_items array.now) → IsOk result }
+{
+    for index in 0..array.len() {
+        if !item_fits::<I, O>(array.get(index)) {
+            return Err(misfit(array.values().allocator(), index));
+        }
+    }
+    Ok(())
+}
+
+/// Returns whether the other type has the number, or there is none.
+fn item_fits<I: NativeType + PrimInt, O: NativeType + PrimInt>(item: Option<I>) -> bool
+    ensures { MatchBool result (Fits I.value O.fits item) (¬ (Fits I.value O.fits item)) }
+{
+    match item {
+        Some(value) => num_traits::cast::<I, O>(value).is_some(),
+        None => true,
+    }
+}
+
+/// Returns the same number as another type, or `None` where that type does not have it, and where there is none.
+fn cast_item<I: NativeType + PrimInt, O: NativeType + PrimInt>(item: Option<I>) -> Option<O>
+    ensures { IsCast I.value O.value O.fits item result }
+{
+    match item {
+        Some(value) => num_traits::cast(value),
+        None => None,
+    }
+}
+
+/// Returns the error that names an item whose number the other type lacks.
+#[tactic(auto, unfolding(crate::specs::Casts::not_fitting))]
+fn misfit(alloc: Global, index: usize) -> Error
+    ensures { IsInvalidArgument result (not_fitting index) }
+{
+    match format!(in alloc; "item {index} does not fit the type") {
+        Ok(text) => Error::InvalidArgumentError(text),
+        Err(AllocError) => Error::OutOfMemory,
+    }
+}

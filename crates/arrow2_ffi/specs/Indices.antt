@@ -1,0 +1,32 @@
+-- Indices into a dictionary, of which some may be null.
+use Rattle.std.specs.Prelude.{◌≡◌, ◌≢◌, ℕ, ◌<◌, ◌↔◌, ◌⊎◌, ℤ, pos, ◌<ℤ◌, ◌≤ℤ◌, List, length, Bool, false, Option, slice_index_or}
+use Rattle.std.specs.Bool.{IsTrue}
+use Rattle.arrow2_ffi.specs.declared.codes.TheConstants.{ARROW2_OK, ARROW2_RANGE, ARROW2_INDEX}
+use Rattle.arrow2_ffi.specs.Validities.{SaysOf, valid_items}
+
+-- a number is at least 0 and below n
+abbrev pub IsIndex : ℤ → ℕ → Type 0
+IsIndex x n = (pos 0 ≤ℤ x) × (x <ℤ pos n)
+
+-- item k is null or an index below n
+abbrev pub IsIndexOrNull : List ℤ → List Bool → ℕ → ℕ → Type 0
+IsIndexOrNull xs valid n k = IsTrue (slice_index_or valid k false) → IsIndex (slice_index_or xs k (pos 0)) n
+
+-- item k is the first that is neither
+pub record IsFirstOutside (xs : List ℤ) (valid : List Bool) (n k : ℕ) : Type 0 where
+  pub inside : k < length xs
+  pub before : (j : ℕ) → j < k → IsIndexOrNull xs valid n j
+  pub outside : ¬ IsIndexOrNull xs valid n k
+
+-- the code of a check that items are indices below n or null, and the slot that it writes
+pub record ChecksIndices (code : ℕ) (xs : List ℤ) (validity : Option (List ℕ × ℕ)) (n old new : ℕ) : Type 0 where
+  -- it is that of ranges exactly where the validity has too few bits
+  pub range : (code ≡ ARROW2_RANGE) ↔ ¬ SaysOf validity (length xs)
+  -- that of a call that did what it says exactly where it has enough, and each item is null or an index
+  pub ok : (code ≡ ARROW2_OK) ↔ (SaysOf validity (length xs) × ((k : ℕ) → k < length xs → IsIndexOrNull xs (valid_items validity (length xs)) n k))
+  -- else it is that of indices
+  pub only : (code ≡ ARROW2_OK) ⊎ (code ≡ ARROW2_RANGE) ⊎ (code ≡ ARROW2_INDEX)
+  -- and then the first item that is neither was written
+  pub index : code ≡ ARROW2_INDEX → IsFirstOutside xs (valid_items validity (length xs)) n new
+  -- with any other code nothing was
+  pub kept : code ≢ ARROW2_INDEX → new ≡ old

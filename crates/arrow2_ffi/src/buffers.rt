@@ -1,0 +1,68 @@
+//! Whether buffers have the bits and bytes that an array needs, and a validity as many nulls as were declared.
+ghost use Rattle.std.specs.Prelude.{◌≡◌, ◌≢◌, ◌+◌, ◌*◌, ◌≤◌, ◌↔◌, ◌⊎◌, pos, negsuc};
+ghost use Rattle.arrow2_model.specs.Bits.{bits};
+ghost use Rattle.arrow2_model.specs.Parts.{part, falses};
+ghost use Rattle.arrow2_ffi.specs.Ranges.{IsInside};
+
+use crate::codes::{ARROW2_NULLS, ARROW2_OK, ARROW2_RANGE};
+use crate::ranges::{Bits, are_inside};
+
+/// Whether the `length` bits from bit `offset` on are inside, and as many of them are not set as `null_count` says; -1
+/// says nothing.
+///
+/// `ARROW2_RANGE` exactly where they are not inside the bytes, else `ARROW2_NULLS` exactly where `null_count` is neither -1
+/// nor their number.
+#[unsafe(no_mangle)]
+pub extern "C" fn arrow2_validity_check(
+    bytes: &[u8],
+    offset: usize,
+    length: usize,
+    null_count: i64,
+) -> u32
+    ensures range { result ≡ ARROW2_RANGE ↔ ¬ IsInside bytes.now offset length }
+    ensures nulls { result ≡ ARROW2_NULLS ↔ ((result ≢ ARROW2_RANGE) × (null_count ≢ negsuc 0)
+        × (null_count ≢ pos (falses (part (bits bytes.now) offset length)))) }
+    ensures only { (result ≡ ARROW2_OK) ⊎ (result ≡ ARROW2_RANGE) ⊎ (result ≡ ARROW2_NULLS) }
+{
+    if !are_inside(Bits(bytes, offset), length) {
+        return ARROW2_RANGE;
+    }
+    let zeros = arrow2_bits::count_zeros(bytes, offset, length);
+    if null_count != -1 && i128::from(null_count) != zeros as i128 {
+        return ARROW2_NULLS;
+    }
+    ARROW2_OK
+}
+
+/// Returns whether `bytes` bytes have `length` bits from bit `offset` on.
+///
+/// `ARROW2_RANGE` exactly where they have not.
+#[unsafe(no_mangle)]
+pub extern "C" fn arrow2_bits_check(bytes: usize, offset: usize, length: usize) -> u32
+    ensures ok { result ≡ ARROW2_OK ↔ (offset + length ≤ 8 * bytes) }
+    ensures only { (result ≡ ARROW2_OK) ⊎ (result ≡ ARROW2_RANGE) }
+{
+    if offset as u128 + length as u128 > 8 * bytes as u128 {
+        return ARROW2_RANGE;
+    }
+    ARROW2_OK
+}
+
+/// Returns whether `bytes` bytes have `length` values of `width` bytes each from value `offset` on.
+///
+/// `ARROW2_RANGE` exactly where they have not.
+#[unsafe(no_mangle)]
+pub extern "C" fn arrow2_values_check(
+    bytes: usize,
+    width: usize,
+    offset: usize,
+    length: usize,
+) -> u32
+    ensures ok { result ≡ ARROW2_OK ↔ ((offset + length) * width ≤ bytes) }
+    ensures only { (result ≡ ARROW2_OK) ⊎ (result ≡ ARROW2_RANGE) }
+{
+    if width > 0 && offset as u128 + length as u128 > (bytes / width) as u128 {
+        return ARROW2_RANGE;
+    }
+    ARROW2_OK
+}

@@ -1,0 +1,58 @@
+//! What the exports on indices do, for any width.
+ghost use Rattle.std.specs.Prelude.{◌≡◌, ◌<◌, ◌↔◌, ℕ, pos, map, length, slice_index_or, IsTrue, MatchOption};
+ghost use Rattle.arrow2_ffi.specs.Indices.{ChecksIndices, IsFirstOutside, IsIndex, IsIndexOrNull};
+ghost use Rattle.arrow2_ffi.specs.Validities.{SaysOf, valid_items, validity_of};
+
+use crate::codes::{ARROW2_INDEX, ARROW2_OK, ARROW2_RANGE};
+use crate::ranges::Bits;
+use crate::validities::{is_valid, says_of};
+use arrow2_index::index::Index;
+
+/// Returns whether each item is null or an index below `items`. Writes the first that is neither.
+pub(crate) fn check<I: Index>(
+    indices: &[I],
+    validity: Option<Bits<'_>>,
+    items: usize,
+    slot: &mut usize,
+) -> u32
+    ensures { ChecksIndices result (map I.value indices.now) (validity_of validity.entry) items
+        slot.old slot.new }
+{
+    if !says_of(validity, indices.len()) {
+        return ARROW2_RANGE;
+    }
+    match first_outside(indices, validity, items) {
+        None => ARROW2_OK,
+        Some(first) => {
+            *slot = first;
+            ARROW2_INDEX
+        }
+    }
+}
+
+/// The first item that is neither null nor an index below `items`.
+fn first_outside<I: Index>(indices: &[I], validity: Option<Bits<'_>>, items: usize) -> Option<usize>
+    requires says { SaysOf (validity_of validity) (length indices.now) }
+    ensures { MatchOption result
+        ((k : ℕ) → k < length indices.now → IsIndexOrNull (map I.value indices.now)
+        (valid_items (validity_of validity.entry) (length indices.now)) items k)
+        (λ slot. IsFirstOutside (map I.value indices.now)
+        (valid_items (validity_of validity.entry) (length indices.now)) items slot) }
+{
+    for slot in 0..indices.len() {
+        if is_valid(validity, slot, indices.len()) && !is_index(indices[slot], items) {
+            return Some(slot);
+        }
+    }
+    None
+}
+
+/// Returns whether the number is at least 0 and below `items`.
+fn is_index<I: Index>(number: I, items: usize) -> bool
+    ensures { IsTrue result ↔ IsIndex (I.value number) items }
+{
+    if number < I::zero() {
+        return false;
+    }
+    number.to_usize() < items
+}

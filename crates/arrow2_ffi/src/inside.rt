@@ -1,0 +1,75 @@
+//! Offsets beside what they cut, for either width: whether they are inside, and whether they cut texts.
+ghost use Rattle.std.specs.Prelude.{◌≡◌, ◌+◌, ◌-◌, ◌<◌, ◌≤◌, ◌<ℤ◌, ◌≤ℤ◌, ℕ, pos, map, length, slice_index_or};
+ghost use Rattle.arrow2_offset.specs.Offsets.{AreOffsets, last_of};
+ghost use Rattle.arrow2_ffi.specs.Cuts.{IsFirstFalling, IsFirstPast, ChecksOffsets, ChecksTexts};
+
+use crate::codes::{ARROW2_OK, ARROW2_PAST, ARROW2_SPEC_FALLING, ARROW2_UTF8};
+use crate::offset_calls::refusal;
+use arrow2_index::offset::Offset;
+use arrow2_offset::slices::last;
+use arrow2_utf8::{BrokenTextArray, BrokenTexts, try_check_offsets_and_utf8};
+
+/// Returns whether the numbers are offsets, of which none is past `items` items. Writes the index of the first number
+/// that falls or is past them.
+pub(crate) fn check_inside<O: Offset>(offsets: &[O], items: usize, index: &mut usize) -> u32
+    ensures { ChecksOffsets result (map O.value offsets.now) items index.old index.new }
+{
+    if let Some(code) = refusal(offsets) {
+        if code == ARROW2_SPEC_FALLING {
+            *index = first_falling(offsets);
+        }
+        return code;
+    }
+    if last(offsets) > items {
+        *index = first_past(offsets, items);
+        return ARROW2_PAST;
+    }
+    ARROW2_OK
+}
+
+/// Returns whether the numbers are offsets, none is past the values, and the values of each slot are UTF-8. Writes the
+/// index of the first number that falls or is past them, or the first slot that is not UTF-8.
+pub(crate) fn check_texts<O: Offset>(offsets: &[O], values: &[u8], index: &mut usize) -> u32
+    ensures { ChecksTexts result (map O.value offsets.now) values.now index.old index.new }
+{
+    match try_check_offsets_and_utf8(offsets, values) {
+        Ok(()) => ARROW2_OK,
+        Err(BrokenTextArray::Texts(BrokenTexts::NotUtf8(slot))) => {
+            *index = slot;
+            ARROW2_UTF8
+        }
+        Err(BrokenTextArray::Offsets(_)) => check_inside(offsets, values.len(), index),
+        Err(BrokenTextArray::Texts(BrokenTexts::PastTheValues)) => {
+            check_inside(offsets, values.len(), index)
+        }
+    }
+}
+
+/// The index of the first number that is below the one before it, or how many numbers there are.
+fn first_falling<O: Offset>(offsets: &[O]) -> usize
+    ensures before { (k : ℕ) → k + 1 < result → slice_index_or (map O.value offsets.now) k (pos 0)
+        ≤ℤ slice_index_or (map O.value offsets.now) (k + 1) (pos 0) }
+    ensures found { result < length offsets.now → IsFirstFalling (map O.value offsets.now) result }
+    ensures within { result ≤ length offsets.now }
+{
+    for index in 1..offsets.len() {
+        if offsets[index] < offsets[index - 1] {
+            return index;
+        }
+    }
+    offsets.len()
+}
+
+/// The index of the first offset that is past `items` items. Requires that the last one is.
+fn first_past<O: Offset>(offsets: &[O], items: usize) -> usize
+    requires are { AreOffsets (map O.value offsets.now) }
+    requires past { items < last_of (map O.value offsets.now) }
+    ensures { IsFirstPast (map O.value offsets.now) items result }
+{
+    for index in 0..offsets.len() - 1 {
+        if offsets[index].to_usize() > items {
+            return index;
+        }
+    }
+    offsets.len() - 1
+}

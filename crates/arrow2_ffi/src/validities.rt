@@ -1,0 +1,39 @@
+//! Validities that a call may be given or not: without one no item is null.
+ghost use Rattle.std.specs.Prelude.{◌≡◌, ◌<◌, ◌↔◌, false, slice_index_or, IsTrue};
+ghost use Rattle.arrow2_ffi.specs.Validities.{SaysOf, given, valid_items, validity_of};
+
+use crate::ranges::{Bits, are_inside};
+use arrow2_bits::get_bit_from;
+
+/// A validity that a call was given, `None` where all items are valid.
+pub(crate) fn given_validity(all_valid: bool, bytes: &[u8], offset: usize) -> Option<Bits<'_>>
+    ensures { validity_of result ≡ given all_valid bytes.now offset }
+{
+    if all_valid {
+        return None;
+    }
+    Some(Bits(bytes, offset))
+}
+
+/// Returns whether the validity has a bit for each of `length` items.
+pub(crate) fn says_of(validity: Option<Bits<'_>>, length: usize) -> bool
+    ensures { IsTrue result ↔ SaysOf (validity_of validity.entry) length }
+{
+    match validity {
+        None => true,
+        Some(bits) => are_inside(bits, length),
+    }
+}
+
+/// Returns whether item `index` of `length` is not null.
+pub(crate) fn is_valid(validity: Option<Bits<'_>>, index: usize, length: usize) -> bool
+    requires says { SaysOf (validity_of validity) length }
+    requires below { index < length }
+    ensures { result ≡ slice_index_or (valid_items (validity_of validity.entry) length) index
+        false }
+{
+    match validity {
+        None => true,
+        Some(Bits(bytes, offset)) => get_bit_from(bytes, offset, index),
+    }
+}

@@ -1,0 +1,321 @@
+//! Arrays of byte strings and of texts.
+use crate::calls::{Row, input, made, refused, show};
+use arrow2_buffer::Buffer;
+use arrow2_datatypes::DataType;
+use arrow2_offset::OffsetsBuffer;
+use arrow2_text::{BinaryArray, MutableBinaryArray, MutableUtf8Array, Utf8Array};
+use arrow2_types::error::Result;
+use either::Either;
+use std::alloc::Global;
+use std::io::{Eprint, Print};
+
+/// A text that is longer than what fits into an array without items.
+const TEXT: &str = "text";
+
+/// The array of one text.
+fn texts(alloc: Global) -> Result<Utf8Array<i32>> {
+    input(Utf8Array::from_slice(alloc, &[TEXT]))
+}
+
+/// The array of one byte string.
+fn strings(alloc: Global) -> Result<BinaryArray<i32>> {
+    input(texts(alloc)?.into_binary())
+}
+
+/// The array of no texts, of parts that are refused.
+fn typed_texts(alloc: Global) -> Result<Utf8Array<i32>> {
+    let offsets = input(OffsetsBuffer::new(alloc))?;
+    let values = input(Buffer::new(alloc))?;
+    Utf8Array::try_new(DataType::Binary, offsets, values, None)
+}
+
+/// The array of no byte strings, of parts that are refused.
+fn typed_strings(alloc: Global) -> Result<BinaryArray<i32>> {
+    let offsets = input(OffsetsBuffer::new(alloc))?;
+    let values = input(Buffer::new(alloc))?;
+    BinaryArray::try_new(DataType::Utf8, offsets, values, None)
+}
+
+/// The texts that grow again, frozen; they have no bitmap, so that one is made.
+fn thawed_texts(alloc: Global) -> Result<Utf8Array<i32>> {
+    match texts(alloc)?.into_mut()? {
+        Either::Left(array) => Ok(array),
+        Either::Right(array) => input(array.freeze()),
+    }
+}
+
+/// The byte strings that grow again, frozen.
+fn thawed_strings(alloc: Global) -> Result<BinaryArray<i32>> {
+    match strings(alloc)?.into_mut()? {
+        Either::Left(array) => Ok(array),
+        Either::Right(array) => input(array.freeze()),
+    }
+}
+
+/// A null and a text, frozen.
+fn frozen_texts(alloc: Global) -> Result<Utf8Array<i32>> {
+    let mut array = input(MutableUtf8Array::new(alloc))?;
+    input(array.push_null())?;
+    input(array.push(Some(TEXT)))?;
+    array.freeze()
+}
+
+/// A null and a byte string, frozen.
+fn frozen_strings(alloc: Global) -> Result<BinaryArray<i32>> {
+    let mut array = input(MutableBinaryArray::new(alloc))?;
+    input(array.push_null())?;
+    input(array.push(Some(TEXT.as_bytes())))?;
+    array.freeze()
+}
+
+/// The byte strings of texts.
+fn copied(alloc: Global) -> Result<BinaryArray<i32>> {
+    texts(alloc)?.to_binary()
+}
+
+/// The texts as byte strings.
+fn turned(alloc: Global) -> Result<BinaryArray<i32>> {
+    texts(alloc)?.into_binary()
+}
+
+/// Arrays of texts.
+fn given_texts(alloc: Global) -> [Row<Utf8Array<i32>>; 5] {
+    [
+        (
+            "Utf8Array::from_slice",
+            Utf8Array::from_slice(alloc, &[TEXT]),
+        ),
+        (
+            "Utf8Array::from_options",
+            Utf8Array::from_options(alloc, &[Some(TEXT), None]),
+        ),
+        ("Utf8Array::try_new", typed_texts(alloc)),
+        ("Utf8Array::into_mut", thawed_texts(alloc)),
+        ("MutableUtf8Array::freeze", frozen_texts(alloc)),
+    ]
+}
+
+/// Arrays of byte strings.
+fn given_strings(alloc: Global) -> [Row<BinaryArray<i32>>; 7] {
+    [
+        (
+            "BinaryArray::from_slice",
+            BinaryArray::from_slice(alloc, &[TEXT.as_bytes()]),
+        ),
+        (
+            "BinaryArray::from_options",
+            BinaryArray::from_options(alloc, &[Some(TEXT.as_bytes()), None]),
+        ),
+        ("BinaryArray::try_new", typed_strings(alloc)),
+        ("BinaryArray::into_mut", thawed_strings(alloc)),
+        ("MutableBinaryArray::freeze", frozen_strings(alloc)),
+        ("Utf8Array::to_binary", copied(alloc)),
+        ("Utf8Array::into_binary", turned(alloc)),
+    ]
+}
+
+/// The number of texts of an array that grows.
+fn count_texts(array: Result<MutableUtf8Array<i32>>) -> Result<usize> {
+    Ok(array?.len())
+}
+
+/// The number of byte strings of an array that grows.
+fn count_strings(array: Result<MutableBinaryArray<i32>>) -> Result<usize> {
+    Ok(array?.len())
+}
+
+/// An array of texts of the logical type of another one.
+fn texts_of_type(alloc: Global) -> Result<MutableUtf8Array<i32>> {
+    let texts = texts(alloc)?;
+    MutableUtf8Array::of_type(alloc, texts.data_type().clone()?)
+}
+
+/// An array of byte strings of the logical type of another one.
+fn strings_of_type(alloc: Global) -> Result<MutableBinaryArray<i32>> {
+    let strings = strings(alloc)?;
+    MutableBinaryArray::of_type(alloc, strings.data_type().clone()?)
+}
+
+/// The number of texts that an iterator gave.
+fn collected_texts(alloc: Global) -> Result<usize> {
+    let texts = texts(alloc)?;
+    count_texts(MutableUtf8Array::try_from_iter(alloc, texts.iter()))
+}
+
+/// The number of byte strings that an iterator gave.
+fn collected_strings(alloc: Global) -> Result<usize> {
+    let strings = strings(alloc)?;
+    count_strings(MutableBinaryArray::try_from_iter(alloc, strings.iter()))
+}
+
+/// The numbers of items of arrays that grow.
+fn growing(alloc: Global) -> [Row<usize>; 8] {
+    [
+        (
+            "MutableUtf8Array::new",
+            count_texts(MutableUtf8Array::new(alloc)),
+        ),
+        (
+            "MutableUtf8Array::with_capacity",
+            count_texts(MutableUtf8Array::with_capacity(alloc, 20, 20)),
+        ),
+        (
+            "MutableUtf8Array::of_type",
+            count_texts(texts_of_type(alloc)),
+        ),
+        ("MutableUtf8Array::try_from_iter", collected_texts(alloc)),
+        (
+            "MutableBinaryArray::new",
+            count_strings(MutableBinaryArray::new(alloc)),
+        ),
+        (
+            "MutableBinaryArray::with_capacity",
+            count_strings(MutableBinaryArray::with_capacity(alloc, 20, 20)),
+        ),
+        (
+            "MutableBinaryArray::of_type",
+            count_strings(strings_of_type(alloc)),
+        ),
+        (
+            "MutableBinaryArray::try_from_iter",
+            collected_strings(alloc),
+        ),
+    ]
+}
+
+/// How an array changes, and how its capacity does.
+#[derive(Clone, Copy)]
+enum Growth {
+    /// By one item.
+    Push,
+    /// By a null.
+    PushNull,
+    /// By another array.
+    ExtendFromArray,
+    /// By capacity alone.
+    Reserve,
+    /// By its last item, which is taken off.
+    Pop,
+}
+
+/// Arrays that grow, by another array of type `A` too.
+trait Grows<A> {
+    /// Changes the array so.
+    fn grow(&mut self, growth: Growth, other: &A) -> Row<()>;
+
+    /// The number of items.
+    fn count(&self) -> usize;
+}
+
+impl Grows<Utf8Array<i32>> for MutableUtf8Array<i32> {
+    fn grow(&mut self, growth: Growth, other: &Utf8Array<i32>) -> Row<()> {
+        match growth {
+            Growth::Push => ("MutableUtf8Array::push", self.push(Some(TEXT))),
+            Growth::PushNull => ("MutableUtf8Array::push_null", self.push_null()),
+            Growth::ExtendFromArray => (
+                "MutableUtf8Array::extend_from_array",
+                self.extend_from_array(other, 0, other.len()),
+            ),
+            Growth::Reserve => ("MutableUtf8Array::reserve", self.reserve(90, 90)),
+            Growth::Pop => ("MutableUtf8Array::pop", self.pop().map(drop)),
+        }
+    }
+
+    fn count(&self) -> usize {
+        self.len()
+    }
+}
+
+impl Grows<BinaryArray<i32>> for MutableBinaryArray<i32> {
+    fn grow(&mut self, growth: Growth, other: &BinaryArray<i32>) -> Row<()> {
+        match growth {
+            Growth::Push => ("MutableBinaryArray::push", self.push(Some(TEXT.as_bytes()))),
+            Growth::PushNull => ("MutableBinaryArray::push_null", self.push_null()),
+            Growth::ExtendFromArray => (
+                "MutableBinaryArray::extend_from_array",
+                self.extend_from_array(other, 0, other.len()),
+            ),
+            Growth::Reserve => ("MutableBinaryArray::reserve", self.reserve(90, 90)),
+            Growth::Pop => ("MutableBinaryArray::pop", self.pop().map(drop)),
+        }
+    }
+
+    fn count(&self) -> usize {
+        self.len()
+    }
+}
+
+/// Shows how many items an array has then. Where memory was refused, it has as many as before, and is changed once more.
+fn grown<R: Print + Eprint, A, B: Grows<A>>(rt: &R, growth: Growth, array: &mut B, other: &A) {
+    let before = array.count();
+    let (call, made) = array.grow(growth, other);
+    if refused(rt, call, &made) {
+        if array.count() != before {
+            show(rt, "changed though refused", &array.count());
+        }
+        let (_, again) = array.grow(growth, other);
+        show(rt, call, &again);
+    } else {
+        show(rt, call, &made);
+    }
+    show(rt, call, &array.count());
+}
+
+/// The array of texts that is changed: without items, or where one is taken off with those of another.
+fn texts_to(
+    alloc: Global,
+    growth: Growth,
+    other: &Utf8Array<i32>,
+) -> Result<MutableUtf8Array<i32>> {
+    let array = MutableUtf8Array::new(alloc);
+    let mut array = array.or(MutableUtf8Array::new(alloc))?;
+    if matches!(growth, Growth::Pop) {
+        let extended = array.extend_from_array(other, 0, other.len());
+        if extended.is_err() {
+            array.extend_from_array(other, 0, other.len())?;
+        }
+    }
+    Ok(array)
+}
+
+/// The array of byte strings that is changed.
+fn strings_to(
+    alloc: Global,
+    growth: Growth,
+    other: &BinaryArray<i32>,
+) -> Result<MutableBinaryArray<i32>> {
+    let array = MutableBinaryArray::new(alloc);
+    let mut array = array.or(MutableBinaryArray::new(alloc))?;
+    if matches!(growth, Growth::Pop) {
+        let extended = array.extend_from_array(other, 0, other.len());
+        if extended.is_err() {
+            array.extend_from_array(other, 0, other.len())?;
+        }
+    }
+    Ok(array)
+}
+
+/// Makes each of these calls.
+pub(crate) fn all<R: Print + Eprint>(rt: &R, alloc: Global) -> Result<()> {
+    made(rt, &given_texts(alloc), &given_texts(alloc));
+    made(rt, &given_strings(alloc), &given_strings(alloc));
+    made(rt, &growing(alloc), &growing(alloc));
+    let texts = texts(alloc).or(texts(alloc))?;
+    let strings = strings(alloc).or(strings(alloc))?;
+    for growth in [
+        Growth::Push,
+        Growth::PushNull,
+        Growth::ExtendFromArray,
+        Growth::Reserve,
+        Growth::Pop,
+    ] {
+        grown(rt, growth, &mut texts_to(alloc, growth, &texts)?, &texts);
+        grown(
+            rt,
+            growth,
+            &mut strings_to(alloc, growth, &strings)?,
+            &strings,
+        );
+    }
+    Ok(())
+}

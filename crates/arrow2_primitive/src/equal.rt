@@ -1,0 +1,58 @@
+//! Equality of arrays.
+ghost use Rattle.std.specs.Prelude.{◌≡◌, ◌↔◌, ◌&&◌, IsTrue, length};
+ghost use Rattle.std.specs.Bool.{Decides};
+ghost use Rattle.std.specs.Cmp.{and_per, on_per};
+ghost use Rattle.std.specs.Cmp.Lexicographic.{pointwise, lists_per};
+ghost use Rattle.std.specs.Option.{option_eq};
+ghost use Rattle.arrow2_datatypes.specs.contracts.DataTypePartialEq.TheImpl.Laws.{laws-law as types_per};
+ghost use Rattle.arrow2_validity.proofs.Alike.{options_per};
+ghost use Rattle.arrow2_primitive.specs.Primitive.{primitive_items};
+
+use crate::array::PrimitiveArray;
+use crate::iterator::PrimitiveIter;
+use arrow2_datatypes::DataType;
+use arrow2_types::native::NativeType;
+use std::cmp::PartialEq;
+
+/// Equality of the logical types and of the items: nulls are equal, whatever values stand under them.
+impl<T: NativeType> PartialEq for PrimitiveArray<T> {
+    ghost eq = { λ a b. ⟦<DataType as PartialEq>⟧.eq a.data_type b.data_type
+        && pointwise (option_eq T.eq) (primitive_items a) (primitive_items b) };
+
+    ghost laws = { and_per (on_per (λ a. a.data_type) types_per)
+        (on_per primitive_items (lists_per (options_per T.laws))) };
+
+    /// Where the values' own equality is equality, this is equality of the lists of items, beside that of the logical types.
+    fn eq(&self, other: &PrimitiveArray<T>) -> bool
+        ensures items { result ≡ (⟦<DataType as PartialEq>⟧.eq self.now.data_type other.now.data_type
+            && pointwise (option_eq T.eq) (primitive_items self.now) (primitive_items other.now)) }
+        ensures same { ((x y : T) → Decides (T.eq x y) (x ≡ y)) → IsTrue result
+            ↔ (IsTrue (⟦<DataType as PartialEq>⟧.eq self.now.data_type other.now.data_type)
+            × (primitive_items self.now ≡ primitive_items other.now)) }
+    {
+        self.data_type() == other.data_type() && same_items(self, other)
+    }
+}
+
+/// Returns whether two arrays have the same items: by the values alone where none is null.
+fn same_items<T: NativeType>(array: &PrimitiveArray<T>, other: &PrimitiveArray<T>) -> bool
+    ensures { result ≡ pointwise (option_eq T.eq) (primitive_items array.now) (primitive_items other.now) }
+{
+    if array.null_count() == 0 && other.null_count() == 0 {
+        return array.values() == other.values();
+    }
+    array.len() == other.len() && same_each(array.iter(), other.iter())
+}
+
+/// Returns whether two iterators of as many items yield the same.
+fn same_each<T: NativeType>(items: PrimitiveIter<'_, T>, others: PrimitiveIter<'_, T>) -> bool
+    requires same_length { length items ≡ length others }
+    ensures { result ≡ pointwise (option_eq T.eq) items.entry others.entry }
+{
+    for (item, other) in items.zip(others) {
+        if item != other {
+            return false;
+        }
+    }
+    true
+}

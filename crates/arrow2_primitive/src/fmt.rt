@@ -1,0 +1,54 @@
+//! The text of an array.
+ghost use Rattle.std.specs.Fmt.{DisplaysOnOk, ◌++?◌, debug_list};
+ghost use Rattle.arrow2_validity.specs.ItemTexts.{item_output};
+ghost use Rattle.arrow2_primitive.specs.Primitive.{primitive_items};
+
+use crate::array::PrimitiveArray;
+use arrow2_datatypes::DataType;
+use arrow2_types::native::NativeType;
+use arrow2_validity::fmt::write_separator;
+use std::fmt;
+use std::fmt::Debug;
+
+/// The logical type, and behind it the items in brackets, `None` where one is null. The formatter's options change nothing.
+///
+/// Differs from arrow2, which prints dates, times, durations and decimals by their logical type, where this prints the
+/// numbers that they are stored as.
+impl<T: NativeType> fmt::Debug for PrimitiveArray<T> {
+    ghost debug_output = { λ a. ⟦<DataType as Debug>⟧.debug_output a.data_type
+        ++? debug_list (item_output T.debug_output) (primitive_items a) };
+
+    fn fmt<W: fmt::Write>(&self, f: &mut fmt::Formatter<W>) -> fmt::Result {
+        write!(f, "{:?}", self.data_type())?;
+        write_items(self, f)
+    }
+}
+
+/// Writes the items in brackets, with a comma between.
+fn write_items<T: NativeType, W: fmt::Write>(
+    array: &PrimitiveArray<T>,
+    f: &mut fmt::Formatter<W>,
+) -> fmt::Result
+    ensures { DisplaysOnOk W.write_str_gives f.old result
+        (debug_list (item_output T.debug_output) (primitive_items array.now)) f.new }
+{
+    f.write_str("[")?;
+    for place in 0..array.len() {
+        write_separator(place, f)?;
+        write_item(array.get(place), f)?;
+    }
+    f.write_str("]")
+}
+
+/// Writes the value of an item, or `None` where it is null.
+fn write_item<T: NativeType, W: fmt::Write>(
+    item: Option<T>,
+    f: &mut fmt::Formatter<W>,
+) -> fmt::Result
+    ensures { DisplaysOnOk W.write_str_gives f.old result (item_output T.debug_output item) f.new }
+{
+    match item {
+        Some(value) => write!(f, "{value:?}"),
+        None => f.write_str("None"),
+    }
+}

@@ -1,0 +1,12 @@
+//! What the texts of arrays share.
+ghost use Rattle.std.specs.Fmt.{WritesOnOk};
+ghost use Rattle.arrow2_validity.specs.ItemTexts.{separator};
+
+use std::fmt;
+
+/// Writes what stands before the item at a place: a comma, and before the first nothing.
+pub fn write_separator<W: fmt::Write>(place: usize, f: &mut fmt::Formatter<W>) -> fmt::Result
+    ensures { WritesOnOk W.write_str_gives f.old result (separator place) f.new }
+{
+    f.write_str(if place > 0 { ", " } else { "" })
+}
