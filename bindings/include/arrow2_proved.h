@@ -2,14 +2,15 @@
  * this header is written by hand.
  *
  * Rules for every call:
- * - A slice is a pointer and then how many items it has. No pointer is null, not even one to no item.
+ * - A slice is a pointer and then how many items it has. A pointer to no item may be null; no other may.
  * - What a call reads it may share with others. What it writes is the caller's alone while the call runs: no two of the
  *   slices and single values overlap where one of them is written.
  * - Bit i of bytes is bit i % 8 of byte i / 8, the lowest first. Offsets and lengths of bits are in bits, and may be
  *   any numbers; those of other slices are in items.
  * - `out` of a call that writes bits has (length + 7) / 8 bytes, no more and no fewer. The bits are written from bit 0
  *   on, and spare bits become 0.
- * - The answer is one of the codes below. Where it is not ARROW2_OK, nothing was written.
+ * - The result is one of the codes below. Where it is not ARROW2_OK, nothing was written but, by a check, the index
+ *   or slot of what it refuses.
  * - Nothing is kept between calls, no call asks for memory, and calls may run on several threads at once.
  */
 #ifndef ARROW2_PROVED_H
@@ -25,6 +26,11 @@
 extern "C" {
 #endif
 
+/* The version of the header and of the library. */
+#define ARROW2_PROVED_VERSION_MAJOR 0
+#define ARROW2_PROVED_VERSION_MINOR 1
+#define ARROW2_PROVED_VERSION_PATCH 0
+
 /* The call did what it says. */
 #define ARROW2_OK 0u
 /* A place or a range is not inside, or a table has bits past its last answer. */
@@ -39,6 +45,14 @@ extern "C" {
 #define ARROW2_SPEC_EMPTY 5u
 #define ARROW2_SPEC_NEGATIVE 6u
 #define ARROW2_SPEC_FALLING 7u
+/* The number of nulls is not the declared one. */
+#define ARROW2_NULLS 8u
+/* An offset is past what the offsets cut. */
+#define ARROW2_PAST 9u
+/* The bytes of a slot are not UTF-8. */
+#define ARROW2_UTF8 10u
+/* An index is negative, or not below the number of items that it points into. */
+#define ARROW2_INDEX 11u
 
 /* ---- Bits */
 
@@ -106,8 +120,8 @@ uint32_t arrow2_quaternary_assign_table(uint8_t *bytes, size_t bytes_count, cons
  *
  * Values beside their validity: an item is null where its validity bit is not set. Of both sides `length` items are
  * read. `values` and `validity` get the answer, each as `out` above. A value is the operator's answer for the two
- * values, also where the result is null.
- * ARROW2_RANGE: bits of any of the four are not inside. Else ARROW2_LENGTH: `values` or `validity` has another length. */
+ * values, also where the result is null. ARROW2_RANGE: bits of any of the four are not inside. Else ARROW2_LENGTH:
+ * `values` or `validity` has another length. */
 
 /* Whether both are true: false where one of them is false, and null where that is not known. */
 uint32_t arrow2_and_kleene(const uint8_t *left, size_t left_count, size_t left_offset, const uint8_t *left_validity,
@@ -122,6 +136,23 @@ uint32_t arrow2_or_kleene(const uint8_t *left, size_t left_count, size_t left_of
                           size_t right_count, size_t right_offset, const uint8_t *right_validity,
                           size_t right_validity_count, size_t right_validity_offset, size_t length, uint8_t *values,
                           size_t values_count, uint8_t *validity, size_t validity_count);
+
+/* The same where a side may have no validity: with `left_all_valid` no item of the left side is null, and of
+ * `left_validity` nothing is read; so of the right side. */
+uint32_t arrow2_and_kleene_optional(const uint8_t *left, size_t left_count, size_t left_offset,
+                                    const uint8_t *left_validity, size_t left_validity_count,
+                                    size_t left_validity_offset, bool left_all_valid, const uint8_t *right,
+                                    size_t right_count, size_t right_offset, const uint8_t *right_validity,
+                                    size_t right_validity_count, size_t right_validity_offset, bool right_all_valid,
+                                    size_t length, uint8_t *values, size_t values_count, uint8_t *validity,
+                                    size_t validity_count);
+uint32_t arrow2_or_kleene_optional(const uint8_t *left, size_t left_count, size_t left_offset,
+                                   const uint8_t *left_validity, size_t left_validity_count,
+                                   size_t left_validity_offset, bool left_all_valid, const uint8_t *right,
+                                   size_t right_count, size_t right_offset, const uint8_t *right_validity,
+                                   size_t right_validity_count, size_t right_validity_offset, bool right_all_valid,
+                                   size_t length, uint8_t *values, size_t values_count, uint8_t *validity,
+                                   size_t validity_count);
 
 /* ---- Booleans, one byte each, 0 or 1 */
 
@@ -183,6 +214,63 @@ uint32_t arrow2_offsets64_from_zero(const int64_t *offsets, size_t offsets_count
  * Else, where they are narrowed, ARROW2_OVERFLOW: the last one is above 2147483647. */
 uint32_t arrow2_offsets_widen(const int32_t *offsets, size_t offsets_count, int64_t *out, size_t out_count);
 uint32_t arrow2_offsets_narrow(const int64_t *offsets, size_t offsets_count, int32_t *out, size_t out_count);
+
+/* ---- Checks of arrays that somebody else made
+ *
+ * Each returns ARROW2_OK exactly where all that it says holds, and else the first rule that is broken, in the order in
+ * which its codes are named. `index` and `slot` are written with the codes that say so, and with no other. */
+
+/* Whether the `length` bits from bit `offset` on are inside, and `null_count` of them not set; -1 says nothing.
+ * ARROW2_RANGE: they are not inside. ARROW2_NULLS: `null_count` is neither -1 nor their number. */
+uint32_t arrow2_validity_check(const uint8_t *bytes, size_t bytes_count, size_t offset, size_t length,
+                               int64_t null_count);
+
+/* Whether `bytes` bytes have `length` bits from bit `offset` on, or `length` values of `width` bytes from value
+ * `offset` on. ARROW2_RANGE: they have not. */
+uint32_t arrow2_bits_check(size_t bytes, size_t offset, size_t length);
+uint32_t arrow2_values_check(size_t bytes, size_t width, size_t offset, size_t length);
+
+/* Whether the numbers are offsets, and none is past `items` items. ARROW2_SPEC_EMPTY, ARROW2_SPEC_NEGATIVE,
+ * ARROW2_SPEC_FALLING: they are no offsets. ARROW2_PAST: the last one is above `items`. With ARROW2_SPEC_FALLING and
+ * ARROW2_PAST `index` is that of the first number that is below the one before it, or above `items`. */
+uint32_t arrow2_offsets32_check_inside(const int32_t *offsets, size_t offsets_count, size_t items, size_t *index);
+uint32_t arrow2_offsets64_check_inside(const int64_t *offsets, size_t offsets_count, size_t items, size_t *index);
+
+/* Whether the numbers are offsets, none is past the values, and the values of each slot, from its offset to the next,
+ * are UTF-8. Codes and `index` as above, with as many items as values. ARROW2_UTF8: a slot is not UTF-8; `index` is
+ * the first such slot. */
+uint32_t arrow2_texts32_check(const int32_t *offsets, size_t offsets_count, const uint8_t *values, size_t values_count,
+                              size_t *index);
+uint32_t arrow2_texts64_check(const int64_t *offsets, size_t offsets_count, const uint8_t *values, size_t values_count,
+                              size_t *index);
+
+/* Whether each index is at least 0 and below `items`, or null by its bit of the validity. With `all_valid` none is
+ * null, and of the validity nothing is read. ARROW2_RANGE: the validity has no bit for each. ARROW2_INDEX: an index is
+ * neither; `slot` is the first such. */
+uint32_t arrow2_indices_i8_check(const int8_t *indices, size_t indices_count, const uint8_t *validity,
+                                 size_t validity_count, size_t validity_offset, bool all_valid, size_t items,
+                                 size_t *slot);
+uint32_t arrow2_indices_u8_check(const uint8_t *indices, size_t indices_count, const uint8_t *validity,
+                                 size_t validity_count, size_t validity_offset, bool all_valid, size_t items,
+                                 size_t *slot);
+uint32_t arrow2_indices_i16_check(const int16_t *indices, size_t indices_count, const uint8_t *validity,
+                                  size_t validity_count, size_t validity_offset, bool all_valid, size_t items,
+                                  size_t *slot);
+uint32_t arrow2_indices_u16_check(const uint16_t *indices, size_t indices_count, const uint8_t *validity,
+                                  size_t validity_count, size_t validity_offset, bool all_valid, size_t items,
+                                  size_t *slot);
+uint32_t arrow2_indices_i32_check(const int32_t *indices, size_t indices_count, const uint8_t *validity,
+                                  size_t validity_count, size_t validity_offset, bool all_valid, size_t items,
+                                  size_t *slot);
+uint32_t arrow2_indices_u32_check(const uint32_t *indices, size_t indices_count, const uint8_t *validity,
+                                  size_t validity_count, size_t validity_offset, bool all_valid, size_t items,
+                                  size_t *slot);
+uint32_t arrow2_indices_i64_check(const int64_t *indices, size_t indices_count, const uint8_t *validity,
+                                  size_t validity_count, size_t validity_offset, bool all_valid, size_t items,
+                                  size_t *slot);
+uint32_t arrow2_indices_u64_check(const uint64_t *indices, size_t indices_count, const uint8_t *validity,
+                                  size_t validity_count, size_t validity_offset, bool all_valid, size_t items,
+                                  size_t *slot);
 
 #ifdef __cplusplus
 }

@@ -68,3 +68,81 @@ operator!(
     or_kleene,
     arrow2_or_kleene
 );
+
+/// Values beside their validity, which may be missing: then no item is null.
+#[derive(Clone, Copy, Debug)]
+pub struct OptionalNullable<'a> {
+    /// The values.
+    pub values: Bits<'a>,
+    /// Which of them are not null.
+    pub validity: Option<Bits<'a>>,
+}
+
+/// The calls of both operators where a validity may be missing.
+macro_rules! optional_operator {
+    ($(#[$doc:meta])* $name:ident, $with_both:ident, $export:ident) => {
+        $(#[$doc])*
+        ///
+        /// # Errors
+        ///
+        /// [`Refusal::Range`] exactly where bits of any that are there are not inside, else [`Refusal::Length`] exactly
+        /// where `values` or `validity` has not [`crate::bytes_for`] that many bytes.
+        #[inline]
+        pub fn $name(
+            left: OptionalNullable<'_>,
+            right: OptionalNullable<'_>,
+            length: usize,
+            values: &mut [u8],
+            validity: &mut [u8],
+        ) -> Result<(), Refusal> {
+            if let (Some(left_validity), Some(right_validity)) = (left.validity, right.validity) {
+                // The call for that is faster.
+                let left = Nullable { values: left.values, validity: left_validity };
+                let right = Nullable { values: right.values, validity: right_validity };
+                return $with_both(left, right, length, values, validity);
+            }
+            let none = Bits { bytes: &[], offset: 0 };
+            let left_validity = left.validity.unwrap_or(none);
+            let right_validity = right.validity.unwrap_or(none);
+            // SAFETY: the slices are borrowed for the call, the last two alone, and it keeps none.
+            told(unsafe {
+                sys::$export(
+                    left.values.bytes.as_ptr(),
+                    left.values.bytes.len(),
+                    left.values.offset,
+                    left_validity.bytes.as_ptr(),
+                    left_validity.bytes.len(),
+                    left_validity.offset,
+                    left.validity.is_none(),
+                    right.values.bytes.as_ptr(),
+                    right.values.bytes.len(),
+                    right.values.offset,
+                    right_validity.bytes.as_ptr(),
+                    right_validity.bytes.len(),
+                    right_validity.offset,
+                    right.validity.is_none(),
+                    length,
+                    values.as_mut_ptr(),
+                    values.len(),
+                    validity.as_mut_ptr(),
+                    validity.len(),
+                )
+            })
+        }
+    };
+}
+
+optional_operator!(
+    /// Writes, item by item, whether both are true, as [`and_kleene`] does, where either side may have no validity.
+    and_kleene_optional,
+    and_kleene,
+    arrow2_and_kleene_optional
+);
+
+optional_operator!(
+    /// Writes, item by item, whether one is true, or both, as [`or_kleene`] does, where either side may have no
+    /// validity.
+    or_kleene_optional,
+    or_kleene,
+    arrow2_or_kleene_optional
+);

@@ -20,8 +20,14 @@
 #![no_std]
 #![deny(missing_docs)]
 
+#[cfg(feature = "c-data")]
+extern crate alloc;
+
 mod bits;
 mod booleans;
+#[cfg(feature = "c-data")]
+pub mod c_data;
+mod checks;
 mod kleene;
 mod offsets;
 mod places;
@@ -32,10 +38,11 @@ mod tables;
 
 pub use bits::{copy_bits, count_zeros, equal_bits, get_bit, set_bit};
 pub use booleans::{pack, unpack};
-pub use kleene::{Nullable, and_kleene, or_kleene};
+pub use checks::{Index, check_bits, check_validity, check_values};
+pub use kleene::{Nullable, OptionalNullable, and_kleene, and_kleene_optional, or_kleene, or_kleene_optional};
 pub use offsets::{Offset, narrow, widen};
 pub use places::set_places;
-pub use refusal::Refusal;
+pub use refusal::{Refusal, RefusalAt};
 pub use runs::runs;
 pub use tables::{
     AND, NOT, OR, XOR, binary_assign_table, binary_table, quaternary_assign_table, quaternary_table,
@@ -51,7 +58,7 @@ pub struct Bits<'a> {
     pub offset: usize,
 }
 
-/// How many bytes hold so many bits: an eighth, rounded up.
+/// Returns the number of bytes that hold this number of bits: an eighth, rounded up.
 #[must_use]
 pub const fn bytes_for(bits: usize) -> usize {
     bits.div_ceil(8)

@@ -1,6 +1,6 @@
 //! Offsets of 32 and of 64 bits.
 
-use crate::refusal::{Refusal, told};
+use crate::refusal::{Refusal, RefusalAt, told, told_at};
 use crate::sys;
 
 mod sealed {
@@ -44,11 +44,28 @@ pub trait Offset: sealed::Sealed + Copy {
     /// The first rule that the numbers break, else [`Refusal::Length`] exactly where `out` has no item, else
     /// [`Refusal::Range`] exactly where they are not inside.
     fn from_zero(offsets: &[Self], from: usize, out: &mut [Self]) -> Result<(), Refusal>;
+
+    /// Whether the numbers are offsets, and none is past `items` items.
+    ///
+    /// # Errors
+    ///
+    /// The first rule that the numbers break, else [`Refusal::PastOffset`] exactly where the last one is above `items`.
+    /// [`Refusal::FallingOffsets`] and [`Refusal::PastOffset`] come with the index of the first number that is below the
+    /// one before it, or above `items`.
+    fn check_inside(offsets: &[Self], items: usize) -> Result<(), RefusalAt>;
+
+    /// Whether the numbers are offsets, none is past the values, and the values of each slot are UTF-8.
+    ///
+    /// # Errors
+    ///
+    /// As [`Offset::check_inside`] with as many items as values, else [`Refusal::NotUtf8`] with the first slot that is
+    /// not UTF-8, exactly where there is one.
+    fn check_texts(offsets: &[Self], values: &[u8]) -> Result<(), RefusalAt>;
 }
 
 /// The calls of one width.
 macro_rules! offset {
-    ($width:ty, $check:ident, $lengths:ident, $from_lengths:ident, $from_zero:ident) => {
+    ($width:ty, $check:ident, $lengths:ident, $from_lengths:ident, $from_zero:ident, $inside:ident, $texts:ident) => {
         // SAFETY, of each call: each slice is borrowed for the call, what is written alone, and no call keeps one.
         impl Offset for $width {
             #[inline]
@@ -70,6 +87,21 @@ macro_rules! offset {
             fn from_zero(offsets: &[Self], from: usize, out: &mut [Self]) -> Result<(), Refusal> {
                 told(unsafe { sys::$from_zero(offsets.as_ptr(), offsets.len(), from, out.as_mut_ptr(), out.len()) })
             }
+
+            #[inline]
+            fn check_inside(offsets: &[Self], items: usize) -> Result<(), RefusalAt> {
+                let mut index = 0;
+                let code = unsafe { sys::$inside(offsets.as_ptr(), offsets.len(), items, &mut index) };
+                told_at(code, index)
+            }
+
+            #[inline]
+            fn check_texts(offsets: &[Self], values: &[u8]) -> Result<(), RefusalAt> {
+                let mut index = 0;
+                let code =
+                    unsafe { sys::$texts(offsets.as_ptr(), offsets.len(), values.as_ptr(), values.len(), &mut index) };
+                told_at(code, index)
+            }
         }
     };
 }
@@ -79,14 +111,18 @@ offset!(
     arrow2_offsets32_check,
     arrow2_offsets32_lengths,
     arrow2_offsets32_from_lengths,
-    arrow2_offsets32_from_zero
+    arrow2_offsets32_from_zero,
+    arrow2_offsets32_check_inside,
+    arrow2_texts32_check
 );
 offset!(
     i64,
     arrow2_offsets64_check,
     arrow2_offsets64_lengths,
     arrow2_offsets64_from_lengths,
-    arrow2_offsets64_from_zero
+    arrow2_offsets64_from_zero,
+    arrow2_offsets64_check_inside,
+    arrow2_texts64_check
 );
 
 /// Writes the same offsets, in 64 bits each.

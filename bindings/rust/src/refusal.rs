@@ -20,7 +20,32 @@ pub enum Refusal {
     NegativeOffset,
     /// What should be offsets has a number that is below the one before it.
     FallingOffsets,
+    /// The number of nulls is not the declared one.
+    Nulls,
+    /// An offset is past what the offsets cut.
+    PastOffset,
+    /// The bytes of a slot are not UTF-8.
+    NotUtf8,
+    /// An index is negative, or not below the number of items that it points into.
+    Index,
 }
+
+/// Why a check refused, and where.
+#[derive(Clone, Copy, Debug, PartialEq, Eq)]
+pub struct RefusalAt {
+    /// Why.
+    pub refusal: Refusal,
+    /// The index of the offset, or the slot; 0 where the refusal has none.
+    pub at: usize,
+}
+
+impl fmt::Display for RefusalAt {
+    fn fmt(&self, f: &mut fmt::Formatter<'_>) -> fmt::Result {
+        write!(f, "{} at {}", self.refusal, self.at)
+    }
+}
+
+impl core::error::Error for RefusalAt {}
 
 impl fmt::Display for Refusal {
     fn fmt(&self, f: &mut fmt::Formatter<'_>) -> fmt::Result {
@@ -32,6 +57,10 @@ impl fmt::Display for Refusal {
             Refusal::NoOffset => "offsets must have at least one element",
             Refusal::NegativeOffset => "offsets must be larger than 0",
             Refusal::FallingOffsets => "offsets must be monotonically increasing",
+            Refusal::Nulls => "the nulls are not as many as declared",
+            Refusal::PastOffset => "an offset is past what it cuts",
+            Refusal::NotUtf8 => "a text is not UTF-8",
+            Refusal::Index => "an index is past its dictionary",
         })
     }
 }
@@ -54,7 +83,17 @@ fn refusal(code: u32) -> Refusal {
         sys::ARROW2_SPEC_EMPTY => Refusal::NoOffset,
         sys::ARROW2_SPEC_NEGATIVE => Refusal::NegativeOffset,
         sys::ARROW2_SPEC_FALLING => Refusal::FallingOffsets,
+        sys::ARROW2_NULLS => Refusal::Nulls,
+        sys::ARROW2_PAST => Refusal::PastOffset,
+        sys::ARROW2_UTF8 => Refusal::NotUtf8,
+        sys::ARROW2_INDEX => Refusal::Index,
         // `ARROW2_RANGE`: the library has no other codes.
         _ => Refusal::Range,
     }
+}
+
+/// The same of a check, which writes where.
+#[inline]
+pub(crate) fn told_at(code: u32, at: usize) -> Result<(), RefusalAt> {
+    told(code).map_err(|refusal| RefusalAt { refusal, at })
 }

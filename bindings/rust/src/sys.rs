@@ -7,6 +7,10 @@ pub const ARROW2_MEMORY: u32 = 4;
 pub const ARROW2_SPEC_EMPTY: u32 = 5;
 pub const ARROW2_SPEC_NEGATIVE: u32 = 6;
 pub const ARROW2_SPEC_FALLING: u32 = 7;
+pub const ARROW2_NULLS: u32 = 8;
+pub const ARROW2_PAST: u32 = 9;
+pub const ARROW2_UTF8: u32 = 10;
+pub const ARROW2_INDEX: u32 = 11;
 
 unsafe extern "C" {
     pub fn arrow2_count_zeros(bytes: *const u8, count: usize, offset: usize, length: usize, zeros: *mut usize) -> u32;
@@ -216,5 +220,146 @@ unsafe extern "C" {
         values_count: usize,
         validity: *mut u8,
         validity_count: usize,
+    ) -> u32;
+    pub fn arrow2_and_kleene_optional(
+        left: *const u8,
+        left_count: usize,
+        left_offset: usize,
+        left_validity: *const u8,
+        left_validity_count: usize,
+        left_validity_offset: usize,
+        left_all_valid: bool,
+        right: *const u8,
+        right_count: usize,
+        right_offset: usize,
+        right_validity: *const u8,
+        right_validity_count: usize,
+        right_validity_offset: usize,
+        right_all_valid: bool,
+        length: usize,
+        values: *mut u8,
+        values_count: usize,
+        validity: *mut u8,
+        validity_count: usize,
+    ) -> u32;
+    pub fn arrow2_or_kleene_optional(
+        left: *const u8,
+        left_count: usize,
+        left_offset: usize,
+        left_validity: *const u8,
+        left_validity_count: usize,
+        left_validity_offset: usize,
+        left_all_valid: bool,
+        right: *const u8,
+        right_count: usize,
+        right_offset: usize,
+        right_validity: *const u8,
+        right_validity_count: usize,
+        right_validity_offset: usize,
+        right_all_valid: bool,
+        length: usize,
+        values: *mut u8,
+        values_count: usize,
+        validity: *mut u8,
+        validity_count: usize,
+    ) -> u32;
+    pub fn arrow2_validity_check(bytes: *const u8, count: usize, offset: usize, length: usize, null_count: i64) -> u32;
+    pub fn arrow2_bits_check(bytes: usize, offset: usize, length: usize) -> u32;
+    pub fn arrow2_values_check(bytes: usize, width: usize, offset: usize, length: usize) -> u32;
+    pub fn arrow2_offsets32_check_inside(offsets: *const i32, count: usize, items: usize, index: *mut usize) -> u32;
+    pub fn arrow2_offsets64_check_inside(offsets: *const i64, count: usize, items: usize, index: *mut usize) -> u32;
+    pub fn arrow2_texts32_check(
+        offsets: *const i32,
+        count: usize,
+        values: *const u8,
+        values_count: usize,
+        index: *mut usize,
+    ) -> u32;
+    pub fn arrow2_texts64_check(
+        offsets: *const i64,
+        count: usize,
+        values: *const u8,
+        values_count: usize,
+        index: *mut usize,
+    ) -> u32;
+    pub fn arrow2_indices_i8_check(
+        indices: *const i8,
+        count: usize,
+        validity: *const u8,
+        validity_count: usize,
+        validity_offset: usize,
+        all_valid: bool,
+        items: usize,
+        slot: *mut usize,
+    ) -> u32;
+    pub fn arrow2_indices_u8_check(
+        indices: *const u8,
+        count: usize,
+        validity: *const u8,
+        validity_count: usize,
+        validity_offset: usize,
+        all_valid: bool,
+        items: usize,
+        slot: *mut usize,
+    ) -> u32;
+    pub fn arrow2_indices_i16_check(
+        indices: *const i16,
+        count: usize,
+        validity: *const u8,
+        validity_count: usize,
+        validity_offset: usize,
+        all_valid: bool,
+        items: usize,
+        slot: *mut usize,
+    ) -> u32;
+    pub fn arrow2_indices_u16_check(
+        indices: *const u16,
+        count: usize,
+        validity: *const u8,
+        validity_count: usize,
+        validity_offset: usize,
+        all_valid: bool,
+        items: usize,
+        slot: *mut usize,
+    ) -> u32;
+    pub fn arrow2_indices_i32_check(
+        indices: *const i32,
+        count: usize,
+        validity: *const u8,
+        validity_count: usize,
+        validity_offset: usize,
+        all_valid: bool,
+        items: usize,
+        slot: *mut usize,
+    ) -> u32;
+    pub fn arrow2_indices_u32_check(
+        indices: *const u32,
+        count: usize,
+        validity: *const u8,
+        validity_count: usize,
+        validity_offset: usize,
+        all_valid: bool,
+        items: usize,
+        slot: *mut usize,
+    ) -> u32;
+    pub fn arrow2_indices_i64_check(
+        indices: *const i64,
+        count: usize,
+        validity: *const u8,
+        validity_count: usize,
+        validity_offset: usize,
+        all_valid: bool,
+        items: usize,
+        slot: *mut usize,
+    ) -> u32;
+    pub fn arrow2_indices_u64_check(
+        indices: *const u64,
+        count: usize,
+        validity: *const u8,
+        validity_count: usize,
+        validity_offset: usize,
+        all_valid: bool,
+        items: usize,
+        slot: *mut usize,
     ) -> u32;
 }

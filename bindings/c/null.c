@@ -1,0 +1,153 @@
+/* Calls each function of the library with a null pointer for each slice of no item, which arrow2_proved.h allows, and
+ * the forms of arrow2_c_data.h over bits with and without bytes. */
+#include "arrow2_c_data.h"
+
+#include <stdio.h>
+
+static int failed, passed;
+
+static void expect(const char *call, uint32_t code, uint32_t wanted) {
+    passed += code == wanted;
+    failed += code != wanted;
+    if (code != wanted) {
+        printf("FAILED: %s: code %u, and not %u\n", call, (unsigned)code, (unsigned)wanted);
+    }
+}
+
+#define EXPECT(code, call) expect(#call, call, code)
+
+static void bits(void) {
+    size_t zeros = 7, at = 0, count = 7;
+    bool flag = false;
+    EXPECT(ARROW2_OK, arrow2_count_zeros(NULL, 0, 0, 0, &zeros));
+    EXPECT(ARROW2_OK, arrow2_equal_bits(NULL, 0, 0, NULL, 0, 0, 0, &flag));
+    EXPECT(ARROW2_RANGE, arrow2_get_bit(NULL, 0, 0, &flag));
+    EXPECT(ARROW2_RANGE, arrow2_set_bit(NULL, 0, 0, true));
+    EXPECT(ARROW2_OK, arrow2_copy_bits(NULL, 0, 0, 0, NULL, 0));
+    EXPECT(ARROW2_RANGE, arrow2_copy_bits(NULL, 0, 1, 0, NULL, 0));
+    EXPECT(ARROW2_OK, arrow2_pack(NULL, 0, NULL, 0));
+    EXPECT(ARROW2_OK, arrow2_unpack(NULL, 0, 0, NULL, 0));
+    EXPECT(ARROW2_OK, arrow2_runs(NULL, 0, 0, 0, &at, NULL, 0, NULL, 0, &count));
+    EXPECT(ARROW2_OK, arrow2_set_places(NULL, 0, 0, 0, &at, NULL, 0, &count));
+    expect("what they wrote", zeros == 0 && flag && at == 0 && count == 0 ? ARROW2_OK : ARROW2_RANGE, ARROW2_OK);
+}
+
+static void tables(void) {
+    EXPECT(ARROW2_OK, arrow2_unary_table(NULL, 0, 0, 0, 1, NULL, 0));
+    EXPECT(ARROW2_OK, arrow2_binary_table(NULL, 0, 0, NULL, 0, 0, 0, 8, NULL, 0));
+    EXPECT(ARROW2_OK, arrow2_ternary_table(NULL, 0, 0, NULL, 0, 0, NULL, 0, 0, 0, 26, NULL, 0));
+    EXPECT(ARROW2_OK, arrow2_quaternary_table(NULL, 0, 0, NULL, 0, 0, NULL, 0, 0, NULL, 0, 0, 0, 77, NULL, 0));
+    EXPECT(ARROW2_OK, arrow2_unary_assign_table(NULL, 0, 0, 1));
+    EXPECT(ARROW2_OK, arrow2_binary_assign_table(NULL, 0, NULL, 0, 0, 0, 8));
+    EXPECT(ARROW2_OK, arrow2_ternary_assign_table(NULL, 0, NULL, 0, 0, NULL, 0, 0, 0, 26));
+    EXPECT(ARROW2_OK, arrow2_quaternary_assign_table(NULL, 0, NULL, 0, 0, NULL, 0, 0, NULL, 0, 0, 0, 77));
+    EXPECT(ARROW2_OK, arrow2_and_kleene(NULL, 0, 0, NULL, 0, 0, NULL, 0, 0, NULL, 0, 0, 0, NULL, 0, NULL, 0));
+    EXPECT(ARROW2_OK, arrow2_or_kleene(NULL, 0, 0, NULL, 0, 0, NULL, 0, 0, NULL, 0, 0, 0, NULL, 0, NULL, 0));
+    EXPECT(ARROW2_OK, arrow2_and_kleene_optional(NULL, 0, 0, NULL, 0, 0, true, NULL, 0, 0, NULL, 0, 0, false, 0, NULL,
+                                                 0, NULL, 0));
+    EXPECT(ARROW2_OK, arrow2_or_kleene_optional(NULL, 0, 0, NULL, 0, 0, false, NULL, 0, 0, NULL, 0, 0, true, 0, NULL,
+                                                0, NULL, 0));
+}
+
+static void offsets(void) {
+    const int32_t narrow[] = {0};
+    const int64_t wide[] = {0};
+    int32_t narrow_out[1] = {7};
+    int64_t wide_out[1] = {7};
+    size_t index = 7;
+    EXPECT(ARROW2_SPEC_EMPTY, arrow2_offsets32_check(NULL, 0));
+    EXPECT(ARROW2_SPEC_EMPTY, arrow2_offsets64_check(NULL, 0));
+    EXPECT(ARROW2_OK, arrow2_offsets32_lengths(narrow, 1, NULL, 0));
+    EXPECT(ARROW2_OK, arrow2_offsets64_lengths(wide, 1, NULL, 0));
+    EXPECT(ARROW2_SPEC_EMPTY, arrow2_offsets32_lengths(NULL, 0, NULL, 0));
+    EXPECT(ARROW2_SPEC_EMPTY, arrow2_offsets64_lengths(NULL, 0, NULL, 0));
+    EXPECT(ARROW2_OK, arrow2_offsets32_from_lengths(0, NULL, 0, narrow_out, 1));
+    EXPECT(ARROW2_OK, arrow2_offsets64_from_lengths(0, NULL, 0, wide_out, 1));
+    EXPECT(ARROW2_LENGTH, arrow2_offsets32_from_lengths(0, NULL, 0, NULL, 0));
+    EXPECT(ARROW2_LENGTH, arrow2_offsets64_from_lengths(0, NULL, 0, NULL, 0));
+    EXPECT(ARROW2_LENGTH, arrow2_offsets32_from_zero(narrow, 1, 0, NULL, 0));
+    EXPECT(ARROW2_LENGTH, arrow2_offsets64_from_zero(wide, 1, 0, NULL, 0));
+    EXPECT(ARROW2_SPEC_EMPTY, arrow2_offsets_widen(NULL, 0, NULL, 0));
+    EXPECT(ARROW2_SPEC_EMPTY, arrow2_offsets_narrow(NULL, 0, NULL, 0));
+    EXPECT(ARROW2_SPEC_EMPTY, arrow2_offsets32_check_inside(NULL, 0, 9, &index));
+    EXPECT(ARROW2_SPEC_EMPTY, arrow2_offsets64_check_inside(NULL, 0, 9, &index));
+    EXPECT(ARROW2_OK, arrow2_texts32_check(narrow, 1, NULL, 0, &index));
+    EXPECT(ARROW2_OK, arrow2_texts64_check(wide, 1, NULL, 0, &index));
+    EXPECT(ARROW2_SPEC_EMPTY, arrow2_texts32_check(NULL, 0, NULL, 0, &index));
+    EXPECT(ARROW2_SPEC_EMPTY, arrow2_texts64_check(NULL, 0, NULL, 0, &index));
+    bool right = narrow_out[0] == 0 && wide_out[0] == 0 && index == 7;
+    expect("what they wrote", right ? ARROW2_OK : ARROW2_RANGE, ARROW2_OK);
+}
+
+static void checks(void) {
+    size_t slot = 7;
+    const int8_t one[] = {1};
+    EXPECT(ARROW2_OK, arrow2_validity_check(NULL, 0, 0, 0, 0));
+    EXPECT(ARROW2_NULLS, arrow2_validity_check(NULL, 0, 0, 0, 1));
+    EXPECT(ARROW2_RANGE, arrow2_validity_check(NULL, 0, 0, 1, 0));
+    EXPECT(ARROW2_OK, arrow2_indices_i8_check(one, 1, NULL, 0, 0, true, 2, &slot));
+    EXPECT(ARROW2_RANGE, arrow2_indices_i8_check(one, 1, NULL, 0, 0, false, 2, &slot));
+    EXPECT(ARROW2_OK, arrow2_indices_i8_check(NULL, 0, NULL, 0, 0, false, 0, &slot));
+    EXPECT(ARROW2_OK, arrow2_indices_u8_check(NULL, 0, NULL, 0, 0, true, 0, &slot));
+    EXPECT(ARROW2_OK, arrow2_indices_i16_check(NULL, 0, NULL, 0, 0, true, 0, &slot));
+    EXPECT(ARROW2_OK, arrow2_indices_u16_check(NULL, 0, NULL, 0, 0, true, 0, &slot));
+    EXPECT(ARROW2_OK, arrow2_indices_i32_check(NULL, 0, NULL, 0, 0, true, 0, &slot));
+    EXPECT(ARROW2_OK, arrow2_indices_u32_check(NULL, 0, NULL, 0, 0, true, 0, &slot));
+    EXPECT(ARROW2_OK, arrow2_indices_i64_check(NULL, 0, NULL, 0, 0, true, 0, &slot));
+    EXPECT(ARROW2_OK, arrow2_indices_u64_check(NULL, 0, NULL, 0, 0, true, 0, &slot));
+    expect("what they wrote", slot == 7 ? ARROW2_OK : ARROW2_RANGE, ARROW2_OK);
+}
+
+/* Whether two bytes are these, after a call that returned OK. */
+static void expect_bytes(const char *call, uint32_t code, const uint8_t *bytes, uint8_t first, uint8_t second) {
+    expect(call, code, ARROW2_OK);
+    expect(call, bytes[0] == first && bytes[1] == second ? ARROW2_OK : ARROW2_RANGE, ARROW2_OK);
+}
+
+#define EXPECT_BYTES(first, second, call) expect_bytes(#call, call, out, first, second)
+
+static void forms(void) {
+    const uint8_t bytes[] = {0x6c, 0x03}, other_bytes[] = {0xc0, 0x0f};
+    struct arrow2_bits none = {NULL, 0, 0}, left = {bytes, 2, 1}, right = {other_bytes, 2, 3};
+    uint8_t out[2] = {0, 0};
+    size_t nulls = 7;
+    bool equal = false;
+    EXPECT(ARROW2_OK, arrow2_bits_null_count(left, 9, &nulls));
+    expect("the nulls", (uint32_t)nulls, 3);
+    EXPECT(ARROW2_OK, arrow2_bits_null_count(none, 9, &nulls));
+    expect("the nulls of no validity", (uint32_t)nulls, 0);
+    EXPECT(ARROW2_OK, arrow2_bits_equal(left, left, 9, &equal));
+    expect("equal", equal ? ARROW2_OK : ARROW2_RANGE, ARROW2_OK);
+    EXPECT_BYTES(0xb0, 0x01, arrow2_bits_and(left, right, 9, out, 2));
+    EXPECT_BYTES(0xfe, 0x01, arrow2_bits_or(left, right, 9, out, 2));
+    EXPECT_BYTES(0x4e, 0x00, arrow2_bits_xor(left, right, 9, out, 2));
+    EXPECT_BYTES(0x49, 0x00, arrow2_bits_not(left, 9, out, 2));
+    EXPECT(ARROW2_OK, arrow2_bits_and(none, none, 0, NULL, 0));
+    EXPECT(ARROW2_OK, arrow2_bits_not(none, 0, NULL, 0));
+}
+
+/* All nine pairs of false, true and null, where true stands under a null, with and without their validities. */
+static void kleene_forms(void) {
+    const uint8_t lefts[] = {0x6c, 0x03}, rights[] = {0xc0, 0x0f}, of_rights[] = {0xf0, 0x03};
+    struct arrow2_bits none = {NULL, 0, 0}, left = {lefts, 2, 1}, left_validity = {lefts, 2, 2};
+    struct arrow2_bits right = {rights, 2, 3}, right_validity = {of_rights, 2, 4};
+    uint8_t values[2], out[2];
+    EXPECT_BYTES(0x5f, 0x00, arrow2_bits_and_kleene(left, left_validity, right, right_validity, 9, values, out));
+    EXPECT_BYTES(0xbb, 0x00, arrow2_bits_or_kleene(left, left_validity, right, right_validity, 9, values, out));
+    EXPECT_BYTES(0xdf, 0x00, arrow2_bits_and_kleene(left, left_validity, right, none, 9, values, out));
+    EXPECT_BYTES(0xbf, 0x01, arrow2_bits_or_kleene(left, none, right, right_validity, 9, values, out));
+    EXPECT_BYTES(0xff, 0x01, arrow2_bits_and_kleene(left, none, right, none, 9, values, out));
+    EXPECT(ARROW2_OK, arrow2_bits_and_kleene(none, none, none, none, 0, NULL, NULL));
+    EXPECT(ARROW2_OK, arrow2_bits_or_kleene(none, none, none, none, 0, NULL, NULL));
+}
+
+int main(void) {
+    bits();
+    tables();
+    offsets();
+    checks();
+    forms();
+    kleene_forms();
+    printf("%d passed, %d failed\n", passed, failed);
+    return failed != 0;
+}

@@ -1,0 +1,898 @@
+/* The Arrow C data interface over the library: bits with fewer arguments, and checks of whole arrays. Header-only:
+ * every test of bits, offsets, texts and indices is a call of the library, whose result is proved (arrow2_proved.h);
+ * the way through the tree of an array is written by hand here (docs/BINDINGS.md).
+ *
+ * The interface does not say how many bytes a buffer has. `arrow2_array_check` trusts that buffers are as long as
+ * format, length, offset and last offset say; `arrow2_array_check_sized` is given the sizes, and trusts nothing but
+ * those. */
+#ifndef ARROW2_C_DATA_H
+#define ARROW2_C_DATA_H
+
+#include "arrow2_proved.h"
+
+#include <stdio.h>
+#include <string.h>
+
+#ifdef __cplusplus
+extern "C" {
+#endif
+
+/* ---- The interface, as its specification declares it */
+
+#ifndef ARROW_C_DATA_INTERFACE
+#define ARROW_C_DATA_INTERFACE
+
+#define ARROW_FLAG_DICTIONARY_ORDERED 1
+#define ARROW_FLAG_NULLABLE 2
+#define ARROW_FLAG_MAP_KEYS_SORTED 4
+
+struct ArrowSchema {
+    const char *format;
+    const char *name;
+    const char *metadata;
+    int64_t flags;
+    int64_t n_children;
+    struct ArrowSchema **children;
+    struct ArrowSchema *dictionary;
+    void (*release)(struct ArrowSchema *);
+    void *private_data;
+};
+
+struct ArrowArray {
+    int64_t length;
+    int64_t null_count;
+    int64_t offset;
+    int64_t n_buffers;
+    int64_t n_children;
+    const void **buffers;
+    struct ArrowArray **children;
+    struct ArrowArray *dictionary;
+    void (*release)(struct ArrowArray *);
+    void *private_data;
+};
+
+#endif
+
+#ifndef ARROW_C_STREAM_INTERFACE
+#define ARROW_C_STREAM_INTERFACE
+
+struct ArrowArrayStream {
+    int (*get_schema)(struct ArrowArrayStream *, struct ArrowSchema *out);
+    int (*get_next)(struct ArrowArrayStream *, struct ArrowArray *out);
+    const char *(*get_last_error)(struct ArrowArrayStream *);
+    void (*release)(struct ArrowArrayStream *);
+    void *private_data;
+};
+
+#endif
+
+/* ---- Bits: the bytes, how many they are, and the bit at which they begin.
+ *
+ * Where a validity is meant, null bytes say that nothing is null. Of `out`, `values` and `validity` see
+ * arrow2_proved.h; those without a count have (length + 7) / 8 bytes. */
+
+struct arrow2_bits {
+    const uint8_t *bytes;
+    size_t bytes_len;
+    size_t offset;
+};
+
+/* A pointer that is not null: the given one, or one to something of which no item is read. */
+static inline const void *arrow2_c_some(const void *pointer) {
+    static const int64_t none = 0;
+    return pointer ? pointer : &none;
+}
+
+static inline const uint8_t *arrow2_c_bytes(struct arrow2_bits bits) {
+    return (const uint8_t *)arrow2_c_some(bits.bytes);
+}
+
+static inline size_t arrow2_bytes_for(size_t bits) { return bits / 8 + (bits % 8 != 0); }
+
+/* How many of `length` items are null by a validity, which may be missing. */
+static inline uint32_t arrow2_bits_null_count(struct arrow2_bits validity, size_t length, size_t *nulls) {
+    if (!validity.bytes) {
+        *nulls = 0;
+        return ARROW2_OK;
+    }
+    return arrow2_count_zeros(validity.bytes, validity.bytes_len, validity.offset, length, nulls);
+}
+
+static inline uint32_t arrow2_bits_equal(struct arrow2_bits left, struct arrow2_bits right, size_t length,
+                                         bool *equal) {
+    return arrow2_equal_bits(arrow2_c_bytes(left), left.bytes_len, left.offset, arrow2_c_bytes(right), right.bytes_len,
+                             right.offset, length, equal);
+}
+
+static inline uint32_t arrow2_bits_table(struct arrow2_bits left, struct arrow2_bits right, size_t length,
+                                         uint16_t table, uint8_t *out, size_t out_count) {
+    return arrow2_binary_table(arrow2_c_bytes(left), left.bytes_len, left.offset, arrow2_c_bytes(right),
+                               right.bytes_len, right.offset, length, table,
+                               out ? out : (uint8_t *)arrow2_c_some(out), out_count);
+}
+
+static inline uint32_t arrow2_bits_and(struct arrow2_bits left, struct arrow2_bits right, size_t length, uint8_t *out,
+                                       size_t out_count) {
+    return arrow2_bits_table(left, right, length, 8, out, out_count);
+}
+
+static inline uint32_t arrow2_bits_or(struct arrow2_bits left, struct arrow2_bits right, size_t length, uint8_t *out,
+                                      size_t out_count) {
+    return arrow2_bits_table(left, right, length, 14, out, out_count);
+}
+
+static inline uint32_t arrow2_bits_xor(struct arrow2_bits left, struct arrow2_bits right, size_t length, uint8_t *out,
+                                       size_t out_count) {
+    return arrow2_bits_table(left, right, length, 6, out, out_count);
+}
+
+static inline uint32_t arrow2_bits_not(struct arrow2_bits bits, size_t length, uint8_t *out, size_t out_count) {
+    return arrow2_unary_table(arrow2_c_bytes(bits), bits.bytes_len, bits.offset, length, 1,
+                              out ? out : (uint8_t *)arrow2_c_some(out), out_count);
+}
+
+/* Kleene's logic of two columns, each of which may have no validity. Where both have one, another call is faster. */
+static inline uint32_t arrow2_bits_and_kleene(struct arrow2_bits left, struct arrow2_bits left_validity,
+                                              struct arrow2_bits right, struct arrow2_bits right_validity,
+                                              size_t length, uint8_t *values, uint8_t *validity) {
+    size_t count = arrow2_bytes_for(length);
+    if (left_validity.bytes && right_validity.bytes) {
+        return arrow2_and_kleene(arrow2_c_bytes(left), left.bytes_len, left.offset, left_validity.bytes,
+                                 left_validity.bytes_len, left_validity.offset, arrow2_c_bytes(right), right.bytes_len,
+                                 right.offset, right_validity.bytes, right_validity.bytes_len, right_validity.offset,
+                                 length, values ? values : (uint8_t *)arrow2_c_some(values), count,
+                                 validity ? validity : (uint8_t *)arrow2_c_some(validity), count);
+    }
+    return arrow2_and_kleene_optional(
+        arrow2_c_bytes(left), left.bytes_len, left.offset, arrow2_c_bytes(left_validity), left_validity.bytes_len,
+        left_validity.offset, !left_validity.bytes, arrow2_c_bytes(right), right.bytes_len, right.offset,
+        arrow2_c_bytes(right_validity), right_validity.bytes_len, right_validity.offset, !right_validity.bytes, length,
+        values ? values : (uint8_t *)arrow2_c_some(values), count,
+        validity ? validity : (uint8_t *)arrow2_c_some(validity), count);
+}
+
+static inline uint32_t arrow2_bits_or_kleene(struct arrow2_bits left, struct arrow2_bits left_validity,
+                                             struct arrow2_bits right, struct arrow2_bits right_validity, size_t length,
+                                             uint8_t *values, uint8_t *validity) {
+    size_t count = arrow2_bytes_for(length);
+    if (left_validity.bytes && right_validity.bytes) {
+        return arrow2_or_kleene(arrow2_c_bytes(left), left.bytes_len, left.offset, left_validity.bytes,
+                                 left_validity.bytes_len, left_validity.offset, arrow2_c_bytes(right), right.bytes_len,
+                                 right.offset, right_validity.bytes, right_validity.bytes_len, right_validity.offset,
+                                 length, values ? values : (uint8_t *)arrow2_c_some(values), count,
+                                 validity ? validity : (uint8_t *)arrow2_c_some(validity), count);
+    }
+    return arrow2_or_kleene_optional(
+        arrow2_c_bytes(left), left.bytes_len, left.offset, arrow2_c_bytes(left_validity), left_validity.bytes_len,
+        left_validity.offset, !left_validity.bytes, arrow2_c_bytes(right), right.bytes_len, right.offset,
+        arrow2_c_bytes(right_validity), right_validity.bytes_len, right_validity.offset, !right_validity.bytes, length,
+        values ? values : (uint8_t *)arrow2_c_some(values), count,
+        validity ? validity : (uint8_t *)arrow2_c_some(validity), count);
+}
+
+/* The bits of buffer `index` of an array that was checked: its validity is buffer 0, the values of booleans
+ * buffer 1. */
+static inline struct arrow2_bits arrow2_bits_of(const struct ArrowArray *array, int index) {
+    struct arrow2_bits bits;
+    bits.bytes = (const uint8_t *)array->buffers[index];
+    bits.bytes_len = bits.bytes ? arrow2_bytes_for((size_t)array->offset + (size_t)array->length) : 0;
+    bits.offset = (size_t)array->offset;
+    return bits;
+}
+
+/* ---- Checks of whole arrays */
+
+/* What the check of an array returns beside the codes of arrow2_proved.h. */
+/* A pointer that the array needs is null. */
+#define ARROW2_C_NULL 32u
+/* The schema or the array was released. */
+#define ARROW2_C_RELEASED 33u
+/* A length, an offset or a number of children is negative, or length and offset together are above 2^63 - 1. */
+#define ARROW2_C_NEGATIVE 34u
+/* The format is not known: nothing is said of such an array. */
+#define ARROW2_C_FORMAT 35u
+/* The format has another number of buffers. */
+#define ARROW2_C_BUFFERS 36u
+/* The format has another number of children, or the schema other children than the array. */
+#define ARROW2_C_CHILDREN 37u
+/* A child is shorter than its parent needs. */
+#define ARROW2_C_SHORT_CHILD 38u
+/* The schema or the array has a dictionary and the other has none, or the indices are no whole numbers. */
+#define ARROW2_C_DICTIONARY 39u
+/* A slot of a union has a type that the format does not name. */
+#define ARROW2_C_TYPE 40u
+/* A slot of a dense union points outside its child, or in front of an earlier slot's item. */
+#define ARROW2_C_UNION_OFFSET 41u
+/* The tree is deeper than ARROW2_C_MAX_DEPTH, or has more arrays than ARROW2_C_MAX_ARRAYS. */
+#define ARROW2_C_TOO_LARGE 42u
+/* Numbers of several bytes, which the check has to read, are not aligned. */
+#define ARROW2_C_UNALIGNED 43u
+/* There are more or fewer sizes than buffers in the tree. */
+#define ARROW2_C_SIZES 44u
+
+#define ARROW2_C_MAX_DEPTH 64
+#define ARROW2_C_MAX_ARRAYS 1048576
+/* More bytes than any buffer has: the size of a buffer whose size is not known. */
+#define ARROW2_C_MAX_BYTES ((size_t)1 << 56)
+/* As many bytes as the longest path needs. */
+#define ARROW2_C_PATH 1280
+
+/* Where the check refused: the array's path from the root, as `struct.3/list.0`, and the slot of that array, or -1. */
+struct arrow2_where {
+    char path[ARROW2_C_PATH];
+    int64_t slot;
+};
+
+enum arrow2_c_kind {
+    ARROW2_C_KIND_NULL,
+    ARROW2_C_KIND_BOOLEAN,
+    ARROW2_C_KIND_FIXED,
+    ARROW2_C_KIND_BYTES,
+    ARROW2_C_KIND_TEXT,
+    ARROW2_C_KIND_LIST,
+    ARROW2_C_KIND_FIXED_LIST,
+    ARROW2_C_KIND_STRUCT,
+    ARROW2_C_KIND_MAP,
+    ARROW2_C_KIND_SPARSE_UNION,
+    ARROW2_C_KIND_DENSE_UNION
+};
+
+/* What a format says: `size` is the bytes of a value, those of an offset, or the items of a slot; `index` the letter
+ * of a whole number; `types` those of a union, `children` how many children there are, or -1 for any number. */
+struct arrow2_c_layout {
+    enum arrow2_c_kind kind;
+    size_t size;
+    char index;
+    const char *types;
+    int64_t buffers;
+    int64_t children;
+};
+
+struct arrow2_c_tree {
+    struct arrow2_where *where;
+    const size_t *sizes; /* or null, where no size is known */
+    size_t sizes_count;
+    size_t next_size;
+    size_t arrays;
+    int depth;
+    const char *kinds[ARROW2_C_MAX_DEPTH];
+    int64_t children[ARROW2_C_MAX_DEPTH];
+};
+
+/* ---- Formats */
+
+/* Reads a number without a sign, at most 2^31 - 1, and moves behind it; false where there is none. */
+static inline bool arrow2_c_number(const char **at, size_t *number) {
+    const char *digit = *at;
+    size_t sum = 0;
+    for (; *digit >= '0' && *digit <= '9'; digit++) {
+        sum = 10 * sum + (size_t)(*digit - '0');
+        if (sum > 2147483647) {
+            return false;
+        }
+    }
+    bool some = digit != *at;
+    *at = digit;
+    *number = sum;
+    return some;
+}
+
+static inline struct arrow2_c_layout arrow2_c_layout_of(enum arrow2_c_kind kind, size_t size, int64_t buffers,
+                                                        int64_t children) {
+    struct arrow2_c_layout layout;
+    layout.kind = kind;
+    layout.size = size;
+    layout.index = 0;
+    layout.types = NULL;
+    layout.buffers = buffers;
+    layout.children = children;
+    return layout;
+}
+
+/* The bytes of a decimal, `d:precision,scale` or `d:precision,scale,bits`; 0 where it is none. */
+static inline size_t arrow2_c_decimal(const char *at) {
+    size_t precision, scale, bits = 128;
+    if (!arrow2_c_number(&at, &precision) || precision == 0 || *at++ != ',') {
+        return 0;
+    }
+    if (*at == '-') {
+        at++;
+    }
+    if (!arrow2_c_number(&at, &scale)) {
+        return 0;
+    }
+    if (*at == ',') {
+        at++;
+        if (!arrow2_c_number(&at, &bits)) {
+            return 0;
+        }
+    }
+    bool known = bits == 32 || bits == 64 || bits == 128 || bits == 256;
+    return *at == 0 && known ? bits / 8 : 0;
+}
+
+/* The bytes of a value of a date, a time, a timestamp, a duration or an interval; 0 where it is none. */
+static inline size_t arrow2_c_temporal(const char *format) {
+    static const struct {
+        char format[4];
+        size_t size;
+    } known[] = {{"tdD", 4}, {"tdm", 8}, {"tts", 4}, {"ttm", 4}, {"ttu", 8}, {"ttn", 8}, {"tDs", 8},
+                 {"tDm", 8}, {"tDu", 8}, {"tDn", 8}, {"tiM", 4}, {"tiD", 8}, {"tin", 16}};
+    if (format[1] == 's') {
+        bool unit = format[2] && strchr("smun", format[2]);
+        return unit && format[3] == ':' ? 8 : 0;
+    }
+    for (size_t i = 0; i < sizeof known / sizeof known[0]; i++) {
+        if (strcmp(format, known[i].format) == 0) {
+            return known[i].size;
+        }
+    }
+    return 0;
+}
+
+/* How many types a union names, each from 0 to 127 and none twice; -1 where this is no list of them. */
+static inline int64_t arrow2_c_types(const char *at) {
+    bool named[128] = {false};
+    size_t type;
+    int64_t count = 0;
+    if (*at == 0) {
+        return 0;
+    }
+    for (;;) {
+        if (!arrow2_c_number(&at, &type) || type > 127 || named[type]) {
+            return -1;
+        }
+        named[type] = true;
+        count++;
+        if (*at == 0) {
+            return count;
+        }
+        if (*at++ != ',') {
+            return -1;
+        }
+    }
+}
+
+/* Reads a format that begins with `+`; false where it is not known. */
+static inline bool arrow2_c_nested(const char *format, struct arrow2_c_layout *layout) {
+    if (strcmp(format, "+l") == 0 || strcmp(format, "+L") == 0) {
+        *layout = arrow2_c_layout_of(ARROW2_C_KIND_LIST, format[1] == 'l' ? 4 : 8, 2, 1);
+        return true;
+    }
+    if (strcmp(format, "+s") == 0) {
+        *layout = arrow2_c_layout_of(ARROW2_C_KIND_STRUCT, 0, 1, -1);
+        return true;
+    }
+    if (strcmp(format, "+m") == 0) {
+        *layout = arrow2_c_layout_of(ARROW2_C_KIND_MAP, 4, 2, 1);
+        return true;
+    }
+    if (strncmp(format, "+w:", 3) == 0) {
+        const char *at = format + 3;
+        *layout = arrow2_c_layout_of(ARROW2_C_KIND_FIXED_LIST, 0, 1, 1);
+        return arrow2_c_number(&at, &layout->size) && *at == 0;
+    }
+    if (strncmp(format, "+ud:", 4) == 0 || strncmp(format, "+us:", 4) == 0) {
+        bool dense = format[2] == 'd';
+        *layout = arrow2_c_layout_of(dense ? ARROW2_C_KIND_DENSE_UNION : ARROW2_C_KIND_SPARSE_UNION, 0, dense ? 2 : 1,
+                                     arrow2_c_types(format + 4));
+        layout->types = format + 4;
+        return layout->children >= 0;
+    }
+    return false;
+}
+
+/* Reads a format of one letter; false where it is not known. */
+static inline bool arrow2_c_letter(char letter, struct arrow2_c_layout *layout) {
+    static const char letters[] = "cCsSiIlLefg";
+    static const size_t sizes[] = {1, 1, 2, 2, 4, 4, 8, 8, 2, 4, 8};
+    const char *found = strchr(letters, letter);
+    if (found) {
+        *layout = arrow2_c_layout_of(ARROW2_C_KIND_FIXED, sizes[found - letters], 2, 0);
+        layout->index = found - letters < 8 ? letter : 0;
+        return true;
+    }
+    switch (letter) {
+    case 'n': *layout = arrow2_c_layout_of(ARROW2_C_KIND_NULL, 0, 0, 0); return true;
+    case 'b': *layout = arrow2_c_layout_of(ARROW2_C_KIND_BOOLEAN, 0, 2, 0); return true;
+    case 'z': *layout = arrow2_c_layout_of(ARROW2_C_KIND_BYTES, 4, 3, 0); return true;
+    case 'Z': *layout = arrow2_c_layout_of(ARROW2_C_KIND_BYTES, 8, 3, 0); return true;
+    case 'u': *layout = arrow2_c_layout_of(ARROW2_C_KIND_TEXT, 4, 3, 0); return true;
+    case 'U': *layout = arrow2_c_layout_of(ARROW2_C_KIND_TEXT, 8, 3, 0); return true;
+    default: return false;
+    }
+}
+
+/* Reads a format; false where it is not known. */
+static inline bool arrow2_c_read_format(const char *format, struct arrow2_c_layout *layout) {
+    if (format[0] == 0) {
+        return false;
+    }
+    if (format[1] == 0) {
+        return arrow2_c_letter(format[0], layout);
+    }
+    *layout = arrow2_c_layout_of(ARROW2_C_KIND_FIXED, 0, 2, 0);
+    if (strncmp(format, "w:", 2) == 0) {
+        const char *at = format + 2;
+        return arrow2_c_number(&at, &layout->size) && *at == 0;
+    }
+    if (strncmp(format, "d:", 2) == 0) {
+        layout->size = arrow2_c_decimal(format + 2);
+        return layout->size != 0;
+    }
+    if (format[0] == 't') {
+        layout->size = arrow2_c_temporal(format);
+        return layout->size != 0;
+    }
+    return format[0] == '+' && arrow2_c_nested(format, layout);
+}
+
+static inline const char *arrow2_c_kind_name(enum arrow2_c_kind kind) {
+    static const char *const names[] = {"null", "boolean", "fixed", "bytes", "text", "list",
+                                        "fixed_list", "struct", "map", "union", "union"};
+    return names[kind];
+}
+
+/* ---- Where the check is */
+
+/* Writes where the check is, and returns the code. */
+static inline uint32_t arrow2_c_refuse(const struct arrow2_c_tree *tree, uint32_t code, int64_t slot) {
+    if (!tree->where) {
+        return code;
+    }
+    tree->where->slot = slot;
+    tree->where->path[0] = 0;
+    size_t at = 0;
+    for (int i = 0; i < tree->depth; i++) {
+        char *rest = tree->where->path + at;
+        size_t room = sizeof tree->where->path - at;
+        int length = tree->children[i] < 0
+                         ? snprintf(rest, room, "%s%s", i ? "/" : "", tree->kinds[i])
+                         : snprintf(rest, room, "%s%s.%lld", i ? "/" : "", tree->kinds[i],
+                                    (long long)tree->children[i]);
+        if (length < 0 || (size_t)length >= room) {
+            break;
+        }
+        at += (size_t)length;
+    }
+    return code;
+}
+
+/* The same, where the code says that something is wrong. */
+static inline uint32_t arrow2_c_unless_ok(const struct arrow2_c_tree *tree, uint32_t code, int64_t slot) {
+    return code == ARROW2_OK ? code : arrow2_c_refuse(tree, code, slot);
+}
+
+/* ---- One array */
+
+/* A buffer, its size, and the array's length and offset, of which the signs were tested. */
+struct arrow2_c_buffer {
+    const void *bytes;
+    size_t size;
+    size_t offset;
+    size_t length;
+};
+
+/* Whether the pointers and numbers of an array and its schema can be read at all. */
+static inline uint32_t arrow2_c_check_head(const struct ArrowSchema *schema, const struct ArrowArray *array) {
+    if (!schema || !array) {
+        return ARROW2_C_NULL;
+    }
+    if (!schema->release || !array->release) {
+        return ARROW2_C_RELEASED;
+    }
+    if (!schema->format) {
+        return ARROW2_C_NULL;
+    }
+    if (array->length < 0 || array->offset < 0 || array->n_children < 0 || array->n_buffers < 0 ||
+        array->offset > INT64_MAX - array->length) {
+        return ARROW2_C_NEGATIVE;
+    }
+    return ARROW2_OK;
+}
+
+/* Goes to child `index` of an array of a kind, or to its dictionary, by -1. */
+static inline void arrow2_c_enter(struct arrow2_c_tree *tree, enum arrow2_c_kind kind, int64_t index) {
+    tree->kinds[tree->depth] = index < 0 ? "dictionary" : arrow2_c_kind_name(kind);
+    tree->children[tree->depth] = index;
+    tree->depth++;
+}
+
+/* Whether there are as many buffers, sizes and children as the format has, and a dictionary of both or of none. */
+static inline uint32_t arrow2_c_check_counts(struct arrow2_c_tree *tree, const struct arrow2_c_layout *layout,
+                                             const struct ArrowSchema *schema, const struct ArrowArray *array) {
+    int64_t children = layout->children < 0 ? schema->n_children : layout->children;
+    if (array->n_buffers != layout->buffers) {
+        return ARROW2_C_BUFFERS;
+    }
+    if (array->n_children != children || schema->n_children != children) {
+        return ARROW2_C_CHILDREN;
+    }
+    if (children > ARROW2_C_MAX_ARRAYS) {
+        return ARROW2_C_TOO_LARGE;
+    }
+    if ((array->n_buffers && !array->buffers) || (children && (!array->children || !schema->children))) {
+        return ARROW2_C_NULL;
+    }
+    if (!array->dictionary != !schema->dictionary || (array->dictionary && !layout->index)) {
+        return ARROW2_C_DICTIONARY;
+    }
+    if (tree->sizes && tree->sizes_count - tree->next_size < (size_t)layout->buffers) {
+        return ARROW2_C_SIZES;
+    }
+    return ARROW2_OK;
+}
+
+/* Whether each child can be read at all, so that its length can be. Stays at the child that cannot. */
+static inline uint32_t arrow2_c_check_heads(struct arrow2_c_tree *tree, enum arrow2_c_kind kind,
+                                            const struct ArrowSchema *schema, const struct ArrowArray *array) {
+    for (int64_t i = 0; i < array->n_children; i++) {
+        uint32_t code = arrow2_c_check_head(schema->children[i], array->children[i]);
+        if (code != ARROW2_OK) {
+            arrow2_c_enter(tree, kind, i);
+            return code;
+        }
+    }
+    if (array->dictionary) {
+        uint32_t code = arrow2_c_check_head(schema->dictionary, array->dictionary);
+        if (code != ARROW2_OK) {
+            arrow2_c_enter(tree, kind, -1);
+            return code;
+        }
+    }
+    return ARROW2_OK;
+}
+
+/* Buffer `index` of an array whose counts were checked. Without a size it is longer than any. */
+static inline struct arrow2_c_buffer arrow2_c_buffer_of(const struct arrow2_c_tree *tree,
+                                                        const struct ArrowArray *array, int index) {
+    struct arrow2_c_buffer buffer;
+    buffer.bytes = array->buffers[index];
+    buffer.size = tree->sizes ? tree->sizes[tree->next_size + (size_t)index] : ARROW2_C_MAX_BYTES;
+    buffer.offset = (size_t)array->offset;
+    buffer.length = (size_t)array->length;
+    return buffer;
+}
+
+/* Whether a buffer of which `count` items of `width` bytes are read is there, and aligned. */
+static inline uint32_t arrow2_c_check_pointer(const void *bytes, size_t count, size_t width) {
+    if (!bytes && count && width) {
+        return ARROW2_C_NULL;
+    }
+    return width > 1 && (uintptr_t)bytes % width ? ARROW2_C_UNALIGNED : ARROW2_OK;
+}
+
+/* Whether the validity is there for all items, and has as many nulls as were declared. */
+static inline uint32_t arrow2_c_check_validity(const struct arrow2_c_tree *tree, const struct ArrowArray *array) {
+    struct arrow2_c_buffer buffer = arrow2_c_buffer_of(tree, array, 0);
+    if (!buffer.bytes) {
+        return array->null_count == 0 || array->null_count == -1 ? ARROW2_OK : ARROW2_NULLS;
+    }
+    uint32_t code = arrow2_bits_check(buffer.size, buffer.offset, buffer.length);
+    if (code != ARROW2_OK) {
+        return code;
+    }
+    return arrow2_validity_check((const uint8_t *)buffer.bytes, arrow2_bytes_for(buffer.offset + buffer.length),
+                                 buffer.offset, buffer.length, array->null_count);
+}
+
+/* Whether a buffer has the array's values: of one bit each where `bits` says so, else of `width` bytes. */
+static inline uint32_t arrow2_c_check_values(struct arrow2_c_buffer values, bool bits, size_t width) {
+    uint32_t code = bits ? arrow2_bits_check(values.size, values.offset, values.length)
+                         : arrow2_values_check(values.size, width, values.offset, values.length);
+    return code != ARROW2_OK ? code : arrow2_c_check_pointer(values.bytes, values.length, bits ? 1 : width > 0);
+}
+
+/* Whether a buffer has offsets, of `width` bytes each, into `items` items. `slot` is where they are not, and `last` the
+ * last of them. An array of no item needs no offset. */
+static inline uint32_t arrow2_c_check_offsets(struct arrow2_c_buffer offsets, size_t width, size_t items, int64_t *slot,
+                                              size_t *last) {
+    *last = 0;
+    if (offsets.length == 0 && (!offsets.bytes || offsets.size == 0)) {
+        return ARROW2_OK;
+    }
+    size_t index = 0, count = offsets.length + 1;
+    uint32_t code = arrow2_values_check(offsets.size, width, offsets.offset, count);
+    if (code == ARROW2_OK) {
+        code = arrow2_c_check_pointer(offsets.bytes, count, width);
+    }
+    if (code != ARROW2_OK) {
+        return code;
+    }
+    const int32_t *narrow = (const int32_t *)offsets.bytes + offsets.offset;
+    const int64_t *wide = (const int64_t *)offsets.bytes + offsets.offset;
+    code = width == 4 ? arrow2_offsets32_check_inside(narrow, count, items, &index)
+                      : arrow2_offsets64_check_inside(wide, count, items, &index);
+    if (code != ARROW2_OK) {
+        *slot = index ? (int64_t)(index - 1) : 0;
+        return code;
+    }
+    *last = (size_t)(width == 4 ? narrow[count - 1] : wide[count - 1]);
+    return ARROW2_OK;
+}
+
+/* Whether the offsets of byte strings or texts are inside their bytes, and texts are UTF-8. */
+static inline uint32_t arrow2_c_check_bytes(struct arrow2_c_buffer offsets, struct arrow2_c_buffer values, size_t width,
+                                            bool texts, int64_t *slot) {
+    size_t last, index = 0;
+    uint32_t code = arrow2_c_check_offsets(offsets, width, values.size, slot, &last);
+    if (code == ARROW2_OK) {
+        code = arrow2_c_check_pointer(values.bytes, last, 1);
+    }
+    if (code != ARROW2_OK || !texts || last == 0) {
+        return code;
+    }
+    const uint8_t *bytes = (const uint8_t *)values.bytes;
+    size_t count = offsets.length + 1;
+    code = width == 4
+               ? arrow2_texts32_check((const int32_t *)offsets.bytes + offsets.offset, count, bytes, last, &index)
+               : arrow2_texts64_check((const int64_t *)offsets.bytes + offsets.offset, count, bytes, last, &index);
+    if (code != ARROW2_OK) {
+        *slot = (int64_t)index;
+    }
+    return code;
+}
+
+/* Whether the indices that are not null are below the length of the dictionary, by the letter of their type. */
+static inline uint32_t arrow2_c_check_indices(struct arrow2_c_buffer indices, struct arrow2_c_buffer validity,
+                                              char letter, size_t width, size_t items, int64_t *slot) {
+    size_t first = 0, n = indices.length, o = indices.offset;
+    uint32_t code = arrow2_c_check_pointer(indices.bytes, n, width);
+    if (code != ARROW2_OK || n == 0) {
+        return code;
+    }
+    const void *bytes = (const uint8_t *)indices.bytes + width * o;
+    const uint8_t *valid = (const uint8_t *)arrow2_c_some(validity.bytes);
+    bool all = !validity.bytes;
+    size_t valid_count = all ? 0 : arrow2_bytes_for(o + n);
+#define ARROW2_C_INDICES(name, type)                                                                                   \
+    arrow2_indices_##name##_check((const type *)bytes, n, valid, valid_count, o, all, items, &first)
+    switch (letter) {
+    case 'c': code = ARROW2_C_INDICES(i8, int8_t); break;
+    case 'C': code = ARROW2_C_INDICES(u8, uint8_t); break;
+    case 's': code = ARROW2_C_INDICES(i16, int16_t); break;
+    case 'S': code = ARROW2_C_INDICES(u16, uint16_t); break;
+    case 'i': code = ARROW2_C_INDICES(i32, int32_t); break;
+    case 'I': code = ARROW2_C_INDICES(u32, uint32_t); break;
+    case 'l': code = ARROW2_C_INDICES(i64, int64_t); break;
+    default: code = ARROW2_C_INDICES(u64, uint64_t); break;
+    }
+#undef ARROW2_C_INDICES
+    if (code != ARROW2_OK) {
+        *slot = (int64_t)first;
+    }
+    return code;
+}
+
+/* Writes at each type that a union names which child it is, and -1 at the others. */
+static inline void arrow2_c_read_types(const char *at, int64_t child_of[128]) {
+    size_t type;
+    for (int i = 0; i < 128; i++) {
+        child_of[i] = -1;
+    }
+    for (int64_t child = 0; arrow2_c_number(&at, &type); child++) {
+        child_of[type] = child;
+        if (*at == ',') {
+            at++;
+        }
+    }
+}
+
+/* Whether each slot of a union has a type of the format, and with offsets points into its child, at no item in front of
+ * that of an earlier slot. */
+static inline uint32_t arrow2_c_check_union(struct arrow2_c_buffer types, const struct arrow2_c_buffer *offsets,
+                                            const char *named, const struct ArrowArray *array, int64_t *slot) {
+    int64_t child_of[128];
+    int32_t least[128] = {0};
+    if (types.length == 0) {
+        return ARROW2_OK;
+    }
+    arrow2_c_read_types(named, child_of);
+    const int8_t *type = (const int8_t *)types.bytes + types.offset;
+    const int32_t *offset = offsets ? (const int32_t *)offsets->bytes + types.offset : NULL;
+    for (size_t i = 0; i < types.length; i++) {
+        *slot = (int64_t)i;
+        if (type[i] < 0 || child_of[type[i]] < 0) {
+            return ARROW2_C_TYPE;
+        }
+        if (offset) {
+            if (offset[i] < least[type[i]] || offset[i] >= array->children[child_of[type[i]]]->length) {
+                return ARROW2_C_UNION_OFFSET;
+            }
+            least[type[i]] = offset[i];
+        }
+    }
+    *slot = -1;
+    return ARROW2_OK;
+}
+
+/* Whether the buffers of a union have its types and, if it is dense, its offsets. */
+static inline uint32_t arrow2_c_check_union_buffers(const struct arrow2_c_tree *tree, const char *named, bool dense,
+                                                    const struct ArrowArray *array, int64_t *slot) {
+    struct arrow2_c_buffer types = arrow2_c_buffer_of(tree, array, 0), offsets = types;
+    uint32_t code = arrow2_c_check_values(types, false, 1);
+    if (code == ARROW2_OK && dense) {
+        offsets = arrow2_c_buffer_of(tree, array, 1);
+        code = arrow2_c_check_values(offsets, false, 4);
+    }
+    if (code == ARROW2_OK && dense) {
+        code = arrow2_c_check_pointer(offsets.bytes, offsets.length, 4);
+    }
+    return code != ARROW2_OK ? code : arrow2_c_check_union(types, dense ? &offsets : NULL, named, array, slot);
+}
+
+/* Whether each child has as many items as its parent needs of it: `of_a_slot` for each slot, those in front too. Stays
+ * at the child that has not. */
+static inline uint32_t arrow2_c_check_lengths(struct arrow2_c_tree *tree, enum arrow2_c_kind kind, size_t of_a_slot,
+                                              const struct ArrowArray *array) {
+    for (int64_t i = 0; i < array->n_children; i++) {
+        if (arrow2_values_check((size_t)array->children[i]->length, of_a_slot, (size_t)array->offset,
+                                (size_t)array->length) != ARROW2_OK) {
+            arrow2_c_enter(tree, kind, i);
+            return ARROW2_C_SHORT_CHILD;
+        }
+    }
+    return ARROW2_OK;
+}
+
+/* Whether the child of a map is a struct of two. */
+static inline bool arrow2_c_is_entries(const struct ArrowSchema *entries) {
+    return strcmp(entries->format, "+s") == 0 && entries->n_children == 2;
+}
+
+/* Whether the values of an array of no children are all there and right. */
+static inline uint32_t arrow2_c_check_flat(const struct arrow2_c_tree *tree, const struct arrow2_c_layout *layout,
+                                           const struct ArrowArray *array, int64_t *slot) {
+    struct arrow2_c_buffer second = arrow2_c_buffer_of(tree, array, 1);
+    if (layout->kind == ARROW2_C_KIND_BYTES || layout->kind == ARROW2_C_KIND_TEXT) {
+        return arrow2_c_check_bytes(second, arrow2_c_buffer_of(tree, array, 2), layout->size,
+                                    layout->kind == ARROW2_C_KIND_TEXT, slot);
+    }
+    uint32_t code = arrow2_c_check_values(second, layout->kind == ARROW2_C_KIND_BOOLEAN, layout->size);
+    if (code != ARROW2_OK || !array->dictionary) {
+        return code;
+    }
+    return arrow2_c_check_indices(second, arrow2_c_buffer_of(tree, array, 0), layout->index, layout->size,
+                                  (size_t)array->dictionary->length, slot);
+}
+
+/* Whether what an array itself holds is right, whose counts and children's heads are. */
+static inline uint32_t arrow2_c_check_content(struct arrow2_c_tree *tree, const struct arrow2_c_layout *layout,
+                                              const struct ArrowSchema *schema, const struct ArrowArray *array,
+                                              int64_t *slot) {
+    size_t last;
+    switch (layout->kind) {
+    case ARROW2_C_KIND_NULL:
+        return array->null_count == -1 || array->null_count == array->length ? ARROW2_OK : ARROW2_NULLS;
+    case ARROW2_C_KIND_MAP:
+        if (!arrow2_c_is_entries(schema->children[0])) {
+            return ARROW2_C_CHILDREN;
+        }
+        return arrow2_c_check_offsets(arrow2_c_buffer_of(tree, array, 1), layout->size,
+                                      (size_t)array->children[0]->length, slot, &last);
+    case ARROW2_C_KIND_LIST:
+        return arrow2_c_check_offsets(arrow2_c_buffer_of(tree, array, 1), layout->size,
+                                      (size_t)array->children[0]->length, slot, &last);
+    case ARROW2_C_KIND_STRUCT: return arrow2_c_check_lengths(tree, layout->kind, 1, array);
+    case ARROW2_C_KIND_FIXED_LIST: return arrow2_c_check_lengths(tree, layout->kind, layout->size, array);
+    case ARROW2_C_KIND_SPARSE_UNION: {
+        uint32_t code = arrow2_c_check_union_buffers(tree, layout->types, false, array, slot);
+        return code != ARROW2_OK ? code : arrow2_c_check_lengths(tree, layout->kind, 1, array);
+    }
+    case ARROW2_C_KIND_DENSE_UNION: return arrow2_c_check_union_buffers(tree, layout->types, true, array, slot);
+    default: return arrow2_c_check_flat(tree, layout, array, slot);
+    }
+}
+
+/* Whether an array is right but for its children and its dictionary. Stays where it is not. */
+static inline uint32_t arrow2_c_check_own(struct arrow2_c_tree *tree, const struct arrow2_c_layout *layout,
+                                          const struct ArrowSchema *schema, const struct ArrowArray *array,
+                                          int64_t *slot) {
+    bool has_validity = layout->buffers > 0 && !layout->types;
+    uint32_t code = arrow2_c_check_counts(tree, layout, schema, array);
+    if (code == ARROW2_OK) {
+        code = arrow2_c_check_heads(tree, layout->kind, schema, array);
+    }
+    if (code == ARROW2_OK && has_validity) {
+        code = arrow2_c_check_validity(tree, array);
+    }
+    if (code == ARROW2_OK && layout->types && array->null_count != 0 && array->null_count != -1) {
+        code = ARROW2_NULLS;
+    }
+    return code != ARROW2_OK ? code : arrow2_c_check_content(tree, layout, schema, array, slot);
+}
+
+/* Whether an array whose head was checked is right, and all below it. */
+static inline uint32_t arrow2_c_check_tree(struct arrow2_c_tree *tree, const struct ArrowSchema *schema,
+                                           const struct ArrowArray *array) {
+    struct arrow2_c_layout layout;
+    int64_t slot = -1;
+    if (tree->depth >= ARROW2_C_MAX_DEPTH || tree->arrays++ >= ARROW2_C_MAX_ARRAYS) {
+        return arrow2_c_refuse(tree, ARROW2_C_TOO_LARGE, -1);
+    }
+    if (!arrow2_c_read_format(schema->format, &layout)) {
+        return arrow2_c_refuse(tree, ARROW2_C_FORMAT, -1);
+    }
+    uint32_t code = arrow2_c_check_own(tree, &layout, schema, array, &slot);
+    if (code != ARROW2_OK) {
+        return arrow2_c_refuse(tree, code, slot);
+    }
+    tree->next_size += tree->sizes ? (size_t)layout.buffers : 0;
+    for (int64_t i = 0; i < array->n_children; i++) {
+        arrow2_c_enter(tree, layout.kind, i);
+        code = arrow2_c_check_tree(tree, schema->children[i], array->children[i]);
+        if (code != ARROW2_OK) {
+            return code;
+        }
+        tree->depth--;
+    }
+    if (array->dictionary) {
+        arrow2_c_enter(tree, layout.kind, -1);
+        code = arrow2_c_check_tree(tree, schema->dictionary, array->dictionary);
+        tree->depth--;
+    }
+    return code;
+}
+
+/* The same from the root on. */
+static inline uint32_t arrow2_c_check_root(const struct ArrowSchema *schema, const struct ArrowArray *array,
+                                           const size_t *sizes, size_t sizes_count, struct arrow2_where *where) {
+    struct arrow2_c_tree tree;
+    tree.where = where;
+    tree.sizes = sizes;
+    tree.sizes_count = sizes_count;
+    tree.next_size = 0;
+    tree.arrays = 0;
+    tree.depth = 0;
+    uint32_t code = arrow2_c_unless_ok(&tree, arrow2_c_check_head(schema, array), -1);
+    if (code == ARROW2_OK) {
+        code = arrow2_c_check_tree(&tree, schema, array);
+    }
+    if (code == ARROW2_OK && sizes && tree.next_size != sizes_count) {
+        return arrow2_c_refuse(&tree, ARROW2_C_SIZES, -1);
+    }
+    return code;
+}
+
+/* Whether an array is one of its schema: ARROW2_OK exactly where it is, else the first rule that is broken. `where`,
+ * which may be null, is written where it is not. What cannot be known is how many bytes a buffer has: as many as
+ * format, length, offset and last offset say are read. */
+static inline uint32_t arrow2_array_check(const struct ArrowSchema *schema, const struct ArrowArray *array,
+                                          struct arrow2_where *where) {
+    return arrow2_c_check_root(schema, array, NULL, 0, where);
+}
+
+/* The same by the size in bytes of each buffer of the tree: those of an array, then those of its children in order,
+ * then those of its dictionary. Nothing outside them is read. ARROW2_C_SIZES: there are more or fewer buffers. */
+static inline uint32_t arrow2_array_check_sized(const struct ArrowSchema *schema, const struct ArrowArray *array,
+                                                const size_t *sizes, size_t sizes_count, struct arrow2_where *where) {
+    return arrow2_c_check_root(schema, array, (const size_t *)arrow2_c_some(sizes), sizes_count, where);
+}
+
+/* What a code says. */
+static inline const char *arrow2_code_text(uint32_t code) {
+    static const char *const of_library[] = {
+        "right", "a range is not inside", "a slice has another length", "a number is above the greatest offset",
+        "out of memory", "there is no offset", "the first offset is negative", "an offset falls",
+        "the nulls are not as many as declared", "an offset is past what it cuts", "a text is not UTF-8",
+        "an index is past its dictionary"};
+    static const char *const of_tree[] = {
+        "a pointer is null", "it was released", "a number is negative", "the format is not known",
+        "another number of buffers", "another number of children", "a child is too short",
+        "the dictionary does not fit", "a union has a type that its format does not name",
+        "a union points outside its child", "the tree is too large", "numbers are not aligned",
+        "another number of sizes"};
+    if (code < sizeof of_library / sizeof of_library[0]) {
+        return of_library[code];
+    }
+    if (code >= 32 && code - 32 < sizeof of_tree / sizeof of_tree[0]) {
+        return of_tree[code - 32];
+    }
+    return "no code of this version";
+}
+
+#ifdef __cplusplus
+}
+#endif
+
+#endif

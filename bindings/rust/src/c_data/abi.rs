@@ -1,0 +1,69 @@
+//! The structs of the interface, as its specification declares them.
+
+use core::ffi::{c_char, c_int, c_void};
+
+/// The type of an array.
+#[repr(C)]
+#[derive(Debug)]
+pub struct ArrowSchema {
+    /// The type, in the interface's letters.
+    pub format: *const c_char,
+    /// The name of the field, or null.
+    pub name: *const c_char,
+    /// Keys and values, or null.
+    pub metadata: *const c_char,
+    /// Whether a dictionary is ordered, items may be null, keys are sorted.
+    pub flags: i64,
+    /// How many children there are.
+    pub n_children: i64,
+    /// The types of the children.
+    pub children: *mut *mut ArrowSchema,
+    /// The type of the dictionary, or null.
+    pub dictionary: *mut ArrowSchema,
+    /// Frees what is held; null once that was done.
+    pub release: Option<unsafe extern "C" fn(*mut ArrowSchema)>,
+    /// The producer's own.
+    pub private_data: *mut c_void,
+}
+
+/// An array.
+#[repr(C)]
+#[derive(Debug)]
+pub struct ArrowArray {
+    /// How many items there are.
+    pub length: i64,
+    /// How many of them are null, or -1.
+    pub null_count: i64,
+    /// The first item.
+    pub offset: i64,
+    /// How many buffers there are.
+    pub n_buffers: i64,
+    /// How many children there are.
+    pub n_children: i64,
+    /// The buffers.
+    pub buffers: *mut *const c_void,
+    /// The children.
+    pub children: *mut *mut ArrowArray,
+    /// The dictionary, or null.
+    pub dictionary: *mut ArrowArray,
+    /// Frees what is held; null once that was done.
+    pub release: Option<unsafe extern "C" fn(*mut ArrowArray)>,
+    /// The producer's own.
+    pub private_data: *mut c_void,
+}
+
+/// Arrays of one schema, one behind the other.
+#[repr(C)]
+#[derive(Debug)]
+pub struct ArrowArrayStream {
+    /// Writes the schema, and returns 0 or an `errno`.
+    pub get_schema: Option<unsafe extern "C" fn(*mut ArrowArrayStream, *mut ArrowSchema) -> c_int>,
+    /// Writes the next array, which is released where there is none, and returns 0 or an `errno`.
+    pub get_next: Option<unsafe extern "C" fn(*mut ArrowArrayStream, *mut ArrowArray) -> c_int>,
+    /// The text of the last error, or null.
+    pub get_last_error: Option<unsafe extern "C" fn(*mut ArrowArrayStream) -> *const c_char>,
+    /// Frees what is held; null once that was done.
+    pub release: Option<unsafe extern "C" fn(*mut ArrowArrayStream)>,
+    /// The producer's own.
+    pub private_data: *mut c_void,
+}

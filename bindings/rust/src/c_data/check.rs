@@ -1,0 +1,581 @@
+//! Whether an array is one of its schema. The same way through the tree as `arrow2_c_data.h` has in C; every test of bits,
+//! offsets, texts and indices is a call of the library.
+
+use super::abi::{ArrowArray, ArrowSchema};
+use super::layout::{Kind, Layout};
+use crate::refusal::{Refusal, RefusalAt};
+use crate::{Bits, Index, Offset, bytes_for, check_bits, check_validity, check_values};
+use alloc::vec::Vec;
+use core::ffi::CStr;
+use core::fmt;
+use core::slice;
+
+/// How deep a tree may be.
+pub const MAX_DEPTH: usize = 64;
+
+/// How many arrays a tree may have, and how many children an array.
+pub const MAX_ARRAYS: usize = 1_048_576;
+
+/// More bytes than any buffer has: the size of a buffer whose size is not known.
+const MAX_BYTES: usize = 1 << 56;
+
+/// The rule that an array breaks.
+#[derive(Clone, Copy, Debug, PartialEq, Eq)]
+pub enum Broken {
+    /// A rule that the library tests.
+    Part(Refusal),
+    /// A pointer that the array needs is null.
+    Null,
+    /// The schema or the array was released.
+    Released,
+    /// A length, an offset or a number of children is negative, or length and offset together are above 2^63 - 1.
+    Negative,
+    /// The format is not known: nothing is said of such an array.
+    Format,
+    /// The format has another number of buffers.
+    Buffers,
+    /// The format has another number of children, or the schema other children than the array.
+    Children,
+    /// A child is shorter than its parent needs.
+    ShortChild,
+    /// One of schema and array has a dictionary, or the indices are no whole numbers.
+    Dictionary,
+    /// A slot of a union has a type that the format does not name.
+    Type,
+    /// A slot of a dense union points outside its child, or in front of an earlier slot's item.
+    UnionOffset,
+    /// The tree is deeper than [`MAX_DEPTH`], or has more arrays than [`MAX_ARRAYS`].
+    TooLarge,
+    /// Numbers of several bytes, which the check has to read, are not aligned.
+    Unaligned,
+    /// There are more or fewer sizes than buffers in the tree.
+    Sizes,
+}
+
+impl Broken {
+    /// The code of `arrow2_proved.h` and `arrow2_c_data.h`.
+    #[must_use]
+    pub fn code(self) -> u32 {
+        match self {
+            Broken::Part(refusal) => match refusal {
+                Refusal::Range => 1,
+                Refusal::Length => 2,
+                Refusal::Overflow => 3,
+                Refusal::Memory => 4,
+                Refusal::NoOffset => 5,
+                Refusal::NegativeOffset => 6,
+                Refusal::FallingOffsets => 7,
+                Refusal::Nulls => 8,
+                Refusal::PastOffset => 9,
+                Refusal::NotUtf8 => 10,
+                Refusal::Index => 11,
+            },
+            Broken::Null => 32,
+            Broken::Released => 33,
+            Broken::Negative => 34,
+            Broken::Format => 35,
+            Broken::Buffers => 36,
+            Broken::Children => 37,
+            Broken::ShortChild => 38,
+            Broken::Dictionary => 39,
+            Broken::Type => 40,
+            Broken::UnionOffset => 41,
+            Broken::TooLarge => 42,
+            Broken::Unaligned => 43,
+            Broken::Sizes => 44,
+        }
+    }
+}
+
+impl fmt::Display for Broken {
+    fn fmt(&self, f: &mut fmt::Formatter<'_>) -> fmt::Result {
+        f.write_str(match self {
+            Broken::Part(refusal) => return refusal.fmt(f),
+            Broken::Null => "a pointer is null",
+            Broken::Released => "it was released",
+            Broken::Negative => "a number is negative",
+            Broken::Format => "the format is not known",
+            Broken::Buffers => "another number of buffers",
+            Broken::Children => "another number of children",
+            Broken::ShortChild => "a child is too short",
+            Broken::Dictionary => "the dictionary does not fit",
+            Broken::Type => "a union has a type that its format does not name",
+            Broken::UnionOffset => "a union points outside its child",
+            Broken::TooLarge => "the tree is too large",
+            Broken::Unaligned => "numbers are not aligned",
+            Broken::Sizes => "another number of sizes",
+        })
+    }
+}
+
+/// From the root to an array of the tree, as `struct.3/list.0`.
+#[derive(Clone, Debug, Default, PartialEq, Eq)]
+pub struct Path(Vec<(Kind, Option<usize>)>);
+
+impl fmt::Display for Path {
+    fn fmt(&self, f: &mut fmt::Formatter<'_>) -> fmt::Result {
+        for (step, (kind, child)) in self.0.iter().enumerate() {
+            let between = if step == 0 { "" } else { "/" };
+            match child {
+                Some(child) => write!(f, "{between}{}.{child}", kind.name())?,
+                None => write!(f, "{between}dictionary")?,
+            }
+        }
+        Ok(())
+    }
+}
+
+/// The rule that an array breaks, and where.
+#[derive(Clone, Debug, PartialEq, Eq)]
+pub struct Refused {
+    /// The rule.
+    pub broken: Broken,
+    /// Where the array is in the tree.
+    pub path: Path,
+    /// The slot of that array, if the rule is about one.
+    pub slot: Option<usize>,
+}
+
+impl fmt::Display for Refused {
+    fn fmt(&self, f: &mut fmt::Formatter<'_>) -> fmt::Result {
+        write!(f, "\"{}\": {}", self.path, self.broken)?;
+        self.slot.map_or(Ok(()), |slot| write!(f, " at slot {slot}"))
+    }
+}
+
+impl core::error::Error for Refused {}
+
+/// A rule that is broken, and the slot.
+struct Fault(Broken, Option<usize>);
+
+impl From<Broken> for Fault {
+    fn from(broken: Broken) -> Self {
+        Fault(broken, None)
+    }
+}
+
+impl From<Refusal> for Fault {
+    fn from(refusal: Refusal) -> Self {
+        Fault(Broken::Part(refusal), None)
+    }
+}
+
+/// A refusal of offsets, by the slot that ends there.
+fn of_offset(refused: RefusalAt) -> Fault {
+    Fault(Broken::Part(refused.refusal), Some(refused.at.saturating_sub(1)))
+}
+
+/// A refusal by the slot.
+fn of_slot(refused: RefusalAt) -> Fault {
+    Fault(Broken::Part(refused.refusal), Some(refused.at))
+}
+
+/// Whether an array is one of a schema, by the sizes in bytes of the tree's buffers: those of an array, then those of its
+/// children in order, then those of its dictionary. Without sizes as many bytes are read as format, length, offset and
+/// last offset say.
+///
+/// # Errors
+///
+/// The first rule that is broken, and where.
+///
+/// # Safety
+///
+/// Each pointer is null, or points to what the interface says; each buffer has as many bytes as its size, or without
+/// sizes as are read.
+pub unsafe fn check_raw(
+    schema: *const ArrowSchema,
+    array: *const ArrowArray,
+    sizes: Option<&[usize]>,
+) -> Result<(), Refused> {
+    let mut tree = Tree { sizes, next_size: 0, arrays: 0, path: Path::default() };
+    let node = Node { schema, array };
+    // SAFETY: the caller's.
+    unsafe {
+        node.check_head().map_err(|broken| tree.refuse(broken.into()))?;
+        tree.check_tree(node)?;
+    }
+    match sizes {
+        Some(sizes) if sizes.len() != tree.next_size => Err(tree.refuse(Broken::Sizes.into())),
+        _ => Ok(()),
+    }
+}
+
+/// An array of the tree and its schema. SAFETY, of each `unsafe fn` below: as of [`check_raw`]; where a node is said to be
+/// checked, its head was.
+#[derive(Clone, Copy)]
+struct Node {
+    schema: *const ArrowSchema,
+    array: *const ArrowArray,
+}
+
+impl Node {
+    /// Whether its pointers and numbers can be read at all.
+    unsafe fn check_head(self) -> Result<(), Broken> {
+        // SAFETY: the caller's.
+        let (Some(schema), Some(array)) = (unsafe { (self.schema.as_ref(), self.array.as_ref()) }) else {
+            return Err(Broken::Null);
+        };
+        if schema.release.is_none() || array.release.is_none() {
+            return Err(Broken::Released);
+        }
+        if schema.format.is_null() {
+            return Err(Broken::Null);
+        }
+        let numbers = [array.length, array.offset, array.n_children, array.n_buffers];
+        if numbers.iter().any(|it| *it < 0) || array.offset.checked_add(array.length).is_none() {
+            return Err(Broken::Negative);
+        }
+        Ok(())
+    }
+
+    /// Child `index` of a node whose counts were checked.
+    unsafe fn child(self, index: usize) -> Node {
+        // SAFETY: there are as many children of both.
+        unsafe { Node { schema: *(*self.schema).children.add(index), array: *(*self.array).children.add(index) } }
+    }
+
+    /// The dictionary, if there is one.
+    unsafe fn dictionary(self) -> Option<Node> {
+        // SAFETY: both are null, or neither is.
+        let (schema, array) = unsafe { ((*self.schema).dictionary, (*self.array).dictionary) };
+        (!array.is_null()).then_some(Node { schema: schema.cast_const(), array: array.cast_const() })
+    }
+}
+
+/// A buffer, its size, and the array's offset and length.
+#[derive(Clone, Copy)]
+struct Buffer {
+    start: *const u8,
+    size: usize,
+    offset: usize,
+    length: usize,
+}
+
+impl Buffer {
+    /// Whether `count` items of `width` bytes, if any are read, are there and aligned.
+    fn check_pointer(&self, count: usize, width: usize) -> Result<(), Broken> {
+        if self.start.is_null() && count > 0 && width > 0 {
+            return Err(Broken::Null);
+        }
+        if width > 1 && self.start.addr() % width != 0 {
+            return Err(Broken::Unaligned);
+        }
+        Ok(())
+    }
+
+    /// `count` items from item `from` on, of which the pointer was checked.
+    unsafe fn items<'a, T>(&self, from: usize, count: usize) -> &'a [T] {
+        if count == 0 {
+            return &[];
+        }
+        // SAFETY: the pointer was checked, and these items are inside the buffer.
+        unsafe { slice::from_raw_parts(self.start.cast::<T>().add(from), count) }
+    }
+
+    /// Whether the array's bits are inside, or its values of `width` bytes.
+    fn check_values(&self, bits: bool, width: usize) -> Result<(), Fault> {
+        if bits {
+            check_bits(self.size, self.offset, self.length)?;
+            self.check_pointer(self.length, 1)?;
+        } else {
+            check_values(self.size, width, self.offset, self.length)?;
+            self.check_pointer(self.length, width.min(1))?;
+        }
+        Ok(())
+    }
+
+    /// The bits, if the pointer is not null.
+    unsafe fn bits<'a>(&self) -> Option<Bits<'a>> {
+        let count = bytes_for(self.offset + self.length);
+        // SAFETY: the bits were found inside.
+        (!self.start.is_null()).then(|| Bits { bytes: unsafe { self.items(0, count) }, offset: self.offset })
+    }
+
+    /// Offsets into this number of items: one more than slots, or none where there is no slot.
+    unsafe fn offsets<'a, O: Offset>(&self, items: usize) -> Result<&'a [O], Fault> {
+        if self.length == 0 && (self.start.is_null() || self.size == 0) {
+            return Ok(&[]);
+        }
+        let width = size_of::<O>();
+        check_values(self.size, width, self.offset, self.length + 1)?;
+        self.check_pointer(self.length + 1, width)?;
+        // SAFETY: they are inside.
+        let offsets: &[O] = unsafe { self.items(self.offset, self.length + 1) };
+        O::check_inside(offsets, items).map_err(of_offset)?;
+        Ok(offsets)
+    }
+
+    /// Byte strings or texts by their offsets in this buffer.
+    unsafe fn check_slots<O: Offset + Into<i64>>(&self, values: Buffer, texts: bool) -> Result<(), Fault> {
+        // SAFETY: the caller's.
+        let offsets: &[O] = unsafe { self.offsets(values.size)? };
+        let last = offsets.last().map_or(0, |last| (*last).into() as usize);
+        values.check_pointer(last, 1)?;
+        if !texts || last == 0 {
+            return Ok(());
+        }
+        // SAFETY: the last offset is inside.
+        O::check_texts(offsets, unsafe { values.items(0, last) }).map_err(of_slot)
+    }
+
+    /// Indices below `items`, or null.
+    unsafe fn check_indices<I: Index>(&self, validity: Option<Bits<'_>>, items: usize) -> Result<(), Fault> {
+        self.check_pointer(self.length, size_of::<I>())?;
+        // SAFETY: they are inside.
+        I::check_indices(unsafe { self.items(self.offset, self.length) }, validity, items).map_err(of_slot)
+    }
+}
+
+/// A tree, and the array of it that is checked.
+struct Tree<'s> {
+    sizes: Option<&'s [usize]>,
+    next_size: usize,
+    arrays: usize,
+    path: Path,
+}
+
+impl Tree<'_> {
+    fn refuse(&self, fault: Fault) -> Refused {
+        Refused { broken: fault.0, path: self.path.clone(), slot: fault.1 }
+    }
+
+    /// Goes to child `index` of an array of a kind, or to its dictionary.
+    fn enter(&mut self, kind: Kind, index: Option<usize>) {
+        self.path.0.push((kind, index));
+    }
+
+    /// Buffer `index` of a node whose counts were checked.
+    unsafe fn buffer(&self, node: Node, index: usize) -> Buffer {
+        // SAFETY: the caller's.
+        unsafe {
+            let array = &*node.array;
+            Buffer {
+                start: (*array.buffers.add(index)).cast(),
+                size: self.sizes.map_or(MAX_BYTES, |sizes| sizes[self.next_size + index]),
+                offset: array.offset as usize,
+                length: array.length as usize,
+            }
+        }
+    }
+
+    /// Whether a node whose head was checked is right, and all below it.
+    unsafe fn check_tree(&mut self, node: Node) -> Result<(), Refused> {
+        if self.path.0.len() >= MAX_DEPTH || self.arrays >= MAX_ARRAYS {
+            return Err(self.refuse(Broken::TooLarge.into()));
+        }
+        self.arrays += 1;
+        // SAFETY: the caller's; the head was checked.
+        unsafe {
+            let format = CStr::from_ptr((*node.schema).format).to_bytes();
+            let layout = Layout::read(format).ok_or_else(|| self.refuse(Broken::Format.into()))?;
+            self.check_own(node, &layout).map_err(|fault| self.refuse(fault))?;
+            self.next_size += if self.sizes.is_some() { layout.buffers } else { 0 };
+            for index in 0..(*node.array).n_children as usize {
+                self.enter(layout.kind, Some(index));
+                self.check_tree(node.child(index))?;
+                self.path.0.pop();
+            }
+            if let Some(dictionary) = node.dictionary() {
+                self.enter(layout.kind, None);
+                self.check_tree(dictionary)?;
+                self.path.0.pop();
+            }
+        }
+        Ok(())
+    }
+
+    /// Whether it is right but for its children and its dictionary. Stays where it is not.
+    unsafe fn check_own(&mut self, node: Node, layout: &Layout<'_>) -> Result<(), Fault> {
+        // SAFETY: the caller's.
+        unsafe {
+            self.check_counts(node, layout)?;
+            self.check_heads(node, layout)?;
+            let null_count = (*node.array).null_count;
+            if layout.has_validity() {
+                self.check_nulls(node)?;
+            }
+            if layout.is_union() && !matches!(null_count, 0 | -1) {
+                return Err(Refusal::Nulls.into());
+            }
+            self.check_content(node, layout)
+        }
+    }
+
+    /// Whether there are as many buffers, sizes and children as the format has, and a dictionary of both or of none.
+    unsafe fn check_counts(&self, node: Node, layout: &Layout<'_>) -> Result<(), Broken> {
+        // SAFETY: the head was checked.
+        let (schema, array) = unsafe { (&*node.schema, &*node.array) };
+        let children = layout.children.map_or(schema.n_children, |count| count as i64);
+        if array.n_buffers != layout.buffers as i64 {
+            return Err(Broken::Buffers);
+        }
+        if array.n_children != children || schema.n_children != children {
+            return Err(Broken::Children);
+        }
+        if children > MAX_ARRAYS as i64 {
+            return Err(Broken::TooLarge);
+        }
+        let no_buffers = array.n_buffers > 0 && array.buffers.is_null();
+        if no_buffers || (children > 0 && (array.children.is_null() || schema.children.is_null())) {
+            return Err(Broken::Null);
+        }
+        let has_dictionary = !array.dictionary.is_null();
+        if has_dictionary == schema.dictionary.is_null() || (has_dictionary && layout.index.is_none()) {
+            return Err(Broken::Dictionary);
+        }
+        if self.sizes.is_some_and(|sizes| sizes.len() - self.next_size < layout.buffers) {
+            return Err(Broken::Sizes);
+        }
+        Ok(())
+    }
+
+    /// Whether each child can be read at all. Stays at the one that cannot.
+    unsafe fn check_heads(&mut self, node: Node, layout: &Layout<'_>) -> Result<(), Broken> {
+        // SAFETY: the counts were checked.
+        unsafe {
+            for index in 0..(*node.array).n_children as usize {
+                node.child(index).check_head().inspect_err(|_| self.enter(layout.kind, Some(index)))?;
+            }
+            if let Some(dictionary) = node.dictionary() {
+                dictionary.check_head().inspect_err(|_| self.enter(layout.kind, None))?;
+            }
+        }
+        Ok(())
+    }
+
+    /// Whether the validity is there for all items, and has as many nulls as declared.
+    unsafe fn check_nulls(&self, node: Node) -> Result<(), Fault> {
+        // SAFETY: the caller's.
+        unsafe {
+            let null_count = (*node.array).null_count;
+            let buffer = self.buffer(node, 0);
+            if buffer.start.is_null() {
+                return if matches!(null_count, 0 | -1) { Ok(()) } else { Err(Refusal::Nulls.into()) };
+            }
+            check_bits(buffer.size, buffer.offset, buffer.length)?;
+            let bits = Bits { bytes: buffer.items(0, bytes_for(buffer.offset + buffer.length)), offset: buffer.offset };
+            Ok(check_validity(bits, buffer.length, null_count)?)
+        }
+    }
+
+    /// Whether what the array itself holds is right.
+    unsafe fn check_content(&mut self, node: Node, layout: &Layout<'_>) -> Result<(), Fault> {
+        // SAFETY: the caller's; the counts and the heads of children were checked.
+        unsafe {
+            let array = &*node.array;
+            match layout.kind {
+                Kind::Null if array.null_count == -1 || array.null_count == array.length => Ok(()),
+                Kind::Null => Err(Refusal::Nulls.into()),
+                Kind::Map if !is_entries(node.child(0)) => Err(Broken::Children.into()),
+                Kind::Map | Kind::List => {
+                    let items = (*node.child(0).array).length as usize;
+                    let offsets = self.buffer(node, 1);
+                    if layout.size == 4 {
+                        offsets.offsets::<i32>(items).map(|_| ())
+                    } else {
+                        offsets.offsets::<i64>(items).map(|_| ())
+                    }
+                }
+                Kind::Struct => self.check_lengths(node, layout.kind, 1),
+                Kind::FixedList => self.check_lengths(node, layout.kind, layout.size),
+                Kind::SparseUnion => {
+                    self.check_union(node, layout)?;
+                    self.check_lengths(node, layout.kind, 1)
+                }
+                Kind::DenseUnion => self.check_union(node, layout),
+                Kind::Boolean | Kind::Fixed | Kind::Bytes | Kind::Text => self.check_flat(node, layout),
+            }
+        }
+    }
+
+    /// Whether the values of an array of no children are there and right.
+    unsafe fn check_flat(&self, node: Node, layout: &Layout<'_>) -> Result<(), Fault> {
+        // SAFETY: the caller's.
+        unsafe {
+            let second = self.buffer(node, 1);
+            let texts = layout.kind == Kind::Text;
+            if texts || layout.kind == Kind::Bytes {
+                let values = self.buffer(node, 2);
+                return if layout.size == 4 {
+                    second.check_slots::<i32>(values, texts)
+                } else {
+                    second.check_slots::<i64>(values, texts)
+                };
+            }
+            second.check_values(layout.kind == Kind::Boolean, layout.size)?;
+            let Some(dictionary) = node.dictionary() else { return Ok(()) };
+            let items = (*dictionary.array).length as usize;
+            let validity = self.buffer(node, 0).bits();
+            match layout.index {
+                Some(b'c') => second.check_indices::<i8>(validity, items),
+                Some(b'C') => second.check_indices::<u8>(validity, items),
+                Some(b's') => second.check_indices::<i16>(validity, items),
+                Some(b'S') => second.check_indices::<u16>(validity, items),
+                Some(b'i') => second.check_indices::<i32>(validity, items),
+                Some(b'I') => second.check_indices::<u32>(validity, items),
+                Some(b'l') => second.check_indices::<i64>(validity, items),
+                _ => second.check_indices::<u64>(validity, items),
+            }
+        }
+    }
+
+    /// Whether each child has `of_a_slot` items for each slot, those in front too. Stays at the one that has
+    /// not.
+    unsafe fn check_lengths(&mut self, node: Node, kind: Kind, of_a_slot: usize) -> Result<(), Fault> {
+        // SAFETY: the caller's.
+        unsafe {
+            let array = &*node.array;
+            for index in 0..array.n_children as usize {
+                let items = (*node.child(index).array).length as usize;
+                if check_values(items, of_a_slot, array.offset as usize, array.length as usize).is_err() {
+                    self.enter(kind, Some(index));
+                    return Err(Broken::ShortChild.into());
+                }
+            }
+        }
+        Ok(())
+    }
+
+    /// Whether each slot of a union has a type of the format and, if it is dense, points into its child, at no item in
+    /// front of that of an earlier slot.
+    unsafe fn check_union(&self, node: Node, layout: &Layout<'_>) -> Result<(), Fault> {
+        // SAFETY: the caller's.
+        unsafe {
+            let types = self.buffer(node, 0);
+            types.check_values(false, 1)?;
+            let types: &[i8] = types.items(types.offset, types.length);
+            let child_of = layout.child_of_types();
+            let of = |of_type: i8| usize::try_from(of_type).ok().and_then(|it| child_of[it]);
+            let dense = layout.kind == Kind::DenseUnion;
+            let offsets: &[i32] = if dense { self.union_offsets(node)? } else { &[] };
+            let mut least = [0; 128];
+            for (slot, of_type) in types.iter().enumerate() {
+                let child = of(*of_type).ok_or(Fault(Broken::Type, Some(slot)))?;
+                if let Some(offset) = offsets.get(slot) {
+                    let least = &mut least[*of_type as usize];
+                    if offset < least || i64::from(*offset) >= (*node.child(child).array).length {
+                        return Err(Fault(Broken::UnionOffset, Some(slot)));
+                    }
+                    *least = *offset;
+                }
+            }
+        }
+        Ok(())
+    }
+
+    unsafe fn union_offsets<'a>(&self, node: Node) -> Result<&'a [i32], Fault> {
+        // SAFETY: the caller's.
+        unsafe {
+            let offsets = self.buffer(node, 1);
+            offsets.check_values(false, 4)?;
+            offsets.check_pointer(offsets.length, 4)?;
+            Ok(offsets.items(offsets.offset, offsets.length))
+        }
+    }
+}
+
+/// Whether the child of a map is a struct of two.
+unsafe fn is_entries(entries: Node) -> bool {
+    // SAFETY: its head was checked.
+    unsafe { CStr::from_ptr((*entries.schema).format) == c"+s" && (*entries.schema).n_children == 2 }
+}

@@ -1,0 +1,175 @@
+//! Views of arrays that were checked.
+
+use super::abi::{ArrowArray, ArrowSchema};
+use super::layout::{Kind, Layout};
+use crate::Bits;
+use crate::bytes_for;
+use core::ffi::CStr;
+use core::slice;
+
+/// An array that was checked, and its schema.
+#[derive(Clone, Copy, Debug)]
+pub struct View<'a> {
+    schema: &'a ArrowSchema,
+    array: &'a ArrowArray,
+}
+
+/// Offsets of either width: one more than slots.
+#[derive(Clone, Copy, Debug, PartialEq, Eq)]
+pub enum Offsets<'a> {
+    /// Of 32 bits.
+    Narrow(&'a [i32]),
+    /// Of 64 bits.
+    Wide(&'a [i64]),
+}
+
+impl<'a> View<'a> {
+    /// # Safety
+    ///
+    /// The array follows the interface, and was checked to be one of the schema.
+    pub(super) unsafe fn new(schema: &'a ArrowSchema, array: &'a ArrowArray) -> Self {
+        View { schema, array }
+    }
+
+    /// How many items there are.
+    #[must_use]
+    pub fn len(&self) -> usize {
+        self.array.length as usize
+    }
+
+    /// Whether there is none.
+    #[must_use]
+    pub fn is_empty(&self) -> bool {
+        self.len() == 0
+    }
+
+    /// The first item's place in the buffers.
+    #[must_use]
+    pub fn offset(&self) -> usize {
+        self.array.offset as usize
+    }
+
+    /// The format.
+    #[must_use]
+    pub fn format(&self) -> &'a CStr {
+        // SAFETY: a checked schema has one, which lives as long as the schema.
+        unsafe { CStr::from_ptr(self.schema.format) }
+    }
+
+    /// What the format says.
+    #[must_use]
+    pub fn layout(&self) -> Layout<'a> {
+        let known = Layout::read(self.format().to_bytes());
+        known.expect("a view is made of an array whose format the check knew")
+    }
+
+    /// The name of the field, if it has one.
+    #[must_use]
+    pub fn name(&self) -> Option<&'a CStr> {
+        // SAFETY: a name is null or a text that lives as long as the schema.
+        unsafe { (!self.schema.name.is_null()).then(|| CStr::from_ptr(self.schema.name)) }
+    }
+
+    /// Which items are not null, from [`Bits::offset`] on; `None` where none is.
+    #[must_use]
+    pub fn validity(&self) -> Option<Bits<'a>> {
+        if self.layout().has_validity() { self.bits(0) } else { None }
+    }
+
+    /// The values of booleans.
+    #[must_use]
+    pub fn booleans(&self) -> Option<Bits<'a>> {
+        if self.layout().kind == Kind::Boolean { self.bits(1) } else { None }
+    }
+
+    /// The offsets of texts, byte strings, lists and maps.
+    #[must_use]
+    pub fn offsets(&self) -> Option<Offsets<'a>> {
+        let layout = self.layout();
+        if !matches!(layout.kind, Kind::Bytes | Kind::Text | Kind::List | Kind::Map) {
+            return None;
+        }
+        let start = self.buffer(1);
+        if self.is_empty() && start.is_none() {
+            return Some(if layout.size == 4 { Offsets::Narrow(&[0]) } else { Offsets::Wide(&[0]) });
+        }
+        let count = self.len() + 1;
+        // SAFETY: the check found the pointer aligned, and these offsets from the array's own on.
+        start.map(|start| unsafe {
+            if layout.size == 4 {
+                Offsets::Narrow(slice::from_raw_parts(start.cast::<i32>().add(self.offset()), count))
+            } else {
+                Offsets::Wide(slice::from_raw_parts(start.cast::<i64>().add(self.offset()), count))
+            }
+        })
+    }
+
+    /// The bytes of texts and byte strings up to the last offset, or those of values of a fixed width, from the first
+    /// item on.
+    #[must_use]
+    pub fn bytes(&self) -> Option<&'a [u8]> {
+        let layout = self.layout();
+        let (index, from, count) = match layout.kind {
+            Kind::Fixed => (1, layout.size * self.offset(), layout.size * self.len()),
+            Kind::Bytes | Kind::Text => (2, 0, self.last_offset()),
+            _ => return None,
+        };
+        if count == 0 {
+            return Some(&[]);
+        }
+        // SAFETY: the check found these bytes there.
+        self.buffer(index).map(|start| unsafe { slice::from_raw_parts(start.add(from), count) })
+    }
+
+    /// The last offset, 0 where there is no slot.
+    fn last_offset(&self) -> usize {
+        match self.offsets() {
+            _ if self.is_empty() => 0,
+            Some(Offsets::Narrow(offsets)) => offsets[self.len()] as usize,
+            Some(Offsets::Wide(offsets)) => offsets[self.len()] as usize,
+            None => 0,
+        }
+    }
+
+    /// The bytes of slot `slot` of texts or byte strings, also of a null.
+    #[must_use]
+    pub fn slot(&self, slot: usize) -> Option<&'a [u8]> {
+        let (start, end) = match self.offsets()? {
+            Offsets::Narrow(offsets) => (*offsets.get(slot)? as usize, *offsets.get(slot + 1)? as usize),
+            Offsets::Wide(offsets) => (*offsets.get(slot)? as usize, *offsets.get(slot + 1)? as usize),
+        };
+        self.bytes()?.get(start..end)
+    }
+
+    /// Child `index`.
+    #[must_use]
+    pub fn child(&self, index: usize) -> Option<View<'a>> {
+        if index >= self.array.n_children as usize {
+            return None;
+        }
+        // SAFETY: the check went through each child, whose pointers are not null and live as long as the array.
+        unsafe { Some(View { schema: &**self.schema.children.add(index), array: &**self.array.children.add(index) }) }
+    }
+
+    /// The dictionary that the values are indices of.
+    #[must_use]
+    pub fn dictionary(&self) -> Option<View<'a>> {
+        // SAFETY: the check found both null or neither, and went through it.
+        unsafe { Some(View { schema: self.schema.dictionary.as_ref()?, array: self.array.dictionary.as_ref()? }) }
+    }
+
+    /// Buffer `index`, `None` where it is null.
+    fn buffer(&self, index: usize) -> Option<*const u8> {
+        // SAFETY: the check found as many buffers as the format has.
+        let start = unsafe { *self.array.buffers.add(index) };
+        (!start.is_null()).then_some(start.cast())
+    }
+
+    /// The bits of buffer `index`.
+    fn bits(&self, index: usize) -> Option<Bits<'a>> {
+        let count = bytes_for(self.offset() + self.len());
+        // SAFETY: the check found these bytes there.
+        self.buffer(index)
+            .map(|start| Bits { bytes: unsafe { slice::from_raw_parts(start, count) }, offset: self.offset() })
+    }
+}

@@ -1,0 +1,94 @@
+//! Checks of the parts of an array that somebody else made.
+
+use crate::Bits;
+use crate::refusal::{Refusal, RefusalAt, told, told_at};
+use crate::sys;
+
+/// Whether the `length` bits are inside, and as many of them not set as declared, if that is declared.
+///
+/// # Errors
+///
+/// [`Refusal::Range`] exactly where they are not inside the bytes, else [`Refusal::Nulls`] exactly where `null_count` is
+/// neither -1 nor their number.
+#[inline]
+pub fn check_validity(validity: Bits<'_>, length: usize, null_count: i64) -> Result<(), Refusal> {
+    let Bits { bytes, offset } = validity;
+    // SAFETY: the slice is borrowed for the call, and it does not keep it.
+    told(unsafe { sys::arrow2_validity_check(bytes.as_ptr(), bytes.len(), offset, length, null_count) })
+}
+
+/// Whether this number of bytes has `length` bits from bit `offset` on.
+///
+/// # Errors
+///
+/// [`Refusal::Range`] exactly where they have not.
+#[inline]
+pub fn check_bits(bytes: usize, offset: usize, length: usize) -> Result<(), Refusal> {
+    // SAFETY: the call takes numbers alone.
+    told(unsafe { sys::arrow2_bits_check(bytes, offset, length) })
+}
+
+/// Whether this number of bytes has `length` values of `width` bytes from value `offset` on.
+///
+/// # Errors
+///
+/// [`Refusal::Range`] exactly where they have not.
+#[inline]
+pub fn check_values(bytes: usize, width: usize, offset: usize, length: usize) -> Result<(), Refusal> {
+    // SAFETY: the call takes numbers alone.
+    told(unsafe { sys::arrow2_values_check(bytes, width, offset, length) })
+}
+
+mod sealed {
+    pub trait Sealed {}
+}
+
+/// A whole number that points into a dictionary.
+pub trait Index: sealed::Sealed + Copy {
+    /// Whether each index that is not null is at least 0 and below `items`. Without a validity none is null.
+    ///
+    /// # Errors
+    ///
+    /// [`Refusal::Range`] exactly where the validity has no bit for each, else [`Refusal::Index`] with the first index
+    /// that is not, exactly where there is one.
+    fn check_indices(indices: &[Self], validity: Option<Bits<'_>>, items: usize) -> Result<(), RefusalAt>;
+}
+
+/// The check of one width.
+macro_rules! index {
+    ($width:ty, $check:ident) => {
+        impl sealed::Sealed for $width {}
+
+        impl Index for $width {
+            #[inline]
+            fn check_indices(indices: &[Self], validity: Option<Bits<'_>>, items: usize) -> Result<(), RefusalAt> {
+                let all_valid = validity.is_none();
+                let Bits { bytes, offset } = validity.unwrap_or(Bits { bytes: &[], offset: 0 });
+                let mut slot = 0;
+                // SAFETY: the slices and the number are borrowed for the call, and it keeps none.
+                let code = unsafe {
+                    sys::$check(
+                        indices.as_ptr(),
+                        indices.len(),
+                        bytes.as_ptr(),
+                        bytes.len(),
+                        offset,
+                        all_valid,
+                        items,
+                        &mut slot,
+                    )
+                };
+                told_at(code, slot)
+            }
+        }
+    };
+}
+
+index!(i8, arrow2_indices_i8_check);
+index!(u8, arrow2_indices_u8_check);
+index!(i16, arrow2_indices_i16_check);
+index!(u16, arrow2_indices_u16_check);
+index!(i32, arrow2_indices_i32_check);
+index!(u32, arrow2_indices_u32_check);
+index!(i64, arrow2_indices_i64_check);
+index!(u64, arrow2_indices_u64_check);
