@@ -108,6 +108,10 @@ pub fn all(inputs: &Inputs) -> impl Iterator<Item = (&'static str, Line<'_>)> {
         ("arrow2_tables", tables(inputs)),
         ("arrow2_array", arrays(inputs)),
         ("arrow2_buffer", buffers(inputs)),
+        ("arrow2_primitive", built(inputs)),
+        ("arrow2_text", texts(inputs)),
+        ("arrow2_compute", selected(inputs)),
+        ("arrow2_compute", computed(inputs)),
         ("arrow2_offset", offsets(inputs)),
         ("arrow2_offset", shared_offsets(inputs)),
         ("arrow2_ffi", exports::lines(inputs)),
@@ -514,5 +518,115 @@ fn shared_offsets(inputs: &Inputs) -> Vec<Line<'_>> {
         ),
         on("clone and sliced", (100_000, "slices"), "sliced", parts(NUMBERS, 1, NUMBERS, 100_000)),
         line!("widened to 64 bits", all, widen(offsets_of_32), vec![0; 8]),
+    ]
+}
+
+/// The size of a line on a column, and whether it has nulls.
+struct Size<'a> {
+    name: &'static str,
+    length: usize,
+    validity: &'a [u8],
+    times: usize,
+    elements: (usize, &'static str),
+}
+
+/// Columns of a million items and of 100, without nulls and with nulls.
+fn sizes(inputs: &Inputs) -> [Size<'_>; 4] {
+    let nulls = &inputs.bytes[..];
+    let many = |name, validity| Size {
+        name,
+        length: MANY,
+        validity,
+        times: 4,
+        elements: (4 * MANY, "items"),
+    };
+    let few = |name, validity| Size {
+        name,
+        length: 100,
+        validity,
+        times: 10_000,
+        elements: (10_000, "calls"),
+    };
+    [
+        many("", NONE),
+        many(", with nulls", nulls),
+        few(" of 100 items", NONE),
+        few(" of 100 items, with nulls", nulls),
+    ]
+}
+
+fn built(inputs: &Inputs) -> Vec<Line<'_>> {
+    let Inputs { values, items, trues, .. } = inputs;
+    let line = |name, valid, elements, runs| line!(name, elements, options(values, valid), runs);
+    vec![
+        line("built from options", trues, (4 * MANY, "items"), vec![MANY; 4]),
+        line("built from options, with nulls", items, (4 * MANY, "items"), vec![MANY; 4]),
+        line("built from 100 options", trues, (10_000, "calls"), vec![100; 10_000]),
+        line("built from 100 options, with nulls", items, (10_000, "calls"), vec![100; 10_000]),
+    ]
+}
+
+fn selected(inputs: &Inputs) -> Vec<Line<'_>> {
+    let Inputs { values, bytes_from_3, bytes_of_few, bytes_of_runs, indices, .. } = inputs;
+    let masks = [
+        ("filter by half", &bytes_from_3[..]),
+        ("filter by one in a hundred", &bytes_of_few[..]),
+        ("filter by long runs", &bytes_of_runs[..]),
+    ];
+    let mut lines = Vec::new();
+    for Size { name: size, length, validity, times, elements } in sizes(inputs) {
+        for (name, mask) in masks {
+            let (values, runs) = (&values[..length], vec![length; times]);
+            let name = format!("{name}{size}");
+            lines.push(line!(name, elements, columns("filter", values, validity, mask), runs));
+        }
+        let (name, runs) = (format!("take at random{size}"), vec![length; times]);
+        let indices: &[usize] = if length == MANY { indices } else { &SHUFFLED };
+        lines.push(line!(name, elements, take(&values[..length], validity, indices), runs));
+    }
+    lines
+}
+
+/// The indices of 100 items in another order.
+static SHUFFLED: [usize; 100] = shuffled();
+
+const fn shuffled() -> [usize; 100] {
+    let mut indices = [0; 100];
+    let mut index = 0;
+    while index < 100 {
+        indices[index] = index * 37 % 100;
+        index += 1;
+    }
+    indices
+}
+
+fn computed(inputs: &Inputs) -> Vec<Line<'_>> {
+    let Inputs { values, bytes, .. } = inputs;
+    let mut lines = Vec::new();
+    for Size { name: size, length, validity, times, elements } in sizes(inputs) {
+        for call in ["lt_scalar", "lt", "sum", "min"] {
+            let (values, runs) = (&values[..length], vec![length; times]);
+            let name = format!("{call}{size}");
+            lines.push(line!(name, elements, columns(call, values, validity, bytes), runs));
+        }
+    }
+    lines
+}
+
+fn texts(inputs: &Inputs) -> Vec<Line<'_>> {
+    let Inputs { texts, offsets, .. } = inputs;
+    let few = &offsets[..101];
+    let line = |name, call, (elements, unit): (usize, &'static str), offsets, runs| {
+        line!(name, (elements, unit), texts(call, texts, offsets), runs)
+    };
+    let long =
+        |name, call| line(name, call, (4 * NUMBERS, "texts"), &offsets[..], vec![NUMBERS; 4]);
+    let short = |name, call| line(name, call, (10_000, "calls"), few, vec![100; 10_000]);
+    vec![
+        long("try_new, which tests that each is UTF-8", "try_new"),
+        long("push of each", "push"),
+        short("push of 100", "push"),
+        long("compared with one", "compared"),
+        short("100 compared with one", "compared"),
     ]
 }

@@ -153,15 +153,17 @@ fn booleans(inputs: &Inputs) -> Vec<Line<'_>> {
 }
 
 fn offsets(inputs: &Inputs) -> Vec<Line<'_>> {
-    let small: [Call<Slots>; 5] = calls![
+    let small: [Call<Slots>; 6] = calls![
         offsets32_check,
+        texts32_check,
         offsets32_lengths,
         offsets32_from_lengths,
         offsets32_from_zero,
         offsets_widen,
     ];
-    let large: [Call<Slots>; 5] = calls![
+    let large: [Call<Slots>; 6] = calls![
         offsets64_check,
+        texts64_check,
         offsets64_lengths,
         offsets64_from_lengths,
         offsets64_from_zero,

@@ -218,6 +218,23 @@ fn check<O: Offset>(offsets: &[O], runs: &[usize]) -> usize {
     added(runs, |count| O::check(&offsets[..count]).map(|()| count))
 }
 
+pub fn texts32_check(on: &Slots, runs: &[usize]) -> usize {
+    check_texts(&on.offsets32, &on.texts, runs)
+}
+
+pub fn texts64_check(on: &Slots, runs: &[usize]) -> usize {
+    check_texts(&on.offsets64, &on.texts, runs)
+}
+
+fn check_texts<O: Offset>(offsets: &[O], texts: &[u8], runs: &[usize]) -> usize {
+    let mut sum = 0usize;
+    for count in runs {
+        let checked = O::check_texts(&offsets[..*count], black_box(texts));
+        sum = sum.wrapping_add(checked.map_or(0, |()| *count));
+    }
+    sum
+}
+
 fn lengths<O: Offset>(offsets: &[O], runs: &[usize]) -> usize {
     let mut out = vec![0; offsets.len() - 1];
     let mut refused = 0;
