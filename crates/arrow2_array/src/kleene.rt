@@ -27,10 +27,10 @@ pub const OR_KNOWN: u16 = 0b1111_1100_1000_1000;
 
 /// For which items it is known whether both are true, where one of them is not null: bit
 /// `value + 2 * validity + 4 * other` of an item and of the value that the other one has.
-pub(crate) const AND_KNOWN_BESIDE: u8 = 0b1100_1111;
+pub const AND_KNOWN_BESIDE: u8 = 0b1100_1111;
 
 /// And for which it is known whether one is true, or both.
-pub(crate) const OR_KNOWN_BESIDE: u8 = 0b1111_1100;
+pub const OR_KNOWN_BESIDE: u8 = 0b1111_1100;
 
 /// An operator of Kleene's logic.
 #[derive(Clone, Copy)]
