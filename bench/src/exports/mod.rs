@@ -87,7 +87,7 @@ fn single_bits(inputs: &Inputs) -> Vec<Line<'_>> {
 }
 
 fn bits(inputs: &Inputs) -> Vec<Line<'_>> {
-    let calls: [Call<FourBits>; 12] = calls![
+    let calls: [Call<FourBits>; 13] = calls![
         count_zeros,
         copy_bits,
         unary_table,
@@ -100,6 +100,7 @@ fn bits(inputs: &Inputs) -> Vec<Line<'_>> {
         quaternary_assign_table,
         and_kleene,
         or_kleene,
+        and_kleene_optional,
     ];
     let mut lines = equal(inputs);
     lines.extend(on_bits(&calls, &four_bits(inputs), times));

@@ -3,7 +3,7 @@
 //! Each function makes what its call needs, and then makes one call for each run, which is the length that it takes.
 //! What was written is read once, behind the runs.
 use super::inputs::{digest, digest_of_bytes, FourBits, Slots, CHOICE, KNOWN};
-use arrow2_proved::{bytes_for, Bits, Nullable, Offset, Refusal, NOT, XOR};
+use arrow2_proved::{bytes_for, Bits, Nullable, Offset, OptionalNullable, Refusal, NOT, XOR};
 use std::hint::black_box;
 
 /// The answers of a call for each run, added up.
@@ -158,6 +158,16 @@ pub fn or_kleene(on: &FourBits, runs: &[usize]) -> usize {
     let [left, right] = arrays(on);
     both_written(on.length, runs, |length, values, validity| {
         arrow2_proved::or_kleene(left, right, length, values, validity)
+    })
+}
+
+/// The left side has no validity.
+pub fn and_kleene_optional(on: &FourBits, runs: &[usize]) -> usize {
+    let [left, right] = arrays(on);
+    let left = OptionalNullable { values: left.values, validity: None };
+    let right = OptionalNullable { values: right.values, validity: Some(right.validity) };
+    both_written(on.length, runs, |length, values, validity| {
+        arrow2_proved::and_kleene_optional(left, right, length, values, validity)
     })
 }
 

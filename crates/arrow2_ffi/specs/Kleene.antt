@@ -1,8 +1,8 @@
 -- Kleene's logic on bits in memory: what the code of a call says, and what it wrote.
-use Rattle.std.specs.Prelude.{◌≡◌, ℕ, List, [], ◌∷◌, Bool, Option, take}
+use Rattle.std.specs.Prelude.{◌≡◌, ℕ, List, [], ◌∷◌, Bool, true, Option, take}
 use Rattle.arrow2_model.specs.Bits.{bits}
 use Rattle.arrow2_model.specs.Parts.{part}
-use Rattle.arrow2_model.specs.Tables.{each}
+use Rattle.arrow2_model.specs.Tables.{answer, each}
 use Rattle.arrow2_walks.specs.Zipped.{zipped}
 use Rattle.arrow2_array.specs.Kleene.{by_items}
 use Rattle.arrow2_ffi.specs.Validities.{SaysOf, valid_items, validity_of}
@@ -64,6 +64,16 @@ first_valid n x = valid_items x.validity n
 -- n of both are inside
 abbrev pub IsWholeInside : ℕ → OptionalInput → Type 0
 IsWholeInside n x = IsInside x.values.0 x.values.1 n × SaysOf x.validity n
+
+-- a table of three inputs, of value and validity of an item and of the value of one that is not null, answers what a table of
+-- four does
+pub record IsBeside (beside known : ℕ) : Type 0 where
+  -- where the second item is the one that is not null
+  pub second : (a n b : Bool) → answer beside (a ∷ n ∷ b ∷ []) ≡ answer known (a ∷ n ∷ b ∷ true ∷ [])
+  -- where the first one is
+  pub first : (a b m : Bool) → answer beside (b ∷ m ∷ a ∷ []) ≡ answer known (a ∷ true ∷ b ∷ m ∷ [])
+  -- and where neither is null the table of four answers true
+  pub both : (a b : Bool) → answer known (a ∷ true ∷ b ∷ true ∷ []) ≡ true
 
 -- what f makes of n items is stored, by a table of the values and one of which of them are known
 pub record StoresOptionalKleene (f : Option Bool → Option Bool → Option Bool) (t known n : ℕ) (left right : OptionalInput) (new_values new_validity : List ℕ) : Type 0 where

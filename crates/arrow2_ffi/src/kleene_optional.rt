@@ -1,18 +1,24 @@
 //! Kleene's logic where either side may have no validity: then none of its items is null.
 //!
-//! A validity that is missing costs no memory: its side's values are read in its stead, by a table that does not depend on
-//! them.
-ghost use Rattle.std.specs.Prelude.{◌≡◌, ℕ, Bool, Option, [], ◌∷◌, ◌↔◌, ◌||◌, is_none, IsTrue};
-ghost use Rattle.arrow2_model.specs.Tables.{answer};
+//! A validity that is missing costs no memory, and nothing is read in its stead.
+ghost use Rattle.std.specs.Prelude.{Bool, Option, [], ◌∷◌, ◌↔◌, IsTrue};
+ghost use Rattle.arrow2_model.specs.Tables.{each};
 ghost use Rattle.arrow2_array.specs.Kleene.{kleene_and, kleene_or, Spells};
-ghost use Rattle.arrow2_ffi.specs.Kleene.{IsWholeInside, WritesOptionalKleene, optional_of};
+ghost use Rattle.arrow2_ffi.specs.Kleene.{IsBeside, IsWholeInside, WritesOptionalKleene, first_valid, first_values, optional_of};
+ghost use Rattle.arrow2_ffi.specs.Ranges.{Holds};
 ghost use Rattle.arrow2_ffi.specs.Validities.{given};
+ghost use Rattle.arrow2_ffi.specs.Writes.{Stores};
 
 use crate::codes::{ARROW2_LENGTH, ARROW2_OK, ARROW2_RANGE};
 use crate::ranges::{Bits, are_inside, hold};
-use crate::rows::{assign_four, assign_two, copy};
+use crate::rows::{write_four, write_three, write_two};
 use crate::validities::{given_validity, says_of};
-use arrow2_array::kleene::{AND_KNOWN, AND_VALUES, OR_KNOWN, OR_VALUES};
+use arrow2_array::kleene::{
+    AND_KNOWN, AND_KNOWN_BESIDE, AND_VALUES, OR_KNOWN, OR_KNOWN_BESIDE, OR_VALUES,
+};
+
+/// The table of two inputs that is true of any.
+const ALWAYS: u8 = 0b1111;
 
 /// Values, and their validity where some may be null.
 #[derive(Clone, Copy)]
@@ -61,8 +67,7 @@ pub extern "C" fn arrow2_and_kleene_optional(
         values: Bits(right, right_offset),
         validity: given_validity(right_all_valid, right_validity, right_validity_offset),
     };
-    let known = and_known(left.validity.is_none(), right.validity.is_none());
-    write(left, right, length, AND_VALUES, known, values, validity)
+    write::<AND_VALUES, AND_KNOWN, AND_KNOWN_BESIDE>(left, right, length, values, validity)
 }
 
 /// Writes, item by item, whether one is true, or both, as `arrow2_or_kleene` does. Where `left_all_valid` is true no item
@@ -104,24 +109,19 @@ pub extern "C" fn arrow2_or_kleene_optional(
         values: Bits(right, right_offset),
         validity: given_validity(right_all_valid, right_validity, right_validity_offset),
     };
-    let known = or_known(left.validity.is_none(), right.validity.is_none());
-    write(left, right, length, OR_VALUES, known, values, validity)
+    write::<OR_VALUES, OR_KNOWN, OR_KNOWN_BESIDE>(left, right, length, values, validity)
 }
 
-/// Writes the values by table `values_table` of two inputs, and the validity by table `known_table` of four.
-fn write(
+/// Writes the values by table `VALUES` of two inputs, and the validity by table `KNOWN` of four, or by `BESIDE` of three.
+fn write<const VALUES: u8, const KNOWN: u16, const BESIDE: u8>(
     left: Side<'_>,
     right: Side<'_>,
     length: usize,
-    values_table: u8,
-    known_table: u16,
     values: &mut [u8],
     validity: &mut [u8],
 ) -> u32
-    ensures { (f : Option Bool → Option Bool → Option Bool) (t : ℕ) → Spells values_table t f
-        → ((a n b m : Bool) → answer known_table (a ∷ n ∷ b ∷ m ∷ []) ≡ answer t
-        (a ∷ (is_none left.entry.validity || n) ∷ b ∷ (is_none right.entry.validity || m) ∷ []))
-        → WritesOptionalKleene result f values_table t length (optional_of left.entry)
+    ensures { (f : Option Bool → Option Bool → Option Bool) → Spells VALUES KNOWN f → IsBeside BESIDE KNOWN →
+        WritesOptionalKleene result f VALUES KNOWN length (optional_of left.entry)
         (optional_of right.entry) values.old values.new validity.old validity.new }
 {
     if !is_inside(left, length) || !is_inside(right, length) {
@@ -130,50 +130,43 @@ fn write(
     if !hold(values, length) || !hold(validity, length) {
         return ARROW2_LENGTH;
     }
-    copy(left.values, length, values);
-    assign_two(values, length, right.values, values_table);
-    copy(left.values, length, validity);
-    assign_four(
-        validity,
-        length,
-        left.validity.unwrap_or(left.values),
-        right.values,
-        right.validity.unwrap_or(right.values),
-        known_table,
-    );
+    write_two::<VALUES>(values, length, left.values, right.values);
+    write_known::<KNOWN, BESIDE>(validity, length, left, right);
     ARROW2_OK
 }
 
-/// Returns whether values and validity have so many bits.
+/// Returns whether values and validity have `length` bits.
 fn is_inside(side: Side<'_>, length: usize) -> bool
     ensures { IsTrue result ↔ IsWholeInside length (optional_of side.entry) }
 {
     are_inside(side.values, length) && says_of(side.validity, length)
 }
 
-/// The table by which it is known whether both are true, which does not depend on the validity of a side whose items are
-/// all valid.
-fn and_known(left_all_valid: bool, right_all_valid: bool) -> u16
-    ensures { (a n b m : Bool) → answer result (a ∷ n ∷ b ∷ m ∷ [])
-        ≡ answer 53060 (a ∷ (left_all_valid || n) ∷ b ∷ (right_all_valid || m) ∷ []) }
+/// Writes which answers are known: by table `KNOWN` of values and validities, and where one side has no validity by table
+/// `BESIDE`, whose inputs are value and validity of the other side and the value of this one.
+fn write_known<const KNOWN: u16, const BESIDE: u8>(
+    out: &mut [u8],
+    length: usize,
+    left: Side<'_>,
+    right: Side<'_>,
+)
+    requires exact { Holds out.old length }
+    requires left { IsWholeInside length (optional_of left) }
+    requires right { IsWholeInside length (optional_of right) }
+    ensures { IsBeside BESIDE KNOWN → Stores out.new length (each KNOWN
+        (first_values length (optional_of left.entry) ∷ first_valid length (optional_of left.entry)
+        ∷ first_values length (optional_of right.entry) ∷ first_valid length (optional_of right.entry) ∷ [])) }
 {
-    match (left_all_valid, right_all_valid) {
-        (false, false) => AND_KNOWN,
-        (true, false) => 0b1111_1111_0101_0101,
-        (false, true) => 0b1100_1111_1100_1111,
-        (true, true) => 0b1111_1111_1111_1111,
-    }
-}
-
-/// And the one by which it is known whether one is true, or both.
-fn or_known(left_all_valid: bool, right_all_valid: bool) -> u16
-    ensures { (a n b m : Bool) → answer result (a ∷ n ∷ b ∷ m ∷ [])
-        ≡ answer 64648 (a ∷ (left_all_valid || n) ∷ b ∷ (right_all_valid || m) ∷ []) }
-{
-    match (left_all_valid, right_all_valid) {
-        (false, false) => OR_KNOWN,
-        (true, false) => 0b1111_1111_1010_1010,
-        (false, true) => 0b1111_1100_1111_1100,
-        (true, true) => 0b1111_1111_1111_1111,
+    match (left.validity, right.validity) {
+        (None, None) => write_two::<ALWAYS>(out, length, left.values, right.values),
+        (Some(known), None) => {
+            write_three::<BESIDE>(out, length, left.values, known, right.values);
+        }
+        (None, Some(known)) => {
+            write_three::<BESIDE>(out, length, right.values, known, left.values);
+        }
+        (Some(known), Some(other)) => {
+            write_four::<KNOWN>(out, length, left.values, known, right.values, other);
+        }
     }
 }

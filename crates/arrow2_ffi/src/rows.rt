@@ -89,6 +89,34 @@ pub(crate) fn write_two<const T: u8>(
     );
 }
 
+/// The same of a table of three inputs.
+pub(crate) fn write_three<const T: u8>(
+    out: &mut [u8],
+    length: usize,
+    first: Bits<'_>,
+    second: Bits<'_>,
+    third: Bits<'_>,
+)
+    requires exact { Holds out.old length }
+    requires first { HasBits first length }
+    requires second { HasBits second length }
+    requires third { HasBits third length }
+    ensures { Stores out.new length (each T (first_bits first.entry length
+        ∷ first_bits second.entry length ∷ first_bits third.entry length ∷ [])) }
+{
+    let left = pair(first, second, length);
+    let right = words(third, length);
+    write_rows(
+        out,
+        length,
+        Beside { left, right },
+        |((x, y), z)| -> u64
+            ensures { (i : ℕ) → i < 64 → bit result i
+                ≡ answer T (bit x i ∷ bit y i ∷ bit z i ∷ []) }
+        { ternary_answers(u16::from(T), x, y, z) },
+    );
+}
+
 /// The same of a table of four inputs.
 pub(crate) fn write_four<const T: u16>(
     out: &mut [u8],

@@ -1,20 +1,31 @@
-use Rattle.std.proofs.Common.{◌∙◌, rules}
-use Rattle.arrow2_ffi.proofs.OptionalKleene.{known_by_validities, items_by_validities}
+use Rattle.std.proofs.Common.{◌≡◌, ◌∙◌, length, sym, rules}
+use Rattle.arrow2_model.proofs.Walks.{length-part_bits}
+use Rattle.arrow2_array.proofs.Tables.{by_tables}
+use Rattle.arrow2_ffi.specs.Ranges.{first_bits}
+use Rattle.arrow2_ffi.specs.Validities.{valid_items, validity_of}
+use Rattle.arrow2_ffi.proofs.OptionalKleene.{length-valid_items}
 use Rattle.arrow2_ffi.proofs.WriteSteps.{wrote}
 use Rattle.arrow2_ffi.proofs.kleene_optional.write.Goals as goal
 
 pub returns : goal.returns
-returns c f t spelled known =
+returns g c f spelled beside =
     let n = c.args.length in
     let l = c.args.left in
     let r = c.args.right in
     let left = c.is_inside.ensures.0 c.if-not-is_inside.false in
     let right = c.is_inside-else-not-is_inside.ensures.0 c.if-not-is_inside-2.false in
-    let values = rw c.copy.ensures.items at c.assign_two.ensures.items in
-    let read = rw (c.copy-2.ensures.items, c.unwrap_or.ensures, c.unwrap_or-2.ensures) at c.assign_four.ensures.items in
-    let validity = read ∙ known_by_validities t c.args.known_table n l.values r.values l.validity r.validity known left.0 right.0 left.1 right.1 in
+    let xs = first_bits l.values n in
+    let ns = valid_items (validity_of l.validity) n in
+    let ys = first_bits r.values n in
+    let ms = valid_items (validity_of r.validity) n in
+    let x : length xs ≡ n = length-part_bits l.values.0.now l.values.1 n left.0 in
+    let y : length ys ≡ n = length-part_bits r.values.0.now r.values.1 n right.0 in
+    let a = length-valid_items l.validity n left.1 in
+    let b = length-valid_items r.validity n right.1 in
+    let values = c.write_two.ensures in
+    let validity = c.write_known.ensures beside in
     wrote (left, right) (search rules) (record {
-      items = items_by_validities t c.args.known_table n l.values r.values l.validity r.validity known left.0 right.0 left.1 right.1 c.args.values_table f _ _ spelled values validity;
-      values = record { items = values; canonical = c.assign_two.ensures.canonical };
-      validity = record { items = validity; canonical = c.assign_four.ensures.canonical };
+      items = rw (values.items, validity.items) (by_tables g.VALUES g.KNOWN f xs ns ys ms spelled (a ∙ sym x) (y ∙ sym x) (b ∙ sym x));
+      values = values;
+      validity = validity;
     })

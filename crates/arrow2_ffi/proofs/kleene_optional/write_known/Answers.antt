@@ -1,0 +1,68 @@
+use Rattle.std.proofs.Common.{◌≡◌, ◌∙◌, ap, length, sym, [], ◌∷◌}
+use Rattle.arrow2_model.specs.Tables.{each}
+use Rattle.arrow2_model.proofs.Walks.{length-part_bits}
+use Rattle.arrow2_array.proofs.Tables.{all_known, beside_left, beside_right}
+use Rattle.arrow2_ffi.specs.Ranges.{first_bits}
+use Rattle.arrow2_ffi.specs.Validities.{valid_items, validity_of}
+use Rattle.arrow2_ffi.proofs.OptionalKleene.{all_true, all_valid, given_items}
+use Rattle.arrow2_ffi.proofs.kleene_optional.write_known.Goals as goal
+
+pub returns-in-None-None : goal.returns-in-None-None
+returns-in-None-None g c beside =
+    let n = c.args.length in
+    let l = c.args.left in
+    let r = c.args.right in
+    let xs = first_bits l.values n in
+    let ys = first_bits r.values n in
+    let x : length xs ≡ n = length-part_bits l.values.0.now l.values.1 n c.requires.left.0 in
+    let y : length ys ≡ n = length-part_bits r.values.0.now r.values.1 n c.requires.right.0 in
+    let left = all_valid l.validity xs n c.in-None-None.is-0 x in
+    let right = all_valid r.validity ys n c.in-None-None.is-1 y in
+    record {
+      items = c.write_two.ensures.items ∙ (all_true xs ys ∙ all_known g.KNOWN xs (valid_items (validity_of l.validity) n) ys (valid_items (validity_of r.validity) n) beside.both (x ∙ sym y) left right);
+      canonical = c.write_two.ensures.canonical;
+    }
+
+pub returns-in-Some-None : goal.returns-in-Some-None
+returns-in-Some-None g c beside =
+    let n = c.args.length in
+    let l = c.args.left in
+    let r = c.args.right in
+    let xs = first_bits l.values n in
+    let ys = first_bits r.values n in
+    let x : length xs ≡ n = length-part_bits l.values.0.now l.values.1 n c.requires.left.0 in
+    let y : length ys ≡ n = length-part_bits r.values.0.now r.values.1 n c.requires.right.0 in
+    let left = given_items l.validity _ n c.in-Some-None.is-0 in
+    let right = all_valid r.validity ys n c.in-Some-None.is-1 y in
+    record {
+      items = c.write_three.ensures.items ∙ (ap (λ ns. each g.BESIDE (xs ∷ ns ∷ ys ∷ [])) left ∙ beside_right g.KNOWN g.BESIDE xs (valid_items (validity_of l.validity) n) ys (valid_items (validity_of r.validity) n) beside.second (x ∙ sym y) right);
+      canonical = c.write_three.ensures.canonical;
+    }
+
+pub returns-in-None-Some : goal.returns-in-None-Some
+returns-in-None-Some g c beside =
+    let n = c.args.length in
+    let l = c.args.left in
+    let r = c.args.right in
+    let xs = first_bits l.values n in
+    let ys = first_bits r.values n in
+    let x : length xs ≡ n = length-part_bits l.values.0.now l.values.1 n c.requires.left.0 in
+    let y : length ys ≡ n = length-part_bits r.values.0.now r.values.1 n c.requires.right.0 in
+    let left = all_valid l.validity xs n c.in-None-Some.is-0 x in
+    let right = given_items r.validity _ n c.in-None-Some.is-1 in
+    record {
+      items = c.write_three-2.ensures.items ∙ (ap (λ ms. each g.BESIDE (ys ∷ ms ∷ xs ∷ [])) right ∙ beside_left g.KNOWN g.BESIDE xs (valid_items (validity_of l.validity) n) ys (valid_items (validity_of r.validity) n) beside.first (x ∙ sym y) left);
+      canonical = c.write_three-2.ensures.canonical;
+    }
+
+pub returns-in-Some-Some : goal.returns-in-Some-Some
+returns-in-Some-Some g c beside =
+    let n = c.args.length in
+    let l = c.args.left in
+    let r = c.args.right in
+    let left = given_items l.validity _ n c.in-Some-Some.is-0 in
+    let right = given_items r.validity _ n c.in-Some-Some.is-1 in
+    record {
+      items = c.write_four.ensures.items ∙ (ap (λ ns. each g.KNOWN (first_bits l.values n ∷ ns ∷ first_bits r.values n ∷ first_bits _ n ∷ [])) left ∙ ap (λ ms. each g.KNOWN (first_bits l.values n ∷ valid_items (validity_of l.validity) n ∷ first_bits r.values n ∷ ms ∷ [])) right);
+      canonical = c.write_four.ensures.canonical;
+    }
