@@ -59,6 +59,8 @@ static void offsets(void) {
     EXPECT(ARROW2_SPEC_EMPTY, arrow2_offsets64_check(NULL, 0));
     EXPECT(ARROW2_OK, arrow2_offsets32_lengths(narrow, 1, NULL, 0));
     EXPECT(ARROW2_OK, arrow2_offsets64_lengths(wide, 1, NULL, 0));
+    EXPECT(ARROW2_OK, arrow2_offsets32_lengths_unchecked(narrow, 1, NULL, 0));
+    EXPECT(ARROW2_OK, arrow2_offsets64_lengths_unchecked(wide, 1, NULL, 0));
     EXPECT(ARROW2_SPEC_EMPTY, arrow2_offsets32_lengths(NULL, 0, NULL, 0));
     EXPECT(ARROW2_SPEC_EMPTY, arrow2_offsets64_lengths(NULL, 0, NULL, 0));
     EXPECT(ARROW2_OK, arrow2_offsets32_from_lengths(0, NULL, 0, narrow_out, 1));
@@ -67,6 +69,8 @@ static void offsets(void) {
     EXPECT(ARROW2_LENGTH, arrow2_offsets64_from_lengths(0, NULL, 0, NULL, 0));
     EXPECT(ARROW2_LENGTH, arrow2_offsets32_from_zero(narrow, 1, 0, NULL, 0));
     EXPECT(ARROW2_LENGTH, arrow2_offsets64_from_zero(wide, 1, 0, NULL, 0));
+    EXPECT(ARROW2_LENGTH, arrow2_offsets32_from_zero_unchecked(narrow, 1, 0, NULL, 0));
+    EXPECT(ARROW2_LENGTH, arrow2_offsets64_from_zero_unchecked(wide, 1, 0, NULL, 0));
     EXPECT(ARROW2_SPEC_EMPTY, arrow2_offsets_widen(NULL, 0, NULL, 0));
     EXPECT(ARROW2_SPEC_EMPTY, arrow2_offsets_narrow(NULL, 0, NULL, 0));
     EXPECT(ARROW2_SPEC_EMPTY, arrow2_offsets32_check_inside(NULL, 0, 9, &index));

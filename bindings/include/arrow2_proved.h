@@ -195,6 +195,13 @@ uint32_t arrow2_offsets64_check(const int64_t *offsets, size_t offsets_count);
 uint32_t arrow2_offsets32_lengths(const int32_t *offsets, size_t offsets_count, size_t *out, size_t out_count);
 uint32_t arrow2_offsets64_lengths(const int64_t *offsets, size_t offsets_count, size_t *out, size_t out_count);
 
+/* The same, and no offset is tested. Requires that the numbers are offsets, as arrow2_offsets32_check or
+ * arrow2_offsets64_check found: of other numbers memory outside `offsets` may be read. */
+uint32_t arrow2_offsets32_lengths_unchecked(const int32_t *offsets, size_t offsets_count, size_t *out,
+                                            size_t out_count);
+uint32_t arrow2_offsets64_lengths_unchecked(const int64_t *offsets, size_t offsets_count, size_t *out,
+                                            size_t out_count);
+
 /* Writes `start`, and behind it the running sums of the lengths.
  * ARROW2_LENGTH: `out` has not one item more than `lengths`. Else ARROW2_OVERFLOW: `start` and all lengths, added up
  * exactly, are above the greatest offset. */
@@ -209,6 +216,12 @@ uint32_t arrow2_offsets32_from_zero(const int32_t *offsets, size_t offsets_count
                                     size_t out_count);
 uint32_t arrow2_offsets64_from_zero(const int64_t *offsets, size_t offsets_count, size_t from, int64_t *out,
                                     size_t out_count);
+
+/* The same, and no offset is tested. Requires that the numbers are offsets. */
+uint32_t arrow2_offsets32_from_zero_unchecked(const int32_t *offsets, size_t offsets_count, size_t from, int32_t *out,
+                                              size_t out_count);
+uint32_t arrow2_offsets64_from_zero_unchecked(const int64_t *offsets, size_t offsets_count, size_t from, int64_t *out,
+                                              size_t out_count);
 
 /* Writes the same numbers in the other width. ARROW2_LENGTH: `out` has another length than `offsets`.
  * Else, where they are narrowed, ARROW2_OVERFLOW: the last one is above 2147483647. */

@@ -154,10 +154,11 @@ fn booleans(inputs: &Inputs) -> Vec<Line<'_>> {
 }
 
 fn offsets(inputs: &Inputs) -> Vec<Line<'_>> {
-    let small: [Call<Slots>; 6] = calls![
+    let small: [Call<Slots>; 7] = calls![
         offsets32_check,
         texts32_check,
         offsets32_lengths,
+        offsets32_lengths_unchecked,
         offsets32_from_lengths,
         offsets32_from_zero,
         offsets_widen,

@@ -3,7 +3,7 @@
 //! Each function makes what its call needs, and then makes one call for each run, which is the length that it takes.
 //! What was written is read once, behind the runs.
 use super::inputs::{digest, digest_of_bytes, FourBits, Slots, CHOICE, KNOWN};
-use arrow2_proved::{bytes_for, Bits, Nullable, Offset, OptionalNullable, Refusal, NOT, XOR};
+use arrow2_proved::{bytes_for, Bits, CheckedOffsets, Nullable, Offset, OptionalNullable, Refusal, NOT, XOR};
 use std::hint::black_box;
 
 /// The answers of a call for each run, added up.
@@ -277,6 +277,19 @@ pub fn offsets64_check(on: &Slots, runs: &[usize]) -> usize {
 
 pub fn offsets32_lengths(on: &Slots, runs: &[usize]) -> usize {
     lengths(&on.offsets32, runs)
+}
+
+/// The offsets are checked once, before the runs.
+pub fn offsets32_lengths_unchecked(on: &Slots, runs: &[usize]) -> usize {
+    let Ok(offsets) = CheckedOffsets::new(&on.offsets32) else {
+        return 0;
+    };
+    let mut out = vec![0; on.offsets32.len() - 1];
+    let mut refused = 0;
+    for _ in runs {
+        refused += usize::from(black_box(offsets).lengths(black_box(&mut out)).is_err());
+    }
+    digest(out).wrapping_add(refused)
 }
 
 pub fn offsets64_lengths(on: &Slots, runs: &[usize]) -> usize {

@@ -40,7 +40,7 @@ pub use bits::{copy_bits, count_zeros, equal_bits, get_bit, set_bit};
 pub use booleans::{pack, unpack};
 pub use checks::{Index, check_bits, check_validity, check_values};
 pub use kleene::{Nullable, OptionalNullable, and_kleene, and_kleene_optional, or_kleene, or_kleene_optional};
-pub use offsets::{Offset, narrow, widen};
+pub use offsets::{CheckedOffsets, Offset, narrow, widen};
 pub use places::set_places;
 pub use refusal::{Refusal, RefusalAt};
 pub use runs::runs;

@@ -4,9 +4,21 @@ use crate::refusal::{Refusal, RefusalAt, told, told_at};
 use crate::sys;
 
 mod sealed {
-    pub trait Sealed {}
-    impl Sealed for i32 {}
-    impl Sealed for i64 {}
+    pub trait Sealed: Sized {
+        /// Writes the length of each slot.
+        ///
+        /// # Safety
+        ///
+        /// The numbers are offsets.
+        unsafe fn lengths_unchecked(offsets: &[Self], out: &mut [usize]) -> u32;
+
+        /// Writes some of the offsets, each less the first of them.
+        ///
+        /// # Safety
+        ///
+        /// The numbers are offsets.
+        unsafe fn from_zero_unchecked(offsets: &[Self], from: usize, out: &mut [Self]) -> u32;
+    }
 }
 
 /// A number that an offset may be: `i32` or `i64`.
@@ -65,8 +77,24 @@ pub trait Offset: sealed::Sealed + Copy {
 
 /// The calls of one width.
 macro_rules! offset {
-    ($width:ty, $check:ident, $lengths:ident, $from_lengths:ident, $from_zero:ident, $inside:ident, $texts:ident) => {
+    (
+        $width:ty, $check:ident, $lengths:ident, $lengths_unchecked:ident, $from_lengths:ident, $from_zero:ident,
+        $from_zero_unchecked:ident, $inside:ident, $texts:ident
+    ) => {
         // SAFETY, of each call: each slice is borrowed for the call, what is written alone, and no call keeps one.
+        impl sealed::Sealed for $width {
+            #[inline]
+            unsafe fn lengths_unchecked(offsets: &[Self], out: &mut [usize]) -> u32 {
+                unsafe { sys::$lengths_unchecked(offsets.as_ptr(), offsets.len(), out.as_mut_ptr(), out.len()) }
+            }
+
+            #[inline]
+            unsafe fn from_zero_unchecked(offsets: &[Self], from: usize, out: &mut [Self]) -> u32 {
+                unsafe { sys::$from_zero_unchecked(offsets.as_ptr(), offsets.len(), from, out.as_mut_ptr(), out.len()) }
+            }
+        }
+
+        // SAFETY, of each call: as above.
         impl Offset for $width {
             #[inline]
             fn check(offsets: &[Self]) -> Result<(), Refusal> {
@@ -110,8 +138,10 @@ offset!(
     i32,
     arrow2_offsets32_check,
     arrow2_offsets32_lengths,
+    arrow2_offsets32_lengths_unchecked,
     arrow2_offsets32_from_lengths,
     arrow2_offsets32_from_zero,
+    arrow2_offsets32_from_zero_unchecked,
     arrow2_offsets32_check_inside,
     arrow2_texts32_check
 );
@@ -119,11 +149,58 @@ offset!(
     i64,
     arrow2_offsets64_check,
     arrow2_offsets64_lengths,
+    arrow2_offsets64_lengths_unchecked,
     arrow2_offsets64_from_lengths,
     arrow2_offsets64_from_zero,
+    arrow2_offsets64_from_zero_unchecked,
     arrow2_offsets64_check_inside,
     arrow2_texts64_check
 );
+
+/// Numbers that were found to be offsets, so that no call tests them again.
+#[derive(Clone, Copy, Debug, PartialEq, Eq)]
+pub struct CheckedOffsets<'a, O>(&'a [O]);
+
+impl<'a, O: Offset> CheckedOffsets<'a, O> {
+    /// Returns the numbers as offsets.
+    ///
+    /// # Errors
+    ///
+    /// The first rule that they break.
+    #[inline]
+    pub fn new(offsets: &'a [O]) -> Result<Self, Refusal> {
+        O::check(offsets)?;
+        Ok(CheckedOffsets(offsets))
+    }
+
+    /// Returns the numbers.
+    #[inline]
+    pub fn as_slice(self) -> &'a [O] {
+        self.0
+    }
+
+    /// Writes the length of each slot.
+    ///
+    /// # Errors
+    ///
+    /// [`Refusal::Length`] exactly where `out` has not one item less.
+    #[inline]
+    pub fn lengths(self, out: &mut [usize]) -> Result<(), Refusal> {
+        // SAFETY: `new` found that the numbers are offsets.
+        told(unsafe { O::lengths_unchecked(self.0, out) })
+    }
+
+    /// Writes `out.len()` offsets from offset `from` on, each less the first of them.
+    ///
+    /// # Errors
+    ///
+    /// [`Refusal::Length`] exactly where `out` has no item, else [`Refusal::Range`] exactly where they are not inside.
+    #[inline]
+    pub fn from_zero(self, from: usize, out: &mut [O]) -> Result<(), Refusal> {
+        // SAFETY: `new` found that the numbers are offsets.
+        told(unsafe { O::from_zero_unchecked(self.0, from, out) })
+    }
+}
 
 /// Writes the same offsets, in 64 bits each.
 ///

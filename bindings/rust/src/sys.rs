@@ -129,6 +129,18 @@ unsafe extern "C" {
     pub fn arrow2_offsets64_check(offsets: *const i64, count: usize) -> u32;
     pub fn arrow2_offsets32_lengths(offsets: *const i32, count: usize, out: *mut usize, out_count: usize) -> u32;
     pub fn arrow2_offsets64_lengths(offsets: *const i64, count: usize, out: *mut usize, out_count: usize) -> u32;
+    pub fn arrow2_offsets32_lengths_unchecked(
+        offsets: *const i32,
+        count: usize,
+        out: *mut usize,
+        out_count: usize,
+    ) -> u32;
+    pub fn arrow2_offsets64_lengths_unchecked(
+        offsets: *const i64,
+        count: usize,
+        out: *mut usize,
+        out_count: usize,
+    ) -> u32;
     pub fn arrow2_offsets32_from_lengths(
         start: usize,
         lengths: *const usize,
@@ -151,6 +163,20 @@ unsafe extern "C" {
         out_count: usize,
     ) -> u32;
     pub fn arrow2_offsets64_from_zero(
+        offsets: *const i64,
+        count: usize,
+        from: usize,
+        out: *mut i64,
+        out_count: usize,
+    ) -> u32;
+    pub fn arrow2_offsets32_from_zero_unchecked(
+        offsets: *const i32,
+        count: usize,
+        from: usize,
+        out: *mut i32,
+        out_count: usize,
+    ) -> u32;
+    pub fn arrow2_offsets64_from_zero_unchecked(
         offsets: *const i64,
         count: usize,
         from: usize,

@@ -3,7 +3,7 @@
 mod inputs;
 
 use arrow2_proved::{
-    Bits, Nullable, Offset, Refusal, and_kleene, binary_assign_table, binary_table, bytes_for, copy_bits, count_zeros,
+    Bits, CheckedOffsets, Nullable, Offset, Refusal, and_kleene, binary_assign_table, binary_table, bytes_for, copy_bits, count_zeros,
     equal_bits, get_bit, narrow, or_kleene, pack, quaternary_assign_table, quaternary_table, runs, set_bit, set_places,
     ternary_assign_table, ternary_table, unary_assign_table, unary_table, unpack, widen,
 };
@@ -160,6 +160,23 @@ fn rule(offsets: &[i128]) -> Result<(), Refusal> {
     }
 }
 
+/// Offsets that were checked once give what those do that are checked at each call.
+fn checked_once<O: Offset + Default + PartialEq + std::fmt::Debug>(offsets: &[O], random: &mut Random) {
+    let Ok(checked) = CheckedOffsets::new(offsets) else {
+        assert!(O::check(offsets).is_err());
+        return;
+    };
+    assert_eq!(checked.as_slice(), offsets);
+    let count = random.near(offsets.len() - 1);
+    let (mut once, mut again) = (vec![7; count], vec![7; count]);
+    assert_eq!(checked.lengths(&mut once), O::lengths(offsets, &mut again));
+    assert_eq!(once, again);
+    let (from, count) = (random.below(offsets.len() + 2), random.below(offsets.len() + 2));
+    let (mut once, mut again) = (vec![O::default(); count], vec![O::default(); count]);
+    assert_eq!(checked.from_zero(from, &mut once), O::from_zero(offsets, from, &mut again));
+    assert_eq!(once, again);
+}
+
 /// All calls on offsets of one width.
 fn offsets<O: Offset + Into<i128> + TryFrom<i128> + Default + PartialEq + std::fmt::Debug>(greatest: i128, seed: u64) {
     let mut random = Random::new(seed);
@@ -167,6 +184,7 @@ fn offsets<O: Offset + Into<i128> + TryFrom<i128> + Default + PartialEq + std::f
         let numbers = random.numbers(greatest);
         let offsets: Vec<O> = numbers.iter().map(|n| O::try_from(*n).ok().unwrap()).collect();
         assert_eq!(O::check(&offsets), rule(&numbers));
+        checked_once(&offsets, &mut random);
 
         let mut lengths = vec![7; random.near(numbers.len().saturating_sub(1))];
         let told = rule(&numbers)

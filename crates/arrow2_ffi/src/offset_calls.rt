@@ -11,7 +11,7 @@ use crate::codes::{
     ARROW2_SPEC_FALLING, ARROW2_SPEC_NEGATIVE,
 };
 use arrow2_index::offset::Offset;
-use arrow2_offset::slices::{fits, write_lengths, write_part, write_sums};
+use arrow2_offset::slices::{fits, last, write_lengths, write_part, write_sums};
 use arrow2_offset::{BrokenRule, broken_rule};
 
 /// The code of the first rule that the numbers break, or `None` where they are offsets.
@@ -42,9 +42,19 @@ pub(crate) fn lengths<O: Offset>(offsets: &[O], lengths: &mut [usize]) -> u32
         (length offsets.now ≢ length lengths.old + 1)
         (lengths.new ≡ lengths_of (map O.value offsets.now)) (lengths.new ≡ lengths.old) }
 {
-    if let Some(code) = refusal(offsets) {
-        return code;
+    match refusal(offsets) {
+        Some(code) => code,
+        None => lengths_unchecked(offsets, lengths),
     }
+}
+
+/// The same of numbers that are offsets.
+pub(crate) fn lengths_unchecked<O: Offset>(offsets: &[O], lengths: &mut [usize]) -> u32
+    requires are { AreOffsets (map O.value offsets.now) }
+    ensures { WritesFromOffsets (map O.value offsets.now) result
+        (length offsets.now ≢ length lengths.old + 1)
+        (lengths.new ≡ lengths_of (map O.value offsets.now)) (lengths.new ≡ lengths.old) }
+{
     if offsets.len() - 1 != lengths.len() {
         return ARROW2_LENGTH;
     }
@@ -80,15 +90,29 @@ pub(crate) fn from_zero<O: Offset>(offsets: &[O], from: usize, out: &mut [O]) ->
         (offsets_list 0 (part (lengths_of (map O.value offsets.now)) from (length out.old - 1))))
         (out.new ≡ out.old) }
 {
-    if let Some(code) = refusal(offsets) {
-        return code;
+    match refusal(offsets) {
+        Some(code) => code,
+        None => from_zero_unchecked(offsets, from, out),
     }
+}
+
+/// The same of numbers that are offsets.
+pub(crate) fn from_zero_unchecked<O: Offset>(offsets: &[O], from: usize, out: &mut [O]) -> u32
+    requires are { AreOffsets (map O.value offsets.now) }
+    ensures { WritesFromOffsetsOr ARROW2_RANGE (map O.value offsets.now) result
+        (length out.old ≡ 0) (length offsets.now < from + length out.old)
+        (map O.value out.new ≡ map pos
+        (offsets_list 0 (part (lengths_of (map O.value offsets.now)) from (length out.old - 1))))
+        (out.new ≡ out.old) }
+{
     if out.is_empty() {
         return ARROW2_LENGTH;
     }
     if from > offsets.len() || out.len() > offsets.len() - from {
         return ARROW2_RANGE;
     }
+    // A number that is read is in the range of its type: so no offset is above `O::MAX`.
+    let _last = last(offsets);
     write_part(offsets, from, out);
     ARROW2_OK
 }

@@ -8,7 +8,9 @@ ghost use Rattle.arrow2_ffi.specs.OffsetWrites.{WritesFromOffsets, WritesFromOff
 ghost use Rattle.arrow2_ffi.specs.Rules.{rule_code};
 
 use crate::codes::{ARROW2_LENGTH, ARROW2_OK, ARROW2_OVERFLOW, ARROW2_RANGE};
-use crate::offset_calls::{check, from_zero, lengths, sums};
+use crate::offset_calls::{
+    check, from_zero, from_zero_unchecked, lengths, lengths_unchecked, sums,
+};
 
 /// Whether the numbers are offsets of 32 bits, and else which rule they break first.
 ///
@@ -31,6 +33,19 @@ pub extern "C" fn arrow2_offsets32_lengths(offsets: &[i32], out: &mut [usize]) -
         (out.new ≡ lengths_of offsets.now) (out.new ≡ out.old) }
 {
     lengths(offsets, out)
+}
+
+/// Writes how far each offset of 32 bits is from the next one, as `arrow2_offsets32_lengths` does, and tests no offset.
+/// Requires that they are offsets, as `arrow2_offsets32_check` says: of other numbers memory outside `offsets` may be read.
+///
+/// `ARROW2_LENGTH` exactly where `out` has not one item less.
+#[unsafe(no_mangle)]
+pub extern "C" fn arrow2_offsets32_lengths_unchecked(offsets: &[i32], out: &mut [usize]) -> u32
+    requires are { AreOffsets offsets.now }
+    ensures { WritesFromOffsets offsets.now result (length offsets.now ≢ length out.old + 1)
+        (out.new ≡ lengths_of offsets.now) (out.new ≡ out.old) }
+{
+    lengths_unchecked(offsets, out)
 }
 
 /// Writes `start`, and behind it the running sums of the lengths: offsets of 32 bits.
@@ -69,6 +84,26 @@ pub extern "C" fn arrow2_offsets32_from_zero(offsets: &[i32], from: usize, out: 
     from_zero(offsets, from, out)
 }
 
+/// Writes as many offsets of 32 bits as `out` has, as `arrow2_offsets32_from_zero` does, and tests no offset. Requires that they
+/// are offsets, as `arrow2_offsets32_check` says.
+///
+/// `ARROW2_LENGTH` exactly where `out` has no item, else `ARROW2_RANGE` exactly where so many are not inside.
+#[unsafe(no_mangle)]
+pub extern "C" fn arrow2_offsets32_from_zero_unchecked(
+    offsets: &[i32],
+    from: usize,
+    out: &mut [i32],
+) -> u32
+    requires are { AreOffsets offsets.now }
+    ensures { WritesFromOffsetsOr ARROW2_RANGE offsets.now result (length out.old ≡ 0)
+        (length offsets.now < from + length out.old)
+        (out.new ≡ map pos
+        (offsets_list 0 (part (lengths_of offsets.now) from (length out.old - 1))))
+        (out.new ≡ out.old) }
+{
+    from_zero_unchecked(offsets, from, out)
+}
+
 /// Whether the numbers are offsets of 64 bits, and else which rule they break first.
 ///
 /// `ARROW2_SPEC_EMPTY`, `ARROW2_SPEC_NEGATIVE` or `ARROW2_SPEC_FALLING` for that rule.
@@ -90,6 +125,19 @@ pub extern "C" fn arrow2_offsets64_lengths(offsets: &[i64], out: &mut [usize]) -
         (out.new ≡ lengths_of offsets.now) (out.new ≡ out.old) }
 {
     lengths(offsets, out)
+}
+
+/// Writes how far each offset of 64 bits is from the next one, as `arrow2_offsets64_lengths` does, and tests no offset.
+/// Requires that they are offsets, as `arrow2_offsets64_check` says: of other numbers memory outside `offsets` may be read.
+///
+/// `ARROW2_LENGTH` exactly where `out` has not one item less.
+#[unsafe(no_mangle)]
+pub extern "C" fn arrow2_offsets64_lengths_unchecked(offsets: &[i64], out: &mut [usize]) -> u32
+    requires are { AreOffsets offsets.now }
+    ensures { WritesFromOffsets offsets.now result (length offsets.now ≢ length out.old + 1)
+        (out.new ≡ lengths_of offsets.now) (out.new ≡ out.old) }
+{
+    lengths_unchecked(offsets, out)
 }
 
 /// Writes `start`, and behind it the running sums of the lengths: offsets of 64 bits.
@@ -126,4 +174,24 @@ pub extern "C" fn arrow2_offsets64_from_zero(offsets: &[i64], from: usize, out: 
         (out.new ≡ out.old) }
 {
     from_zero(offsets, from, out)
+}
+
+/// Writes as many offsets of 64 bits as `out` has, as `arrow2_offsets64_from_zero` does, and tests no offset. Requires that they
+/// are offsets, as `arrow2_offsets64_check` says.
+///
+/// `ARROW2_LENGTH` exactly where `out` has no item, else `ARROW2_RANGE` exactly where so many are not inside.
+#[unsafe(no_mangle)]
+pub extern "C" fn arrow2_offsets64_from_zero_unchecked(
+    offsets: &[i64],
+    from: usize,
+    out: &mut [i64],
+) -> u32
+    requires are { AreOffsets offsets.now }
+    ensures { WritesFromOffsetsOr ARROW2_RANGE offsets.now result (length out.old ≡ 0)
+        (length offsets.now < from + length out.old)
+        (out.new ≡ map pos
+        (offsets_list 0 (part (lengths_of offsets.now) from (length out.old - 1))))
+        (out.new ≡ out.old) }
+{
+    from_zero_unchecked(offsets, from, out)
 }

@@ -22,8 +22,10 @@ use crate::kleene_optional::{arrow2_and_kleene_optional, arrow2_or_kleene_option
 use crate::offset_widths::{arrow2_offsets_narrow, arrow2_offsets_widen};
 use crate::offsets::{
     arrow2_offsets32_check, arrow2_offsets32_from_lengths, arrow2_offsets32_from_zero,
-    arrow2_offsets32_lengths, arrow2_offsets64_check, arrow2_offsets64_from_lengths,
-    arrow2_offsets64_from_zero, arrow2_offsets64_lengths,
+    arrow2_offsets32_from_zero_unchecked, arrow2_offsets32_lengths,
+    arrow2_offsets32_lengths_unchecked, arrow2_offsets64_check, arrow2_offsets64_from_lengths,
+    arrow2_offsets64_from_zero, arrow2_offsets64_from_zero_unchecked, arrow2_offsets64_lengths,
+    arrow2_offsets64_lengths_unchecked,
 };
 use crate::places::arrow2_set_places;
 use crate::runs::arrow2_runs;
@@ -243,6 +245,23 @@ fn offsets_of_64_bits_are_written(rt: HostRuntime) {
     wrote(&rt, code, &part, &[0, 4]);
     let code = arrow2_offsets_widen(&[2, 3], &mut part);
     wrote(&rt, code, &part, &[2, 3]);
+}
+
+#[test]
+fn checked_offsets_are_not_checked_again(rt: HostRuntime) {
+    let (small, large) = ([1_i32, 4, 4], [1_i64, 4, 4]);
+    assert!(&rt; arrow2_offsets32_check(&small) == 0);
+    assert!(&rt; arrow2_offsets64_check(&large) == 0);
+    let mut lengths = [0; 2];
+    let code = arrow2_offsets32_lengths_unchecked(&small, &mut lengths);
+    wrote(&rt, code, &lengths, &[3, 0]);
+    let code = arrow2_offsets64_lengths_unchecked(&large, &mut lengths);
+    wrote(&rt, code, &lengths, &[3, 0]);
+    let (mut part, mut large_part) = ([0; 2], [0; 2]);
+    let code = arrow2_offsets32_from_zero_unchecked(&small, 0, &mut part);
+    wrote(&rt, code, &part, &[0, 3]);
+    let code = arrow2_offsets64_from_zero_unchecked(&large, 0, &mut large_part);
+    wrote(&rt, code, &large_part, &[0, 3]);
 }
 
 #[test]

@@ -1,5 +1,5 @@
-//! Every public call of buffers, bitmaps, tables, walks, offsets and arrays that may find no memory, and every change in
-//! place, on few items. `tests/run` refuses each request for memory in turn: the text stays the same, and each call that
+//! Every public call of buffers, bitmaps, tables, walks, offsets, arrays and kernels that may run out of memory, and every change
+//! in place, on few items. `tests/run` refuses each request for memory in turn: the text stays the same, and each call that
 //! may be refused was refused.
 #![tactic(auto)]
 
@@ -8,6 +8,7 @@ mod bitmaps;
 mod calls;
 mod growing;
 mod items;
+mod kernels;
 mod numbers;
 mod offsets;
 mod silent;
@@ -27,6 +28,7 @@ fn all<R: Print + Eprint>(rt: &R, alloc: Global) -> Result<()> {
     arrays::all(rt, alloc)?;
     numbers::all(rt, alloc)?;
     strings::all(rt, alloc)?;
+    kernels::all(rt, alloc)?;
     offsets::all(rt, alloc)?;
     silent::all(rt, alloc)
 }

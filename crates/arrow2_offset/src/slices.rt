@@ -7,10 +7,11 @@ ghost use Rattle.arrow2_offset.specs.Offsets.{AreOffsets, AreOffsetsUpTo, last_o
 
 use arrow2_index::offset::Offset;
 
-/// The last of the offsets.
+/// Returns the last of the offsets.
 pub fn last<O: Offset>(offsets: &[O]) -> usize
     requires are { AreOffsets (map O.value offsets.now) }
-    ensures { result ≡ last_of (map O.value offsets.now) }
+    ensures value { result ≡ last_of (map O.value offsets.now) }
+    ensures bound { result ≤ O.MAX }
 {
     offsets[offsets.len() - 1].to_usize()
 }

@@ -1,17 +1,6 @@
-use Rattle.std.proofs.Common.{refl, map, arith}
-use Rattle.std.proofs.lemmas.List.{length-map}
-use Rattle.arrow2_ffi.proofs.OffsetCodes.{not_offsets, ill_fitting, written}
+use Rattle.std.proofs.Common.{refl, map}
+use Rattle.arrow2_ffi.proofs.OffsetCodes.{not_offsets}
 use Rattle.arrow2_ffi.proofs.offset_calls.lengths.Goals as goal
 
 pub returns-in-Some : goal.returns-in-Some
 returns-in-Some g c = not_offsets (map g.O.Number.value c.args.offsets.now) c.in-Some.code c.in-Some.ensures.some refl
-
-pub returns-then-offsets-lengths : goal.returns-then-offsets-lengths
-returns-then-offsets-lengths g c = ill_fitting (map g.O.Number.value c.args.offsets.now) c.in_default.ensures.none.0 (λ e. c.if-offsets-lengths.true (omega (arith, e))) refl
-
-pub returns : goal.returns
-returns g c =
-    let are = c.in_default.ensures.none.0 in
-    let some = are.some in
-    let m = length-map c.args.offsets.now g.O.Number.value in
-    written (map g.O.Number.value c.args.offsets.now) are (λ other. other (omega (arith, m, some, c.if-offsets-lengths.false))) c.write_lengths.ensures

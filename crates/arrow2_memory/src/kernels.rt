@@ -1,0 +1,193 @@
+//! Kernels over arrays of three items.
+ghost use Rattle.std.specs.Prelude.{◌≡◌, length};
+ghost use Rattle.arrow2_array.specs.Items.{boolean_items};
+ghost use Rattle.arrow2_model.specs.Storage.{items_of};
+ghost use Rattle.arrow2_primitive.specs.Primitive.{primitive_items};
+ghost use Rattle.arrow2_text.specs.Binary.{binary_items};
+
+use crate::calls::{Row, input, made};
+use arrow2_array::BooleanArray;
+use arrow2_bitmap::Bitmap;
+use arrow2_compute::boolean::{is_not_null, is_null};
+use arrow2_compute::cast::{primitive_to_primitive, try_primitive_to_primitive};
+use arrow2_compute::comparison::{
+    eq, eq_scalar, gt, gt_eq, gt_eq_scalar, gt_scalar, lt, lt_eq, lt_eq_scalar, lt_scalar, neq,
+    neq_scalar, tested,
+};
+use arrow2_compute::concatenate::{concatenate, concatenate_binary, concatenate_boolean};
+use arrow2_compute::filter::{filter, filter_binary, filter_boolean, filter_by_array};
+use arrow2_compute::if_then_else::{if_then_else, if_then_else_binary, if_then_else_boolean};
+use arrow2_compute::take::{take, take_binary, take_boolean, take_by_array};
+use arrow2_datatypes::DataType;
+use arrow2_primitive::{MutablePrimitiveArray, PrimitiveArray};
+use arrow2_text::Utf8Array;
+use arrow2_types::error::Result;
+use std::alloc::Global;
+use std::io::{Eprint, Print};
+use std::rc::Rc;
+
+/// The array of three numbers, one of which is null.
+fn numbers(alloc: Global) -> Result<PrimitiveArray<i32>> {
+    input(PrimitiveArray::from_options(alloc, &[Some(1), None, Some(3)]))
+}
+
+/// The array of three texts, one of which is null.
+fn texts(alloc: Global) -> Result<Utf8Array<i32>> {
+    input(Utf8Array::from_options(alloc, &[Some("first"), None, Some("third")]))
+}
+
+/// The array of three booleans, one of which is null.
+fn booleans(alloc: Global) -> Result<BooleanArray> {
+    input(BooleanArray::from_options(alloc, &[Some(true), None, Some(true)]))
+}
+
+/// A mask of three items.
+fn mask(alloc: Global) -> Result<Bitmap> {
+    input(Bitmap::from_bools(alloc, &[true, true, false]))
+}
+
+/// Comparisons with a number.
+fn compared_with_number(array: &PrimitiveArray<i32>) -> [Row<BooleanArray>; 7] {
+    [
+        ("eq_scalar", eq_scalar(array, 2)),
+        ("neq_scalar", neq_scalar(array, 2)),
+        ("lt_scalar", lt_scalar(array, 2)),
+        ("lt_eq_scalar", lt_eq_scalar(array, 2)),
+        ("gt_scalar", gt_scalar(array, 2)),
+        ("gt_eq_scalar", gt_eq_scalar(array, 2)),
+        ("tested", tested(array, |value| *value == 3)),
+    ]
+}
+
+/// Comparisons of an array with itself, and which of its items are null.
+fn compared(array: &PrimitiveArray<i32>) -> [Row<BooleanArray>; 8] {
+    [
+        ("eq", eq(array, array)),
+        ("neq", neq(array, array)),
+        ("lt", lt(array, array)),
+        ("lt_eq", lt_eq(array, array)),
+        ("gt", gt(array, array)),
+        ("gt_eq", gt_eq(array, array)),
+        ("is_null", is_null(array)),
+        ("is_not_null", is_not_null(array)),
+    ]
+}
+
+/// Two nulls, by an array of indices.
+fn taken_by_array(array: &PrimitiveArray<i32>, alloc: Global) -> Result<PrimitiveArray<i32>> {
+    let mut indices = input(MutablePrimitiveArray::<u8>::new(alloc))?;
+    input(indices.extend_constant(2, None))?;
+    let indices = input(indices.freeze())?;
+    take_by_array(array, &indices)
+}
+
+/// Numbers that are chosen. Requires three of each.
+fn chosen_numbers(
+    array: &PrimitiveArray<i32>,
+    booleans: &BooleanArray,
+    mask: &Bitmap,
+) -> [Row<PrimitiveArray<i32>>; 5]
+    requires numbers { length (primitive_items array.now) ≡ 3 }
+    requires booleans { length (boolean_items booleans.now) ≡ 3 }
+    requires mask { length (items_of mask.now) ≡ 3 }
+{
+    [
+        ("filter", filter(array, mask)),
+        ("filter_by_array", filter_by_array(array, booleans)),
+        ("take", take(array, &[2, 0])),
+        ("concatenate", concatenate(array, &[array])),
+        ("if_then_else", if_then_else(mask, array, array)),
+    ]
+}
+
+/// Booleans that are chosen. Requires three of each.
+fn chosen_booleans(array: &BooleanArray, mask: &Bitmap) -> [Row<BooleanArray>; 4]
+    requires booleans { length (boolean_items array.now) ≡ 3 }
+    requires mask { length (items_of mask.now) ≡ 3 }
+{
+    [
+        ("filter_boolean", filter_boolean(array, mask)),
+        ("take_boolean", take_boolean(array, &[2, 0])),
+        ("concatenate_boolean", concatenate_boolean(array, &[array])),
+        (
+            "if_then_else_boolean",
+            if_then_else_boolean(mask, array, array),
+        ),
+    ]
+}
+
+/// Texts that are chosen. Requires three of each.
+fn chosen_texts(array: &Utf8Array<i32>, mask: &Bitmap) -> [Row<Utf8Array<i32>>; 4]
+    requires texts { length (binary_items array.now) ≡ 3 }
+    requires mask { length (items_of mask.now) ≡ 3 }
+{
+    [
+        ("filter_binary", filter_binary(array, mask)),
+        ("take_binary", take_binary(array, &[2, 0])),
+        ("concatenate_binary", concatenate_binary(array, &[array])),
+        (
+            "if_then_else_binary",
+            if_then_else_binary(mask, array, array),
+        ),
+    ]
+}
+
+/// Numbers of another type.
+fn cast(array: &PrimitiveArray<i32>, alloc: Global) -> Result<PrimitiveArray<u8>> {
+    let data_type = Rc::new(alloc, DataType::UInt8);
+    primitive_to_primitive(array, input(data_type.map_err(Into::into))?)
+}
+
+/// Numbers of another type, which all fit.
+fn cast_all(array: &PrimitiveArray<i32>, alloc: Global) -> Result<PrimitiveArray<u8>> {
+    let data_type = Rc::new(alloc, DataType::UInt8);
+    try_primitive_to_primitive(array, input(data_type.map_err(Into::into))?)
+}
+
+/// Two nulls of an array, by an array of indices.
+fn taken(array: &PrimitiveArray<i32>, alloc: Global) -> [Row<PrimitiveArray<i32>>; 1] {
+    [("take_by_array", taken_by_array(array, alloc))]
+}
+
+/// Casts.
+fn casts(array: &PrimitiveArray<i32>, alloc: Global) -> [Row<PrimitiveArray<u8>>; 2] {
+    [
+        ("primitive_to_primitive", cast(array, alloc)),
+        ("try_primitive_to_primitive", cast_all(array, alloc)),
+    ]
+}
+
+/// Makes each of these calls.
+pub(crate) fn all<R: Print + Eprint>(rt: &R, alloc: Global) -> Result<()> {
+    let numbers = numbers(alloc).or(numbers(alloc))?;
+    made(
+        rt,
+        &compared_with_number(&numbers),
+        &compared_with_number(&numbers),
+    );
+    made(rt, &compared(&numbers), &compared(&numbers));
+    made(rt, &casts(&numbers, alloc), &casts(&numbers, alloc));
+    made(rt, &taken(&numbers, alloc), &taken(&numbers, alloc));
+    let booleans = booleans(alloc).or(booleans(alloc))?;
+    let texts = texts(alloc).or(texts(alloc))?;
+    let mask = mask(alloc).or(mask(alloc))?;
+    if numbers.len() != 3 || booleans.len() != 3 || texts.len() != 3 || mask.len() != 3 {
+        return Ok(());
+    }
+    made(
+        rt,
+        &chosen_numbers(&numbers, &booleans, &mask),
+        &chosen_numbers(&numbers, &booleans, &mask),
+    );
+    made(
+        rt,
+        &chosen_booleans(&booleans, &mask),
+        &chosen_booleans(&booleans, &mask),
+    );
+    made(
+        rt,
+        &chosen_texts(&texts, &mask),
+        &chosen_texts(&texts, &mask),
+    );
+    Ok(())
+}
