@@ -1,4 +1,4 @@
-use Rattle.std.proofs.Common.{◌-◌, length, refl, subst, arith}
+use Rattle.std.proofs.Common.{◌-◌, length, refl, subst, sym, arith}
 use Rattle.std.proofs.lemmas.List.{length-map}
 use Rattle.arrow2_offset.proofs.Appending.{same_naturals, value_last, value_natural}
 use Rattle.arrow2_offset.proofs.slices.last.Goals as goal
@@ -12,4 +12,4 @@ pub returns-clause-value : goal.returns-clause-value
 returns-clause-value g c = same_naturals c.to_usize.result _ _ c.to_usize.ensures.value (value_last g.O.Number.value c.args.offsets.now c.index-offsets-offsets.result (length c.args.offsets.now) c.requires.are refl c.index-offsets-offsets.is)
 
 pub returns-clause-bound : goal.returns-clause-bound
-returns-clause-bound g c = (g.met.O.Offset.max_law c.to_usize.result).0 (subst g.O.Number.fits c.to_usize.ensures.value c.to_usize.ensures.fits)
+returns-clause-bound g c = (g.met.O.Offset.max_law c.to_usize.result).0 (subst g.O.Number.fits (sym c.to_usize.ensures.value) c.to_usize.ensures.fits)
