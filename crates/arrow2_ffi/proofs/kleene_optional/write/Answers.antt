@@ -25,7 +25,7 @@ returns g c f spelled beside =
     let values = c.write_two.ensures in
     let validity = c.write_known.ensures beside in
     wrote (left, right) (search rules) (record {
-      items = rw (values.items, validity.items) (by_tables g.VALUES g.KNOWN f xs ns ys ms spelled (a ∙ sym x) (y ∙ sym x) (b ∙ sym x));
+      items = rw (values.items, validity.items) (by_tables _ _ f xs ns ys ms spelled (a ∙ sym x) (y ∙ sym x) (b ∙ sym x));
       values = values;
       validity = validity;
     })

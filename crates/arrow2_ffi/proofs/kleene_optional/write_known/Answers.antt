@@ -19,7 +19,7 @@ returns-in-None-None g c beside =
     let left = all_valid l.validity xs n c.in-None-None.is-0 x in
     let right = all_valid r.validity ys n c.in-None-None.is-1 y in
     record {
-      items = c.write_two.ensures.items ∙ (all_true xs ys ∙ all_known g.KNOWN xs (valid_items (validity_of l.validity) n) ys (valid_items (validity_of r.validity) n) beside.both (x ∙ sym y) left right);
+      items = c.write_two.ensures.items ∙ (all_true xs ys ∙ all_known g.row.KNOWN xs (valid_items (validity_of l.validity) n) ys (valid_items (validity_of r.validity) n) beside.both (x ∙ sym y) left right);
       canonical = c.write_two.ensures.canonical;
     }
 
@@ -35,8 +35,8 @@ returns-in-Some-None g c beside =
     let left = given_items l.validity _ n c.in-Some-None.is-0 in
     let right = all_valid r.validity ys n c.in-Some-None.is-1 y in
     record {
-      items = c.write_three.ensures.items ∙ (ap (λ ns. each g.BESIDE (xs ∷ ns ∷ ys ∷ [])) left ∙ beside_right g.KNOWN g.BESIDE xs (valid_items (validity_of l.validity) n) ys (valid_items (validity_of r.validity) n) beside.second (x ∙ sym y) right);
-      canonical = c.write_three.ensures.canonical;
+      items = c.write_three-in-Some-None.ensures.items ∙ (ap (λ ns. each g.row.BESIDE (xs ∷ ns ∷ ys ∷ [])) left ∙ beside_right g.row.KNOWN g.row.BESIDE xs (valid_items (validity_of l.validity) n) ys (valid_items (validity_of r.validity) n) beside.second (x ∙ sym y) right);
+      canonical = c.write_three-in-Some-None.ensures.canonical;
     }
 
 pub returns-in-None-Some : goal.returns-in-None-Some
@@ -51,8 +51,8 @@ returns-in-None-Some g c beside =
     let left = all_valid l.validity xs n c.in-None-Some.is-0 x in
     let right = given_items r.validity _ n c.in-None-Some.is-1 in
     record {
-      items = c.write_three-2.ensures.items ∙ (ap (λ ms. each g.BESIDE (ys ∷ ms ∷ xs ∷ [])) right ∙ beside_left g.KNOWN g.BESIDE xs (valid_items (validity_of l.validity) n) ys (valid_items (validity_of r.validity) n) beside.first (x ∙ sym y) left);
-      canonical = c.write_three-2.ensures.canonical;
+      items = c.write_three.ensures.items ∙ (ap (λ ms. each g.row.BESIDE (ys ∷ ms ∷ xs ∷ [])) right ∙ beside_left g.row.KNOWN g.row.BESIDE xs (valid_items (validity_of l.validity) n) ys (valid_items (validity_of r.validity) n) beside.first (x ∙ sym y) left);
+      canonical = c.write_three.ensures.canonical;
     }
 
 pub returns-in-Some-Some : goal.returns-in-Some-Some
@@ -63,6 +63,6 @@ returns-in-Some-Some g c beside =
     let left = given_items l.validity _ n c.in-Some-Some.is-0 in
     let right = given_items r.validity _ n c.in-Some-Some.is-1 in
     record {
-      items = c.write_four.ensures.items ∙ (ap (λ ns. each g.KNOWN (first_bits l.values n ∷ ns ∷ first_bits r.values n ∷ first_bits _ n ∷ [])) left ∙ ap (λ ms. each g.KNOWN (first_bits l.values n ∷ valid_items (validity_of l.validity) n ∷ first_bits r.values n ∷ ms ∷ [])) right);
+      items = c.write_four.ensures.items ∙ (ap (λ ns. each g.row.KNOWN (first_bits l.values n ∷ ns ∷ first_bits r.values n ∷ first_bits c.in-Some-Some.other n ∷ [])) left ∙ ap (λ ms. each g.row.KNOWN (first_bits l.values n ∷ valid_items (validity_of l.validity) n ∷ first_bits r.values n ∷ ms ∷ [])) right);
       canonical = c.write_four.ensures.canonical;
     }
