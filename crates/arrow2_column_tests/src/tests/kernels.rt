@@ -1,12 +1,15 @@
 //! Kernels of two arrays, and those by arrays of indices and of booleans, beside plain code over lists.
 ghost use Rattle.std.specs.Prelude.{◌≡◌, length};
 ghost use Rattle.arrow2.specs.Binary.{binary_items};
+ghost use Rattle.arrow2.specs.Items.{boolean_items};
 ghost use Rattle.arrow2.specs.Primitive.{primitive_items};
+ghost use Rattle.arrow2.specs.Storage.{items_of};
 
 use arrow2::array::{
-    BooleanArray, MutablePrimitiveArray, MutableUtf8Array, PrimitiveArray, Utf8Array,
+    BooleanArray, MutableBooleanArray, MutablePrimitiveArray, MutableUtf8Array, PrimitiveArray,
+    Utf8Array,
 };
-use arrow2::bitmap::Bitmap;
+use arrow2::bitmap::{Bitmap, MutableBitmap};
 use arrow2::compute::aggregate::{max, min, sum};
 use arrow2::compute::boolean::{is_not_null, is_null};
 use arrow2::compute::cast::{primitive_to_primitive, try_primitive_to_primitive};
@@ -18,6 +21,7 @@ use arrow2::compute::take::{take_binary, take_boolean, take_by_array};
 use arrow2::datatypes;
 use arrow2::error::Result;
 use std::alloc::Global;
+use std::convert::TryFrom;
 use std::process::Abort;
 use std::rc::Rc;
 
@@ -45,7 +49,7 @@ fn listed(rt: &impl Abort, alloc: Global, len: usize, salt: usize, nulls: usize)
     items
 }
 
-/// Returns the array of these items, behind `skipped` ones that are sliced off.
+/// Returns the array of these items, a slice of a slice that begins after `skipped` others.
 fn array_of(
     rt: &impl Abort,
     alloc: Global,
@@ -60,7 +64,8 @@ fn array_of(
     array.extend_from_options(items).expect(rt, "memory");
     let array = array.freeze().expect(rt, "memory");
     assert!(rt; skipped <= array.len() && array.len() - skipped == items.len());
-    array.sliced(skipped, items.len())
+    let array = array.sliced(skipped / 2, items.len() + (skipped - skipped / 2));
+    array.sliced(skipped - skipped / 2, items.len())
 }
 
 /// Checks that a boolean array has these items.
@@ -225,16 +230,107 @@ fn a_sum_of_the_greatest_numbers_is_exact(rt: HostRuntime) {
     assert!(rt; sum(&array) == 36_893_488_147_419_103_230);
 }
 
-/// Returns the array of these texts.
+/// Returns whether a mask is true at the indices below `len`.
+fn flags_of(rt: &impl Abort, alloc: Global, len: usize) -> Vec<bool>
+    ensures { length result.items ≡ len }
+{
+    let mut flags = Vec::new(alloc);
+    for index in 0..len {
+        flags
+            .push(index % 5 < 2 || index % 7 == 3)
+            .expect(rt, "memory");
+    }
+    assert!(rt; flags.len() == len);
+    flags
+}
+
+/// Returns the mask of these flags, from bit 3 of its bytes on.
+fn mask_of(rt: &impl Abort, alloc: Global, flags: &[bool]) -> Bitmap
+    ensures { length (items_of result) ≡ length flags.now }
+{
+    let mut mask = MutableBitmap::new(alloc);
+    mask.extend_constant(3, true).expect(rt, "memory");
+    for flag in flags {
+        mask.push(*flag).expect(rt, "memory");
+    }
+    let mask = Bitmap::try_from(mask).expect(rt, "memory");
+    assert!(rt; 3 <= mask.len() && mask.len() - 3 == flags.len());
+    mask.sliced(3, flags.len())
+}
+
+/// Returns the items of a list where the flags are true.
+fn kept<T: Copy>(rt: &impl Abort, alloc: Global, flags: &[bool], items: &[T]) -> Vec<T> {
+    let mut kept = Vec::new(alloc);
+    for (flag, item) in flags.iter().zip(items) {
+        if *flag {
+            kept.push(*item).expect(rt, "memory");
+        }
+    }
+    kept
+}
+
+/// Returns the items of one list where the flags are true, and those of the other elsewhere.
+fn either<T: Copy>(
+    rt: &impl Abort,
+    alloc: Global,
+    flags: &[bool],
+    left: &[T],
+    right: &[T],
+) -> Vec<T> {
+    let mut items = Vec::new(alloc);
+    for (flag, (left, right)) in flags.iter().zip(left.iter().zip(right)) {
+        items
+            .push(if *flag { *left } else { *right })
+            .expect(rt, "memory");
+    }
+    items
+}
+
+/// Returns the items of two lists, one after the other.
+fn joined<T: Copy>(rt: &impl Abort, alloc: Global, left: &[T], right: &[T]) -> Vec<T> {
+    let mut items = left.to_vec(alloc).expect(rt, "memory");
+    items.extend_from_slice(right).expect(rt, "memory");
+    items
+}
+
+/// Returns the texts at the indices below `len`, null at each index that `nulls` divides but for 0, where none is.
+fn texts_listed(
+    rt: &impl Abort,
+    alloc: Global,
+    len: usize,
+    nulls: usize,
+) -> Vec<Option<&'static str>>
+    ensures { length result.items ≡ len }
+{
+    let texts = ["", "a", "dé", "four", "\u{1f600}", "fifteen letters", "0"];
+    let mut items = Vec::new(alloc);
+    for index in 0..len {
+        let text = texts[index % 7];
+        let item = if nulls > 0 && index % nulls == 0 {
+            None
+        } else {
+            Some(text)
+        };
+        items.push(item).expect(rt, "memory");
+    }
+    assert!(rt; items.len() == len);
+    items
+}
+
+/// Returns the array of these texts, a slice of a slice that begins after two others.
 fn texts(rt: &impl Abort, alloc: Global, items: &[Option<&str>]) -> Utf8Array<i32>
     ensures { length (binary_items result) ≡ length items.now }
 {
     let mut array = MutableUtf8Array::<i32>::new(alloc).expect(rt, "memory");
+    array.push(Some("before")).expect(rt, "memory");
+    array.push(None).expect(rt, "memory");
     for item in items {
         array.push(*item).expect(rt, "memory");
     }
-    let array = array.freeze().expect(rt, "memory");
-    assert!(rt; array.len() == items.len());
+    let mut array = array.freeze().expect(rt, "memory");
+    assert!(rt; 2 <= array.len() && array.len() - 2 == items.len());
+    array.slice(1, items.len() + 1);
+    array.slice(1, items.len());
     array
 }
 
@@ -247,43 +343,107 @@ fn reads(rt: &impl Abort, made: Result<Utf8Array<i32>>, items: &[Option<&str>]) 
     }
 }
 
+/// Checks the kernels of texts at a length.
+fn text_kernels_agree(rt: &impl Abort, alloc: Global, len: usize, nulls: usize, others: usize) {
+    let (left, right) = (
+        texts_listed(rt, alloc, len, nulls),
+        texts_listed(rt, alloc, len, others),
+    );
+    let (left, right) = (left.as_slice(), right.as_slice());
+    let flags = flags_of(rt, alloc, len);
+    let flags = flags.as_slice();
+    let (a, b) = (texts(rt, alloc, left), texts(rt, alloc, right));
+    let mask = mask_of(rt, alloc, flags);
+    reads(
+        rt,
+        filter_binary(&a, &mask),
+        kept(rt, alloc, flags, left).as_slice(),
+    );
+    let list = either(rt, alloc, flags, left, right);
+    reads(rt, if_then_else_binary(&mask, &a, &b), list.as_slice());
+    let list = joined(rt, alloc, left, right);
+    reads(rt, concatenate_binary(&a, &[&b]), list.as_slice());
+}
+
 #[test]
 fn kernels_of_texts_agree_with_lists(rt: HostRuntime) {
     let alloc = rt.alloc();
+    for len in LENGTHS {
+        for (nulls, others) in [(0, 0), (3, 0), (0, 4), (2, 3)] {
+            text_kernels_agree(&rt, alloc, len, nulls, others);
+        }
+    }
     let some = texts(&rt, alloc, &[Some("a"), None, Some(""), Some("dé")]);
-    let others = texts(&rt, alloc, &[None, Some("x"), Some("yy"), Some("z")]);
-    let mask = Bitmap::from_bools(alloc, &[true, true, false, true]).expect(&rt, "memory");
-    let kept = filter_binary(&some, &mask);
-    reads(&rt, kept, &[Some("a"), None, Some("dé")]);
     let taken = take_binary(&some, &[3, 3, 1]);
     reads(&rt, taken, &[Some("dé"), Some("dé"), None]);
-    let either = if_then_else_binary(&mask, &some, &others);
-    reads(&rt, either, &[Some("a"), None, Some("yy"), Some("dé")]);
-    let part = some.sliced(2, 2);
-    let joined = concatenate_binary(&part, &[&others]);
-    reads(
-        &rt,
-        joined,
-        &[Some(""), Some("dé"), None, Some("x"), Some("yy"), Some("z")],
+}
+
+/// Returns the booleans at the indices below `len`, null at each index that `nulls` divides.
+fn booleans_listed(rt: &impl Abort, alloc: Global, len: usize, nulls: usize) -> Vec<Option<bool>>
+    ensures { length result.items ≡ len }
+{
+    let mut items = Vec::new(alloc);
+    for index in 0..len {
+        let item = if nulls > 0 && index % nulls == 0 {
+            None
+        } else {
+            Some(index % 3 == 1)
+        };
+        items.push(item).expect(rt, "memory");
+    }
+    assert!(rt; items.len() == len);
+    items
+}
+
+/// Returns the array of these booleans, a slice of a slice that begins after seven others.
+fn booleans(rt: &impl Abort, alloc: Global, items: &[Option<bool>]) -> BooleanArray
+    ensures { length (boolean_items result) ≡ length items.now }
+{
+    let mut array = MutableBooleanArray::new(alloc);
+    array.extend_constant(7, Some(true)).expect(rt, "memory");
+    for item in items {
+        array.push(*item).expect(rt, "memory");
+    }
+    let mut array = array.freeze().expect(rt, "memory");
+    assert!(rt; 7 <= array.len() && array.len() - 7 == items.len());
+    array.slice(5, items.len() + 2);
+    array.slice(2, items.len());
+    array
+}
+
+/// Checks the kernels of booleans at a length.
+fn boolean_kernels_agree(rt: &impl Abort, alloc: Global, len: usize, nulls: usize, others: usize) {
+    let (left, right) = (
+        booleans_listed(rt, alloc, len, nulls),
+        booleans_listed(rt, alloc, len, others),
     );
+    let (left, right) = (left.as_slice(), right.as_slice());
+    let flags = flags_of(rt, alloc, len);
+    let flags = flags.as_slice();
+    let (a, b) = (booleans(rt, alloc, left), booleans(rt, alloc, right));
+    let mask = mask_of(rt, alloc, flags);
+    let list = kept(rt, alloc, flags, left);
+    says(rt, alloc, filter_boolean(&a, &mask), list.as_slice());
+    let list = either(rt, alloc, flags, left, right);
+    says(
+        rt,
+        alloc,
+        if_then_else_boolean(&mask, &a, &b),
+        list.as_slice(),
+    );
+    let list = joined(rt, alloc, left, right);
+    says(rt, alloc, concatenate_boolean(&a, &[&b]), list.as_slice());
 }
 
 #[test]
 fn kernels_of_booleans_agree_with_lists(rt: HostRuntime) {
     let alloc = rt.alloc();
-    let (yes, no) = (Some(true), Some(false));
-    let some = BooleanArray::from_options(alloc, &[yes, None, no]).expect(&rt, "memory");
-    let others = BooleanArray::from_options(alloc, &[no, no, None]).expect(&rt, "memory");
-    let mask = Bitmap::from_bools(alloc, &[true, true, false]).expect(&rt, "memory");
-    says(&rt, alloc, filter_boolean(&some, &mask), &[yes, None]);
-    says(
-        &rt,
-        alloc,
-        take_boolean(&some, &[2, 0, 1]),
-        &[no, yes, None],
-    );
-    let either = if_then_else_boolean(&mask, &some, &others);
-    says(&rt, alloc, either, &[yes, None, None]);
-    let joined = concatenate_boolean(&some, &[&others]);
-    says(&rt, alloc, joined, &[yes, None, no, no, no, None]);
+    for len in LENGTHS {
+        for (nulls, others) in [(0, 0), (3, 0), (0, 4), (2, 3)] {
+            boolean_kernels_agree(&rt, alloc, len, nulls, others);
+        }
+    }
+    let some = booleans(&rt, alloc, &[Some(true), None, Some(false)]);
+    let taken = take_boolean(&some, &[2, 0, 1]);
+    says(&rt, alloc, taken, &[Some(false), Some(true), None]);
 }

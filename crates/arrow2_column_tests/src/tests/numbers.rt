@@ -34,7 +34,7 @@ fn is_kept(place: usize) -> bool {
     place % 7 < 4 && place % 2 == 0
 }
 
-/// Returns the array of the items at the places below `len`, behind nulls that are sliced off.
+/// Returns the array of the items at the indices below `len`, a slice of a slice that begins after three nulls.
 fn array_of(rt: &impl Abort, alloc: Global, len: usize) -> PrimitiveArray<i64>
     ensures { length (primitive_items result) ≡ len }
 {
@@ -46,7 +46,8 @@ fn array_of(rt: &impl Abort, alloc: Global, len: usize) -> PrimitiveArray<i64>
     }
     let mut array = items.freeze().expect(rt, "memory");
     assert!(rt; 3 <= array.len() && array.len() - 3 == len);
-    array.slice(3, len);
+    array.slice(1, len + 2);
+    array.slice(2, len);
     array
 }
 
