@@ -22,6 +22,7 @@ static void bits(void) {
     EXPECT(ARROW2_OK, arrow2_count_zeros(NULL, 0, 0, 0, &zeros));
     EXPECT(ARROW2_OK, arrow2_equal_bits(NULL, 0, 0, NULL, 0, 0, 0, &flag));
     EXPECT(ARROW2_RANGE, arrow2_get_bit(NULL, 0, 0, &flag));
+    EXPECT(ARROW2_RANGE, arrow2_get_bit_inline(NULL, 0, 0, &flag));
     EXPECT(ARROW2_RANGE, arrow2_set_bit(NULL, 0, 0, true));
     EXPECT(ARROW2_OK, arrow2_copy_bits(NULL, 0, 0, 0, NULL, 0));
     EXPECT(ARROW2_RANGE, arrow2_copy_bits(NULL, 0, 1, 0, NULL, 0));
@@ -30,6 +31,17 @@ static void bits(void) {
     EXPECT(ARROW2_OK, arrow2_runs(NULL, 0, 0, 0, &at, NULL, 0, NULL, 0, &count));
     EXPECT(ARROW2_OK, arrow2_set_places(NULL, 0, 0, 0, &at, NULL, 0, &count));
     expect("what they wrote", zeros == 0 && flag && at == 0 && count == 0 ? ARROW2_OK : ARROW2_RANGE, ARROW2_OK);
+}
+
+/* The call and the code in its place return the same, also past the bytes. */
+static void one_bit(void) {
+    const uint8_t bytes[] = {0xb6, 0x01, 0x80};
+    for (size_t index = 0; index < 40; index++) {
+        bool by_call = false, in_place = false;
+        EXPECT(arrow2_get_bit(bytes, sizeof bytes, index, &by_call),
+               arrow2_get_bit_inline(bytes, sizeof bytes, index, &in_place));
+        expect("one bit", by_call == in_place ? ARROW2_OK : ARROW2_RANGE, ARROW2_OK);
+    }
 }
 
 static void tables(void) {
@@ -147,6 +159,7 @@ static void kleene_forms(void) {
 
 int main(void) {
     bits();
+    one_bit();
     tables();
     offsets();
     checks();

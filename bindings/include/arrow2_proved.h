@@ -68,6 +68,16 @@ uint32_t arrow2_equal_bits(const uint8_t *left, size_t left_count, size_t left_o
 /* Writes to `value` whether bit `index` is set. ARROW2_RANGE: it is not inside the bytes. */
 uint32_t arrow2_get_bit(const uint8_t *bytes, size_t bytes_count, size_t index, bool *value);
 
+/* The same by code that the compiler puts in place of the call. It is written by hand and not proved: tests compare it
+ * with arrow2_get_bit. */
+static inline uint32_t arrow2_get_bit_inline(const uint8_t *bytes, size_t bytes_count, size_t index, bool *value) {
+    if (index / 8 >= bytes_count) {
+        return ARROW2_RANGE;
+    }
+    *value = ((bytes[index / 8] >> (index % 8)) & 1) != 0;
+    return ARROW2_OK;
+}
+
 /* Writes `value` to bit `index`, and leaves every other bit as it was. ARROW2_RANGE: it is not inside the bytes. */
 uint32_t arrow2_set_bit(uint8_t *bytes, size_t bytes_count, size_t index, bool value);
 

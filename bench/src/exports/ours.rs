@@ -3,7 +3,9 @@
 //! Each function makes what its call needs, and then makes one call for each run, which is the length that it takes.
 //! What was written is read once, behind the runs.
 use super::inputs::{digest, digest_of_bytes, FourBits, Slots, CHOICE, KNOWN};
-use arrow2_proved::{bytes_for, Bits, CheckedOffsets, Nullable, Offset, OptionalNullable, Refusal, NOT, XOR};
+use arrow2_proved::{
+    bytes_for, Bits, CheckedOffsets, Nullable, Offset, OptionalNullable, Refusal, NOT, XOR,
+};
 use std::hint::black_box;
 
 /// The answers of a call for each run, added up.
@@ -50,6 +52,11 @@ pub fn equal_bits(on: &FourBits, runs: &[usize]) -> usize {
 pub fn get_bit(on: &FourBits, places: &[usize]) -> usize {
     let [Bits { bytes, .. }, ..] = on.inputs;
     added(places, |place| arrow2_proved::get_bit(bytes, place).map(usize::from))
+}
+
+pub fn get_bit_inline(on: &FourBits, places: &[usize]) -> usize {
+    let [Bits { bytes, .. }, ..] = on.inputs;
+    added(places, |place| arrow2_proved::get_bit_inline(black_box(bytes), place).map(usize::from))
 }
 
 pub fn set_bit(on: &FourBits, places: &[usize]) -> usize {

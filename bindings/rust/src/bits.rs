@@ -54,6 +54,19 @@ pub fn get_bit(bytes: &[u8], index: usize) -> Result<bool, Refusal> {
     Ok(value)
 }
 
+/// Returns whether bit `index` is set, as [`get_bit`] does, by code that the compiler puts in place of the call.
+///
+/// It is not proved: tests compare it with [`get_bit`].
+///
+/// # Errors
+///
+/// [`Refusal::Range`] exactly where it is not inside the bytes.
+#[inline]
+pub fn get_bit_inline(bytes: &[u8], index: usize) -> Result<bool, Refusal> {
+    let byte = bytes.get(index / 8).ok_or(Refusal::Range)?;
+    Ok(byte >> (index % 8) & 1 != 0)
+}
+
 /// Writes `value` to bit `index`, and leaves every other bit as it was.
 ///
 /// # Errors

@@ -36,7 +36,7 @@ mod runs;
 mod sys;
 mod tables;
 
-pub use bits::{copy_bits, count_zeros, equal_bits, get_bit, set_bit};
+pub use bits::{copy_bits, count_zeros, equal_bits, get_bit, get_bit_inline, set_bit};
 pub use booleans::{pack, unpack};
 pub use checks::{Index, check_bits, check_validity, check_values};
 pub use kleene::{Nullable, OptionalNullable, and_kleene, and_kleene_optional, or_kleene, or_kleene_optional};

@@ -3,9 +3,10 @@
 mod inputs;
 
 use arrow2_proved::{
-    Bits, CheckedOffsets, Nullable, Offset, Refusal, and_kleene, binary_assign_table, binary_table, bytes_for, copy_bits, count_zeros,
-    equal_bits, get_bit, narrow, or_kleene, pack, quaternary_assign_table, quaternary_table, runs, set_bit, set_places,
-    ternary_assign_table, ternary_table, unary_assign_table, unary_table, unpack, widen,
+    Bits, CheckedOffsets, Nullable, Offset, Refusal, and_kleene, binary_assign_table, binary_table, bytes_for,
+    copy_bits, count_zeros, equal_bits, get_bit, get_bit_inline, narrow, or_kleene, pack, quaternary_assign_table,
+    quaternary_table, runs, set_bit, set_places, ternary_assign_table, ternary_table, unary_assign_table, unary_table,
+    unpack, widen,
 };
 use inputs::{Random, part, written};
 
@@ -54,6 +55,7 @@ fn single_bits() {
         let value = random.flag();
         let before = part(&bytes, 0, 8 * bytes.len()).unwrap();
         assert_eq!(get_bit(&bytes, index), before.get(index).copied().ok_or(Refusal::Range));
+        assert_eq!(get_bit_inline(&bytes, index), get_bit(&bytes, index));
         let mut after = before.clone();
         let set = set_bit(&mut bytes, index, value);
         match after.get_mut(index) {
