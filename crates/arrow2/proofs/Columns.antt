@@ -1,5 +1,5 @@
--- Lemmas on values beside their validity, for a column of one's own, and on items that a mask selects; and the rulesets that a
--- caller names in `using`.
+-- Lemmas on values with their validity, for a column of one's own, and on items that a mask selects; and the rulesets
+-- that a caller names in `using`.
 use Rattle.std.proofs.Common.{◌≡◌, ℕ, ◌<◌, List, Bool, true, false, not, length, get_or, refl, ap, sym, ◌∙◌, arith}
 use Rattle.std.specs.Prelude.{Option, None}
 use Rattle.std.specs.Option.{is_none}
@@ -8,7 +8,7 @@ pub use Rattle.arrow2_walks.proofs.Selected.{selected-more, chosen-more, selecte
 pub use Rattle.arrow2_walks.proofs.Zipped.{length-zipped, at-zipped, item-zipped, part-zipped, append-zipped, push-zipped, slot-option, nulls-zipped, columns}
 
 module _ {X : Type 0} (xs : List X) (vs : List Bool) (items : List (Option X)) (k : ℕ) (d : X) (v : Bool) where
-  -- the item at a place, from its value and what the validity says there
+  -- the item at an index, from its value and its validity there
   pub slot-zipped : length vs ≡ length xs → zipped xs vs ≡ items → k < length items → v ≡ get_or vs k false → get_or items k None ≡ slot (get_or xs k d) v
   slot-zipped e is h told =
       let l = length-zipped xs vs e in

@@ -1,5 +1,5 @@
--- The rulesets that a caller names in `using`: of counts, parts, iterators over a part, words, bytes that stand for a list, `==` of
--- lists, and printed bits.
+-- The rulesets that a caller names in `using`: of counts, parts, iterators over a part, words, bytes that stand for a
+-- list, `==` of lists, and printed bits.
 pub use Rattle.arrow2_model.proofs.Canonical.{canonical}
 pub use Rattle.arrow2_model.proofs.Counts.{counting, counted_words}
 pub use Rattle.arrow2_model.proofs.Same.{comparing}

@@ -1,4 +1,5 @@
--- Lemmas on lists of booleans as words, and on the numbers of words; and the ruleset that a count by words names in `using`.
+-- Lemmas on lists of booleans as words, and on the numbers of words; and the ruleset that a count by words names in
+-- `using`.
 use Rattle.std.proofs.lemmas.List.{length-append}
 use Rattle.arrow2_model.proofs.Counts.{counting}
 pub use Rattle.arrow2_model.proofs.Bits.{length-unnum}

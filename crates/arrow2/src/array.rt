@@ -1,4 +1,4 @@
-//! Arrays: values beside their validity, shared and growing; and the tests of what is to become one.
+//! Arrays: values together with their validity, shared and growing; and tests of parts that are to become an array.
 
 pub mod specification;
 

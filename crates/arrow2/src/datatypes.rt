@@ -1,4 +1,4 @@
-//! What arrays mean and how they are laid out: logical types, physical types, fields and schemas.
+//! The meaning of arrays and their layout: logical types, physical types, fields and schemas.
 
 pub use arrow2_datatypes::{
     DataType, Field, IntegerType, IntervalUnit, Metadata, PhysicalType, PrimitiveType, Schema,

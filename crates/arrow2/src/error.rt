@@ -1,3 +1,3 @@
-//! What a call of the layer can refuse.
+//! The errors of a call of the layer.
 
 pub use arrow2_types::error::{Error, Result};

@@ -4,7 +4,7 @@ use Rattle.std.specs.Prelude.{codes}
 use Rattle.std.specs.List.{flat_map}
 use Rattle.arrow2_array.specs.ArrayTexts.{item_word, listed}
 
--- the word for an item behind another one
+-- the word for an item after another one
 abbrev behind : Option Bool → List ℕ
 behind item = codes ", " ++ item_word item
 

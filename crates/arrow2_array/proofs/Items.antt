@@ -1,4 +1,4 @@
--- What boolean arrays are proved by, shared ones and ones that grow.
+-- The lemmas on boolean arrays, shared ones and ones that grow.
 use Rattle.std.proofs.Common.{◌≡◌, ◌∙◌, ◌↔◌, ℕ, zero, suc, ◌<◌, List, [], ◌∷◌, ◌++◌, Bool, true, false, length, get_or, map, replicate, refl, ap, sym, arith}
 use Rattle.std.specs.Prelude.{Option, Some, None, MatchOption, IsNone, IfSome, is_some, unwrap_or, slice_get}
 use Rattle.std.specs.Bool.{then_some}
@@ -16,7 +16,7 @@ use Rattle.arrow2_validity.proofs.ValidItems.{items-some}
 
 -- ---- arrays
 
--- a value at its place
+-- a value at its index
 pub found : (xs : List Bool) (k : ℕ) (x : Bool) → k < length xs → x ≡ get_or xs k false → slice_get xs k ≡ Some x
 found [] k x h is = absurd (omega (arith, h))
 found (y ∷ xs) zero x h is = ap (λ z. Some z) (sym is)
@@ -45,7 +45,7 @@ pub ruleset booleans = (arrays, falses-all_true, found)
 
 -- ---- arrays that grow
 
--- one item many times behind the others
+-- one item many times after the others
 zipped-replicate : (n : ℕ) (x v : Bool) → zipped (replicate n x) (replicate n v) ≡ replicate n (slot x v)
 zipped-replicate zero x v = refl
 zipped-replicate (suc n) x v = ap (λ l. slot x v ∷ l) (zipped-replicate n x v)
@@ -60,7 +60,7 @@ pub popped : (xs vs more others : List Bool) (x v : Bool) (o : Option Bool) → 
 popped xs vs more others x v o e is-x is-v is-o f =
     ap (λ l. zipped l vs) is-x ∙ (ap (zipped (more ++ x ∷ [])) is-v ∙ (push-zipped more others x v f ∙ ap (λ z. zipped more others ++ z ∷ []) (sym (as_slot x v) ∙ sym is-o)))
 
--- a validity of which the bitmap is left out where nothing is false
+-- a validity whose bitmap is left out where nothing is false
 pub left-out : (n : ℕ) (vs : List Bool) (validity : Option BitmapStorage) → length vs ≡ n → (IsNone validity ↔ (falses vs ≡ 0)) → IfSome validity (λ b. items_of b ≡ vs) → items_or_true n validity ≡ vs
 unfolding items_or_true
 left-out n vs None e none some = ap (λ k. replicate k true) (sym e) ∙ sym (falses-none vs (none.0 refl))

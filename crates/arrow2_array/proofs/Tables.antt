@@ -27,7 +27,7 @@ or_known true false = refl
 or_known false true = refl
 or_known false false = refl
 
--- beside an item that is not null, which comes second or first
+-- with an item that is not null, which comes second or first
 
 pub and_beside : (a n b : Bool) → answer 207 (a ∷ n ∷ b ∷ []) ≡ answer 53060 (a ∷ n ∷ b ∷ true ∷ [])
 unfolding bit
@@ -135,7 +135,7 @@ behind Or = or_behind
 pub all_set : (ns xs : List Bool) → ns ≡ replicate (length ns) true → length ns ≡ length xs → ns ≡ replicate (length xs) true
 all_set ns xs is e = is ∙ ap (λ n. replicate n true) e
 
--- where all are valid, a table that answers true there gives no more than all set
+-- where all are valid, a table whose output is true there gives no more than all set
 pub all_known : (t : ℕ) (xs ns ys ms : List Bool) → ((a b : Bool) → answer t (a ∷ true ∷ b ∷ true ∷ []) ≡ true) → length xs ≡ length ys → ns ≡ replicate (length xs) true → ms ≡ replicate (length ys) true
     → replicate (length xs) true ≡ each t (xs ∷ ns ∷ ys ∷ ms ∷ [])
 all_known t xs ns ys ms known e is-n is-m =

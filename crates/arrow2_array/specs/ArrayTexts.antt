@@ -13,6 +13,6 @@ unfoldable pub listed : List (Option Bool) → List ℕ
 listed [] = []
 listed (item ∷ items) = item_word item ++ flat_map (λ other. codes ", " ++ item_word other) items
 
--- the items in brackets, behind the name of the type
+-- the items in brackets, after the name of the type
 abbrev pub array_text : List (Option Bool) → List ℕ
 array_text items = codes "BooleanArray[" ++ (listed items ++ codes "]")

@@ -1,4 +1,4 @@
--- What growth of a boolean array says.
+-- The records of growth of a boolean array.
 use Rattle.std.specs.Prelude.{◌≡◌, ◌+◌, ◌≤◌, ◌^◌, ◌↔◌, ◌⊎◌, List, ◌++◌, Bool, Option, length, Result, OnOk, OnErr, IsOk, IfErr, IsErrOf}
 use Rattle.arrow2_types.specs.declared.error.Error.{Error}
 use Rattle.arrow2_types.specs.declared.error.Error.TheVariants.{Overflow, OutOfMemory}
@@ -6,13 +6,13 @@ use Rattle.arrow2_array.specs.Items.{GrowingBoolean}
 
 -- growth by these items, all of them or none
 pub record AppendsItems {T : Type 0} (r : Result T Error) (old new : GrowingBoolean) (more : List (Option Bool)) : Type 0 where
-  -- they stand behind the others
+  -- they come after the others
   pub ok : OnOk r (new.items ≡ old.items ++ more)
   -- an error leaves the items
   pub err : OnErr r (new.items ≡ old.items)
   -- it overflows exactly where there would be more items than a usize counts
   pub overflow : IsErrOf r Overflow ↔ (2 ^ 64 ≤ length old.items + length more)
-  -- the only other error is refused memory
+  -- the only other error is out of memory
   pub only : IfErr r (λ e. (e ≡ Overflow) ⊎ (e ≡ OutOfMemory))
   -- within the capacity it does not allocate
   pub succeeds : length old.items + length more ≤ old.capacity → IsOk r

@@ -1,4 +1,4 @@
--- What contracts see of boolean arrays.
+-- The models of boolean arrays.
 use Rattle.std.specs.Prelude.{ℕ, List, Bool, Option, count_by}
 use Rattle.std.specs.Option.{is_none}
 use Rattle.arrow2_model.specs.Storage.{BitmapStorage, items_of}
@@ -18,7 +18,7 @@ boolean_items a = zipped (items_of a.values) (valid_items a.validity)
 abbrev pub sliced_boolean : BooleanParts → ℕ → ℕ → BooleanParts
 sliced_boolean a offset n = record { values = sliced_bitmap a.values offset n; validity = sliced_validity a.validity offset n }
 
--- how many items are null (Arrow columnar format, "Null count")
+-- the number of null items (Arrow columnar format, "Null count")
 abbrev pub nulls : List (Option Bool) → ℕ
 nulls items = count_by is_none items
 

@@ -1,4 +1,4 @@
--- Kleene's logic: a null is a boolean that is not known, so an answer is null where it depends on that boolean.
+-- Kleene's logic: a null is a boolean that is not known, so a result is null where it depends on that boolean.
 use Rattle.std.specs.Prelude.{◌≡◌, ℕ, List, [], ◌∷◌, Bool, true, false, ◌&&◌, ◌||◌, Option, Some, None}
 use Rattle.arrow2_model.specs.Tables.{answer}
 use Rattle.arrow2_walks.specs.Zipped.{slot}
@@ -29,16 +29,16 @@ by_items f [] ys = []
 by_items f (x ∷ xs) [] = []
 by_items f (x ∷ xs) (y ∷ ys) = f x y ∷ by_items f xs ys
 
--- table t gives the value, and table known whether it is one, of what f makes of two items: of values a, b with validities n, m
+-- table t gives the value of f for two items, and table known whether there is one: of values a, b with validities n, m
 abbrev pub Spells : ℕ → ℕ → (Option Bool → Option Bool → Option Bool) → Type 0
 Spells t known f = (a n b m : Bool) → slot (answer t (a ∷ b ∷ [])) (answer known (a ∷ n ∷ b ∷ m ∷ [])) ≡ f (slot a n) (slot b m)
 
--- what an operator makes of two items
+-- the result of an operator for two items
 abbrev pub kleene : Operator → Option Bool → Option Bool → Option Bool
 kleene And = kleene_and
 kleene Or = kleene_or
 
--- its tables: of the value, of whether it is known, and of the same beside an item that is not null
+-- its tables: of the value, of whether it is known, and of the same with an item that is not null
 abbrev pub values_table : Operator → ℕ
 values_table And = 8
 values_table Or = 14

@@ -29,10 +29,20 @@ use std::marker::Model;
 
 /// An array of booleans, each of which may be null.
 ///
-/// Contracts see its values and its validity; `boolean_items` is the list of its items. Slices and clones share the bytes
-/// of both.
+/// Contracts see its values and its validity; `boolean_items` is the list of its items. Slices and clones share the
+/// bytes of both.
 ///
 /// Differs from arrow2, whose array has a logical type too: `Boolean`, or an extension of it.
+///
+/// # Examples
+///
+/// ```rust
+/// use arrow2::array::BooleanArray;
+///
+/// let array = BooleanArray::from_options(alloc, &[Some(true), None, Some(false)])?;
+/// assert!(rt; array.len() == 3 && array.null_count() == 1);
+/// assert!(rt; array.get(1).is_none() && array.get(2) == Some(false));
+/// ```
 #[derive(Drop)]
 pub struct BooleanArray {
     values: Bitmap,
@@ -58,8 +68,8 @@ impl BooleanArray {
     ///
     /// # Errors
     ///
-    /// `InvalidArgumentError` exactly if the lengths differ, or `OutOfMemory` there, if its text cannot be allocated. Both
-    /// are then dropped.
+    /// `InvalidArgumentError` exactly if the lengths differ, or `OutOfMemory` there, if its text cannot be allocated.
+    /// Both are then dropped.
     pub fn try_new(values: Bitmap, validity: Option<Bitmap>) -> Result<BooleanArray>
         ensures ok { IfOk result (λ a. a ≡ record {
           values = values;
@@ -97,8 +107,8 @@ impl BooleanArray {
         BooleanArray { values, validity }
     }
 
-    /// Returns the array of these values, each null where the validity says so. Requires that both have one length.
-    /// Does not allocate. arrow2 has no such call.
+    /// Returns the array of these values, each null where the validity has an unset bit. Requires that both have one
+    /// length. Does not allocate. arrow2 has no such call.
     pub fn from_parts(values: Bitmap, validity: Validity) -> BooleanArray
         requires same_length { length' (valid_items validity) ≡ length' (items_of values) }
         ensures { result ≡ record { values = values; validity = validity } }
@@ -106,8 +116,8 @@ impl BooleanArray {
         BooleanArray { values, validity }
     }
 
-    /// Returns the array of these items. It has a validity bitmap exactly where an item is null. What stands in the values under
-    /// a null is left open.
+    /// Returns the array of these items. It has a validity bitmap exactly where an item is null. The values under a
+    /// null are unspecified.
     ///
     /// Stands for arrow2's `From` of a slice.
     ///
@@ -154,8 +164,7 @@ impl BooleanArray {
         self.validity.is_valid(index).then_some(value)
     }
 
-    /// Returns what stands in the values at `index`, also under a null. Requires that it is below the length, where arrow2
-    /// panics.
+    /// Returns the value at `index`, also under a null. Requires that it is below the length, where arrow2 panics.
     pub fn value(&self, index: usize) -> bool
         requires below { index < length' (boolean_items self.now) }
         ensures { slice_get (items_of self.now.values) index ≡ Some result }
@@ -179,7 +188,7 @@ impl BooleanArray {
         !self.is_valid(index)
     }
 
-    /// Returns the values. Those under nulls are what they are.
+    /// Returns the values. Values under nulls stay as they are.
     pub fn values(&self) -> &Bitmap
         ensures value { result.now ≡ self.now.values }
         ensures items { zipped (items_of result.now) (map is_some (boolean_items self.now))
@@ -276,8 +285,8 @@ impl BooleanArray {
         BooleanIter::new(self)
     }
 
-    /// Returns, item by item, whether both are true: false where one of them is false, and null where that is not known.
-    /// The values are what `and` makes of the values, also under nulls. Requires that both have one length.
+    /// Returns, item by item, whether both are true: false where one of them is false, and null where that is not
+    /// known. The values are `and` of the values, also under nulls. Requires that both have one length.
     ///
     /// In arrow2 it is `compute::boolean_kleene::and`, which refuses other lengths.
     ///
@@ -303,7 +312,7 @@ impl BooleanArray {
     }
 
     /// Returns, item by item, whether one is true, or both: true where one of them is true, and null where that is not
-    /// known. The values are what `or` makes of the values, also under nulls. Requires that both have one length.
+    /// known. The values are `or` of the values, also under nulls. Requires that both have one length.
     ///
     /// In arrow2 it is `compute::boolean_kleene::or`, which refuses other lengths.
     ///
@@ -328,7 +337,7 @@ impl BooleanArray {
         self.by_operator(Operator::Or, other)
     }
 
-    /// Returns what the operator makes of both, item by item: by its tables.
+    /// Returns the result of the operator for both, item by item: by its tables.
     fn by_operator(&self, operator: Operator, other: &BooleanArray) -> Result<BooleanArray>
         requires same_length { length' (boolean_items self.now) ≡ length' (boolean_items other.now) }
         ensures items { IfOk result (λ a. boolean_items a
@@ -368,7 +377,7 @@ impl<'a> IntoIterator for &'a BooleanArray {
     }
 }
 
-/// Shares the bytes. Does not allocate: it is refused only where a count of owners is full.
+/// Shares the bytes. Does not allocate: it fails only where a reference count would overflow.
 impl Clone for BooleanArray {
     ghost is_clone = { λ a copy. copy ≡ a };
 
@@ -380,7 +389,7 @@ impl Clone for BooleanArray {
     }
 }
 
-/// Equality of the items: nulls are equal, whatever values stand under them.
+/// Equality of the items: nulls are equal, whatever values are under them.
 impl PartialEq for BooleanArray {
     ghost eq = { on boolean_items (pointwise (option_eq beq)) };
 
@@ -399,7 +408,7 @@ impl Eq for BooleanArray {
     ghost laws = { on_equiv boolean_items (lists_equiv (options_equiv bool_eq_equiv)) };
 }
 
-/// Returns whether two iterators of as many items yield the same.
+/// Returns whether two iterators of equal length yield the same items.
 fn same_items(items: BooleanIter<'_>, others: BooleanIter<'_>) -> bool
     requires same_length { length' items ≡ length' others }
     ensures { result ≡ pointwise (option_eq beq) items.entry others.entry }

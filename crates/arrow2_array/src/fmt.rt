@@ -7,8 +7,8 @@ ghost use Rattle.arrow2_array.specs.Items.{boolean_items};
 use crate::boolean::BooleanArray;
 use std::fmt;
 
-/// The items in brackets behind the name of the type: each is `true`, `false` or `None`. The formatter's options change
-/// nothing.
+/// Writes the items in brackets after the name of the type: each is `true`, `false` or `None`. The formatter's options
+/// change nothing.
 impl fmt::Debug for BooleanArray {
     ghost debug_output = { λ a. Some (array_text (boolean_items a)) };
 
@@ -32,7 +32,7 @@ fn write_array<W: fmt::Write>(array: &BooleanArray, f: &mut fmt::Formatter<W>) -
     f.write_str("]")
 }
 
-/// The word for an item.
+/// Returns the word for an item.
 fn word(item: Option<bool>) -> &'static str
     ensures { result.now ≡ item_word item }
 {

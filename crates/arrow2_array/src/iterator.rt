@@ -72,7 +72,7 @@ impl<'a> Iterator for BooleanIter<'a> {
         Some(item)
     }
 
-    /// Both bounds are the number of items still to come.
+    /// Returns the number of items still to come as both bounds.
     fn size_hint(&self) -> (usize, Option<usize>)
         ensures lower { IsWithinCount result.0 (item_count (λ s. s) self.now) }
         ensures upper { IfSome result.1 (UpTo (item_count (λ s. s) self.now)) }

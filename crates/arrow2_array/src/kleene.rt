@@ -1,4 +1,4 @@
-//! Which answers of Kleene's logic are known, by truth tables.
+//! Which results of Kleene's logic are known, by truth tables.
 ghost use Rattle.std.specs.Prelude.{◌≡◌, ◌↔◌, [], ◌∷◌, length as length', Some, IsNone, IfOk, IfErr};
 ghost use Rattle.arrow2_model.specs.Storage.{items_of};
 ghost use Rattle.arrow2_model.specs.Tables.{each};
@@ -42,7 +42,7 @@ pub(crate) enum Operator {
 }
 
 impl Operator {
-    /// The table of its values.
+    /// Returns the table of its values.
     pub(crate) fn values(self) -> u8
         ensures { result ≡ values_table self }
     {
@@ -52,7 +52,7 @@ impl Operator {
         }
     }
 
-    /// The table of which of them are known.
+    /// Returns the table of which results are known.
     fn known(self) -> u16
         ensures { result ≡ known_table self }
     {
@@ -62,7 +62,7 @@ impl Operator {
         }
     }
 
-    /// The same where one of the two is not null.
+    /// Returns the same where one of the two is not null.
     fn known_beside(self) -> u8
         ensures { result ≡ beside_table self }
     {
@@ -73,8 +73,8 @@ impl Operator {
     }
 }
 
-/// Returns for which items of two arrays the answer is known, by the table of three inputs where one has no validity bitmap.
-/// Where both have none, so has the answer.
+/// Returns for which items of two arrays the result is known, by the table of three inputs where one has no validity
+/// bitmap. Where neither has one, the result has none.
 pub(crate) fn validity_by(
     operator: Operator,
     left: &Bitmap,

@@ -1,4 +1,4 @@
-//! Boolean arrays: bitmaps of values beside their validity, shared ones and ones that grow.
+//! Boolean arrays: bitmaps of values together with their validity, shared ones and ones that grow.
 #![tactic(auto)]
 
 pub mod boolean;

@@ -17,10 +17,10 @@ use std::marker::Model;
 
 /// An array of booleans that grows.
 ///
-/// Contracts see its items, and how many fit before it allocates.
+/// Contracts see its items and its capacity.
 ///
-/// Differs from arrow2: its validity is always there, and [`MutableBooleanArray::freeze`] leaves it out where no item is
-/// null.
+/// Differs from arrow2: its validity is always there, and [`MutableBooleanArray::freeze`] leaves it out where no item
+/// is null.
 #[derive(Drop)]
 pub struct MutableBooleanArray {
     values: MutableBitmap,
@@ -54,7 +54,7 @@ impl MutableBooleanArray {
         }
     }
 
-    /// Returns an array without items, with room for `capacity` of them.
+    /// Returns an array without items, with capacity for `capacity` of them.
     ///
     /// # Errors
     ///
@@ -84,7 +84,7 @@ impl MutableBooleanArray {
         self.len() == 0
     }
 
-    /// Returns how many items fit before it allocates, those that it holds too.
+    /// Returns the capacity in items, including those that it holds.
     pub fn capacity(&self) -> usize
         ensures value { result ≡ self.now.capacity }
         ensures held { length self.now.items ≤ result }
@@ -92,12 +92,12 @@ impl MutableBooleanArray {
         self.values.capacity().min(self.validity.capacity())
     }
 
-    /// Makes room for `additional` items more. Within the capacity it does not allocate.
+    /// Reserves capacity for `additional` more items. Within the capacity it does not allocate.
     ///
     /// # Errors
     ///
-    /// `Overflow` exactly where the length and `additional` pass `usize::MAX` together, else `OutOfMemory` alone. After both
-    /// the array holds the items that it held.
+    /// `Overflow` exactly where the length and `additional` pass `usize::MAX` together, else `OutOfMemory` alone. After
+    /// both the array holds the items that it held.
     pub fn reserve(&mut self, additional: usize) -> Result<()>
         ensures items { self.new.items ≡ self.old.items }
         ensures ok { OnOk result (length self.old.items + additional ≤ self.new.capacity) }
@@ -116,8 +116,8 @@ impl MutableBooleanArray {
     ///
     /// # Errors
     ///
-    /// `Overflow` exactly where the length is `usize::MAX`, else `OutOfMemory` alone. After both the array holds the items
-    /// that it held.
+    /// `Overflow` exactly where the length is `usize::MAX`, else `OutOfMemory` alone. After both the array holds the
+    /// items that it held.
     pub fn push(&mut self, item: Option<bool>) -> Result<()>
         ensures { AppendsItems result self.old self.new (item ∷ []) }
     {
@@ -131,8 +131,8 @@ impl MutableBooleanArray {
     ///
     /// # Errors
     ///
-    /// `Overflow` exactly where the length is `usize::MAX`, else `OutOfMemory` alone. After both the array holds the items
-    /// that it held.
+    /// `Overflow` exactly where the length is `usize::MAX`, else `OutOfMemory` alone. After both the array holds the
+    /// items that it held.
     pub fn push_null(&mut self) -> Result<()>
         ensures { AppendsItems result self.old self.new (None ∷ []) }
     {
@@ -143,8 +143,8 @@ impl MutableBooleanArray {
     ///
     /// # Errors
     ///
-    /// `Overflow` exactly where the new length would pass `usize::MAX`, else `OutOfMemory` alone. After both the array holds
-    /// the items that it held.
+    /// `Overflow` exactly where the new length would pass `usize::MAX`, else `OutOfMemory` alone. After both the array
+    /// holds the items that it held.
     pub fn extend_constant(&mut self, additional: usize, item: Option<bool>) -> Result<()>
         ensures { AppendsItems result self.old self.new (replicate additional item) }
     {
@@ -155,13 +155,13 @@ impl MutableBooleanArray {
         Ok(())
     }
 
-    /// Appends the `len` items of another array from item `start` on, whatever stands under its nulls. Requires that they are
-    /// inside. Within the capacity it does not allocate. In arrow2 it is `GrowableBoolean::extend`.
+    /// Appends the `len` items of another array from item `start` on, whatever values are under its nulls. Requires
+    /// that they are inside. Within the capacity it does not allocate. In arrow2 it is `GrowableBoolean::extend`.
     ///
     /// # Errors
     ///
-    /// `Overflow` exactly where the new length would pass `usize::MAX`, else `OutOfMemory` alone. After both the array holds
-    /// the items that it held.
+    /// `Overflow` exactly where the new length would pass `usize::MAX`, else `OutOfMemory` alone. After both the array
+    /// holds the items that it held.
     pub fn extend_from_array(
         &mut self,
         array: &BooleanArray,
@@ -181,7 +181,7 @@ impl MutableBooleanArray {
 
     /// Takes the last item off and returns it, or `None` where there is none.
     ///
-    /// Differs from arrow2, which answers an array without items as it answers a null.
+    /// Differs from arrow2, which returns the same for an array without items as for a null.
     pub fn pop(&mut self) -> Option<Option<bool>>
         ensures last { MatchOption result (self.old.items ≡ []) (λ item.
             self.old.items ≡ self.new.items ++ item ∷ []) }
@@ -193,8 +193,8 @@ impl MutableBooleanArray {
         Some(valid.then_some(value))
     }
 
-    /// Returns the array of the items, over the same bytes. It has a validity bitmap exactly where an item is null. What stands
-    /// in the values under a null is left open.
+    /// Returns the array of the items, over the same bytes. It has a validity bitmap exactly where an item is null. The
+    /// values under a null are unspecified.
     ///
     /// # Errors
     ///

@@ -87,7 +87,7 @@ fn iter(bitmap: &Bitmap) -> Result<usize> {
     Ok(ones)
 }
 
-/// Adds up the places of the items that are true.
+/// Adds up the indices of the items that are true.
 fn iter_places(bitmap: &Bitmap) -> Result<usize> {
     let mut sum = 0usize;
     for (place, item) in bitmap.iter().enumerate() {
@@ -112,7 +112,7 @@ fn debug(bitmap: &Bitmap) -> Result<usize> {
     Ok(format!(in bitmap.allocator(); "{bitmap:?}")?.len())
 }
 
-/// Mixes the places and the lengths of the runs of set items.
+/// Mixes the indices and the lengths of the runs of set bits.
 fn slices(bitmap: &Bitmap) -> Result<usize> {
     let mut sum = 0usize;
     for (start, length) in SlicesIterator::new(bitmap) {
@@ -121,7 +121,7 @@ fn slices(bitmap: &Bitmap) -> Result<usize> {
     Ok(sum)
 }
 
-/// Counts the false items of a new bitmap of what is not set.
+/// Counts the unset bits of a new bitmap, the negation of a bitmap.
 fn not(bitmap: &Bitmap) -> Result<usize> {
     Ok((!bitmap)?.unset_bits())
 }
@@ -131,7 +131,7 @@ fn rotated(bitmap: &Bitmap) -> Result<usize> {
     Ok(unary(bitmap, |word| word.rotate_left(1))?.unset_bits())
 }
 
-/// Calls on the bitmaps of both bytes at the same place, which each run chooses.
+/// Calls on the bitmaps of both bytes at the index that each run chooses.
 #[unsafe(no_mangle)]
 pub extern "C" fn bench_pairs(
     alloc: Global,
@@ -155,7 +155,7 @@ pub extern "C" fn bench_pairs(
     }
 }
 
-/// Makes the call on the bitmaps of both bytes at the same place, which each run chooses.
+/// Makes the call on the bitmaps of both bytes at the index that each run chooses.
 fn on_both<F: Fn(&Bitmap, &Bitmap) -> Result<usize>>(
     alloc: Global,
     left: &[u8],
@@ -181,7 +181,7 @@ fn equal(left: &Bitmap, right: &Bitmap) -> Result<usize> {
     Ok(usize::from(left == right))
 }
 
-/// Counts the false items of a new bitmap of what is set in both. 0 where they differ in length.
+/// Counts the unset bits of the intersection of two bitmaps, a new one. 0 where they differ in length.
 fn both(left: &Bitmap, right: &Bitmap) -> Result<usize> {
     if left.len() != right.len() {
         return Ok(0);
@@ -189,7 +189,7 @@ fn both(left: &Bitmap, right: &Bitmap) -> Result<usize> {
     Ok(and(left, right)?.unset_bits())
 }
 
-/// The same of what is set in one of them, or in both.
+/// The same of the union.
 fn either(left: &Bitmap, right: &Bitmap) -> Result<usize> {
     if left.len() != right.len() {
         return Ok(0);
@@ -197,7 +197,7 @@ fn either(left: &Bitmap, right: &Bitmap) -> Result<usize> {
     Ok((left | right)?.unset_bits())
 }
 
-/// The same of what is set in one of them, and not in both.
+/// The same of the symmetric difference.
 fn one(left: &Bitmap, right: &Bitmap) -> Result<usize> {
     if left.len() != right.len() {
         return Ok(0);

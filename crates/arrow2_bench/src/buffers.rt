@@ -1,4 +1,4 @@
-//! Shared buffers, and what is collected of numbers.
+//! Shared buffers, and collections of numbers.
 
 use crate::runs::{Part, on_firsts};
 use arrow2_bitmap::immutable::Bitmap;
@@ -50,7 +50,7 @@ fn buffer(alloc: Global, items: &[u64]) -> Result<Buffer<u64>> {
     Buffer::try_from(Vec::from_slice(alloc, items)?)
 }
 
-/// How many items it has.
+/// Returns the number of items.
 fn length(buffer: Buffer<u64>) -> usize {
     buffer.as_slice().len()
 }
@@ -73,7 +73,7 @@ fn mixed(buffer: Buffer<u64>) -> usize {
     all as usize
 }
 
-/// Calls that collect the first numbers, as many as each run says.
+/// Calls that collect a prefix of the numbers, whose length each run chooses.
 #[unsafe(no_mangle)]
 pub extern "C" fn bench_words(alloc: Global, call: &[u8], items: &[u64], runs: &[usize]) -> usize {
     if call == b"products".as_slice() {
@@ -94,7 +94,7 @@ fn products(alloc: Global, items: &[u64]) -> Result<usize> {
     }
 }
 
-/// Counts the falses of a bitmap of comparisons.
+/// Counts the unset bits of a bitmap of comparisons.
 fn comparisons(alloc: Global, items: &[u64]) -> Result<usize> {
     Ok(Bitmap::try_from_iter(alloc, items.iter().map(|item| *item < 1 << 63))?.unset_bits())
 }

@@ -110,7 +110,7 @@ fn on_whole<R, F: Fn(&Bitmap, &R) -> Result<usize>>(
     on_each(runs, |run| call(&whole, run))
 }
 
-/// The item at a place as a number, or 0 where there is none.
+/// Returns the item at an index as a number, or 0 where there is none.
 fn get(bitmap: &Bitmap, place: &usize) -> Result<usize> {
     match bitmap.get(*place) {
         Some(item) => Ok(usize::from(item)),
@@ -118,7 +118,7 @@ fn get(bitmap: &Bitmap, place: &usize) -> Result<usize> {
     }
 }
 
-/// Counts the trues among each `step`th item.
+/// Counts the true items among each `step`th item.
 fn iter_nth(bitmap: &Bitmap, step: &usize) -> Result<usize> {
     let mut ones = 0usize;
     if let Some(skipped) = step.checked_sub(1) {
@@ -159,7 +159,7 @@ fn copied(alloc: Global, bytes: &[u8], length: usize) -> Result<usize> {
     Ok(Bitmap::from_u8_slice(alloc, bytes, length)?.unset_bits())
 }
 
-/// Turns the full words of the first bits of a copy of the bytes, and counts the bits that are not set then.
+/// Inverts the full words of the first bits of a copy of the bytes, and counts the bits that are not set then.
 fn change_next(alloc: Global, bytes: &[u8], lengths: &[usize]) -> usize {
     let Ok(copied) = Vec::from_slice(alloc, bytes) else {
         return 0;
@@ -173,7 +173,7 @@ fn change_next(alloc: Global, bytes: &[u8], lengths: &[usize]) -> usize {
     zeros(bytes.as_slice())
 }
 
-/// Turns the bits of all chunks.
+/// Inverts the bits of all chunks.
 fn turn_chunks(chunks: BitChunksExactMut<'_, u64>) {
     let mut chunks = chunks;
     for _ in 0..u64::MAX {
@@ -183,7 +183,7 @@ fn turn_chunks(chunks: BitChunksExactMut<'_, u64>) {
     }
 }
 
-/// Turns the bits of the bytes.
+/// Inverts the bits of the bytes.
 fn turn(bytes: &mut [u8]) {
     for byte in bytes.iter_mut() {
         *byte = !*byte;
@@ -195,7 +195,7 @@ fn zeros(bytes: &[u8]) -> usize {
     count_zeros(bytes, 0, bytes.len().saturating_mul(8))
 }
 
-/// Writes the items at places of a copy of the bytes, and counts the bits that are not set then.
+/// Writes the items at some indices of a copy of the bytes, and counts the bits that are not set then.
 #[unsafe(no_mangle)]
 pub extern "C" fn bench_set_bit(
     alloc: Global,

@@ -12,8 +12,8 @@ use arrow2_primitive::{MutablePrimitiveArray, PrimitiveArray};
 use arrow2_types::error::Result;
 use std::alloc::Global;
 
-/// Calls on the first items of a column, and as many bits of the mask, as each run says. The column has no nulls where
-/// its validity has no byte.
+/// Calls on prefixes of a column and of the mask, whose length each run chooses. The column has no nulls where its
+/// validity has no byte.
 #[unsafe(no_mangle)]
 pub extern "C" fn bench_columns(
     alloc: Global,
@@ -44,7 +44,7 @@ pub extern "C" fn bench_columns(
     }
 }
 
-/// What a call on columns works on.
+/// The inputs of a call on columns.
 struct Inputs<'a> {
     values: &'a [i64],
     validity: &'a [u8],
@@ -52,7 +52,7 @@ struct Inputs<'a> {
     runs: &'a [usize],
 }
 
-/// Makes the call on the first items, and as many bits of the mask, as each run says.
+/// Makes the call on prefixes of the items and of the mask, whose length each run chooses.
 fn on_columns<F: Fn(&PrimitiveArray<i64>, &Bitmap) -> Result<usize>>(
     alloc: Global,
     inputs: &Inputs<'_>,
@@ -101,7 +101,7 @@ fn filtered(column: &PrimitiveArray<i64>, mask: &Bitmap) -> Result<usize> {
     last_and_count(&filter(column, mask)?)
 }
 
-/// How many items there are and, where it is not null, how far the last one is from 0, added up.
+/// Returns the number of items and, where the last one is not null, its distance from 0, added up.
 fn last_and_count(column: &PrimitiveArray<i64>) -> Result<usize> {
     let Some(last) = column.len().checked_sub(1) else {
         return Ok(0);
@@ -138,7 +138,7 @@ fn added_up(column: &PrimitiveArray<i64>, _: &Bitmap) -> Result<usize> {
     Ok((sum(column).unsigned_abs() % (1 << 64)) as usize)
 }
 
-/// Takes the first items at these indices, as many as each run says.
+/// Takes the items at a prefix of these indices, whose length each run chooses.
 #[unsafe(no_mangle)]
 pub extern "C" fn bench_take(
     alloc: Global,
@@ -159,7 +159,8 @@ pub extern "C" fn bench_take(
     })
 }
 
-/// Builds columns of the first options, as many as each run says: a value where the item beside it is true.
+/// Builds columns of a prefix of the options, whose length each run chooses: a value where the item at its index is
+/// true.
 #[unsafe(no_mangle)]
 pub extern "C" fn bench_options(
     alloc: Global,

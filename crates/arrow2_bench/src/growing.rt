@@ -10,7 +10,7 @@ use arrow2_chunk::bit_chunk::BitChunk;
 use arrow2_types::error::Result;
 use std::alloc::Global;
 
-/// Calls that make a bitmap of the first items, as many as each run says.
+/// Calls that make a bitmap of a prefix of the items, whose length each run chooses.
 #[unsafe(no_mangle)]
 pub extern "C" fn bench_bools(alloc: Global, call: &[u8], items: &[bool], runs: &[usize]) -> usize {
     if call == b"push".as_slice() {
@@ -24,7 +24,7 @@ pub extern "C" fn bench_bools(alloc: Global, call: &[u8], items: &[bool], runs: 
     }
 }
 
-/// Counts the falses among items that are pushed one by one.
+/// Counts the false items among those that are pushed one by one.
 fn push(alloc: Global, items: &[bool]) -> Result<usize> {
     let mut bitmap = MutableBitmap::new(alloc);
     for item in items {
@@ -33,12 +33,12 @@ fn push(alloc: Global, items: &[bool]) -> Result<usize> {
     Ok(bitmap.unset_bits())
 }
 
-/// Counts the falses among booleans.
+/// Counts the false items among booleans.
 fn from_bools(alloc: Global, items: &[bool]) -> Result<usize> {
     Ok(Bitmap::from_bools(alloc, items)?.unset_bits())
 }
 
-/// Counts the falses among the items of an iterator.
+/// Counts the false items of an iterator.
 fn try_from_iter(alloc: Global, items: &[bool]) -> Result<usize> {
     Ok(Bitmap::try_from_iter(alloc, items.iter().copied())?.unset_bits())
 }
@@ -48,7 +48,7 @@ fn growing(alloc: Global, bytes: &[u8], length: usize) -> Result<MutableBitmap> 
     MutableBitmap::try_new(Vec::from_slice(alloc, bytes)?, length)
 }
 
-/// Counts the trues among the first bits of the bytes, popped one by one.
+/// Counts the true items among the first bits of the bytes, popped one by one.
 pub fn pop(alloc: Global, bytes: &[u8], length: usize) -> Result<usize> {
     let mut bitmap = growing(alloc, bytes, length)?;
     let mut ones = 0usize;
@@ -60,7 +60,8 @@ pub fn pop(alloc: Global, bytes: &[u8], length: usize) -> Result<usize> {
     Ok(ones)
 }
 
-/// Sets the first items anew, one by one, as many as each run says, and counts the items that are false then.
+/// Sets the items of a prefix anew, one by one, whose length each run chooses, and counts the items that are false
+/// then.
 #[unsafe(no_mangle)]
 pub extern "C" fn bench_set(alloc: Global, bytes: &[u8], items: &[bool], runs: &[usize]) -> usize {
     let Ok(made) = growing(alloc, bytes, items.len()) else {
@@ -79,7 +80,7 @@ pub extern "C" fn bench_set(alloc: Global, bytes: &[u8], items: &[bool], runs: &
     bitmap.unset_bits()
 }
 
-/// Calls that append the bits of a part, or as many trues, to as many items as one number says, at most 8.
+/// Calls that append the bits of a part, or the same number of true items, to a prefix of the items of at most 8 bits.
 #[unsafe(no_mangle)]
 pub extern "C" fn bench_append(
     alloc: Global,
@@ -100,7 +101,7 @@ pub extern "C" fn bench_append(
     }
 }
 
-/// The last of the first items and the bits of a part behind them.
+/// Returns the last item of a prefix with the bits of a part appended.
 fn extend_from_slice(alloc: Global, own: usize, bytes: &[u8], part: &Part) -> Result<usize> {
     if !part.is_within(bytes.len().saturating_mul(8)) {
         return Ok(0);
@@ -110,7 +111,7 @@ fn extend_from_slice(alloc: Global, own: usize, bytes: &[u8], part: &Part) -> Re
     Ok(last_item(&bitmap))
 }
 
-/// The last of the first items and trues behind them.
+/// Returns the last item of a prefix with true items appended.
 fn extend_constant(alloc: Global, own: usize, length: usize) -> Result<usize> {
     let mut bitmap = growing(alloc, &[85], own)?;
     bitmap.extend_constant(length, true)?;
@@ -188,7 +189,7 @@ fn change_by<F: Fn(&mut MutableBitmap, &Bitmap)>(
     }
 }
 
-/// Turns the items that are set in the other bitmap. Leaves all where they differ in length.
+/// Inverts the items that are set in the other bitmap. Leaves all where they differ in length.
 fn xor_assign<T: BitChunk>(own: &mut MutableBitmap, other: &Bitmap) {
     if own.len() == other.len() {
         binary_assign::<T, _>(own, other, |x, y| x.bit_xor(y));
@@ -209,7 +210,7 @@ fn equal_by_table(own: &mut MutableBitmap, other: &Bitmap) {
     }
 }
 
-/// Turns all items of a growing bitmap by a table, once for each run, and counts the items that are false then.
+/// Inverts all items of a growing bitmap by a table, once for each run, and counts the items that are false then.
 fn turned_by_table(alloc: Global, own: &[u8], runs: &[usize]) -> usize {
     let Ok(made) = growing(alloc, own, own.len().saturating_mul(8)) else {
         return 0;

@@ -1,4 +1,4 @@
-//! Index numbers, words as bits, and bitmaps of falses.
+//! Index numbers, words as bits, and bitmaps of unset bits.
 
 use crate::runs::on_each;
 use arrow2_bitmap::immutable::Bitmap;
@@ -34,7 +34,7 @@ fn index_range(length: &usize) -> Result<usize> {
     Ok(all as usize)
 }
 
-/// Adds up the places of the set bits of a word.
+/// Adds up the indices of the set bits of a word.
 fn ones(word: &usize) -> Result<usize> {
     let mut sum = 0usize;
     for place in BitChunkOnes::<u64>::new(*word as u64) {

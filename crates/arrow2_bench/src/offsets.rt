@@ -7,7 +7,7 @@ use arrow2_types::error::Result;
 use std::alloc::Global;
 use std::convert::TryFrom;
 
-/// Calls that make offsets of the first lengths of slots, as many as each run says.
+/// Calls that make offsets of a prefix of the lengths of slots, whose length each run chooses.
 #[unsafe(no_mangle)]
 pub extern "C" fn bench_slot(alloc: Global, call: &[u8], slots: &[usize], runs: &[usize]) -> usize {
     if call == b"try_from_lengths".as_slice() {
@@ -25,7 +25,7 @@ fn try_from_lengths(alloc: Global, slots: &[usize]) -> Result<usize> {
     Ok(*offsets.last() as usize)
 }
 
-/// The last of the offsets of lengths, with room for all of them beforehand.
+/// Returns the last of the offsets of lengths, with capacity for all of them beforehand.
 fn extend_from_lengths(alloc: Global, slots: &[usize]) -> Result<usize> {
     let mut offsets = Offsets::<i64>::with_capacity(alloc, slots.len())?;
     offsets.try_extend_from_lengths(slots.iter().copied())?;

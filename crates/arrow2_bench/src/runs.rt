@@ -1,4 +1,5 @@
-//! What a run works on, and the loops over the runs, which add up what a call answers. The sum is 0 where a call fails.
+//! The inputs of a run, and the loops over the runs, which add up the results of a call. The sum is 0 where a call
+//! fails.
 ghost use Rattle.std.specs.Prelude.{◌+◌, ◌≤◌, ◌↔◌, IsTrue};
 
 use arrow2_types::error::Result;
@@ -9,7 +10,7 @@ use arrow2_types::error::Result;
 pub struct Part {
     /// Where it begins.
     pub offset: usize,
-    /// How many bits or items it has.
+    /// Returns the number of bits or items.
     pub length: usize,
 }
 
@@ -36,7 +37,7 @@ pub fn on_each<R, F: Fn(&R) -> Result<usize>>(runs: &[R], call: F) -> usize
     sum
 }
 
-/// Makes the call on the first items, as many as each run says.
+/// Makes the call on a prefix of the items, whose length each run chooses.
 pub fn on_firsts<T, F: Fn(&[T]) -> Result<usize>>(items: &[T], runs: &[usize], call: F) -> usize
     requires { F.IsAlwaysCallable call }
 {
@@ -46,7 +47,7 @@ pub fn on_firsts<T, F: Fn(&[T]) -> Result<usize>>(items: &[T], runs: &[usize], c
     })
 }
 
-/// Makes the call on the items of both lists at the place that each run chooses.
+/// Makes the call on the items of both lists at the index that each run chooses.
 pub fn on_pairs<T, F: Fn(&T, &T) -> Result<usize>>(
     left: &[T],
     right: &[T],

@@ -88,7 +88,7 @@ fn quaternary(inputs: &[Bitmap]) -> Result<usize> {
     Ok(quaternary_table(first, second, third, fourth, KNOWN)?.unset_bits())
 }
 
-/// Makes new arrays of Kleene's `and` of the arrays at the same place: values before their validity. No bytes of a
+/// Makes new arrays of Kleene's `and` of the arrays at the same index: values before their validity. No bytes of a
 /// validity make arrays without one.
 fn on_arrays(alloc: Global, all: &[&[u8]; 4], parts: &[Part], runs: &[usize]) -> usize {
     let Ok(left) = arrays(alloc, all[0], all[1], parts) else {

@@ -11,7 +11,7 @@ use arrow2_types::error::Result;
 use std::alloc::Global;
 use std::convert::TryFrom;
 
-/// Calls on the first texts, as many as each run says.
+/// Calls on a prefix of the texts, whose length each run chooses.
 #[unsafe(no_mangle)]
 pub extern "C" fn bench_texts(
     alloc: Global,
@@ -61,7 +61,7 @@ fn compared_each(alloc: Global, bytes: &[u8], offsets: &[i64], runs: &[usize]) -
     Ok(sum)
 }
 
-/// The first texts, at most as many as a run says.
+/// Returns a prefix of the texts, at most as long as a run states.
 fn first(whole: &Utf8Array<i64>, len: usize) -> Result<Utf8Array<i64>> {
     Ok(whole.clone()?.sliced(0, len.min(whole.len())))
 }

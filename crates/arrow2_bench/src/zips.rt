@@ -1,4 +1,4 @@
-//! Numbers beside their validity.
+//! Numbers zipped with their validity.
 ghost use Rattle.std.specs.Iterator.{IsFinite};
 
 use crate::bitmaps::on_bitmaps;
@@ -8,8 +8,8 @@ use arrow2_types::error::Result;
 use arrow2_walks::{ZipValidity, ZipValidityIter};
 use std::alloc::Global;
 
-/// Calls on the numbers beside the bitmap of the part that each run chooses, or beside the first bits, where each run
-/// is a step.
+/// Calls on the numbers zipped with the bitmap of the part that each run chooses, or with the first bits, where each
+/// run is a step.
 #[unsafe(no_mangle)]
 pub extern "C" fn bench_zips(
     alloc: Global,

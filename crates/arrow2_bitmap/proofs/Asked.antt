@@ -1,4 +1,4 @@
--- Answers as items: what each of them is says the list.
+-- Results of a function as items: each of them determines one item of the list.
 use Rattle.std.proofs.Common.{◌≡◌, ℕ, ◌<◌, List, Bool, false, map, length, get_or, ap, sym, ◌∙◌, arith, zero-add}
 use Rattle.std.specs.Prelude.{Result, Ok, Err, IfOk}
 use Rattle.std.specs.List.{range_with_len}
@@ -9,7 +9,7 @@ use Rattle.std.proofs.lemmas.Simd.{length-zip2, get_or-zip2}
 use denote.Ref.{Bor}
 use Rattle.arrow2_bitmap.specs.Answered.{AnswersBelow, AnswersOfEach, AnswersOfPairs, IsAnswerAt, IsPairAnswerAt}
 
--- what is so of a value where two facts are
+-- the consequence of two facts on a value
 pub if-both : {V E : Type 0} {P Q R : V → Type 0} (r : Result V E) → ((v : V) → P v → Q v → R v) → IfOk r P → IfOk r Q → IfOk r R
 if-both (Ok v) gives p q = gives v p q
 if-both (Err e) gives p q = tt
@@ -33,7 +33,7 @@ module _ {X : Type 0} where
       let one = given k less in
       says k one.item (get_or items k false) less one.there one.told ∙ (ap test (sym one.there) ∙ sym (get_or-map test xs k one.item.now false less)))
 
--- of the items of two lists, place by place
+-- of the items of two lists, index by index
 module _ {X Y : Type 0} where
   pub told-pairs : (xs : List X) (ys : List Y) (items : List Bool) (answers : Bor X → Bor Y → Bool → Type 0) (test : X → Y → Bool) → length xs ≡ length ys → length items ≡ length xs
       → ((k : ℕ) → k < length xs → IsPairAnswerAt xs ys answers k (get_or items k false)) → AnswersOfPairs xs ys answers test → items ≡ zip2 test xs ys

@@ -1,4 +1,4 @@
--- The bytes of bitmaps that grow tell their items.
+-- The bytes of bitmaps that grow determine their items.
 use Rattle.std.proofs.Common.{◌≡◌, ◌↔◌, List, Bool, length, ap, ◌∙◌, sym}
 use Rattle.arrow2_model.specs.Canonical.{canonical_bytes}
 use Rattle.arrow2_model.specs.Storage.{BitmapStorage, items_of}

@@ -1,4 +1,4 @@
--- What `==` of bitmaps answers.
+-- The result of `==` of bitmaps.
 use Rattle.std.proofs.Common.{◌≡◌, ◌↔◌, ℕ, List, Bool, length, ap, sym, ◌∙◌}
 use Rattle.std.specs.Bool.{beq, IsTrue}
 use Rattle.std.specs.Prelude.{nat_eq}
@@ -9,11 +9,11 @@ use Rattle.arrow2_model.specs.Canonical.{canonical_bytes}
 use Rattle.arrow2_model.proofs.Canonical.{same_from_canonical_bytes}
 use Rattle.arrow2_model.proofs.Same.{pointwise-same}
 
--- an answer that is true just where the lists are the same
+-- a result that is true just where the lists are the same
 pub same_told : (xs ys : List Bool) (r : Bool) → IsTrue r ↔ (xs ≡ ys) → r ≡ pointwise beq xs ys
 same_told xs ys r h = same_from_decides r (pointwise beq xs ys) h (pointwise-same xs ys)
 
--- an answer about the canonical bytes of lists of one length
+-- a result that is about the canonical bytes of lists of one length
 pub same_bytes_told : (xs ys : List Bool) (a b : List ℕ) (r : Bool) → length xs ≡ length ys → a ≡ canonical_bytes xs → b ≡ canonical_bytes ys → r ≡ pointwise nat_eq a b → r ≡ pointwise beq xs ys
 same_bytes_told xs ys a b r size is-a is-b is =
     let told = slice_eq-Decides Decides-eqb a b r is in

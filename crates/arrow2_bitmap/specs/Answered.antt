@@ -1,28 +1,28 @@
--- What a function of numbers or of items answers, as items.
+-- The results of a function of numbers or of items, as items.
 use Rattle.std.specs.Prelude.{◌≡◌, ◌<◌, ℕ, List, Bool, length, slice_index_or}
 use denote.Ref.{Bor}
 
--- whatever is answered at one of the first n numbers is what test says of it
+-- every result at one of the first n numbers is that of test
 abbrev pub AnswersBelow : ℕ → (ℕ → Bool → Type 0) → (ℕ → Bool) → Type 0
 AnswersBelow n answers test = (index : ℕ) (answer : Bool) → index < n → answers index answer → answer ≡ test index
 
 module _ {X : Type 0} (items : List X) where
-  -- a function may be asked of each item of a list, by reference
+  -- a function may be called with each item of a list, by reference
   abbrev pub MayBeAskedOfEach : (Bor X → Type 0) → Type 0
   MayBeAskedOfEach may = (index : ℕ) (item : Bor X) → index < length items → slice_index_or items index item.now ≡ item.now → may item
 
-  -- whatever is answered at an item of a list is what test says of it
+  -- every result at an item of a list is that of test
   abbrev pub AnswersOfEach : (Bor X → Bool → Type 0) → (X → Bool) → Type 0
   AnswersOfEach answers test = (index : ℕ) (item : Bor X) (answer : Bool) → index < length items → slice_index_or items index item.now ≡ item.now → answers item answer → answer ≡ test item.now
 
-  -- this was answered at the item at a place
+  -- this was returned for the item at an index
   pub record IsAnswerAt (answers : Bor X → Bool → Type 0) (index : ℕ) (answer : Bool) : Type 0 where
     pub item : Bor X
     pub there : slice_index_or items index item.now ≡ item.now
     pub told : answers item answer
 
 module _ {X Y : Type 0} (xs : List X) (ys : List Y) where
-  -- the same of each item of one list and the item of another in its place
+  -- the same of each item of one list and the item of another at its index
   abbrev pub MayBeAskedOfPairs : (Bor X → Bor Y → Type 0) → Type 0
   MayBeAskedOfPairs may = (index : ℕ) (x : Bor X) (y : Bor Y) → index < length xs → slice_index_or xs index x.now ≡ x.now → slice_index_or ys index y.now ≡ y.now → may x y
 

@@ -1,4 +1,4 @@
--- What an iterator gave where its items are too many for a length.
+-- The items of an iterator that are too many for a length.
 use Rattle.std.specs.Prelude.{◌≡◌, ◌-◌, ◌^◌, List, Bool, Option, Some, length}
 use Rattle.std.specs.Iterator.{YieldsThen}
 

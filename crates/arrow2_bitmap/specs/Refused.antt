@@ -1,11 +1,11 @@
 -- The words in which a length past the bytes is refused.
 use Rattle.std.specs.Prelude.{ℕ, ◌-◌, ◌*◌, ◌^◌, ◌++◌, List, codes, decimal, min}
 
--- eight times the bytes, as far as a `usize` can say it
+-- eight times the bytes, or the greatest `usize`
 abbrev pub room_of : ℕ → ℕ
 room_of bytes = min (bytes * 8) (2 ^ 64 - 1)
 
--- what is too long, its length, and how many bits so many bytes hold
+-- the subject that is too long, its length, and the number of bits that the bytes hold
 unfoldable pub too_long : List ℕ → ℕ → ℕ → List ℕ
 too_long subject len bytes =
     subject ++ (codes " of the bitmap (" ++ (decimal len ++ (codes ") must be `<=` to the number of bytes times 8 (" ++ (decimal (room_of bytes) ++ codes ")"))))

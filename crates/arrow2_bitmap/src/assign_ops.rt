@@ -14,10 +14,10 @@ use arrow2_kernels::rows::{NoList, OneList};
 use arrow2_kernels::tables::binary_answers;
 use std::ops::{BitAnd, BitAndAssign, BitOr, BitOrAssign, BitXor, BitXorAssign, Not};
 
-/// Writes what `op` answers to each word of `T` in its place. In the last word false stands behind the items, and what
-/// `op` sets there is cleared. Does not allocate. Requires that `op` answers every word.
+/// Replaces each word of `T` by the result of `op` for it. The last word is filled with false, and bits that `op` sets
+/// there are cleared. Does not allocate. Requires that `op` accepts every word.
 ///
-/// Differs from arrow2: spare bits don't reach `op`, and are false afterwards.
+/// Differs from arrow2: padding bits don't reach `op`, and are false afterwards.
 pub fn unary_assign<T: BitChunk, F: Fn(T) -> T>(bitmap: &mut MutableBitmap, op: F)
     requires callable { F.IsAlwaysCallable op }
     ensures kernel { (f : ℕ → ℕ) → IsUnary T.BitChunk.WIDTH T.BitChunk.number (F.post op) f →
@@ -31,11 +31,11 @@ pub fn unary_assign<T: BitChunk, F: Fn(T) -> T>(bitmap: &mut MutableBitmap, op: 
     bitmap.bits.assign_rows(rows, |own: T, _none: ()| op(own));
 }
 
-/// Writes what `op` answers to each word of `T` and the word of `rhs` at its place. In the last words false stands
-/// behind the items, and what `op` sets there is cleared. Does not allocate. Requires that both have one length, and
-/// that `op` answers every two words.
+/// Replaces each word of `T` by the result of `op` for it and the word of `rhs` at its index. The last words are filled
+/// with false, and bits that `op` sets there are cleared. Does not allocate. Requires that both have one length, and
+/// that `op` accepts every two words.
 ///
-/// Differs from arrow2: spare bits don't reach `op`, and are false afterwards.
+/// Differs from arrow2: padding bits don't reach `op`, and are false afterwards.
 pub fn binary_assign<T: BitChunk, F: Fn(T, T) -> T>(lhs: &mut MutableBitmap, rhs: &Bitmap, op: F)
     requires callable { F.IsAlwaysCallable op }
     requires same_length { length lhs.old.items ≡ length (items_of rhs.now) }
@@ -56,8 +56,8 @@ pub fn binary_assign<T: BitChunk, F: Fn(T, T) -> T>(lhs: &mut MutableBitmap, rhs
     }
 }
 
-/// Makes each item what table `t` gives for it: bit `a1` of `t`. Goes by 32 bytes at a time, whatever `W` is. Reads the
-/// two lowest bits of `t`. Does not allocate.
+/// Replaces each item by the output of table `t` for it: bit `a1` of `t`. Goes by 32 bytes at a time, whatever `W` is.
+/// Reads the two lowest bits of `t`. Does not allocate.
 ///
 /// arrow2 has no such call.
 pub fn unary_assign_table<W: BitChunk>(bitmap: &mut MutableBitmap, t: u8)
@@ -67,9 +67,9 @@ pub fn unary_assign_table<W: BitChunk>(bitmap: &mut MutableBitmap, t: u8)
     bitmap.bits.answer(t);
 }
 
-/// Makes each item what table `t` gives for it and the item of `rhs`: bit `a1 + 2 * a2` of `t`. Goes by 32 bytes at a
-/// time where `rhs` begins at a whole byte, else by words of `W`, and gives the same list whatever `W` is. Reads the
-/// four lowest bits of `t`. Requires that both have one length. Does not allocate.
+/// Replaces each item by the output of table `t` for it and the item of `rhs`: bit `a1 + 2 * a2` of `t`. Goes by 32
+/// bytes at a time where `rhs` begins at a whole byte, else by words of `W`, and gives the same list whatever `W` is.
+/// Reads the four lowest bits of `t`. Requires that both have one length. Does not allocate.
 ///
 /// arrow2 has no such call.
 #[inline(always)]
@@ -86,7 +86,7 @@ pub fn binary_assign_table<W: BitChunk>(lhs: &mut MutableBitmap, rhs: &Bitmap, t
     }
 }
 
-/// Item by item, whether both are true. Does not allocate. Requires that both have one length. In arrow2 it stands on
+/// Item by item, whether both are true. Does not allocate. Requires that both have one length. arrow2 implements it on
 /// `&mut MutableBitmap`.
 impl<'a> BitAndAssign<&'a Bitmap> for MutableBitmap {
     ghost can_bitand_assign = { λ m b. length m.items ≡ length (items_of b.now) };
@@ -115,8 +115,8 @@ impl<'a> BitAnd<&'a Bitmap> for MutableBitmap {
     }
 }
 
-/// Item by item, whether one is true, or both. Does not allocate. Requires that both have one length. In arrow2 it
-/// stands on `&mut MutableBitmap`.
+/// Item by item, whether one is true, or both. Does not allocate. Requires that both have one length. arrow2 implements
+/// it on `&mut MutableBitmap`.
 impl<'a> BitOrAssign<&'a Bitmap> for MutableBitmap {
     ghost can_bitor_assign = { λ m b. length m.items ≡ length (items_of b.now) };
 
@@ -144,8 +144,8 @@ impl<'a> BitOr<&'a Bitmap> for MutableBitmap {
     }
 }
 
-/// Item by item, whether one is true, and not both. Does not allocate. Requires that both have one length. In arrow2 it
-/// stands on `&mut MutableBitmap`.
+/// Item by item, whether one is true, and not both. Does not allocate. Requires that both have one length. arrow2
+/// implements it on `&mut MutableBitmap`.
 impl<'a> BitXorAssign<&'a Bitmap> for MutableBitmap {
     ghost can_bitxor_assign = { λ m b. length m.items ≡ length (items_of b.now) };
 

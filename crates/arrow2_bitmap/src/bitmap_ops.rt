@@ -21,8 +21,8 @@ use std::alloc::Global;
 use std::convert::TryFrom;
 use std::ops::{BitAnd, BitOr, BitXor, Not};
 
-/// The bitmap of what `op` answers to each row of words, for lists of `length` items. Requires that all lists have so
-/// many, and that `op` answers every row.
+/// Returns the bitmap of the results of `op` for each row of words, for lists of `length` items. Requires that all
+/// lists have `length` items, and that `op` accepts every row.
 ///
 /// arrow2 has no such call.
 ///
@@ -54,10 +54,10 @@ pub fn from_rows<S: WordRows<u64>, F: Fn(S::Row) -> u64>(
     Bitmap::from_u8_vec(bytes, length)
 }
 
-/// The bitmap of what `op` answers to each word of 64 items. In the last word false stands behind the items. Requires
-/// that `op` answers every word.
+/// Returns the bitmap of the results of `op` for each word of 64 items. The last word is filled with false. Requires
+/// that `op` accepts every word.
 ///
-/// Differs from arrow2: spare bits don't reach `op`, nor does a word behind the last item. It returns no `Result`.
+/// Differs from arrow2: padding bits don't reach `op`, nor does a word after the last item. It returns no `Result`.
 ///
 /// # Errors
 ///
@@ -83,10 +83,10 @@ pub fn unary<F: Fn(u64) -> u64>(lhs: &Bitmap, op: F) -> Result<Bitmap>
     }
 }
 
-/// The bitmap of what `op` answers to each two words of 64 items at one place. In the last words false stands behind
-/// the items. Requires that both have one length, and that `op` answers every two words.
+/// Returns the bitmap of the results of `op` for each two words of 64 items at one index. The last words are filled
+/// with false. Requires that both have one length, and that `op` accepts every two words.
 ///
-/// Differs from arrow2: spare bits don't reach `op`, nor do words behind the last item. It returns no `Result`.
+/// Differs from arrow2: padding bits don't reach `op`, nor do words after the last item. It returns no `Result`.
 ///
 /// # Errors
 ///
@@ -116,8 +116,8 @@ pub fn binary<F: Fn(u64, u64) -> u64>(lhs: &Bitmap, rhs: &Bitmap, op: F) -> Resu
     )
 }
 
-/// Returns, item by item, what table `t` of one input gives: bit `a1` of `t`. Goes by 32 bytes at a time where the items
-/// begin at a whole byte, else by words. Reads the two lowest bits of `t`.
+/// Returns, item by item, the output of table `t` of one input: bit `a1` of `t`. Goes by 32 bytes at a time where the
+/// items begin at a whole byte, else by words. Reads the two lowest bits of `t`.
 ///
 /// arrow2 has no such call.
 ///
@@ -141,8 +141,9 @@ pub fn unary_table(lhs: &Bitmap, t: u8) -> Result<Bitmap>
     }
 }
 
-/// Returns, item by item, what table `t` of two inputs gives: bit `a1 + 2 * a2` of `t`. Goes by 32 bytes at a time where
-/// both begin at a whole byte, else by words. Reads the four lowest bits of `t`. Requires that both have one length.
+/// Returns, item by item, the output of table `t` of two inputs: bit `a1 + 2 * a2` of `t`. Goes by 32 bytes at a time
+/// where both begin at a whole byte, else by words. Reads the four lowest bits of `t`. Requires that both have one
+/// length.
 ///
 /// arrow2 has no such call.
 ///
@@ -293,7 +294,7 @@ fn complement(bitmap: &Bitmap) -> Result<Bitmap>
     unary_table(bitmap, 0b01)
 }
 
-/// Returns whether the items of one of the two are all `value`. Takes no walk.
+/// Returns whether the items of one of the two are all `value`. Reads no bits.
 fn one_is_all(lhs: &Bitmap, rhs: &Bitmap, value: bool) -> bool
     ensures { IsTrue result → (items_of lhs.now ≡ replicate (length' (items_of lhs.now)) value)
         ⊎ (items_of rhs.now ≡ replicate (length' (items_of rhs.now)) value) }
@@ -301,7 +302,7 @@ fn one_is_all(lhs: &Bitmap, rhs: &Bitmap, value: bool) -> bool
     are_all(lhs, value) || are_all(rhs, value)
 }
 
-/// Whether the items are all `value`. The count of false items is kept, so it takes no walk.
+/// Returns whether the items are all `value`. The number of unset bits is stored, so it reads no bits.
 #[tactic(auto, using(crate::proofs::Constant::constant))]
 pub(crate) fn are_all(bitmap: &Bitmap, value: bool) -> bool
     ensures { IsTrue result → items_of bitmap.now
@@ -314,7 +315,7 @@ pub(crate) fn are_all(bitmap: &Bitmap, value: bool) -> bool
     }
 }
 
-/// The value that all items have, if they have one. The count of false items is kept, so it takes no walk.
+/// Returns the value that all items have, if they have one. The number of unset bits is stored, so it reads no bits.
 fn value_of_all(bitmap: &Bitmap) -> Option<bool>
     ensures { IfSome result (λ value. items_of bitmap.now
         ≡ replicate (length' (items_of bitmap.now)) value) }
@@ -328,7 +329,7 @@ fn value_of_all(bitmap: &Bitmap) -> Option<bool>
     }
 }
 
-/// `length` items, all of them `value`.
+/// Returns `length` items, all of them `value`.
 fn filled(alloc: Global, length: usize, value: bool) -> Result<Bitmap>
     ensures items { IfOk result (λ b. items_of b ≡ replicate length value) }
     ensures storage { IfOk result (λ b. IsPacked b) }

@@ -6,7 +6,7 @@ ghost use Rattle.arrow2_bitmap.specs.Refused.{too_long};
 use arrow2_types::error::{Error, Result};
 use std::alloc::{AllocError, Global};
 
-/// Refuses a length in bits above eight times the number of bytes, with a text about `subject`.
+/// Returns an error for a length in bits above eight times the number of bytes, with a text about `subject`.
 pub(crate) fn check_length(subject: &str, length: usize, bytes: &Vec<u8>) -> Result<()>
     ensures accepted { IsOk result ↔ (length ≤ 8 * vec_len bytes.now) }
     ensures refused { IfErr result (λ e.
@@ -19,7 +19,7 @@ pub(crate) fn check_length(subject: &str, length: usize, bytes: &Vec<u8>) -> Res
     Ok(())
 }
 
-/// The text of the refusal of so many bits of so many bytes.
+/// Returns the text of the error that `length` bits are not inside `bytes` bytes.
 #[tactic(auto, unfolding(crate::specs::Refused::too_long))]
 fn refusal(
     alloc: Global,

@@ -41,8 +41,19 @@ use std::marker::Model;
 use std::rc::Rc;
 use std::{fmt, mem};
 
-/// A bitmap over shared bytes: contracts see the bytes, the bit at which its items begin, and how
-/// many items it has. Slices and clones share the bytes, all of them on one thread: by an `Rc`, where arrow2 has an `Arc`.
+/// A bitmap over shared bytes: contracts see the bytes, the bit at which its items begin, and the number of items.
+/// Slices and clones share the bytes, all of them on one thread: by an `Rc`, where arrow2 has an `Arc`.
+///
+/// # Examples
+///
+/// ```rust
+/// use arrow2::bitmap::Bitmap;
+///
+/// let bitmap = Bitmap::from_bools(alloc, &[true, false, true, true])?;
+/// assert!(rt; bitmap.len() == 4 && bitmap.unset_bits() == 1);
+/// let part = bitmap.sliced(1, 3);
+/// assert!(rt; part.get(0) == Some(false) && part.get(3).is_none());
+/// ```
 #[derive(Drop)]
 pub struct Bitmap {
     bytes: Rc<Bytes<u8>>,
@@ -68,7 +79,7 @@ impl Model for Bitmap {
 
 #[tactic(auto, using(arrow2_model::proofs::Walks::parts))]
 impl Bitmap {
-    /// An empty bitmap.
+    /// Returns an empty bitmap.
     ///
     /// # Errors
     ///
@@ -81,12 +92,12 @@ impl Bitmap {
         Bitmap::from_u8_vec(Vec::new(alloc), 0)
     }
 
-    /// The first `length` bits of the bytes, which it keeps, every one.
+    /// Returns the first `length` bits of the bytes, which it keeps, every one.
     ///
     /// # Errors
     ///
-    /// `InvalidArgumentError` exactly if `length` is above eight times the number of bytes, or
-    /// `OutOfMemory` there, where its text finds no memory; else `OutOfMemory` alone. After each the bytes are dropped.
+    /// `InvalidArgumentError` exactly if `length` is above eight times the number of bytes, or `OutOfMemory` there,
+    /// where the allocation of its text fails; else `OutOfMemory` alone. After each the bytes are dropped.
     pub fn try_new(bytes: Vec<u8>, length: usize) -> Result<Bitmap>
         ensures accepted { OnOk result (length ≤ 8 * vec_len bytes) }
         ensures ok { IfOk result (λ b. b ≡ record {
@@ -105,8 +116,8 @@ impl Bitmap {
         Bitmap::from_u8_vec(bytes, length)
     }
 
-    /// The first `length` bits of the bytes, which it keeps, every one. Requires that there are as many; arrow2's page
-    /// says the contrary.
+    /// Returns the first `length` bits of the bytes, which it keeps, every one. Requires `length` to be at most eight
+    /// times the number of bytes; arrow2's documentation states the contrary.
     ///
     /// # Errors
     ///
@@ -127,7 +138,7 @@ impl Bitmap {
         Bitmap::from_counted(bytes, length, unset_bits)
     }
 
-    /// The same, of which it is known how many bits are not set.
+    /// Returns the same, where the number of unset bits is known.
     pub(crate) fn from_counted(bytes: Vec<u8>, length: usize, unset_bits: usize) -> Result<Bitmap>
         requires inside { length ≤ 8 * vec_len bytes }
         requires counted { unset_bits ≡ falses (take length (bits bytes.items)) }
@@ -150,8 +161,8 @@ impl Bitmap {
         })
     }
 
-    /// The first `length` bits of a copy of the bytes, every one. Requires that there are as many; arrow2's page says
-    /// the contrary.
+    /// Returns the first `length` bits of a copy of the bytes, every one. Requires `length` to be at most eight times
+    /// the number of bytes; arrow2's documentation states the contrary.
     ///
     /// # Errors
     ///
@@ -166,7 +177,7 @@ impl Bitmap {
         Bitmap::from_u8_vec(Vec::from_slice(alloc, bytes)?, length)
     }
 
-    /// `length` items, all false.
+    /// Returns `length` items, all false.
     ///
     /// # Errors
     ///
@@ -184,7 +195,7 @@ impl Bitmap {
         Bitmap::from_counted(zeros, length, length)
     }
 
-    /// The bitmap of the items.
+    /// Returns the bitmap of the items.
     ///
     /// # Errors
     ///
@@ -201,9 +212,9 @@ impl Bitmap {
         Bitmap::try_from(MutableBitmap::from_bools(alloc, items)?)
     }
 
-    /// The bitmap of the items of an iterator that ends, in its order.
+    /// Returns the bitmap of the items of an iterator that ends, in its order.
     ///
-    /// Stands for arrow2's `FromIterator`, which takes memory by the size hint. Here it is not read.
+    /// Stands for arrow2's `FromIterator`, which allocates by the size hint. Here it is not read.
     ///
     /// # Errors
     ///
@@ -222,10 +233,10 @@ impl Bitmap {
         Bitmap::try_from(MutableBitmap::try_from_iter(alloc, iter)?)
     }
 
-    /// Returns the bitmap of what `f` answers to each number below `length`, in their order.
+    /// Returns the bitmap of the results of `f` for each number below `length`, in order.
     ///
-    /// Packs 64 answers at a time. Requires that `f` may be called at each of
-    /// these numbers. arrow2 has no such call: it collects an iterator.
+    /// Packs 64 results at a time. Requires that `f` may be called at each of these numbers. arrow2 has no such call:
+    /// it collects an iterator.
     ///
     /// # Errors
     ///
@@ -244,10 +255,10 @@ impl Bitmap {
         Bitmap::try_from(MutableBitmap::from_vec(bytes, length))
     }
 
-    /// Returns the bitmap of what `f` answers to each item, in their order: that of a comparison, say.
+    /// Returns the bitmap of the results of `f` for each item, in order: that of a comparison, for example.
     ///
-    /// Packs 64 answers at a time. Requires that `f` may be called at each item.
-    /// arrow2 has no such call: it collects an iterator.
+    /// Packs 64 results at a time. Requires that `f` may be called at each item. arrow2 has no such call: it collects
+    /// an iterator.
     ///
     /// # Errors
     ///
@@ -273,10 +284,10 @@ impl Bitmap {
         )
     }
 
-    /// Returns the bitmap of what `f` answers to each item of one slice and the item of another in its place.
+    /// Returns the bitmap of the results of `f` for each item of one slice and the item of another at its index.
     ///
-    /// Packs 64 answers at a time. Requires that both have one length, and that
-    /// `f` may be called at each pair. arrow2 has no such call: it collects an iterator.
+    /// Packs 64 results at a time. Requires that both have one length, and that `f` may be called at each pair. arrow2
+    /// has no such call: it collects an iterator.
     ///
     /// # Errors
     ///
@@ -309,7 +320,7 @@ impl Bitmap {
         )
     }
 
-    /// How many items it has.
+    /// Returns the number of items.
     pub fn len(&self) -> usize
         ensures items { result ≡ length (items_of self.now) }
         ensures storage { result ≡ self.now.len }
@@ -317,7 +328,7 @@ impl Bitmap {
         self.length
     }
 
-    /// The allocator of its bytes: what a new bitmap beside it is made with.
+    /// Returns the allocator of its bytes: a new bitmap can be made with it.
     ///
     /// In arrow2 an allocator has no value.
     pub fn allocator(&self) -> Global
@@ -333,7 +344,7 @@ impl Bitmap {
         self.len() == 0
     }
 
-    /// The items, from both ends.
+    /// Returns an iterator over the items, from both ends.
     pub fn iter(&self) -> BitmapIter<'_>
         ensures items { result ≡ items_of self.now }
         ensures fits { length (items_of self.now) < 2 ^ 64 }
@@ -341,7 +352,7 @@ impl Bitmap {
         BitmapIter::within(self.bytes.as_slice(), self.offset, self.length)
     }
 
-    /// Item `index`, or `None` past the length.
+    /// Returns item `index`, or `None` past the length.
     pub fn get(&self, index: usize) -> Option<bool>
         ensures { result ≡ slice_get (items_of self.now) index }
     {
@@ -352,7 +363,7 @@ impl Bitmap {
         }
     }
 
-    /// Item `index`. Requires that it is below the length; arrow2 takes each index inside the bytes.
+    /// Returns item `index`. Requires that it is below the length; arrow2 takes each index inside the bytes.
     pub fn get_bit(&self, index: usize) -> bool
         requires below { index < length (items_of self.now) }
         ensures { result ≡ slice_index_or (items_of self.now) index false }
@@ -361,8 +372,8 @@ impl Bitmap {
         get_bit(self.bytes.as_slice(), self.offset + index)
     }
 
-    /// The bytes that hold its items, the bit of the first of them at which the items begin, below
-    /// 8, and how many items there are.
+    /// Returns the bytes that hold its items, the bit of the first of them at which the items begin, below 8, and the
+    /// number of items.
     pub fn as_slice(&self) -> (&[u8], usize, usize)
         ensures bytes { result.0.now ≡ part self.now.bytes (self.now.offset / 8)
             ((self.now.offset % 8 + self.now.len + 7) / 8) }
@@ -382,7 +393,7 @@ impl Bitmap {
         )
     }
 
-    /// The items by words of `T`, from the first item on.
+    /// Returns the items by words of `T`, from the first item on.
     pub fn chunks<T: BitChunk>(&self) -> BitChunks<'_, T>
         ensures items { result.items ≡ items_of self.now }
         ensures fits { length (items_of self.now) < 2 ^ 64 }
@@ -392,22 +403,22 @@ impl Bitmap {
         BitChunks::new(self.bytes.as_slice(), self.offset, self.length)
     }
 
-    /// How many items are false. The count is kept, so it takes no walk.
+    /// Returns the number of unset bits. It is stored, so the call reads no bits.
     pub fn unset_bits(&self) -> usize
         ensures { result ≡ falses (items_of self.now) }
     {
         self.unset_bits
     }
 
-    /// The same as [`Bitmap::unset_bits`].
+    /// Returns the same as [`Bitmap::unset_bits`].
     pub fn null_count(&self) -> usize
         ensures { result ≡ falses (items_of self.now) }
     {
         self.unset_bits()
     }
 
-    /// How many of the `length` items from item `offset` on are false. Requires that they are inside. Counts them anew.
-    /// arrow2 counts past its end, up to the bytes.
+    /// Returns how many of the `length` items from item `offset` on are false. Requires that they are inside. Counts
+    /// them anew. arrow2 counts past its end, up to the bytes.
     pub fn null_count_range(&self, offset: usize, length: usize) -> usize
         requires inside { offset + length ≤ length' (items_of self.now) }
         ensures { result ≡ falses (part (items_of self.now) offset length) }
@@ -431,7 +442,7 @@ impl Bitmap {
         self.slice_counted(offset, length, &mut Reads::new());
     }
 
-    /// The same as [`Bitmap::slice`], and adds the bytes that it reads to `reads`: at most a sixteenth of the items
+    /// Slices as [`Bitmap::slice`] does, and adds the bytes that it reads to `reads`: at most a sixteenth of the items
     /// that were there, and four.
     ///
     /// arrow2 counts no reads.
@@ -464,7 +475,7 @@ impl Bitmap {
         self.unset_bits = unset_bits;
     }
 
-    /// The same as [`Bitmap::slice`], by value.
+    /// Returns the same as [`Bitmap::slice`], by value.
     pub fn sliced(self, offset: usize, length: usize) -> Bitmap
         requires inside { offset + length ≤ length' (items_of self) }
         ensures storage { result ≡ record {
@@ -480,8 +491,8 @@ impl Bitmap {
         bitmap
     }
 
-    /// The storage whole: the bytes, the bit at which the items begin, how many items there are,
-    /// and how many of them are false.
+    /// Returns the whole storage: the bytes, the bit at which the items begin, the number of items, and how many of
+    /// them are false.
     pub fn into_inner(self) -> (Rc<Bytes<u8>>, usize, usize, usize)
         ensures bytes { result.0.value ≡ self.bytes }
         ensures offset { result.1 ≡ self.offset }
@@ -493,8 +504,8 @@ impl Bitmap {
         (self.bytes, self.offset, self.length, self.unset_bits)
     }
 
-    /// The bitmap to be changed in place, on the right, where no one shares the bytes and the items begin at bit 0;
-    /// else the bitmap as it was, on the left. Does not allocate.
+    /// Returns the bitmap to be changed in place, on the right, where no one shares the bytes and the items begin at
+    /// bit 0; else the bitmap as it was, on the left. Does not allocate.
     pub fn into_mut(self) -> Either<Bitmap, MutableBitmap>
         ensures { MatchEither result (λ b. b ≡ self) (λ m. (self.offset ≡ 0)
             × (m.items ≡ items_of self)) }
@@ -519,7 +530,8 @@ impl Bitmap {
         }
     }
 
-    /// The bitmap to be changed: in place where [`Bitmap::into_mut`] can, else a copy. arrow2 returns no `Result`.
+    /// Returns the bitmap to be changed: in place where [`Bitmap::into_mut`] can, else a copy. arrow2 returns no
+    /// `Result`.
     ///
     /// # Errors
     ///
@@ -535,7 +547,7 @@ impl Bitmap {
     }
 }
 
-/// A copy of the items, to be changed. Allocates once.
+/// Returns a copy of the items, to be changed. Allocates once.
 fn copied(bitmap: &Bitmap) -> Result<MutableBitmap>
     ensures ok { IfOk result (λ m. m.items ≡ items_of bitmap.now) }
     ensures only { IfErr result (λ e. e ≡ Error.OutOfMemory) }
@@ -547,7 +559,7 @@ fn copied(bitmap: &Bitmap) -> Result<MutableBitmap>
     }
 }
 
-/// A copy of items that begin with a byte, to be changed: the bytes at once.
+/// Returns a copy of items that begin with a byte, to be changed: the bytes at once.
 fn copy_bytes(bitmap: &Bitmap) -> Result<MutableBitmap>
     requires { bitmap.now.offset % 8 ≡ 0 }
     ensures ok { IfOk result (λ m. m.items ≡ items_of bitmap.now) }
@@ -558,7 +570,7 @@ fn copy_bytes(bitmap: &Bitmap) -> Result<MutableBitmap>
     Ok(MutableBitmap::from_vec(bytes, length))
 }
 
-/// A copy of the items, to be changed, by words of 64 bits.
+/// Returns a copy of the items, to be changed, by words of 64 bits.
 fn copy_items(bitmap: &Bitmap) -> Result<MutableBitmap>
     ensures ok { IfOk result (λ m. m.items ≡ items_of bitmap.now) }
     ensures only { IfErr result (λ e. e ≡ Error.OutOfMemory) }
@@ -585,7 +597,7 @@ impl<'a> IntoIterator for &'a Bitmap {
     }
 }
 
-/// Equality of the lists, whatever bytes, offset or spare bits stand behind them.
+/// Equality of the lists, whatever their bytes, offset or padding bits are.
 impl PartialEq for Bitmap {
     ghost eq = { on items_of (pointwise beq) };
 
@@ -610,7 +622,7 @@ impl Eq for Bitmap {
     ghost laws = { on_equiv items_of (lists_equiv bool_eq_equiv) };
 }
 
-/// Shares the bytes. Does not allocate: it is refused only where the count of owners is full.
+/// Shares the bytes. Does not allocate: it fails only where the reference count would overflow.
 impl Clone for Bitmap {
     ghost is_clone = { λ a b. b ≡ a };
 

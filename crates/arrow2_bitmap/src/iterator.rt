@@ -63,7 +63,7 @@ impl Iterator for IntoIter {
         Some(item)
     }
 
-    /// Both bounds are the number of items still to come.
+    /// Returns the number of items still to come as both bounds.
     fn size_hint(&self) -> (usize, Option<usize>)
         ensures exact { (result.0 ≡ length self.now) × (result.1 ≡ Some (length self.now)) }
         ensures lower { IsWithinCount result.0 (item_count (λ s. s) self.now) }
@@ -87,8 +87,8 @@ impl DoubleEndedIterator for IntoIter {
     }
 }
 
-/// The same items still to come, over the same bytes. Does not allocate: it is refused only where the count of owners
-/// is full.
+/// The same items still to come, over the same bytes. Does not allocate: it fails only where the reference count would
+/// overflow.
 impl Clone for IntoIter {
     ghost is_clone = { λ i copy. copy ≡ i };
 

@@ -10,7 +10,7 @@ pub fn bytes_tell_growing_bitmaps_apart()
         (m.items ≡ n.items) ↔ (canonical_bytes m.items ≡ canonical_bytes n.items) }
 {}
 
-/// What a bitmap that grows is frozen to has its items. Two of them are equal exactly if they are frozen to equal
+/// A frozen bitmap has the items of the one that grew. Two of them are equal exactly if they are frozen to equal
 /// storage: to equal bytes, which begin at bit 0, and one length.
 #[tactic(auto, using(crate::proofs::Bytes::canonical))]
 pub fn equal_items_freeze_to_equal_bytes()

@@ -30,10 +30,22 @@ use std::convert::TryFrom;
 use std::fmt;
 use std::marker::Model;
 
-/// A bitmap that grows: contracts see its items, and how many it has room for.
+/// A bitmap that grows: contracts see its items and its capacity.
 ///
-/// Its bytes are always exactly those that its items need, and spare bits are false.
-/// In arrow2 spare bytes and spare bits of a vector that was handed in stay.
+/// Its bytes are always exactly those that its items need, and padding bits are false. In arrow2 spare bytes and
+/// padding bits of a vector that was handed in stay.
+///
+/// # Examples
+///
+/// ```rust
+/// use arrow2::bitmap::MutableBitmap;
+///
+/// let mut bitmap = MutableBitmap::new(alloc);
+/// bitmap.push(true)?;
+/// bitmap.extend_constant(2, false)?;
+/// assert_eq!(rt; bitmap.as_slice(), [0b001].as_slice());
+/// assert!(rt; bitmap.pop() == Some(false) && bitmap.len() == 2);
+/// ```
 #[derive(Drop)]
 pub struct MutableBitmap {
     pub(crate) bits: PackedBits,
@@ -48,7 +60,7 @@ impl Model for MutableBitmap {
 }
 
 impl MutableBitmap {
-    /// An empty bitmap. Does not allocate.
+    /// Returns an empty bitmap. Does not allocate.
     pub fn new(alloc: Global) -> MutableBitmap
         ensures { result.items ≡ [] }
     {
@@ -57,14 +69,14 @@ impl MutableBitmap {
         }
     }
 
-    /// The first `length` bits of the bytes. Spare bytes are cut and spare bits cleared, in place, and the room of the
-    /// vector stays. Does not allocate where there are as many bits. In arrow2 spare bytes stay, and `push` may write
-    /// into the wrong byte.
+    /// Returns the first `length` bits of the bytes. Spare bytes are cut and padding bits cleared, in place, and the
+    /// capacity of the vector stays. Does not allocate where the bytes have `length` bits. In arrow2 spare bytes stay,
+    /// and `push` may write into the wrong byte.
     ///
     /// # Errors
     ///
-    /// `InvalidArgumentError` exactly if `length` is above eight times the number of bytes, or
-    /// `OutOfMemory` there, where its text finds no memory. The bytes are then dropped.
+    /// `InvalidArgumentError` exactly if `length` is above eight times the number of bytes, or `OutOfMemory` there,
+    /// where the allocation of its text fails. The bytes are then dropped.
     pub fn try_new(bytes: Vec<u8>, length: usize) -> Result<MutableBitmap>
         ensures accepted { IsOk result ↔ (length ≤ 8 * vec_len bytes) }
         ensures ok { IfOk result (λ m. m.items ≡ take length (bits bytes.items)) }
@@ -77,9 +89,9 @@ impl MutableBitmap {
         Ok(MutableBitmap::from_vec(bytes, length))
     }
 
-    /// The first `length` bits of the bytes. Requires that there are as many. Spare bytes are cut and spare bits
-    /// cleared, in place, and the room of the vector stays. Does not allocate. In arrow2 spare bytes stay, and `push`
-    /// may write into the wrong byte.
+    /// Returns the first `length` bits of the bytes. Requires `length` to be at most eight times the number of bytes.
+    /// Spare bytes are cut and padding bits cleared, in place, and the capacity of the vector stays. Does not allocate.
+    /// In arrow2 spare bytes stay, and `push` may write into the wrong byte.
     pub fn from_vec(bytes: Vec<u8>, length: usize) -> MutableBitmap
         requires inside { length ≤ 8 * vec_len bytes }
         ensures items { result.items ≡ take length (bits bytes.items) }
@@ -92,7 +104,7 @@ impl MutableBitmap {
         }
     }
 
-    /// An empty bitmap with room for `capacity` bits.
+    /// Returns an empty bitmap with capacity for `capacity` bits.
     ///
     /// # Errors
     ///
@@ -106,7 +118,7 @@ impl MutableBitmap {
         Ok(MutableBitmap { bits })
     }
 
-    /// `length` items, all false.
+    /// Returns `length` items, all false.
     ///
     /// # Errors
     ///
@@ -120,7 +132,7 @@ impl MutableBitmap {
         Ok(MutableBitmap::from_vec(zeros, length))
     }
 
-    /// `length` items, all true.
+    /// Returns `length` items, all true.
     ///
     /// # Errors
     ///
@@ -134,9 +146,9 @@ impl MutableBitmap {
         Ok(MutableBitmap::from_vec(ones, length))
     }
 
-    /// The bitmap of the items of an iterator that ends, in its order.
+    /// Returns the bitmap of the items of an iterator that ends, in its order.
     ///
-    /// Stands for arrow2's `FromIterator`, which takes memory by the size hint. Here it is not read.
+    /// Stands for arrow2's `FromIterator`, which allocates by the size hint. Here it is not read.
     ///
     /// # Errors
     ///
@@ -158,7 +170,7 @@ impl MutableBitmap {
         Ok(MutableBitmap::from_vec(bytes, length))
     }
 
-    /// The bitmap of the items.
+    /// Returns the bitmap of the items.
     ///
     /// # Errors
     ///
@@ -199,7 +211,7 @@ impl MutableBitmap {
     }
 
     /// Appends the `length` bits from bit `offset` of `slice` on. Requires that they are inside. Within the capacity it
-    /// does not allocate, else it allocates once, before it writes. arrow2 returns no `Result`, and copies the spare
+    /// does not allocate, else it allocates once, before it writes. arrow2 returns no `Result`, and copies the padding
     /// bits of the last byte.
     ///
     /// # Errors
@@ -228,7 +240,8 @@ impl MutableBitmap {
         self.extend_from_slice(slice, offset, bitmap.len())
     }
 
-    /// Makes room for `additional` items more. Within the capacity it does not allocate. arrow2 returns no `Result`.
+    /// Reserves capacity for `additional` more items. Within the capacity it does not allocate. arrow2 returns no
+    /// `Result`.
     ///
     /// # Errors
     ///
@@ -248,9 +261,9 @@ impl MutableBitmap {
         Ok(())
     }
 
-    /// Gives back room that is not used, where the allocator takes it. arrow2 returns no `Result`.
+    /// Gives back unused capacity, where the allocator takes it. arrow2 returns no `Result`.
     ///
-    /// It is never refused: where a smaller block finds no memory, the items stay where they are.
+    /// It never fails: where the smaller block cannot be allocated, the items stay where they are.
     pub fn shrink_to_fit(&mut self) -> Result<()>
         ensures ok { IsOk result }
         ensures items { self.new.items ≡ self.old.items }
@@ -260,7 +273,7 @@ impl MutableBitmap {
         Ok(())
     }
 
-    /// The items as a validity: a bitmap that keeps the bytes, or `None` where no item is false.
+    /// Returns the items as a validity: a bitmap that keeps the bytes, or `None` where no item is false.
     ///
     /// Stands for arrow2's `From<MutableBitmap>` for `Option<Bitmap>`.
     ///
@@ -297,7 +310,7 @@ impl MutableBitmap {
         self.bits.pop()
     }
 
-    /// Item `index`. Requires that it is below the length; arrow2 takes each index inside the bytes.
+    /// Returns item `index`. Requires that it is below the length; arrow2 takes each index inside the bytes.
     pub fn get(&self, index: usize) -> bool
         requires below { index < length self.now.items }
         ensures { result ≡ slice_index_or self.now.items index false }
@@ -325,7 +338,7 @@ impl MutableBitmap {
         self.bits.clear();
     }
 
-    /// The items, from both ends.
+    /// Returns an iterator over the items, from both ends.
     pub fn iter(&self) -> BitmapIter<'_>
         ensures items { result ≡ self.now.items }
         ensures fits { length self.now.items < 2 ^ 64 }
@@ -333,7 +346,7 @@ impl MutableBitmap {
         BitmapIter::within(self.as_slice(), 0, self.len())
     }
 
-    /// How many items it can hold before it asks for memory, at most `usize::MAX`, where arrow2's may wrap.
+    /// Returns the capacity in items, at most `usize::MAX`, where arrow2's may wrap.
     pub fn capacity(&self) -> usize
         ensures capacity { result ≡ self.now.capacity }
         ensures held { length self.now.items ≤ result }
@@ -341,14 +354,14 @@ impl MutableBitmap {
         self.bits.capacity()
     }
 
-    /// How many items it has.
+    /// Returns the number of items.
     pub fn len(&self) -> usize
         ensures { result ≡ length self.now.items }
     {
         self.bits.len()
     }
 
-    /// The allocator of its bytes: what a new bitmap beside it is made with.
+    /// Returns the allocator of its bytes: a new bitmap can be made with it.
     ///
     /// In arrow2 an allocator has no value.
     pub fn allocator(&self) -> Global
@@ -364,22 +377,22 @@ impl MutableBitmap {
         self.len() == 0
     }
 
-    /// How many items are false. Counts them anew.
+    /// Returns the number of unset bits. Counts them anew.
     pub fn unset_bits(&self) -> usize
         ensures { result ≡ falses self.now.items }
     {
         count_zeros(self.as_slice(), 0, self.len())
     }
 
-    /// The same as [`MutableBitmap::unset_bits`].
+    /// Returns the same as [`MutableBitmap::unset_bits`].
     pub fn null_count(&self) -> usize
         ensures { result ≡ falses self.now.items }
     {
         self.unset_bits()
     }
 
-    /// The bytes of its items: as many as they need, with spare bits false.
-    /// In arrow2 spare bits show. Spare bytes don't show there either.
+    /// Returns the bytes of its items: exactly those that the items need, with padding bits false. In arrow2 padding
+    /// bits show. Spare bytes don't show there either.
     pub fn as_slice(&self) -> &[u8]
         ensures bytes { result.now ≡ canonical_bytes self.now.items }
         ensures items { take (length self.now.items) (bits result.now) ≡ self.now.items }
@@ -388,7 +401,7 @@ impl MutableBitmap {
         self.bits.as_slice()
     }
 
-    /// Its bytes, and how many items they hold.
+    /// Returns its bytes, and the number of items that they hold.
     pub(crate) fn into_parts(self) -> (Vec<u8>, usize)
         ensures bytes { result.0.items ≡ canonical_bytes self.items }
         ensures items { take result.1 (bits result.0.items) ≡ self.items }
@@ -445,7 +458,7 @@ impl Eq for MutableBitmap {
     ghost laws = { on_equiv (λ m. m.items) (lists_equiv bool_eq_equiv) };
 }
 
-/// So many bytes, each of them `byte`.
+/// Returns `count` bytes, each of them `byte`.
 fn filled(alloc: Global, byte: u8, count: usize) -> std::result::Result<Vec<u8>, AllocError>
     ensures { IfOk result (λ bytes. bytes.items ≡ replicate count byte) }
 {

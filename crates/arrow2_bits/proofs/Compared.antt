@@ -13,7 +13,7 @@ wide = omega arith
 pub same_by_words : (xs ys : List Bool) → (full_words 64 xs ≡ full_words 64 ys) → (rest 64 xs ≡ rest 64 ys) → xs ≡ ys
 same_by_words xs ys e f = sym (items_of_words 64 xs wide) ∙ (rw (e, f) (items_of_words 64 ys wide))
 
--- lists of one length have as many full words
+-- lists of one length have one number of full words
 pub as_many_words : (xs ys : List Bool) → length xs ≡ length ys → length (full_words 64 xs) ≡ length (full_words 64 ys)
 as_many_words xs ys e = length-full_words 64 xs ∙ (ap (λ n. n / 64) e ∙ sym (length-full_words 64 ys))
 
@@ -22,7 +22,7 @@ pub as_long_rest : (xs ys : List Bool) → length xs ≡ length ys → length (r
 unfolding rest
 as_long_rest xs ys e = length-drop (64 * (length xs / 64)) xs ∙ (ap (λ n. n - 64 * (n / 64)) e ∙ sym (length-drop (64 * (length ys / 64)) ys))
 
--- a masked word has the rest, and false behind it
+-- a masked word has the rest, followed by false
 pub masked_rest : (x m len : ℕ) (r : List Bool) → take (length r) (unnum 64 x) ≡ r → len ≡ length r → unnum 64 m ≡ take len (unnum 64 x) ++ replicate (64 - len) false → unnum 64 m ≡ r ++ replicate (64 - len) false
 masked_rest x m len r spilled size is = is ∙ ap (λ t. t ++ replicate (64 - len) false) (ap (λ n. take n (unnum 64 x)) size ∙ spilled)
 
@@ -36,7 +36,7 @@ same_rests m n len r s m< n< lr ls em en = (
     front : (r : List Bool) (n k : ℕ) → length r ≡ n → take n (r ++ replicate k false) ≡ r
     front r n k l = take-append-le n r (replicate k false) (omega (arith, l)) ∙ take_all n r (omega (arith, l))
 
--- at the end of both walks, the masked words tell whether the lists are the same
+-- at the end of both iterators, the masked words determine whether the lists are the same
 pub ended_alike : (xs ys left right : List Bool) (m n len x y : ℕ) → length xs ≡ length ys → full_words 64 left ≡ [] → length (full_words 64 left) ≡ length (full_words 64 right)
     → (full_words 64 xs ≡ full_words 64 ys) ↔ (full_words 64 left ≡ full_words 64 right) → rest 64 left ≡ rest 64 xs → rest 64 right ≡ rest 64 ys
     → take (length (rest 64 left)) (unnum 64 x) ≡ rest 64 left → take (length (rest 64 right)) (unnum 64 y) ≡ rest 64 right → len ≡ length (rest 64 left)

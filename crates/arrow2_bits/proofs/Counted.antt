@@ -27,7 +27,7 @@ ones_fetched bytes fetched at k ones inside got counted =
     let same = ap falses (part-bits bytes at k inside ∙ ap bits (sym got)) in
     omega (arith, same, counted)
 
--- bytes in two, of which the second are read later
+-- bytes in two parts, the second of which is read later
 pub ones_in_two : (bytes later : List ℕ) (first m n count a b : ℕ) → later ≡ bytes → count ≡ m + n → a + falses (part (bits bytes) (8 * first) (8 * m)) ≡ 8 * m → b + falses (part (bits later) (8 * (first + m)) (8 * n)) ≡ 8 * n
     → a + b + falses (part (bits bytes) (8 * first) (8 * count)) ≡ 8 * count
 ones_in_two bytes later first m n count a b same e is-a is-b =
@@ -48,7 +48,7 @@ zeros_in_three bytes first start len head whole count tail a b d at e is-a is-b 
     let last = ap (λ k. falses (part (bits bytes) k tail)) end in
     omega (arith, three, mid, last, is-a, is-b, is-d)
 
--- what is left where a head and a tail are taken away
+-- the middle, where a head and a tail are taken away
 pub zeros_between : (bytes : List ℕ) (offset len start count unset a b : ℕ) → start + count ≤ len → unset ≡ falses (part (bits bytes) offset len) → a ≡ falses (part (bits bytes) offset start) → b ≡ falses (part (bits bytes) (offset + (start + count)) (len - (start + count)))
     → falses (part (bits bytes) (offset + start) count) + (a + b) ≡ unset
 zeros_between bytes offset len start count unset a b h is is-a is-b =

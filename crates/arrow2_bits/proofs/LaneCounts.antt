@@ -1,4 +1,4 @@
--- Four lanes of 64 bits, made of 32 bytes, and how many of their bits are not set.
+-- Four lanes of 64 bits, made of 32 bytes, and the number of bits of their bytes that are not set.
 use Rattle.std.proofs.Common.{◌≡◌, ℕ, ◌+◌, ◌*◌, ◌^◌, ◌<◌, List, [], ◌∷◌, length, get_or, refl, ap, sym, ◌∙◌, inl, inr, arith}
 use mir.Syntax.{w8}
 use mir.Val.{Fits}

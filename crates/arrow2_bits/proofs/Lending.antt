@@ -27,7 +27,7 @@ module _ {M : Type 1} {𝓤 : Ura M} (𝓛 : Logic 𝓤) (ℓ : Lifetime) (κ : 
     (F : List R.Denot → List R.Denot) (around : (ws : List R.Denot) → length ws ≡ length mid → front ++ (ws ++ back) ≡ F ws) where
   open 𝓛 use {H, A}
 
-  -- the part under a new name, the token, and what the slice ends as
+  -- the part under a new name, the token, and the final value of the slice
   abbrev pub part_lent : GName → Item 𝓤
   part_lent δ = ‵ ((MutSlice ℓ κ R).own_val (record { ref_ptr = (b, p); ghost_name = δ; now = mid }) (slice_val (b, p) (length mid) ∷ [])) ⊛ ‵ (flft κ q) ⊛ ‵ (follows (Array R 0) (Array R 0) γ δ F)
 

@@ -35,7 +35,7 @@ merged_word bytes k w s low high down up all e wide s<8 h room is-low is-high is
 pub loaded_number : (w x : ℕ) (xs : List Bool) → x < 2 ^ w → unnum w x ≡ xs → x ≡ num xs
 loaded_number w x xs fits is = sym (num-unnum w x fits) ∙ ap num is
 
--- the number of a word that was loaded from bytes with zeros behind them
+-- the number of a word that was loaded from bytes followed by zeros
 pub padded_number : (bytes copied : List ℕ) (w x s : ℕ) → x < 2 ^ w → copied ≡ bytes → unnum w x ≡ part (bits (copied ++ drop (length bytes) (replicate 16 0))) s w → x ≡ num (part (bits bytes) s w)
 padded_number bytes copied w x s fits e is =
     loaded_number w x (part (bits (copied ++ drop (length bytes) (replicate 16 0))) s w) fits is

@@ -60,6 +60,6 @@ num-padded items m a w =
     (λ i i<. bit-num (part (items ++ replicate m false) a w) i ∙ (get_or-part (items ++ replicate m false) a w i false i< ∙
     (get_or-padded items m (a + i) ∙ sym (bit-num (part items a w) i ∙ get_or-part items a w i false i<))))
 
--- zero bytes behind the bytes don't change the word
+-- zero bytes after the bytes don't change the word
 pub num-zeros : (bytes : List ℕ) (m a w : ℕ) → num (part (bits (bytes ++ replicate m 0)) a w) ≡ num (part (bits bytes) a w)
 num-zeros bytes m a w = rw (bits-append bytes (replicate m 0), bits-zeros m) (num-padded (bits bytes) (8 * m) a w)

@@ -1,4 +1,4 @@
--- What is left of a walk by chunks once one is lent.
+-- The state of an iterator by chunks once one is lent.
 use Rattle.std.proofs.Common.{◌≡◌, ◌≤◌, ◌<◌, ◌+◌, ◌-◌, ◌/◌, ◌⊎◌, inl, inr, ℕ, Bool, true, false, nat_le, if◌then◌else◌, List, ◌++◌, length, take, drop, ap, ◌∙◌, refl, arith}
 use Rattle.std.proofs.Math.Nat.{div-eq-sub-div}
 use Rattle.std.proofs.lemmas.List.{length-append, length-drop, length-take-le, take-append-drop, nil_from_length}
@@ -13,14 +13,14 @@ either : (b : Bool) (n : ℕ) → ((if b then n else 0) ≡ n) ⊎ ((if b then n
 either true n = inl refl
 either false n = inr refl
 
--- what is lent is a whole chunk, where it is anything
+-- a loan is a whole chunk, where it is not empty
 pub whole-chunk : (walk : ChunkWalkMut) → 0 < next_len walk → next_len walk ≡ walk.size
 whole-chunk walk p = elim (either (nat_le walk.size (length walk.bytes - walk.at)) walk.size) [
   | inl e ↦ e
   | inr e ↦ absurd (omega (arith, p, e))
 ]
 
--- as many chunks are left as the bytes ahead make, whatever was written
+-- the number of chunks left is that of the bytes ahead, whatever was written
 pub left-past : (walk : ChunkWalkMut) (written : List ℕ) → length written ≡ walk.size → 0 < walk.size → walk.size ≤ length walk.bytes - walk.at → chunks_left walk ≡ chunks_left (past walk walk.size written) + 1
 left-past walk written e p h =
     let behind = drop (length written) (drop walk.at walk.bytes) in
@@ -28,7 +28,7 @@ left-past walk written e p h =
     omega (arith, length-append (take walk.at walk.bytes) (written ++ behind), length-append written behind, length-take-le walk.at walk.bytes (omega arith), length-drop (length written) (drop walk.at walk.bytes), length-drop walk.at walk.bytes) in
     one-fewer walk.size (length walk.bytes - walk.at) (length (overwritten walk.bytes walk.at written) - (walk.at + walk.size)) p h (omega (arith, same))
 
--- where nothing was lent the walk stays
+-- where nothing was lent the iterator stays
 pub past-none : (walk : ChunkWalkMut) (written : List ℕ) → next_len walk ≡ 0 → length written ≡ 0 → past walk (next_len walk) written ≡ walk
 past-none walk written none e =
     ap (past walk (next_len walk)) (nil_from_length written e) ∙ ap (λ (k : ℕ). record walk { bytes = take walk.at walk.bytes ++ drop walk.at walk.bytes; at = walk.at + k }) none

@@ -1,4 +1,4 @@
--- A walk by words over a part of the bits of bytes.
+-- An iterator by words over a part of the bits of bytes.
 use Rattle.std.proofs.Common.{◌≡◌, ℕ, zero, suc, ◌+◌, ◌-◌, ◌*◌, ◌/◌, ◌%◌, ◌^◌, ◌<◌, ◌≤◌, ◌==◌, List, [], ◌∷◌, Bool, false, if◌then◌else◌, take, drop, length, refl, ap, sym, ◌∙◌, arith, inl, inr}
 use Rattle.std.proofs.Math.Nat.{div-div-eq-div-mul, div-add-mod, mod-lt, mul_assoc, mul_comm, mul-suc, mul-zero, mul-div-le, zero-mul, le-mul_of_pos_right}
 use Rattle.std.proofs.lemmas.Nat.{div-mul-add}
@@ -28,11 +28,11 @@ take-unnum-num w n items h k =
     (λ i i<. let lt : i < n = omega (arith, a) in
     get_or-take n (unnum w (num items)) i false lt ∙ (get_or-unnum w (num items) i false (omega arith) ∙ (bit-num items i ∙ sym (get_or-take n items i false lt))))
 
--- how many words of 8 * k bits len bits fill
+-- the number of words of 8 * k bits that len bits fill
 pub full_count : (len k w : ℕ) → 8 * k ≡ w → len / 8 / k ≡ len / w
 full_count len k w e = div-div-eq-div-mul len 8 k ∙ ap (λ d. len / d) e
 
--- the words and what is behind them
+-- the words and the bits after them
 pub words_and_rest : (len k w : ℕ) → 8 * k ≡ w → 0 < w → w * (len / 8 / k) + (len - w * (len / 8 / k)) ≡ len
 words_and_rest len k w e p = let f = full_count len k w e in let d = mul-div-le len w in rw f (omega (arith, d))
 
@@ -73,7 +73,7 @@ spilled_rest bytes behind w shift len count tail start s<8 within all short at n
 word_starts : (full k w : ℕ) → 8 * k ≡ w → 8 * (full * k) ≡ w * full
 word_starts full k w e = ap (λ n. 8 * n) (mul_comm full k) ∙ (sym (mul_assoc 8 k full) ∙ ap (λ n. n * full) e)
 
--- the invariant of a walk that begins
+-- the invariant of an iterator that begins
 pub new_walk : (bytes behind front : List ℕ) (k w offset len x : ℕ) → 8 * k ≡ w → 8 ≤ w → len < 2 ^ 64 → offset + len ≤ 8 * length bytes → front ≡ drop (offset / 8) bytes
     → (len / 8 / k * k ≡ 0 → behind ≡ front) → (0 < len / 8 / k * k → behind ≡ part front (len / 8 / k * k) ((len + offset % 8 + 7) / 8 - len / 8 / k * k))
     → x ≡ num (part (bits behind) (offset % 8) w)
@@ -92,7 +92,7 @@ new_walk bytes behind front k w offset len x e wide small h is none some number 
       spilled = rw number (spilled_rest front behind w (offset % 8) len (len / 8 / k) (len - w * (len / 8 / k)) (len / 8 / k * k) (omega arith) room all short at none some);
     }
 
--- the items of a walk that begins
+-- the items of an iterator that begins
 pub new_items : (bytes front : List ℕ) (k w offset len : ℕ) → 8 * k ≡ w → 8 ≤ w → offset / 8 ≤ length bytes → front ≡ drop (offset / 8) bytes → part (bits front) (offset % 8) (w * (len / 8 / k) + (len - w * (len / 8 / k))) ≡ part (bits bytes) offset len
 new_items bytes front k w offset len e wide h is =
     let all = words_and_rest len k w e (omega arith) in
@@ -109,7 +109,7 @@ spilled_is : (full k end : ℕ) (behind b : List ℕ) → 0 < k → (full * k �
 spilled_is zero k end behind b p none some = none (zero-mul k)
 spilled_is (suc n) k end behind b p none some = rw (no_zero (suc n) (pos_suc n)) (some (let l = le-mul_of_pos_right k (pos_suc n) in omega (arith, l, mul_comm (suc n) k)))
 
--- the remainder of a walk that begins
+-- the remainder of an iterator that begins
 pub new_spill : (bytes behind front : List ℕ) (k w offset len x : ℕ) → 8 * k ≡ w → 8 ≤ w → front ≡ drop (offset / 8) bytes
     → (len / 8 / k * k ≡ 0 → behind ≡ front) → (0 < len / 8 / k * k → behind ≡ part front (len / 8 / k * k) ((len + offset % 8 + 7) / 8 - len / 8 / k * k))
     → x ≡ num (part (bits behind) (offset % 8) w) → x ≡ spill k bytes offset len
@@ -118,7 +118,7 @@ new_spill bytes behind front k w offset len x e wide is none some number =
     let b = spilled_is (len / 8 / k) k ((len + offset % 8 + 7) / 8) front behind (omega (arith, e)) none some in
     number ∙ (rw (← e, ← is) (ap (λ (t : List ℕ). num (part (bits t) (offset % 8) (8 * k))) b))
 
--- ---- a walk from bit 0 on, over the bytes that hold its items
+-- ---- an iterator from bit 0 on, over the bytes that hold its items
 
 pub front_items : (bytes : List ℕ) (m len : ℕ) → len ≤ 8 * length bytes → m ≡ (len + 7) / 8 → part (bits (take m bytes)) 0 len ≡ part (bits bytes) 0 len
 front_items bytes m len h e = part-bits-part bytes 0 m 0 len 0 (omega arith) (omega arith) refl
@@ -142,26 +142,26 @@ front_spill bytes k w m len e wide h is =
     let lp = length-take ((len + 7) / 8 - a) (drop a bytes) in
     ap (λ (t : List ℕ). num (part (bits t) 0 (8 * k))) (sym spilled) ∙ ap num (take_all (8 * k) (bits b) (omega (arith, lb, lp, at, all, short, e)))
 
--- ---- steps of a walk
+-- ---- steps of an iterator
 
 div-mul-add_left : (w count tail : ℕ) → tail < w → (w * count + tail) / w ≡ count
 div-mul-add_left w count tail h = rw (mul_comm w count) (div-mul-add count w tail h)
 
--- how many words are to come
+-- the number of words to come
 pub words_left : (bytes : List ℕ) (w shift count tail word : ℕ) → IsChunkWalk w bytes shift count tail word → length (full_words w (part (bits bytes) shift (w * count + tail))) ≡ count
 words_left bytes w shift count tail word walk =
     let l = length-bits bytes in
     let n = length-part (bits bytes) shift (w * count + tail) (omega (arith, l, walk.within)) in
     length-full_words w (part (bits bytes) shift (w * count + tail)) ∙ (rw n (div-mul-add_left w count tail walk.short))
 
--- how many items there are fits a number of 64 bits
+-- the number of items fits a number of 64 bits
 pub walk_fits : (bytes : List ℕ) (w shift count tail word : ℕ) → IsChunkWalk w bytes shift count tail word → length (part (bits bytes) shift (w * count + tail)) < 2 ^ 64
 walk_fits bytes w shift count tail word walk =
     let l = length-bits bytes in
     let n = length-part (bits bytes) shift (w * count + tail) (omega (arith, l, walk.within)) in
     omega (arith, n, walk.fits)
 
--- how many items are behind them, and which
+-- the number of items after them, and these items
 pub rest_left : (bytes : List ℕ) (w shift count tail word : ℕ) → IsChunkWalk w bytes shift count tail word → rest w (part (bits bytes) shift (w * count + tail)) ≡ part (bits bytes) (shift + w * count) tail
 unfolding rest
 rest_left bytes w shift count tail word walk =

@@ -9,7 +9,7 @@ use Rattle.arrow2_bits.specs.Digits.{four_digits}
 use Rattle.arrow2_model.specs.Bits.{bit, bits}
 use Rattle.arrow2_model.proofs.Shown.{bit_alone}
 
--- which bits a byte keeps beside bit i
+-- the bits that a byte keeps, apart from bit i
 abbrev pub kept : List ℕ
 kept = 254 ∷ 253 ∷ 251 ∷ 247 ∷ 239 ∷ 223 ∷ 191 ∷ 127 ∷ []
 
@@ -19,7 +19,7 @@ none = 0 ∷ 0 ∷ 0 ∷ 0 ∷ 0 ∷ 0 ∷ 0 ∷ 0 ∷ []
 abbrev each_bit : List ℕ
 each_bit = 1 ∷ 2 ∷ 4 ∷ 8 ∷ 16 ∷ 32 ∷ 64 ∷ 128 ∷ []
 
--- what is written at bit i: nothing, or, 8 places behind, that bit
+-- the byte written at bit i: nothing, or, 8 entries later, that bit
 abbrev pub written : List ℕ
 written = none ++ each_bit
 

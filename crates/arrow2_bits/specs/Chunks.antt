@@ -1,10 +1,9 @@
--- What a walk by words keeps of its bytes.
+-- The bytes that an iterator by words keeps.
 use Rattle.std.specs.Prelude.{◌≡◌, ℕ, ◌+◌, ◌*◌, ◌<◌, ◌≤◌, ◌^◌, List, take, length}
 use Rattle.arrow2_model.specs.Bits.{bits, unnum}
 use Rattle.arrow2_model.specs.Parts.{part}
 
--- the next of count words begins at bit shift, tail bits stand behind them, and the lowest bits of a
--- word are these
+-- the next of count words begins at bit shift, tail bits come after them, and the lowest bits of a word are these
 pub record IsChunkWalk (w : ℕ) (bytes : List ℕ) (shift count tail word : ℕ) : Type 0 where
   pub place : shift < 8
   pub within : shift + (w * count + tail) ≤ 8 * length bytes

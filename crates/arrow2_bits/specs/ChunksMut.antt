@@ -1,11 +1,11 @@
--- What contracts see of a walk by chunks that are lent to be written.
+-- The model of an iterator by chunks that are borrowed mutably.
 use Rattle.std.specs.Prelude.{◌≡◌, ℕ, ◌+◌, ◌-◌, ◌/◌, List, Option, nat_le, if◌then◌else◌, drop, length, MatchOption}
 use Rattle.std.specs.Borrow.{MutBor}
 use Rattle.arrow2_model.specs.Buffers.{overwritten}
 use Rattle.arrow2_model.specs.Parts.{part}
 
--- the walk: the bytes of its chunks, the place of the next chunk there, how many bytes a chunk has, the
--- bytes behind the chunks, and how many bits of those count
+-- the iterator: the bytes of its chunks, the index of the next chunk there, the number of bytes of a chunk, the bytes
+-- after the chunks, and how many bits of those count
 pub record ChunkWalkMut : Type 0 where
   pub bytes : List ℕ
   pub at : ℕ
@@ -13,7 +13,7 @@ pub record ChunkWalkMut : Type 0 where
   pub remainder : List ℕ
   pub remainder_len : ℕ
 
--- how many chunks are still to come
+-- the number of chunks still to come
 abbrev pub chunks_left : ChunkWalkMut → ℕ
 chunks_left walk = (length walk.bytes - walk.at) / walk.size
 
@@ -21,11 +21,11 @@ chunks_left walk = (length walk.bytes - walk.at) / walk.size
 abbrev pub next_chunk : ChunkWalkMut → List ℕ
 next_chunk walk = part walk.bytes walk.at walk.size
 
--- how many bytes are lent next: a chunk, or none at the end
+-- the number of bytes that are lent next: a chunk, or none at the end
 abbrev pub next_len : ChunkWalkMut → ℕ
 next_len walk = if nat_le walk.size (length walk.bytes - walk.at) then walk.size else 0
 
--- the walk past its next n bytes, with these written over them
+-- the iterator past its next n bytes, with these written over them
 abbrev pub past : ChunkWalkMut → ℕ → List ℕ → ChunkWalkMut
 past walk n written = record walk { bytes = overwritten walk.bytes walk.at written; at = walk.at + n }
 

@@ -5,8 +5,8 @@ ghost use Rattle.arrow2_model.specs.Parts.{part};
 use crate::counter::Reads;
 use std::marker::Model;
 
-/// Bytes, and how many reads were counted so far, with those of the counter that it was made with. [`Stored::fetch`]
-/// alone reads them, and it counts each that it gives.
+/// Bytes, and the number of reads counted so far, including those of the counter that it was made with.
+/// [`Stored::fetch`] alone reads them, and it counts each that it gives.
 #[derive(Drop)]
 pub struct Stored<'a> {
     bytes: &'a [u8],
@@ -22,7 +22,7 @@ impl<'a> Model for Stored<'a> {
 }
 
 impl<'a> Stored<'a> {
-    /// The bytes, whose reads are counted on from those of `reads`.
+    /// Returns the bytes, whose reads are counted on from those of `reads`.
     pub fn new(bytes: &'a [u8], reads: Reads) -> Stored<'a>
         ensures bytes { result.bytes ≡ bytes.entry.now }
         ensures reads { result.reads ≡ reads }
@@ -30,14 +30,15 @@ impl<'a> Stored<'a> {
         Stored { bytes, reads }
     }
 
-    /// How many bytes there are. Reads none.
+    /// Returns the number of bytes. Reads none.
     pub fn len(&self) -> usize
         ensures { result ≡ length self.now.bytes }
     {
         self.bytes.len()
     }
 
-    /// The `N` bytes from byte `i` on, for `N` reads. Requires that there are as many.
+    /// Returns the `N` bytes from byte `i` on, for `N` reads. Requires that `N` bytes from byte `i` on are inside the
+    /// bytes.
     pub fn fetch<const N: usize>(&mut self, i: usize) -> [u8; N]
         requires inside { i + N ≤ length self.old.bytes }
         ensures fetched { result ≡ part self.old.bytes i N }
@@ -50,7 +51,7 @@ impl<'a> Stored<'a> {
         fetched
     }
 
-    /// The counter, which has counted every read.
+    /// Returns the counter, which has counted every read.
     pub fn into_reads(self) -> Reads
         ensures { result ≡ self.entry.reads }
     {

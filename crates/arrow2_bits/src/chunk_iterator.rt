@@ -1,4 +1,4 @@
-//! Walks over the bits of bytes by words, at any bit offset.
+//! Iterates over the bits of bytes by words, at any bit offset.
 ghost use Rattle.std.specs.Prelude.{◌≡◌, ◌+◌, ◌-◌, ◌*◌, ◌/◌, ◌%◌, ◌<◌, ◌≤◌, ◌^◌, length, take, Option, Some, IfSome};
 ghost use Rattle.std.specs.Iterator.{item_count, UpTo, IsFinite};
 ghost use Rattle.std.specs.Iterator.SizeHint.{IsWithinCount};
@@ -11,24 +11,25 @@ use arrow2_chunk::bit_chunk::BitChunk;
 use arrow2_chunk::bit_chunk_iter::BitChunkIter;
 use std::marker::Model;
 
-/// An iterator over a list of booleans by words: the full words come in order, and what stands behind them is the
+/// An iterator over a list of booleans by words: the full words come in order, and the bits after them are the
 /// remainder.
 ///
-/// Differs from arrow2: it stands on no `TrustedLen`.
+/// Differs from arrow2: it needs no `TrustedLen`.
 pub trait BitChunkIterExact<B: BitChunk>: Iterator<Item = B> {
     // The items still to come, those of the remainder included, and the word of the remainder.
     ghost walk: { Self → WordWalk };
 
-    /// The word in which the remainder stands. Behind it come other bits: the spare ones of the byte that holds the last
-    /// item, or all that are stored there where a [`BitChunks`] has no full word. So mask it to
-    /// [`BitChunkIterExact::remainder_len`] bits.
+    /// Returns the word in which the remainder stands. The bits after it are not masked: the padding bits of the byte
+    /// that holds the last item, or everything that is stored there where a [`BitChunks`] has no full word. So mask it
+    /// to [`BitChunkIterExact::remainder_len`] bits.
     fn remainder(&self) -> B
         ensures spill { B.BitChunk.number result ≡ (walk self.now).spill }
         ensures rest { take (length (rest B.BitChunk.WIDTH (walk self.now).items))
             (unnum B.BitChunk.WIDTH (B.BitChunk.number result))
             ≡ rest B.BitChunk.WIDTH (walk self.now).items };
 
-    /// How many items the remainder has: fewer than a word. All items still to come are as many as a `usize` can say.
+    /// Returns the number of items of the remainder: fewer than a word. The number of all items still to come fits a
+    /// `usize`.
     fn remainder_len(&self) -> usize
         ensures rest { result ≡ length (rest B.BitChunk.WIDTH (walk self.now).items) }
         ensures short { result < B.BitChunk.WIDTH }
@@ -51,8 +52,7 @@ pub trait BitChunkIterExact<B: BitChunk>: Iterator<Item = B> {
         GivesWord B.BitChunk.WIDTH B.BitChunk.number walk s r t };
 }
 
-/// The walk over bits from any bit offset on: contracts see the items still to come and the word of
-/// the remainder.
+/// The iterator over bits from any bit offset on: contracts see the items still to come and the word of the remainder.
 #[derive(Debug, Drop)]
 pub struct BitChunks<'a, T: BitChunk> {
     bytes: &'a [u8],
@@ -103,15 +103,16 @@ impl<'a, T: BitChunk> BitChunks<'a, T> {
         }
     }
 
-    /// How many full words are still to come. In arrow2 one fewer, where any is left.
+    /// Returns the number of full words still to come. In arrow2 one fewer, where any is left.
     pub fn len(&self) -> usize
         ensures { result ≡ length (full_words T.BitChunk.WIDTH self.now.items) }
     {
         self.count
     }
 
-    /// The word in which the remainder stands. Behind it come other bits: the spare ones of the byte that holds the last
-    /// item, or all that are stored there where there is no full word. So mask it to [`BitChunks::remainder_len`] bits.
+    /// Returns the word in which the remainder stands. The bits after it are not masked: the padding bits of the byte
+    /// that holds the last item, or everything that is stored there where there is no full word. So mask it to
+    /// [`BitChunks::remainder_len`] bits.
     pub fn remainder(&self) -> T
         ensures spill { T.BitChunk.number result ≡ self.now.spill }
         ensures rest { take (length (rest T.BitChunk.WIDTH self.now.items))
@@ -121,7 +122,8 @@ impl<'a, T: BitChunk> BitChunks<'a, T> {
         self.remainder
     }
 
-    /// How many items the remainder has: fewer than a word. All items still to come are as many as a `usize` can say.
+    /// Returns the number of items of the remainder: fewer than a word. The number of all items still to come fits a
+    /// `usize`.
     pub fn remainder_len(&self) -> usize
         ensures rest { result ≡ length (rest T.BitChunk.WIDTH self.now.items) }
         ensures short { result < T.BitChunk.WIDTH }
@@ -166,7 +168,7 @@ impl<'a, T: BitChunk> Iterator for BitChunks<'a, T> {
         Some(word)
     }
 
-    /// Both bounds are the number of full words still to come.
+    /// Returns the number of full words still to come as both bounds.
     fn size_hint(&self) -> (usize, Option<usize>)
         ensures lower { IsWithinCount result.0 (item_count (λ s.
             full_words T.BitChunk.WIDTH s.items) self.now) }
@@ -186,8 +188,8 @@ impl<'a, T: BitChunk> ExactSizeIterator for BitChunks<'a, T> {
     }
 }
 
-/// The bytes of the remainder: all of them where it begins at the first, else those from byte
-/// `start` up to the one that holds the last of `len` bits from bit `shift` on.
+/// Returns the bytes of the remainder: all of them where it begins at the first, else those from byte `start` up to the
+/// one that holds the last of `len` bits from bit `shift` on.
 fn spilled(bytes: &[u8], shift: usize, len: usize, start: usize) -> &[u8]
     requires place { shift < 8 }
     requires within { shift + len ≤ 8 * length bytes.now }

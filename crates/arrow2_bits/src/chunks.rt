@@ -5,7 +5,8 @@ ghost use Rattle.arrow2_model.specs.Parts.{part};
 
 use arrow2_chunk::bit_chunk::BitChunk;
 
-/// The word of the bits from bit `shift` on. Requires as many bits, and that `shift` is below 8.
+/// Returns the word of the bits from bit `shift` on. Requires that the bits are inside the bytes, and that `shift` is
+/// below 8.
 ///
 /// It takes one load where `shift` is 0, else two that overlap, two shifts and an or.
 pub(crate) fn chunk_at<T: BitChunk>(bytes: &[u8], shift: usize) -> T
@@ -23,8 +24,8 @@ pub(crate) fn chunk_at<T: BitChunk>(bytes: &[u8], shift: usize) -> T
     low.down(shift).bit_or(high.up(8 - shift))
 }
 
-/// The word of the bits from bit `shift` on, where bits past the bytes count as false. Requires that `shift` is below
-/// 8.
+/// Returns the word of the bits from bit `shift` on, where bits past the bytes count as false. Requires that `shift` is
+/// below 8.
 pub(crate) fn padded_chunk_at<T: BitChunk>(bytes: &[u8], shift: usize) -> T
     requires { shift < 8 }
     ensures number { T.BitChunk.number result ≡ num (part (bits bytes.now) shift T.BitChunk.WIDTH) }
@@ -38,8 +39,8 @@ pub(crate) fn padded_chunk_at<T: BitChunk>(bytes: &[u8], shift: usize) -> T
     chunk_at(&padded, shift)
 }
 
-/// The word of the bits from bit `offset + place` on, a sum that need not fit a `usize`, where bits past the bytes
-/// count as false. Requires that the first is inside.
+/// Returns the word of the bits from bit `offset + place` on, where bits past the bytes count as false. Their sum need
+/// not fit a `usize`. Requires that the first is inside.
 pub fn word_from(bytes: &[u8], offset: usize, place: usize) -> u64
     requires { offset + place < 8 * length bytes.now }
     ensures { (i : ℕ) → i < 64 →

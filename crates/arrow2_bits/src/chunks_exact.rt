@@ -1,4 +1,4 @@
-//! The walk over bits by words from bit 0 on.
+//! Iterates over bits by words from bit 0 on.
 ghost use Rattle.std.specs.Prelude.{◌≡◌, ◌*◌, ◌≤◌, ◌↔◌, length as length', take, Some, IfSome, IsTrue};
 ghost use Rattle.std.specs.Iterator.{item_count, UpTo};
 ghost use Rattle.std.specs.Iterator.SizeHint.{IsWithinCount};
@@ -11,8 +11,8 @@ use crate::chunk_iterator::{BitChunkIterExact, BitChunks};
 use arrow2_chunk::bit_chunk::BitChunk;
 use std::marker::Model;
 
-/// The walk over the first bits of bytes by words: contracts see the items still to come and the
-/// word of the remainder.
+/// The iterator over the first bits of bytes by words: contracts see the items still to come and the word of the
+/// remainder.
 #[derive(Debug, Drop)]
 pub struct BitChunksExact<'a, T: BitChunk> {
     chunks: BitChunks<'a, T>,
@@ -39,7 +39,7 @@ impl<'a, T: BitChunk> BitChunksExact<'a, T> {
         }
     }
 
-    /// How many full words are still to come.
+    /// Returns the number of full words still to come.
     pub fn len(&self) -> usize
         ensures { result ≡ length' (full_words T.BitChunk.WIDTH self.now.items) }
     {
@@ -53,11 +53,11 @@ impl<'a, T: BitChunk> BitChunksExact<'a, T> {
         BitChunksExact::len(self) == 0
     }
 
-    /// The word in which the remainder stands. Behind it come the spare bits of the byte that holds the last item, and
-    /// then false, so mask it to [`BitChunkIterExact::remainder_len`] bits.
+    /// Returns the word in which the remainder stands. The bits after it are the padding bits of the byte that holds
+    /// the last item, and then false, so mask it to [`BitChunkIterExact::remainder_len`] bits.
     ///
-    /// It is 0 where the items fill whole words, and may be 0 elsewhere too. arrow2's page says: exactly where there are
-    /// fewer than 8 items.
+    /// It is 0 where the items fill whole words, and may be 0 elsewhere too. arrow2's documentation states: exactly
+    /// where there are fewer than 8 items.
     pub fn remainder(&self) -> T
         ensures spill { T.BitChunk.number result ≡ self.now.spill }
         ensures rest { take (length' (rest T.BitChunk.WIDTH self.now.items))
@@ -97,7 +97,7 @@ impl<'a, T: BitChunk> Iterator for BitChunksExact<'a, T> {
         self.chunks.next()
     }
 
-    /// Both bounds are the number of full words still to come.
+    /// Returns the number of full words still to come as both bounds.
     fn size_hint(&self) -> (usize, Option<usize>)
         ensures lower { IsWithinCount result.0 (item_count (λ s.
             full_words T.BitChunk.WIDTH s.items) self.now) }

@@ -1,4 +1,4 @@
-//! The walk over bytes by chunks that are lent to be written.
+//! Iterates over bytes by chunks that are borrowed mutably.
 ghost use Rattle.std.specs.Prelude.{◌≡◌, ℕ, ◌+◌, ◌-◌, ◌*◌, ◌/◌, ◌<◌, ◌≤◌, ◌↔◌, List, length as length', take, Some, IfSome, IsTrue, MatchOption};
 ghost use Rattle.std.specs.Bool.{OnTrue, OnFalse};
 ghost use Rattle.std.specs.Borrow.{sem};
@@ -13,10 +13,10 @@ use arrow2_chunk::bit_chunk::BitChunk;
 use std::marker::{Model, PhantomData};
 use std::mem;
 
-/// The walk over the first bits of bytes by chunks of as many bytes as `T` has, to be written.
+/// The iterator over the first bits of bytes by mutable chunks, each with the bytes of one `T`.
 ///
-/// Contracts see the bytes of all its chunks as they were written up to now, the place of the next chunk
-/// there, and the bytes of the remainder.
+/// Contracts see the bytes of all its chunks as they were written up to now, the index of the next chunk there, and the
+/// bytes of the remainder.
 #[derive(Debug, Drop)]
 pub struct BitChunksExactMut<'a, T> {
     bytes: &'a mut [u8],
@@ -41,7 +41,7 @@ impl<'a, T> Model for BitChunksExactMut<'a, T> {
       remainder_len = c.remainder_len;
     } };
 
-    // It does not say that `at` is inside: bytes that are lent whole could come back as any list.
+    // The invariant does not state that `at` is inside: bytes that are lent whole could come back as any list.
     ghost invariant = { λ c. c.remainder_len < 8 * c.size };
 }
 
@@ -77,8 +77,8 @@ impl<'a, T: BitChunk> BitChunksExactMut<'a, T> {
 impl<'a, T> BitChunksExactMut<'a, T> {
     ghost use Rattle.arrow2_bits.specs.LentChunk.{LendsBytes, LendsPart, LendsNext, LendsNextIf, LendsRemainder};
 
-    /// The next chunk, to be written, or `None` where none is left. Afterwards the walk stands behind the
-    /// chunk and holds what was written there, and every other byte is as it was.
+    /// Returns the next chunk, to be written, or `None` where none is left. Afterwards the iterator is past the chunk
+    /// and holds the bytes that were written there, and every other byte is as it was.
     ///
     /// A caller that is proved uses [`BitChunksExactMut::change_next`], since it learns nothing of a loan inside an
     /// `Option`.
@@ -96,9 +96,9 @@ impl<'a, T> BitChunksExactMut<'a, T> {
         Some(chunk)
     }
 
-    /// Changes the next chunk in place by `change`, and answers whether there was one. Afterwards the walk stands
-    /// behind the chunk, and every other byte is as it was. Requires that `change` may be called on the chunk, where
-    /// there is one.
+    /// Changes the next chunk in place by `change`, and returns whether there was one. Afterwards the iterator is past
+    /// the chunk, and every other byte is as it was. Requires that `change` may be called on the chunk, where there is
+    /// one.
     ///
     /// arrow2 has the iterator alone.
     pub fn change_next<F: FnOnce(&mut [u8])>(&mut self, change: F) -> bool
@@ -119,7 +119,7 @@ impl<'a, T> BitChunksExactMut<'a, T> {
         true
     }
 
-    /// The bytes behind the chunks up to the one that holds the last bit, to be written.
+    /// Returns the bytes after the chunks up to the one that holds the last bit, to be written.
     pub fn remainder(&mut self) -> &mut [u8]
         ensures bytes { result.now ≡ self.old.remainder }
         ensures* writes_back { sem 𝓛 (LendsRemainder T.row self.entry result) }
@@ -127,7 +127,7 @@ impl<'a, T> BitChunksExactMut<'a, T> {
         &mut *self.remainder
     }
 
-    /// How many bits the remainder has: fewer than a chunk. arrow2 takes `&mut self`.
+    /// Returns the number of bits of the remainder: fewer than a chunk. arrow2 takes `&mut self`.
     pub fn remainder_len(&self) -> usize
         ensures bits { result ≡ self.now.remainder_len }
         ensures short { result < 8 * self.now.size }
@@ -135,7 +135,7 @@ impl<'a, T> BitChunksExactMut<'a, T> {
         self.remainder_len
     }
 
-    /// The next chunk, to be written, and no bytes where none is left. The walk passes it.
+    /// Returns the next chunk, to be written, and no bytes where none is left. The iterator moves past it.
     fn lend_next(&mut self) -> &mut [u8]
         ensures some { (0 < length' result.now) ↔ (0 < chunks_left self.old) }
         ensures len { length' result.now ≡ next_len self.old }
@@ -148,7 +148,7 @@ impl<'a, T> BitChunksExactMut<'a, T> {
         self.part_mut(start, start + size)
     }
 
-    /// The bytes from `start` up to `end`, to be written.
+    /// Returns the bytes from `start` up to `end`, to be written.
     fn part_mut(&mut self, start: usize, end: usize) -> &mut [u8]
         requires order { start ≤ end }
         requires within { end ≤ length' self.old.bytes }
@@ -158,7 +158,7 @@ impl<'a, T> BitChunksExactMut<'a, T> {
         &mut self.bytes_mut()[start..end]
     }
 
-    /// The bytes of all chunks, to be written.
+    /// Returns the bytes of all chunks, to be written.
     fn bytes_mut(&mut self) -> &mut [u8]
         ensures bytes { result.now ≡ self.old.bytes }
         ensures* writes_back { sem 𝓛 (LendsBytes T.row self.entry result) }
@@ -166,7 +166,7 @@ impl<'a, T> BitChunksExactMut<'a, T> {
         &mut *self.bytes
     }
 
-    /// How many bytes are lent next: a chunk, or none at the end.
+    /// Returns the number of bytes that are lent next: a chunk, or none at the end.
     fn next_len(&self) -> usize
         ensures len { result ≡ next_len self.now }
         ensures some { (0 < result) ↔ (0 < chunks_left self.now) }
@@ -180,7 +180,7 @@ impl<'a, T> BitChunksExactMut<'a, T> {
         }
     }
 
-    /// How many bytes the chunks still to come have.
+    /// Returns the number of bytes of the chunks still to come.
     fn ahead(&self) -> usize
         ensures { result ≡ length' self.now.bytes - self.now.at }
     {
@@ -206,7 +206,7 @@ impl<'a, T: Drop> Iterator for BitChunksExactMut<'a, T> {
         Some(chunk)
     }
 
-    /// Both bounds are the number of chunks still to come.
+    /// Returns the number of chunks still to come as both bounds.
     fn size_hint(&self) -> (usize, Option<usize>)
         ensures lower { IsWithinCount result.0 (at_most (chunks_left self.now)) }
         ensures upper { IfSome result.1 (UpTo (at_most (chunks_left self.now))) }

@@ -4,8 +4,8 @@ ghost use Rattle.std.specs.Prelude.{◌≡◌, ◌+◌};
 use arrow2_counter::Counter;
 use std::marker::Model;
 
-/// How many bytes were read: contracts see the number. It takes no bytes when the program runs, and none is made of
-/// another, so that no read is counted twice or left out.
+/// A counter of the bytes that were read: contracts see the number. It takes no bytes when the program runs, and none
+/// is made of another, so that no read is counted twice or left out.
 #[derive(Drop)]
 pub struct Reads {
     counter: Counter,
@@ -20,7 +20,7 @@ impl Model for Reads {
 }
 
 impl Reads {
-    /// A counter of no reads.
+    /// Returns a counter of no reads.
     pub fn new() -> Reads
         ensures { result ≡ 0 }
     {
@@ -29,7 +29,7 @@ impl Reads {
         }
     }
 
-    /// Counts so many bytes more.
+    /// Adds `count` reads.
     pub(crate) fn add(&mut self, count: usize)
         ensures { self.new ≡ self.old + count }
     {

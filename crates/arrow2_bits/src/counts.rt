@@ -10,8 +10,8 @@ use crate::lanes::ones_of;
 use arrow2_chunk::bit_chunk::BitChunk;
 use std::simd::prelude::*;
 
-/// How many of the `len` bits from bit `offset` on are not set. Requires that they are inside the bytes, or that `len`
-/// is 0; arrow2's page refuses what ends with the bytes.
+/// Returns how many of the `len` bits from bit `offset` on are not set. Requires that they are inside the bytes, or
+/// that `len` is 0; arrow2's documentation also excludes ranges that end with the bytes.
 pub fn count_zeros(bytes: &[u8], offset: usize, len: usize) -> usize
     requires { 0 < len → offset + len ≤ 8 * length bytes.now }
     ensures { result ≡ falses (part (bits bytes.now) offset len) }
@@ -19,8 +19,8 @@ pub fn count_zeros(bytes: &[u8], offset: usize, len: usize) -> usize
     count_zeros_counted(&mut Stored::new(bytes, Reads::new()), offset, len)
 }
 
-/// The same as [`count_zeros`], of bytes whose reads are counted: it fetches each byte that holds one of the bits,
-/// once. Requires that the bits are inside the bytes, or that `len` is 0. arrow2 counts no reads.
+/// Returns the same as [`count_zeros`], of bytes whose reads are counted: it fetches each byte that holds one of the
+/// bits, once. Requires that the bits are inside the bytes, or that `len` is 0. arrow2 counts no reads.
 pub fn count_zeros_counted(stored: &mut Stored<'_>, offset: usize, len: usize) -> usize
     requires inside { 0 < len → offset + len ≤ 8 * length stored.old.bytes }
     ensures zeros { result ≡ falses (part (bits stored.old.bytes) offset len) }
@@ -30,12 +30,12 @@ pub fn count_zeros_counted(stored: &mut Stored<'_>, offset: usize, len: usize) -
     zeros_from(stored, offset / 8, offset % 8, len)
 }
 
-/// How many of the `count` bits from bit `offset + start` on are not set, where `unset` is how many of the `len` bits
-/// from bit `offset` on are not: the answer of [`count_zeros_counted`], for at most `len / 16 + 4` reads.
+/// Returns how many of the `count` bits from bit `offset + start` on are not set, as [`count_zeros_counted`] does, for
+/// at most `len / 16 + 4` reads. Here `unset` is how many of the `len` bits from bit `offset` on are not set.
 ///
-/// It counts the bits asked for where they are less than half of all, rounded down, else the head and the tail around
-/// them, which it takes away, and nothing where they are all. Requires that the `len` bits are inside the bytes, and
-/// the others among them. arrow2 has it inside the slice of a bitmap.
+/// It counts the bits of the slice where they are fewer than half of all, rounded down. Else it counts the head and the
+/// tail around them and subtracts those, and counts nothing where the slice is the whole. Requires that the `len` bits
+/// are inside the bytes, and the others among them. arrow2 has it inside the slice of a bitmap.
 pub fn recount(
     stored: &mut Stored<'_>,
     offset: usize,
@@ -65,7 +65,7 @@ pub fn recount(
     unset - (head + tail)
 }
 
-/// How many of the `len` bits from bit `offset + start` on are not set, a sum that need not fit a `usize`.
+/// Returns how many of the `len` bits from bit `offset + start` on are not set. Their sum need not fit a `usize`.
 fn zeros_behind(stored: &mut Stored<'_>, offset: usize, start: usize, len: usize) -> usize
     requires inside { offset + start + len ≤ 8 * length stored.old.bytes }
     ensures zeros { result ≡ falses (part (bits stored.old.bytes) (offset + start) len) }
@@ -76,7 +76,7 @@ fn zeros_behind(stored: &mut Stored<'_>, offset: usize, start: usize, len: usize
     zeros_from(stored, offset / 8 + start / 8 + within / 8, within % 8, len)
 }
 
-/// How many of the `len` bits from bit `start` of byte `first` on are not set.
+/// Returns how many of the `len` bits from bit `start` of byte `first` on are not set.
 fn zeros_from(stored: &mut Stored<'_>, first: usize, start: usize, len: usize) -> usize
     requires place { start < 8 }
     requires fits { first < 2 ^ 63 }
@@ -96,7 +96,7 @@ fn zeros_from(stored: &mut Stored<'_>, first: usize, start: usize, len: usize) -
     zeros + zeros_in_byte(stored, whole + count, 0, (len - head) % 8)
 }
 
-/// How many of the `len` bits from bit `start` of byte `at` on are not set, all in that byte.
+/// Returns how many of the `len` bits from bit `start` of byte `at` on are not set, all in that byte.
 fn zeros_in_byte(stored: &mut Stored<'_>, at: usize, start: usize, len: usize) -> usize
     requires within { start + len ≤ 8 }
     requires some { 0 < len → at < length stored.old.bytes }
@@ -112,8 +112,8 @@ fn zeros_in_byte(stored: &mut Stored<'_>, at: usize, start: usize, len: usize) -
     len - shown.count_ones() as usize
 }
 
-/// How many bits of the `count` bytes from byte `first` on are not set: 64 bytes at a step, and then by words, the widest
-/// first.
+/// Returns how many bits of the `count` bytes from byte `first` on are not set. Counts 64 bytes at a step, and then by
+/// words, the widest first.
 fn zeros_in_bytes(stored: &mut Stored<'_>, first: usize, count: usize) -> usize
     requires fits { first + count < 2 ^ 64 }
     requires few { 8 * count < 2 ^ 64 }
@@ -130,8 +130,8 @@ fn zeros_in_bytes(stored: &mut Stored<'_>, first: usize, count: usize) -> usize
     8 * count - ones
 }
 
-/// How many bits of the `pairs` pairs of 32 bytes from byte `first` on are set. One block at a step takes longer than a
-/// word at a step does.
+/// Returns how many bits of the `pairs` pairs of 32 bytes from byte `first` on are set. One block at a step takes
+/// longer than a word at a step does.
 fn ones_in_blocks(stored: &mut Stored<'_>, first: usize, pairs: usize) -> usize
     requires fits { first + 64 * pairs < 2 ^ 64 }
     requires few { 8 * (64 * pairs) < 2 ^ 64 }
@@ -151,7 +151,7 @@ fn ones_in_blocks(stored: &mut Stored<'_>, first: usize, pairs: usize) -> usize
     ones
 }
 
-/// How many bits of the 32 bytes from byte `at` on are set.
+/// Returns how many bits of the 32 bytes from byte `at` on are set.
 #[inline(always)]
 fn ones_in_block(stored: &mut Stored<'_>, at: usize) -> usize
     requires inside { at + 32 ≤ length stored.old.bytes }
@@ -162,7 +162,7 @@ fn ones_in_block(stored: &mut Stored<'_>, at: usize) -> usize
     ones_of(u8x32::from_array(stored.fetch::<32>(at)))
 }
 
-/// How many bits of the `words` words of `N` bytes from byte `first` on are set.
+/// Returns how many bits of the `words` words of `N` bytes from byte `first` on are set.
 fn ones_in_words<T: BitChunk, const N: usize>(
     stored: &mut Stored<'_>,
     first: usize,

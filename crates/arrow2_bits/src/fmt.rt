@@ -13,7 +13,7 @@ use std::fmt;
 /// and joined by commas. No bits are `[]`. The formatter's options change nothing.
 ///
 /// Requires that `offset` is below 8, and that the bits are inside the bytes or that `length` is 0. arrow2 may print a
-/// byte behind the bits in place of the last one.
+/// byte after the bits instead of the last one.
 ///
 /// # Errors
 ///
@@ -49,7 +49,7 @@ pub fn fmt<W: fmt::Write>(
     f.write_str("]")
 }
 
-/// The digits of four bits, from the highest to the lowest. Requires that the number is below 16.
+/// Returns the digits of four bits, from the highest to the lowest. Requires that the number is below 16.
 #[tactic(auto, unfolding(arrow2_model::specs::Bits::bit))]
 fn digits(half: u8) -> &'static str
     requires { half < 16 }
@@ -84,7 +84,7 @@ fn write_whole_byte<W: fmt::Write>(byte: u8, f: &mut fmt::Formatter<W>) -> fmt::
     f.write_str(digits(byte % 16))
 }
 
-/// Writes one byte, of which the `length` bits from bit `start` on are shown.
+/// Writes the `length` bits from bit `start` on of one byte.
 fn write_byte<W: fmt::Write>(
     byte: u8,
     start: usize,
@@ -105,7 +105,7 @@ fn write_byte<W: fmt::Write>(
     Ok(())
 }
 
-/// The character of bit `i` of a byte, of which the `length` bits from bit `start` on are shown.
+/// Returns the character of bit `i` of a byte that shows the `length` bits from bit `start` on.
 fn character(byte: u8, i: usize, start: usize, length: usize) -> char
     requires bit { i < 8 }
     requires inside { start + length ≤ 8 }

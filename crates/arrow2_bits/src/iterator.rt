@@ -11,7 +11,7 @@ use std::marker::Model;
 
 /// An iterator over bits: contracts see it as the list of the items still to come.
 ///
-/// Its `nth` is the standard library's over `next`, and goes to the end; arrow2's adds to the place without a test.
+/// Its `nth` is the standard library's over `next`, and goes to the end; arrow2's adds to the index without a test.
 #[derive(Debug, Drop)]
 pub struct BitmapIter<'a> {
     bytes: &'a [u8],
@@ -51,8 +51,8 @@ impl<'a> BitmapIter<'a> {
         }
     }
 
-    /// The same iterator, whose places are told by one number each, so that the compiler adds nothing at an item.
-    /// Requires also that the place behind the last bit fits a `usize`.
+    /// Returns the same iterator, whose bit index is one number, so that the compiler adds nothing at an item. Also
+    /// requires that the index after the last bit fits a `usize`.
     pub fn within(bytes: &'a [u8], offset: usize, len: usize) -> BitmapIter<'a>
         requires inside { offset + len ≤ 8 * length bytes.now }
         requires fits { offset + len < 2 ^ 64 }
@@ -95,7 +95,7 @@ impl<'a> Iterator for BitmapIter<'a> {
         Some(value)
     }
 
-    /// Both bounds are the number of items still to come.
+    /// Returns the number of items still to come as both bounds.
     fn size_hint(&self) -> (usize, Option<usize>)
         ensures lower { IsWithinCount result.0 (item_count (λ s. s) self.now) }
         ensures upper { IfSome result.1 (UpTo (item_count (λ s. s) self.now)) }
@@ -126,7 +126,8 @@ impl<'a> ExactSizeIterator for BitmapIter<'a> {
     }
 }
 
-/// Returns bit `offset + i`. Most iterators have offset 0, which the compiler tests once for a whole loop. Requires that it is inside the bytes.
+/// Returns bit `offset + i`. Most iterators have offset 0, which the compiler tests once for a whole loop. Requires
+/// that it is inside the bytes.
 fn bit_at(bytes: &[u8], offset: usize, i: usize) -> bool
     requires { offset + i < 8 * length bytes.now }
     ensures { result ≡ slice_index_or (bits bytes.now) (offset + i) false }

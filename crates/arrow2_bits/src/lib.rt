@@ -1,4 +1,4 @@
-//! Bits of bytes: reading, writing, counting and walking them, the lowest bit of a byte first.
+//! Bits of bytes: reading, writing, counting and iterating, the lowest bit of a byte first.
 #![tactic(auto)]
 
 ghost use Rattle.std.specs.Prelude.{◌≡◌, ◌+◌, ◌*◌, ◌/◌, ◌<◌, ◌≤◌, length, false, slice_set, slice_index_or};
@@ -21,10 +21,10 @@ pub use counter::Reads;
 pub use counts::{count_zeros, count_zeros_counted, recount};
 pub use same::same_bits;
 
-/// At index i the byte whose bit i alone is clear: read in place of a shift by a variable.
+/// At index i the byte whose bit i alone is clear: read instead of a shift by a variable.
 const KEPT: [u8; 8] = [254, 253, 251, 247, 239, 223, 191, 127];
 
-/// What is written at bit i: at index i nothing, at index 8 + i the byte whose bit i alone is set.
+/// The byte to be written at bit i: at index i zero, at index 8 + i the byte whose bit i alone is set.
 const WRITTEN: [u8; 16] = [0, 0, 0, 0, 0, 0, 0, 0, 1, 2, 4, 8, 16, 32, 64, 128];
 
 /// Returns whether bit `i` of the byte is set. Requires that `i` is below 8.
@@ -35,7 +35,7 @@ pub fn is_set(byte: u8, i: usize) -> bool
     (byte >> i) & 1 == 1
 }
 
-/// The byte with bit `i` set to `value` and every other bit as it was. Requires that `i` is below 8.
+/// Returns the byte with bit `i` set to `value` and every other bit as it was. Requires that `i` is below 8.
 pub fn set(byte: u8, i: usize, value: bool) -> u8
     requires { i < 8 }
     ensures { unnum 8 result ≡ slice_set (unnum 8 byte) i value }
@@ -43,7 +43,7 @@ pub fn set(byte: u8, i: usize, value: bool) -> u8
     (byte & KEPT[i]) | WRITTEN[8 * usize::from(value) + i]
 }
 
-/// Bit `i` of the bytes. Requires that `i` is below eight times their number.
+/// Returns bit `i` of the bytes. Requires that `i` is below eight times their number.
 pub fn get_bit(bytes: &[u8], i: usize) -> bool
     requires { i < 8 * length bytes.now }
     ensures { result ≡ slice_index_or (bits bytes.now) i false }
@@ -51,7 +51,7 @@ pub fn get_bit(bytes: &[u8], i: usize) -> bool
     is_set(bytes[i / 8], i % 8)
 }
 
-/// Bit `offset + i` of the bytes, a sum that need not fit a `usize`. Requires that it is below eight times their
+/// Returns bit `offset + i` of the bytes. Their sum need not fit a `usize`. Requires that it is below eight times their
 /// number.
 pub fn get_bit_from(bytes: &[u8], offset: usize, i: usize) -> bool
     requires { offset + i < 8 * length bytes.now }
@@ -61,8 +61,8 @@ pub fn get_bit_from(bytes: &[u8], offset: usize, i: usize) -> bool
     is_set(bytes[offset / 8 + i / 8 + within / 8], within % 8)
 }
 
-/// Writes bit `i` of the bytes, and leaves every other bit as it was. Requires that `i` is below eight times their
-/// number; arrow2's page asks `i` below an eighth of it.
+/// Writes bit `i` of the bytes, and leaves every other bit as it was. Requires that `i` is below eight times the number
+/// of bytes; arrow2's documentation requires `i` below an eighth of it.
 pub fn set_bit(bytes: &mut [u8], i: usize, value: bool)
     requires { i < 8 * length bytes.old }
     ensures { bits bytes.new ≡ slice_set (bits bytes.old) i value }
@@ -70,8 +70,8 @@ pub fn set_bit(bytes: &mut [u8], i: usize, value: bool)
     bytes[i / 8] = set(bytes[i / 8], i % 8, value);
 }
 
-/// How many bytes hold so many bits: an eighth, rounded up.
-/// Exact for every number of bits; arrow2's answer is one short for the seven greatest, from `usize::MAX - 6` on.
+/// Returns the number of bytes that hold `bits` bits: an eighth, rounded up. Exact for every number of bits; arrow2's
+/// result is one short for the seven greatest, from `usize::MAX - 6` on.
 pub fn bytes_for(bits: usize) -> usize
     ensures { result ≡ (bits + 7) / 8 }
 {

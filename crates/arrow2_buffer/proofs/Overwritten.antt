@@ -12,31 +12,31 @@ length-overwritten items i others h =
     let tail = drop (length others) (drop i items) in
     omega (arith, length-append (take i items) (others ++ tail), length-append others tail, length-take-le i items (omega arith), length-drop (length others) (drop i items), length-drop i items)
 
--- what a loan leaves is the overwritten list, where the others fit
+-- a loan leaves the overwritten list, where the others fit
 pub rewritten_within : {X : Type 0} (items : List X) (i : ℕ) (others : List X) → i + length others ≤ length items → rewritten items i others ≡ overwritten items i others
 rewritten_within items i others h =
     let all = overwritten items i others in
     take_at all (drop (length all) items) (length items) (length-overwritten items i others h)
 
--- what a loan leaves has as many items, whatever was written
+-- the list after a loan has the same length, whatever was written
 pub length-rewritten : {X : Type 0} (items : List X) (i : ℕ) (others : List X) → length (rewritten items i others) ≡ length items
 length-rewritten items i others = sym (length_refill (length items) items (overwritten items i others) refl)
 
--- a part that was overwritten holds what was written
+-- a part that was overwritten holds the written items
 pub written_part : {X : Type 0} (items : List X) (i n : ℕ) (others : List X) → i + n ≤ length items → length others ≡ n → part (rewritten items i others) i n ≡ others
 written_part items i n others h e =
     let tail = drop (length others) (drop i items) in
     let within : i + length others ≤ length items = omega (arith, e) in
     ap (λ l. part l i n) (rewritten_within items i others within) ∙ ap (take n) (drop_at (take i items) (others ++ tail) i (length-take-le i items (omega (arith, h)))) ∙ take_at others tail n e
 
--- what stands before it is as it was
+-- the items before it are as they were
 pub kept_before : {X : Type 0} (items : List X) (i n : ℕ) (others : List X) → i + n ≤ length items → length others ≡ n → take i (rewritten items i others) ≡ take i items
 kept_before items i n others h e =
     let tail = drop (length others) (drop i items) in
     let within : i + length others ≤ length items = omega (arith, e) in
     ap (take i) (rewritten_within items i others within) ∙ take_at (take i items) (others ++ tail) i (length-take-le i items (omega (arith, h)))
 
--- and what stands behind it
+-- and the items after it
 pub kept_behind : {X : Type 0} (items : List X) (i n : ℕ) (others : List X) → i + n ≤ length items → length others ≡ n → drop (i + n) (rewritten items i others) ≡ drop (i + n) items
 kept_behind items i n others h e =
     let tail = drop (length others) (drop i items) in

@@ -12,7 +12,7 @@ part-part items a n b m h =
 pub part_none : {X : Type 0} (items : List X) (a n : ℕ) → n ≡ 0 → part items a n ≡ []
 part_none items a n e = rw e refl
 
--- the first item, and the part behind it
+-- the first item, and the part after it
 pub part_first : {X : Type 0} (items : List X) (i e : ℕ) (x : X) → i < e → e ≤ length items → x ≡ get_or items i x → part items i (e - i) ≡ x ∷ part items (i + 1) (e - (i + 1))
 part_first items i e x h k is =
     let n : e - i ≡ suc (e - (i + 1)) = omega arith in

@@ -1,4 +1,4 @@
--- What storage is once it, or a part of it, was lent to be written and is back.
+-- The state of storage once it, or a part of it, was lent to be written and is back.
 use Rattle.std.specs.Prelude.{ℕ, List, length}
 use Rattle.std.specs.Borrow.{Lends, LendsIf, MutBor, Fml, Array}
 use Rattle.std.specs.List.{refill}
@@ -13,19 +13,19 @@ use denote.RattleType.{RattleType}
 use Rattle.arrow2_model.specs.Buffers.{overwritten}
 use Rattle.arrow2_buffer.specs.contracts.bytes.Bytes.{the_row}
 
--- items after others were written over them from place i on, through a loan that can't change how many there are
+-- items after others were written over them from index i on, through a loan that can't change their number
 abbrev pub rewritten : {X : Type 0} → List X → ℕ → List X → List X
 rewritten items i others = refill (length items) items (overwritten items i others)
 
--- the type of storage behind an `Rc`
+-- the type of storage in an `Rc`
 abbrev pub shared_row : RattleType → RattleType
 shared_row T = owned.the_row (the_row T) heap.the_row ghosts
 
--- r is the storage of a sole owner, which ends as what was written through r, or as it was where r is none
+-- r is the storage of a sole owner, which ends as the items written through r, or as it was where r is none
 abbrev pub LendsOwned : (T : RattleType) → MutBor (Rc (List T.Denot) Global) → Option (MutBor (List T.Denot)) → Fml
 LendsOwned T shared r = LendsIf (shared_row T) (the_row T) shared r (rc_with_value shared.now) shared.now
 
--- r is the part of the storage from place i on: the storage ends with what was written through r in its place
+-- r is the part of the storage from index i on: the storage ends with the items written through r in its place
 abbrev pub LendsPart : (T : RattleType) → MutBor (List T.Denot) → ℕ → MutBor (List T.Denot) → Fml
 LendsPart T storage i r = Lends (the_row T) (Array T 0) storage r (rewritten storage.now i)
 

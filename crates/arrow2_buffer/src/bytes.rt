@@ -9,7 +9,7 @@ use std::alloc::Global;
 use std::marker::Model;
 use std::rc::Rc;
 
-/// A list of items on the heap, which buffers and bitmaps share behind an `Rc`.
+/// A list of items on the heap, which buffers and bitmaps share through an `Rc`.
 ///
 /// Differs from arrow2: it always holds a vector, and never memory of another library.
 #[derive(Drop)]
@@ -35,14 +35,14 @@ impl<T> From<Vec<T>> for Bytes<T> {
 }
 
 impl<T> Bytes<T> {
-    /// All items.
+    /// Returns all items.
     pub fn as_slice(&self) -> &[T]
         ensures { result.now ≡ self.now }
     {
         self.items.as_slice()
     }
 
-    /// The vector that it holds. Does not allocate.
+    /// Returns the vector that it holds. Does not allocate.
     ///
     /// Stands for arrow2's `get_vec`, which only that crate can call.
     pub fn into_vec(self) -> Vec<T>
@@ -52,7 +52,7 @@ impl<T> Bytes<T> {
         items
     }
 
-    /// The allocator of its own.
+    /// Returns the allocator of its own.
     ///
     /// arrow2 has no such call: its allocator has no value.
     pub fn allocator(&self) -> Global
@@ -61,7 +61,7 @@ impl<T> Bytes<T> {
         *self.items.allocator()
     }
 
-    /// The storage, to be written, where `shared` is its only owner.
+    /// Returns the storage, to be written, where `shared` is its only owner.
     pub(crate) fn get_mut(shared: &mut Rc<Bytes<T>>) -> Option<&mut Bytes<T>>
         ensures* writes_back { sem 𝓛 (LendsOwned T.row shared.entry result) }
         ensures value { IfSome result (λ bytes. bytes.now ≡ shared.old.value) }
@@ -69,7 +69,7 @@ impl<T> Bytes<T> {
         Rc::get_mut(shared)
     }
 
-    /// The items from `start` up to `end`, to be written.
+    /// Returns the items from `start` up to `end`, to be written.
     pub(crate) fn part_mut(&mut self, start: usize, end: usize) -> &mut [T]
         requires order { start ≤ end }
         requires within { end ≤ length self.old }

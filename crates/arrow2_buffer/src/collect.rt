@@ -5,8 +5,8 @@ ghost use Rattle.std.specs.Iterator.{IsFinite, Yields, YieldsThen, size};
 
 use std::alloc::{AllocError, Global};
 
-/// The least capacity that is reserved: of items of eight bytes a little less than the largest block that glibc keeps at
-/// hand.
+/// The least capacity that is reserved: of items of eight bytes a little less than the largest block that glibc keeps
+/// at hand.
 const LEAST_CAPACITY: usize = 120;
 
 /// The capacity after the first.
@@ -14,8 +14,8 @@ const SECOND_CAPACITY: usize = 512;
 
 /// Returns the items of an iterator that ends, in its order. Does not read its size hint.
 ///
-/// It takes one item and makes room, and then fills the room in a loop of its own, in which the capacity stays: so the
-/// compiler can make it a loop over several items at once.
+/// It takes one item, reserves capacity, and then fills that capacity in a loop of its own in which the capacity stays,
+/// so that the compiler can vectorize it.
 pub(crate) fn collected<T: Drop, I: Iterator<Item = T>>(
     alloc: Global,
     source: I,
@@ -40,7 +40,8 @@ pub(crate) fn collected<T: Drop, I: Iterator<Item = T>>(
     }
 }
 
-/// Returns the items followed by as many of an iterator as there is room for, and whether it may yield more.
+/// Appends items of an iterator while there is spare capacity. Returns the items, and whether the iterator may yield
+/// more.
 fn filled<T: Drop, I: Iterator<Item = T>>(items: Vec<T>, source: &mut I) -> (Vec<T>, bool)
     requires can { I.can_next source.old }
     requires ends { IsFinite (I.remaining source.old) }

@@ -32,11 +32,22 @@ use std::slice::Iter;
 
 /// A list of items that several owners share.
 ///
-/// It is a part of the storage behind an `Rc`: clones and slices share that storage, and take no
-/// memory. Lengths and offsets count items.
+/// It is a part of the storage that an `Rc` holds: clones and slices share that storage, and do not allocate. Lengths
+/// and offsets count items.
 ///
 /// Differs from arrow2: it shares by `Rc` and not across threads, and the slice of its items is
 /// [`Buffer::as_slice`], since there is no `Deref` to a slice.
+///
+/// # Examples
+///
+/// ```rust
+/// use arrow2::buffer::Buffer;
+///
+/// let buffer = Buffer::try_from(vec![in alloc; 1u32, 2, 3]?)?;
+/// assert!(rt; buffer.len() == 3);
+/// let part = buffer.sliced(1, 2);
+/// assert_eq!(rt; part.as_slice(), [2, 3].as_slice());
+/// ```
 #[derive(Drop)]
 pub struct Buffer<T> {
     storage: Rc<Bytes<T>>,
@@ -60,9 +71,9 @@ impl<T> Model for Buffer<T> {
 impl<T> Buffer<T> {
     ghost use Rattle.arrow2_buffer.specs.LentItems.{LendsItems};
 
-    /// How many items it has.
+    /// Returns the number of items.
     ///
-    /// arrow2's documentation says bytes.
+    /// arrow2's documentation counts bytes.
     pub fn len(&self) -> usize
         ensures items { result ≡ length (buffer_items self.now) }
         ensures value { result ≡ self.now.len }
@@ -72,7 +83,7 @@ impl<T> Buffer<T> {
         self.len
     }
 
-    /// The allocator of its storage: what a new buffer beside it is made with.
+    /// Returns the allocator of its storage: a new buffer can be made with it.
     ///
     /// In arrow2 an allocator has no value.
     pub fn allocator(&self) -> Global
@@ -96,14 +107,14 @@ impl<T> Buffer<T> {
         self.storage.as_slice().len() != self.len
     }
 
-    /// The items.
+    /// Returns the items.
     pub fn as_slice(&self) -> &[T]
         ensures { result.now ≡ buffer_items self.now }
     {
         &self.storage.as_slice()[self.offset..self.offset + self.len]
     }
 
-    /// An iterator over the items, each by reference, from both ends.
+    /// Returns an iterator over the items, each by reference, from both ends.
     pub fn iter(&self) -> Iter<'_, T>
         ensures items { iter_rest result ≡ buffer_items self.now }
         ensures runs { IterYieldsInOrder T }
@@ -111,7 +122,7 @@ impl<T> Buffer<T> {
         self.as_slice().iter()
     }
 
-    /// How many items of the storage stand before the first item.
+    /// Returns the number of items of the storage before the first item.
     pub fn offset(&self) -> usize
         ensures { result ≡ self.now.offset }
     {
@@ -120,7 +131,8 @@ impl<T> Buffer<T> {
 
     /// Keeps `length` items from item `offset` on, over the same storage. Does not allocate.
     ///
-    /// Requires that `offset + length` is at most [`Buffer::len`]; arrow2's page speaks of the offset alone.
+    /// Requires that `offset + length` is at most [`Buffer::len`]; arrow2's documentation states a bound for the offset
+    /// alone.
     pub fn slice(&mut self, offset: usize, length: usize)
         requires inside { offset + length ≤ length' (buffer_items self.old) }
         ensures items { buffer_items self.new ≡ part (buffer_items self.old) offset length }
@@ -135,7 +147,7 @@ impl<T> Buffer<T> {
         self.len = length;
     }
 
-    /// The `length` items from item `offset` on, over the same storage. Does not allocate.
+    /// Returns the `length` items from item `offset` on, over the same storage. Does not allocate.
     ///
     /// Requires that `offset + length` is at most [`Buffer::len`].
     pub fn sliced(mut self, offset: usize, length: usize) -> Self
@@ -148,8 +160,8 @@ impl<T> Buffer<T> {
         self
     }
 
-    /// The items, to be written, where no one else shares the storage; `None` elsewhere. Does not allocate. Afterwards
-    /// the buffer holds what was written there, and the rest of the storage is as it was.
+    /// Returns the items, to be written, where no one else shares the storage; `None` elsewhere. Does not allocate.
+    /// Afterwards the buffer holds the items that were written there, and the rest of the storage is as it was.
     ///
     /// A caller that is proved uses [`Buffer::change_slice`], since it learns nothing of a loan inside
     /// an `Option`.
@@ -162,7 +174,7 @@ impl<T> Buffer<T> {
         lend_unshared(&mut self.storage, start, end)
     }
 
-    /// Changes the items in place by `change` where no one else shares the storage, and answers whether it did. Does
+    /// Changes the items in place by `change` where no one else shares the storage, and returns whether it did. Does
     /// not allocate. Requires that `change` may be called on the items.
     ///
     /// arrow2 has [`Buffer::get_mut_slice`] alone.
@@ -180,7 +192,7 @@ impl<T> Buffer<T> {
         change_unshared(&mut self.storage, start, end, change)
     }
 
-    /// The storage whole, the place of the first item there, and how many items there are.
+    /// Returns the whole storage, the index of the first item there, and the number of items.
     pub fn into_inner(self) -> (Rc<Bytes<T>>, usize, usize)
         ensures storage { (result.0.value ≡ self.storage) × (result.1 ≡ self.offset)
             × (result.2 ≡ self.len) }
@@ -189,8 +201,8 @@ impl<T> Buffer<T> {
         (self.storage, self.offset, self.len)
     }
 
-    /// The vector where no one shares the storage and nothing is sliced off, and the buffer itself elsewhere. Either
-    /// side holds the same list. Does not allocate.
+    /// Returns the vector where no one shares the storage and nothing is sliced off, and the buffer itself elsewhere.
+    /// Either side holds the same list. Does not allocate.
     ///
     /// Differs from arrow2, which gives the whole vector of a sliced buffer.
     pub fn into_mut(self) -> Either<Self, Vec<T>>
@@ -216,7 +228,7 @@ impl<T> Buffer<T> {
     }
 }
 
-/// The items from `start` up to `end`, to be written, where no one else shares them.
+/// Returns the items from `start` up to `end`, to be written, where no one else shares them.
 fn lend_unshared<T>(shared: &mut Rc<Bytes<T>>, start: usize, end: usize) -> Option<&mut [T]>
     requires order { start ≤ end }
     requires within { end ≤ length shared.old.value }
@@ -229,8 +241,7 @@ fn lend_unshared<T>(shared: &mut Rc<Bytes<T>>, start: usize, end: usize) -> Opti
     }
 }
 
-/// Changes the items from `start` up to `end` in place where no one else shares them, and answers
-/// whether it did.
+/// Changes the items from `start` up to `end` in place where no one else shares them, and returns whether it did.
 fn change_unshared<T, F: FnOnce(&mut [T])>(
     shared: &mut Rc<Bytes<T>>,
     start: usize,
@@ -257,11 +268,11 @@ fn change_unshared<T, F: FnOnce(&mut [T])>(
 }
 
 impl<T: Drop> Buffer<T> {
-    /// An empty buffer.
+    /// Returns an empty buffer.
     ///
     /// # Errors
     ///
-    /// `OutOfMemory` where the count of its owners finds no memory.
+    /// `OutOfMemory` where the allocation of the reference count fails.
     pub fn new(alloc: Global) -> Result<Self>
         ensures made { IfOk result (λ b. b ≡ whole_buffer []) }
         ensures only { IfErr result (λ e. e ≡ OutOfMemory) }
@@ -269,13 +280,13 @@ impl<T: Drop> Buffer<T> {
         Buffer::try_from(Vec::new(alloc))
     }
 
-    /// The items of an iterator that ends, in its order. Its size hint is not read.
+    /// Returns the items of an iterator that ends, in its order. Its size hint is not read.
     ///
     /// Stands for arrow2's `FromIterator`.
     ///
     /// # Errors
     ///
-    /// `OutOfMemory` where the items, or the count of their owners, find no memory.
+    /// `OutOfMemory` where the allocation of the items or of their reference count fails.
     pub fn try_from_iter<I: IntoIterator<Item = T>>(alloc: Global, iter: I) -> Result<Self>
         requires { (it : I.IntoIter) → I.into_iter_gives iter it →
             I.IntoIter.can_next it × IsFinite (I.IntoIter.remaining it) }
@@ -292,7 +303,7 @@ impl<T: Drop> Buffer<T> {
 ///
 /// # Errors
 ///
-/// `OutOfMemory` where the count of its owners finds no memory. The vector is then dropped.
+/// `OutOfMemory` where the allocation of the reference count fails. The vector is then dropped.
 impl<T: Drop> TryFrom<Vec<T>> for Buffer<T> {
     type Error = Error;
 
@@ -311,7 +322,7 @@ impl<T: Drop> TryFrom<Vec<T>> for Buffer<T> {
     }
 }
 
-/// The item at a place. Requires that there is one.
+/// Returns the item at an index. Requires that there is one.
 impl<T> Index<usize> for Buffer<T> {
     type Output = T;
 
@@ -324,8 +335,7 @@ impl<T> Index<usize> for Buffer<T> {
     }
 }
 
-/// Buffers are equal where their lists are, by the items' own equality, whatever storage is behind
-/// them.
+/// Buffers are equal where their lists are, by the items' own equality, whatever their storage is.
 impl<T: PartialEq> PartialEq for Buffer<T> {
     ghost eq = { on buffer_items (pointwise T.eq) };
 
@@ -354,7 +364,7 @@ impl<T: fmt::Debug> fmt::Debug for Buffer<T> {
     }
 }
 
-/// The same storage, offset and length. Does not allocate: it is refused only where the count of owners is full.
+/// The same storage, offset and length. Does not allocate: it fails only where the reference count would overflow.
 impl<T: Drop> Clone for Buffer<T> {
     ghost is_clone = { λ b copy. copy ≡ b };
 

@@ -62,7 +62,7 @@ impl<T: Copy> Iterator for IntoIter<T> {
         Some(item)
     }
 
-    /// Both bounds are the number of items still to come.
+    /// Returns the number of items still to come as both bounds.
     fn size_hint(&self) -> (usize, Option<usize>)
         ensures exact { (result.0 ≡ length self.now) × (result.1 ≡ Some (length self.now)) }
         ensures lower { IsWithinCount result.0 (item_count (λ s. s) self.now) }
@@ -93,7 +93,7 @@ impl<T: Copy> ExactSizeIterator for IntoIter<T> {
     }
 }
 
-/// The same items still to come. Does not allocate: it is refused only where the count of the buffer's owners is full.
+/// The same items still to come. Does not allocate: it fails only where the buffer's reference count would overflow.
 impl<T: Copy> Clone for IntoIter<T> {
     ghost is_clone = { λ i copy. copy ≡ i };
 

@@ -1,10 +1,10 @@
-//! Laws of what a loan leaves. Each function is its law and nothing else.
+//! Laws of a loan that has ended. Each function is its law and nothing else.
 ghost use Rattle.std.specs.Prelude.{◌≡◌, ◌+◌, ◌≤◌, List, length, take, drop};
 ghost use Rattle.arrow2_model.specs.Buffers.{BufferStorage, buffer_items};
 ghost use Rattle.arrow2_buffer.specs.Lent.{rewritten};
 
-/// Once a buffer's items were lent, those that were written are its items, and what stands before and
-/// behind them in the storage is as it was.
+/// Once a buffer's items were lent, those that were written are its items, and the items of the storage before and
+/// after them are as they were.
 #[tactic(auto, using(crate::proofs::Overwritten::loans))]
 pub fn written_items_are_the_items<T>()
     ensures items { (b : BufferStorage T) (others : List T) → b.offset + b.len ≤ length b.storage →

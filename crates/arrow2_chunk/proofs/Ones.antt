@@ -1,4 +1,4 @@
--- The places of the set bits of a word.
+-- The indices of the set bits of a word.
 use Rattle.std.proofs.Common.{◌≡◌, ℕ, zero, suc, ◌+◌, ◌-◌, ◌*◌, ◌/◌, ◌%◌, ◌^◌, ◌<◌, Bool, List, [], ◌∷◌, length, get_or, drop, set, true, false, refl, ap, sym, ◌∙◌, inl, inr, arith, min, ◌≢◌}
 use Rattle.std.specs.Prelude.{bit_and, count_ones, filter}
 use Rattle.std.specs.Int as width
@@ -17,7 +17,7 @@ use Rattle.arrow2_model.proofs.Bits.{length-unnum}
 use Rattle.arrow2_model.proofs.Numbers.{num-unnum}
 use Rattle.arrow2_model.proofs.Chunks.{word_is, item_is, same_test}
 
--- the same, from place k on
+-- the same, from index k on
 ones_from : ℕ → List Bool → List ℕ
 ones_from k [] = []
 ones_from k (true ∷ items) = k ∷ ones_from (k + 1) items

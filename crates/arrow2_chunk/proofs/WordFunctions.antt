@@ -1,4 +1,4 @@
--- What is known of the functions of a word, at each width.
+-- The facts on the functions of a word, at each width.
 use Rattle.arrow2_model.proofs.Chunks.{chunks, chunk_bytes}
 use Rattle.arrow2_model.proofs.Counts.{counted_words}
 use Rattle.arrow2_model.proofs.Digits.{u8_bytes, unsigned_bytes}

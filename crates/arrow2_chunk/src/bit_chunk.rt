@@ -15,22 +15,22 @@ use num_traits::PrimInt;
 
 /// A word: a list of `WIDTH` bits, the lowest first.
 ///
-/// Differs from arrow2: `to_ne_bytes` and `from_ne_bytes` are little-endian always, and the calls on
-/// bits stand in place of operators of each type.
+/// Differs from arrow2: `to_ne_bytes` and `from_ne_bytes` are little-endian always, and the calls on bits replace the
+/// operators of each type.
 ///
 /// At a type like `u64`, `word.to_ne_bytes()` is u64's own call, whose contract speaks of other things: write
 /// `BitChunk::to_ne_bytes(word)`.
 pub trait BitChunk: PrimInt + NativeType {
-    // How many bits a word has.
+    // The number of bits of a word.
     ghost WIDTH: { ℕ };
 
-    // The number of a word, of which `unnum WIDTH` is the list of bits.
+    // The number of a word, whose list of bits is `unnum WIDTH` of it.
     ghost number: { Self → ℕ };
 
-    /// How many bits a word has.
+    /// The number of bits of a word.
     const WIDTH: usize;
 
-    /// The bytes of the word in little-endian order.
+    /// Returns the bytes of the word in little-endian order.
     fn to_ne_bytes(self) -> Self::Bytes
         ensures digits { Self.Bytes.items result ≡ digits Self.SIZE (pos (number self)) }
         ensures size { length (Self.Bytes.items result) ≡ Self.SIZE }
@@ -38,53 +38,53 @@ pub trait BitChunk: PrimInt + NativeType {
         ensures read_back { natural_from Self.SIZE (Self.Bytes.items result)
             ≡ number self };
 
-    /// The word with these bytes in little-endian order.
+    /// Returns the word with these bytes in little-endian order.
     fn from_ne_bytes(bytes: Self::Bytes) -> Self
         ensures fits { number result < 2 ^ WIDTH }
         ensures value { number result ≡ natural_from Self.SIZE (Self.Bytes.items bytes) };
 
-    /// The word whose bytes these are in little-endian order. Requires as many bytes as a word has.
+    /// Returns the word whose bytes these are in little-endian order. Requires exactly the bytes of a word.
     fn from_ne_slice(bytes: &[u8]) -> Self
         requires { length bytes.now ≡ Self.SIZE }
         ensures fits { number result < 2 ^ WIDTH }
         ensures bits { unnum WIDTH (number result) ≡ bits bytes.now };
 
-    /// Bit `i`. Requires that `i` is below `WIDTH`.
+    /// Returns bit `i`. Requires that `i` is below `WIDTH`.
     fn bit(self, i: usize) -> bool
         requires { i < WIDTH }
         ensures { result ≡ bit (number self) i };
 
-    /// The lowest `len` bits, and false above them. Requires that `len` is at most `WIDTH`.
+    /// Returns the lowest `len` bits, and false above them. Requires that `len` is at most `WIDTH`.
     fn masked(self, len: usize) -> Self
         requires { len ≤ WIDTH }
         ensures fits { number result < 2 ^ WIDTH }
         ensures bits { unnum WIDTH (number result)
             ≡ take len (unnum WIDTH (number self)) ++ replicate (WIDTH - len) false };
 
-    /// The bits that both words have.
+    /// Returns the bits that both words have.
     fn bit_and(self, other: Self) -> Self
         ensures fits { number result < 2 ^ WIDTH }
         ensures bits { unnum WIDTH (number result)
             ≡ zip2 (λ a b. a && b) (unnum WIDTH (number self)) (unnum WIDTH (number other)) };
 
-    /// The bits that one of the words has, or both.
+    /// Returns the bits that one of the words has, or both.
     fn bit_or(self, other: Self) -> Self
         ensures fits { number result < 2 ^ WIDTH }
         ensures bits { unnum WIDTH (number result)
             ≡ zip2 (λ a b. a || b) (unnum WIDTH (number self)) (unnum WIDTH (number other)) };
 
-    /// The bits that one of the words has, and not both.
+    /// Returns the bits that one of the words has, and not both.
     fn bit_xor(self, other: Self) -> Self
         ensures fits { number result < 2 ^ WIDTH }
         ensures bits { unnum WIDTH (number result)
             ≡ zip2 xor (unnum WIDTH (number self)) (unnum WIDTH (number other)) };
 
-    /// The bits that the word lacks.
+    /// Returns the bits that the word lacks.
     fn bit_not(self) -> Self
         ensures fits { number result < 2 ^ WIDTH }
         ensures bits { unnum WIDTH (number result) ≡ map not (unnum WIDTH (number self)) };
 
-    /// Moves bit `i` to `i + k`: what leaves the word is dropped, and false comes in. Requires that `k` is below
+    /// Moves bit `i` to `i + k`: bits that leave the word are dropped, and false comes in. Requires that `k` is below
     /// `WIDTH`.
     fn up(self, k: usize) -> Self
         requires { k < WIDTH }
@@ -92,7 +92,7 @@ pub trait BitChunk: PrimInt + NativeType {
         ensures bits { unnum WIDTH (number result)
             ≡ replicate k false ++ take (WIDTH - k) (unnum WIDTH (number self)) };
 
-    /// Moves bit `i` to `i - k`: what leaves the word is dropped, and false comes in. Requires that `k` is below
+    /// Moves bit `i` to `i - k`: bits that leave the word are dropped, and false comes in. Requires that `k` is below
     /// `WIDTH`.
     fn down(self, k: usize) -> Self
         requires { k < WIDTH }
@@ -106,13 +106,13 @@ pub trait BitChunk: PrimInt + NativeType {
         ensures { ones (unnum WIDTH (number self))
             ≡ result ∷ drop 1 (ones (unnum WIDTH (number self))) };
 
-    /// The word without its lowest set bit, where it has one.
+    /// Returns the word without its lowest set bit, where it has one.
     fn without_first_one(self) -> Self
         ensures fits { number result < 2 ^ WIDTH }
         ensures ones { ones (unnum WIDTH (number result))
             ≡ drop 1 (ones (unnum WIDTH (number self))) };
 
-    /// How many bits are set.
+    /// Returns the number of set bits.
     fn ones_count(self) -> usize
         ensures ones { result
             ≡ length (ones (unnum WIDTH (number self))) }

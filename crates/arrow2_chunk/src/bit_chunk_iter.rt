@@ -1,4 +1,4 @@
-//! Walks over the bits of a word and over the places of its set bits.
+//! Iterates over the bits of a word and over the indices of its set bits.
 ghost use Rattle.std.specs.Prelude.{◌≡◌, ◌≤◌, length, take, Some, IfSome};
 ghost use Rattle.std.specs.Iterator.{YieldsFirst, item_count, UpTo};
 ghost use Rattle.std.specs.Iterator.SizeHint.{IsWithinCount};
@@ -60,7 +60,7 @@ impl<T: BitChunk> Iterator for BitChunkIter<T> {
         Some(item)
     }
 
-    /// Both bounds are the number of items still to come.
+    /// Returns the number of items still to come as both bounds.
     fn size_hint(&self) -> (usize, Option<usize>)
         ensures lower { IsWithinCount result.0 (item_count (λ s. s) self.now) }
         ensures upper { IfSome result.1 (UpTo (item_count (λ s. s) self.now)) }
@@ -115,7 +115,7 @@ impl<T: BitChunk> Iterator for BitChunkOnes<T> {
         Some(index)
     }
 
-    /// Both bounds are the number of indices still to come.
+    /// Returns the number of indices still to come as both bounds.
     fn size_hint(&self) -> (usize, Option<usize>)
         ensures lower { IsWithinCount result.0 (item_count (λ s. s) self.now) }
         ensures upper { IfSome result.1 (UpTo (item_count (λ s. s) self.now)) }

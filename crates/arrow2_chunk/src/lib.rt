@@ -1,4 +1,4 @@
-//! Chunks: words as lists of bits, and walks over their bits.
+//! Chunks: words as lists of bits, and iterators over their bits.
 #![tactic(auto)]
 
 pub mod bit_chunk;

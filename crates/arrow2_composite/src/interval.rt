@@ -17,14 +17,14 @@ use std::ops::Neg;
 pub struct days_ms(pub i32, pub i32);
 
 impl days_ms {
-    /// So many days and milliseconds.
+    /// Returns the interval of `days` days and `milliseconds` milliseconds.
     pub fn new(days: i32, milliseconds: i32) -> days_ms
         ensures { result ≡ record { 0 = days; 1 = milliseconds } }
     {
         days_ms(days, milliseconds)
     }
 
-    /// The number of days.
+    /// Returns the number of days.
     pub fn days(&self) -> i32
         ensures { result ≡ self.now.0 }
     {
@@ -32,7 +32,7 @@ impl days_ms {
         days
     }
 
-    /// The number of milliseconds.
+    /// Returns the number of milliseconds.
     pub fn milliseconds(&self) -> i32
         ensures { result ≡ self.now.1 }
     {
@@ -51,7 +51,7 @@ impl fmt::Display for days_ms {
     }
 }
 
-/// Each part negated. Requires that neither part is the least `i32`, of which arrow2's overflows.
+/// Each part negated. Requires that neither part is the least `i32`, for which arrow2's overflows.
 impl Neg for days_ms {
     type Output = days_ms;
 
@@ -137,14 +137,14 @@ impl NativeType for days_ms {
 pub struct months_days_ns(pub i32, pub i32, pub i64);
 
 impl months_days_ns {
-    /// So many months, days and nanoseconds.
+    /// Returns the interval of `months` months, `days` days and `nanoseconds` nanoseconds.
     pub fn new(months: i32, days: i32, nanoseconds: i64) -> months_days_ns
         ensures { result ≡ record { 0 = months; 1 = days; 2 = nanoseconds } }
     {
         months_days_ns(months, days, nanoseconds)
     }
 
-    /// The number of months.
+    /// Returns the number of months.
     pub fn months(&self) -> i32
         ensures { result ≡ self.now.0 }
     {
@@ -152,7 +152,7 @@ impl months_days_ns {
         months
     }
 
-    /// The number of days.
+    /// Returns the number of days.
     pub fn days(&self) -> i32
         ensures { result ≡ self.now.1 }
     {
@@ -160,7 +160,7 @@ impl months_days_ns {
         days
     }
 
-    /// The number of nanoseconds.
+    /// Returns the number of nanoseconds.
     pub fn ns(&self) -> i64
         ensures { result ≡ self.now.2 }
     {
@@ -180,7 +180,7 @@ impl fmt::Display for months_days_ns {
     }
 }
 
-/// Each part negated. Requires that no part is the least of its type, of which arrow2's overflows.
+/// Each part negated. Requires that no part is the least of its type, for which arrow2's overflows.
 impl Neg for months_days_ns {
     type Output = months_days_ns;
 

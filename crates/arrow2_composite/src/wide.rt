@@ -50,14 +50,14 @@ impl Model for i256 {
 }
 
 impl i256 {
-    /// The number `hi * 2^128 + (lo mod 2^128)`.
+    /// Returns the number `hi * 2^128 + (lo mod 2^128)`.
     pub fn from_words(hi: i128, lo: i128) -> i256
         ensures { result ≡ words_value hi lo }
     {
         i256 { high: hi, low: lo }
     }
 
-    /// The two words that the number is made of, the higher one first.
+    /// Returns the two words that the number is made of, the higher one first.
     pub fn into_words(self) -> (i128, i128)
         ensures { words_value result.0 result.1 ≡ self }
     {

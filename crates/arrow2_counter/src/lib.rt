@@ -17,14 +17,14 @@ impl Model for Tally {
 }
 
 impl Tally {
-    /// The number 0.
+    /// Returns the number 0.
     fn new() -> Tally
         ensures { result.total ≡ 0 }
     {
         Tally {}
     }
 
-    /// The number and so many more.
+    /// Returns `before` with `amount` added.
     fn plus(before: &Tally, amount: &usize) -> Tally
         ensures { result.total ≡ before.now.total + amount.now }
     {
@@ -32,8 +32,8 @@ impl Tally {
     }
 }
 
-/// How often something came: contracts see the number, and no code can read it. It takes no bytes when the program runs,
-/// and none is made of another, so that nothing is counted twice.
+/// How often something came: contracts see the number, and no code can read it. It takes no bytes when the program
+/// runs, and none is made of another, so that nothing is counted twice.
 #[derive(Drop)]
 pub struct Counter {
     tally: Tally,
@@ -48,7 +48,7 @@ impl Model for Counter {
 }
 
 impl Counter {
-    /// A counter at 0.
+    /// Returns a counter at 0.
     pub fn new() -> Counter
         ensures { result ≡ 0 }
     {
@@ -57,7 +57,7 @@ impl Counter {
         }
     }
 
-    /// Counts so many more.
+    /// Adds `count`.
     pub fn add(&mut self, count: usize)
         ensures { self.new ≡ self.old + count }
     {

@@ -25,7 +25,7 @@ accepted_more {X} accepts front n x e =
     ∙ (ap (λ k. accepted accepts front ++ map second (filter test (enumerate_from k (x ∷ [])))) z
     ∙ ap (λ t. accepted accepts front ++ t) (one_accepted accepts n x))))
 
--- the items up to the one at a place, in two
+-- the items up to the one at an index, in two
 taken_more : {X : Type 0} (accepts : ℕ → X → Bool) (first : List X) (n : ℕ) (x : X) → n < length first → x ≡ get_or first n x → accepted accepts (take (n + 1) first) ≡ accepted accepts (take n first) ++ cond (accepts n x) (x ∷ []) []
 taken_more accepts first n x h e =
     ap (accepted accepts) (take_more first n x h ∙ ap (λ y. take n first ++ y ∷ []) (sym e))
@@ -35,25 +35,25 @@ taken_more accepts first n x h e =
 pub length_stays : {X : Type 0} (now then : List X) (i j : ℕ) (x : X) → SwappedAt now then i j → length then ≡ length now
 length_stays now then i j x swapped = ap length (swapped.3 x) ∙ (length-set _ j _ ∙ length-set now i _)
 
--- the front before two places stays where their items are swapped
+-- the items before two indices stay where their items are swapped
 front_stays : {X : Type 0} (now then : List X) (i j : ℕ) (x : X) → i ≤ j → SwappedAt now then i j → take i then ≡ take i now
 front_stays now then i j x h swapped = ap (take i) (swapped.3 x) ∙ (take-set-le i _ j _ h ∙ take-set-le i now i _ (omega arith))
 
--- and so does the back behind them
+-- and so do the items after them
 pub back_stays : {X : Type 0} (now then : List X) (i j : ℕ) (x : X) → i ≤ j → SwappedAt now then i j → drop (j + 1) then ≡ drop (j + 1) now
 back_stays now then i j x h swapped = ap (drop (j + 1)) (swapped.3 x) ∙ (drop-set-lt (j + 1) _ j _ (omega arith) ∙ drop-set-lt (j + 1) now i _ (omega (arith, h)))
 
--- lists that are one from a place on are one from the next place on
+-- lists that are one from an index on are one from the next index on
 pub back_same : {X : Type 0} (first now : List X) (n : ℕ) → drop n now ≡ drop n first → drop (n + 1) now ≡ drop (n + 1) first
 back_same first now n e = sym (drop-drop 1 n now) ∙ (ap (drop 1) e ∙ drop-drop 1 n first)
 
--- what stands at a place, where the lists are one from there on
+-- the item at an index, where the lists are one from there on
 left_at : {X : Type 0} (first now : List X) (n : ℕ) (x : X) → drop n now ≡ drop n first → get_or now n x ≡ get_or first n x
 left_at first now n x e =
     let z : n + 0 ≡ n = omega arith in
     ap (λ k. get_or now k x) (sym z) ∙ (sym (get_or-drop n now 0 x) ∙ (ap (λ t. get_or t 0 x) e ∙ (get_or-drop n first 0 x ∙ ap (λ k. get_or first k x) z)))
 
--- the item at a place was put behind those that are kept
+-- the item at an index was put after those that are kept
 pub kept_more : {X : Type 0} (accepts : ℕ → X → Bool) (first now then : List X) (kept n : ℕ) (x : X) → kept ≤ n → n < length first → length now ≡ length first → drop n now ≡ drop n first → x ≡ get_or now n x → accepts n x ≡ true → SwappedAt now then kept n → take kept now ≡ accepted accepts (take n first) → take (kept + 1) then ≡ accepted accepts (take (n + 1) first)
 kept_more accepts first now then kept n x low inside same_len same here taken swapped done =
     take_more then kept x (omega (arith, low, inside, same_len, length_stays now then kept n x swapped))
@@ -62,7 +62,7 @@ kept_more accepts first now then kept n x low inside same_len same here taken sw
     ∙ (ap (λ b. accepted accepts (take n first) ++ cond b (x ∷ []) []) (sym taken)
     ∙ sym (taken_more accepts first n x inside (here ∙ left_at first now n x same)))))
 
--- the item at a place was passed over
+-- the item at an index was passed over
 pub kept_same : {X : Type 0} (accepts : ℕ → X → Bool) (first now : List X) (kept n : ℕ) (x : X) → n < length first → drop n now ≡ drop n first → x ≡ get_or now n x → accepts n x ≡ false → take kept now ≡ accepted accepts (take n first) → take kept now ≡ accepted accepts (take (n + 1) first)
 kept_same accepts first now kept n x inside same here passed done =
     done

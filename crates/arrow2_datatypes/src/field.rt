@@ -1,4 +1,4 @@
-//! What a column is.
+//! A column's name, type, nullability and metadata.
 ghost use Rattle.std.specs.Prelude.{◌≡◌};
 ghost use Rattle.std.specs.BTreeMap.{IsEmpty};
 
@@ -7,6 +7,15 @@ use std::alloc::Global;
 use std::collections::BTreeMap;
 
 /// A column, or a part of a nested one: a name and a logical type.
+///
+/// # Examples
+///
+/// ```rust
+/// use arrow2::datatypes::{DataType, Field};
+///
+/// let name = String::from_str(alloc, "price")?;
+/// let price = Field::new(alloc, name, DataType::Int64, true);
+/// ```
 #[cycle(types)]
 #[derive(Debug, Clone, PartialEq, Eq, Hash, Drop)]
 pub struct Field {
@@ -14,14 +23,15 @@ pub struct Field {
     pub name: String,
     /// Its logical type.
     pub data_type: DataType,
-    /// Whether nulls may stand in it.
+    /// Whether it may have nulls.
     pub is_nullable: bool,
-    /// What it is annotated with.
+    /// The metadata of the field.
     pub metadata: Metadata,
 }
 
 impl Field {
-    /// A field with no metadata. Does not allocate: `alloc` is for the metadata to come, where arrow2 takes none.
+    /// Returns a field with no metadata. Does not allocate: `alloc` is for the metadata to come, where arrow2 takes
+    /// none.
     pub fn new(alloc: Global, name: String, data_type: DataType, is_nullable: bool) -> Field
         ensures name { result.name ≡ name }
         ensures data_type { result.data_type ≡ data_type }
@@ -36,7 +46,7 @@ impl Field {
         }
     }
 
-    /// The same field with this metadata, in place of its own.
+    /// Returns the same field with this metadata instead of its own.
     pub fn with_metadata(self, metadata: Metadata) -> Field
         ensures { result ≡ record self { metadata = metadata } }
     {

@@ -9,19 +9,19 @@ use crate::{DataType, Field, PhysicalType};
 use std::cmp::PartialEq;
 use std::hash::Hash;
 
-/// The type that stands for a native type is laid out as that native type.
+/// The type of an array of a native type is laid out as that native type.
 #[tactic(auto, using(crate::proofs::Tables::tables))]
 pub fn a_native_type_is_laid_out_as_itself()
     ensures { (p : PrimitiveType) → physical (of_primitive p) ≡ PhysicalType.Primitive p }
 {}
 
-/// A type and the one behind its extensions are laid out alike.
+/// A type and its logical type, without its extensions, have the same layout.
 #[tactic(auto, using(crate::proofs::Tables::tables))]
 pub fn extensions_are_laid_out_as_what_they_extend()
     ensures { (t : DataType) → physical (logical t) ≡ physical t }
 {}
 
-/// The type behind the extensions of a type is no extension: it is its own logical type.
+/// The logical type of a type is no extension: it is its own logical type.
 #[tactic(auto, using(crate::proofs::Tables::tables))]
 pub fn a_logical_type_is_its_own()
     ensures { (t : DataType) → logical (logical t) ≡ logical t }

@@ -1,4 +1,4 @@
-//! What arrays mean and how they are laid out: logical types, physical types, fields and schemas.
+//! The meaning of arrays and their layout: logical types, physical types, fields and schemas.
 #![tactic(auto)]
 
 ghost use Rattle.std.specs.Prelude.{◌≡◌, ◌↔◌, IsTrue, IsOk, IfOk, IfErr, Some, None, if◌then◌else◌, codes};
@@ -18,14 +18,14 @@ pub use schema::Schema;
 use std::collections::BTreeMap;
 use std::rc::Rc;
 
-/// What a field or a schema is annotated with: texts under names.
+/// The metadata of a field or a schema: texts under names.
 pub type Metadata = BTreeMap<String, String>;
 
 /// A schema that several own, all of them on one thread: an `Rc`, where arrow2 has an `Arc`.
 pub type SchemaRef = Rc<Schema>;
 
-/// A logical type: what the values of an array mean. Each has one [`PhysicalType`], which says how they are laid
-/// out. An extension gives a type a name and a text of its own, and is otherwise the type that it extends.
+/// A logical type: the meaning of the values of an array. Each has one [`PhysicalType`], which specifies its layout. An
+/// extension gives a type a name and a text of its own, and is otherwise the type that it extends.
 #[cycle(types)]
 #[derive(Debug, Clone, PartialEq, Eq, Hash, Drop)]
 pub enum DataType {
@@ -56,7 +56,7 @@ pub enum DataType {
     /// Floats of 64 bits.
     Float64,
     /// Points in time, as 64-bit counts of a unit since the start of 1970 in UTC. With a time zone, by its name or as
-    /// an offset such as `+07:30`, they are shown in that zone; without one they stand for themselves.
+    /// an offset such as `+07:30`, they are shown in that zone; without one they have no zone.
     Timestamp(TimeUnit, Option<String>),
     /// Days since the start of 1970, in 32 bits.
     Date32,
@@ -72,7 +72,7 @@ pub enum DataType {
     Interval(IntervalUnit),
     /// Bytes of any length, with offsets of 32 bits.
     Binary,
-    /// So many bytes each.
+    /// Values of the given number of bytes each.
     FixedSizeBinary(usize),
     /// Bytes of any length, with offsets of 64 bits.
     LargeBinary,
@@ -80,26 +80,27 @@ pub enum DataType {
     Utf8,
     /// UTF-8 texts, with offsets of 64 bits.
     LargeUtf8,
-    /// Lists of what the field says, with offsets of 32 bits.
+    /// Lists of the field's type, with offsets of 32 bits.
     List(Box<Field>),
-    /// Lists of so many items each.
+    /// Lists of the given number of items each.
     FixedSizeList(Box<Field>, usize),
-    /// Lists of what the field says, with offsets of 64 bits.
+    /// Lists of the field's type, with offsets of 64 bits.
     LargeList(Box<Field>),
     /// One value of each field.
     Struct(Vec<Field>),
-    /// A value of one of the fields each. The numbers, where they are there, name the fields in turn.
+    /// A value of one of the fields each. The numbers, if any, name the fields in turn.
     Union(Vec<Field>, Option<Vec<i32>>, UnionMode),
-    /// Lists of pairs of a key and a value: the field is a `Struct` of these two. The flag says whether the keys are sorted.
+    /// Lists of pairs of a key and a value: the field is a `Struct` of these two. The flag states whether the keys are
+    /// sorted.
     Map(Box<Field>, bool),
-    /// Indexes of a kind into values of a type. The flag says whether these are sorted.
+    /// Indices of an integer type into values of a type. The flag states whether these are sorted.
     Dictionary(IntegerType, Box<DataType>, bool),
-    /// Decimals in 128 bits, by their precision, which is the number of digits, and their scale, which is how many of
-    /// these stand behind the point: 999.99 has precision 5 and scale 2.
+    /// Decimals in 128 bits, by their precision, which is the number of digits, and their scale, which is the number of
+    /// digits after the point: 999.99 has precision 5 and scale 2.
     Decimal(usize, usize),
     /// The same in 256 bits.
     Decimal256(usize, usize),
-    /// A type under a name of its own, with a text that says more where there is one.
+    /// A type under a name of its own, with optional metadata.
     Extension(String, Box<DataType>, Option<String>),
 }
 
@@ -137,7 +138,7 @@ pub enum IntervalUnit {
 }
 
 impl DataType {
-    /// How its values are laid out: an extension as the type that it extends.
+    /// Returns the layout of its values: for an extension, that of the type that it extends.
     pub fn to_physical_type(&self) -> PhysicalType
         ensures { result ≡ physical self.now }
     {
@@ -185,7 +186,7 @@ impl DataType {
         }
     }
 
-    /// The type itself, or the one behind all its extensions. It is never an extension.
+    /// Returns the type itself, or its logical type, without all its extensions. It is never an extension.
     pub fn to_logical_type(&self) -> &DataType
         ensures { result.now ≡ logical self.now }
     {
@@ -196,7 +197,7 @@ impl DataType {
     }
 }
 
-/// The integers of this kind.
+/// The integers of this type.
 impl From<IntegerType> for DataType {
     ghost from_gives = { λ integer t. t ≡ of_integer integer };
 
@@ -214,8 +215,8 @@ impl From<IntegerType> for DataType {
     }
 }
 
-/// A type whose values are laid out so: that of the same name where there is one, decimals of 32 digits and scale 32 for
-/// the numbers of 128 and 256 bits, and intervals for the spans of time.
+/// A type whose values are laid out so: that of the same name where there is one, decimals of 32 digits and scale 32
+/// for the numbers of 128 and 256 bits, and intervals for the spans of time.
 impl From<PrimitiveType> for DataType {
     ghost from_gives = { λ primitive t. t ≡ of_primitive primitive };
 
@@ -241,7 +242,7 @@ impl From<PrimitiveType> for DataType {
 }
 
 impl UnionMode {
-    /// `Sparse` if so, else `Dense`.
+    /// Returns `Sparse` if `is_sparse`, else `Dense`.
     pub fn sparse(is_sparse: bool) -> UnionMode
         ensures { result ≡ (if is_sparse then UnionMode.Sparse else UnionMode.Dense) }
     {
@@ -267,7 +268,7 @@ impl UnionMode {
     }
 }
 
-/// The extension that a field's metadata names: the text under `ARROW:extension:name`, and the one under
+/// Returns the extension that a field's metadata names: the text under `ARROW:extension:name`, and the one under
 /// `ARROW:extension:metadata` where it is there. `None` where the name is not there, whatever else is.
 ///
 /// arrow2 returns no `Result`.

@@ -6,11 +6,11 @@ pub use arrow2_types::primitive::PrimitiveType;
 /// How the values of an array are laid out in memory. Several logical types may share one.
 #[derive(Debug, Clone, Copy, PartialEq, Eq, Hash)]
 pub enum PhysicalType {
-    /// No memory at all.
+    /// No buffer at all.
     Null,
     /// One bit a value.
     Boolean,
-    /// Values of a native type, one behind the other.
+    /// Values of a native type, one after the other.
     Primitive(PrimitiveType),
     /// Bytes of any length, with offsets of 32 bits.
     Binary,
@@ -34,11 +34,11 @@ pub enum PhysicalType {
     Union,
     /// Lists of pairs of a key and a value.
     Map,
-    /// Indexes of a kind into an array of values.
+    /// Indices of an integer type into an array of values.
     Dictionary(IntegerType),
 }
 
-/// The kinds of integers that may index a dictionary.
+/// The integer types that may index a dictionary.
 #[derive(Debug, Clone, Copy, PartialEq, Eq, Hash)]
 pub enum IntegerType {
     /// A signed integer of 8 bits.

@@ -1,4 +1,4 @@
-//! What the columns of a table are.
+//! The columns of a table.
 ghost use Rattle.std.specs.Prelude.{◌≡◌, ℕ, Bool, length};
 ghost use Rattle.std.specs.BTreeMap.{IsEmpty};
 ghost use Rattle.arrow2_datatypes.specs.declared.field.Field.{Field};
@@ -8,17 +8,28 @@ use crate::{Field, Metadata};
 use std::alloc::Global;
 use std::collections::BTreeMap;
 
-/// Fields in order, with what they are annotated with together.
+/// Fields in order, with their common metadata.
+///
+/// # Examples
+///
+/// ```rust
+/// use arrow2::datatypes::{DataType, Field, Schema};
+///
+/// let name = String::from_str(alloc, "price")?;
+/// let price = Field::new(alloc, name, DataType::Int64, true);
+/// let schema = Schema::from_fields(alloc, vec![in alloc; price]?);
+/// assert!(rt; schema.fields.len() == 1);
+/// ```
 #[derive(Debug, Clone, PartialEq, Eq, Drop)]
 pub struct Schema {
     /// The fields.
     pub fields: Vec<Field>,
-    /// What the schema is annotated with.
+    /// The metadata of the schema.
     pub metadata: Metadata,
 }
 
 impl Schema {
-    /// The schema of these fields, with no metadata. Does not allocate.
+    /// Returns the schema of these fields, with no metadata. Does not allocate.
     ///
     /// Stands for arrow2's `From`, and with no fields for its `Default`.
     pub fn from_fields(alloc: Global, fields: Vec<Field>) -> Schema
@@ -31,7 +42,7 @@ impl Schema {
         }
     }
 
-    /// The same fields with this metadata, in place of its own.
+    /// Returns the same fields with this metadata instead of its own.
     pub fn with_metadata(self, metadata: Metadata) -> Schema
         ensures fields { result.fields ≡ self.fields }
         ensures metadata { result.metadata ≡ metadata }
@@ -42,9 +53,9 @@ impl Schema {
         }
     }
 
-    /// The schema of the fields that the predicate accepts, each by its place among all of them and by itself, in
-    /// order. The metadata stays. Does not allocate. Requires that the predicate may be called at each place and the
-    /// field there.
+    /// Returns the schema of the fields that the predicate accepts, in order. The predicate gets the index of each
+    /// field and the field. The metadata stays. Does not allocate. Requires that the predicate may be called with each
+    /// index and the field there.
     pub fn filter<F: Fn(usize, &Field) -> bool>(self, predicate: F) -> Schema
         requires { MayBeAsked (F.pre predicate) self.fields.items }
         ensures fields { (accepts : ℕ → Field → Bool) →

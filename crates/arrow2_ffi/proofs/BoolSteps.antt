@@ -15,7 +15,7 @@ first_block items block x h is front size =
     let same : block ≡ take 64 items = sym (take_all 64 block (omega (arith, size))) ∙ (ap (λ (n : ℕ). take n block) (sym l) ∙ front) in
     is ∙ ap num same
 
--- those behind them begin at the next word
+-- those after them begin at the next word
 pub next_block : (items : List Bool) (j : ℕ) → 64 ≤ length items → word 64 (take (length items - 64) (drop 64 items)) j ≡ word 64 items (j + 1)
 next_block items j h =
     let l = length-drop 64 items in

@@ -1,4 +1,4 @@
--- What a call on offsets has done at each of its codes.
+-- The state after a call on offsets, for each of its codes.
 use Rattle.std.proofs.Common.{◌≢◌, ℕ, List, inl, inr, refl, arith}
 use Rattle.std.specs.Prelude.{ℤ}
 use Rattle.arrow2_offset.specs.Offsets.{AreOffsets}
@@ -28,7 +28,7 @@ ill_fitting xs are mis same = record {
   refused = λ _. same;
 }
 
--- the call did what it says
+-- the call succeeded
 pub written : {misfits done unchanged : Type 0} (xs : List ℤ) → AreOffsets xs → (misfits → ⊥) → done → WritesFromOffsets xs ARROW2_OK misfits done unchanged
 written xs are fit is = record {
   broken = λ out. absurd (out are);
@@ -73,7 +73,7 @@ beyond_or second xs apart not_ok are fit over same = record {
   refused = λ _. same;
 }
 
--- the call did what it says
+-- the call succeeded
 pub written_or : {misfits beyond done unchanged : Type 0} (second : ℕ) (xs : List ℤ) → second ≢ ARROW2_OK → AreOffsets xs → (misfits → ⊥) → (beyond → ⊥) → done → WritesFromOffsetsOr second xs ARROW2_OK misfits beyond done unchanged
 written_or second xs not_ok are fit under is = record {
   broken = λ out. absurd (out are);

@@ -1,4 +1,4 @@
--- Places of set bits, written word by word.
+-- Indices of set bits, written word by word.
 use Rattle.std.proofs.Common.{◌≡◌, ℕ, zero, suc, ◌+◌, ◌-◌, ◌*◌, ◌^◌, ◌<◌, ◌≤◌, List, [], ◌∷◌, ◌++◌, Bool, true, false, length, map, take, drop, get_or, replicate, ap, sym, subst, ◌∙◌, refl, arith}
 use Rattle.std.specs.Prelude.{cond}
 use Rattle.std.specs.List.{All, filter, range_with_len}
@@ -13,9 +13,9 @@ use Rattle.arrow2_model.proofs.Walks.{length-part_bits}
 use Rattle.arrow2_chunk.specs.Ones.{ones}
 use Rattle.arrow2_ffi.specs.Places.{ones_from}
 
--- ---- the places of set items, by their numbers
+-- ---- the indices of set bits, by their numbers
 
--- those among n places from `at` on
+-- those among n indices from `at` on
 abbrev set_among : List Bool → ℕ → ℕ → List ℕ
 set_among items at n = filter (λ k. get_or items k false) (range_with_len at n)
 
@@ -37,13 +37,13 @@ ones_among items at =
     moved_filter (λ k. get_or items k false) (λ k. get_or (drop at items) k false) at 0 (length (drop at items)) (λ i. get_or-drop at items i false)
     ∙ (rw (length-drop at items, e) refl)
 
--- ---- places in order
+-- ---- indices in order
 
 cond_append : (b : Bool) (x : ℕ) (xs ys : List ℕ) → cond b (x ∷ (xs ++ ys)) (xs ++ ys) ≡ cond b (x ∷ xs) xs ++ ys
 cond_append true x xs ys = refl
 cond_append false x xs ys = refl
 
--- those among m places, and those among n behind them
+-- those among m indices, and those among n after them
 among_append : (p : ℕ → Bool) (a m n : ℕ) → filter p (range_with_len a (m + n)) ≡ filter p (range_with_len a m) ++ filter p (range_with_len (a + m) n)
 among_append p a zero n =
     let e : a + 0 ≡ a = omega arith in
@@ -55,7 +55,7 @@ among_append p a (suc m) n =
     let others = among_append p (a + 1) m n in
     rw (l, e, others) (cond_append (p a) a (filter p (range_with_len (a + 1) m)) (filter p (range_with_len (a + 1 + m) n)))
 
--- tests that agree among n places
+-- tests that agree at n indices
 same_among : (p q : ℕ → Bool) (a n : ℕ) → ((k : ℕ) → a ≤ k → k < a + n → p k ≡ q k) → filter p (range_with_len a n) ≡ filter q (range_with_len a n)
 same_among p q a zero h = refl
 same_among p q a (suc n) h =
@@ -71,7 +71,7 @@ none_among p a (suc n) h =
     let others = none_among p (a + 1) n (λ k l m. h k (omega arith) (omega arith)) in
     rw (here, others) refl
 
--- those behind a place begin with it
+-- those after an index begin with it
 record Behind (p : ℕ → Bool) (a m x : ℕ) (others : List ℕ) : Type 0 where
   from : a ≤ x
   below : x < a + m
@@ -110,36 +110,36 @@ behind p a zero x front others e =
     absurd no
 behind p a (suc m) x front others e = behind_test p a m x front others (p a) refl (λ f h. behind p (a + 1) m x f others h) e
 
--- those from a place on begin with it
+-- those from an index on begin with it
 pub from_place : (items : List Bool) (at x : ℕ) (front others : List ℕ) → at ≤ length items → ones_from items at ≡ front ++ x ∷ others → (at ≤ x) × (x < length items) × (ones_from items x ≡ x ∷ others)
 from_place items at x front others within e =
     let b = behind (λ k. get_or items k false) at (length items - at) x front others (sym (ones_among items at) ∙ e) in
     let n : at + (length items - at) - x ≡ length items - x = omega arith in
     (b.from, omega (arith, b.below), ones_among items x ∙ subst (λ m. set_among items x m ≡ x ∷ others) n b.rest)
 
--- no place is left at the end
+-- no index is left at the end
 pub none_from : (items : List Bool) (at : ℕ) → length items ≡ at → ones_from items at ≡ []
 none_from items at e =
     let n : length items - at ≡ 0 = omega (arith, e) in
     ones_among items at ∙ ap (set_among items at) n
 
--- ---- places that fit a `usize`
+-- ---- indices that fit a `usize`
 
 -- each is below the length
 pub below : (items : List Bool) (at : ℕ) → at ≤ length items → length items < 2 ^ 64 → All (λ place. place < 2 ^ 64) (ones_from items at)
 below items at within small = rw (ones_among items at) (All-filter (λ k. get_or items k false) (λ place. place < 2 ^ 64) (range_with_len at (length items - at))
     (λ k d m. let n = length-range_with_len at (length items - at) in rw (get_or-range_with_len at (length items - at) k d (omega (arith, m, n))) (omega (arith, m, n))))
 
--- those in front of others
+-- those before others
 pub front_below : (xs ys : List ℕ) → All (λ place. place < 2 ^ 64) (xs ++ ys) → All (λ place. place < 2 ^ 64) xs
 front_below xs ys h k d m =
     let n = length-append xs ys in
     subst (λ x. x < 2 ^ 64) (get_or_append_left xs ys d k m) (h k d (omega (arith, m, n)))
 
--- ---- the places in one word
+-- ---- the indices in one word
 
 module _ (bytes : List ℕ) (offset end : ℕ) (inside : offset + end ≤ 8 * length bytes) where
-  -- those in a word of the bits from `base` on, and those behind it
+  -- those in a word of the bits from `base` on, and those after it
   pub word_step : (base held read word : ℕ) → base + held ≤ end → held ≤ 64
       → ((i : ℕ) → i < 64 → bit read i ≡ get_or (bits bytes) (offset + (base + i)) false)
       → unnum 64 word ≡ take held (unnum 64 read) ++ replicate (64 - held) false

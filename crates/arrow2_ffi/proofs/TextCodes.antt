@@ -1,4 +1,4 @@
--- What the check of texts says where the numbers are no offsets.
+-- The result of the check of texts where the numbers are no offsets.
 use Rattle.std.proofs.Common.{◌≡◌, ◌∙◌, ℕ, List, length, sym, arith}
 use Rattle.std.specs.Prelude.{ℤ}
 use Rattle.arrow2_offset.specs.Offsets.{AreOffsets}

@@ -1,10 +1,10 @@
--- What an export has done at each of its codes.
+-- The state after a call of an export, for each of its codes.
 use Rattle.std.proofs.Common.{ℕ, inl, refl, arith}
 use Rattle.arrow2_ffi.specs.declared.codes.TheConstants.{ARROW2_OK}
 use Rattle.arrow2_ffi.specs.Writes.{Writes}
 
 module _ {inside holds done unchanged : Type 0} where
-  -- the call did what it says
+  -- the call succeeded
   pub wrote : inside → holds → done → Writes ARROW2_OK inside holds done unchanged
   wrote all as_many is = record {
     range = (λ e. absurd (omega (arith, e)), λ out. absurd (out all));
@@ -14,7 +14,7 @@ module _ {inside holds done unchanged : Type 0} where
     refused = λ other. absurd (other refl);
   }
 
-  -- what was done says something else
+  -- the fact at success may be replaced by a consequence of it
   pub told : {other : Type 0} (code : ℕ) → (done → other) → Writes code inside holds done unchanged → Writes code inside holds other unchanged
   told code says w = record {
     range = w.range;

@@ -1,4 +1,4 @@
--- Offsets beside what they cut: what the code of a check says, and the index that it writes.
+-- Offsets together with the items that they cut: the code of a check, and the index that it writes.
 use Rattle.std.specs.Prelude.{◌≡◌, ◌≢◌, ℕ, ◌+◌, ◌-◌, ◌<◌, ◌≤◌, ◌↔◌, ℤ, pos, ◌<ℤ◌, ◌≤ℤ◌, List, length, slice_index_or}
 use Rattle.arrow2_offset.specs.Offsets.{AreOffsets, last_of}
 use Rattle.arrow2_offset.specs.Refused.{first_broken}
@@ -21,7 +21,7 @@ pub record IsFirstPast (xs : List ℤ) (n k : ℕ) : Type 0 where
 
 -- the code of a check that numbers are offsets into n items, and the index that it writes
 pub record ChecksOffsets (code : ℕ) (xs : List ℤ) (n old new : ℕ) : Type 0 where
-  -- it is that of a call that did what it says exactly where they are, and the last one is at most n
+  -- it is that of success exactly where they are, and the last one is at most n
   pub ok : (code ≡ ARROW2_OK) ↔ (AreOffsets xs × (last_of xs ≤ n))
   -- for numbers that are not offsets it is that of the rule which they break first
   pub broken : ¬ AreOffsets xs → code ≡ rule_code (first_broken xs)
@@ -35,9 +35,10 @@ pub record ChecksOffsets (code : ℕ) (xs : List ℤ) (n old new : ℕ) : Type 0
 
 -- the code of a check that numbers are offsets, and the values of each slot UTF-8
 pub record ChecksTexts (code : ℕ) (xs : List ℤ) (values : List ℕ) (old new : ℕ) : Type 0 where
-  -- it is that of a call that did what it says exactly where this is so
+  -- it is that of success exactly where this is so
   pub ok : (code ≡ ARROW2_OK) ↔ (AreOffsets xs × AreTexts xs values)
-  -- where it is that of values that are not UTF-8, the numbers are offsets and inside, and the first such slot was written
+  -- where it is that of values that are not UTF-8, the numbers are offsets and inside, and the first such slot was
+  -- written
   pub utf8 : code ≡ ARROW2_UTF8 → AreOffsets xs × (last_of xs ≤ length values) × IsFirstBroken (slot_values xs values) new
   -- any other is that of the offsets
   pub other : code ≢ ARROW2_OK → code ≢ ARROW2_UTF8 → ChecksOffsets code xs (length values) old new

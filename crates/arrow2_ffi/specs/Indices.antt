@@ -1,4 +1,4 @@
--- Indices into a dictionary, of which some may be null.
+-- Indices into a dictionary, some of which may be null.
 use Rattle.std.specs.Prelude.{◌≡◌, ◌≢◌, ℕ, ◌<◌, ◌↔◌, ◌⊎◌, ℤ, pos, ◌<ℤ◌, ◌≤ℤ◌, List, length, Bool, false, Option, slice_index_or}
 use Rattle.std.specs.Bool.{IsTrue}
 use Rattle.arrow2_ffi.specs.declared.codes.TheConstants.{ARROW2_OK, ARROW2_RANGE, ARROW2_INDEX}
@@ -22,7 +22,7 @@ pub record IsFirstOutside (xs : List ℤ) (valid : List Bool) (n k : ℕ) : Type
 pub record ChecksIndices (code : ℕ) (xs : List ℤ) (validity : Option (List ℕ × ℕ)) (n old new : ℕ) : Type 0 where
   -- it is that of ranges exactly where the validity has too few bits
   pub range : (code ≡ ARROW2_RANGE) ↔ ¬ SaysOf validity (length xs)
-  -- that of a call that did what it says exactly where it has enough, and each item is null or an index
+  -- that of success exactly where it has enough, and each item is null or an index
   pub ok : (code ≡ ARROW2_OK) ↔ (SaysOf validity (length xs) × ((k : ℕ) → k < length xs → IsIndexOrNull xs (valid_items validity (length xs)) n k))
   -- else it is that of indices
   pub only : (code ≡ ARROW2_OK) ⊎ (code ≡ ARROW2_RANGE) ⊎ (code ≡ ARROW2_INDEX)

@@ -1,4 +1,4 @@
--- Kleene's logic on bits in memory: what the code of a call says, and what it wrote.
+-- Kleene's logic on bits in memory: the code of a call, and the bits that it wrote.
 use Rattle.std.specs.Prelude.{◌≡◌, ℕ, List, [], ◌∷◌, Bool, true, Option, take}
 use Rattle.arrow2_model.specs.Bits.{bits}
 use Rattle.arrow2_model.specs.Parts.{part}
@@ -32,7 +32,7 @@ values_of left right = left.values ∷ right.values ∷ []
 abbrev pub parts_of : Input → Input → List (List ℕ × ℕ)
 parts_of left right = left.values ∷ left.validity ∷ right.values ∷ right.validity ∷ []
 
--- what f makes of n items is stored, by a table of the values and one of which of them are known
+-- the n items that f makes are stored, by a table of the values and one of which of them are known
 pub record StoresKleene (f : Option Bool → Option Bool → Option Bool) (t known n : ℕ) (left right : Input) (new_values new_validity : List ℕ) : Type 0 where
   -- item by item
   pub items : zipped (take n (bits new_values)) (take n (bits new_validity)) ≡ by_items f (items_of n left) (items_of n right)
@@ -65,17 +65,17 @@ first_valid n x = valid_items x.validity n
 abbrev pub IsWholeInside : ℕ → OptionalInput → Type 0
 IsWholeInside n x = IsInside x.values.0 x.values.1 n × SaysOf x.validity n
 
--- a table of three inputs, of value and validity of an item and of the value of one that is not null, answers what a table of
--- four does
+-- a table of three inputs, of value and validity of an item and of the value of one that is not null, has the outputs
+-- of a table of four
 pub record IsBeside (beside known : ℕ) : Type 0 where
   -- where the second item is the one that is not null
   pub second : (a n b : Bool) → answer beside (a ∷ n ∷ b ∷ []) ≡ answer known (a ∷ n ∷ b ∷ true ∷ [])
   -- where the first one is
   pub first : (a b m : Bool) → answer beside (b ∷ m ∷ a ∷ []) ≡ answer known (a ∷ true ∷ b ∷ m ∷ [])
-  -- and where neither is null the table of four answers true
+  -- and where neither is null the output of the table of four is true
   pub both : (a b : Bool) → answer known (a ∷ true ∷ b ∷ true ∷ []) ≡ true
 
--- what f makes of n items is stored, by a table of the values and one of which of them are known
+-- the n items that f makes are stored, by a table of the values and one of which of them are known
 pub record StoresOptionalKleene (f : Option Bool → Option Bool → Option Bool) (t known n : ℕ) (left right : OptionalInput) (new_values new_validity : List ℕ) : Type 0 where
   -- item by item
   pub items : zipped (take n (bits new_values)) (take n (bits new_validity)) ≡ by_items f (zipped (first_values n left) (first_valid n left)) (zipped (first_values n right) (first_valid n right))

@@ -1,4 +1,4 @@
--- What the code of an export on offsets says.
+-- The code of an export on offsets.
 use Rattle.std.specs.Prelude.{◌≡◌, ◌≢◌, ℕ, ℤ, ◌↔◌, ◌⊎◌, List}
 use Rattle.arrow2_offset.specs.Offsets.{AreOffsets}
 use Rattle.arrow2_offset.specs.Refused.{first_broken}
@@ -11,14 +11,14 @@ pub record WritesFromOffsets (xs : List ℤ) (code : ℕ) (misfits done unchange
   pub broken : ¬ AreOffsets xs → code ≡ rule_code (first_broken xs)
   -- for offsets it is that of lengths exactly where the slice misfits
   pub length : AreOffsets xs → ((code ≡ ARROW2_LENGTH) ↔ misfits)
-  -- else it says that the call did what it says
+  -- else it is that of success
   pub only : AreOffsets xs → (code ≡ ARROW2_OK) ⊎ (code ≡ ARROW2_LENGTH)
   -- and then it did
   pub ok : code ≡ ARROW2_OK → done
   -- with any other code nothing was written
   pub refused : code ≢ ARROW2_OK → unchanged
 
--- the same of a call with a second code, for what is beyond a bound
+-- the same of a call with a second code, for an index beyond a bound
 pub record WritesFromOffsetsOr (second_code : ℕ) (xs : List ℤ) (code : ℕ) (misfits beyond done unchanged : Type 0) : Type 0 where
   -- for numbers that are not offsets it is that of the rule which they break first
   pub broken : ¬ AreOffsets xs → code ≡ rule_code (first_broken xs)
@@ -26,7 +26,7 @@ pub record WritesFromOffsetsOr (second_code : ℕ) (xs : List ℤ) (code : ℕ) 
   pub length : AreOffsets xs → ((code ≡ ARROW2_LENGTH) ↔ misfits)
   -- it is the second one exactly where the slice fits and something is beyond it
   pub second : AreOffsets xs → ((code ≡ second_code) ↔ ((code ≢ ARROW2_LENGTH) × beyond))
-  -- else it says that the call did what it says
+  -- else it is that of success
   pub only : AreOffsets xs → (code ≡ ARROW2_OK) ⊎ (code ≡ ARROW2_LENGTH) ⊎ (code ≡ second_code)
   -- and then it did
   pub ok : code ≡ ARROW2_OK → done

@@ -1,4 +1,4 @@
--- What an export tests of the ranges and slices that it is given.
+-- The tests of an export on the ranges and slices that it gets.
 use Rattle.std.specs.Prelude.{◌≡◌, ℕ, ◌+◌, ◌*◌, ◌/◌, ◌≤◌, List, [], ◌∷◌, Bool, length, map}
 use Rattle.arrow2_model.specs.Bits.{bits}
 use Rattle.arrow2_model.specs.Parts.{part}
@@ -8,16 +8,16 @@ use Rattle.arrow2_ffi.specs.declared.ranges.Bits.{Bits}
 abbrev pub IsInside : List ℕ → ℕ → ℕ → Type 0
 IsInside bytes o n = o + n ≤ 8 * length bytes
 
--- the same of each of these bytes, from the bit beside them on
+-- the same of each of these bytes, from the bit paired with them on
 abbrev pub AreInside : ℕ → List (List ℕ × ℕ) → Type 0
 AreInside n [] = Unit {0}
 AreInside n (input ∷ inputs) = IsInside input.0 input.1 n × AreInside n inputs
 
--- n bits of each of these bytes, from the bit beside them on
+-- n bits of each of these bytes, from the bit paired with them on
 abbrev pub inputs_of : ℕ → List (List ℕ × ℕ) → List (List Bool)
 inputs_of n inputs = map (λ input. part (bits input.0) input.1 n) inputs
 
--- there are as many bytes as n bits need
+-- the bytes are exactly those that n bits need
 abbrev pub Holds : List ℕ → ℕ → Type 0
 Holds bytes n = length bytes ≡ (n + 7) / 8
 

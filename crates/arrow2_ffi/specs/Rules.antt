@@ -18,5 +18,5 @@ pub record TellsBroken (code : ℕ) (xs : List ℤ) : Type 0 where
   pub broken : ¬ AreOffsets xs
   -- the code is that of the rule which it breaks first
   pub rule : code ≡ rule_code (first_broken xs)
-  -- so it is not that of a call that did what it says
+  -- so it is not that of success
   pub other : code ≢ ARROW2_OK

@@ -14,12 +14,12 @@ abbrev pub validity_of : Option Bits → Option (List ℕ × ℕ)
 validity_of None = None
 validity_of (Some b) = Some (b.0.now, b.1)
 
--- which of n items it says are not null
+-- which of n items are not null by it
 abbrev pub valid_items : Option (List ℕ × ℕ) → ℕ → List Bool
 valid_items None n = replicate n true
 valid_items (Some v) n = part (bits v.0) v.1 n
 
--- it says so of n items
+-- it has a bit for each of n items
 abbrev pub SaysOf : Option (List ℕ × ℕ) → ℕ → Type 0
 SaysOf None n = Unit {0}
 SaysOf (Some v) n = IsInside v.0 v.1 n

@@ -1,5 +1,5 @@
-//! Truth tables in place: the first input stands from bit 0 on in bytes that are as many as hold it, and the answers are
-//! written over it. Spare bits become 0, whatever they were.
+//! Truth tables in place: the first input is the bits from bit 0 on of bytes that have exactly the length it needs, and
+//! the outputs are written over it. Padding bits become 0, whatever they were.
 ghost use Rattle.std.specs.Prelude.{[], ◌∷◌};
 ghost use Rattle.arrow2_ffi.specs.Writes.{WritesTableInPlace};
 
@@ -8,10 +8,10 @@ use crate::ranges::{Bits, are_both_inside, are_inside, hold};
 use crate::rows::{assign_four, assign_three, assign_two};
 use arrow2_kernels::lane_assigned::assign_unary;
 
-/// Writes the answers of a table of one input for the first `length` bits in their place.
+/// Replaces the first `length` bits by the outputs of a table of one input.
 ///
-/// `ARROW2_RANGE` exactly where the table is above 3, else `ARROW2_LENGTH` exactly where the bytes are not as many as hold
-/// the bits.
+/// `ARROW2_RANGE` exactly where the table is above 3, else `ARROW2_LENGTH` exactly where the bytes are not exactly
+/// those that the bits need.
 #[unsafe(no_mangle)]
 pub extern "C" fn arrow2_unary_assign_table(bytes: &mut [u8], length: usize, table: u16) -> u32
     ensures { WritesTableInPlace result 4 table length [] bytes.old bytes.new }
@@ -26,11 +26,11 @@ pub extern "C" fn arrow2_unary_assign_table(bytes: &mut [u8], length: usize, tab
     ARROW2_OK
 }
 
-/// Writes the answers of a table of two inputs for the first `length` bits, and for as many of the second input, in
-/// their place.
+/// Replaces the first `length` bits by the outputs of a table of two inputs for them and for `length` bits of the
+/// second input.
 ///
-/// `ARROW2_RANGE` exactly where the table is above 15 or bits are not inside, else `ARROW2_LENGTH` exactly where the bytes
-/// are not as many as hold the bits.
+/// `ARROW2_RANGE` exactly where the table is above 15 or bits are not inside, else `ARROW2_LENGTH` exactly where the
+/// bytes are not exactly those that the bits need.
 #[unsafe(no_mangle)]
 pub extern "C" fn arrow2_binary_assign_table(
     bytes: &mut [u8],
@@ -55,8 +55,8 @@ pub extern "C" fn arrow2_binary_assign_table(
 
 /// The same of a table of three inputs.
 ///
-/// `ARROW2_RANGE` exactly where the table is above 255 or bits are not inside, else `ARROW2_LENGTH` exactly where the bytes
-/// are not as many as hold the bits.
+/// `ARROW2_RANGE` exactly where the table is above 255 or bits are not inside, else `ARROW2_LENGTH` exactly where the
+/// bytes are not exactly those that the bits need.
 #[unsafe(no_mangle)]
 pub extern "C" fn arrow2_ternary_assign_table(
     bytes: &mut [u8],
@@ -84,8 +84,8 @@ pub extern "C" fn arrow2_ternary_assign_table(
 
 /// The same of a table of four inputs.
 ///
-/// `ARROW2_RANGE` exactly where bits are not inside, else `ARROW2_LENGTH` exactly where the bytes are not as many as hold
-/// the bits.
+/// `ARROW2_RANGE` exactly where bits are not inside, else `ARROW2_LENGTH` exactly where the bytes are not exactly those
+/// that the bits need.
 #[unsafe(no_mangle)]
 pub extern "C" fn arrow2_quaternary_assign_table(
     bytes: &mut [u8],

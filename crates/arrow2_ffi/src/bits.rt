@@ -86,10 +86,11 @@ pub extern "C" fn arrow2_set_bit(bytes: &mut [u8], index: usize, value: bool) ->
     ARROW2_OK
 }
 
-/// Copies the `length` bits from bit `offset` on over `out`, from bit 0 on. It has as many bytes as hold them, and its
-/// spare bits become 0.
+/// Copies the `length` bits from bit `offset` on over `out`, from bit 0 on. It has exactly the bytes that hold them,
+/// and its padding bits become 0.
 ///
-/// `ARROW2_RANGE` exactly where they are not inside the bytes, else `ARROW2_LENGTH` exactly where `out` has another length.
+/// `ARROW2_RANGE` exactly where they are not inside the bytes, else `ARROW2_LENGTH` exactly where `out` has another
+/// length.
 #[unsafe(no_mangle)]
 pub extern "C" fn arrow2_copy_bits(
     bytes: &[u8],

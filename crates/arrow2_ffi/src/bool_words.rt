@@ -6,7 +6,7 @@ use arrow2_chunk::bit_chunk::BitChunk;
 use arrow2_growth::packed::{padded, word_of};
 use arrow2_kernels::rows::WordRows;
 
-/// Booleans, of which each 64 are a row of one word.
+/// Booleans, each 64 of which are a row of one word.
 #[derive(Drop)]
 pub(crate) struct BoolWords<'a> {
     /// Those still to come.

@@ -11,8 +11,8 @@ use crate::ranges::{Bits, are_inside, hold};
 use arrow2_bits::get_bit_from;
 use arrow2_kernels::assigned::assign_rows;
 
-/// Writes the booleans as bits over `out`, from bit 0 on. It has as many bytes as hold them, and its spare bits become
-/// 0.
+/// Writes the booleans as bits over `out`, from bit 0 on. It has exactly the bytes that hold them, and its padding bits
+/// become 0.
 ///
 /// `ARROW2_LENGTH` exactly where it has another length.
 #[unsafe(no_mangle)]
@@ -27,7 +27,7 @@ pub extern "C" fn arrow2_pack(items: &[bool], out: &mut [u8]) -> u32
     ARROW2_OK
 }
 
-/// Writes as many bits as `out` has items, from bit `offset` on, as booleans.
+/// Fills `out` with the bits from bit `offset` on, as booleans.
 ///
 /// `ARROW2_RANGE` exactly where they are not inside the bytes.
 #[unsafe(no_mangle)]
@@ -43,7 +43,7 @@ pub extern "C" fn arrow2_unpack(bytes: &[u8], offset: usize, out: &mut [bool]) -
     ARROW2_OK
 }
 
-/// Writes the booleans as bits, by words. Requires as many bytes as hold them.
+/// Writes the booleans as bits, by words. Requires exactly the bytes that hold them.
 fn write_packed(items: &[bool], out: &mut [u8])
     requires exact { Holds out.old (length items.now) }
     ensures { Stores out.new (length items.now) items.now }
@@ -56,7 +56,7 @@ fn write_packed(items: &[bool], out: &mut [u8])
     );
 }
 
-/// Writes as many bits as `out` has items as booleans. Requires that they are inside.
+/// Fills `out` with bits, as booleans. Requires that they are inside.
 fn write_unpacked(bits: Bits<'_>, out: &mut [bool])
     requires inside { HasBits bits (length out.old) }
     ensures { out.new ≡ first_bits bits.entry (length out.old) }

@@ -1,4 +1,4 @@
-//! Whether buffers have the bits and bytes that an array needs, and a validity as many nulls as were declared.
+//! Whether buffers have the bits and bytes that an array needs, and a validity has the declared number of nulls.
 ghost use Rattle.std.specs.Prelude.{◌≡◌, ◌≢◌, ◌+◌, ◌*◌, ◌≤◌, ◌↔◌, ◌⊎◌, pos, negsuc};
 ghost use Rattle.arrow2_model.specs.Bits.{bits};
 ghost use Rattle.arrow2_model.specs.Parts.{part, falses};
@@ -7,11 +7,11 @@ ghost use Rattle.arrow2_ffi.specs.Ranges.{IsInside};
 use crate::codes::{ARROW2_NULLS, ARROW2_OK, ARROW2_RANGE};
 use crate::ranges::{Bits, are_inside};
 
-/// Whether the `length` bits from bit `offset` on are inside, and as many of them are not set as `null_count` says; -1
-/// says nothing.
+/// Checks that the `length` bits from bit `offset` on are inside, and that `null_count` of them are not set; with -1
+/// the count is not checked.
 ///
-/// `ARROW2_RANGE` exactly where they are not inside the bytes, else `ARROW2_NULLS` exactly where `null_count` is neither -1
-/// nor their number.
+/// `ARROW2_RANGE` exactly where they are not inside the bytes, else `ARROW2_NULLS` exactly where `null_count` is
+/// neither -1 nor their number.
 #[unsafe(no_mangle)]
 pub extern "C" fn arrow2_validity_check(
     bytes: &[u8],
@@ -36,7 +36,7 @@ pub extern "C" fn arrow2_validity_check(
 
 /// Returns whether `bytes` bytes have `length` bits from bit `offset` on.
 ///
-/// `ARROW2_RANGE` exactly where they have not.
+/// `ARROW2_RANGE` exactly where they do not.
 #[unsafe(no_mangle)]
 pub extern "C" fn arrow2_bits_check(bytes: usize, offset: usize, length: usize) -> u32
     ensures ok { result ≡ ARROW2_OK ↔ (offset + length ≤ 8 * bytes) }
@@ -50,7 +50,7 @@ pub extern "C" fn arrow2_bits_check(bytes: usize, offset: usize, length: usize) 
 
 /// Returns whether `bytes` bytes have `length` values of `width` bytes each from value `offset` on.
 ///
-/// `ARROW2_RANGE` exactly where they have not.
+/// `ARROW2_RANGE` exactly where they do not.
 #[unsafe(no_mangle)]
 pub extern "C" fn arrow2_values_check(
     bytes: usize,

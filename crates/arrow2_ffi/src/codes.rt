@@ -1,10 +1,10 @@
-//! What an export answers. Where it is not [`ARROW2_OK`], nothing was written but, by a check, the index or slot of
-//! what it refuses.
+//! The codes that an export returns. With any code but [`ARROW2_OK`] nothing was written, except that a check writes
+//! the index or slot of the first fault.
 
-/// The call did what it says.
+/// The call succeeded.
 pub const ARROW2_OK: u32 = 0;
 
-/// A place or a range is not inside, or a table has bits past its last answer.
+/// An index or a range is not inside, or a table has bits past its last output.
 pub const ARROW2_RANGE: u32 = 1;
 
 /// A slice has more or fewer items than the call needs.
@@ -13,22 +13,22 @@ pub const ARROW2_LENGTH: u32 = 2;
 /// A number is above the greatest offset.
 pub const ARROW2_OVERFLOW: u32 = 3;
 
-/// Memory was refused. No call asks for memory, so none answers it.
+/// An allocation failed. No call allocates, so none returns it.
 pub const ARROW2_MEMORY: u32 = 4;
 
-/// What should be offsets has no item.
+/// A list of offsets has no item.
 pub const ARROW2_SPEC_EMPTY: u32 = 5;
 
-/// What should be offsets begins with a negative number.
+/// A list of offsets begins with a negative number.
 pub const ARROW2_SPEC_NEGATIVE: u32 = 6;
 
-/// What should be offsets has a number that is below the one before it.
+/// A list of offsets has a number that is below the one before it.
 pub const ARROW2_SPEC_FALLING: u32 = 7;
 
 /// The number of nulls is not the declared one.
 pub const ARROW2_NULLS: u32 = 8;
 
-/// An offset is past what the offsets cut.
+/// An offset is past the items that the offsets cut.
 pub const ARROW2_PAST: u32 = 9;
 
 /// The bytes of a slot are not UTF-8.

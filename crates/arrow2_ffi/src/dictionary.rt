@@ -6,12 +6,12 @@ ghost use Rattle.arrow2_ffi.specs.Validities.{given};
 use crate::indexed::check;
 use crate::validities::given_validity;
 
-/// Whether each index that is not null is at least 0 and below `items`. With `all_valid` none is null, and of the validity
-/// nothing is read.
+/// Checks that each index that is not null is at least 0 and below `items`. With `all_valid` none is null, and of the
+/// validity nothing is read.
 ///
-/// `ARROW2_RANGE` exactly where some may be null and the validity has no bit for each from bit `validity_offset` on, else
-/// `ARROW2_INDEX` exactly where one that is not null is negative or not below `items`, which writes to `slot` the first
-/// such.
+/// `ARROW2_RANGE` exactly where some may be null and the validity has no bit for each from bit `validity_offset` on,
+/// else `ARROW2_INDEX` exactly where one that is not null is negative or not below `items`, which writes to `slot` the
+/// first such.
 #[unsafe(no_mangle)]
 pub extern "C" fn arrow2_indices_i8_check(
     indices: &[i8],

@@ -1,4 +1,4 @@
-//! What the exports on indices do, for any width.
+//! The bodies of the exports on indices, for any width.
 ghost use Rattle.std.specs.Prelude.{◌≡◌, ◌<◌, ◌↔◌, ℕ, pos, map, length, slice_index_or, IsTrue, MatchOption};
 ghost use Rattle.arrow2_ffi.specs.Indices.{ChecksIndices, IsFirstOutside, IsIndex, IsIndexOrNull};
 ghost use Rattle.arrow2_ffi.specs.Validities.{SaysOf, valid_items, validity_of};
@@ -30,7 +30,7 @@ pub(crate) fn check<I: Index>(
     }
 }
 
-/// The first item that is neither null nor an index below `items`.
+/// Returns the first item that is neither null nor an index below `items`.
 fn first_outside<I: Index>(indices: &[I], validity: Option<Bits<'_>>, items: usize) -> Option<usize>
     requires says { SaysOf (validity_of validity) (length indices.now) }
     ensures { MatchOption result

@@ -1,4 +1,5 @@
-//! Offsets beside what they cut, for either width: whether they are inside, and whether they cut texts.
+//! Offsets together with the items that they cut, for either width: whether they are inside, and whether they cut
+//! texts.
 ghost use Rattle.std.specs.Prelude.{◌≡◌, ◌+◌, ◌-◌, ◌<◌, ◌≤◌, ◌<ℤ◌, ◌≤ℤ◌, ℕ, pos, map, length, slice_index_or};
 ghost use Rattle.arrow2_offset.specs.Offsets.{AreOffsets, last_of};
 ghost use Rattle.arrow2_ffi.specs.Cuts.{IsFirstFalling, IsFirstPast, ChecksOffsets, ChecksTexts};
@@ -9,8 +10,8 @@ use arrow2_index::offset::Offset;
 use arrow2_offset::slices::last;
 use arrow2_utf8::{BrokenTextArray, BrokenTexts, try_check_offsets_and_utf8};
 
-/// Returns whether the numbers are offsets, of which none is past `items` items. Writes the index of the first number
-/// that falls or is past them.
+/// Returns whether the numbers are offsets, none of which is above `items`. Writes the index of the first number that
+/// falls or is past them.
 pub(crate) fn check_inside<O: Offset>(offsets: &[O], items: usize, index: &mut usize) -> u32
     ensures { ChecksOffsets result (map O.value offsets.now) items index.old index.new }
 {
@@ -45,7 +46,7 @@ pub(crate) fn check_texts<O: Offset>(offsets: &[O], values: &[u8], index: &mut u
     }
 }
 
-/// The index of the first number that is below the one before it, or how many numbers there are.
+/// Returns the index of the first number that is below the one before it, or the number of numbers.
 fn first_falling<O: Offset>(offsets: &[O]) -> usize
     ensures before { (k : ℕ) → k + 1 < result → slice_index_or (map O.value offsets.now) k (pos 0)
         ≤ℤ slice_index_or (map O.value offsets.now) (k + 1) (pos 0) }
@@ -60,7 +61,7 @@ fn first_falling<O: Offset>(offsets: &[O]) -> usize
     offsets.len()
 }
 
-/// The index of the first offset that is past `items` items. Requires that the last one is.
+/// Returns the index of the first offset that is past `items` items. Requires that the last one is.
 fn first_past<O: Offset>(offsets: &[O], items: usize) -> usize
     requires are { AreOffsets (map O.value offsets.now) }
     requires past { items < last_of (map O.value offsets.now) }

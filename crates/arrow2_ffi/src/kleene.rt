@@ -1,8 +1,8 @@
-//! Kleene's logic on values beside their validity: an item is null where its validity bit is not set.
+//! Kleene's logic on values with their validity: an item is null where its validity bit is not set.
 //!
-//! The answer's values are written over `values` and its validity over `validity`, from bit 0 on. Both have as many
-//! bytes as hold them, and their spare bits become 0. A value is what the operator makes of the two values, also where
-//! the answer is null.
+//! The values of the result are written over `values` and its validity over `validity`, from bit 0 on. Both have
+//! exactly the bytes that hold them, and their padding bits become 0. A value is the operator applied to the two
+//! values, also where the result is null.
 ghost use Rattle.std.specs.Prelude.{Bool, Option};
 ghost use Rattle.arrow2_array.specs.Kleene.{kleene_and, kleene_or, Spells};
 ghost use Rattle.arrow2_ffi.specs.Kleene.{WritesKleene, input_of};
@@ -12,7 +12,7 @@ use crate::ranges::{Bits, are_both_inside, hold};
 use crate::rows::{write_four, write_two};
 use arrow2_array::kleene::{AND_KNOWN, AND_VALUES, OR_KNOWN, OR_VALUES};
 
-/// Values, and beside them which of them are not null.
+/// Values, and which of them are not null.
 #[derive(Clone, Copy)]
 struct Nullable<'a> {
     values: Bits<'a>,
@@ -22,7 +22,7 @@ struct Nullable<'a> {
 /// Writes, item by item, whether both are true: false where one of them is false, and null where that is not known.
 ///
 /// `ARROW2_RANGE` exactly where bits of any of the four are not inside, else `ARROW2_LENGTH` exactly where `values` or
-/// `validity` has not as many bytes as hold the items.
+/// `validity` does not have exactly the bytes that hold the items.
 #[unsafe(no_mangle)]
 pub extern "C" fn arrow2_and_kleene(
     left: &[u8],
@@ -63,7 +63,7 @@ pub extern "C" fn arrow2_and_kleene(
 /// known.
 ///
 /// `ARROW2_RANGE` exactly where bits of any of the four are not inside, else `ARROW2_LENGTH` exactly where `values` or
-/// `validity` has not as many bytes as hold the items.
+/// `validity` does not have exactly the bytes that hold the items.
 #[unsafe(no_mangle)]
 pub extern "C" fn arrow2_or_kleene(
     left: &[u8],

@@ -1,4 +1,4 @@
-//! What the exports on offsets do, for either width.
+//! The bodies of the exports on offsets, for either width.
 ghost use Rattle.std.specs.Prelude.{◌≡◌, ◌≢◌, ◌+◌, ◌-◌, ◌<◌, ◌↔◌, ◌⊎◌, pos, map, length, IfNone, IfSome};
 ghost use Rattle.arrow2_offset.specs.Offsets.{AreOffsets, AreOffsetsUpTo, last_offset, lengths_of, offsets_list};
 ghost use Rattle.arrow2_model.specs.Parts.{part};
@@ -14,7 +14,7 @@ use arrow2_index::offset::Offset;
 use arrow2_offset::slices::{fits, last, write_lengths, write_part, write_sums};
 use arrow2_offset::{BrokenRule, broken_rule};
 
-/// The code of the first rule that the numbers break, or `None` where they are offsets.
+/// Returns the code of the first rule that the numbers break, or `None` where they are offsets.
 pub(crate) fn refusal<O: Offset>(offsets: &[O]) -> Option<u32>
     ensures none { IfNone result (AreOffsetsUpTo O.MAX (map O.value offsets.now)) }
     ensures some { IfSome result (λ code. TellsBroken code (map O.value offsets.now)) }
@@ -62,7 +62,7 @@ pub(crate) fn lengths_unchecked<O: Offset>(offsets: &[O], lengths: &mut [usize])
     ARROW2_OK
 }
 
-/// Writes the start, and behind it the running sums of the lengths.
+/// Writes the start, followed by the running sums of the lengths.
 pub(crate) fn sums<O: Offset>(start: usize, lengths: &[usize], offsets: &mut [O]) -> u32
     ensures length { result ≡ ARROW2_LENGTH ↔ (length offsets.old ≢ length lengths.now + 1) }
     ensures overflow { result ≡ ARROW2_OVERFLOW ↔
@@ -82,7 +82,7 @@ pub(crate) fn sums<O: Offset>(start: usize, lengths: &[usize], offsets: &mut [O]
     ARROW2_OK
 }
 
-/// Writes as many offsets as `out` has, from offset `from` on, each less the first of them.
+/// Fills `out` with the offsets from offset `from` on, each less the first of them.
 pub(crate) fn from_zero<O: Offset>(offsets: &[O], from: usize, out: &mut [O]) -> u32
     ensures { WritesFromOffsetsOr ARROW2_RANGE (map O.value offsets.now) result
         (length out.old ≡ 0) (length offsets.now < from + length out.old)

@@ -12,7 +12,7 @@ use crate::offset_calls::{
     check, from_zero, from_zero_unchecked, lengths, lengths_unchecked, sums,
 };
 
-/// Whether the numbers are offsets of 32 bits, and else which rule they break first.
+/// Checks that the numbers are offsets of 32 bits, and returns which rule they break first.
 ///
 /// `ARROW2_SPEC_EMPTY`, `ARROW2_SPEC_NEGATIVE` or `ARROW2_SPEC_FALLING` for that rule.
 #[unsafe(no_mangle)]
@@ -23,10 +23,10 @@ pub extern "C" fn arrow2_offsets32_check(offsets: &[i32]) -> u32
     check(offsets)
 }
 
-/// Writes how far each offset of 32 bits is from the next one: as many lengths as slots.
+/// Writes how far each offset of 32 bits is from the next one: one length for each slot.
 ///
-/// The code of the first rule that they break where they are no offsets, else `ARROW2_LENGTH` exactly where `out` has not
-/// one item less.
+/// The code of the first rule that they break where they are no offsets, else `ARROW2_LENGTH` exactly where `out` has
+/// not one item less.
 #[unsafe(no_mangle)]
 pub extern "C" fn arrow2_offsets32_lengths(offsets: &[i32], out: &mut [usize]) -> u32
     ensures { WritesFromOffsets offsets.now result (length offsets.now ≢ length out.old + 1)
@@ -36,9 +36,10 @@ pub extern "C" fn arrow2_offsets32_lengths(offsets: &[i32], out: &mut [usize]) -
 }
 
 /// Writes how far each offset of 32 bits is from the next one, as `arrow2_offsets32_lengths` does, and tests no offset.
-/// Requires that they are offsets, as `arrow2_offsets32_check` says: of other numbers memory outside `offsets` may be read.
+/// Requires that they are offsets, as `arrow2_offsets32_check` tests: for other numbers memory outside `offsets` may be
+/// read.
 ///
-/// `ARROW2_LENGTH` exactly where `out` has not one item less.
+/// `ARROW2_LENGTH` exactly where `out` does not have one item less.
 #[unsafe(no_mangle)]
 pub extern "C" fn arrow2_offsets32_lengths_unchecked(offsets: &[i32], out: &mut [usize]) -> u32
     requires are { AreOffsets offsets.now }
@@ -48,10 +49,10 @@ pub extern "C" fn arrow2_offsets32_lengths_unchecked(offsets: &[i32], out: &mut 
     lengths_unchecked(offsets, out)
 }
 
-/// Writes `start`, and behind it the running sums of the lengths: offsets of 32 bits.
+/// Writes `start`, followed by the running sums of the lengths: offsets of 32 bits.
 ///
-/// `ARROW2_LENGTH` exactly where `out` has not one item more than `lengths`, else `ARROW2_OVERFLOW` exactly where `start` and
-/// all lengths, added up exactly, are above the greatest offset.
+/// `ARROW2_LENGTH` exactly where `out` has not one item more than `lengths`, else `ARROW2_OVERFLOW` exactly where
+/// `start` and all lengths, added up exactly, are above the greatest offset.
 #[unsafe(no_mangle)]
 pub extern "C" fn arrow2_offsets32_from_lengths(
     start: usize,
@@ -68,11 +69,11 @@ pub extern "C" fn arrow2_offsets32_from_lengths(
     sums(start, lengths, out)
 }
 
-/// Writes as many offsets of 32 bits as `out` has, from offset `from` on, each less the first of them: so they begin at
-/// 0 and span the same slots.
+/// Fills `out` with the offsets of 32 bits from offset `from` on, each less the first of them: so they begin at 0 and
+/// span the same slots.
 ///
-/// The code of the first rule that they break where they are no offsets, else `ARROW2_LENGTH` exactly where `out` has no
-/// item, else `ARROW2_RANGE` exactly where so many are not inside.
+/// The code of the first rule that they break where they are no offsets, else `ARROW2_LENGTH` exactly where `out` has
+/// no item, else `ARROW2_RANGE` exactly where the offsets to be written are not inside.
 #[unsafe(no_mangle)]
 pub extern "C" fn arrow2_offsets32_from_zero(offsets: &[i32], from: usize, out: &mut [i32]) -> u32
     ensures { WritesFromOffsetsOr ARROW2_RANGE offsets.now result (length out.old ≡ 0)
@@ -84,10 +85,11 @@ pub extern "C" fn arrow2_offsets32_from_zero(offsets: &[i32], from: usize, out: 
     from_zero(offsets, from, out)
 }
 
-/// Writes as many offsets of 32 bits as `out` has, as `arrow2_offsets32_from_zero` does, and tests no offset. Requires that they
-/// are offsets, as `arrow2_offsets32_check` says.
+/// Fills `out` with offsets of 32 bits, as `arrow2_offsets32_from_zero` does, and tests no offset. Requires that they
+/// are offsets, as `arrow2_offsets32_check` tests.
 ///
-/// `ARROW2_LENGTH` exactly where `out` has no item, else `ARROW2_RANGE` exactly where so many are not inside.
+/// `ARROW2_LENGTH` exactly where `out` has no item, else `ARROW2_RANGE` exactly where the offsets to be written are not
+/// inside.
 #[unsafe(no_mangle)]
 pub extern "C" fn arrow2_offsets32_from_zero_unchecked(
     offsets: &[i32],
@@ -104,7 +106,7 @@ pub extern "C" fn arrow2_offsets32_from_zero_unchecked(
     from_zero_unchecked(offsets, from, out)
 }
 
-/// Whether the numbers are offsets of 64 bits, and else which rule they break first.
+/// Checks that the numbers are offsets of 64 bits, and returns which rule they break first.
 ///
 /// `ARROW2_SPEC_EMPTY`, `ARROW2_SPEC_NEGATIVE` or `ARROW2_SPEC_FALLING` for that rule.
 #[unsafe(no_mangle)]
@@ -115,10 +117,10 @@ pub extern "C" fn arrow2_offsets64_check(offsets: &[i64]) -> u32
     check(offsets)
 }
 
-/// Writes how far each offset of 64 bits is from the next one: as many lengths as slots.
+/// Writes how far each offset of 64 bits is from the next one: one length for each slot.
 ///
-/// The code of the first rule that they break where they are no offsets, else `ARROW2_LENGTH` exactly where `out` has not
-/// one item less.
+/// The code of the first rule that they break where they are no offsets, else `ARROW2_LENGTH` exactly where `out` has
+/// not one item less.
 #[unsafe(no_mangle)]
 pub extern "C" fn arrow2_offsets64_lengths(offsets: &[i64], out: &mut [usize]) -> u32
     ensures { WritesFromOffsets offsets.now result (length offsets.now ≢ length out.old + 1)
@@ -128,9 +130,10 @@ pub extern "C" fn arrow2_offsets64_lengths(offsets: &[i64], out: &mut [usize]) -
 }
 
 /// Writes how far each offset of 64 bits is from the next one, as `arrow2_offsets64_lengths` does, and tests no offset.
-/// Requires that they are offsets, as `arrow2_offsets64_check` says: of other numbers memory outside `offsets` may be read.
+/// Requires that they are offsets, as `arrow2_offsets64_check` tests: for other numbers memory outside `offsets` may be
+/// read.
 ///
-/// `ARROW2_LENGTH` exactly where `out` has not one item less.
+/// `ARROW2_LENGTH` exactly where `out` does not have one item less.
 #[unsafe(no_mangle)]
 pub extern "C" fn arrow2_offsets64_lengths_unchecked(offsets: &[i64], out: &mut [usize]) -> u32
     requires are { AreOffsets offsets.now }
@@ -140,10 +143,10 @@ pub extern "C" fn arrow2_offsets64_lengths_unchecked(offsets: &[i64], out: &mut 
     lengths_unchecked(offsets, out)
 }
 
-/// Writes `start`, and behind it the running sums of the lengths: offsets of 64 bits.
+/// Writes `start`, followed by the running sums of the lengths: offsets of 64 bits.
 ///
-/// `ARROW2_LENGTH` exactly where `out` has not one item more than `lengths`, else `ARROW2_OVERFLOW` exactly where `start` and
-/// all lengths, added up exactly, are above the greatest offset.
+/// `ARROW2_LENGTH` exactly where `out` has not one item more than `lengths`, else `ARROW2_OVERFLOW` exactly where
+/// `start` and all lengths, added up exactly, are above the greatest offset.
 #[unsafe(no_mangle)]
 pub extern "C" fn arrow2_offsets64_from_lengths(
     start: usize,
@@ -160,11 +163,11 @@ pub extern "C" fn arrow2_offsets64_from_lengths(
     sums(start, lengths, out)
 }
 
-/// Writes as many offsets of 64 bits as `out` has, from offset `from` on, each less the first of them: so they begin at
-/// 0 and span the same slots.
+/// Fills `out` with the offsets of 64 bits from offset `from` on, each less the first of them: so they begin at 0 and
+/// span the same slots.
 ///
-/// The code of the first rule that they break where they are no offsets, else `ARROW2_LENGTH` exactly where `out` has no
-/// item, else `ARROW2_RANGE` exactly where so many are not inside.
+/// The code of the first rule that they break where they are no offsets, else `ARROW2_LENGTH` exactly where `out` has
+/// no item, else `ARROW2_RANGE` exactly where the offsets to be written are not inside.
 #[unsafe(no_mangle)]
 pub extern "C" fn arrow2_offsets64_from_zero(offsets: &[i64], from: usize, out: &mut [i64]) -> u32
     ensures { WritesFromOffsetsOr ARROW2_RANGE offsets.now result (length out.old ≡ 0)
@@ -176,10 +179,11 @@ pub extern "C" fn arrow2_offsets64_from_zero(offsets: &[i64], from: usize, out: 
     from_zero(offsets, from, out)
 }
 
-/// Writes as many offsets of 64 bits as `out` has, as `arrow2_offsets64_from_zero` does, and tests no offset. Requires that they
-/// are offsets, as `arrow2_offsets64_check` says.
+/// Fills `out` with offsets of 64 bits, as `arrow2_offsets64_from_zero` does, and tests no offset. Requires that they
+/// are offsets, as `arrow2_offsets64_check` tests.
 ///
-/// `ARROW2_LENGTH` exactly where `out` has no item, else `ARROW2_RANGE` exactly where so many are not inside.
+/// `ARROW2_LENGTH` exactly where `out` has no item, else `ARROW2_RANGE` exactly where the offsets to be written are not
+/// inside.
 #[unsafe(no_mangle)]
 pub extern "C" fn arrow2_offsets64_from_zero_unchecked(
     offsets: &[i64],

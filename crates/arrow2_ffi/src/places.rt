@@ -1,4 +1,4 @@
-//! The places of set bits.
+//! The indices of set bits.
 ghost use Rattle.std.specs.Prelude.{◌≡◌, ◌+◌, ◌<◌, ◌≤◌, ◌^◌, ℕ, List, ◌∷◌, ◌++◌, map, take, length as length', IfNone, IfSome};
 ghost use Rattle.std.specs.List.{All};
 ghost use Rattle.arrow2_model.specs.Bits.{bits, unnum};
@@ -14,8 +14,9 @@ use arrow2_bits::chunks::word_from;
 use arrow2_chunk::bit_chunk::BitChunk;
 use arrow2_chunk::bit_chunk_iter::BitChunkOnes;
 
-/// Writes the places of set bits among the `length` bits from bit `offset` on, from place `at` of them on, rising, as
-/// many as fit. Writes to `count` how many these are, and to `at` where to go on.
+/// Writes the indices of set bits among the `length` bits from bit `offset` on, from index `at` of them on, rising,
+/// until `out` is full or none is left. Writes to `count` how many were written, and to `at` the index from which to go
+/// on.
 ///
 /// `ARROW2_RANGE` exactly where the bits are not inside, or `at` is above `length`.
 #[unsafe(no_mangle)]
@@ -44,8 +45,8 @@ pub extern "C" fn arrow2_set_places(
     ARROW2_OK
 }
 
-/// Writes the places of set bits from place `at` on, as many as fit, and answers how many these are and where to go on.
-/// Requires that the bits are inside, and the place too.
+/// Writes the indices of set bits from index `at` on, until `out` is full or none is left, and returns how many were
+/// written and the index from which to go on. Requires that the bits and the index are inside.
 fn write_places(bits: Bits<'_>, end: usize, at: usize, places: &mut [usize]) -> (usize, usize)
     requires inside { HasBits bits end }
     requires within { at ≤ end }
@@ -70,9 +71,9 @@ fn write_places(bits: Bits<'_>, end: usize, at: usize, places: &mut [usize]) -> 
     (count, end)
 }
 
-/// Writes the places of the word's set bits, counted from `base` on, behind the first `count` places, as many as fit.
-/// Answers how many places there are then, and the first that did not fit. Requires room for `count` places, and that
-/// each place fits a `usize`.
+/// Writes the indices of the word's set bits, counted from `base` on, after the first `count` indices, until `out` is
+/// full or none is left. Returns how many indices there are then, and the first that did not fit. Requires capacity for
+/// `count` indices, and that each index fits a `usize`.
 fn write_ones(word: u64, base: usize, count: usize, places: &mut [usize]) -> (usize, Option<usize>)
     requires few { count ≤ length' places.old }
     requires fit { All (λ place. place < 2 ^ 64) (map (λ k. base + k) (ones (unnum 64 word))) }

@@ -22,7 +22,7 @@ pub(crate) fn are_both_inside(first: Bits<'_>, second: Bits<'_>, length: usize) 
     are_inside(first, length) && are_inside(second, length)
 }
 
-/// Returns whether the bytes are as many as hold so many bits.
+/// Returns whether the bytes are exactly those that `length` bits need.
 pub(crate) fn hold(bytes: &[u8], length: usize) -> bool
     ensures { IsTrue result ↔ Holds bytes.now length }
 {

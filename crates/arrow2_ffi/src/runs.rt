@@ -1,4 +1,4 @@
-//! The runs of set bits, each by its first place and its length.
+//! The runs of set bits, each by its first index and its length.
 ghost use Rattle.std.specs.Prelude.{◌≡◌, ◌≤◌, take, length as length'};
 ghost use Rattle.std.specs.List.{zip};
 ghost use Rattle.arrow2_model.specs.Bits.{bits};
@@ -11,11 +11,12 @@ use crate::codes::{ARROW2_LENGTH, ARROW2_OK, ARROW2_RANGE};
 use crate::ranges::{Bits, are_inside};
 use arrow2_walks::places::{Place, first_place};
 
-/// Writes the runs of set bits among the `length` bits from bit `offset` on, from place `at` of them on: their first
-/// places and their lengths, as many as fit. Writes to `count` how many these are, and to `at` where to go on.
+/// Writes the runs of set bits among the `length` bits from bit `offset` on, from index `at` of them on: their first
+/// indices and their lengths, until the slices are full or no run is left. Writes to `count` how many were written, and
+/// to `at` the index from which to go on.
 ///
-/// `ARROW2_RANGE` exactly where the bits are not inside, or `at` is above `length`; else `ARROW2_LENGTH` exactly where `starts`
-/// and `lengths` differ in length.
+/// `ARROW2_RANGE` exactly where the bits are not inside, or `at` is above `length`; else `ARROW2_LENGTH` exactly where
+/// `starts` and `lengths` differ in length.
 #[unsafe(no_mangle)]
 pub extern "C" fn arrow2_runs(
     bytes: &[u8],
@@ -48,8 +49,9 @@ pub extern "C" fn arrow2_runs(
     ARROW2_OK
 }
 
-/// Writes the runs from place `at` on, as many as fit, and answers how many these are and where to go on. Requires that
-/// the bits are inside, the place too, and for as many starts as lengths.
+/// Writes the runs from index `at` on, until the slices are full or no run is left, and returns how many were written
+/// and the index from which to go on. Requires that the bits and the index are inside, and that starts and lengths have
+/// one length.
 fn write_runs(
     bits: Bits<'_>,
     end: usize,

@@ -1,7 +1,8 @@
-//! Truth tables over bits of one to four inputs: bit `a1 + 2 * a2 + 4 * a3 + 8 * a4` of a table is its answer for
+//! Truth tables over bits of one to four inputs: bit `a1 + 2 * a2 + 4 * a3 + 8 * a4` of a table is its output for
 //! inputs `a1` to `a4`.
 //!
-//! The answers are written over `out` from bit 0 on. It has as many bytes as hold them, and its spare bits become 0.
+//! The outputs are written over `out` from bit 0 on. It has exactly the bytes that hold them, and its padding bits
+//! become 0.
 ghost use Rattle.std.specs.Prelude.{[], ◌∷◌};
 ghost use Rattle.arrow2_ffi.specs.Writes.{WritesTable};
 
@@ -10,10 +11,10 @@ use crate::ranges::{Bits, are_both_inside, are_inside, hold};
 use crate::rows::{assign_four, assign_three, assign_two, copy};
 use arrow2_kernels::lane_assigned::assign_unary;
 
-/// Writes the answers of a table of one input for the `length` bits from bit `offset` on.
+/// Writes the outputs of a table of one input for the `length` bits from bit `offset` on.
 ///
-/// `ARROW2_RANGE` exactly where the table is above 3 or the bits are not inside, else `ARROW2_LENGTH` exactly where `out`
-/// has not as many bytes as hold them.
+/// `ARROW2_RANGE` exactly where the table is above 3 or the bits are not inside, else `ARROW2_LENGTH` exactly where
+/// `out` does not have exactly the bytes that hold them.
 #[unsafe(no_mangle)]
 pub extern "C" fn arrow2_unary_table(
     bytes: &[u8],
@@ -36,10 +37,10 @@ pub extern "C" fn arrow2_unary_table(
     ARROW2_OK
 }
 
-/// Writes the answers of a table of two inputs for as many bits of both.
+/// Writes the outputs of a table of two inputs for `length` bits of both.
 ///
-/// `ARROW2_RANGE` exactly where the table is above 15 or bits are not inside, else `ARROW2_LENGTH` exactly where `out` has
-/// not as many bytes as hold them.
+/// `ARROW2_RANGE` exactly where the table is above 15 or bits are not inside, else `ARROW2_LENGTH` exactly where `out`
+/// does not have exactly the bytes that hold them.
 #[unsafe(no_mangle)]
 pub extern "C" fn arrow2_binary_table(
     first: &[u8],
@@ -66,10 +67,10 @@ pub extern "C" fn arrow2_binary_table(
     ARROW2_OK
 }
 
-/// Writes the answers of a table of three inputs for as many bits of each.
+/// Writes the outputs of a table of three inputs for `length` bits of each.
 ///
-/// `ARROW2_RANGE` exactly where the table is above 255 or bits are not inside, else `ARROW2_LENGTH` exactly where `out` has
-/// not as many bytes as hold them.
+/// `ARROW2_RANGE` exactly where the table is above 255 or bits are not inside, else `ARROW2_LENGTH` exactly where `out`
+/// does not have exactly the bytes that hold them.
 #[unsafe(no_mangle)]
 pub extern "C" fn arrow2_ternary_table(
     first: &[u8],
@@ -100,10 +101,10 @@ pub extern "C" fn arrow2_ternary_table(
     ARROW2_OK
 }
 
-/// Writes the answers of a table of four inputs for as many bits of each.
+/// Writes the outputs of a table of four inputs for `length` bits of each.
 ///
-/// `ARROW2_RANGE` exactly where bits are not inside, else `ARROW2_LENGTH` exactly where `out` has not as many bytes as hold
-/// them.
+/// `ARROW2_RANGE` exactly where bits are not inside, else `ARROW2_LENGTH` exactly where `out` does not have exactly the
+/// bytes that hold them.
 #[unsafe(no_mangle)]
 pub extern "C" fn arrow2_quaternary_table(
     first: &[u8],

@@ -1,4 +1,4 @@
-//! Each export called once by position, with values that tell its parameters apart.
+//! Each export called once by position, with values that distinguish its parameters.
 use crate::assign_tables::{
     arrow2_binary_assign_table, arrow2_quaternary_assign_table, arrow2_ternary_assign_table,
     arrow2_unary_assign_table,
@@ -46,7 +46,8 @@ fn returned(rt: &impl Abort, code: u32, wanted: u32) {
     assert_eq!(rt; code, wanted);
 }
 
-// Item i is bit k - 1 of i in the input k, each input from bit k on: a table over all of them is its own answer.
+// Item i is bit k - 1 of i in the input k, each input from bit k on: the outputs of a table over all of them are the
+// table itself.
 const FIRST: [u8; 3] = [0x54, 0x55, 0x01];
 
 const SECOND: [u8; 3] = [0x30, 0x33, 0x03];
@@ -117,8 +118,8 @@ fn tables_in_place_tell_their_inputs_apart(rt: HostRuntime) {
     wrote(&rt, code, &bytes, &[0x2e, 0x1a]);
 }
 
-// All nine pairs of false, true and null, where true stands under a null: left, its validity, right, its validity, each
-// from another bit on.
+// All nine pairs of false, true and null, with true under a null: left, its validity, right, its validity, each from
+// another bit on.
 const LEFT: [u8; 2] = [0x6c, 0x03];
 
 const LEFT_VALIDITY: [u8; 2] = [0x6c, 0x03];
@@ -289,7 +290,7 @@ fn buffers_are_checked(rt: HostRuntime) {
     returned(&rt, arrow2_values_check(usize::MAX, 1, usize::MAX, 1), 1);
 }
 
-/// The check returned this code and wrote this place, or left 77.
+/// The check returned this code and wrote this index, or left 77.
 fn found(rt: &impl Abort, code: u32, place: usize, wanted: (u32, usize)) {
     assert_eq!(rt; (code, place), wanted);
 }

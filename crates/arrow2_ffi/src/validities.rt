@@ -5,7 +5,7 @@ ghost use Rattle.arrow2_ffi.specs.Validities.{SaysOf, given, valid_items, validi
 use crate::ranges::{Bits, are_inside};
 use arrow2_bits::get_bit_from;
 
-/// A validity that a call was given, `None` where all items are valid.
+/// Returns a validity that a call was given, `None` where all items are valid.
 pub(crate) fn given_validity(all_valid: bool, bytes: &[u8], offset: usize) -> Option<Bits<'_>>
     ensures { validity_of result ≡ given all_valid bytes.now offset }
 {

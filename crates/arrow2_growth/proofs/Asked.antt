@@ -1,4 +1,4 @@
--- Answers as items, 64 at a time.
+-- Results as items, 64 at a time.
 use Rattle.std.proofs.Common.{◌≡◌, ℕ, ◌+◌, ◌-◌, ◌*◌, ◌<◌, List, ◌++◌, Bool, false, length, get_or, ap, sym, ◌∙◌, subst, inl, inr, arith}
 use Rattle.std.proofs.lemmas.Bool.{cases_lt}
 use Rattle.std.proofs.lemmas.List.{get_or_append_left}
@@ -7,7 +7,7 @@ use Rattle.arrow2_model.specs.Bits.{bits, num, unnum}
 use Rattle.arrow2_model.proofs.Bits.{length-bits}
 use Rattle.arrow2_growth.proofs.Packing.{block_behind}
 
--- what is so of the items of two lists, each by its place, is so of one behind the other
+-- facts on the items of two lists, each by its index, hold of the one list followed by the other
 pub each-append : (P : ℕ → Bool → Type 0) (old block all : List Bool) (n m : ℕ) → length old ≡ n → all ≡ old ++ block → ((k : ℕ) → k < n → P k (get_or old k false)) → ((k : ℕ) → k < m → P (n + k) (get_or block k false))
     → (k : ℕ) → k < n + m → P k (get_or all k false)
 each-append P old block all n m size is front back k h = elim (cases_lt k n) [
@@ -20,7 +20,7 @@ each-append P old block all n m size is front back k h = elim (cases_lt k n) [
       subst (P k) (sym there) (subst (λ (i : ℕ). P i (get_or block (k - n) false)) at item)
 ]
 
--- the same of bytes and a word behind them, where as many bits as the bytes have are so
+-- the same of bytes followed by a word, where it holds of the bits of the bytes
 pub each-word : (P : ℕ → Bool → Type 0) (bytes after word : List ℕ) (block : List Bool) (n m x : ℕ) → length bytes ≡ 8 * n → length block ≡ 64 → x ≡ num block → bits word ≡ unnum 64 x → after ≡ bytes ++ word
     → ((k : ℕ) → k < 64 * n → P k (get_or (bits bytes) k false)) → ((k : ℕ) → k < m → P (64 * n + k) (get_or block k false)) → (k : ℕ) → k < 64 * n + m → P k (get_or (bits after) k false)
 each-word P bytes after word block n m x size wide number bits-of was front back =

@@ -1,4 +1,4 @@
--- The bytes behind packed bits.
+-- The bytes of packed bits.
 use Rattle.std.proofs.Common.{◌≡◌, ◌≢◌, ◌∙◌, ℕ, zero, suc, ◌+◌, ◌-◌, ◌*◌, ◌/◌, ◌%◌, ◌^◌, ◌<◌, ◌≤◌, List, [], ◌∷◌, ◌++◌, Bool, true, false, take, replicate, length, get_or, set, refl, subst, sym, ap, inl, inr, arith}
 use Rattle.std.specs.Prelude.{pos, bit_and, bit_or, max, ◌==◌}
 use Rattle.std.proofs.lemmas.Bool.{cases_lt, cases_eq}
@@ -19,7 +19,7 @@ use Rattle.arrow2_model.proofs.Bits.{bit_is, length-bits, bits-set}
 use Rattle.arrow2_model.proofs.Canonical.{canonical-nil, pushed_byte, pushed_bit, cut_whole, cut_within}
 use Rattle.arrow2_model.proofs.Digits.{low_digits-zero, low_digits-suc, digits-natural}
 
--- as many items as the length says
+-- the number of items is the length
 pub length_items : (bytes : List ℕ) (n : ℕ) → IsCanonical bytes n → length (take n (bits bytes)) ≡ n
 length_items bytes n canonical = let l = length-bits bytes in length-take-le n (bits bytes) (omega (arith, l, canonical.exact))
 

@@ -18,7 +18,7 @@ front_of_ones bytes n m e h = rw (e, bits-ones m) (take-replicate n (8 * m) true
 pub front_of_zeros : (bytes : List ℕ) (n m : ℕ) → bytes ≡ replicate m 0 → m ≡ (n + 7) / 8 → take n (bits bytes) ≡ replicate n false
 front_of_zeros bytes n m e h = rw e (front-zeros m n (omega arith))
 
--- ---- one value behind items
+-- ---- one value after items
 
 -- bytes that were resized to no fewer
 pub resized : (bytes after : List ℕ) (n m b : ℕ) → after ≡ take n bytes ++ replicate (n - m) b → m ≡ length bytes → length bytes ≤ n → after ≡ bytes ++ replicate (n - length bytes) b

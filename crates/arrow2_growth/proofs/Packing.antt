@@ -11,7 +11,7 @@ use Rattle.arrow2_model.proofs.Bits.{bits-append, length-bits}
 use Rattle.arrow2_model.proofs.Bytes.{take-bits}
 use Rattle.arrow2_model.proofs.Numbers.{unnum-num}
 
--- whether a lane is not 0 says its item
+-- whether a lane is not 0 is its item
 pub flags : (items : List Bool) → map (λ x. not (eqb x 0)) (map from_bool items) ≡ items
 flags [] = refl
 flags (true ∷ items) = ap (λ l. true ∷ l) (flags items)
@@ -33,7 +33,7 @@ packed_on items block bytes after word i x room so is number was bits-of =
     let left : drop (64 * (i + 1)) items ≡ drop 64 (drop (64 * i) items) = (let e : 64 * (i + 1) ≡ 64 * i + 64 = omega arith in ap (λ m. drop m items) e ∙ sym (drop-drop 64 (64 * i) items)) in
     rw (was, bits-append bytes word, w, left) (append_assoc (bits bytes) (take 64 (drop (64 * i) items)) (drop 64 (drop (64 * i) items)) ∙ (ap (λ r. bits bytes ++ r) (take-append-drop 64 (drop (64 * i) items)) ∙ so))
 
--- all blocks are packed, and the items behind them with others behind these
+-- all blocks are packed, and the items after them with others after these
 pub packed_all : (items padded rest : List Bool) (bytes after word : List ℕ) (x : ℕ) → bits bytes ++ rest ≡ items → take (length rest) padded ≡ rest → length padded ≡ 64 → length rest ≤ 64 → x ≡ num padded → after ≡ bytes ++ word → bits word ≡ unnum 64 x → (length items ≤ 8 * length after) × (take (length items) (bits after) ≡ items)
 packed_all items padded rest bytes after word x so front wide few number was bits-of =
     let w : bits word ≡ padded = bits-of ∙ (ap (unnum 64) number ∙ subst (λ (n : ℕ). unnum n (num padded) ≡ padded) wide (unnum-num padded)) in
@@ -49,11 +49,11 @@ packed_all items padded rest bytes after word x so front wide few number was bit
 pub block_word : (block : List Bool) (word : List ℕ) (x : ℕ) → length block ≡ 64 → x ≡ num block → bits word ≡ unnum 64 x → bits word ≡ block
 block_word block word x wide number bits-of = bits-of ∙ (ap (unnum 64) number ∙ subst (λ (n : ℕ). unnum n (num block) ≡ block) wide (unnum-num block))
 
--- a whole block behind bytes
+-- bytes followed by a whole block
 pub block_behind : (bytes after word : List ℕ) (block : List Bool) (x : ℕ) → length block ≡ 64 → x ≡ num block → bits word ≡ unnum 64 x → after ≡ bytes ++ word → bits after ≡ bits bytes ++ block
 block_behind bytes after word block x wide number bits-of was = rw (was, bits-append bytes word, block_word block word x wide number bits-of) refl
 
--- the front of a block behind bytes, by as many bytes as hold it
+-- bytes followed by the first bytes of a block, exactly those that hold it
 pub front_behind : (bytes after word : List ℕ) (block : List Bool) (count k len x : ℕ) → count < 64 → k ≡ (count + 7) / 8 → len ≡ length bytes → length block ≡ 64 → x ≡ num block → bits word ≡ unnum 64 x → after ≡ bytes ++ take k word → take (8 * len + count) (bits after) ≡ bits bytes ++ take count block
 front_behind bytes after word block count k len x few enough size wide number bits-of was =
     let held = block_word block word x wide number bits-of in
@@ -64,17 +64,17 @@ front_behind bytes after word block count k len x few enough size wide number bi
     ap (take (8 * len + count)) e ∙ (ap (λ m. take m (bits bytes ++ take (8 * k) block)) n ∙ (take-append-add (bits bytes) (take (8 * k) block) count ∙ ap (λ r. bits bytes ++ r) (take-take count (8 * k) block (omega arith))))
 
 module _ {S A : Type 0} (steps : S → Option A → S → Type 0) where
-  -- what came, and what came behind it
+  -- the items that came, and those that came after them
   pub Yields-append : (s t u : S) (xs ys : List A) → Yields steps s xs t → Yields steps t ys u → Yields steps s (xs ++ ys) u
   Yields-append s t u [] ys e y = subst (λ k. Yields steps k ys u) (sym e) y
   Yields-append s t u (x ∷ xs) ys p y = (p.0, p.1, Yields-append p.0 t u xs ys p.2 y)
 
-  -- the last item of what came
+  -- the last of the items that came
   pub last_came : (s u : S) (xs : List A) (x : A) → Yields steps s (xs ++ x ∷ []) u → YieldsThen steps s xs (Some x) u
   last_came s u [] x y = (s, refl, subst (steps s (Some x)) y.2 y.1)
   last_came s u (z ∷ xs) x y = let rest = last_came y.0 u xs x y.2 in (rest.0, (y.0, y.1, rest.1), rest.2)
 
--- a full block behind as many items as leave room for no other is one item too many
+-- a full block, after items that leave capacity for no other, is one item too many
 pub too_many : {S : Type 0} (steps : S → Option Bool → S → Type 0) (s t u : S) (xs block : List Bool) → Yields steps s xs t → Yields steps t block u → length block ≡ 64 → length xs ≡ 2 ^ 64 - 64
     → (ys : List Bool) × (y : Bool) × (v : S) × YieldsThen steps s ys (Some y) v × (length ys ≡ 2 ^ 64 - 1)
 too_many steps s t u xs block before came wide size =

@@ -1,4 +1,4 @@
--- Items of a word behind those that bytes hold.
+-- Items of a word after those that bytes hold.
 use Rattle.std.proofs.Common.{◌≡◌, ◌≢◌, inl, inr, ℕ, ◌+◌, ◌-◌, ◌*◌, ◌/◌, ◌%◌, ◌<◌, ◌≤◌, ◌||◌, List, ◌++◌, Bool, true, false, take, drop, replicate, length, get_or, set, refl, ap, sym, ◌∙◌, arith}
 use lib.Lanes.{zip2}
 use Rattle.std.proofs.lemmas.Bool.{cases_lt, cases_eq}
@@ -32,7 +32,7 @@ held bytes n items fits size exact same =
       ext_get_or false (take n (bits bytes)) items (t ∙ sym size) (λ k k<. get_or-take n (bits bytes) k false (omega (arith, t)) ∙ same k (omega (arith, t, exact))),
     )
 
--- ---- a byte with items of a word behind its own
+-- ---- a byte with items of a word after its own
 
 or_false : (b : Bool) → (b || false) ≡ b
 or_false true = refl
@@ -58,13 +58,13 @@ merged_written byte p m u y i low place clear up bits-of size is h =
     ∙ (ap (λ j. get_or (take (64 - p) (unnum 64 m)) j false) at ∙ (get_or-take (64 - p) (unnum 64 m) i false (omega arith) ∙ get_or-unnum 64 m i false (omega arith)))) in
     bit-zip2 8 byte (get_or low 0 0) y (p + i) (λ a b. a || b) is h ∙ (ap (λ a. a || bit (get_or low 0 0) (p + i)) (clear (p + i) (omega arith) h) ∙ some)
 
--- ---- a word behind bytes
+-- ---- bytes followed by a word
 
 -- an item of a masked word
 masked_item : (c m x i : ℕ) → unnum 64 m ≡ take c (unnum 64 x) ++ replicate (64 - c) false → get_or (unnum 64 m) i false ≡ get_or (take c (unnum 64 x)) i false
 masked_item c m x i mask = ap (λ (t : List Bool). get_or t i false) mask ∙ get_or-padded (take c (unnum 64 x)) (64 - c) i
 
--- bits before and behind the end of bytes that grew
+-- bits before and after the end of bytes that grew
 pub before : (bytes grown more : List ℕ) (k : ℕ) → grown ≡ bytes ++ more → k < 8 * length bytes → get_or (bits grown) k false ≡ get_or (bits bytes) k false
 before bytes grown more k e h = ap (λ (b : List Bool). get_or b k false) (ap bits e ∙ bits-append bytes more) ∙ get_or_append_left (bits bytes) (bits more) false k (omega (arith, length-bits bytes))
 
@@ -74,7 +74,7 @@ behind bytes grown word c k e some h h' =
     ∙ (get_or-append_right (bits bytes) (bits (take c word)) (8 * length bytes) k false (length-bits bytes) h
     ∙ (ap (λ (b : List Bool). get_or b (k - 8 * length bytes) false) (sym (take-bits word c some)) ∙ get_or-take (8 * c) (bits word) (k - 8 * length bytes) false (omega arith)))
 
--- how many bytes a word has
+-- the number of bytes of a word
 word_size : (word : List ℕ) (m : ℕ) → bits word ≡ unnum 64 m → length word ≡ 8
 word_size word m of = omega (arith, length-bits word, length-unnum 64 m, ap length of)
 
@@ -105,7 +105,7 @@ last_byte bytes grown more n z canonical some e is =
     let inside : n / 8 < length bytes = omega (arith, canonical.exact) in
     is ∙ (ap (λ (b : List ℕ). get_or b (n / 8) z) e ∙ (get_or_append_left bytes more z (n / 8) inside ∙ get_or_default_zero bytes (n / 8) z inside))
 
--- it has nothing behind its items
+-- it has nothing after its items
 pub last_clear : (bytes grown more : List ℕ) (n z i : ℕ) → IsCanonical bytes n → 0 < n % 8 → grown ≡ bytes ++ more → z ≡ get_or grown (n / 8) z → n % 8 ≤ i → i < 8 → bit z i ≡ false
 last_clear bytes grown more n z i canonical some e is h h' =
     ap (λ (b : ℕ). bit b i) (last_byte bytes grown more n z canonical some e is)

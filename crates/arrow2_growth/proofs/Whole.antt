@@ -1,4 +1,4 @@
--- Many items behind those that bytes hold.
+-- Many items after those that bytes hold.
 use Rattle.std.proofs.Common.{◌≡◌, inl, inr, ℕ, ◌+◌, ◌-◌, ◌*◌, ◌/◌, ◌%◌, ◌<◌, ◌≤◌, List, ◌++◌, Bool, true, false, take, drop, replicate, length, get_or, refl, subst, ap, sym, ◌∙◌, arith}
 use Rattle.std.proofs.lemmas.Bool.{cases_lt}
 use Rattle.std.proofs.lemmas.List.{length-append, length-take-le, length-drop, length-replicate, get_or-take, get_or_append_left, get_or-append_right, get_or_past, ext_get_or, take_all, take-append-le, drop_more, append_assoc, take-replicate, replicate-append-replicate}
@@ -20,7 +20,7 @@ use Rattle.arrow2_growth.proofs.Pushed.{Hold, held, before}
 behind : (bytes grown more : List ℕ) (k : ℕ) → grown ≡ bytes ++ more → 8 * length bytes ≤ k → get_or (bits grown) k false ≡ get_or (bits more) (k - 8 * length bytes) false
 behind bytes grown more k e h = ap (λ (b : List Bool). get_or b k false) (ap bits e ∙ bits-append bytes more) ∙ get_or-append_right (bits bytes) (bits more) (8 * length bytes) k false (length-bits bytes) h
 
--- all bits of bytes behind items that end a byte
+-- all bits of bytes after items that end a byte
 pub pushed_bytes : (bytes after more : List ℕ) (n : ℕ) → IsCanonical bytes n → (0 < length more → n % 8 ≡ 0) → after ≡ bytes ++ more → AreBytes more → Hold after (n + 8 * length more) (take n (bits bytes) ++ bits more)
 pushed_bytes bytes after more n canonical whole e fits =
     let own : List Bool = take n (bits bytes) in
@@ -70,7 +70,7 @@ front_of_bits bytes c h some =
     ap (take r) next ∙ (take-append-le r (unnum 8 b) (bits (drop (w + 1) bytes)) (omega (arith, length-unnum 8 b)) ∙ low_bits b r (omega arith)) in
     ap (λ k. take k (bits bytes)) at ∙ (take-add (8 * w) r (bits bytes) ∙ (ap (λ (t : List Bool). t ++ take r (drop (8 * w) (bits bytes))) (take-bits bytes w (omega arith)) ∙ ap (λ (t : List Bool). bits (take w bytes) ++ t) last))
 
--- a front of bits behind items, the last byte of it by a word
+-- the first bits of bytes after items, the last byte of it by a word
 pub pushed_front : (slice : List ℕ) (own first after : List Bool) (c x : ℕ) → c ≤ 8 * length slice → 0 < c % 8 → first ≡ own ++ bits (take (c / 8) slice) → after ≡ first ++ take (c % 8) (unnum 64 x) → x ≡ get_or slice (c / 8) 0 → after ≡ own ++ take c (bits slice)
 pushed_front slice own first after c x inside some front last is =
     last
@@ -84,9 +84,9 @@ pushed_whole_front slice own after c inside whole front =
     let count : 8 * (c / 8) ≡ c = omega arith in
     front ∙ ap (λ (t : List Bool). own ++ t) (sym (take-bits slice (c / 8) (omega arith)) ∙ ap (λ k. take k (bits slice)) count)
 
--- ---- the items of a walk
+-- ---- the items of an iterator
 
--- what was first of the items still to come stands behind the others
+-- the first of the items still to come are now after the others
 pub moved_on : (own new items more left all : List Bool) → own ++ items ≡ all → items ≡ more ++ left → new ≡ own ++ more → new ++ left ≡ all
 moved_on own new items more left all so first pushed =
     ap (λ (t : List Bool). t ++ left) pushed ∙ (append_assoc own more left ∙ (ap (λ (t : List Bool). own ++ t) (sym first) ∙ so))
@@ -95,7 +95,7 @@ moved_on own new items more left all so first pushed =
 pub whole_word : (x : ℕ) → take 64 (unnum 64 x) ≡ unnum 64 x
 whole_word x = take_all 64 (unnum 64 x) (omega (arith, length-unnum 64 x))
 
--- the rest stands behind the others
+-- the rest is after the others
 pub rest_pushed : (own new items left all : List Bool) (k x : ℕ) → own ++ items ≡ all → left ≡ items → take (length left) (unnum 64 x) ≡ left → k ≡ length left → new ≡ own ++ take k (unnum 64 x) → new ≡ all
 rest_pushed own new items left all k x so is front size pushed =
     pushed ∙ (ap (λ n. own ++ take n (unnum 64 x)) size ∙ (ap (λ (t : List Bool). own ++ t) (front ∙ is) ∙ so))
@@ -104,7 +104,7 @@ rest_pushed own new items left all k x so is front size pushed =
 pub length-joined : (xs ys us vs : List Bool) → xs ++ ys ≡ us ++ vs → length xs + length ys ≡ length us + length vs
 length-joined xs ys us vs e = omega (arith, ap length e, length-append xs ys, length-append us vs)
 
--- how many items a first word leaves
+-- the number of items that a first word leaves
 pub length-word : (x : ℕ) (items left : List Bool) → items ≡ unnum 64 x ++ left → length items ≡ 64 + length left
 length-word x items left e = ap length e ∙ (length-append (unnum 64 x) left ∙ omega (arith, length-unnum 64 x))
 
@@ -124,11 +124,11 @@ length-word_in_block block after word i k x was of inside is =
     let rest : List ℕ = drop k (drop (8 * i) block) in
     omega (arith, ap length was, length-append (take (8 * i) block) (word ++ rest), length-append word rest, length-take-le (8 * i) block (omega arith), length-drop k (drop (8 * i) block), length-drop (8 * i) block, size, is)
 
--- how many items eight words leave
+-- the number of items that eight words leave
 pub length-block : (block : List ℕ) (items left : List Bool) → items ≡ bits block ++ left → length block ≡ 64 → length items ≡ 512 + length left
 length-block block items left e size = ap length e ∙ (length-append (bits block) left ∙ omega (arith, length-bits block, size))
 
--- a part of bits behind items, its head first
+-- a part of bits after items, its head first
 pub pushed_in_two : (slice : List ℕ) (own first second items : List Bool) (offset count head j k : ℕ) → head ≤ count → j ≤ length slice → 8 * j + k ≡ offset + head → items ≡ part (bits slice) offset head → first ≡ own ++ items
     → second ≡ first ++ part (bits (take (length slice - j) (drop j slice))) k (count - head) → second ≡ own ++ part (bits slice) offset count
 pushed_in_two slice own first second items offset count head j k few inside at is one two =

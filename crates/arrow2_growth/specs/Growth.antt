@@ -1,12 +1,12 @@
--- What growth by bits says.
+-- The records of growth by bits.
 use Rattle.std.specs.Prelude.{◌≡◌, ◌+◌, ◌<◌, ◌≤◌, ◌^◌, ◌↔◌, ◌⊎◌, List, ◌++◌, Bool, length, Result, OnOk, OnErr, IsOk, IfErr, IsErrOf}
 use Rattle.arrow2_model.specs.Storage.{GrowingBitmap}
 use Rattle.arrow2_types.specs.declared.refusal.Refusal.{Refusal}
 use Rattle.arrow2_types.specs.declared.refusal.Refusal.TheVariants.{Overflow, OutOfMemory}
 
--- growth by these items, all of them or none. A refusal is told as an error
+-- growth by these items, all of them or none. A failure is returned as an error
 pub record Appends {T E : Type 0} (told : Refusal → E) (r : Result T E) (old new : GrowingBitmap) (more : List Bool) : Type 0 where
-  -- they stand behind the others
+  -- they come after the others
   pub ok : OnOk r (new.items ≡ old.items ++ more)
   -- a refusal leaves the items
   pub err : OnErr r (new.items ≡ old.items)
@@ -16,18 +16,18 @@ pub record Appends {T E : Type 0} (told : Refusal → E) (r : Result T E) (old n
   pub held : length old.items ≤ old.capacity
   -- it overflows exactly where there would be more items than that
   pub overflow : IsErrOf r (told Overflow) ↔ (2 ^ 64 ≤ length old.items + length more)
-  -- there is no other error but want of memory
+  -- there is no other error but out of memory
   pub only : IfErr r (λ e. (e ≡ told Overflow) ⊎ (e ≡ told OutOfMemory))
-  -- within the capacity it takes no memory
+  -- within the capacity it does not allocate
   pub succeeds : length old.items + length more ≤ old.capacity → IsOk r
   -- the capacity never falls
   pub capacity : old.capacity ≤ new.capacity
 
--- these items are written behind the others, of which there are not too many with them
+-- these items are written after the others, and together they are not too many
 pub record Pushes {T E : Type 0} (r : Result T E) (old new : GrowingBitmap) (more : List Bool) : Type 0 where
-  -- they stand behind the others
+  -- they come after the others
   pub ok : OnOk r (new.items ≡ old.items ++ more)
-  -- within the capacity it takes no memory
+  -- within the capacity it does not allocate
   pub succeeds : length old.items + length more ≤ old.capacity → IsOk r
   -- the capacity never falls
   pub capacity : old.capacity ≤ new.capacity

@@ -1,4 +1,4 @@
-//! Booleans that a function answers, packed 64 at a time.
+//! Booleans that a function returns, packed 64 at a time.
 ghost use Rattle.std.specs.Prelude.{◌≡◌, ℕ, ◌+◌, ◌*◌, ◌<◌, ◌≤◌, ◌^◌, false, length, slice_index_or, IfOk, vec_len};
 ghost use Rattle.arrow2_model.specs.Bits.{bits};
 
@@ -6,8 +6,8 @@ use crate::packed::word_of;
 use arrow2_chunk::bit_chunk::BitChunk;
 use std::alloc::{AllocError, Global};
 
-/// The bytes of what `f` answers to each number below `length`, with spare bits behind them. Allocates once, before it
-/// asks `f`. Requires that `f` may be called at each of these numbers.
+/// Returns the bytes of the results of `f` for each number below `length`, followed by padding bits. Allocates once,
+/// before it calls `f`. Requires that `f` may be called at each of these numbers.
 ///
 /// # Errors
 ///
@@ -32,7 +32,7 @@ pub fn answered<F: Fn(usize) -> bool>(
     Ok(bytes)
 }
 
-/// What `f` answers to `count` numbers from `start` on, and false behind these answers.
+/// Returns the results of `f` for `count` numbers from `start` on, followed by false.
 fn block_of<F: Fn(usize) -> bool>(start: usize, count: usize, f: &F) -> [bool; 64]
     requires few { count ≤ 64 }
     requires fits { start + count < 2 ^ 64 }

@@ -1,4 +1,4 @@
-//! Many items behind those that are packed.
+//! Appending many items to those that are packed.
 ghost use Rattle.std.specs.Prelude.{◌≡◌, ◌+◌, ◌*◌, ◌%◌, ◌<◌, ◌≤◌, ◌^◌, ◌++◌, length, take, replicate};
 ghost use Rattle.arrow2_growth.specs.Growth.{Appends, Pushes};
 ghost use Rattle.arrow2_model.specs.Bits.{bits};
@@ -72,8 +72,8 @@ impl PackedBits {
         }
     }
 
-    /// Appends the first `count` bits of `slice`: whole bytes at once. Requires that the items end a byte, where a bit
-    /// is appended at all, and that `slice` has as many bits.
+    /// Appends the first `count` bits of `slice`: whole bytes at once. Requires that the items end a byte, unless no
+    /// bit is appended, and that `slice` has at least `count` bits.
     fn push_front(&mut self, slice: &[u8], count: usize) -> Result<(), AllocError>
         requires whole { 0 < count → length self.old.items % 8 ≡ 0 }
         requires inside { count ≤ 8 * length slice.now }
@@ -89,8 +89,8 @@ impl PackedBits {
         Ok(())
     }
 
-    /// Appends the items of a walk by words: eight words at once, and those that are left one by one. Requires that the
-    /// items end a byte, where one is appended at all.
+    /// Appends the items of an iterator by words: eight words at once, and the remaining ones one by one. Requires that
+    /// the items end a byte, where one is appended at all.
     fn push_blocks(&mut self, chunks: BitChunks<'_, u64>) -> Result<(), AllocError>
         requires whole { 0 < length chunks.items → length self.old.items % 8 ≡ 0 }
         requires fits { length self.old.items + length chunks.items < 2 ^ 64 }
@@ -103,7 +103,7 @@ impl PackedBits {
         self.push_words(chunks)
     }
 
-    /// Appends the items of a walk by words.
+    /// Appends the items of an iterator by words.
     fn push_words(&mut self, chunks: BitChunks<'_, u64>) -> Result<(), AllocError>
         requires fits { length self.old.items + length chunks.items < 2 ^ 64 }
         ensures { Pushes result self.old self.new chunks.entry.items }
@@ -116,7 +116,7 @@ impl PackedBits {
     }
 }
 
-/// The bytes of the next eight words. Requires that there are as many.
+/// Returns the bytes of the next eight words. Requires that there are eight.
 fn next_block(chunks: &mut BitChunks<'_, u64>) -> [u8; 64]
     requires { 8 ≤ length (full_words 64 chunks.old.items) }
     ensures size { length result ≡ 64 }

@@ -1,4 +1,4 @@
-//! Booleans that become bytes, by words of 64: appended at any bit place, and packed. What knows bytes and words alone.
+//! Booleans that become bytes, by words of 64: appended at any bit index, and packed. It knows bytes and words alone.
 #![tactic(auto)]
 
 pub mod answered;

@@ -12,8 +12,8 @@ use arrow2_types::refusal::Refusal;
 use std::alloc::{AllocError, Global};
 use std::simd::prelude::*;
 
-/// The bytes of the items of an iterator that ends, with spare bits behind them, and how many items there are. Its
-/// size hint is not read.
+/// Returns the bytes of the items of an iterator that ends, followed by padding bits, and the number of items. Its size
+/// hint is not read.
 ///
 /// # Errors
 ///
@@ -49,7 +49,8 @@ pub fn collected<I: Iterator<Item = bool> + Drop>(
     }
 }
 
-/// Puts the next items into a block, from its front, until it is full or no item is left, and answers how many came.
+/// Writes the next items into a block, from its first slot on, until it is full or no item is left, and returns how
+/// many were written.
 fn fill<I: Iterator<Item = bool>>(items: &mut I, block: &mut [bool; 64]) -> usize
     requires can { I.can_next items.old }
     requires ends { IsFinite (I.remaining items.old) }
@@ -69,7 +70,7 @@ fn fill<I: Iterator<Item = bool>>(items: &mut I, block: &mut [bool; 64]) -> usiz
     64
 }
 
-/// The bytes of the items, with spare bits behind them. Allocates once.
+/// Returns the bytes of the items, followed by padding bits. Allocates once.
 ///
 /// # Errors
 ///
@@ -88,7 +89,7 @@ pub fn packed(alloc: Global, items: &[bool]) -> Result<Vec<u8>, AllocError>
     Ok(bytes)
 }
 
-/// The word of 64 items: one comparison of 64 lanes.
+/// Returns the word of 64 items: one comparison of 64 lanes.
 pub fn word_of(items: &[bool; 64]) -> u64
     ensures { result ≡ num items.now }
 {
@@ -96,7 +97,7 @@ pub fn word_of(items: &[bool; 64]) -> u64
     lanes.simd_ne(u8x64::splat(0)).to_bitmask()
 }
 
-/// The items as numbers, 1 for true.
+/// Returns the items as numbers, 1 for true.
 fn lanes_of(items: &[bool; 64]) -> [u8; 64]
     ensures { result ≡ map from_bool items.now }
 {
@@ -107,7 +108,7 @@ fn lanes_of(items: &[bool; 64]) -> [u8; 64]
     lanes
 }
 
-/// The items, and false behind them. Requires that they are no more than a word has.
+/// Returns the items, followed by false. Requires that they are no more than a word has.
 pub fn padded(items: &[bool]) -> [bool; 64]
     requires { length items.now ≤ 64 }
     ensures front { take (length items.now) result ≡ items.now }

@@ -18,15 +18,15 @@ use arrow2_types::refusal::Refusal;
 use std::alloc::{AllocError, Global};
 use std::marker::Model;
 
-/// At index i the byte whose bits below i are set: read in place of a shift by a variable.
+/// At index i the byte whose bits below i are set: read instead of a shift by a variable.
 const BELOW: [u8; 8] = [0, 1, 3, 7, 15, 31, 63, 127];
 
 /// At index i the byte whose other bits are set.
 const ABOVE: [u8; 8] = [255, 254, 252, 248, 240, 224, 192, 128];
 
-/// Booleans packed into bytes, which grow: contracts see the items, and how many it has room for.
+/// Booleans packed into bytes, which grow: contracts see the items and the capacity.
 ///
-/// There is no spare byte, and every spare bit is false.
+/// There is no spare byte, and every padding bit is false.
 #[derive(Drop)]
 pub struct PackedBits {
     bytes: Vec<u8>,
@@ -51,7 +51,7 @@ impl Model for PackedBits {
 
 #[tactic(auto, using(crate::proofs::Buffer::buffers))]
 impl PackedBits {
-    /// No items. Does not allocate.
+    /// Returns no items. Does not allocate.
     pub fn new(alloc: Global) -> PackedBits
         ensures { result.items ≡ [] }
     {
@@ -61,7 +61,7 @@ impl PackedBits {
         }
     }
 
-    /// No items, with room for `capacity`.
+    /// Returns no items, with capacity for `capacity` of them.
     ///
     /// # Errors
     ///
@@ -74,8 +74,9 @@ impl PackedBits {
         Ok(PackedBits { bytes, length: 0 })
     }
 
-    /// The first `length` bits of the bytes. Spare bytes are cut and spare bits cleared, in place, and the room of the
-    /// vector stays. Requires that there are as many. Does not allocate.
+    /// Returns the first `length` bits of the bytes. Spare bytes are cut and padding bits cleared, in place, and the
+    /// capacity of the vector stays. Requires `length` to be at most eight times the number of bytes. Does not
+    /// allocate.
     pub fn from_vec(bytes: Vec<u8>, length: usize) -> PackedBits
         requires inside { length ≤ 8 * vec_len bytes }
         ensures items { result.items ≡ take length (bits bytes.items) }
@@ -87,31 +88,31 @@ impl PackedBits {
         PackedBits { bytes, length }
     }
 
-    /// How many items there are.
+    /// Returns the number of items.
     pub fn len(&self) -> usize
         ensures { result ≡ length self.now.items }
     {
         self.length
     }
 
-    /// How many items there is room for before memory is asked for, at most `usize::MAX`.
+    /// Returns the capacity in items, at most `usize::MAX`.
     pub fn capacity(&self) -> usize
         ensures capacity { result ≡ self.now.capacity }
         ensures held { length self.now.items ≤ result }
     {
-        // The length is read for what is known of it: a `usize` counts the items.
+        // The length is read for the facts that its type guarantees: a `usize` counts the items.
         let _ = self.len();
         self.bytes.capacity().saturating_mul(8)
     }
 
-    /// The allocator of the bytes.
+    /// Returns the allocator of the bytes.
     pub fn allocator(&self) -> Global
         ensures { (only : Global) → result ≡ only }
     {
         *self.bytes.allocator()
     }
 
-    /// The bytes of the items: as many as they need, with spare bits false.
+    /// Returns the bytes of the items: exactly those that the items need, with padding bits false.
     pub fn as_slice(&self) -> &[u8]
         ensures bytes { result.now ≡ canonical_bytes self.now.items }
         ensures items { take (length self.now.items) (bits result.now) ≡ self.now.items }
@@ -120,7 +121,7 @@ impl PackedBits {
         self.bytes.as_slice()
     }
 
-    /// The bytes of the items, and how many items they hold.
+    /// Returns the bytes of the items, and the number of items that they hold.
     pub fn into_parts(self) -> (Vec<u8>, usize)
         ensures bytes { result.0.items ≡ canonical_bytes self.items }
         ensures items { take result.1 (bits result.0.items) ≡ self.items }
@@ -131,7 +132,7 @@ impl PackedBits {
         (bytes, length)
     }
 
-    /// Makes room for `additional` items more.
+    /// Reserves capacity for `additional` more items.
     ///
     /// # Errors
     ///
@@ -153,7 +154,7 @@ impl PackedBits {
         Ok(())
     }
 
-    /// Gives back room that is not used, where the allocator takes it.
+    /// Gives back unused capacity, where the allocator takes it.
     pub fn shrink_to_fit(&mut self)
         ensures items { self.new.items ≡ self.old.items }
         ensures capacity { self.new.capacity ≤ self.old.capacity }
@@ -174,7 +175,8 @@ impl PackedBits {
     ///
     /// # Errors
     ///
-    /// `Overflow` exactly where there are `usize::MAX` items, else `OutOfMemory` alone. After both the items are as before.
+    /// `Overflow` exactly where there are `usize::MAX` items, else `OutOfMemory` alone. After both the items are as
+    /// before.
     pub fn push(&mut self, item: bool) -> Result<(), Refusal>
         ensures { Appends (λ refusal. refusal) result self.old self.new (item ∷ []) }
     {
@@ -191,9 +193,9 @@ impl PackedBits {
         Ok(())
     }
 
-    /// Appends the first `count` items of `word`: what fits into the last byte goes there, and what is left behind it.
-    /// Spare bits stay false, whatever the word has behind these items. Requires that `count` is at most 64, and that
-    /// all items are no more than `usize::MAX`.
+    /// Appends the first `count` items of `word`: the bits that fit into the last byte go there, and the others after
+    /// it. Padding bits stay false, whatever the word has after these items. Requires that `count` is at most 64, and
+    /// that all items are no more than `usize::MAX`.
     ///
     /// # Errors
     ///
@@ -247,7 +249,7 @@ impl PackedBits {
         Ok(())
     }
 
-    /// Appends true until there are `total` items: whole bytes, and then the bits before and behind them are mended.
+    /// Appends true until there are `total` items: whole bytes, and then the bits before and after them are mended.
     /// Requires that there are no more than that.
     pub(crate) fn append_trues(&mut self, total: usize) -> Result<(), AllocError>
         requires more { length self.old.items ≤ total }
@@ -287,8 +289,8 @@ impl PackedBits {
         *byte = set(*byte, index % 8, value);
     }
 
-    /// Writes what `op` answers to each word of the items, and to the row of words beside it, in place of that word.
-    /// Does not allocate. Requires rows of as many items.
+    /// Replaces each word of the items by the result of `op` for it and the row of words at its index. Does not
+    /// allocate. Requires rows of the same number of items.
     pub fn assign_rows<T: BitChunk, S: WordRows<T>, F: Fn(T, S::Row) -> T>(
         &mut self,
         rows: S,
@@ -311,8 +313,8 @@ impl PackedBits {
         assign_rows(self.bytes.as_mut_slice(), self.length, rows, op);
     }
 
-    /// Makes each item the answer of table `t` for it and the bit of `other` at its place, 32 bytes at a time. Does not
-    /// allocate. Requires as many bits.
+    /// Replaces each item by the output of table `t` for it and the bit of `other` at its index, 32 bytes at a time.
+    /// Does not allocate. Requires `other` to have one bit for each item.
     pub fn answer_beside(&mut self, other: &[u8], t: u8)
         requires inside { length self.old.items ≤ 8 * length other.now }
         ensures items { self.new.items ≡ each t (self.old.items
@@ -322,7 +324,7 @@ impl PackedBits {
         assign_binary(self.bytes.as_mut_slice(), other, self.length, t);
     }
 
-    /// Makes each item the answer of table `t` for it, 32 bytes at a time. Does not allocate.
+    /// Replaces each item by the output of table `t` for it, 32 bytes at a time. Does not allocate.
     pub fn answer(&mut self, t: u8)
         ensures items { self.new.items ≡ each t (self.old.items ∷ []) }
         ensures capacity { self.new.capacity ≡ self.old.capacity }
@@ -340,7 +342,7 @@ impl PackedBits {
     }
 }
 
-/// Sets the bits of a byte behind the first `length` bits, where these end within it. Requires that it is there.
+/// Sets the bits of a byte after the first `length` bits, where these end within it. Requires that it is there.
 fn set_above(bytes: &mut Vec<u8>, length: usize)
     requires inside { length ≤ 8 * length' bytes.old.items }
     ensures kept { (k : ℕ) → (k < length) ⊎ (8 * ((length + 7) / 8) ≤ k) →
@@ -356,7 +358,7 @@ fn set_above(bytes: &mut Vec<u8>, length: usize)
     }
 }
 
-/// Cuts what lies behind the first `length` bits: spare bytes, and spare bits of the last byte.
+/// Cuts everything after the first `length` bits: spare bytes, and padding bits of the last byte.
 fn cut(bytes: &mut Vec<u8>, length: usize)
     requires { length ≤ 8 * vec_len bytes.old }
     ensures canonical { IsCanonical bytes.new.items length }
@@ -410,7 +412,7 @@ fn push_first(bytes: &mut Vec<u8>, eight: &[u8; 8], count: usize) -> Result<(), 
     }
 }
 
-/// The byte with the first items of `word` from bit `place` on. Requires that none of its bits is set there.
+/// Returns the byte with the first items of `word` from bit `place` on. Requires that none of its bits is set there.
 fn merged(byte: u8, word: u64, place: usize) -> u8
     requires place { place < 8 }
     requires clear { (i : ℕ) → place ≤ i → i < 8 → bit byte i ≡ false }

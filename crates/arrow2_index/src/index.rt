@@ -1,4 +1,4 @@
-//! Numbers that point into buffers, and walks over ranges of them.
+//! Numbers that point into buffers, and iterators over ranges of them.
 ghost use Rattle.std.specs.Prelude.{◌≡◌, ◌<◌, ◌≤◌, ◌<ℤ◌, ◌≤ℤ◌, ◌+ℤ◌, ◌-ℤ◌, ◌↔◌, ℕ, ℤ, length, pos, refl, Some, IsSome, IfSome};
 ghost use Rattle.std.specs.Iterator.{YieldsFirstBy, item_count, UpTo};
 ghost use Rattle.std.specs.Iterator.SizeHint.{IsWithinCount};
@@ -12,36 +12,36 @@ use std::ops::{AddAssign, Sub};
 
 /// A whole number of at most 64 bits, which may point to an item of a buffer.
 ///
-/// Differs from arrow2: what doesn't fit is asked not to come, in place of wrapping.
+/// Differs from arrow2: values must fit, where arrow2's wrap.
 pub trait Index: NativeType + Ord + AddAssign + Sub<Self, Output = Self> + One + Num + CheckedAdd {
-    /// The number as a `usize`. Requires that it is not negative.
+    /// Returns the number as a `usize`. Requires that it is not negative.
     fn to_usize(&self) -> usize
         requires { pos 0 ≤ℤ Self.value self.now }
         ensures value { pos result ≡ Self.value self.now }
         ensures fits { Self.fits (Self.value self.now) };
 
-    /// The same number in this type, or `None` where it does not fit.
+    /// Returns the same number in this type, or `None` where it does not fit.
     fn from_usize(index: usize) -> Option<Self>
         ensures some { IfSome result (λ x. Self.value x ≡ pos index) }
         ensures fits { IsSome result ↔ Self.fits (pos index) };
 
-    /// The same number in this type. Requires that it fits.
+    /// Returns the same number in this type. Requires that it fits.
     fn from_as_usize(index: usize) -> Self
         requires { Self.fits (pos index) }
         ensures { Self.value result ≡ pos index };
 
-    /// How far `end` is above the number. Requires that it is not below. Not in arrow2.
+    /// Returns how far `end` is above the number. Requires that it is not below. Not in arrow2.
     fn distance_to(self, end: Self) -> usize
         requires { Self.value self ≤ℤ Self.value end }
         ensures { pos result ≡ Self.value end -ℤ Self.value self };
 
-    /// The next number. Requires that the number is below `end`, so that there is a next one. Not in arrow2.
+    /// Returns the next number. Requires that the number is below `end`, so that there is a next one. Not in arrow2.
     fn next_towards(self, end: Self) -> Self
         requires { Self.value self <ℤ Self.value end }
         ensures { Self.value result ≡ Self.value self +ℤ pos 1 };
 
-    /// The walk from `start` up to the number before `end`, or `None` where one of the two does not fit. Requires that
-    /// `start` is at most `end`, which arrow2 tests last.
+    /// Returns the iterator from `start` up to the number before `end`, or `None` where one of the two does not fit.
+    /// Requires that `start` is at most `end`, which arrow2 tests last.
     final fn range(start: usize, end: usize) -> Option<IndexRange<Self>>
         requires { start ≤ end }
         ensures some { IfSome result (λ range. range ≡ integers (pos start) (pos end)) }
@@ -268,7 +268,7 @@ impl<I: Index> Model for IndexRange<I> {
 
 #[tactic(auto, using(crate::proofs::Ranges::ranges))]
 impl<I: Index> IndexRange<I> {
-    /// The walk from `start` up to the number before `end`. Requires that `start` is at most `end`.
+    /// Returns the iterator from `start` up to the number before `end`. Requires that `start` is at most `end`.
     pub fn new(start: I, end: I) -> IndexRange<I>
         requires { I.value start ≤ℤ I.value end }
         ensures { result ≡ integers (I.value start) (I.value end) }
@@ -294,7 +294,7 @@ impl<I: Index> Iterator for IndexRange<I> {
         Some(item)
     }
 
-    /// Both bounds are the number of items still to come. arrow2's may overflow.
+    /// Returns the number of items still to come as both bounds. arrow2's may overflow.
     fn size_hint(&self) -> (usize, Option<usize>)
         ensures lower { IsWithinCount result.0 (item_count (λ s. s) self.now) }
         ensures upper { IfSome result.1 (UpTo (item_count (λ s. s) self.now)) }

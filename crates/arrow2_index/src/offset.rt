@@ -21,8 +21,8 @@ pub trait Offset: Index {
     /// The greatest offset.
     const MAX: usize;
 
-    /// The offset that `sum` is. Where it is above the greatest one, some number: so a loop over lengths may test the
-    /// last of its sums alone. Not in arrow2.
+    /// Returns `sum` as an offset, or some number where it is above the greatest one: so a loop over lengths may test
+    /// the last of its sums alone. Not in arrow2.
     fn from_low_bits(sum: u128) -> Self
         ensures { sum ≤ Self.MAX → Self.value result ≡ pos sum };
 

@@ -67,7 +67,7 @@ word_bit w x c i word of most h =
     ap (λ (t : List Bool). get_or t i false) (sym (take-bits word c room))
     ∙ (get_or-take (8 * c) (bits word) i false h ∙ (ap (λ (t : List Bool). get_or t i false) of ∙ get_or-unnum w x i false (omega arith)))
 
--- a bit of a word that was read from bytes, behind which others stand
+-- a bit of a word that was read from bytes, which others follow
 pub read_bit : (w n x a c i : ℕ) (xs copied more : List ℕ) → 8 * n ≡ w → unnum w x ≡ bits (take n (copied ++ more)) → copied ≡ take c (drop a xs) → a + c ≤ length xs → c ≤ n → i < 8 * c → bit x i ≡ get_or (bits xs) (8 * a + i) false
 read_bit w n x a c i xs copied more size is from inside most h =
     let u = length-unnum w x in
@@ -95,7 +95,7 @@ Done w g bytes p = (k : ℕ) → k < p → get_or (bits bytes) k false ≡ bit (
 abbrev pub Kept : List ℕ → List ℕ → ℕ → Type 0
 Kept old bytes p = (k : ℕ) → p ≤ k → get_or (bits bytes) k false ≡ get_or (bits old) k false
 
--- the word that begins at a place
+-- the word that begins at an index
 place_of : (w q i : ℕ) → i < w → ((w * q + i) / w ≡ q) × ((w * q + i) % w ≡ i)
 place_of w q i h = let e : w * q + i ≡ q * w + i = omega (arith, mul_comm w q) in (ap (λ n. n / w) e ∙ div-mul-add q w i h, ap (λ n. n % w) e ∙ mod-mul-add q w i h)
 
@@ -181,7 +181,7 @@ done_rest w r m len q p n g bytes after pos at end short masked written kept sam
         let t = length-take-le len (unnum w r) (omega (arith, u)) in
         sym (get_or-unnum w m i false (omega arith)) ∙ (ap (λ (b : List Bool). get_or b i false) e ∙ (get_or_append_left (take len (unnum w r)) (replicate (w - len) false) false i (omega (arith, t)) ∙ (get_or-take len (unnum w r) i false h ∙ get_or-unnum w r i false (omega arith))))
 
--- and nothing stands behind the last item
+-- and nothing comes after the last item
 pub rest_canonical : (w r m len p c n : ℕ) (after : List ℕ) → len ≤ w → p + len ≡ n → p + 8 * c ≡ 8 * length after → 8 * c ≤ w → length after ≡ (n + 7) / 8 → unnum w m ≡ take len (unnum w r) ++ replicate (w - len) false
     → ((i : ℕ) → i < 8 * c → get_or (bits after) (p + i) false ≡ bit m i) → ((k : ℕ) → get_or after k 0 < 256) → IsCanonical after n
 rest_canonical w r m len p c n after most end whole room exact masked written fits =

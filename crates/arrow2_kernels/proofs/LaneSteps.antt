@@ -1,4 +1,4 @@
--- Lanes of bytes bit by bit, and loops that write bytes in place of others.
+-- Lanes of bytes bit by bit, and loops that write bytes over others.
 use Rattle.std.proofs.Common.{◌≡◌, ℕ, suc, ◌+◌, ◌-◌, ◌*◌, ◌/◌, ◌%◌, ◌^◌, ◌<◌, ◌≤◌, ◌&&◌, List, [], ◌∷◌, ◌++◌, Bool, true, false, cond, length, get_or, take, drop, set, replicate, refl, ap, sym, subst, ◌∙◌, inl, inr, arith}
 use Rattle.std.specs.Prelude.{bit_and, bit_xor}
 use mathlib.Core.Bool.{xor}
@@ -73,7 +73,7 @@ filled_false n k i h g = ap (λ v. bit v i) (get_or-replicate n k 0 0 h) ∙ (sy
 
 -- ---- a loop that writes byte by byte, or lane by lane
 
--- byte j of the answers acts by table t on byte j of both lists
+-- byte j of the outputs acts by table t on byte j of both lists
 abbrev pub Acts2 : ℕ → List ℕ → List ℕ → List ℕ → ℕ → Type 0
 Acts2 t old other bytes j = (i : ℕ) → i < 8 → bit (get_or bytes j 0) i ≡ answer t (bit (get_or old j 0) i ∷ bit (get_or other j 0) i ∷ [])
 
@@ -151,7 +151,7 @@ all_written1 t old bytes w =
     get_or-bits_at bytes k false (omega (arith, w.size)) ∙ (w.done (k / 8) (omega arith) (k % 8) (omega arith)
     ∙ ap (λ z. answer t (z ∷ [])) (sym (get_or-bits_at old k false k<))))
 
--- ---- the first items of the answers
+-- ---- the first items of the outputs
 
 pub take-each2 : (t n : ℕ) (xs ys zs : List Bool) → n ≤ length xs → n ≤ length ys → take n zs ≡ take n ys → take n (each t (xs ∷ zs ∷ [])) ≡ each t (take n xs ∷ take n ys ∷ [])
 take-each2 t n xs ys zs h g same =
@@ -176,7 +176,7 @@ take-each1 t n xs h =
     get_or-take n (each t (xs ∷ [])) k false k<n ∙ (get_or-each t (xs ∷ []) k (omega arith)
     ∙ ap (λ z. answer t (z ∷ [])) (sym (get_or-take n xs k false k<n))))
 
--- ---- spare bits
+-- ---- padding bits
 
 abbrev pub AreBytes : List ℕ → Type 0
 AreBytes bytes = (i : ℕ) → Fits w8 (get_or bytes i 0)
@@ -201,7 +201,7 @@ front_bits bytes front n m h e is =
     let shorter = take-take n (8 * m) (bits bytes) (omega (arith, e)) in
     ap (λ (b : List ℕ). take n (bits b)) is ∙ (ap (take n) (sym (take-bits bytes m (omega (arith, e)))) ∙ shorter)
 
--- ---- tables of which the lowest bits are read
+-- ---- tables whose lowest bits are read
 
 low_table : (w t i : ℕ) → i < w → bit (t % 2 ^ w) i ≡ bit t i
 low_table w t i h = sym (get_or-unnum w (t % 2 ^ w) i false h) ∙ (ap (λ (b : List Bool). get_or b i false) (unnum-mod w t) ∙ get_or-unnum w t i false h)
@@ -228,7 +228,7 @@ same_unary_table t u xs e =
     same true = low_table 2 t 1 (omega arith)
     same false = low_table 2 t 0 (omega arith)
 
--- ---- answers that are appended
+-- ---- outputs that are appended
 
 pub each-append : (t : ℕ) (a b d e : List Bool) → length a ≡ length d → length b ≡ length e → each t ((a ++ b) ∷ (d ++ e) ∷ []) ≡ each t (a ∷ d ∷ []) ++ each t (b ∷ e ∷ [])
 each-append t a b d e l m =
@@ -272,7 +272,7 @@ block_more t p n left right before after l inside done more =
 pub no_block : (t : ℕ) (left right before : List ℕ) → before ≡ [] → bits before ≡ each t (bits (take 0 left) ∷ bits (take 0 right) ∷ [])
 no_block t left right before e = each_from t (bits (take 0 left) ∷ bits (take 0 right) ∷ []) (bits before) (ap (λ (b : List ℕ). length (bits b)) e) (λ k h. absurd (omega (arith, length-bits (take 0 left), h)))
 
--- what was written to the end of a vector
+-- the items that were written to the end of a vector
 pub tail_written : (old more ys xs items : List ℕ) (at len : ℕ) → xs ≡ items → items ≡ old ++ more → at ≡ length old → length ys ≡ length more → len ≡ length items
     → take len (put_mid at (length xs - at) xs ys ++ drop (length (put_mid at (length xs - at) xs ys)) items) ≡ old ++ ys
 tail_written old more ys xs items at len e was is size all =
@@ -292,7 +292,7 @@ tail_is old more xs at was is =
     let d : drop at xs ≡ more = ap (drop at) was ∙ drop_at old more at (sym is) in
     ap (take (length xs - at)) d ∙ take_all (length xs - at) more (omega (arith, ap length was, n))
 
--- a block that was written in place of its copy
+-- a block that was written over its copy
 pub block_written : (t : ℕ) (old left right ys xs items after : List ℕ) (at len : ℕ) → length left ≡ length right → xs ≡ items → items ≡ old ++ left → at ≡ length old → len ≡ length items → length ys ≡ length (take (length xs - at) (drop at xs))
     → bits ys ≡ each t (bits (take (length xs - at) (drop at xs)) ∷ take (8 * length (take (length xs - at) (drop at xs))) (bits right) ∷ [])
     → bits (take len (put_mid at (length xs - at) xs ys ++ drop (length (put_mid at (length xs - at) xs ys)) items)) ≡ bits old ++ each t (bits left ∷ bits right ∷ [])
@@ -301,7 +301,7 @@ block_written t old left right ys xs items after at len alike e was is all size 
     ap bits (tail_written old left ys xs items at len e was is (size ∙ ap length part) all)
     ∙ (bits-append old ys ∙ ap (λ (b : List Bool). bits old ++ b) (answers ∙ (ap (λ (p : List ℕ). each t (bits p ∷ take (8 * length p) (bits right) ∷ [])) part ∙ appended t left right alike)))
 
--- as many bytes as hold the answers
+-- exactly the bytes that hold the outputs
 pub length-answers : (t n m : ℕ) (left right bytes : List ℕ) → n ≤ 8 * length left → m ≡ (n + 7) / 8 → bits bytes ≡ each t (bits (take m left) ∷ bits (take m right) ∷ []) → length bytes ≡ (n + 7) / 8
 length-answers t n m left right bytes h e is =
     let a = length-bits bytes in

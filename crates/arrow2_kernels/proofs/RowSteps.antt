@@ -11,7 +11,7 @@ use Rattle.arrow2_model.proofs.Numbers.{num-unnum, num-part-lt}
 use Rattle.arrow2_model.proofs.Words.{length-rest, rest-none, rest-whole, length-full_words, get_or-full_words}
 use Rattle.arrow2_model.specs.Rows.{GivesRow}
 
--- false behind the items changes no number
+-- false after the items changes no number
 num-falses : (items : List Bool) (m : ℕ) → num (items ++ replicate m false) ≡ num items
 num-falses [] zero = refl
 num-falses [] (suc m) = rw (num-falses [] m) refl
@@ -23,7 +23,7 @@ pub one_word : (w x : ℕ) → x < 2 ^ w → AreWords w (x ∷ [])
 one_word w x h zero = h
 one_word w x h (suc k) = pow_pos w
 
--- word j of a list behind its first word
+-- word j of a list after its first word
 word_behind : (w x : ℕ) (items left : List Bool) (j : ℕ) → items ≡ unnum w x ++ left → word w left j ≡ word w items (j + 1)
 word_behind w x items left j e =
     let m = mul-suc w j in

@@ -1,4 +1,4 @@
--- What the slice of a whole vector leaves in the vector.
+-- The contents of a vector after its whole slice was written.
 use Rattle.std.proofs.Common.{◌≡◌, ℕ, List, ◌++◌, take, drop, length, arith}
 use Rattle.std.proofs.lemmas.List.{take_all, drop_all, append-nil}
 

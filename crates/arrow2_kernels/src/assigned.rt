@@ -1,4 +1,4 @@
-//! The answers of a word function in place of the words of bytes.
+//! Replacing the words of bytes by the results of a word function.
 ghost use Rattle.std.specs.Prelude.{◌≡◌, ◌+◌, ◌-◌, ◌*◌, ◌/◌, ◌<◌, ◌≤◌, ◌^◌, ◌⊎◌, ℕ, List, ◌∷◌, false, take, length as length', slice_index_or};
 ghost use Rattle.arrow2_model.specs.Bits.{bit, bits};
 ghost use Rattle.arrow2_model.specs.Canonical.{IsCanonical};
@@ -9,9 +9,9 @@ use crate::rows::WordRows;
 use arrow2_chunk::bit_chunk::BitChunk;
 use std::convert::AsSlice;
 
-/// Writes what `op` answers to each word of the first `length` bits, and to the row of words beside it, in place of
-/// that word. Spare bits are false afterwards, whatever they were, and whatever `op` sets there. Does not allocate.
-/// Requires as many bytes as hold so many bits, for lists of `length` items all, and that `op` answers every word.
+/// Replaces each word of the first `length` bits by the result of `op` for it and the row of words at its index.
+/// Padding bits are false afterwards, whatever they were, and whatever `op` sets there. Does not allocate. Requires
+/// exactly the bytes that `length` bits need, that all lists have `length` items, and that `op` accepts every word.
 pub fn assign_rows<T: BitChunk, S: WordRows<T>, F: Fn(T, S::Row) -> T>(
     bytes: &mut [u8],
     length: usize,
@@ -43,8 +43,8 @@ pub fn assign_rows<T: BitChunk, S: WordRows<T>, F: Fn(T, S::Row) -> T>(
     }
 }
 
-/// The word whose first bytes are the `count` ones from byte `at` on. Requires that these are inside the bytes, and no
-/// more than a word has.
+/// Returns the word whose first bytes are the `count` ones from byte `at` on. Requires that these are inside the bytes,
+/// and no more than a word has.
 fn word_at<T: BitChunk>(bytes: &[u8], at: usize, count: usize) -> T
     requires inside { at + count ≤ length' bytes.now }
     requires most { count ≤ T.BitChunk.SIZE }
@@ -71,8 +71,8 @@ fn put_word<T: BitChunk>(bytes: &mut [u8], at: usize, count: usize, word: T)
     write_over(&mut bytes[at..at + count], &word.as_slice()[..count]);
 }
 
-/// Writes the bytes of `word` in place of `bytes`. Requires as many. A single byte is stored by itself: as a copy, it
-/// keeps LLVM from making a loop over bytes wide.
+/// Replaces `bytes` by the bytes of `word`. Requires `bytes` to have exactly the bytes of a word. A single byte is
+/// stored by itself: as a copy, it keeps LLVM from making a loop over bytes wide.
 fn write_over(bytes: &mut [u8], word: &[u8])
     requires size { length' word.now ≡ length' bytes.old }
     ensures { bytes.new ≡ word.now }

@@ -1,4 +1,4 @@
-//! The answers of a truth table in place of bytes, 32 bytes at a time.
+//! Replacing bytes by the outputs of a truth table, 32 bytes at a time.
 ghost use Rattle.std.specs.Prelude.{◌≡◌, ◌+◌, ◌*◌, ◌/◌, ◌%◌, ◌^◌, ◌<◌, ◌≤◌, [], ◌∷◌, slice_index, slice_set, take, length as length'};
 ghost use Rattle.arrow2_model.specs.Bits.{bits};
 ghost use Rattle.arrow2_model.specs.Canonical.{IsCanonical};
@@ -8,9 +8,9 @@ use crate::lanes::{binary_lanes, unary_lanes};
 use crate::tables::{binary_answers, unary_answers};
 use std::simd::prelude::*;
 
-/// Writes the answers of table `t` for the first `length` bits, and for those of `other`, in place. Spare bits are
-/// false afterwards, whatever they were. Does not allocate. Requires as many bytes as hold so many bits, and for as
-/// many of `other` at least.
+/// Replaces the first `length` bits by the outputs of table `t` for them and for those of `other`. Padding bits are
+/// false afterwards, whatever they were. Does not allocate. Requires exactly the bytes that `length` bits need, and at
+/// least that many in `other`.
 pub fn assign_binary(bytes: &mut [u8], other: &[u8], length: usize, t: u8)
     requires exact { length' bytes.old ≡ (length + 7) / 8 }
     requires inside { length ≤ 8 * length' other.now }
@@ -32,7 +32,7 @@ pub fn assign_unary(bytes: &mut [u8], length: usize, t: u8)
     clear_spare(bytes, length);
 }
 
-/// Writes the answers for each bit of the bytes in place, by a loop of the table's own.
+/// Replaces each bit of the bytes by its output, by a loop of the table's own.
 pub(crate) fn write_by_table(bytes: &mut [u8], other: &[u8], t: u8)
     requires inside { length' bytes.old ≤ length' other.now }
     ensures { bits bytes.new ≡ each t (bits bytes.old
@@ -70,7 +70,7 @@ fn write_by_unary_table(bytes: &mut [u8], t: u8)
     }
 }
 
-/// Writes the answers for each bit of the bytes in place. 32 bytes go at once, and a plain loop takes the rest.
+/// Replaces each bit of the bytes by its output. 32 bytes go at once, and a plain loop takes the rest.
 #[inline(always)]
 fn write_binary(bytes: &mut [u8], other: &[u8], t: u8)
     requires inside { length' bytes.old ≤ length' other.now }
@@ -105,7 +105,7 @@ fn write_unary(bytes: &mut [u8], t: u8)
     }
 }
 
-/// Clears the bits behind the first `length`. Does not allocate. Requires as many bytes as hold so many bits.
+/// Clears the bits after the first `length`. Does not allocate. Requires exactly the bytes that `length` bits need.
 pub fn clear_spare(bytes: &mut [u8], length: usize)
     requires exact { length' bytes.old ≡ (length + 7) / 8 }
     ensures canonical { IsCanonical bytes.new length }

@@ -8,11 +8,11 @@ use crate::lane_assigned::{assign_unary, clear_spare, write_by_table};
 use arrow2_bits::bytes_for;
 use std::alloc::{AllocError, Global};
 
-/// How many bytes are copied before they are answered: as many as stay in the nearest cache.
+/// The number of bytes that are copied before their outputs are computed: they stay in the nearest cache.
 const BLOCK: usize = 4096;
 
-/// The bytes of the answers of table `t` for the first `length` bits of both: as many bytes as hold so many bits, with
-/// spare bits false. Allocates once. Requires that both hold so many bits.
+/// Returns the bytes of the outputs of table `t` for the first `length` bits of both: exactly the bytes that these
+/// need, with padding bits false. Allocates once. Requires that both hold `length` bits.
 ///
 /// # Errors
 ///
@@ -53,8 +53,8 @@ pub fn map_unary(alloc: Global, list: &[u8], length: usize, t: u8) -> Result<Vec
     Ok(bytes)
 }
 
-/// Appends the answers of table `t` for each bit of both to no bytes, a block at a time. Requires as many bytes of
-/// both.
+/// Appends the outputs of table `t` for each bit of both to no bytes, a block at a time. Requires both to have the same
+/// number of bytes.
 fn append_blocks(bytes: &mut Vec<u8>, left: &[u8], right: &[u8], t: u8) -> Result<(), AllocError>
     requires empty { bytes.old.items ≡ [] }
     requires alike { length' left.now ≡ length' right.now }
@@ -68,7 +68,7 @@ fn append_blocks(bytes: &mut Vec<u8>, left: &[u8], right: &[u8], t: u8) -> Resul
     append_binary(bytes, &left[BLOCK * whole..], &right[BLOCK * whole..], t)
 }
 
-/// Appends the answers of table `t` for each bit of both. Requires as many bytes of both.
+/// Appends the outputs of table `t` for each bit of both. Requires both to have the same number of bytes.
 fn append_binary(bytes: &mut Vec<u8>, left: &[u8], right: &[u8], t: u8) -> Result<(), AllocError>
     requires alike { length' left.now ≡ length' right.now }
     ensures { OnOk result (bits bytes.new.items ≡ bits bytes.old.items

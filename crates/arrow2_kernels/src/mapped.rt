@@ -1,4 +1,4 @@
-//! A list from the answers of a word function: over bytes, or in new ones.
+//! A list from the results of a word function: over bytes, or in new ones.
 ghost use Rattle.std.specs.Prelude.{◌≡◌, ◌+◌, ◌/◌, ℕ, List, Bool, take, IfOk, length as length'};
 ghost use Rattle.arrow2_model.specs.Bits.{bits};
 ghost use Rattle.arrow2_model.specs.Canonical.{IsCanonical};
@@ -11,9 +11,9 @@ use crate::rows::WordRows;
 use arrow2_bits::bytes_for;
 use std::alloc::{AllocError, Global};
 
-/// Writes what `op` answers to each row of words over `bytes`, from bit 0 on, for lists of `length` items. Spare bits
-/// are false afterwards. Does not allocate. Requires as many bytes as hold so many bits, that all lists have so many
-/// items, and that `op` answers every row.
+/// Writes the results of `op` for each row of words over `bytes`, from bit 0 on, for lists of `length` items. Padding
+/// bits are false afterwards. Does not allocate. Requires exactly the bytes that `length` bits need, that all lists
+/// have `length` items, and that `op` accepts every row.
 pub fn write_rows<S: WordRows<u64>, F: Fn(S::Row) -> u64>(
     bytes: &mut [u8],
     length: usize,
@@ -34,9 +34,9 @@ pub fn write_rows<S: WordRows<u64>, F: Fn(S::Row) -> u64>(
     assign_rows(bytes, length, rows, |_own: u64, row| op(row));
 }
 
-/// The bytes of what `op` answers to each row of words, for lists of `length` items: as many bytes as hold so many
-/// bits, with spare bits false. Allocates once. Requires that all lists have so many items, and that `op` answers every
-/// row.
+/// Returns the bytes of the results of `op` for each row of words, for lists of `length` items: exactly the bytes that
+/// these need, with padding bits false. Allocates once. Requires that all lists have `length` items, and that `op`
+/// accepts every row.
 ///
 /// # Errors
 ///

@@ -1,4 +1,4 @@
-//! Lists of booleans beside one another, read by words.
+//! Lists of booleans zipped, read by words.
 ghost use Rattle.std.specs.Prelude.{◌≡◌, ◌+◌, ◌<◌, ◌++◌, ℕ, List, [], ◌∷◌, length as length'};
 ghost use Rattle.arrow2_model.specs.Kernels.{word, AreWords};
 ghost use Rattle.arrow2_model.specs.Words.{WordWalk};
@@ -15,7 +15,7 @@ pub trait WordRows<B: BitChunk>: Drop {
     // The words of a row.
     ghost words: { Self.Row → List ℕ };
 
-    // How many items of each list are still to come.
+    // Returns the number of items of each list still to come.
     ghost length: { Self → ℕ };
 
     // Row j of those still to come. Items past the end count as false.
@@ -24,14 +24,14 @@ pub trait WordRows<B: BitChunk>: Drop {
     // All lists have one length.
     ghost alike: { Self → Type 0 };
 
-    /// The next row, or `None` where fewer items are left than a word has.
+    /// Returns the next row, or `None` where fewer items are left than a word has.
     fn next_row(&mut self) -> Option<Self::Row>
         requires { alike self.old }
         ensures alike { alike self.new }
         ensures row { GivesRow B.BitChunk.WIDTH words (length self.old) (row_at self.old) result
             (length self.new) (row_at self.new) };
 
-    /// The row of the items that are left, with false behind them. Requires that they are fewer than a word has.
+    /// Returns the row of the remaining items, filled with false. Requires that they are fewer than a word has.
     fn rest_row(&self) -> Self::Row
         requires alike { alike self.now }
         requires short { length self.now < B.BitChunk.WIDTH }
@@ -39,10 +39,10 @@ pub trait WordRows<B: BitChunk>: Drop {
         ensures fits { AreWords B.BitChunk.WIDTH (words result) };
 }
 
-/// No list, for so many items: its rows are empty.
+/// No list, for `left` items: its rows are empty.
 #[derive(Drop)]
 pub struct NoList {
-    /// How many items are still to come.
+    /// The number of items still to come.
     pub left: usize,
 }
 
@@ -68,10 +68,10 @@ impl<B: BitChunk> WordRows<B> for NoList {
     fn rest_row(&self) {}
 }
 
-/// One list, by a walk over its words.
+/// One list, by an iterator over its words.
 #[derive(Drop)]
 pub struct OneList<I> {
-    /// The walk.
+    /// The iterator.
     pub chunks: I,
 }
 
@@ -95,7 +95,7 @@ impl<B: BitChunk, I: BitChunkIterExact<B> + Drop> WordRows<B> for OneList<I> {
     }
 }
 
-/// The lists of two sides beside one another.
+/// The lists of two sides, zipped.
 #[derive(Drop)]
 pub struct Beside<L, R> {
     /// The lists of the one side, which come first in a row.
@@ -126,7 +126,7 @@ impl<B: BitChunk, L: WordRows<B>, R: WordRows<B>> WordRows<B> for Beside<L, R> {
     }
 }
 
-/// The words of two lists beside one another, as one type: rows of four lists are rows of two pairs.
+/// The words of two lists, paired, as one type: rows of four lists are rows of two pairs.
 #[derive(Drop)]
 pub struct Pair<'a> {
     /// The lists.

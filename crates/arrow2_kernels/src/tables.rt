@@ -1,12 +1,12 @@
-//! Truth tables as word functions: bit `a1 + 2 * a2 + 4 * a3 + 8 * a4` of a table is its answer for inputs `a1` to
-//! `a4`. Bits of a table past its last answer are not read.
+//! Truth tables as word functions: bit `a1 + 2 * a2 + 4 * a3 + 8 * a4` of a table is its output for inputs `a1` to
+//! `a4`. Bits of a table past its last output are not read.
 ghost use Rattle.std.specs.Prelude.{◌≡◌, ◌<◌, ◌^◌, ℕ, [], ◌∷◌, if◌then◌else◌};
 ghost use Rattle.arrow2_model.specs.Bits.{bit};
 ghost use Rattle.arrow2_model.specs.Tables.{answer};
 
 use arrow2_chunk::bit_chunk::BitChunk;
 
-/// The answers of a table of one input, bit by bit.
+/// Returns the outputs of a table of one input, bit by bit.
 pub fn unary_answers<T: BitChunk>(table: u16, x: T) -> T
     ensures answers { (i : ℕ) → i < T.BitChunk.WIDTH →
         bit (T.BitChunk.number result) i ≡ answer table (bit (T.BitChunk.number x) i ∷ []) }
@@ -16,7 +16,7 @@ pub fn unary_answers<T: BitChunk>(table: u16, x: T) -> T
     chosen(x, yes, no)
 }
 
-/// The answers of a table of two inputs, bit by bit.
+/// Returns the outputs of a table of two inputs, bit by bit.
 pub fn binary_answers<T: BitChunk>(table: u16, x: T, y: T) -> T
     ensures answers { (i : ℕ) → i < T.BitChunk.WIDTH →
         bit (T.BitChunk.number result) i
@@ -27,7 +27,7 @@ pub fn binary_answers<T: BitChunk>(table: u16, x: T, y: T) -> T
     chosen(y, yes, no)
 }
 
-/// The answers of a table of three inputs, bit by bit.
+/// Returns the outputs of a table of three inputs, bit by bit.
 pub fn ternary_answers<T: BitChunk>(table: u16, x: T, y: T, z: T) -> T
     ensures answers { (i : ℕ) → i < T.BitChunk.WIDTH →
         bit (T.BitChunk.number result) i
@@ -39,7 +39,7 @@ pub fn ternary_answers<T: BitChunk>(table: u16, x: T, y: T, z: T) -> T
     chosen(z, yes, no)
 }
 
-/// The answers of a table of four inputs, bit by bit.
+/// Returns the outputs of a table of four inputs, bit by bit.
 pub fn quaternary_answers<T: BitChunk>(table: u16, x: T, y: T, z: T, v: T) -> T
     ensures answers { (i : ℕ) → i < T.BitChunk.WIDTH →
         bit (T.BitChunk.number result) i
@@ -51,7 +51,7 @@ pub fn quaternary_answers<T: BitChunk>(table: u16, x: T, y: T, z: T, v: T) -> T
     chosen(v, yes, no)
 }
 
-/// Each bit of `yes` where `which` is set, and each bit of `no` where it is not.
+/// Returns each bit of `yes` where `which` is set, and each bit of `no` where it is not.
 fn chosen<T: BitChunk>(which: T, yes: T, no: T) -> T
     ensures { (i : ℕ) → i < T.BitChunk.WIDTH →
         bit (T.BitChunk.number result) i
@@ -61,7 +61,7 @@ fn chosen<T: BitChunk>(which: T, yes: T, no: T) -> T
     yes.bit_and(which).bit_or(no.bit_and(which.bit_not()))
 }
 
-/// The word each bit of which is `value`, of the type of `like`.
+/// Returns the word each bit of which is `value`, of the type of `like`.
 fn filled<T: BitChunk>(like: T, value: bool) -> T
     ensures { (i : ℕ) → i < T.BitChunk.WIDTH → bit (T.BitChunk.number result) i ≡ value }
 {

@@ -31,7 +31,7 @@ past_all max last s past =
     let all : s ≡ past.0 ++ past.1 = given s past.0 past.1 past.2 in
     omega (arith, past.3, ap sum all, sum_by-append (λ n. n) past.0 past.1)
 
--- what follows from what holds where there is a value
+-- the consequence of a fact that holds where there is a value
 pub on_ok : {X E : Type 0} (r : Result X E) (P Q : Type 0) → (P → Q) → OnOk r P → OnOk r Q
 on_ok (Ok x) P Q f holds = f holds
 on_ok (Err e) P Q f holds = tt
@@ -40,7 +40,7 @@ pub on_ok_both : {X E : Type 0} (r : Result X E) (P Q R : Type 0) → (P → Q �
 on_ok_both (Ok x) P Q R f holds also = f holds also
 on_ok_both (Err e) P Q R f holds also = tt
 
--- what is known of lengths that were appended
+-- the facts on lengths that were appended
 pub all_grown : (old new : GrowingOffsets) (s : List ℕ) → WholeRun (YieldsFirst (λ l. l)) s (λ p. GrownBy p.items old new) → GrownBy s old new
 all_grown old new s run = all_given s (λ items. GrownBy items old new) run
 

@@ -37,7 +37,7 @@ one_word w items some short =
         first ∙ rw (mul-zero w) (ap num (take_all w items (omega (arith, short))))
     at (suc j) h = absurd (omega (arith, h))
 
--- the first word, where there are as many items, and the others
+-- the first word, where there are enough items, and the others
 pub first_word : (w : ℕ) (items : List Bool) → 0 < w → w ≤ length items → words w items ≡ num (take w items) ∷ words w (drop w items)
 first_word w items p h =
     let d = length-drop w items in
@@ -71,7 +71,7 @@ next_word w items left x p split full =
     heads : {a b : ℕ} {s t : List ℕ} → a ∷ s ≡ b ∷ t → a ≡ b
     heads e = cc
 
--- false items behind a list don't change its number
+-- false items after a list don't change its number
 num-falses : (n : ℕ) → num (replicate n false) ≡ 0
 num-falses zero = refl
 num-falses (suc n) = omega (arith, num-falses n)
@@ -81,7 +81,7 @@ num-filled [] n = num-falses n
 num-filled (true ∷ items) n = omega (arith, num-filled items n)
 num-filled (false ∷ items) n = omega (arith, num-filled items n)
 
--- the items behind the last full word are one word, filled with false: the word in which they stand, masked
+-- the items after the last full word are one word, filled with false: the word in which they are stored, masked
 pub last_word : (w n last spill : ℕ) (items behind : List Bool) → 0 < n → n < w → n ≡ length behind → behind ≡ items → last < 2 ^ w → unnum w last ≡ take n (unnum w spill) ++ replicate (w - n) false → take (length behind) (unnum w spill) ≡ behind → words w items ≡ last ∷ []
 last_word w n last spill items behind some short is all fits masked stands =
     let one = one_word w behind (omega (arith, some, is)) (omega (arith, short, is)) in
@@ -91,7 +91,7 @@ last_word w n last spill items behind some short is all fits masked stands =
 
 -- ---- their text
 
--- what is still to be written of a list of words, of which some may be there
+-- the text of the words still to be written, led by a space where some are there
 abbrev pub pending : Bool → List (List ℕ) → List ℕ
 pending true words = words_text words
 pending false words = led words

@@ -24,7 +24,7 @@ module _ {X : Type 0} (f : X → List ℕ) where
   next_written out spaced old x rest left e space is =
       ap (λ t. t ++ led (map f rest)) (is ∙ ap (λ t. t ++ f x) space) ∙ append_assoc (old ++ 32 ∷ []) (f x) (led (map f rest)) ∙ append_assoc old (32 ∷ []) (f x ++ led (map f rest)) ∙ ap (λ xs. old ++ led (map f xs)) (sym e)
 
--- values beside their validity, one by one
+-- values with their validity, one by one
 pub zipped_next : {X : Type 0} (xs others : List X) (valid more : List Bool) (x : X) (v : Bool) → xs ≡ x ∷ others → valid ≡ v ∷ more → zipped xs valid ≡ slot x v ∷ zipped others more
 zipped_next xs others valid more x v e f = rw (e, f) refl
 

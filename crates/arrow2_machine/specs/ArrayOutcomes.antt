@@ -1,4 +1,4 @@
--- What each command on boolean arrays does to the machine of lists.
+-- The effect of each command on boolean arrays on the machine of lists.
 use Rattle.std.specs.Prelude.{ℕ, ◌==◌, Bool, List, length, map, Option, Some, None, option_map, Result, Ok, Err, if◌then◌else◌}
 use Rattle.std.specs.Fmt.{decimal}
 use Rattle.arrow2.specs.Items.{nulls}
@@ -13,8 +13,7 @@ use Rattle.arrow2_machine.specs.BitmapOutcomes.{part_inside}
 use Rattle.arrow2_machine.specs.KernelOutcomes.{two_lists}
 use Rattle.arrow2_machine.specs.Replies.{array_items_text}
 
--- what a slot holds with the boolean array of one slot's items, null where another's are false: without another none is
--- null
+-- the boolean array of one slot's items, null where another's are false: without another none is null
 abbrev pub arrayed : Held → Option Held → Result Held Refusal
 arrayed values None = do
   items ← frozen values
@@ -29,13 +28,13 @@ array_text held = do
   items ← array held
   Ok (array_items_text items)
 
--- how many items of a slot's boolean array are null
+-- the number of null items of a slot's boolean array
 abbrev pub counted_nulls : Held → Result ℕ Refusal
 counted_nulls held = do
   items ← array held
   Ok (nulls items)
 
--- what a slot holds after its boolean array is cut to its n items from item i on
+-- a slot after its boolean array is cut to its n items from item i on
 abbrev pub sliced_array : Held → ℕ → ℕ → Result Held Refusal
 sliced_array held i n = do
   items ← array held
@@ -49,7 +48,7 @@ two_arrays a b = do
   y ← array b
   if length x == length y then Ok (x, y) else Err Length
 
--- what a slot holds with what an operator of Kleene's logic says of them, item by item
+-- the array that an operator of Kleene's logic makes of them, item by item
 abbrev pub combined : (Option Bool → Option Bool → Option Bool) → Held → Held → Result Held Refusal
 combined operator a b = do
   arrays ← two_arrays a b

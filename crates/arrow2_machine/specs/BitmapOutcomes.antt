@@ -1,4 +1,4 @@
--- What each command on bitmaps does to the machine of lists.
+-- The effect of each command on bitmaps on the machine of lists.
 use Rattle.std.specs.Prelude.{ℕ, ◌+◌, ◌-◌, ◌^◌, ◌==◌, nat_lt, Bool, List, [], ◌∷◌, ◌++◌, length, slice_set, slice_get, take, Result, Ok, Err, if◌then◌else◌}
 use Rattle.std.specs.Fmt.{decimal}
 use Rattle.arrow2.specs.Parts.{part, falses}
@@ -10,31 +10,31 @@ use Rattle.arrow2_machine.specs.declared.refusal.Refusal.TheVariants.{Range, Ove
 use Rattle.arrow2_machine.specs.Held.{Held, Frozen, Growing, ◌>>=◌, at, growing, frozen, listed, replaced, told}
 use Rattle.arrow2_machine.specs.Replies.{item_said}
 
--- what a slot holds after a bit is pushed to it: a length of 2 ^ 64 is too great
+-- a slot after a bit is pushed to it: a length of 2 ^ 64 is too great
 abbrev pub pushed : Held → Bool → Result Held Refusal
 pushed held bit = do
   items ← growing held
   if length items == 2 ^ 64 - 1 then Err Overflow else Ok (Growing (items ++ bit ∷ []))
 
--- what a slot holds after its last item is taken off, and the reply that tells it
+-- the items of a slot after its last item is taken off, and the reply with that item
 abbrev pub popped : Held → Result (Held × List ℕ) Refusal
 popped held = do
   items ← growing held
   Ok (Growing (take (length items - 1) items), item_said (slice_get items (length items - 1)))
 
--- the reply that tells item i of a slot
+-- the reply with item i of a slot
 abbrev pub got : Held → ℕ → Result (List ℕ) Refusal
 got held i = do
   items ← listed held
   Ok (item_said (slice_get items i))
 
--- what a slot holds after it is frozen
+-- a slot after it is frozen
 abbrev pub froze : Held → Result Held Refusal
 froze held = do
   items ← growing held
   Ok (Frozen items)
 
--- what a slot holds after it is thawed
+-- a slot after it is thawed
 abbrev pub thawed : Held → Result Held Refusal
 thawed held = do
   items ← frozen held
@@ -44,14 +44,14 @@ thawed held = do
 abbrev pub part_inside : {X : Type 0} → List X → ℕ → ℕ → Result (List X) Refusal
 part_inside items i n = if nat_lt (length items) (i + n) then Err Range else Ok (part items i n)
 
--- what a slot holds after it is cut to its n items from item i on
+-- a slot after it is cut to its n items from item i on
 abbrev pub sliced : Held → ℕ → ℕ → Result Held Refusal
 sliced held i n = do
   items ← frozen held
   inside ← part_inside items i n
   Ok (Frozen inside)
 
--- how many items of a slot are false
+-- the number of false items of a slot
 abbrev pub counted : Held → Result ℕ Refusal
 counted held = do
   items ← listed held

@@ -1,4 +1,4 @@
--- What each command by which a bitmap grows does to the machine of lists.
+-- The effect of each command by which a bitmap grows on the machine of lists.
 use Rattle.std.specs.Prelude.{ℕ, ◌+◌, ◌-◌, ◌^◌, nat_lt, Bool, List, ◌++◌, length, replicate, Result, Ok, Err, if◌then◌else◌}
 use Rattle.arrow2_script.specs.declared.growth_command.GrowthCommand.{GrowthCommand}
 use Rattle.arrow2_script.specs.declared.growth_command.GrowthCommand.TheVariants.{Fill, Append}
@@ -6,13 +6,13 @@ use Rattle.arrow2_machine.specs.declared.refusal.Refusal.{Refusal}
 use Rattle.arrow2_machine.specs.declared.refusal.Refusal.TheVariants.{Overflow}
 use Rattle.arrow2_machine.specs.Held.{Held, Growing, ◌>>=◌, at, growing, frozen, replaced}
 
--- what a slot holds after a bit is appended to it so many times: a length of 2 ^ 64 or more is too great
+-- the items of a slot after a bit is appended to it n times: a length of 2 ^ 64 or more is too great
 abbrev pub filled : Held → ℕ → Bool → Result Held Refusal
 filled held n bit = do
   items ← growing held
   if nat_lt (2 ^ 64 - 1) (length items + n) then Err Overflow else Ok (Growing (items ++ replicate n bit))
 
--- what a slot holds after other items are appended to it
+-- a slot after other items are appended to it
 abbrev pub appended : Held → List Bool → Result Held Refusal
 appended held others = do
   items ← growing held

@@ -1,4 +1,4 @@
--- What a slot of the machine holds.
+-- The contents of a slot of the machine.
 use Rattle.std.specs.Prelude.{ℕ, Bool, List, Option, slice_index_or, slice_set, codes, Result, Ok, Err}
 use Rattle.arrow2.specs.Offsets.{offsets_list}
 use Rattle.arrow2_machine.specs.declared.refusal.Refusal.{Refusal}
@@ -9,8 +9,8 @@ pub record Offsets : Type 0 where
   pub start : ℕ
   pub lengths : List ℕ
 
--- what a slot holds: nothing, a list of booleans or offsets, frozen or growing, or a boolean array: its items, `None` where
--- one is null
+-- the contents of a slot: nothing, a list of booleans or offsets, frozen or growing, or a boolean array: its items,
+-- `None` where one is null
 pub data Held : Type 0 where
   Nothing : Held
   Frozen : List Bool → Held
@@ -20,22 +20,22 @@ pub data Held : Type 0 where
   Array : List (Option Bool) → Held
 
 infixl 10 ◌>>=◌
--- what a value leads to, unless it is refused
+-- the next result of a value, unless it is refused
 abbrev pub ◌>>=◌ : {A B : Type 0} → Result A Refusal → (A → Result B Refusal) → Result B Refusal
 (Ok x) >>= f = f x
 (Err e) >>= f = Err e
 
--- what slot s holds
+-- the contents of slot s
 abbrev pub at : List Held → ℕ → Held
 at slots s = slice_index_or slots s Nothing
 
--- the slots after slot s becomes what was made for it, and the reply `ok`
+-- the slots after slot s becomes the value that was made for it, and the reply `ok`
 abbrev pub replaced : List Held → ℕ → Result Held Refusal → Result (List Held × List ℕ) Refusal
 replaced slots s made = do
   held ← made
   Ok (slice_set slots s held, codes "ok")
 
--- the same slots, and a reply that tells something of them
+-- the same slots, and a reply about them
 abbrev pub told : List Held → Result (List ℕ) Refusal → Result (List Held × List ℕ) Refusal
 told slots text = do
   said ← text

@@ -1,4 +1,4 @@
--- What each command that combines bitmaps does to the machine of lists.
+-- The effect of each command that combines bitmaps on the machine of lists.
 use Rattle.std.specs.Prelude.{ℕ, ◌==◌, ◌&&◌, Bool, List, [], ◌∷◌, length, Result, Ok, Err, if◌then◌else◌}
 use Rattle.arrow2.specs.Tables.{each}
 use Rattle.arrow2_script.specs.declared.kernel_command.KernelCommand.{KernelCommand}
@@ -33,7 +33,7 @@ four_lists a b c e = do
   v ← frozen e
   if length x == length y && length x == length z && length x == length v then Ok (x, y, z, v) else Err Length
 
--- the answers of a table for the items of one slot, and for those of two
+-- the outputs of a table for the items of one slot, and for those of two
 abbrev pub one_answered : ℕ → Held → Result (List Bool) Refusal
 one_answered t a = do
   items ← frozen a
@@ -44,8 +44,8 @@ two_answered t a b = do
   lists ← two_lists a b
   Ok (each t (lists.0 ∷ lists.1 ∷ []))
 
--- what a kernel makes of the slots: the operators are tables too, as `and` is the one whose only set bit is that of two
--- trues
+-- the slots after a kernel: the operators are tables too, as `and` is the one whose only set bit is that of two true
+-- inputs
 unfoldable pub made : List Held → Kernel → Result (List Bool) Refusal
 made slots (kernel.And a b) = two_answered 8 (at slots a) (at slots b)
 made slots (kernel.Or a b) = two_answered 14 (at slots a) (at slots b)
@@ -60,7 +60,7 @@ made slots (kernel.Quaternary t a b c e) = do
   lists ← four_lists (at slots a) (at slots b) (at slots c) (at slots e)
   Ok (each t (lists.0 ∷ lists.1 ∷ lists.2 ∷ lists.3 ∷ []))
 
--- what a slot holds after its items become the answers of a table for them
+-- the items of a slot after they become the outputs of a table for them
 abbrev pub assigned : Held → ℕ → Result Held Refusal
 assigned held t = do
   items ← growing held

@@ -1,4 +1,4 @@
--- The machine of lists that a script is told to.
+-- The machine of lists that runs a script.
 use Rattle.std.specs.Prelude.{ℕ, List, [], ◌∷◌, ◌++◌, replicate, Option, Some, None, Result, Ok, Err}
 use Rattle.arrow2_script.specs.Lines.{lines_of, ended}
 use Rattle.arrow2_script.specs.Commands.{command_in}
@@ -16,7 +16,7 @@ use Rattle.arrow2_machine.specs.KernelOutcomes.{kernel_outcome}
 use Rattle.arrow2_machine.specs.GrowthOutcomes.{growth_outcome}
 use Rattle.arrow2_machine.specs.ArrayOutcomes.{array_outcome}
 
--- the slots after a command, and its reply, by the command's kind
+-- the slots after a command, and its reply, by the command's group
 unfoldable pub outcome : List Held → Command → Result (List Held × List ℕ) Refusal
 outcome slots (Bitmap command) = bitmap_outcome slots command
 outcome slots (Offset command) = offset_outcome slots command
@@ -31,7 +31,7 @@ abbrev pub settled : List Held → Result (List Held × List ℕ) Refusal → Li
 settled slots (Ok after) = after
 settled slots (Err e) = (slots, refused_text e)
 
--- what a line leads to: one that is no command is refused
+-- the result of a line: one that is no command is refused
 abbrev pub outcome_of : List Held → Option Command → Result (List Held × List ℕ) Refusal
 outcome_of slots None = Err Syntax
 outcome_of slots (Some command) = outcome slots command
@@ -45,6 +45,6 @@ unfoldable pub replies : List Held → List (List ℕ) → List ℕ
 replies slots [] = []
 replies slots (line ∷ lines) = ended (step slots line).1 ++ replies (step slots line).0 lines
 
--- what a script is answered: its lines' replies, from sixteen empty slots on
+-- the output of a script: its lines' replies, from sixteen empty slots on
 unfoldable pub text : List ℕ → List ℕ
 text script = replies (replicate 16 Nothing) (lines_of script)

@@ -1,4 +1,4 @@
--- What each command on offsets does to the machine of lists.
+-- The effect of each command on offsets on the machine of lists.
 use Rattle.std.specs.Prelude.{ℕ, ◌+◌, ◌-◌, ◌==◌, ◌||◌, nat_lt, List, [], ◌∷◌, ◌++◌, length, map, sum, slice_set, take, codes, Result, Ok, Err, if◌then◌else◌}
 use Rattle.arrow2.specs.Zipped.{zipped}
 use Rattle.std.specs.Fmt.{decimal}
@@ -15,21 +15,21 @@ use Rattle.arrow2_machine.specs.Replies.{words_text, slot_word}
 abbrev pub greatest : ℕ
 greatest = 2147483647
 
--- what a slot holds with one offset alone
+-- a slot with one offset alone
 abbrev pub begun : ℕ → Result Held Refusal
 begun first = if nat_lt greatest first then Err Range else Ok (GrowingOffsets (record { start = first; lengths = [] }))
 
--- what a slot holds after lengths are appended to it
+-- a slot after lengths are appended to it
 abbrev pub grown : Held → List ℕ → Result Held Refusal
 grown held lengths = do
   o ← growing_offsets held
   if nat_lt greatest (last_offset o.start o.lengths + sum lengths) then Err Overflow else Ok (GrowingOffsets (record o { lengths = o.lengths ++ lengths }))
 
--- the reply that tells the offset which is taken off: the last one, unless it is the only one
+-- the reply with the offset which is taken off: the last one, unless it is the only one
 abbrev pub taken_off : Offsets → List ℕ
 taken_off o = if length o.lengths == 0 then codes "none" else decimal (last_offset o.start o.lengths)
 
--- what a slot holds after its last offset is taken off, and the reply that tells it
+-- the offsets of a slot after its last offset is taken off, and the reply with that offset
 abbrev pub shortened : Held → Result (Held × List ℕ) Refusal
 shortened held = do
   o ← growing_offsets held
@@ -41,7 +41,7 @@ offset_text held = do
   o ← spelled_offsets held
   Ok (words_text (map decimal (offset_list o)))
 
--- what a slot holds after its offsets are frozen
+-- a slot after its offsets are frozen
 abbrev pub froze_offsets : Held → Result Held Refusal
 froze_offsets held = do
   o ← growing_offsets held
@@ -51,7 +51,7 @@ froze_offsets held = do
 abbrev pub offsets_inside : Offsets → ℕ → ℕ → Result Offsets Refusal
 offsets_inside o i n = if n == 0 || nat_lt (length o.lengths + 1) (i + n) then Err Range else Ok (record { start = offset_at o.start o.lengths i; lengths = part o.lengths i (n - 1) })
 
--- what a slot holds after it is cut to its n offsets from offset i on
+-- a slot after it is cut to its n offsets from offset i on
 abbrev pub sliced_offsets : Held → ℕ → ℕ → Result Held Refusal
 sliced_offsets held i n = do
   o ← frozen_offsets held

@@ -1,4 +1,4 @@
--- What the program's steps answer, against the machine of lists.
+-- The results of the program's steps, against the machine of lists.
 use Rattle.std.specs.Prelude.{◌≡◌, ◌≢◌, ◌++◌, ℕ, List, Result, Ok, Err, OnOk, IfErr, IsOkAnd}
 use Rattle.arrow2.specs.Errors as errors
 use Rattle.arrow2_machine.specs.declared.refusal.Refusal.{Refusal}
@@ -23,17 +23,18 @@ abbrev pub Fails : {Y : Type 0} → CommandError → Result Y Refusal → Type 0
 Fails OutOfMemory answer = Unit {0}
 Fails (Refused refusal) answer = answer ≡ Err refusal
 
--- what was returned, seen by view, is what the machine answers, unless memory was refused
+-- the result, seen by view, is that of the machine, unless an allocation failed
 abbrev pub Gives : {X Y : Type 0} → (X → Y) → Result X CommandError → Result Y Refusal → Type 0
 Gives view (Ok x) answer = answer ≡ Ok (view x)
 Gives view (Err e) answer = Fails e answer
 
--- what was returned, seen by view, is what the machine answers, its refusals included
+-- the result, seen by view, is that of the machine, its refusals included
 abbrev pub Answers : {X Y : Type 0} → (X → Y) → Result X Refusal → Result Y Refusal → Type 0
 Answers view (Ok x) answer = answer ≡ Ok (view x)
 Answers view (Err refusal) answer = answer ≡ Err refusal
 
--- a command is carried out as the machine does it: only where memory was refused is nothing said of the slots and the reply
+-- a command is carried out as the machine does it: only where an allocation failed are the slots and the reply
+-- unspecified
 pub record Carries (r : Result Unit CommandError) (old new : List Held) (before after : List ℕ) (machine : Result (List Held × List ℕ) Refusal) : Type 0 where
   -- the slots are the machine's, and its reply is appended
   pub ok : OnOk r (IsOkAnd machine (λ a. (new ≡ a.0) × (after ≡ before ++ a.1)))
@@ -42,7 +43,7 @@ pub record Carries (r : Result Unit CommandError) (old new : List Held) (before 
   -- a refusal changes nothing
   pub err : IfErr r (λ e. e ≢ OutOfMemory → (new ≡ old) × (after ≡ before))
 
--- the text that the machine says is appended: where memory was refused, a part of it may be
+-- the reply of the machine is appended: where an allocation failed, a part of it may be
 pub record Writes (r : Result Unit CommandError) (before after : List ℕ) (machine : Result (List ℕ) Refusal) : Type 0 where
   -- it is the machine's
   pub ok : OnOk r (IsOkAnd machine (λ text. after ≡ before ++ text))
@@ -51,11 +52,11 @@ pub record Writes (r : Result Unit CommandError) (before after : List ℕ) (mach
   -- a refusal changes nothing
   pub err : IfErr r (λ e. e ≢ OutOfMemory → after ≡ before)
 
--- a slot turns into what the machine makes of it: where memory was refused, what it held is gone
+-- a slot turns into the value that the machine makes of it: where an allocation failed, its old value is gone
 pub record Turns (r : Result Unit CommandError) (old new : Held) (machine : Result Held Refusal) : Type 0 where
-  -- it holds what the machine's holds
+  -- it holds the machine's value
   pub gives : Gives (λ _. new) r machine
   -- a refusal changes nothing
   pub err : IfErr r (λ e. e ≢ OutOfMemory → new ≡ old)
-  -- it holds nothing where memory was refused
+  -- it holds nothing where an allocation failed
   pub memory : r ≡ Err OutOfMemory → new ≡ Nothing

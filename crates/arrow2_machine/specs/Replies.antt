@@ -1,4 +1,4 @@
--- What the machine replies.
+-- The replies of the machine.
 use Rattle.std.specs.Prelude.{ℕ, ℤ, unsigned_abs, Bool, List, [], ◌∷◌, ◌++◌, map, codes, Option, Some, None, if◌then◌else◌}
 use Rattle.std.specs.List.{join_with_byte}
 use Rattle.std.specs.Fmt.{decimal}
@@ -14,7 +14,7 @@ refused_text Range = codes "error range"
 refused_text Length = codes "error length"
 refused_text Overflow = codes "error overflow"
 
--- the reply that tells an item, or that there is none
+-- the reply with an item, or that there is none
 abbrev pub item_said : Option Bool → List ℕ
 item_said None = codes "none"
 item_said (Some item) = bit_byte item ∷ []
@@ -28,16 +28,16 @@ words_text (word ∷ words) = join_with_byte 32 (word ∷ words)
 abbrev pub listed_word : Bool → List ℕ → List ℕ
 listed_word first word = if first then word else 32 ∷ word
 
--- the word that tells the length of a slot, or `null` where it has none
+-- the word of the length of a slot, or `null` where it has none
 abbrev pub slot_word : Option ℕ → List ℕ
 slot_word (Some length) = decimal length
 slot_word None = codes "null"
 
--- the word that tells a run: its first place and its length, with byte 58 between
+-- the word of a run: its first index and its length, with byte 58 between
 abbrev pub run_word : ℕ × ℕ → List ℕ
 run_word run = decimal run.0 ++ 58 ∷ decimal run.1
 
--- the reply that tells an offset, or that there is none
+-- the reply with an offset, or that there is none
 abbrev pub offset_said : Option ℤ → List ℕ
 offset_said None = codes "none"
 offset_said (Some offset) = decimal (unsigned_abs offset)

@@ -1,4 +1,4 @@
--- What a slot of the program holds, as the machine of lists sees it.
+-- The contents of a slot of the program, as the machine of lists sees them.
 use Rattle.std.specs.Prelude.{ℤ, List}
 use Rattle.arrow2.specs.Buffers.{buffer_items}
 use Rattle.arrow2.specs.Items.{boolean_items}

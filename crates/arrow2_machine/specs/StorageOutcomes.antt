@@ -1,4 +1,4 @@
--- What each command on stored bits does to the machine of lists.
+-- The effect of each command on stored bits on the machine of lists.
 use Rattle.std.specs.Prelude.{ℕ, ◌+◌, ◌-◌, ◌*◌, ◌^◌, ◌||◌, nat_lt, Bool, List, length, map, slice_set, Result, Ok, Err, if◌then◌else◌}
 use Rattle.std.specs.Fmt.{decimal}
 use Rattle.arrow2.specs.Bits.{bits}
@@ -14,11 +14,11 @@ use Rattle.arrow2_machine.specs.declared.refusal.Refusal.TheVariants.{Range}
 use Rattle.arrow2_machine.specs.Held.{Held, Frozen, Growing, ◌>>=◌, at, growing, frozen, replaced, told}
 use Rattle.arrow2_machine.specs.Replies.{run_word, words_text}
 
--- what a slot holds with the n bits of some bytes from bit o on: they are inside, and o + n is below 2 ^ 64
+-- a slot with the n bits of some bytes from bit o on: they are inside, and o + n is below 2 ^ 64
 abbrev pub stored : List ℕ → ℕ → ℕ → Result Held Refusal
 stored bytes o n = if nat_lt (8 * length bytes) (o + n) || nat_lt (2 ^ 64 - 1) (o + n) then Err Range else Ok (Frozen (part (bits bytes) o n))
 
--- what a slot holds after its item i becomes a bit
+-- a slot after its item i becomes a bit
 abbrev pub item_set : Held → ℕ → Bool → Result Held Refusal
 item_set held i bit = do
   items ← growing held

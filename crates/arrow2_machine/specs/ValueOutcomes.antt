@@ -1,4 +1,4 @@
--- What each command on values of any kind does to the machine of lists.
+-- The effect of each command on values of any type on the machine of lists.
 use Rattle.std.specs.Prelude.{ℕ, Bool, nat_eq, List, [], ◌∷◌, Result, Ok, Err}
 use Rattle.std.specs.Bool.{beq}
 use Rattle.std.specs.Cmp.Lexicographic.{pointwise}
@@ -9,14 +9,14 @@ use Rattle.arrow2_machine.specs.declared.refusal.Refusal.{Refusal}
 use Rattle.arrow2_machine.specs.declared.refusal.Refusal.TheVariants.{Kind}
 use Rattle.arrow2_machine.specs.Held.{Held, Frozen, Growing, FrozenOffsets, GrowingOffsets, Array, ◌>>=◌, at, offset_list, replaced}
 
--- what a copy of a slot holds: the same, where it is frozen or a boolean array
+-- the copy of a slot: the same, where it is frozen or a boolean array
 abbrev pub copied : Held → Result Held Refusal
 copied (Frozen items) = Ok (Frozen items)
 copied (FrozenOffsets o) = Ok (FrozenOffsets o)
 copied (Array items) = Ok (Array items)
 copied _ = Err Kind
 
--- whether two slots that hold one kind hold the same list: boolean arrays are not compared
+-- whether two slots that hold values of one type hold the same list: boolean arrays are not compared
 abbrev pub compared : Held → Held → Result Bool Refusal
 compared (Frozen a) (Frozen b) = Ok (pointwise beq a b)
 compared (Growing a) (Growing b) = Ok (pointwise beq a b)

@@ -1,4 +1,4 @@
-//! The commands on boolean arrays: what each does to its slots, and its reply.
+//! The commands on boolean arrays: the effect of each on its slots, and its reply.
 ghost use Rattle.std.specs.Prelude.{◌≡◌, length as count_of, option_map, OnErr, IfOk};
 ghost use Rattle.arrow2_machine.specs.BitmapOutcomes.{part_inside};
 ghost use Rattle.arrow2_machine.specs.Held.{at, array as array_in, Array};
@@ -47,7 +47,7 @@ pub(crate) fn run(
     Ok(())
 }
 
-/// The boolean array of a frozen bitmap, null where another one is false. Without another none is null.
+/// Returns the boolean array of a frozen bitmap, null where another one is false. Without another none is null.
 ///
 /// # Errors
 ///
@@ -70,7 +70,7 @@ fn array_of(
     Ok(array)
 }
 
-/// What Kleene's and makes of two boolean arrays of one length.
+/// Returns the result of Kleene's and for two boolean arrays of one length.
 ///
 /// # Errors
 ///
@@ -83,7 +83,7 @@ fn both(slots: &[Slot; 16], left: SlotIndex, right: SlotIndex) -> Result<Boolean
     Ok(left.and_kleene(right)?)
 }
 
-/// What Kleene's or makes of two boolean arrays of one length.
+/// Returns the result of Kleene's or for two boolean arrays of one length.
 ///
 /// # Errors
 ///
@@ -100,7 +100,7 @@ fn either(
     Ok(left.or_kleene(right)?)
 }
 
-/// Two boolean arrays of one length.
+/// Returns two boolean arrays of one length.
 ///
 /// # Errors
 ///
@@ -124,7 +124,7 @@ fn two_boolean_arrays(
 }
 
 impl Slot {
-    /// A slot with a boolean array.
+    /// Returns a slot with a boolean array.
     fn with_array(array: BooleanArray) -> Slot
         ensures { result ≡ Array (boolean_items array) }
     {
@@ -133,7 +133,7 @@ impl Slot {
         }
     }
 
-    /// The boolean array of a slot.
+    /// Returns the boolean array of a slot.
     ///
     /// # Errors
     ///
@@ -159,7 +159,7 @@ impl Slot {
         Ok(())
     }
 
-    /// How many items of a boolean array are null.
+    /// Returns the number of null items of a boolean array.
     ///
     /// # Errors
     ///

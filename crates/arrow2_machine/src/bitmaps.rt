@@ -1,4 +1,4 @@
-//! The commands on bitmaps: what each does to its slots, and its reply.
+//! The commands on bitmaps: the effect of each on its slots, and its reply.
 ghost use Rattle.std.specs.Prelude.{◌≡◌, slice_get, OnErr};
 ghost use Rattle.arrow2.specs.Storage.{items_of};
 ghost use Rattle.arrow2_machine.specs.Held.{Growing};
@@ -48,7 +48,7 @@ pub(crate) fn run(
 }
 
 impl Slot {
-    /// A slot with a growing bitmap of these items.
+    /// Returns a slot with a growing bitmap of these items.
     ///
     /// # Errors
     ///
@@ -95,7 +95,7 @@ impl Slot {
         }
     }
 
-    /// Item `index` of a bitmap, where there is one.
+    /// Returns item `index` of a bitmap, where there is one.
     ///
     /// # Errors
     ///
@@ -165,7 +165,7 @@ impl Slot {
         }
     }
 
-    /// How many items of a bitmap are false.
+    /// Returns the number of false items of a bitmap.
     ///
     /// # Errors
     ///
@@ -197,7 +197,7 @@ impl Slot {
     }
 }
 
-/// The growing bitmap of a text of bits.
+/// Returns the growing bitmap of a text of bits.
 fn bitmap_of(alloc: Global, text: &BitText<'_>) -> Result<MutableBitmap, CommandError>
     ensures { Gives (λ bitmap. bitmap.items) result (Ok text.now) }
 {
@@ -224,7 +224,7 @@ fn cut(bitmap: &mut Bitmap, offset: u64, length: u64) -> Result<(), Refusal>
     }
 }
 
-/// Item `index` of a growing bitmap, where there is one.
+/// Returns item `index` of a growing bitmap, where there is one.
 #[tactic(auto, using(std::proofs::lemmas::Option::gets))]
 fn item_at(bitmap: &MutableBitmap, index: u64) -> Option<bool>
     ensures { result ≡ slice_get bitmap.now.items index }

@@ -1,4 +1,4 @@
-//! The commands by which bitmaps grow by many items: what each does to its slots, and its reply.
+//! The commands by which bitmaps grow by many items: the effect of each on its slots, and its reply.
 ghost use Rattle.std.specs.Prelude.{◌≡◌, OnErr};
 ghost use Rattle.arrow2.specs.Storage.{items_of};
 ghost use Rattle.arrow2_machine.specs.GrowthOutcomes.{filled, appended, growth_outcome};

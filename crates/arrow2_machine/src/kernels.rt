@@ -1,4 +1,4 @@
-//! The commands that combine bitmaps: what each does to its slots, and its reply.
+//! The commands that combine bitmaps: the effect of each on its slots, and its reply.
 ghost use Rattle.std.specs.Prelude.{◌≡◌, [], ◌∷◌, length, OnErr, IfOk};
 ghost use Rattle.arrow2.specs.Storage.{items_of};
 ghost use Rattle.arrow2.specs.Tables.{each};
@@ -44,7 +44,7 @@ pub(crate) fn run(
     Ok(())
 }
 
-/// What a kernel makes of frozen bitmaps.
+/// Returns the bitmap that a kernel makes of frozen bitmaps.
 ///
 /// # Errors
 ///
@@ -86,7 +86,7 @@ fn made(slots: &[Slot; 16], kernel: Kernel) -> Result<Bitmap, CommandError>
     }
 }
 
-/// Two frozen bitmaps of one length.
+/// Returns two frozen bitmaps of one length.
 ///
 /// # Errors
 ///
@@ -109,7 +109,7 @@ pub(crate) fn two_bitmaps(
     }
 }
 
-/// Three frozen bitmaps of one length.
+/// Returns three frozen bitmaps of one length.
 ///
 /// # Errors
 ///
@@ -137,7 +137,7 @@ fn three_bitmaps(
     }
 }
 
-/// Four frozen bitmaps of one length.
+/// Returns four frozen bitmaps of one length.
 ///
 /// # Errors
 ///
@@ -175,7 +175,7 @@ fn four_bitmaps(
 }
 
 impl Slot {
-    /// The frozen bitmap of a slot.
+    /// Returns the frozen bitmap of a slot.
     ///
     /// # Errors
     ///
@@ -189,8 +189,8 @@ impl Slot {
         }
     }
 
-    /// Makes each item of a growing bitmap the answer of a table for it, the same for each width of words. Does not
-    /// allocate.
+    /// Replaces each item of a growing bitmap by the output of a table for it, the same for each width of words. Does
+    /// not allocate.
     ///
     /// # Errors
     ///
@@ -208,8 +208,8 @@ impl Slot {
         }
     }
 
-    /// Makes each item of a growing bitmap the answer of a table for it and the item of another bitmap, the same for
-    /// each width of words. Does not allocate.
+    /// Replaces each item of a growing bitmap by the output of a table for it and the item of another bitmap, the same
+    /// for each width of words. Does not allocate.
     ///
     /// # Errors
     ///
@@ -238,7 +238,7 @@ impl Slot {
     }
 }
 
-/// Makes each item the answer of a table for it.
+/// Replaces each item by the output of a table for it.
 fn assign_table(bitmap: &mut MutableBitmap, table: Below<4>, width: Width)
     ensures { bitmap.new.items ≡ each table (bitmap.old.items ∷ []) }
 {
@@ -251,7 +251,8 @@ fn assign_table(bitmap: &mut MutableBitmap, table: Below<4>, width: Width)
     }
 }
 
-/// Makes each item the answer of a table for it and the other item at its place. Requires that both have one length.
+/// Replaces each item by the output of a table for it and the other item at its index. Requires that both have one
+/// length.
 fn assign_table_beside(bitmap: &mut MutableBitmap, table: Below<16>, width: Width, other: &Bitmap)
     requires same_length { length bitmap.old.items ≡ length (items_of other.now) }
     ensures { bitmap.new.items ≡ each table (bitmap.old.items ∷ items_of other.now ∷ []) }

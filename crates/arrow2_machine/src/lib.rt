@@ -1,4 +1,4 @@
-//! The machine of a script: sixteen slots, what each line does to them, and the replies to all lines.
+//! The machine of a script: sixteen slots, the effect of each line on them, and the replies to all lines.
 #![tactic(auto)]
 
 mod arrays;

@@ -1,4 +1,4 @@
-//! The machine: sixteen slots, what a line does to them, and the replies to a whole script.
+//! The machine: sixteen slots, the effect of a line on them, and the replies to a whole script.
 ghost use Rattle.std.specs.Prelude.{◌≡◌, ◌++◌, IfOk, OnOk, replicate};
 ghost use Rattle.arrow2_script.specs.Lines.{ended};
 ghost use Rattle.arrow2_machine.specs.Held.{Nothing};
@@ -31,7 +31,7 @@ impl Model for Machine {
 }
 
 impl Machine {
-    /// Sixteen slots that hold nothing.
+    /// Returns sixteen slots that hold nothing.
     pub fn new() -> Machine
         ensures { result ≡ replicate 16 Nothing }
     {
@@ -62,11 +62,11 @@ impl Machine {
         }
     }
 
-    /// Answers one line, and appends its reply and a line end. A line that is refused changes nothing.
+    /// Runs one line, and appends its reply and a line end. A line that is refused changes nothing.
     ///
     /// # Errors
     ///
-    /// Where a request for memory is refused. The slots may have changed then.
+    /// Where an allocation fails. The slots may have changed then.
     #[tactic(auto, unfolding(crate::specs::Machine::step))]
     pub fn answer(
         &mut self,
@@ -92,11 +92,11 @@ impl Machine {
     }
 }
 
-/// The replies to the lines of a script.
+/// Returns the replies to the lines of a script.
 ///
 /// # Errors
 ///
-/// Where a request for memory is refused.
+/// Where an allocation fails.
 #[tactic(auto, using(crate::proofs::MachineLemmas::running))]
 pub fn replies(alloc: Global, script: &[u8]) -> Result<Vec<u8>, AllocError>
     ensures { IfOk result (λ reply. reply.items ≡ text script.now) }

@@ -1,4 +1,4 @@
-//! The commands on offsets: what each does to its slots, and its reply.
+//! The commands on offsets: the effect of each on its slots, and its reply.
 ghost use Rattle.std.specs.Prelude.{◌≡◌, ◌<◌, ◌≤◌, ◌+◌, [], ◌∷◌, ◌≤ℤ◌, pos, unsigned_abs, sum, ◌⊎◌, OnOk, OnErr, IfErr, IfOk, IsErrOf};
 ghost use Rattle.arrow2.specs.Buffers.{buffer_items};
 ghost use Rattle.arrow2.specs.Offsets.{last_of_growing, GrownBy, SameOffsets};
@@ -51,7 +51,7 @@ pub(crate) fn run(
 }
 
 impl Slot {
-    /// A slot with growing offsets, of which `first` is the only one.
+    /// Returns a slot with growing offsets whose only offset is `first`.
     ///
     /// # Errors
     ///
@@ -170,7 +170,7 @@ impl Slot {
         }
     }
 
-    /// Appends the lengths of frozen offsets, and `null` in place of those where a frozen bitmap is false.
+    /// Appends the lengths of frozen offsets, and `null` instead of those where a frozen bitmap is false.
     ///
     /// # Errors
     ///
@@ -191,7 +191,7 @@ impl Slot {
     }
 }
 
-/// Growing offsets with one offset alone. Requires that it is not negative.
+/// Returns growing offsets with one offset alone. Requires that it is not negative.
 fn offsets_of(alloc: Global, first: i32) -> Result<Offsets<i32>, AllocError>
     requires { pos 0 ≤ℤ first }
     ensures { IfOk result (λ o. (o.start ≡ unsigned_abs first) × (o.lengths ≡ [])) }

@@ -10,7 +10,7 @@ use std::alloc::{AllocError, AllocFailed};
 pub enum Refusal {
     /// The line is no command.
     Syntax,
-    /// A slot does not hold what the command asks for.
+    /// A slot does not hold what the command requires.
     Kind,
     /// A range is not inside its list, or an offset is too great.
     Range,
@@ -21,7 +21,7 @@ pub enum Refusal {
 }
 
 impl Refusal {
-    /// The reply to a refused line, without a line end.
+    /// Returns the reply to a refused line, without a line end.
     pub fn text(self) -> &'static [u8]
         ensures { result.now ≡ refused_text self }
     {
@@ -40,7 +40,7 @@ impl Refusal {
 pub enum CommandError {
     /// The machine refuses the line.
     Refused(Refusal),
-    /// A request for memory was refused.
+    /// An allocation failed.
     OutOfMemory,
 }
 
@@ -64,7 +64,7 @@ impl From<AllocError> for CommandError {
     }
 }
 
-/// The value that found no room is dropped.
+/// The value that could not be stored is dropped.
 impl<T: Drop> From<AllocFailed<T>> for CommandError {
     ghost use Rattle.arrow2_machine.specs.declared.refusal.CommandError.TheVariants.{OutOfMemory};
 
@@ -75,8 +75,8 @@ impl<T: Drop> From<AllocFailed<T>> for CommandError {
     }
 }
 
-/// An overflow is refused, and what is handed in and does not fit is out of range; the other errors are want of
-/// memory, since no call of the layer that a command makes answers them.
+/// An overflow is refused, and an argument that does not fit is out of range; the other errors become an allocation
+/// that failed, since no call of the layer that a command makes returns them.
 impl From<Error> for CommandError {
     ghost use Rattle.arrow2_machine.specs.Outcomes.{command_error};
 

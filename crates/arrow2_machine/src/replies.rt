@@ -11,7 +11,7 @@ use arrow2::bitmap::utils::{BitChunk, BitChunks, BitmapIter, SlicesIterator};
 use arrow2::offset::Lengths;
 use std::alloc::AllocError;
 
-/// The byte of a bit in a text of bits.
+/// Returns the byte of a bit in a text of bits.
 fn bit_byte(bit: bool) -> u8
     ensures { result ≡ byte_of bit }
 {
@@ -26,7 +26,7 @@ pub(crate) fn write_number(number: usize, reply: &mut Vec<u8>) -> Result<(), All
     reply.extend_from_slice(text.as_bytes())
 }
 
-/// Appends the reply that tells an item, or that there is none.
+/// Appends the reply with an item, or that there is none.
 pub(crate) fn write_item(item: Option<bool>, reply: &mut Vec<u8>) -> Result<(), AllocError>
     ensures { OnOk result (reply.new.items ≡ reply.old.items ++ item_said item) }
 {
@@ -59,7 +59,7 @@ fn write_magnitude(number: &i32, out: &mut Vec<u8>) -> Result<(), AllocError>
     write_number(number.unsigned_abs() as usize, out)
 }
 
-/// Appends the reply that tells an offset, or that there is none.
+/// Appends the reply with an offset, or that there is none.
 pub(crate) fn write_offset(offset: Option<i32>, reply: &mut Vec<u8>) -> Result<(), AllocError>
     ensures { OnOk result (reply.new.items ≡ reply.old.items ++ offset_said offset) }
 {
@@ -88,7 +88,7 @@ pub(crate) fn write_offsets(offsets: &[i32], out: &mut Vec<u8>) -> Result<(), Al
     Ok(())
 }
 
-/// Appends the word that tells the length of a slot, or `null` where the slot is not valid.
+/// Appends the word of the length of a slot, or `null` where the slot is not valid.
 fn write_slot(length: usize, valid: bool, out: &mut Vec<u8>) -> Result<(), AllocError>
     ensures { OnOk result (out.new.items ≡ out.old.items ++ slot_word (slot length valid)) }
 {
@@ -99,7 +99,7 @@ fn write_slot(length: usize, valid: bool, out: &mut Vec<u8>) -> Result<(), Alloc
     }
 }
 
-/// Appends the text of slots, of which some are valid.
+/// Appends the text of slots, some of which are valid.
 pub(crate) fn write_slots(
     lengths: Lengths<'_, i32>,
     validity: BitmapIter<'_>,
@@ -122,7 +122,7 @@ pub(crate) fn write_slots(
     Ok(())
 }
 
-/// Appends a number's digits, behind a space unless it is the first one of a list.
+/// Appends a number's digits, after a space unless it is the first one of a list.
 fn write_listed(number: usize, first: bool, out: &mut Vec<u8>) -> Result<(), AllocError>
     ensures { OnOk result (out.new.items ≡ out.old.items ++ listed_word first (decimal number)) }
 {
@@ -159,7 +159,7 @@ pub(crate) fn write_words<T: BitChunk, F: Fn(T) -> usize>(
     Ok(())
 }
 
-/// Appends the word that tells a run of `length` items from place `start` on.
+/// Appends the word of a run of `length` items from index `start` on.
 fn write_run(start: usize, length: usize, out: &mut Vec<u8>) -> Result<(), AllocError>
     ensures { OnOk result (out.new.items ≡ out.old.items ++ run_word (start, length)) }
 {
@@ -168,7 +168,7 @@ fn write_run(start: usize, length: usize, out: &mut Vec<u8>) -> Result<(), Alloc
     write_number(length, out)
 }
 
-/// Appends the text of the runs that a walk still has.
+/// Appends the text of the runs that an iterator still has.
 pub(crate) fn write_runs(runs: SlicesIterator<'_>, out: &mut Vec<u8>) -> Result<(), AllocError>
     ensures { OnOk result (out.new.items ≡ out.old.items
         ++ words_text (map run_word runs.entry.runs)) }
@@ -186,7 +186,7 @@ pub(crate) fn write_runs(runs: SlicesIterator<'_>, out: &mut Vec<u8>) -> Result<
     Ok(())
 }
 
-/// The byte of an item in the text of a boolean array.
+/// Returns the byte of an item in the text of a boolean array.
 fn array_byte(item: Option<bool>) -> u8
     ensures { result ≡ array_byte_of item }
 {

@@ -7,7 +7,7 @@ use arrow2::bitmap::{Bitmap, MutableBitmap};
 use arrow2::offset::{Offsets, OffsetsBuffer};
 use std::marker::Model;
 
-/// What a slot holds.
+/// The contents of a slot.
 #[derive(Drop)]
 pub(crate) enum Contents {
     /// No value.
@@ -24,7 +24,7 @@ pub(crate) enum Contents {
     Array(BooleanArray),
 }
 
-/// A slot, which contracts see as what it holds in the machine of lists.
+/// A slot: contracts see the value that it holds in the machine of lists.
 #[derive(Drop)]
 pub(crate) struct Slot {
     pub(crate) contents: Contents,
@@ -41,7 +41,7 @@ impl Model for Slot {
 }
 
 impl Slot {
-    /// A slot that holds nothing.
+    /// Returns a slot that holds nothing.
     pub(crate) fn new() -> Slot
         ensures { result ≡ Nothing }
     {

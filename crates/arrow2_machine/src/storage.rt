@@ -1,4 +1,4 @@
-//! The commands on the bits in which bitmaps stand: what each does to its slots, and its reply.
+//! The commands on the stored bits of bitmaps: the effect of each on its slots, and its reply.
 ghost use Rattle.std.specs.Prelude.{◌≡◌, OnErr, IfOk};
 ghost use Rattle.arrow2_machine.specs.StorageOutcomes.{stored, item_set, word_text, run_text, storage_outcome};
 ghost use Rattle.arrow2_machine.specs.Outcomes.{Gives, Carries, Writes, Answers};
@@ -37,7 +37,7 @@ pub(crate) fn run(
 }
 
 impl Slot {
-    /// A slot with the frozen bitmap of the `length` bits of these bytes from bit `offset` on.
+    /// Returns a slot with the frozen bitmap of the `length` bits of these bytes from bit `offset` on.
     ///
     /// # Errors
     ///
@@ -102,7 +102,7 @@ impl Slot {
         Ok(())
     }
 
-    /// Appends the runs of set items of a frozen bitmap, each as its first place and its length.
+    /// Appends the runs of set bits of a frozen bitmap, each as its first index and its length.
     ///
     /// # Errors
     ///
@@ -115,7 +115,7 @@ impl Slot {
     }
 }
 
-/// The bytes that a text of hexadecimal digits says.
+/// Returns the bytes of a text of hexadecimal digits.
 fn gather(alloc: Global, bytes: HexText<'_>) -> Result<Vec<u8>, AllocError>
     ensures { IfOk result (λ vec. vec.items ≡ bytes.entry) }
 {

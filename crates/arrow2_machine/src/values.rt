@@ -1,4 +1,4 @@
-//! The commands on values of any kind: what each does to its slots, and its reply.
+//! The commands on values of any type: the effect of each on its slots, and its reply.
 ghost use Rattle.std.specs.Prelude.{◌≡◌};
 ghost use Rattle.arrow2_machine.specs.ValueOutcomes.{copied, compared, value_outcome};
 ghost use Rattle.arrow2_machine.specs.Outcomes.{Gives, Carries};
@@ -32,7 +32,7 @@ pub(crate) fn run(
 }
 
 impl Slot {
-    /// A slot with the same frozen bitmap, frozen offsets or boolean array.
+    /// Returns a slot with the same frozen bitmap, frozen offsets or boolean array.
     ///
     /// # Errors
     ///
@@ -53,7 +53,7 @@ impl Slot {
     ///
     /// # Errors
     ///
-    /// `Kind` alone, where they hold different kinds, boolean arrays or nothing.
+    /// `Kind` alone, where they hold values of different types, boolean arrays or nothing.
     fn compare(&self, other: &Slot) -> Result<bool, Refusal>
         ensures { result ≡ compared self.now other.now }
     {

@@ -1,5 +1,5 @@
-//! What no contract says of the program. This crate has nothing but tests: a crate with tests of its own is proved
-//! once more with them.
+//! Properties of the program that no contract states. This crate has nothing but tests: a crate with tests of its own
+//! is proved once more with them.
 #![tactic(auto)]
 
 #[cfg(test)]

@@ -62,7 +62,7 @@ impl Write for Narrow {
     }
 }
 
-/// What a replay wrote, and its answer.
+/// The output of a replay, and its result.
 fn told<R: Read + Drop, W: Write>(
     alloc: Global,
     reader: R,

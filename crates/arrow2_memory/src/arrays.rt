@@ -25,7 +25,7 @@ fn frozen(alloc: Global) -> Result<BooleanArray> {
     grown.freeze()
 }
 
-/// The number of items of an array that has room for more.
+/// Returns the number of items of an array that has spare capacity.
 fn roomy(alloc: Global) -> [Row<usize>; 1] {
     let array = MutableBooleanArray::with_capacity(alloc, 20);
     [(
@@ -66,7 +66,7 @@ fn grow(growth: Growth, array: &mut MutableBooleanArray, other: &BooleanArray) -
     }
 }
 
-/// Shows how many items an empty array has then. Where memory was refused, it has none, and is changed once more.
+/// Shows how many items an empty array has then. Where an allocation failed, it has none, and is changed once more.
 fn grown<R: Print + Eprint>(rt: &R, alloc: Global, growth: Growth, other: &BooleanArray) {
     let mut array = MutableBooleanArray::new(alloc);
     let (call, made) = grow(growth, &mut array, other);

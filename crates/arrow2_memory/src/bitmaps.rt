@@ -33,7 +33,7 @@ fn collected(alloc: Global) -> Result<Bitmap> {
     Bitmap::try_from_iter(alloc, (0..600usize).map(|i| i % 3 == 0))
 }
 
-/// Bitmaps of what functions of numbers and of items answer.
+/// Bitmaps of the results of functions of numbers and of items.
 fn answered(alloc: Global) -> [Row<Bitmap>; 3] {
     let bytes = [0b1011_0110, 0b1];
     [

@@ -1,5 +1,5 @@
-//! Makes calls that allocate, and shows their results. Each group of them is made twice, and what was refused memory at
-//! first is shown as it was made again: so standard output has one text whichever request for memory is refused. The
+//! Makes calls that allocate, and shows their results. Each group of them is made twice, and calls whose allocation
+//! failed at first are shown as they were made again: so standard output has one text whichever allocation fails. The
 //! calls that were refused at first are named on standard error.
 use arrow2_types::error::{Error, Result};
 use std::cmp::PartialEq;
@@ -9,13 +9,13 @@ use std::io::{Eprint, Print};
 /// The name of a call, and its result.
 pub(crate) type Row<T> = (&'static str, Result<T>);
 
-/// What a call is made on. Where that is refused memory, the call is not: the refusal becomes an overflow, which comes of
-/// no call here.
+/// Returns the input of a call. Where its allocation fails, the error becomes `Overflow`, which no call here
+/// returns.
 pub(crate) fn input<T: Drop>(made: Result<T>) -> Result<T> {
     made.or(Err(Error::Overflow))
 }
 
-/// Names the call where it was refused memory, and returns whether it was.
+/// Names the call where an allocation of it failed, and returns whether one did.
 pub(crate) fn refused<R: Eprint, T>(rt: &R, call: &str, made: &Result<T>) -> bool {
     let refused = matches!(made, Err(Error::OutOfMemory));
     if refused {
@@ -24,12 +24,12 @@ pub(crate) fn refused<R: Eprint, T>(rt: &R, call: &str, made: &Result<T>) -> boo
     refused
 }
 
-/// Shows a value beside the name of a call.
+/// Shows the name of a call and a value.
 pub(crate) fn show<R: Print, T: fmt::Debug>(rt: &R, call: &str, value: &T) {
     let _ = println!(rt; "{call}: {value:?}");
 }
 
-/// Shows what calls made, and where memory was refused, what they made again.
+/// Shows the results of calls, and where an allocation failed, those of the second time.
 pub(crate) fn made<R: Print + Eprint, T: fmt::Debug>(rt: &R, rows: &[Row<T>], again: &[Row<T>]) {
     for ((call, one), (_, other)) in rows.iter().zip(again) {
         let refused = refused(rt, call, one) || matches!(one, Err(Error::Overflow));
@@ -43,7 +43,7 @@ pub(crate) trait Change<T> {
     fn change(&self, value: &mut T) -> Row<()>;
 }
 
-/// Shows what a change leaves in a copy of the value. Where memory was refused, that is the value.
+/// Shows a copy of the value after a change. Where an allocation failed, that is the value.
 pub(crate) fn changed<R: Print + Eprint, T: Clone + Drop + PartialEq + fmt::Debug, C: Change<T>>(
     rt: &R,
     before: &T,
@@ -62,7 +62,7 @@ pub(crate) fn changed<R: Print + Eprint, T: Clone + Drop + PartialEq + fmt::Debu
     Ok(())
 }
 
-/// A copy of the value, for which memory may be refused once.
+/// Returns a copy of the value, whose allocation may fail once.
 fn copied<T: Clone + Drop>(value: &T) -> Result<T> {
     match value.clone() {
         Ok(copy) => Ok(copy),

@@ -68,7 +68,7 @@ fn validities(alloc: Global) -> [Row<Option<Bitmap>>; 1] {
 enum Growth<'a> {
     /// By one item.
     Push,
-    /// By more of one value than a vector first has room for.
+    /// By more of one value than a vector first has capacity for.
     ExtendConstant,
     /// By bits.
     ExtendFromSlice,
@@ -102,7 +102,7 @@ impl Change<MutableBitmap> for Growth<'_> {
     }
 }
 
-/// Reserves room, and shrinks to what is used.
+/// Reserves capacity, and shrinks to the items.
 fn reserve_and_shrink(bitmap: &mut MutableBitmap) -> Result<()> {
     let _ = bitmap.reserve(90);
     bitmap.shrink_to_fit()

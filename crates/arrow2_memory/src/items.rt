@@ -7,7 +7,7 @@ use std::alloc::Global;
 /// Eighty bits that follow no pattern.
 pub(crate) const BYTES: [u8; 10] = [0xb6, 0x5b, 0x0f, 0xe1, 0x27, 0x99, 0xd4, 0x3c, 0x72, 0xad];
 
-/// Seventy items of these, from bit `offset` on. Where memory is refused it is an overflow, as of each input.
+/// Seventy items of these, from bit `offset` on. Where an allocation fails it is an overflow, as of each input.
 pub(crate) fn items(alloc: Global, offset: usize) -> Result<Bitmap> {
     let Ok(whole) = Bitmap::from_u8_slice(alloc, &BYTES, 80) else {
         return Err(Error::Overflow);

@@ -1,6 +1,6 @@
-//! Every public call of buffers, bitmaps, tables, walks, offsets, arrays and kernels that may run out of memory, and every change
-//! in place, on few items. `tests/run` refuses each request for memory in turn: the text stays the same, and each call that
-//! may be refused was refused.
+//! Every public call of buffers, bitmaps, tables, iterators, offsets, arrays and kernels that may run out of memory,
+//! and every change in place, on few items. `tests/run` lets each allocation fail in turn: the text stays the same, and
+//! each call that may fail has failed.
 #![tactic(auto)]
 
 mod arrays;
@@ -33,7 +33,7 @@ fn all<R: Print + Eprint>(rt: &R, alloc: Global) -> Result<()> {
     silent::all(rt, alloc)
 }
 
-/// Ends with status 1 where memory was refused twice to what a call is made on.
+/// Ends with status 1 where the allocation of an input failed twice.
 fn main(rt: HostRuntime) -> ExitCode {
     match all(&rt, rt.alloc()) {
         Ok(()) => ExitCode::SUCCESS,

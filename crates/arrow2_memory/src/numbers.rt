@@ -138,7 +138,7 @@ fn grow(
     }
 }
 
-/// Shows how many items an array has then. Where memory was refused, it has none, and is changed once more.
+/// Shows how many items an array has then. Where an allocation failed, it has none, and is changed once more.
 fn grown<R: Print + Eprint>(
     rt: &R,
     growth: Growth,
@@ -163,7 +163,7 @@ fn validity(bitmap: Option<Bitmap>) -> Result<Validity> {
     input(Validity::try_new(70, bitmap))
 }
 
-/// The number of nulls of what two validities are together.
+/// The number of nulls of two validities combined.
 fn both(alloc: Global) -> Result<usize> {
     let one = validity(Some(items(alloc, 1)?))?;
     let other = validity(Some(items(alloc, 2)?))?;
@@ -181,7 +181,7 @@ fn thawed_validity(alloc: Global) -> Result<usize> {
     }
 }
 
-/// The number of items of a bitmap behind which those of a validity stand.
+/// The number of items of a bitmap after which those of a validity begin.
 fn appended(alloc: Global) -> Result<usize> {
     let mut grown = input(growing_items(alloc))?;
     let validity = validity(None)?;

@@ -132,7 +132,7 @@ enum Growth<'a> {
     Push,
     /// By one length that is a `usize`.
     PushUsize,
-    /// By more empty slots than a vector first has room for.
+    /// By more empty slots than a vector first has capacity for.
     ExtendConstant,
     /// By the lengths of an iterator.
     ExtendFromLengths,

@@ -1,5 +1,5 @@
-//! Calls that do not allocate: other owners, pushes below the capacity, and changes in place. What they are made on is made
-//! first, so that no request for memory comes behind the first line that they show.
+//! Calls that do not allocate: other owners, pushes below the capacity, and changes in place. Their inputs are made
+//! first, so that no allocation comes after the first line that they show.
 use crate::calls::{input, refused, show};
 use crate::items::{growing_items, items};
 use crate::offsets::five_shared;
@@ -32,7 +32,7 @@ fn owners_of_offsets<R: Print>(rt: &R, offsets: &OffsetsBuffer<i32>) {
     show(rt, "Clone for OffsetsBuffer<O>", &offsets);
 }
 
-/// Pushes as many items as there is room for, and names a push that is refused.
+/// Pushes items up to the capacity, and names a push that fails.
 fn push_items<R: Print + Eprint>(rt: &R, bitmap: &mut MutableBitmap) {
     for i in 0..20usize {
         let pushed = bitmap.push(i % 3 == 0);
@@ -41,7 +41,7 @@ fn push_items<R: Print + Eprint>(rt: &R, bitmap: &mut MutableBitmap) {
     show(rt, "MutableBitmap::push below the capacity", bitmap);
 }
 
-/// Pushes as many lengths as there is room for, and names a push that is refused.
+/// Pushes lengths up to the capacity, and names a push that fails.
 fn push_lengths<R: Print + Eprint>(rt: &R, offsets: &mut Offsets<i32>) {
     for length in 0..20usize {
         let pushed = offsets.try_push_usize(length);
@@ -50,7 +50,7 @@ fn push_lengths<R: Print + Eprint>(rt: &R, offsets: &mut Offsets<i32>) {
     show(rt, "Offsets::try_push_usize below the capacity", offsets);
 }
 
-/// Pushes as many items to an array as there is room for, and names a push that is refused.
+/// Pushes items to an array up to its capacity, and names a push that fails.
 fn push_options<R: Print + Eprint>(rt: &R, array: &mut MutableBooleanArray) {
     for i in 0..20usize {
         let pushed = array.push((i % 3 > 0).then_some(i % 2 == 0));
@@ -122,7 +122,7 @@ fn assign(lhs: &mut MutableBitmap, operator: Operator, rhs: &Bitmap) {
     }
 }
 
-/// What the operator makes of its left side, or that side where the lengths differ.
+/// Returns the operator's result for its left side, or that side where the lengths differ.
 fn applied(lhs: MutableBitmap, operator: Operator, rhs: &Bitmap) -> MutableBitmap {
     if lhs.len() != rhs.len() {
         return lhs;
@@ -152,12 +152,12 @@ fn operators<R: Print>(rt: &R, mut lhs: MutableBitmap, rhs: &Bitmap) {
     show(rt, "|", &lhs);
 }
 
-/// What changes in place are made on.
+/// The inputs of changes in place.
 fn sides(alloc: Global) -> Result<(MutableBitmap, Bitmap)> {
     Ok((growing_items(alloc)?, items(alloc, 3)?))
 }
 
-/// What is pushed to.
+/// The inputs of pushes.
 fn roomy(alloc: Global) -> Result<(MutableBitmap, Offsets<i32>)> {
     let bitmap = MutableBitmap::with_capacity(alloc, 20)?;
     Ok((bitmap, Offsets::with_capacity(alloc, 20)?))
@@ -168,7 +168,7 @@ fn roomy_array(alloc: Global) -> Result<MutableBooleanArray> {
     input(MutableBooleanArray::with_capacity(alloc, 20))
 }
 
-/// What has other owners.
+/// The values that get other owners.
 fn owned(alloc: Global) -> Result<(BooleanArray, OffsetsBuffer<i32>)> {
     Ok((array(alloc)?, five_shared(alloc)?))
 }

@@ -9,7 +9,7 @@ use either::Either;
 use std::alloc::Global;
 use std::io::{Eprint, Print};
 
-/// A text that is longer than what fits into an array without items.
+/// A text that is longer than the capacity of an array without items.
 const TEXT: &str = "text";
 
 /// The array of one text.
@@ -245,7 +245,8 @@ impl Grows<BinaryArray<i32>> for MutableBinaryArray<i32> {
     }
 }
 
-/// Shows how many items an array has then. Where memory was refused, it has as many as before, and is changed once more.
+/// Shows how many items an array has then. Where an allocation failed, it has the items that it had before, and is
+/// changed once more.
 fn grown<R: Print + Eprint, A, B: Grows<A>>(rt: &R, growth: Growth, array: &mut B, other: &A) {
     let before = array.count();
     let (call, made) = array.grow(growth, other);

@@ -44,7 +44,7 @@ fn pieces(alloc: Global) -> Result<Pieces> {
     Pieces::new(alloc, items(alloc, 3)?)
 }
 
-/// Cuts the first piece in halves: as the number of pieces says, there is one.
+/// Cuts the first piece in halves: by the number of pieces, there is one.
 fn halve(pieces: &mut Pieces) -> Result<()> {
     let _ = pieces.len();
     let half = pieces.get(0).len() / 2;

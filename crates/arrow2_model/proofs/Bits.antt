@@ -1,4 +1,4 @@
--- Bits of numbers and of bytes: their places, and what a written bit changes.
+-- Bits of numbers and of bytes: their indices, and the bits that a write changes.
 use Rattle.std.proofs.Common.{◌≡◌, inl, inr, ℕ, zero, suc, ◌+◌, ◌-◌, ◌*◌, ◌/◌, ◌%◌, ◌^◌, ◌<◌, ◌==◌, List, [], ◌∷◌, ◌++◌, Bool, true, false, length, get_or, set, refl, ap, sym, ◌∙◌, arith}
 use Rattle.std.proofs.lemmas.List.{length-append, length-set, get_or_append_left, get_or-append_right, set-append_left, set-append_right, get_or-set_same, get_or-set_other, ext_get_or}
 use Rattle.std.proofs.lemmas.List.Concat.{flat_map-append}
@@ -45,7 +45,7 @@ get_or-bits (b ∷ bytes) zero i k d h g e =
 get_or-bits (b ∷ bytes) (suc j) i k d h g e =
     rw (bits-cons b bytes) (get_or-append_right (unnum 8 b) (bits bytes) 8 k d (length-unnum 8 b) (omega arith) ∙ get_or-bits bytes j i (k - 8) d (omega arith) g (omega arith))
 
--- the same, by place
+-- the same, by index
 pub get_or-bits_at : (bytes : List ℕ) (k : ℕ) (d : Bool) → k < 8 * length bytes → get_or (bits bytes) k d ≡ bit (get_or bytes (k / 8) 0) (k % 8)
 get_or-bits_at bytes k d h = get_or-bits bytes (k / 8) (k % 8) k d (omega arith) (omega arith) (omega arith)
 
@@ -85,7 +85,7 @@ unnum-and-not w x k h =
       | inr e ↦ ap (λ a. a == 1) (bit_at_clear_other w x k h i (omega (arith, m)) e) ∙ (sym (bit_is x i) ∙ sym (get_or-set_other (unnum (width_bits w) x) k i false false e ∙ get_or-unnum (width_bits w) x i false (omega (arith, m))))
     ]))
 
--- a byte in whose place one bit is written
+-- a byte with one of its bits written
 pub bits-set : (bytes : List ℕ) (j i k b : ℕ) (v : Bool) → j < length bytes → i < 8 → k ≡ 8 * j + i → unnum 8 b ≡ set (unnum 8 (get_or bytes j 0)) i v → bits (set bytes j b) ≡ set (bits bytes) k v
 bits-set [] j i k b v h g e w = grind arith
 bits-set (x ∷ bytes) zero i k b v h g e w =

@@ -23,7 +23,7 @@ part-bits bytes j m h = let l = length-drop j bytes in ap (take (8 * m)) (drop-b
 pub part-bits-part : (bytes : List ℕ) (j m k n a : ℕ) → j + m ≤ length bytes → k + n ≤ 8 * m → a ≡ 8 * j + k → part (bits (part bytes j m)) k n ≡ part (bits bytes) a n
 part-bits-part bytes j m k n a h g e = rw (e, ← part-bits bytes j m h) (part-part (bits bytes) (8 * j) (8 * m) k n g)
 
--- the bits behind the first bytes
+-- the bits after the first bytes
 pub part-bits-drop : (bytes : List ℕ) (j k n : ℕ) → j ≤ length bytes → part (bits (drop j bytes)) k n ≡ part (bits bytes) (8 * j + k) n
 part-bits-drop bytes j k n h = ap (λ t. take n (drop k t)) (sym (drop-bits bytes j h)) ∙ ap (take n) (drop-drop k (8 * j) (bits bytes))
 

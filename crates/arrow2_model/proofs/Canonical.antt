@@ -1,4 +1,4 @@
--- Bytes that hold so many bits and nothing behind them.
+-- Bytes that hold n bits and nothing after them.
 use Rattle.std.proofs.Common.{◌≡◌, ◌≢◌, inl, inr, ℕ, suc, ◌+◌, ◌-◌, ◌*◌, ◌/◌, ◌%◌, ◌^◌, ◌<◌, ◌≤◌, ◌==◌, List, [], ◌∷◌, ◌++◌, Bool, true, false, take, drop, replicate, length, get_or, set, refl, ap, sym, ◌∙◌, arith, subst}
 use Rattle.std.specs.Int as width
 use Rattle.std.specs.Prelude.{bit_or}
@@ -19,7 +19,7 @@ use Rattle.arrow2_model.proofs.Numbers.{bit-num, num-part-lt, same_from_bits}
 use Rattle.arrow2_model.proofs.Parts.{get_or-falses, get_or-part}
 use Rattle.arrow2_model.proofs.Words.{length-words, get_or-words}
 
--- a front of the bits and all of them have the same items, as far as nothing is set behind the front
+-- the first bits and all of them have the same items, provided that nothing is set after the first
 front_items : (items : List Bool) (n k : ℕ) → ((i : ℕ) → n ≤ i → get_or items i false ≡ false) → get_or (take n items) k false ≡ get_or items k false
 front_items items n k clear = elim (cases_lt k n) [
   | inl lt ↦ get_or-take n items k false lt
@@ -46,7 +46,7 @@ canonical_is bytes n canonical =
     (sym (get_or-part items (8 * j) 8 i false i<) ∙
     (sym (bit-num (part items (8 * j) 8) i) ∙ ap (λ x. bit x i) (sym word))))))
 
--- what a vector of bytes knows of its items
+-- the items of a vector of bytes are bytes, and so are the zeros past its end
 pub bytes_fit : (bytes : List ℕ) → ((i d : ℕ) → i < length bytes → get_or bytes i d < 256) → (k : ℕ) → get_or bytes k 0 < 256
 bytes_fit bytes fits k = elim (cases_lt k (length bytes)) [
   | inl lt ↦ fits k 0 lt
@@ -88,7 +88,7 @@ pushed_byte bytes n b v canonical whole is fits =
           rw (front, last) refl)),
     )
 
--- `x | v << k`, where the place was false
+-- `x | v << k`, where the bit was false
 pub unnum-or_bool : (x k : ℕ) (v : Bool) → k < 8 → bit x k ≡ false → unnum 8 (bit_or x (from_bool v * 2 ^ k % 2 ^ 8)) ≡ set (unnum 8 x) k v
 unnum-or_bool x k true h clear = unnum-or width.w8 x k h
 unnum-or_bool x k false h clear =
@@ -118,7 +118,7 @@ pushed_bit bytes n b v canonical some is fits =
       ap (take (n + 1)) e ∙ take_more_set (bits bytes) n v (omega (arith, l)),
     )
 
--- ---- what lies behind the items is cut off
+-- ---- the bits after the items are cut off
 
 bit-low : (x i p : ℕ) → p < i → bit (x % 2 ^ i) p ≡ bit x p
 bit-low x i p h = bit_is (x % 2 ^ i) p ∙ (ap (λ t. t == 1) (sym (ap (λ t. bit_at t p) (sym (shr_split x i)) ∙ bit_at_cat_low (x / 2 ^ i) i (x % 2 ^ i) p h)) ∙ sym (bit_is x p))
@@ -167,7 +167,7 @@ cut_within bytes n b h some is fits =
           (λ k k<. let lt : k < n = omega (arith, na) in get_or-take n (bits after) k false lt ∙ (same k lt ∙ sym (get_or-take n (bits bytes) k false lt))),
     )
 
--- ---- the bytes tell the list
+-- ---- the bytes determine the list
 
 -- an item, read from the bytes
 get_or-canonical_bytes : (items : List Bool) (k : ℕ) → k < length items → get_or items k false ≡ bit (get_or (canonical_bytes items) (k / 8) 0) (k % 8)
@@ -183,7 +183,7 @@ pub same_from_canonical_bytes : (xs ys : List Bool) → length xs ≡ length ys 
 same_from_canonical_bytes xs ys l e =
     ext_get_or false xs ys l (λ k h. get_or-canonical_bytes xs k h ∙ (ap (λ b. bit (get_or b (k / 8) 0) (k % 8)) e ∙ sym (get_or-canonical_bytes ys k (omega (arith, l)))))
 
--- as many bytes as hold the list
+-- exactly the bytes that hold the list
 pub length-canonical_bytes : (items : List Bool) → length (canonical_bytes items) ≡ (length items + 7) / 8
 unfolding canonical_bytes
 length-canonical_bytes items = length-words 8 items ∙ grind arith

@@ -1,4 +1,4 @@
--- What the operators on words do to the bits of a word, at any width.
+-- The effect of the operators on words on the bits of a word, at any width.
 use Rattle.std.proofs.Common.{◌≡◌, ℕ, zero, suc, ◌+◌, ◌-◌, ◌*◌, ◌/◌, ◌%◌, ◌^◌, ◌<◌, ◌≤◌, ◌==◌, Bool, ◌&&◌, ◌||◌, not, map, List, [], ◌∷◌, ◌++◌, length, get_or, take, drop, replicate, false, refl, ap, sym, ◌∙◌, inl, inr, arith, min, max, subst, pow-add, add-zero, slice_index}
 use Rattle.std.specs.Prelude.{bit_and, bit_or, bit_xor}
 use Rattle.std.specs.Int.{bit_at, bytes_low_first}
@@ -223,7 +223,7 @@ pub ruleset chunks = (unnum-down, unnum-up, unnum-masked, unnum-kept, unnum-and,
 
 pub ruleset chunk_bytes = (low_bytes_bits, one_byte_bits, read_bits)
 
--- ---- a walk over the bits of a word
+-- ---- an iterator over the bits of a word
 
 pub word_none : (w x i e : ℕ) → i ≡ e → part (unnum w x) i (e - i) ≡ []
 word_none w x i e h = let n : e - i ≡ 0 = omega arith in rw n refl

@@ -107,7 +107,7 @@ falses-byte_part (b ∷ bytes) s n x h k e =
     let f = falses-unnum n x fits in
     omega (arith, f, ap falses first, ap falses word, ap falses low)
 
--- a word that is masked has as many true items as its lowest items
+-- a word that is masked has the true items of its lowest items
 pub falses-masked : (items low : List Bool) (k : ℕ) → items ≡ low ++ replicate k false → falses items ≡ falses low + k
 falses-masked items low k e = omega (arith, ap falses e, falses-append low (replicate k false), falses-all_false k)
 

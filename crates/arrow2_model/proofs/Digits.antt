@@ -31,7 +31,7 @@ pub length-digits : (n : ℕ) (v : ℤ) → length (digits n v) ≡ n
 unfolding digits
 length-digits n v = length-low_digits n (residue (256 ^ n) v)
 
--- a byte of a number, by its place
+-- a byte of a number, by its index
 byte_at_is : (i x : ℕ) → byte_at i x ≡ x / 256 ^ i % 256
 byte_at_is zero x = ap (λ (y : ℕ). y % 256) (sym (div-one x))
 byte_at_is (suc i) x = refl
@@ -69,7 +69,7 @@ high_bytes zero x = rw (low_digits-zero x) refl
 high_bytes (suc n) x =
     rw (low_digits-last n x, reverse-append (low_digits n x) ((x / 256 ^ n % 256) ∷ []), high_bytes n x, byte_at_is n x) refl
 
--- ---- what the digits of a value are
+-- ---- the digits of a value
 
 pub digits-natural : (n x : ℕ) → x < 256 ^ n → digits n (pos x) ≡ low_digits n x
 unfolding digits
@@ -178,7 +178,7 @@ natural_from-all n bytes e = ap digits_number (take_all n bytes (omega arith))
 pub natural_from-low_digits : (n x : ℕ) → x < 256 ^ n → natural_from n (low_digits n x) ≡ x
 natural_from-low_digits n x h = natural_from-all n (low_digits n x) (length-low_digits n x) ∙ number-low_digits n x h
 
--- what was written is read back
+-- written digits are read back
 pub low_read_back : (n x : ℕ) (bytes : List ℕ) → bytes ≡ bytes_low_first 0 n x → x < 256 ^ n → natural_from n bytes ≡ x
 low_read_back n x bytes e h = ap (natural_from n) (e ∙ low_bytes n x) ∙ natural_from-low_digits n x h
 
@@ -213,7 +213,7 @@ pub ruleset unsigned_bytes = (wrote_low, wrote_high, low_read_back, high_read_ba
 
 -- ---- signed numbers
 
--- the widths at which std has signed numbers, and how many bytes each has
+-- the widths at which std has signed numbers, and the number of bytes of each
 abbrev pub IsSize : Width → ℕ → Type 0
 IsSize w n = (256 ^ n ≡ 2 ^ width_bits w) × (2 * 2 ^ hbits w ≡ 2 ^ width_bits w)
 
@@ -280,7 +280,7 @@ residue-lt m (negsuc x) h = omega arith
 pub centred-residue : (w : Width) (n : ℕ) (z : ℤ) → IsSize w n → FitsSigned w z → centred (256 ^ n) (residue (256 ^ n) z) ≡ z
 centred-residue w n z s f = sym (to_z_is w n (residue (256 ^ n) z) s) ∙ (ap (cast_signed w) (sym (of_z_is w n z s f)) ∙ to_z-of_z w z f)
 
--- a number of n bytes is what its digits make
+-- a number of n bytes is that of its digits
 pub integer_from-digits : (w : Width) (n : ℕ) (z : ℤ) → IsSize w n → FitsSigned w z → integer_from n (digits n z) ≡ z
 unfolding digits integer_from
 integer_from-digits w n z s f =
@@ -476,7 +476,7 @@ take_first n xs ys e = rw (← e) (take-append_seam xs ys)
 pub drop_first : (n : ℕ) (xs ys : List ℕ) → length xs ≡ n → drop n (xs ++ ys) ≡ ys
 drop_first n xs ys e = rw (← e) (drop-append_seam xs ys)
 
--- what the parts of joined bytes are read as
+-- the numbers of the parts of joined bytes
 pub first_back : (n : ℕ) (z : ℤ) (bytes xs ys : List ℕ) → bytes ≡ xs ++ ys → length xs ≡ n → integer_from n xs ≡ z → integer_from n (take n bytes) ≡ z
 first_back n z bytes xs ys e l r = ap (λ (t : List ℕ). integer_from n (take n t)) e ∙ (ap (integer_from n) (take_first n xs ys l) ∙ r)
 

@@ -39,13 +39,13 @@ pub get_or-each : (t : ℕ) (lists : List (List Bool)) (k : ℕ) → k < common_
 unfolding each
 get_or-each t lists k h = get_or-map-range_with_len (λ i. answer t (items_at lists i)) 0 (common_length lists) k k false h (omega arith)
 
--- a list of the answers
+-- a list of the outputs
 pub each_from : (t : ℕ) (lists : List (List Bool)) (xs : List Bool) → length xs ≡ common_length lists → ((k : ℕ) → k < common_length lists → get_or xs k false ≡ answer t (items_at lists k)) → xs ≡ each t lists
 each_from t lists xs l h =
     let m = length-each t lists in
     ext_get_or false xs (each t lists) (l ∙ sym m) (λ k k<. h k (omega (arith, l)) ∙ sym (get_or-each t lists k (omega (arith, l))))
 
--- the word of a table's answers
+-- the word of a table's outputs
 abbrev pub table_word : ℕ → ℕ → List ℕ → ℕ
 table_word w t xs = num (map (λ i. answer t (bits_at xs i)) (range_with_len 0 w))
 
@@ -53,7 +53,7 @@ bit-table_word : (w t : ℕ) (xs : List ℕ) (i : ℕ) → i < w → bit (table_
 bit-table_word w t xs i h =
     bit-num (map (λ i. answer t (bits_at xs i)) (range_with_len 0 w)) i ∙ get_or-map-range_with_len (λ i. answer t (bits_at xs i)) 0 w i i false h (omega arith)
 
--- a word that answers bit by bit
+-- a word whose output is bit by bit
 pub table_answers : (w t : ℕ) (xs : List ℕ) (r : ℕ) → ((i : ℕ) → i < w → bit r i ≡ answer t (bits_at xs i)) → unnum w r ≡ unnum w (table_word w t xs)
 table_answers w t xs r h =
     let l = length-unnum w r in
@@ -75,7 +75,7 @@ kernel_at w t lists k p k< =
 pub kernel_of_table : (w t : ℕ) (lists : List (List Bool)) → 0 < w → kernel w (table_word w t) lists ≡ each t lists
 kernel_of_table w t lists p = each_from t lists (kernel w (table_word w t) lists) (length-kernel w (table_word w t) lists p) (λ k k<. kernel_at w t lists k p k<)
 
--- ---- words that stand beside one another
+-- ---- words that are paired
 
 are_words : (w : ℕ) (lists : List (List Bool)) (j : ℕ) → AreWords w (words_at w lists j)
 are_words w [] j k = pow_pos w

@@ -43,7 +43,7 @@ num-part-lt w items a =
     let p = pow-le-pow_right {n = 2} q {i = length (part items a w)} {j = w} le in
     omega (arith, m, p)
 
--- the same sum with places from k on
+-- the same sum with indices from k on
 sum_of_powers-num : (k : ℕ) (items : List Bool) → sum_of_powers k items ≡ 2 ^ k * num items
 sum_of_powers-num k [] = omega arith
 sum_of_powers-num k (true ∷ items) = let p = pow-suc 2 k in let e : k + 1 ≡ suc k = omega arith in rw (sum_of_powers-num (k + 1) items, e, p) (omega arith)

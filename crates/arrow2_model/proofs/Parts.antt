@@ -11,7 +11,7 @@ get_or-part items a n k d h = get_or-take n (drop a items) k d h ∙ get_or-drop
 pub length-part : {X : Type 0} → (items : List X) (a n : ℕ) → a + n ≤ length items → length (part items a n) ≡ n
 length-part items a n h = search (rules, places)
 
--- a part grows by the item behind it
+-- a part grows by the item after it
 pub part_more : (items : List Bool) (a n : ℕ) (d : Bool) → a + n < length items → part items a (n + 1) ≡ part items a n ++ get_or items (a + n) d ∷ []
 part_more items a n d h = let l = length-drop a items in take_more (drop a items) n d (omega arith) ∙ ap (λ x. part items a n ++ x ∷ []) (get_or-drop a items n d)
 
@@ -39,18 +39,18 @@ part-front front back a n h =
 pub part_all : {X : Type 0} (items : List X) (n : ℕ) → length items ≡ n → part items 0 n ≡ items
 part_all items n e = take_all n items (omega (arith, e))
 
--- a part of what is made item by item
+-- a part of a list that is made item by item
 pub part-map : {X Y : Type 0} (f : X → Y) (xs : List X) (a n : ℕ) → part (map f xs) a n ≡ map f (part xs a n)
 part-map f xs a n = ap (take n) (drop-map f a xs) ∙ take-map f n (drop a xs)
 
--- ---- false items behind others
+-- ---- false items after others
 
 pub get_or-falses : (m i : ℕ) → get_or (replicate m false) i false ≡ false
 get_or-falses zero i = refl
 get_or-falses (suc m) zero = refl
 get_or-falses (suc m) (suc i) = get_or-falses m i
 
--- behind the items nothing is set
+-- after the items nothing is set
 pub get_or-padded : (items : List Bool) (m i : ℕ) → get_or (items ++ replicate m false) i false ≡ get_or items i false
 get_or-padded items m i = elim (cases_lt i (length items)) [
   | inl lt ↦ get_or_append_left items (replicate m false) false i lt

@@ -7,7 +7,7 @@ use Rattle.arrow2_model.proofs.Joined.{same_joined}
 use Rattle.arrow2_model.proofs.Kernels.{table_word, table_answers, kernel_of_table}
 use Rattle.arrow2_model.specs.Rows.{AreRowsOf, ActsOnRows, ActsBesideRows, IsRowFunction, IsOwnRowFunction}
 
--- what is joined of the rows is the kernel of the lists
+-- the rows joined are the kernel of the lists
 pub rows_kernel : (w n : ℕ) (f : List ℕ → ℕ) (lists : List (List Bool)) (row : ℕ → List ℕ) → 0 < w → AreRowsOf w lists row n → joined w (λ j. f (row j)) n ≡ kernel w f lists
 unfolding kernel
 rows_kernel w n f lists row p are =
@@ -24,7 +24,7 @@ acts_rows w t numbers number gives acts row r fits post = table_answers w t (num
 pub acts_beside : {X R : Type 0} (w t : ℕ) (numbers : R → List ℕ) (number : X → ℕ) (gives : X → R → X → Type 0) → ActsBesideRows w numbers number gives t → IsOwnRowFunction w numbers number gives (table_word w t)
 acts_beside w t numbers number gives acts x row r small fits post = table_answers w t (number x ∷ numbers row) (number r) (λ i h. acts x row r i small fits h post)
 
--- kernels of so many lists
+-- kernels of n lists
 pub unary_is : (w : ℕ) (f : ℕ → ℕ) (a : List Bool) → kernel w (λ xs. f (slice_index xs 0)) (a ∷ []) ≡ unary_kernel w f a
 unfolding unary_kernel
 unary_is w f a = refl

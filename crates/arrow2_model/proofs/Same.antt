@@ -5,7 +5,7 @@ use Rattle.std.specs.Cmp.{booleans_Decides}
 use Rattle.std.specs.Cmp.Lexicographic.{pointwise}
 use Rattle.std.proofs.lemmas.Slice.Eq.{slice_eq-Decides}
 
--- an answer that compares two lists item by item says whether they are one list
+-- a comparison of two lists item by item states whether they are one list
 pub compared : (xs ys : List Bool) (r : Bool) → r ≡ pointwise beq xs ys → IsTrue r ↔ (xs ≡ ys)
 compared xs ys r e = slice_eq-Decides booleans_Decides xs ys r e
 

@@ -25,7 +25,7 @@ shown_before offset len p h = rw (lt-leb offset p h) refl
 shown_behind : (offset len p : ℕ) → offset + len ≤ p → is_shown offset len p ≡ false
 shown_behind offset len p h = rw (le-leb offset p (omega arith), le-ltb p (offset + len) h) refl
 
--- the same place, counted from the start of its byte
+-- the same index, counted from the start of its byte
 shown_alone : (offset len j i start here : ℕ) → i < 8 → offset < 8 → start ≡ offset - 8 * j → here ≡ min (len - (8 * j - offset)) (8 - start) → is_shown start here i ≡ is_shown offset len (8 * j + i)
 shown_alone offset len j i start here h o s e = elim (cases_lt i start) [
   | inl before ↦ shown_before start here i before ∙ sym (shown_before offset len (8 * j + i) (omega arith))
@@ -43,7 +43,7 @@ encode_bit_character true true = encode_ascii 49 (omega arith)
 
 -- ---- one byte
 
--- functions that agree place by place
+-- functions that agree index by index
 map_reversed : (f g : ℕ → ℕ) (a b n : ℕ) → ((i j k : ℕ) → i < n → j ≡ a + i → k ≡ b + i → f j ≡ g k) → map f (reverse (range_with_len a n)) ≡ map g (reverse (range_with_len b n))
 map_reversed f g a b zero h = refl
 map_reversed f g a b (suc n) h =
@@ -79,7 +79,7 @@ shown_bits_all byte offset len p n e f = rw (e, f) refl
 pub bit_alone : (byte i : ℕ) → i < 8 → get_or (bits (byte ∷ [])) i false ≡ bit byte i
 bit_alone byte i h = get_or-bits (byte ∷ []) 0 i i false (omega arith) h (omega arith)
 
--- a byte is shown as it is alone, with what is left of the bits and of the room before them
+-- byte j of bytes is shown as the byte alone is, from its own start on and with the shown bits that are left in it
 pub shown_byte_alone : (bytes : List ℕ) (byte offset len j start here : ℕ) → j < length bytes → byte ≡ get_or bytes j 0 → offset < 8 → start ≡ offset - 8 * j → here ≡ min (len - (8 * j - offset)) (8 - start) → shown_byte (byte ∷ []) start here 0 ≡ shown_byte bytes offset len j
 unfolding shown_byte
 shown_byte_alone bytes byte offset len j start here h is o s e =
@@ -96,7 +96,7 @@ shown_byte_alone bytes byte offset len j start here h is o s e =
 
 -- ---- the bytes that hold a shown bit
 
--- a test that holds of a front of a range, and of nothing behind it
+-- a test that holds of the first items of a range, and of none after them
 filter_front : (test : ℕ → Bool) (a n m : ℕ) → m ≤ n → ((k : ℕ) → a ≤ k → k < a + m → test k ≡ true) → ((k : ℕ) → a + m ≤ k → test k ≡ false) → filter test (range_with_len a n) ≡ range_with_len a m
 filter_front test a zero zero h holds fails = refl
 filter_front test a zero (suc m) h holds fails = absurd (omega arith)

@@ -1,11 +1,11 @@
--- What counts of bits read: bounds, and what pays for many cuts.
+-- The reads of counts of bits: bounds, and the potential that pays for many cuts.
 use Rattle.std.proofs.Common.{◌≡◌, ℕ, zero, suc, ◌+◌, ◌-◌, ◌*◌, ◌/◌, ◌%◌, ◌^◌, ◌<◌, ◌≤◌, ◌==◌, ◌↔◌, cond, refl, ap, sym, ◌∙◌, subst, inl, inr, arith}
 use Rattle.std.specs.Prelude.{nat_lt}
 use Rattle.std.proofs.lemmas.Bool.{cases_lt, cond_both, cond-true, eq-eqb, eqb-true, ltb-true, ltb-false}
 use Rattle.std.proofs.Math.Nat.{pow-suc, mul-le-mul_left, add-mul}
 use Rattle.arrow2_model.specs.Touched.{touched, slice_reads, cut_reads, halvings, lg, to_read, HoldsBit}
 
--- ---- the bytes that bits stand in
+-- ---- the bytes that hold bits
 
 pub touched-none : (o n : ℕ) → n ≡ 0 → touched o n ≡ 0
 unfolding touched
@@ -40,7 +40,7 @@ holds_touched o zero j h = let low = h.1 in let high = h.2 in absurd (omega arit
 holds_touched o (suc n) j h =
     let s = touched-some o (suc n) (omega arith) in let low = h.1 in let high = h.2 in let at = h.3 in (omega arith, omega arith)
 
--- ---- what one slice reads
+-- ---- the reads of one slice
 
 pub slice_reads-all : (o len a n : ℕ) → n ≡ len → slice_reads o len a n ≡ 0
 unfolding slice_reads
@@ -176,7 +176,7 @@ cut_reads-in_byte o n i =
     let second = slice_reads-in_byte o n i (n - i) in
     omega (arith, first, second, cut_reads-is o n i, cut_reads-is (o % 8) n i)
 
--- a cut reads what the items have less to read afterwards, and less than four bytes
+-- a cut reads at most the difference of `to_read` before and after it, and less than four bytes
 pub cut_le : (o n i : ℕ) → i ≤ n → 8 * cut_reads o n i + to_read i + to_read (n - i) ≤ to_read n + 30
 unfolding cut_reads
 cut_le o n i h = elim (cases_lt (n - i) i) [

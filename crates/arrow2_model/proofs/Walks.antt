@@ -1,4 +1,4 @@
--- Steps of a walk over a part of the bits, from both ends.
+-- Steps of an iterator over a part of the bits, from both ends.
 use Rattle.std.proofs.Common.{◌≡◌, ℕ, suc, ◌+◌, ◌-◌, ◌*◌, ◌<◌, ◌≤◌, List, [], ◌∷◌, ◌++◌, Bool, false, take, length, get_or, refl, ap, ◌∙◌, arith}
 use Rattle.std.proofs.lemmas.List.{drop_more}
 use Rattle.arrow2_model.specs.Bits.{bits}

@@ -86,7 +86,7 @@ low_digits-add (suc a) b x =
     let d : x / 256 / 256 ^ a ≡ x / 256 ^ suc a = div-div-eq-div-mul x 256 (256 ^ a) ∙ ap (λ (p : ℕ). x / p) (sym (pow-succ' 256 a)) in
     rw e (ap (λ (t : List ℕ). (x % 256) ∷ t) (low_digits-add a b (x / 256) ∙ ap (λ (q : ℕ). low_digits a (x / 256) ++ low_digits b q) d))
 
--- what stands above the lowest n digits changes none of them
+-- digits above the lowest n change none of these
 low_digits-below : (n q r : ℕ) → low_digits n (q * 256 ^ n + r) ≡ low_digits n r
 unfolding low_digits
 low_digits-below zero q r = refl
@@ -132,7 +132,7 @@ pub digits_of_words_high : (bytes : List ℕ) → length bytes ≡ 32 → ((k : 
 digits_of_words_high bytes l h =
     ap reverse (digits_of_words (reverse bytes) (length-reverse bytes ∙ l) (slice_index-reverse-lt bytes h)) ∙ reverse-reverse bytes
 
--- what was written is read back
+-- written digits are read back
 pub words_read_back : (hi lo : ℤ) (bytes : List ℕ) → FitsSigned w128 hi → FitsSigned w128 lo → bytes ≡ digits 32 (words_value hi lo) → words_value (integer_from 16 (drop 16 bytes)) (integer_from 16 bytes) ≡ words_value hi lo
 words_read_back hi lo bytes f g e =
     let whole : bytes ≡ digits 16 lo ++ digits 16 hi = e ∙ digits-words hi lo in
@@ -149,7 +149,7 @@ words_read_back hi lo bytes f g e =
 zero_word : (lo : ℤ) → FitsSigned w128 lo → cast_unsigned w128 lo ≡ 0 → lo ≡ pos 0
 zero_word lo f e = sym (to_z-of_z w128 lo f) ∙ ap (cast_signed w128) e
 
--- the high word has no room to be negated only in the least number
+-- the negation of the high word overflows only in the least number
 pub high_negates : (hi lo v : ℤ) → lo ≡ pos 0 → v ≡ words_value hi lo → v ≢ neg_ℤ (pos (2 ^ 255)) → hi ≢ neg_ℤ (pos (2 ^ 127))
 unfolding words_value
 high_negates hi lo v z w least e = least (w ∙ (rw (e, z) refl))

@@ -2,7 +2,7 @@
 -- (Arrow columnar format, "Validity bitmaps": slot j is bit j % 8 of byte j / 8, from the least significant bit on).
 use Rattle.std.specs.Prelude.{ℕ, zero, suc, ◌+◌, ◌/◌, ◌%◌, ◌^◌, ◌==◌, List, [], ◌∷◌, Bool, if◌then◌else◌}
 use Rattle.std.specs.List.{flat_map}
--- the number of a list of booleans: the sum of 2 ^ i over the places i where it is true
+-- the number of a list of booleans: the sum of 2 ^ i over the indices i where it is true
 pub use lib.Lanes.{mask_l as num}
 
 -- whether bit i of a number is 1
@@ -19,7 +19,7 @@ unnum (suc w) x = (x % 2 == 1) ∷ unnum w (x / 2)
 unfoldable pub bits : List ℕ → List Bool
 bits bytes = flat_map (unnum 8) bytes
 
--- the sum of 2 ^ i over the places i of the true items, where the first item has place k
+-- the sum of 2 ^ i over the indices i of the true items, where the first item has index k
 abbrev pub sum_of_powers : ℕ → List Bool → ℕ
 sum_of_powers k [] = 0
 sum_of_powers k (item ∷ items) = (if item then 2 ^ k else 0) + sum_of_powers (k + 1) items

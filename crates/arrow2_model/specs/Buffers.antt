@@ -1,8 +1,8 @@
--- What contracts see of a buffer.
+-- The model of a buffer.
 use Rattle.std.specs.Prelude.{ℕ, List, take, drop, length, ◌++◌}
 use Rattle.arrow2_model.specs.Parts.{part}
 
--- a buffer over a stored list: the list, the place of its first item there, and how many items it has
+-- a buffer over a stored list: the list, the index of its first item there, and the number of items
 pub record BufferStorage (X : Type 0) : Type 0 where
   pub storage : List X
   pub offset : ℕ
@@ -16,6 +16,6 @@ buffer_items b = part b.storage b.offset b.len
 abbrev pub whole_buffer : {X : Type 0} → List X → BufferStorage X
 whole_buffer items = record { storage = items; offset = 0; len = length items }
 
--- a list after its items from place i on were overwritten by others, which don't go past its end
+-- a list after its items from index i on were overwritten by others, which don't go past its end
 abbrev pub overwritten : {X : Type 0} → List X → ℕ → List X → List X
 overwritten items i others = take i items ++ (others ++ drop (length others) (drop i items))

@@ -3,7 +3,7 @@
 use Rattle.std.specs.Prelude.{ℕ, zero, suc, ◌+◌, ◌-◌, ◌*◌, ◌/◌, ◌%◌, ◌^◌, List, [], ◌∷◌, ℤ, pos, negsuc, ◌+ℤ◌, ◌*ℤ◌, unsigned_abs, nat_lt, if◌then◌else◌, take}
 use Rattle.std.specs.Int.{int_rem_euclid, int_div_euclid}
 
--- what is left of a whole number modulo m: from 0 to m - 1, also of a negative one
+-- the remainder of a whole number modulo m: from 0 to m - 1, also of a negative one
 abbrev pub residue : ℕ → ℤ → ℕ
 residue m v = unsigned_abs (int_rem_euclid v (pos m))
 

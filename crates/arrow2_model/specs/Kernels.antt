@@ -1,6 +1,6 @@
 -- Functions of words on lists of booleans: each list is read as words of some width, the last one filled with false,
--- and the answers are a list again (Arrow columnar format, "Validity bitmaps": work by words has to say what it makes
--- of the bits behind the last item).
+-- and the results are a list again (Arrow columnar format, "Validity bitmaps": a computation by words has to specify
+-- what it does with the bits after the last item).
 use Rattle.std.specs.Prelude.{◌≡◌, ℕ, ◌*◌, ◌<◌, ◌^◌, List, [], ◌∷◌, Bool, map, take, length, slice_index, slice_index_or}
 use Rattle.std.specs.List.{flat_map, range_with_len}
 use Rattle.std.specs.Int.{div_ceil}
@@ -15,16 +15,16 @@ word w items j = num (part items (w * j) w)
 abbrev pub words_at : ℕ → List (List Bool) → ℕ → List ℕ
 words_at w lists j = map (λ items. word w items j) lists
 
--- how many items the first of the lists has, which is how many each has where they have one length
+-- the length of the first of the lists, which is that of each where they have one length
 abbrev pub common_length : List (List Bool) → ℕ
 common_length lists = length (slice_index_or lists 0 [])
 
--- the bits of the words at places 0, 1 and so on, w bits a word, of which the first n are kept
+-- the first n of the bits of the words at indices 0, 1 and so on, w bits a word
 unfoldable pub joined : ℕ → (ℕ → ℕ) → ℕ → List Bool
 joined w word_of n = take n (flat_map (λ j. unnum w (word_of j)) (range_with_len 0 (div_ceil n w)))
 
--- the kernel of a function of words, on lists of one length: what it answers to word j of each list, for each j in
--- turn, and of all these bits as many as the lists have items
+-- the kernel of a function of words, on lists of one length: its results for word j of each list, for each j in turn,
+-- and of all these bits the first ones, one for each item of the lists
 unfoldable pub kernel : ℕ → (List ℕ → ℕ) → List (List Bool) → List Bool
 kernel w f lists = joined w (λ j. f (words_at w lists j)) (common_length lists)
 
@@ -45,7 +45,7 @@ quaternary_kernel w f a b c d = kernel w (λ xs. f (slice_index xs 0) (slice_ind
 abbrev pub AreWords : ℕ → List ℕ → Type 0
 AreWords w xs = (k : ℕ) → slice_index xs k < 2 ^ w
 
--- which results a word function may give says that it answers each word, or words, of w bits with that of f
+-- the results that a word function may give are, for each word, or words, of w bits, that of f
 abbrev pub IsUnary : {X : Type 0} → ℕ → (X → ℕ) → (X → X → Type 0) → (ℕ → ℕ) → Type 0
 IsUnary {X} w number gives f = (x r : X) → number x < 2 ^ w → gives x r → number r ≡ f (number x)
 

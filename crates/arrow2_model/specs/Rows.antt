@@ -15,19 +15,19 @@ GivesRow w words left nth r left' nth' = MatchOption r
 abbrev pub AreRowsOf : ℕ → List (List Bool) → (ℕ → List ℕ) → ℕ → Type 0
 AreRowsOf w lists row n = (common_length lists ≡ n) × ((j : ℕ) → row j ≡ words_at w lists j)
 
--- which results a function of a row may give says that the first w bits of each are those of f's answer to the words
+-- the first w bits of each result that a function of a row may give are those of f for the words
 abbrev pub IsRowFunction : {R X : Type 0} → ℕ → (R → List ℕ) → (X → ℕ) → (R → X → Type 0) → (List ℕ → ℕ) → Type 0
 IsRowFunction {R} {X} w numbers number gives f = (row : R) (r : X) → AreWords w (numbers row) → gives row r → unnum w (number r) ≡ unnum w (f (numbers row))
 
--- the same of a function of a word and of a row beside it
+-- the same of a function of a word and of a row paired with it
 abbrev pub IsOwnRowFunction : {X R : Type 0} → ℕ → (R → List ℕ) → (X → ℕ) → (X → R → X → Type 0) → (List ℕ → ℕ) → Type 0
 IsOwnRowFunction {X} {R} w numbers number gives f = (x : X) (row : R) (r : X) → number x < 2 ^ w → AreWords w (numbers row) → gives x row r → unnum w (number r) ≡ unnum w (f (number x ∷ numbers row))
 
--- which results a function of a row may give says that each of the first w bits is the answer of table t for the
--- same bit of each word
+-- each of the first w bits of a result that a function of a row may give is the output of table t for the same bit of
+-- each word
 abbrev pub ActsOnRows : {R X : Type 0} → ℕ → (R → List ℕ) → (X → ℕ) → (R → X → Type 0) → ℕ → Type 0
 ActsOnRows {R} {X} w numbers number gives t = (row : R) (r : X) (i : ℕ) → AreWords w (numbers row) → i < w → gives row r → bit (number r) i ≡ answer t (bits_at (numbers row) i)
 
--- the same of a function of a word and of a row beside it
+-- the same of a function of a word and of a row paired with it
 abbrev pub ActsBesideRows : {X R : Type 0} → ℕ → (R → List ℕ) → (X → ℕ) → (X → R → X → Type 0) → ℕ → Type 0
 ActsBesideRows {X} {R} w numbers number gives t = (x : X) (row : R) (r : X) (i : ℕ) → number x < 2 ^ w → AreWords w (numbers row) → i < w → gives x row r → bit (number r) i ≡ answer t (bits_at (number x ∷ numbers row) i)

@@ -15,7 +15,7 @@ bit_character shows value = if shows then (if value then 49 else 48) else 95
 unfoldable pub shown_byte : List ℕ → ℕ → ℕ → ℕ → List ℕ
 shown_byte bytes offset len j = codes "0b" ++ map (λ p. bit_character (is_shown offset len p) (slice_index_or (bits bytes) p false)) (reverse (range_with_len (8 * j) 8))
 
--- the places of the bytes that hold a shown bit, rising
+-- the indices of the bytes that hold a shown bit, rising
 unfoldable pub shown_places : List ℕ → ℕ → ℕ → List ℕ
 shown_places bytes offset len = filter (λ j. list_any (is_shown offset len) (range_with_len (8 * j) 8)) (range_with_len 0 (length bytes))
 
@@ -23,10 +23,11 @@ shown_places bytes offset len = filter (λ j. list_any (is_shown offset len) (ra
 unfoldable pub shown : List ℕ → ℕ → ℕ → List ℕ
 shown bytes offset len = codes "[" ++ (join_by (shown_byte bytes offset len) (codes ", ") (shown_places bytes offset len) ++ codes "]")
 
--- byte j of a list of items, shown whole from its first item on: `0b`, and the characters of eight items from the last to the first
+-- byte j of a list of items, shown whole from its first item on: `0b`, and the characters of eight items from the last
+-- to the first
 abbrev pub items_byte : List Bool → ℕ → List ℕ
 items_byte items j = codes "0b" ++ map (λ p. bit_character (nat_lt p (length items)) (slice_index_or items p false)) (reverse (range_with_len (8 * j) 8))
 
--- the text of a list of items: what shows the bits of bytes that hold just these, from bit 0 on
+-- the text of a list of items: that of the bits of bytes that hold just these, from bit 0 on
 abbrev pub items_text : List Bool → List ℕ
 items_text items = codes "[" ++ (join_by (items_byte items) (codes ", ") (range_with_len 0 ((length items + 7) / 8)) ++ codes "]")

@@ -1,9 +1,9 @@
--- What contracts see of a bitmap.
+-- The model of a bitmap.
 use Rattle.std.specs.Prelude.{ℕ, List, Bool}
 use Rattle.arrow2_model.specs.Bits.{bits}
 use Rattle.arrow2_model.specs.Parts.{part}
 
--- a bitmap over stored bytes: the bytes, the bit at which its items begin, and how many items it has
+-- a bitmap over stored bytes: the bytes, the bit at which its items begin, and the number of items
 pub record BitmapStorage : Type 0 where
   pub bytes : List ℕ
   pub offset : ℕ
@@ -13,7 +13,7 @@ pub record BitmapStorage : Type 0 where
 abbrev pub items_of : BitmapStorage → List Bool
 items_of b = part (bits b.bytes) b.offset b.len
 
--- a bitmap that grows: its items, and how many fit before it asks for memory
+-- a bitmap that grows: its items, and how many fit before it allocates
 pub record GrowingBitmap : Type 0 where
   pub items : List Bool
   pub capacity : ℕ

@@ -4,7 +4,7 @@ use Rattle.std.specs.List.{range_with_len}
 use Rattle.arrow2_model.specs.Bits.{bit, num}
 use Rattle.arrow2_model.specs.Kernels.{common_length, AreWords}
 
--- the answer of table t for inputs a1 to a4: bit number a1 + 2 * a2 + 4 * a3 + 8 * a4 of t
+-- the output of table t for inputs a1 to a4: bit number a1 + 2 * a2 + 4 * a3 + 8 * a4 of t
 abbrev pub answer : ℕ → List Bool → Bool
 answer t inputs = bit t (num inputs)
 
@@ -12,7 +12,7 @@ answer t inputs = bit t (num inputs)
 abbrev pub items_at : List (List Bool) → ℕ → List Bool
 items_at lists i = map (λ items. slice_index_or items i false) lists
 
--- the answers of a table item by item, on lists of one length
+-- the outputs of a table item by item, on lists of one length
 unfoldable pub each : ℕ → List (List Bool) → List Bool
 each t lists = map (λ i. answer t (items_at lists i)) (range_with_len 0 (common_length lists))
 
@@ -24,8 +24,8 @@ bits_at xs i = map (λ x. bit x i) xs
 abbrev pub Acts : ℕ → ℕ → (List ℕ → ℕ) → Type 0
 Acts t w f = (xs : List ℕ) (i : ℕ) → AreWords w xs → i < w → bit (f xs) i ≡ answer t (bits_at xs i)
 
--- which results a word function may give says that each of the first w bits is the answer of table t for the same
--- bit of each word
+-- each of the first w bits of a result that a word function may give is the output of table t for the same bit of each
+-- word
 abbrev pub ActsUnary : {X : Type 0} → ℕ → (X → ℕ) → (X → X → Type 0) → ℕ → Type 0
 ActsUnary {X} w number gives t = (x r : X) (i : ℕ) → number x < 2 ^ w → i < w → gives x r → bit (number r) i ≡ answer t (bit (number x) i ∷ [])
 

@@ -1,8 +1,8 @@
--- How many bytes a count of bits reads, and what many counts read together.
+-- The number of bytes that a count of bits reads, and that many counts read together.
 use Rattle.std.specs.Prelude.{◌≡◌, ◌<◌, ◌≤◌, ℕ, zero, suc, ◌+◌, ◌-◌, ◌*◌, ◌/◌, ◌==◌, List, if◌then◌else◌, nat_lt}
 use Rattle.std.specs.List.{sum_by}
 
--- how many bytes n bits from bit o on stand in
+-- the number of bytes that hold n bits from bit o on
 unfoldable pub touched : ℕ → ℕ → ℕ
 touched o zero = 0
 touched o (suc n) = (o + n) / 8 - o / 8 + 1
@@ -31,7 +31,7 @@ halvings (suc most) n = if nat_lt n 2 then 0 else suc (halvings most (n / 2))
 unfoldable pub lg : ℕ → ℕ
 lg n = halvings n n
 
--- what n items that are cut again and again can read at most, but for a few bytes a cut: in eighths of a byte
+-- the reads of n items that are cut again and again, at most, but for a few bytes a cut: in eighths of a byte
 abbrev pub to_read : ℕ → ℕ
 to_read n = 2 * (n * lg n)
 

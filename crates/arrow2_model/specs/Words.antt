@@ -14,30 +14,29 @@ words w items = map (λ j. num (part items (w * j) w)) (range_with_len 0 (div_ce
 unfoldable pub full_words : ℕ → List Bool → List ℕ
 full_words w items = take (length items / w) (words w items)
 
--- the items behind the full words, fewer than w
+-- the items after the full words, fewer than w
 unfoldable pub rest : ℕ → List Bool → List Bool
 rest w items = drop (w * (length items / w)) items
 
--- a walk by words: the items still to come, those behind the full words included, and the word in
--- which these stand in storage, whatever bits stand behind them there
+-- an iterator by words: the items still to come, those after the full words included, and the word in which these are
+-- stored, whatever bits are after them there
 pub record WordWalk : Type 0 where
   pub items : List Bool
   pub spill : ℕ
 
--- what a step by this word does to the items: its bits were the first ones; at the end only the rest is left
+-- the effect of a step by this word on the items: its bits were the first ones; at the end only the rest is left
 abbrev pub PassesItems : {A : Type 0} → ℕ → (A → ℕ) → List Bool → Option A → List Bool → Type 0
 PassesItems w number items r left = MatchOption r (rest w items ≡ items) (λ x. items ≡ unnum w (number x) ++ left)
 
--- one step of a walk by words: the first full word comes, and what stands behind the full words stays
+-- one step of an iterator by words: the first full word comes, and the items after the full words stay
 pub record GivesWord {S A : Type 0} (w : ℕ) (number : A → ℕ) (walk : S → WordWalk) (s : S) (r : Option A) (t : S) : Type 0 where
   pub word : YieldsFirstBy number (λ (c : S). full_words w (walk c).items) s r t
   pub items : PassesItems w number (walk s).items r (walk t).items
   pub rest : rest w (walk t).items ≡ rest w (walk s).items
   pub spill : (walk t).spill ≡ (walk s).spill
 
--- the bytes in which the rest of len bits from bit offset on stands, for words of k bytes each: all
--- bytes from the first one on where there is no full word, else those behind the full words up to
--- the one that holds the last bit
+-- the bytes that hold the rest of len bits from bit offset on, for words of k bytes each: all bytes from the first one
+-- on where there is no full word, else those after the full words up to the one that holds the last bit
 abbrev pub spilled_bytes : ℕ → List ℕ → ℕ → ℕ → List ℕ
 spilled_bytes k bytes offset len =
     let behind = drop (offset / 8) bytes in
@@ -48,8 +47,8 @@ spilled_bytes k bytes offset len =
 unfoldable pub spill : ℕ → List ℕ → ℕ → ℕ → ℕ
 spill k bytes offset len = num (part (bits (spilled_bytes k bytes offset len)) (offset % 8) (8 * k))
 
--- the same where the items begin at bit 0 and bytes behind the last one that holds an item are left
--- out: the number of the bytes of the rest
+-- the same where the items begin at bit 0 and bytes after the last one that holds an item are left out: the number of
+-- the bytes of the rest
 unfoldable pub exact_spill : ℕ → List ℕ → ℕ → ℕ
 exact_spill k bytes len =
     let full = len / 8 / k in

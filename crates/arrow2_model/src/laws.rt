@@ -33,7 +33,7 @@ pub fn true_and_false_items_are_all()
     ensures { (items : List Bool) → count_by (λ b. b) items + falses items ≡ length items }
 {}
 
-/// The false items of two lists, one behind the other, and of two parts that make a list, are added.
+/// The numbers of false items of two lists, one after the other, and of two parts that make a list, are added.
 #[tactic(auto, using(crate::proofs::Counts::counting))]
 pub fn false_items_are_added()
     ensures lists { (xs ys : List Bool) → falses (xs ++ ys) ≡ falses xs + falses ys }
@@ -47,14 +47,14 @@ pub fn no_false_item_where_all_are_true()
     ensures { (items : List Bool) → (falses items ≡ 0) ↔ (items ≡ replicate (length items) true) }
 {}
 
-/// A bit of a number, and of bytes, is the item of its list of bits at that place.
+/// A bit of a number, and of bytes, is the item of its list of bits at that index.
 pub fn a_bit_is_an_item()
     ensures number { (w x i : ℕ) → i < w → slice_get (unnum w x) i ≡ Some (bit x i) }
     ensures bytes { (bytes : List ℕ) (k : ℕ) → k < 8 * length bytes →
         slice_get (bits bytes) k ≡ Some (bit (slice_index bytes (k / 8)) (k % 8)) }
 {}
 
-/// The bits of the full words of a list, and behind them its rest, are the list.
+/// The bits of the full words of a list, followed by its rest, are the list.
 #[tactic(auto, using(crate::proofs::Words::by_words))]
 pub fn words_and_the_rest_are_the_list()
     ensures { (w : ℕ) (items : List Bool) → 0 < w →
@@ -72,7 +72,7 @@ pub fn a_step_takes_the_first_word()
         full_words w items ≡ [] → rest w items ≡ items }
 {}
 
-/// The number of a list is the sum of 2 ^ i over the places i where it is true.
+/// The number of a list is the sum of 2 ^ i over the indices i where it is true.
 #[tactic(auto, using(crate::proofs::Numbers::numbers))]
 pub fn number_is_a_sum_of_powers()
     ensures { (items : List Bool) → num items ≡ sum_of_powers 0 items }
@@ -99,14 +99,14 @@ pub fn no_bits_are_two_brackets()
     ensures { (bytes : List ℕ) (offset : ℕ) → shown bytes offset 0 ≡ codes "[]" }
 {}
 
-/// The text of the first bits of bytes is that of the list of them, whatever stands behind them.
+/// The text of the first bits of bytes is that of the list of them, whatever the bytes hold after them.
 #[tactic(auto, using(crate::proofs::Shown::texts))]
 pub fn first_bits_are_shown_as_their_list()
     ensures { (bytes : List ℕ) (n : ℕ) → n ≤ 8 * length bytes →
         shown bytes 0 n ≡ items_text (take n (bits bytes)) }
 {}
 
-/// What is printed of a bitmap that grows, and of one whose items begin at bit 0, is the text of its items.
+/// The printed text of a bitmap that grows, and of one whose items begin at bit 0, is the text of its items.
 #[tactic(auto, using(crate::proofs::Texts::texts_of_lists))]
 pub fn a_bitmap_is_shown_as_its_list()
     ensures growing { (items : List Bool) →
@@ -116,7 +116,7 @@ pub fn a_bitmap_is_shown_as_its_list()
         ≡ items_text (items_of b) }
 {}
 
-/// A comparison item by item, which is what `==` of bitmaps answers, is true exactly where the lists are one.
+/// A comparison item by item, which is what `==` of bitmaps returns, is true exactly where the lists are equal.
 #[tactic(auto, using(crate::proofs::Same::comparing))]
 pub fn a_comparison_tells_lists_apart()
     ensures { (xs ys : List Bool) → IsTrue (pointwise beq xs ys) ↔ (xs ≡ ys) }
@@ -173,7 +173,7 @@ pub fn a_slice_reads_half_the_bytes_at_most()
     ensures { (o len a n : ℕ) → a + n ≤ len → slice_reads o len a n ≤ len / 16 + 4 }
 {}
 
-/// What slices and cuts read depends on the bit of a byte at which the items begin, and not on the byte.
+/// The reads of slices and cuts depend on the bit of a byte at which the items begin, and not on the byte.
 #[tactic(auto, using(crate::proofs::Touched::reads))]
 pub fn reads_depend_on_the_bit_of_a_byte()
     ensures slice { (o len a n : ℕ) → slice_reads o len a n ≡ slice_reads (o % 8) len a n }
@@ -188,7 +188,7 @@ pub fn the_logarithm_is_the_greatest_exponent()
     ensures none { lg 0 ≡ 0 }
 {}
 
-/// What a cut reads, in eighths of a byte, is at most what its items have less to read afterwards, and 30.
+/// A cut reads, in eighths of a byte, at most the difference of `to_read` before and after it, and 30.
 #[tactic(auto, using(crate::proofs::Touched::reads))]
 pub fn cuts_pay_for_themselves()
     ensures { (o n i : ℕ) → i ≤ n →

@@ -1,4 +1,4 @@
-//! What the layer's contracts mean: lists of booleans, their parts, numbers, words and bytes.
+//! The meaning of the layer's contracts: lists of booleans, their parts, numbers, words and bytes.
 //!
 //! The definitions stand in `specs/`, the lemmas that the crates above cite in `proofs/`.
 #![tactic(auto)]

@@ -54,6 +54,6 @@ module _ {X : Type 0} (value : X → ℤ) where
       let s : Spells (map value grown) (start_of xs) (lengths_of xs ++ n ∷ []) = rw m (push_spells xs (value x) n so_far.0 (is ∙ ap (λ k. pos (k + n)) (sym last))) in
       (s.are, (s.from ∙ so_far.1.0, s.by ∙ (ap (λ t. t ++ n ∷ []) so_far.1.1 ∙ append_assoc (lengths_of old) ns (n ∷ []))))
 
--- what stands in front stays there
+-- the items before it stay there
 pub front_stays : {X : Type 0} (old items grown : List X) (x : X) → take (length old) items ≡ old → length old ≤ length items → grown ≡ items ++ x ∷ [] → take (length old) grown ≡ old
 front_stays old items grown x e l is = ap (take (length old)) is ∙ (take-append-le (length old) items (x ∷ []) l ∙ e)

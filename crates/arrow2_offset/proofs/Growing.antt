@@ -1,4 +1,4 @@
--- Vectors of offsets as their numbers: what growing and cutting leaves.
+-- Vectors of offsets as their numbers: the results of growing and cutting.
 use Rattle.std.proofs.Common.{◌≡◌, ℕ, zero, suc, ◌+◌, ◌-◌, ◌<◌, ◌≤◌, List, [], ◌∷◌, ◌++◌, map, length, sum, take, drop, get_or, replicate, Bool, false, ap, sym, ◌∙◌, refl, arith, add-one}
 use Rattle.std.specs.Prelude.{ℤ, pos, ◌≤ℤ◌, ◌-ℤ◌}
 use Rattle.std.specs.Int as integers
@@ -31,7 +31,7 @@ sum-zeros : (k : ℕ) → sum (replicate k 0) ≡ 0
 sum-zeros zero = refl
 sum-zeros (suc k) = omega (arith, sum-cons 0 (replicate k 0), sum-zeros k)
 
--- ---- what a list spells
+-- ---- the offsets that a list spells
 
 up_to : (max : ℕ) (xs : List ℤ) (start : ℕ) (ns : List ℕ) → Spells xs start ns → start + sum ns ≤ max → AreOffsetsUpTo max xs
 up_to max xs start ns h l =
@@ -64,7 +64,7 @@ offset_within max xs k h l =
     (offset_at (start_of xs) (lengths_of xs) k, get_or-offsets xs k h.0 l, omega (arith, h.1))
 
 module _ {X : Type 0} (value : X → ℤ) where
-  -- how many slots
+  -- the number of slots
   pub length_slots : (items : List X) (n : ℕ) → AreOffsets (map value items) → n ≡ length items → length (lengths_of (map value items)) + 1 ≡ n
   length_slots items n h e =
       let m = length-map items value in
@@ -105,7 +105,7 @@ module _ {X : Type 0} (value : X → ℤ) where
       let u : total + start_of xs ≡ last_of xs = omega (arith, ints, t) in
       omega arith
 
-  -- what is inside the numbers of a buffer is inside its items
+  -- an index inside the numbers of a buffer is inside its items
   pub same_inside : (b : BufferStorage X) (numbers : BufferStorage ℤ) (n : ℕ) → numbers_of value b ≡ numbers → n ≤ length (buffer_items numbers) → n ≤ length (buffer_items b)
   same_inside b numbers n is within =
       let long = ap length (part-map value b.storage b.offset b.len) in

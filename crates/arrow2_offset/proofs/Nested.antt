@@ -1,5 +1,5 @@
--- Lists that stand one behind the other: how many, place by place, in parts, and with others behind them; and the ruleset
--- that a column of texts or of lists names in `using`.
+-- Lists one after the other: how many, index by index, in parts, and with others after them; and the ruleset that a
+-- column of texts or of lists names in `using`.
 use Rattle.std.proofs.Common.{◌≡◌, ℕ, zero, suc, ◌+◌, ◌-◌, ◌<◌, ◌≤◌, List, [], ◌∷◌, ◌++◌, length, sum, take, drop, get_or, refl, ap, sym, ◌∙◌, arith, add-zero}
 use Rattle.std.proofs.Math.Seq.{take-length}
 use Rattle.std.proofs.lemmas.Option.{slice_get-get_or, slice_get_past}
@@ -18,7 +18,7 @@ module _ {X : Type 0} where
   length-cut xs [] = refl
   length-cut xs (n ∷ ns) = ap suc (length-cut (drop n xs) ns)
 
-  -- the list at a place of what is cut from place `start` on
+  -- the list at an index of a part that is cut from index `start` on
   pub at-cut : (xs : List X) (start : ℕ) (ns : List ℕ) (k : ℕ) → k < length ns → get_or (cut (drop start xs) ns) k [] ≡ part xs (start + sum (take k ns)) (get_or ns k 0)
   at-cut xs start [] k h = absurd (omega (arith, h))
   at-cut xs start (n ∷ ns) zero h = ap (λ s. part xs s n) (sym (add-zero start))
@@ -63,7 +63,7 @@ module _ {X : Type 0} where
   pub push-cut : (xs ys : List X) (ns : List ℕ) (n : ℕ) → sum ns ≡ length xs → n ≡ length ys → cut (xs ++ ys) (ns ++ n ∷ []) ≡ cut xs ns ++ ys ∷ []
   push-cut xs ys ns n e size = append-cut xs ys ns (n ∷ []) e ∙ ap (λ l. cut xs ns ++ l ∷ []) (ap (λ k. take k ys) size ∙ take-length ys)
 
-  -- what stands behind the lists makes no difference
+  -- the items after the lists make no difference
   enough-cut : (xs : List X) (n : ℕ) (ns : List ℕ) → sum ns ≤ n → cut (take n xs) ns ≡ cut xs ns
   enough-cut xs n [] h = refl
   enough-cut xs n (m ∷ ns) h =
@@ -72,7 +72,7 @@ module _ {X : Type 0} where
       ap (λ l. l ∷ cut (drop m (take n xs)) ns) (take-take m n xs (omega (arith, h, s)))
       ∙ ap (λ l. take m xs ∷ l) (ap (λ k. cut (drop m (take k xs)) ns) rest ∙ (ap (λ l. cut l ns) (drop-take m (n - m) xs) ∙ enough-cut (drop m xs) (n - m) ns (omega (arith, h, s))))
 
-  -- others behind them, by the part of the items that the others span
+  -- others after them, by the part of the items that the others span
   pub extend-cut : (xs ys : List X) (start n k : ℕ) (ns ms : List ℕ) → sum ns ≡ length xs → n ≡ sum ms → length ms ≤ k → cut (xs ++ part ys start n) (ns ++ part ms 0 k) ≡ cut xs ns ++ cut (drop start ys) ms
   extend-cut xs ys start n k ns ms e size all =
       ap (λ l. cut (xs ++ part ys start n) (ns ++ l)) (take_all k ms all)
@@ -88,7 +88,7 @@ sum-part ns a n =
 pub ruleset nested = (length-cut, at-cut, part-cut, push-cut, extend-cut, sum-part)
 
 module _ {X : Type 0} where
-  -- an item of the list at a place, by where that list starts and where it ends
+  -- an item of the list at an index, by where that list starts and where it ends
   pub item-cut : (xs : List X) (start : ℕ) (ns : List ℕ) (k a b i : ℕ) (d : X) → k < length ns → b ≤ length xs → a ≡ start + sum (take k ns) → b ≡ a + get_or ns k 0 → i < b - a → slice_get (get_or (cut (drop start xs) ns) k []) i ≡ Some (get_or xs (a + i) d)
   item-cut xs start ns k a b i d h inside from to less =
       let at = read-cut xs start ns (cut (drop start xs) ns) k a b refl (let n = length-cut (drop start xs) ns in omega (arith, n, h)) from to in

@@ -10,7 +10,7 @@ use Rattle.arrow2_model.specs.Parts.{part}
 use Rattle.arrow2_model.proofs.Parts.{part-map}
 use Rattle.arrow2_offset.specs.Offsets.{running_sums, offsets_list, offset_at, AreOffsets, start_of, lengths_behind, lengths_of, last_of}
 
--- the item at the place behind k
+-- the item at the index after k
 pub get_or-next : {X : Type 0} (x : X) (xs : List X) (k : ℕ) (d : X) → get_or (x ∷ xs) (k + 1) d ≡ get_or xs k d
 get_or-next x xs k d = rw add-one refl
 
@@ -47,7 +47,7 @@ pub lengths_of-list : (start : ℕ) (ns : List ℕ) → lengths_of (map pos (off
 unfolding lengths_of
 lengths_of-list start ns = lengths_behind-sums start ns
 
--- the item behind another that is a natural number, and not below it
+-- the item after another that is a natural number, and not below it
 stepped : (a : ℕ) (y : ℤ) → pos a ≤ℤ y → y ≡ pos (a + int_gap (pos a) y)
 stepped a (pos b) h = let e : b ≡ a + (b - a) = omega (arith, ints) in ap pos e
 stepped a (negsuc b) h = omega (arith, ints)
@@ -102,7 +102,7 @@ AreOffsets-list start ns = record {
 pub start_of-list : (start : ℕ) (ns : List ℕ) → start_of (map pos (offsets_list start ns)) ≡ start
 start_of-list start ns = refl
 
--- what a list of offsets spells
+-- the offsets that a list of numbers spells
 pub record Spells (xs : List ℤ) (start : ℕ) (ns : List ℕ) : Type 0 where
   pub are : AreOffsets xs
   pub from : start_of xs ≡ start
@@ -111,7 +111,7 @@ pub record Spells (xs : List ℤ) (start : ℕ) (ns : List ℕ) : Type 0 where
 pub spells : (xs : List ℤ) (start : ℕ) (ns : List ℕ) → xs ≡ map pos (offsets_list start ns) → Spells xs start ns
 spells xs start ns e = rw e (record { are = AreOffsets-list start ns; from = refl; by = lengths_of-list start ns })
 
--- ---- how many there are, and each of them
+-- ---- their number, and each of them
 
 pub length-lengths_of : (xs : List ℤ) → AreOffsets xs → length xs ≡ length (lengths_of xs) + 1
 length-lengths_of xs h =
@@ -145,7 +145,7 @@ get_or-last xs n h e =
 
 -- ---- growing
 
--- others behind the last one
+-- others after the last one
 append_spells : (xs ys : List ℤ) (ns : List ℕ) → AreOffsets xs → ys ≡ map pos (running_sums (last_of xs) ns) → Spells (xs ++ ys) (start_of xs) (lengths_of xs ++ ns)
 append_spells xs ys ns h e =
     let s = start_of xs in

@@ -1,4 +1,4 @@
--- What comparisons of numbers answer, whether a list rises, and whether it is offsets.
+-- The results of comparisons of numbers, whether a list rises, and whether it is offsets.
 use Rattle.std.proofs.Common.{◌≡◌, inl, inr, ℕ, zero, suc, ◌+◌, ◌-◌, ◌<◌, ◌≤◌, ◌↔◌, List, Bool, true, false, ◌&&◌, Option, Some, map, length, get_or, ap, ◌∙◌, refl, arith, add-one}
 use Rattle.std.specs.Prelude.{ℤ, pos, negsuc, ◌<ℤ◌, ◌≤ℤ◌, slice_index_or}
 use Rattle.std.specs.Bool.{IsTrue}
@@ -38,7 +38,7 @@ and_makes : (b : Bool) (c : Bool) → IsTrue b → IsTrue c → IsTrue (b && c)
 and_makes true c e f = f
 and_makes false c e f = let no : ⊥ = cc in absurd no
 
--- up to place n no item is below the one before it
+-- up to index n no item is below the one before it
 abbrev RisesTo : List ℤ → ℕ → Type 0
 RisesTo xs n = (k : ℕ) → k + 1 < n → slice_index_or xs k (pos 0) ≤ℤ slice_index_or xs (k + 1) (pos 0)
 
@@ -60,7 +60,7 @@ rises_more xs i b c some so_far here = (
       and_makes b c (so_far.1 up) (here.1 (rw next at last)),
 )
 
--- ---- the test of what is handed in
+-- ---- the test that a list is offsets
 
 natural_from : (xs : List ℤ) (k : ℕ) → pos 0 ≤ℤ slice_index_or xs 0 (pos 0) → RisesTo xs (length xs) → k < length xs → pos 0 ≤ℤ slice_index_or xs k (pos 0)
 natural_from xs zero first rises h = first

@@ -1,4 +1,4 @@
--- What `==` of offsets answers.
+-- The result of `==` of offsets.
 use Rattle.std.proofs.Common.{◌≡◌, ◌↔◌, ℕ, List, [], ◌∷◌, Bool, map, refl, ap, ◌∙◌}
 use Rattle.std.specs.Prelude.{ℤ, pos, nat_eq, unsigned_abs}
 use Rattle.std.specs.Bool.{IsTrue}

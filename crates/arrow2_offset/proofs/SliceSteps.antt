@@ -14,21 +14,21 @@ use Rattle.arrow2_offset.proofs.Growing.{sum-take-le, sum-take-next}
 
 -- ---- one item more is written, of the values that the items stand for
 
--- at each place below i stands what f says, and an item of value f i stands at i
+-- at each index below i is the number that f has, and an item of value f i is at i
 pub one_more_value : {X : Type 0} (value : X → ℤ) (xs : List X) (f : ℕ → ℤ) (i : ℕ) (x : X) → i < length xs → value x ≡ f i → ((k : ℕ) → k < i → get_or (map value xs) k (pos 0) ≡ f k) → (k : ℕ) → k < i + 1 → get_or (map value (set xs i x)) k (pos 0) ≡ f k
 one_more_value value xs f i x l is done k h =
     let m = length-map xs value in
     ap (λ ys. get_or ys k (pos 0)) (map-set value xs i x) ∙ one_more (map value xs) f (pos 0) i (value x) (omega arith) is done k h
 
--- ---- what was written in the end
+-- ---- the numbers written in the end
 
--- the lengths, where each of them stands at its place
+-- the lengths, where each of them is at its index
 pub all_lengths : (xs : List ℤ) (written : List ℕ) → AreOffsets xs → length xs ≡ length written + 1 → ((k : ℕ) → k < length written → get_or written k 0 ≡ get_or (lengths_of xs) k 0) → written ≡ lengths_of xs
 all_lengths xs written are l done =
     let m = length-lengths_of xs are in
     ext_get_or 0 written (lengths_of xs) (omega arith) done
 
--- the offsets, where each of them stands at its place
+-- the offsets, where each of them is at its index
 pub all_offsets : (xs : List ℤ) (start : ℕ) (ns : List ℕ) → length xs ≡ length ns + 1 → ((k : ℕ) → k < length xs → get_or xs k (pos 0) ≡ pos (offset_at start ns k)) → xs ≡ map pos (offsets_list start ns)
 all_offsets xs start ns l done =
     let n = length-running_sums start ns in
@@ -74,7 +74,7 @@ module _ {X : Type 0} (value : X → ℤ) where
         λ d e. gap s (offset_at 0 ns k) d (e ∙ (ap (λ z. z -ℤ value x) (q ∙ ap pos all) ∙ ap (λ z. pos (s + offset_at 0 ns k) -ℤ z) (p ∙ ap pos none))),
       )
 
--- what is between two offsets is at most the last one
+-- the distance between two offsets is at most the last one
 pub within_last : (xs : List ℤ) (from n k : ℕ) → offset_at 0 (part (lengths_of xs) from n) k ≤ last_of xs
 within_last xs from n k =
     let ns : List ℕ = lengths_of xs in

@@ -1,4 +1,4 @@
--- Steps of a walk over the lengths between offsets.
+-- Steps of an iterator over the lengths between offsets.
 use Rattle.std.proofs.Common.{◌≡◌, ℕ, ◌+◌, ◌-◌, ◌<◌, List, [], ◌∷◌, ◌++◌, map, length, take, drop, get_or, ap, sym, ◌∙◌, refl, arith}
 use Rattle.std.specs.Prelude.{ℤ, pos, ◌≤ℤ◌, ◌-ℤ◌, unsigned_abs}
 use Rattle.std.specs.Int.{int_gap}
@@ -8,7 +8,7 @@ use Rattle.arrow2_index.proofs.Ranges.{gap_pos}
 use Rattle.arrow2_offset.proofs.OffsetLists.{get_or-next}
 use Rattle.arrow2_offset.proofs.Growing.{cut, length_slots}
 
--- the offsets behind the first one
+-- the offsets after the first one
 offsets_behind : (x y : ℤ) (xs : List ℤ) → AreOffsets (x ∷ y ∷ xs) → AreOffsets (y ∷ xs)
 offsets_behind x y xs h = record {
   some = omega arith;
@@ -30,7 +30,7 @@ module _ {X : Type 0} (value : X → ℤ) where
   in_order (x ∷ []) a b h l is-a is-b = let no : ⊥ = omega arith in absurd no
   in_order (x ∷ y ∷ xs) a b h l is-a is-b = rw (is-a, is-b) (h.rising 0 (omega arith))
 
-  -- the first length, and those behind it
+  -- the first length, and those after it
   first_of : (items : List X) (a b : X) (n : ℕ) → AreOffsets (map value items) → 1 < length items → a ≡ get_or items 0 a → b ≡ get_or items 1 b → pos n ≡ value b -ℤ value a → AreOffsets (map value (drop 1 items)) × (lengths_of (map value items) ≡ n ∷ lengths_of (map value (drop 1 items)))
   unfolding lengths_of lengths_behind
   first_of [] a b n h l is-a is-b e = let no : ⊥ = omega arith in absurd no
@@ -48,7 +48,7 @@ module _ {X : Type 0} (value : X → ℤ) where
       let all : behind ≡ drop 1 items = is ∙ take_all (length items - 1) (drop 1 items) (omega (arith, len)) in
       rw all (first_of items a b n h l is-a is-b e)
 
-  -- the lengths in front of the last one, and that one
+  -- the lengths before the last one, and that one
   pub last_length : (items : List X) (k m n : ℕ) → AreOffsets (map value items) → length items ≡ k + 2 → n ≡ m + get_or (lengths_of (map value items)) k 0 → AreOffsets (map value (take (k + 1) items)) × (lengths_of (map value items) ≡ lengths_of (map value (take (k + 1) items)) ++ (n - m) ∷ [])
   last_length items k m n h l e =
       let all = lengths_of (map value items) in

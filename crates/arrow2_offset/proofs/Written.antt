@@ -3,7 +3,7 @@ use Rattle.std.proofs.Common.{◌≡◌, ◌≢◌, inl, inr, ℕ, ◌+◌, ◌<
 use Rattle.std.proofs.lemmas.Bool.{cases_lt}
 use Rattle.std.proofs.lemmas.List.{get_or-set_same, get_or-set_other}
 
--- at each place below i stands what f says, and x stands at i
+-- at each index below i is the number that f has, and x is at i
 pub one_more : {X : Type 0} (xs : List X) (f : ℕ → X) (d : X) (i : ℕ) (x : X) → i < length xs → x ≡ f i → ((k : ℕ) → k < i → get_or xs k d ≡ f k) → (k : ℕ) → k < i + 1 → get_or (set xs i x) k d ≡ f k
 one_more xs f d i x l is done k h = elim (cases_lt k i) [
   | inl low ↦ let other : k ≢ i = λ e. omega (arith, e) in get_or-set_other xs i k x d other ∙ done k low

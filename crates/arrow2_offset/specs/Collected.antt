@@ -1,4 +1,4 @@
--- What an iterator gave where its lengths are too many for an offset, or for what there is room.
+-- The lengths of an iterator that are too many for an offset, or for the capacity.
 use Rattle.std.specs.Prelude.{ℕ, ◌+◌, ◌<◌, List, Option, length, sum}
 use Rattle.std.specs.Iterator.{Yields}
 
@@ -6,6 +6,6 @@ use Rattle.std.specs.Iterator.{Yields}
 abbrev pub GivesPast : {S : Type 0} → ℕ → ℕ → (S → Option ℕ → S → Type 0) → S → Type 0
 GivesPast {S} max last steps s = (ns : List ℕ) × (t : S) × Yields steps s ns t × (max < last + sum ns)
 
--- more lengths came than there was room for
+-- more lengths came than the capacity
 abbrev pub GivesMoreThan : {S : Type 0} → ℕ → (S → Option ℕ → S → Type 0) → S → Type 0
 GivesMoreThan {S} room steps s = (ns : List ℕ) × (t : S) × Yields steps s ns t × (room < length ns)

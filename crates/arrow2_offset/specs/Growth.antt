@@ -6,10 +6,10 @@ use Rattle.arrow2_types.specs.declared.refusal.Refusal.TheVariants.{Overflow, Ou
 use Rattle.arrow2_offset.specs.Collected.{GivesMoreThan, GivesPast}
 use Rattle.arrow2_offset.specs.Offsets.{GrowingOffsets, slots, last_of_growing, SameOffsets, GrownBy}
 
--- growth by some lengths, all of them or none, where some number may reach the greatest one and not pass it. A refusal
--- is told as an error
+-- growth by some lengths, all of them or none, where some number may reach the greatest one and not pass it. A failure
+-- is returned as an error
 pub record Grows {T E : Type 0} (told : Refusal → E) (reached greatest : ℕ) (r : Result T E) (old new : GrowingOffsets) (more : List ℕ) : Type 0 where
-  -- the lengths stand behind the others, from the same start
+  -- the lengths come after the others, from the same start
   pub ok : OnOk r (GrownBy more old new)
   -- a refusal leaves the start and the lengths as they were
   pub err : OnErr r (SameOffsets old new)
@@ -17,9 +17,9 @@ pub record Grows {T E : Type 0} (told : Refusal → E) (reached greatest : ℕ) 
   pub held : slots old ≤ old.capacity
   -- it overflows exactly where the number passes the greatest one
   pub overflow : IsErrOf r (told Overflow) ↔ (greatest < reached)
-  -- there is no other error but want of memory
+  -- there is no other error but out of memory
   pub only : IfErr r (λ e. (e ≡ told Overflow) ⊎ (e ≡ told OutOfMemory))
-  -- within the capacity there is no want of memory
+  -- within the capacity it is never out of memory
   pub succeeds : slots old + length more ≤ old.capacity → reached ≤ greatest → IsOk r
   -- the capacity never falls
   pub capacity : old.capacity ≤ new.capacity
@@ -28,10 +28,10 @@ pub record Grows {T E : Type 0} (told : Refusal → E) (reached greatest : ℕ) 
 abbrev pub GrowsUpTo : {T E : Type 0} → ℕ → (Refusal → E) → Result T E → GrowingOffsets → GrowingOffsets → List ℕ → Type 0
 GrowsUpTo greatest told r old new more = Grows told (last_of_growing old + sum more) greatest r old new more
 
--- growth by all lengths that an iterator gives, all of them or none, where the last offset may reach the greatest one and
--- not pass it. A refusal is told as an error
+-- growth by all lengths that an iterator gives, all of them or none, where the last offset may reach the greatest one
+-- and not pass it. A failure is returned as an error
 pub record GrowsByRun {S T E : Type 0} (greatest : ℕ) (told : Refusal → E) (r : Result T E) (old new : GrowingOffsets) (steps : S → Option ℕ → S → Type 0) (lengths : S) : Type 0 where
-  -- what it gave stands behind the others, from the same start
+  -- its lengths come after the others, from the same start
   pub ok : OnOk r (WholeRun steps lengths (λ run. GrownBy run.items old new))
   -- the last offset does not pass the greatest one
   pub fits : OnOk r (last_of_growing new ≤ greatest)
@@ -41,7 +41,7 @@ pub record GrowsByRun {S T E : Type 0} (greatest : ℕ) (told : Refusal → E) (
   pub held : slots old ≤ old.capacity
   -- it overflows only where lengths came by which the last offset passes the greatest one
   pub overflow : IsErrOf r (told Overflow) → GivesPast greatest (last_of_growing old) steps lengths
-  -- memory is wanted only where more lengths came than there was room for
+  -- it is out of memory only where more lengths came than the capacity
   pub room : IsErrOf r (told OutOfMemory) → GivesMoreThan (old.capacity - slots old) steps lengths
   -- there is no other error
   pub only : IfErr r (λ e. (e ≡ told Overflow) ⊎ (e ≡ told OutOfMemory))

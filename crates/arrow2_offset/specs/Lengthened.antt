@@ -1,4 +1,4 @@
--- What growing leaves of a list of offsets.
+-- The list of offsets after growing.
 use Rattle.std.specs.Prelude.{◌≡◌, ℕ, ◌++◌, ℤ, List}
 use Rattle.arrow2_offset.specs.Offsets.{start_of, lengths_of}
 

@@ -1,4 +1,4 @@
--- Lists that stand one behind the other.
+-- Lists one after the other.
 use Rattle.std.specs.Prelude.{ℕ, List, [], ◌∷◌, take, drop}
 
 -- a list cut into lists of these lengths, from its front on

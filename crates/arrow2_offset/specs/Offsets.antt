@@ -13,7 +13,7 @@ running_sums start (n ∷ lengths) = (start + n) ∷ running_sums (start + n) le
 abbrev pub offsets_list : ℕ → List ℕ → List ℕ
 offsets_list start lengths = start ∷ running_sums start lengths
 
--- the offset behind the first k slots
+-- the offset after the first k slots
 abbrev pub offset_at : ℕ → List ℕ → ℕ → ℕ
 offset_at start lengths k = start + sum (take k lengths)
 
@@ -45,7 +45,7 @@ lengths_of (x ∷ xs) = lengths_behind x xs
 abbrev pub last_of : List ℤ → ℕ
 last_of xs = last_offset (start_of xs) (lengths_of xs)
 
--- offsets that grow: the start, the lengths, and how many lengths fit before memory is asked for
+-- offsets that grow: the start, the lengths, and how many lengths fit before it allocates
 pub record GrowingOffsets : Type 0 where
   pub start : ℕ
   pub lengths : List ℕ
@@ -63,11 +63,11 @@ last_of_growing o = last_offset o.start o.lengths
 abbrev pub numbers_of : {X : Type 0} → (X → ℤ) → BufferStorage X → BufferStorage ℤ
 numbers_of value b = record { storage = map value b.storage; offset = b.offset; len = b.len }
 
--- how many slots they span: as many as lengths
+-- the number of slots they span: one for each length
 abbrev pub slots : GrowingOffsets → ℕ
 slots o = length o.lengths
 
--- the same offsets, whatever room they have
+-- the same offsets, whatever their capacity
 abbrev pub SameOffsets : GrowingOffsets → GrowingOffsets → Type 0
 SameOffsets old new = (new.start ≡ old.start) × (new.lengths ≡ old.lengths)
 

@@ -21,7 +21,7 @@ rule_words Falling = codes "offsets must be monotonically increasing"
 abbrev pub why_not_offsets : List ℤ → List ℕ
 why_not_offsets xs = rule_words (first_broken xs)
 
--- what was handed in does not follow the specification, in these words; or want of memory, where the words found none
+-- the list does not follow the specification, in these words; or out of memory, where the allocation of the words fails
 abbrev pub IsOutOfSpec : Error → List ℕ → Type 0
 IsOutOfSpec (OutOfSpec text) words = string_bytes text ≡ words
 IsOutOfSpec OutOfMemory words = Unit {0}

@@ -14,8 +14,8 @@ use arrow2_types::refusal::Refusal;
 use std::alloc::AllocError;
 use std::mem;
 
-/// The least capacity in lengths that is reserved, so that few lengths need one allocation: a little less than what glibc
-/// keeps at hand.
+/// The least capacity in lengths that is reserved, so that few lengths need one allocation: a little less than what
+/// glibc keeps at hand.
 pub(crate) const LEAST_CAPACITY: usize = 120;
 
 /// The capacity in lengths after the first.
@@ -50,11 +50,11 @@ pub(crate) fn append_lengths<O: Offset, I: Iterator<Item = usize> + Drop>(
     all
 }
 
-/// The offsets with the lengths of an iterator appended. Where it refuses, what stands behind the old offsets is of
-/// no use.
+/// Returns the offsets with the lengths of an iterator appended. Where it returns an error, the items after the old
+/// offsets are unspecified.
 ///
-/// The vector is passed by value, so that how many items it has stays in a register from item to item. The sums are
-/// exact and rise, so it is enough to test where room is asked and at the end that they are offsets.
+/// The vector is passed by value, so that its length stays in a register from item to item. The sums are exact and
+/// rise, so it is enough to test that they are offsets where capacity is reserved and at the end.
 #[inline(never)]
 fn appended<O: Offset, I: Iterator<Item = usize> + Drop>(
     mut offsets: Vec<O>,
@@ -96,7 +96,7 @@ fn appended<O: Offset, I: Iterator<Item = usize> + Drop>(
     (offsets, Ok(()))
 }
 
-/// The offsets in a vector with room for more, unless memory was refused.
+/// Returns the offsets in a vector with spare capacity, unless the allocation fails.
 fn with_room<O>(mut offsets: Vec<O>) -> (Vec<O>, Result<(), AllocError>)
     ensures items { result.0.items ≡ offsets.items }
     ensures capacity { vec_capacity offsets ≤ vec_capacity result.0 }

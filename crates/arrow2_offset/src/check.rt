@@ -1,4 +1,4 @@
-//! The test of what is handed in as offsets.
+//! The test that a list is offsets.
 ghost use Rattle.std.specs.Prelude.{◌≡◌, ℕ, ◌+◌, ◌<◌, ◌≤ℤ◌, ◌↔◌, pos, length, map, slice_index_or, OnOk, IsOk, IfErr, IfSome, IfNone, IsNone, IsTrue};
 ghost use Rattle.arrow2_offset.specs.Offsets.{AreOffsets, AreOffsetsUpTo};
 ghost use Rattle.arrow2_offset.specs.Refused.{IsOutOfSpec, first_broken, rule_words, why_not_offsets};
@@ -7,7 +7,7 @@ use arrow2_index::offset::Offset;
 use arrow2_types::error::{Error, Result};
 use std::alloc::{AllocError, Global};
 
-/// What is wrong with a list that is not offsets: the first rule that it breaks.
+/// The first rule of offsets that a list breaks.
 #[derive(Clone, Copy, Debug, PartialEq, Eq)]
 pub enum BrokenRule {
     /// There is no offset at all.
@@ -18,9 +18,9 @@ pub enum BrokenRule {
     Falling,
 }
 
-/// The first rule that the numbers break, or `None` where they are offsets. Does not allocate.
+/// Returns the first rule that the numbers break, or `None` where they are offsets. Does not allocate.
 ///
-/// In arrow2 the test is private, and answers an error with a text.
+/// In arrow2 the test is private, and returns an error with a text.
 pub fn broken_rule<O: Offset>(offsets: &[O]) -> Option<BrokenRule>
     ensures none { IfNone result (AreOffsetsUpTo O.MAX (map O.value offsets.now)) }
     ensures accepted { AreOffsets (map O.value offsets.now) → IsNone result }
@@ -40,7 +40,7 @@ pub fn broken_rule<O: Offset>(offsets: &[O]) -> Option<BrokenRule>
     None
 }
 
-/// Refuses what is not a list of offsets, with the text of the first rule that it breaks.
+/// Returns an error where the items are not offsets, with the text of the first rule that they break.
 pub(crate) fn try_check_offsets<O: Offset>(alloc: Global, offsets: &[O]) -> Result<()>
     ensures ok { OnOk result (AreOffsetsUpTo O.MAX (map O.value offsets.now)) }
     ensures accepted { AreOffsets (map O.value offsets.now) → IsOk result }
@@ -53,7 +53,7 @@ pub(crate) fn try_check_offsets<O: Offset>(alloc: Global, offsets: &[O]) -> Resu
     }
 }
 
-/// The text for a list that breaks this rule first.
+/// Returns the text for a list that breaks this rule first.
 fn words_of(rule: BrokenRule) -> &'static str
     ensures { result.now ≡ rule_words rule }
 {
@@ -64,7 +64,7 @@ fn words_of(rule: BrokenRule) -> &'static str
     }
 }
 
-/// The error with this text, or `OutOfMemory` where the text finds no memory.
+/// Returns the error with this text, or `OutOfMemory` where the allocation of the text fails.
 fn out_of_spec(alloc: Global, text: &str) -> Error
     ensures { IsOutOfSpec result text.now }
 {

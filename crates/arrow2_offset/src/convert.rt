@@ -34,7 +34,8 @@ impl TryFrom<Offsets<i32>> for Offsets<i64> {
 ///
 /// # Errors
 ///
-/// `Overflow` exactly where the last offset is above 2147483647, else `OutOfMemory` alone. The offsets are then dropped.
+/// `Overflow` exactly where the last offset is above 2147483647, else `OutOfMemory` alone. The offsets are then
+/// dropped.
 impl TryFrom<Offsets<i64>> for Offsets<i32> {
     type Error = Error;
 
@@ -93,7 +94,7 @@ impl<'a> TryFrom<&'a OffsetsBuffer<i64>> for OffsetsBuffer<i32> {
     }
 }
 
-/// The same numbers, in 64 bits each. Writes each once: a vector of zeros first takes a third longer.
+/// Returns the same numbers, in 64 bits each. Writes each once: a vector of zeros first takes a third longer.
 fn widened(alloc: Global, offsets: &[i32]) -> std::result::Result<Vec<i64>, AllocError>
     ensures { IfOk result (λ wide. wide.items ≡ offsets.now) }
 {
@@ -104,7 +105,7 @@ fn widened(alloc: Global, offsets: &[i32]) -> std::result::Result<Vec<i64>, Allo
     Ok(wide)
 }
 
-/// The same numbers, in 32 bits each. Requires that they are offsets that fit.
+/// Returns the same numbers, in 32 bits each. Requires that they are offsets that fit.
 fn narrowed(alloc: Global, offsets: &[i64]) -> std::result::Result<Vec<i32>, AllocError>
     requires { AreOffsetsUpTo 2147483647 offsets.now }
     ensures { IfOk result (λ narrow. narrow.items ≡ offsets.now) }

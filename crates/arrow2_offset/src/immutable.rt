@@ -22,14 +22,24 @@ use std::alloc::{AllocError, Global};
 use std::marker::Model;
 use std::ops::Index;
 
-/// Offsets over a shared buffer: contracts see the numbers of its storage, the place of the first offset
-/// there, and how many offsets there are.
+/// Offsets over a shared buffer: contracts see the numbers of its storage, the index of the first offset there, and the
+/// number of offsets.
 ///
-/// There is always at least one offset, none is negative, and none is below the one before it. Clones
-/// and slices share the storage, and take no memory.
+/// There is always at least one offset, none is negative, and none is below the one before it. Clones and slices share
+/// the storage, and do not allocate.
 ///
 /// Differs from arrow2: the slice of its offsets is [`OffsetsBuffer::as_slice`], since there is no
 /// `Deref` to a slice.
+///
+/// # Examples
+///
+/// ```rust
+/// use arrow2::offset::OffsetsBuffer;
+///
+/// let offsets = OffsetsBuffer::<i32>::try_from(vec![in alloc; 0, 3, 3, 7]?)?;
+/// assert!(rt; offsets.len_proxy() == 3);
+/// assert!(rt; offsets.start_end(2) == (3, 7));
+/// ```
 #[derive(Debug, Drop)]
 pub struct OffsetsBuffer<O: Offset> {
     buffer: Buffer<O>,
@@ -49,7 +59,7 @@ impl<O: Offset> Model for OffsetsBuffer<O> {
 
 #[tactic(auto, using(crate::proofs::Frozen::frozen))]
 impl<O: Offset> OffsetsBuffer<O> {
-    /// Offset 0 alone, and so no slot.
+    /// Returns offset 0 alone, and so no slot.
     ///
     /// # Errors
     ///
@@ -61,8 +71,8 @@ impl<O: Offset> OffsetsBuffer<O> {
         OffsetsBuffer::try_from(Offsets::new(alloc)?)
     }
 
-    /// The offsets as they grow, where no one shares the storage and nothing is sliced off, and the offsets themselves
-    /// elsewhere. Either side holds the same list. Does not allocate.
+    /// Returns the offsets that grow, where no one shares the storage and nothing is sliced off, and the offsets
+    /// themselves elsewhere. Either side holds the same list. Does not allocate.
     ///
     /// Differs from arrow2, which gives the whole storage of sliced offsets.
     pub fn into_mut(self) -> Either<Self, Offsets<O>>
@@ -78,7 +88,7 @@ impl<O: Offset> OffsetsBuffer<O> {
         }
     }
 
-    /// The buffer of the offsets.
+    /// Returns the buffer of the offsets.
     pub fn buffer(&self) -> &Buffer<O>
         ensures numbers { numbers_of O.value result.now ≡ self.now }
         ensures valid { AreOffsetsUpTo O.MAX (map O.value (buffer_items result.now)) }
@@ -86,7 +96,7 @@ impl<O: Offset> OffsetsBuffer<O> {
         &self.buffer
     }
 
-    /// How many slots there are: one less than offsets.
+    /// Returns the number of slots: one less than offsets.
     pub fn len_proxy(&self) -> usize
         ensures offsets { result + 1 ≡ self.now.len }
         ensures slots { result ≡ length (lengths_of (buffer_items self.now)) }
@@ -94,7 +104,7 @@ impl<O: Offset> OffsetsBuffer<O> {
         self.buffer.len() - 1
     }
 
-    /// How many offsets there are.
+    /// Returns the number of offsets.
     pub fn len(&self) -> usize
         ensures value { result ≡ self.now.len }
         ensures offsets { result ≡ length (buffer_items self.now) }
@@ -104,7 +114,7 @@ impl<O: Offset> OffsetsBuffer<O> {
         self.buffer.len()
     }
 
-    /// The offsets.
+    /// Returns the offsets.
     pub fn as_slice(&self) -> &[O]
         ensures offsets { map O.value result.now ≡ buffer_items self.now }
         ensures valid { AreOffsets (buffer_items self.now) }
@@ -119,7 +129,7 @@ impl<O: Offset> OffsetsBuffer<O> {
         offsets
     }
 
-    /// The offsets of `length` slots from slot `start` on: one more than slots. Requires that they are inside.
+    /// Returns the offsets of `length` slots from slot `start` on: one more than slots. Requires that they are inside.
     pub(crate) fn offsets_of_slots(&self, start: usize, length: usize) -> &[O]
         requires { start + length < count_of (buffer_items self.now) }
         ensures valid { AreOffsets (map O.value result.now) }
@@ -129,7 +139,7 @@ impl<O: Offset> OffsetsBuffer<O> {
         &self.as_slice()[start..start + length + 1]
     }
 
-    /// How far the last offset is above the first.
+    /// Returns how far the last offset is above the first.
     pub fn range(&self) -> O
         ensures value { O.value result ≡ pos (last_of (buffer_items self.now)
             - start_of (buffer_items self.now)) }
@@ -138,14 +148,14 @@ impl<O: Offset> OffsetsBuffer<O> {
         O::from_as_usize(self.first().distance_to(*self.last()))
     }
 
-    /// The first offset.
+    /// Returns the first offset.
     pub fn first(&self) -> &O
         ensures { O.value result.now ≡ pos (start_of (buffer_items self.now)) }
     {
         &self.as_slice()[0]
     }
 
-    /// The last offset.
+    /// Returns the last offset.
     pub fn last(&self) -> &O
         ensures value { O.value result.now ≡ pos (last_of (buffer_items self.now)) }
         ensures fits { last_of (buffer_items self.now) ≤ O.MAX }
@@ -154,9 +164,10 @@ impl<O: Offset> OffsetsBuffer<O> {
         &offsets[offsets.len() - 1]
     }
 
-    /// Where slot `index` starts and where it ends. Requires that `index` is below [`OffsetsBuffer::len_proxy`].
+    /// Returns where slot `index` starts and where it ends. Requires that `index` is below
+    /// [`OffsetsBuffer::len_proxy`].
     ///
-    /// arrow2's documentation says [`OffsetsBuffer::len`].
+    /// arrow2's documentation states [`OffsetsBuffer::len`] as the bound.
     pub fn start_end(&self, index: usize) -> (usize, usize)
         requires { index < length (lengths_of (buffer_items self.now)) }
         ensures start { result.0 ≡ offset_at (start_of (buffer_items self.now))
@@ -190,9 +201,9 @@ impl<O: Offset> OffsetsBuffer<O> {
         self.buffer.slice(offset, length);
     }
 
-    /// The `length` offsets from offset `offset` on, over the same storage. Does not allocate.
+    /// Returns the `length` offsets from offset `offset` on, over the same storage. Does not allocate.
     ///
-    /// Asks what [`OffsetsBuffer::slice`] asks. arrow2 has `slice` alone.
+    /// Requires what [`OffsetsBuffer::slice`] requires. arrow2 has `slice` alone.
     pub fn sliced(mut self, offset: usize, length: usize) -> Self
         requires some { 0 < length }
         requires inside { offset + length ≤ count_of (buffer_items self) }
@@ -229,14 +240,14 @@ impl<O: Offset> OffsetsBuffer<O> {
         self.slice(start, slots + 1);
     }
 
-    /// The lengths of the slots, one by one, from both ends.
+    /// Returns an iterator over the lengths of the slots, one by one, from both ends.
     pub fn lengths(&self) -> Lengths<'_, O>
         ensures { result ≡ lengths_of (buffer_items self.now) }
     {
         Lengths::new(self.as_slice())
     }
 
-    /// The buffer of the offsets. Does not allocate.
+    /// Returns the buffer of the offsets. Does not allocate.
     pub fn into_inner(self) -> Buffer<O>
         ensures numbers { numbers_of O.value result ≡ self }
         ensures valid { AreOffsetsUpTo O.MAX (map O.value (buffer_items result)) }
@@ -250,8 +261,8 @@ impl<O: Offset> OffsetsBuffer<O> {
 ///
 /// # Errors
 ///
-/// `OutOfSpec` exactly where the items are not offsets, with the text of the first rule that they break,
-/// or `OutOfMemory` there, where the text finds no memory. The buffer is then dropped.
+/// `OutOfSpec` exactly where the items are not offsets, with the text of the first rule that they break, or
+/// `OutOfMemory` there, where the allocation of the text fails. The buffer is then dropped.
 impl<O: Offset> TryFrom<Buffer<O>> for OffsetsBuffer<O> {
     type Error = Error;
 
@@ -270,8 +281,8 @@ impl<O: Offset> TryFrom<Buffer<O>> for OffsetsBuffer<O> {
 ///
 /// # Errors
 ///
-/// `OutOfSpec` exactly where the items are not offsets, with the text of the first rule that they break,
-/// or `OutOfMemory` there, where the text finds no memory; else `OutOfMemory` alone. The vector is then dropped.
+/// `OutOfSpec` exactly where the items are not offsets, with the text of the first rule that they break, or
+/// `OutOfMemory` there, where the allocation of the text fails; else `OutOfMemory` alone. The vector is then dropped.
 impl<O: Offset> TryFrom<Vec<O>> for OffsetsBuffer<O> {
     type Error = Error;
 
@@ -291,7 +302,7 @@ impl<O: Offset> TryFrom<Vec<O>> for OffsetsBuffer<O> {
 ///
 /// # Errors
 ///
-/// `OutOfMemory` alone, where the count of the owners finds no memory. The offsets are then dropped.
+/// `OutOfMemory` alone, where the allocation of the reference count fails. The offsets are then dropped.
 impl<O: Offset> TryFrom<Offsets<O>> for OffsetsBuffer<O> {
     type Error = Error;
 
@@ -306,7 +317,7 @@ impl<O: Offset> TryFrom<Offsets<O>> for OffsetsBuffer<O> {
     }
 }
 
-/// The offset at a place. Requires that there is one.
+/// Returns the offset at an index. Requires that there is one.
 impl<O: Offset> Index<usize> for OffsetsBuffer<O> {
     type Output = O;
 
@@ -320,8 +331,8 @@ impl<O: Offset> Index<usize> for OffsetsBuffer<O> {
     }
 }
 
-/// The same storage, place and number of offsets. Does not allocate: it is refused only where the count of owners is
-/// full.
+/// Returns the same storage, index and number of offsets. Does not allocate: it fails only where the reference count
+/// would overflow.
 impl<O: Offset> Clone for OffsetsBuffer<O> {
     ghost is_clone = { λ b copy. copy ≡ b };
 
@@ -332,7 +343,7 @@ impl<O: Offset> Clone for OffsetsBuffer<O> {
     }
 }
 
-/// Equality of the lists, whatever storage is behind them.
+/// Equality of the lists, whatever their storage is.
 impl<O: Offset> PartialEq for OffsetsBuffer<O> {
     ghost eq = { on buffer_items (pointwise int_eq) };
 

@@ -67,7 +67,7 @@ impl<'a, O: Offset> Iterator for Lengths<'a, O> {
         Some(length)
     }
 
-    /// Both bounds are the number of lengths still to come.
+    /// Returns the number of lengths still to come as both bounds.
     fn size_hint(&self) -> (usize, Option<usize>)
         ensures exact { (result.0 ≡ length self.now) × (result.1 ≡ Some (length self.now)) }
         ensures lower { IsWithinCount result.0 (item_count (λ s. s) self.now) }

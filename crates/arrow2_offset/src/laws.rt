@@ -42,8 +42,8 @@ pub fn lists_tell_starts_and_lengths_apart()
         offsets_list a ms ≡ offsets_list b ns ↔ ((a ≡ b) × (ms ≡ ns)) }
 {}
 
-/// What holds the same offsets as what holds the same offsets has the same list: so offsets of 32 bits, as
-/// offsets of 64 bits and back, are the same list.
+/// If each of two lists holds the same offsets as the next one, the first and the last are the same list: so offsets of
+/// 32 bits, as offsets of 64 bits and back, are the same list.
 #[tactic(auto, using(crate::proofs::Listed::listed))]
 pub fn there_and_back_is_the_same_list()
     ensures { (narrow wide back : GrowingOffsets) → SameOffsets narrow wide →

@@ -28,13 +28,23 @@ use std::alloc::{AllocError, Global};
 use std::marker::Model;
 use std::ops::Index;
 
-/// Offsets that grow: contracts see their start, their lengths, and for how many lengths there is room.
+/// Offsets that grow: contracts see their start, their lengths, and the capacity in lengths.
 ///
-/// There is always at least one offset, none is negative, and none is below the one before it. Each
-/// slot spans from one offset to the next, so there is one slot less than offsets, and as many as
-/// lengths.
+/// There is always at least one offset, none is negative, and none is below the one before it. Each slot spans from one
+/// offset to the next, so there is one slot less than offsets, and one for each length.
 ///
 /// Differs from arrow2: sums are exact, and a call that refuses leaves the offsets as they were.
+///
+/// # Examples
+///
+/// ```rust
+/// use arrow2::offset::Offsets;
+///
+/// let mut offsets = Offsets::<i32>::new(alloc)?;
+/// offsets.try_push_usize(3)?;
+/// offsets.try_push_usize(4)?;
+/// assert_eq!(rt; offsets.as_slice(), [0, 3, 7].as_slice());
+/// ```
 #[derive(Debug, Drop)]
 pub struct Offsets<O: Offset> {
     offsets: Vec<O>,
@@ -57,7 +67,7 @@ impl<O: Offset> Model for Offsets<O> {
 
 #[tactic(auto, using(crate::proofs::Growing::growing))]
 impl<O: Offset> Offsets<O> {
-    /// Offset 0 alone, and so no slot.
+    /// Returns offset 0 alone, and so no slot.
     ///
     /// # Errors
     ///
@@ -69,7 +79,7 @@ impl<O: Offset> Offsets<O> {
         Offsets::with_capacity(alloc, 0)
     }
 
-    /// `length` slots of length 0, from offset 0 on.
+    /// Returns `length` slots of length 0, from offset 0 on.
     ///
     /// # Errors
     ///
@@ -85,7 +95,7 @@ impl<O: Offset> Offsets<O> {
         Ok(offsets)
     }
 
-    /// Offset 0 alone, with room for `capacity` lengths.
+    /// Returns offset 0 alone, with capacity for `capacity` lengths.
     ///
     /// # Errors
     ///
@@ -105,7 +115,7 @@ impl<O: Offset> Offsets<O> {
         Ok(Offsets { offsets })
     }
 
-    /// The offsets from 0 on whose lengths an iterator gives, which ends. Its size hint is not read.
+    /// Returns the offsets from 0 on whose lengths an iterator gives, which ends. Its size hint is not read.
     ///
     /// # Errors
     ///
@@ -124,7 +134,7 @@ impl<O: Offset> Offsets<O> {
         Offsets::try_from_lengths(alloc, iter.into_iter())
     }
 
-    /// The offsets from 0 on with these lengths. The iterator ends, and its size hint is not read.
+    /// Returns the offsets from 0 on with these lengths. The iterator ends, and its size hint is not read.
     ///
     /// # Errors
     ///
@@ -146,7 +156,7 @@ impl<O: Offset> Offsets<O> {
         Ok(offsets)
     }
 
-    /// For how many lengths there is room before memory is asked for.
+    /// Returns the capacity in lengths: how many fit before it allocates.
     pub fn capacity(&self) -> usize
         ensures capacity { result ≡ self.now.capacity }
         ensures held { slots self.now ≤ result }
@@ -154,7 +164,8 @@ impl<O: Offset> Offsets<O> {
         self.offsets.capacity().saturating_sub(1)
     }
 
-    /// Makes room for `additional` more lengths. Within the capacity it does not allocate. arrow2 returns no `Result`.
+    /// Reserves capacity for `additional` more lengths. Within the capacity it does not allocate. arrow2 returns no
+    /// `Result`.
     ///
     /// # Errors
     ///
@@ -171,9 +182,9 @@ impl<O: Offset> Offsets<O> {
         Ok(())
     }
 
-    /// Gives back room that is not used, where the allocator takes it. arrow2 returns no `Result`.
+    /// Gives back unused capacity, where the allocator takes it. arrow2 returns no `Result`.
     ///
-    /// It is never refused: where a smaller block finds no memory, the offsets stay where they are.
+    /// It never fails: where the smaller block cannot be allocated, the offsets stay where they are.
     pub fn shrink_to_fit(&mut self) -> Result<()>
         ensures ok { IsOk result }
         ensures items { SameOffsets self.old self.new }
@@ -185,7 +196,7 @@ impl<O: Offset> Offsets<O> {
 
     /// Appends one length. Requires that it is not negative. Below the capacity it does not allocate.
     ///
-    /// arrow2's documentation asks for a length above 0.
+    /// arrow2's documentation requires a length above 0.
     ///
     /// # Errors
     ///
@@ -216,8 +227,7 @@ impl<O: Offset> Offsets<O> {
     /// Appends the lengths of an iterator that ends. Its size hint is not read. Within the capacity it does not
     /// allocate.
     ///
-    /// Differs from arrow2, whose sums wrap, and which keeps the lengths that it took where it answers
-    /// `Overflow`.
+    /// Differs from arrow2, whose sums wrap, and which keeps the lengths that it took where it returns `Overflow`.
     ///
     /// # Errors
     ///
@@ -237,7 +247,7 @@ impl<O: Offset> Offsets<O> {
 
     /// Appends the lengths of other offsets. Within the capacity it does not allocate.
     ///
-    /// Differs from arrow2, which tests the other's last offset in place of the sum of its lengths.
+    /// Differs from arrow2, which tests the other's last offset instead of the sum of its lengths.
     ///
     /// # Errors
     ///
@@ -253,7 +263,7 @@ impl<O: Offset> Offsets<O> {
     /// Appends `length` of the lengths of other offsets, from length `start` on. Requires that `length` is 0, or that
     /// `start + length` is below the number of the other's offsets. Within the capacity it does not allocate.
     ///
-    /// Differs from arrow2, which tests the other's last offset in place of the sum of the lengths.
+    /// Differs from arrow2, which tests the other's last offset instead of the sum of the lengths.
     ///
     /// # Errors
     ///
@@ -269,7 +279,8 @@ impl<O: Offset> Offsets<O> {
         ensures { GrowsUpTo O.MAX error_of result self.old self.new
             (part (lengths_of (buffer_items other.now)) start length) }
     {
-        // The number is read for what is kept: it is at most `O::MAX`, and the slots are within the capacity.
+        // The number is read for the facts that the type guarantees: it is at most `O::MAX`, and the slots are within
+        // the capacity.
         let _ = self.last_number();
         if length == 0 {
             return Ok(());
@@ -297,7 +308,7 @@ impl<O: Offset> Offsets<O> {
         Ok(())
     }
 
-    /// The last offset.
+    /// Returns the last offset.
     pub fn last(&self) -> &O
         ensures value { O.value result.now ≡ pos (last_of_growing self.now) }
         ensures fits { last_of_growing self.now ≤ O.MAX }
@@ -305,9 +316,9 @@ impl<O: Offset> Offsets<O> {
         &self.offsets[self.offsets.len() - 1]
     }
 
-    /// Where slot `index` starts and where it ends. Requires that `index` is below [`Offsets::len_proxy`].
+    /// Returns where slot `index` starts and where it ends. Requires that `index` is below [`Offsets::len_proxy`].
     ///
-    /// arrow2's documentation says [`Offsets::len`].
+    /// arrow2's documentation states [`Offsets::len`] as the bound.
     pub fn start_end(&self, index: usize) -> (usize, usize)
         requires { index < slots self.now }
         ensures start { result.0 ≡ offset_at self.now.start self.now.lengths index }
@@ -317,14 +328,14 @@ impl<O: Offset> Offsets<O> {
         slot_span(self.as_slice(), index)
     }
 
-    /// How many slots there are: as many as lengths.
+    /// Returns the number of slots: one for each length.
     pub fn len_proxy(&self) -> usize
         ensures { result ≡ slots self.now }
     {
         self.offsets.len() - 1
     }
 
-    /// How many offsets there are: one more than slots.
+    /// Returns the number of offsets: one more than slots.
     pub fn len(&self) -> usize
         ensures offsets { result ≡ length (offsets_of self.now) }
         ensures slots { result ≡ slots self.now + 1 }
@@ -332,7 +343,7 @@ impl<O: Offset> Offsets<O> {
         self.offsets.len()
     }
 
-    /// The offsets.
+    /// Returns the offsets.
     pub fn as_slice(&self) -> &[O]
         ensures offsets { map O.value result.now ≡ map pos (offsets_of self.now) }
         ensures lengths { lengths_of (map O.value result.now) ≡ self.now.lengths }
@@ -356,7 +367,7 @@ impl<O: Offset> Offsets<O> {
         Some(offset)
     }
 
-    /// The vector of the offsets. Does not allocate.
+    /// Returns the vector of the offsets. Does not allocate.
     pub fn into_inner(self) -> Vec<O>
         ensures offsets { map O.value result.items ≡ map pos (offsets_of self) }
         ensures lengths { lengths_of (map O.value result.items) ≡ self.lengths }
@@ -368,7 +379,7 @@ impl<O: Offset> Offsets<O> {
         offsets
     }
 
-    /// The vector itself, which is known to hold offsets.
+    /// Returns the vector itself, which is known to hold offsets.
     pub(crate) fn of_vec(offsets: Vec<O>) -> Self
         requires { AreOffsetsUpTo O.MAX (map O.value offsets.items) }
         ensures { result ≡ made_of (map O.value offsets.items) (vec_capacity offsets) }
@@ -376,13 +387,13 @@ impl<O: Offset> Offsets<O> {
         Offsets { offsets }
     }
 
-    /// The last offset, as a number.
+    /// Returns the last offset, as a number.
     fn last_number(&self) -> usize
         ensures value { result ≡ last_of_growing self.now }
         ensures fits { last_of_growing self.now ≤ O.MAX }
         ensures held { slots self.now ≤ self.now.capacity }
     {
-        // The field is read for what the type keeps: the slots are within the capacity.
+        // The field is read for the facts that the type guarantees: the slots are within the capacity.
         let _ = &self.offsets;
         self.last().to_usize()
     }
@@ -399,7 +410,7 @@ impl<O: Offset> Offsets<O> {
         Ok(())
     }
 
-    /// Makes room for `additional` more lengths.
+    /// Reserves capacity for `additional` more lengths.
     fn reserve_room(&mut self, additional: usize) -> std::result::Result<(), AllocError>
         ensures items { SameOffsets self.old self.new }
         ensures ok { OnOk result (slots self.old + additional ≤ self.new.capacity) }
@@ -410,7 +421,7 @@ impl<O: Offset> Offsets<O> {
         self.offsets.reserve(additional)
     }
 
-    /// Appends one length. Requires that there is room for it.
+    /// Appends one length. Requires spare capacity for it.
     fn push_within(&mut self, length: usize)
         requires room { slots self.old < self.old.capacity }
         requires fits { last_of_growing self.old + length ≤ O.MAX }
@@ -444,7 +455,7 @@ impl<O: Offset> Offsets<O> {
         append_lengths(&mut self.offsets, lengths)
     }
 
-    /// Appends the lengths between the offsets. Tests their sum before it asks for memory.
+    /// Appends the lengths between the offsets. Tests their sum before it allocates.
     fn append(&mut self, offsets: &[O]) -> std::result::Result<(), Refusal>
         requires { AreOffsets (map O.value offsets.now) }
         ensures { GrowsUpTo O.MAX (λ refusal. refusal) result self.old self.new
@@ -467,8 +478,8 @@ impl<O: Offset> Offsets<O> {
 ///
 /// # Errors
 ///
-/// `OutOfSpec` exactly where the items are not offsets, with the text of the first rule that they break,
-/// or `OutOfMemory` there, where the text finds no memory. The vector is then dropped.
+/// `OutOfSpec` exactly where the items are not offsets, with the text of the first rule that they break, or
+/// `OutOfMemory` there, where the allocation of the text fails. The vector is then dropped.
 impl<O: Offset> TryFrom<Vec<O>> for Offsets<O> {
     type Error = Error;
 
@@ -497,7 +508,7 @@ impl<O: Offset> Clone for Offsets<O> {
     }
 }
 
-/// The offset at a place. Requires that there is one.
+/// Returns the offset at an index. Requires that there is one.
 impl<O: Offset> Index<usize> for Offsets<O> {
     type Output = O;
 
@@ -511,7 +522,7 @@ impl<O: Offset> Index<usize> for Offsets<O> {
     }
 }
 
-/// Equality of the lists, whatever room they have.
+/// Equality of the lists, whatever their capacity is.
 impl<O: Offset> PartialEq for Offsets<O> {
     ghost eq = { on offsets_of (pointwise nat_eq) };
 

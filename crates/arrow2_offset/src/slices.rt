@@ -35,7 +35,7 @@ pub fn fits<O: Offset>(start: usize, lengths: &[usize]) -> bool
     most <= O::MAX as u128 || total(start, lengths) <= O::MAX as u128
 }
 
-/// The bits of all lengths: a number that none of them is above. It is found faster than their sum.
+/// Returns the bits of all lengths: a number that none of them is above. It is found faster than their sum.
 fn all_bits(lengths: &[usize]) -> usize
     ensures { sum lengths.now ≤ length lengths.now * result }
 {
@@ -46,7 +46,7 @@ fn all_bits(lengths: &[usize]) -> usize
     bits
 }
 
-/// The start and all lengths, added up exactly.
+/// Returns the start and all lengths, added up exactly.
 fn total(start: usize, lengths: &[usize]) -> u128
     ensures { result ≡ last_offset start lengths.now }
 {
@@ -57,7 +57,7 @@ fn total(start: usize, lengths: &[usize]) -> u128
     sum
 }
 
-/// Writes the start, and behind it the running sums of the lengths. Requires one offset more than lengths, and that the
+/// Writes the start, followed by the running sums of the lengths. Requires one offset more than lengths, and that the
 /// last of them is an offset.
 pub fn write_sums<O: Offset>(start: usize, lengths: &[usize], offsets: &mut [O])
     requires exact { length offsets.old ≡ length lengths.now + 1 }
@@ -72,8 +72,8 @@ pub fn write_sums<O: Offset>(start: usize, lengths: &[usize], offsets: &mut [O])
     }
 }
 
-/// Writes as many offsets as `out` has, from offset `from` on, each less the first of them. Requires that there is one,
-/// and that they are inside.
+/// Fills `out` with the offsets from offset `from` on, each less the first of them. Requires that there is one, and
+/// that they are inside.
 pub fn write_part<O: Offset>(offsets: &[O], from: usize, out: &mut [O])
     requires are { AreOffsetsUpTo O.MAX (map O.value offsets.now) }
     requires some { 0 < length out.old }

@@ -1,10 +1,10 @@
-//! What lists of offsets span.
+//! The spans of lists of offsets.
 ghost use Rattle.std.specs.Prelude.{◌≡◌, ◌+◌, ◌<◌, ◌≤◌, length, map, sum, slice_index_or};
 ghost use Rattle.arrow2_offset.specs.Offsets.{AreOffsets, offset_at, start_of, lengths_of, last_of};
 
 use arrow2_index::offset::Offset;
 
-/// The sum of the lengths between the offsets.
+/// Returns the sum of the lengths between the offsets.
 pub(crate) fn total_length<O: Offset>(offsets: &[O]) -> usize
     requires { AreOffsets (map O.value offsets.now) }
     ensures { result ≡ sum (lengths_of (map O.value offsets.now)) }
@@ -12,7 +12,7 @@ pub(crate) fn total_length<O: Offset>(offsets: &[O]) -> usize
     offsets[0].distance_to(offsets[offsets.len() - 1])
 }
 
-/// Where slot `index` starts and where it ends. Requires that it is one of the slots.
+/// Returns where slot `index` starts and where it ends. Requires that it is one of the slots.
 #[tactic(auto, using(crate::proofs::Frozen::frozen))]
 pub(crate) fn slot_span<O: Offset>(offsets: &[O], index: usize) -> (usize, usize)
     requires valid { AreOffsets (map O.value offsets.now) }

@@ -1,4 +1,4 @@
--- Words say one command on boolean arrays at most, and each is spelled in one way.
+-- Words spell one command on boolean arrays at most, and each is spelled in one way.
 use Rattle.std.proofs.Common.{◌≡◌, refl, ℕ, List, ◌∷◌, true, codes}
 use Rattle.std.specs.Prelude.{Some, None}
 use Rattle.std.specs.List.{list_all}
@@ -13,7 +13,7 @@ use Rattle.arrow2_script.proofs.KindLemmas.{numbers, optional_slots, slots, more
 use Rattle.arrow2_script.proofs.SpellingLemmas.{is_word}
 use Rattle.arrow2_script.proofs.WordLemmas.{number_of-decimal, optional_slot_of-word, slot_of-decimal}
 
--- words that say a command on boolean arrays are its words
+-- words that are parsed as a command on boolean arrays are its words
 pub array_says : (name : List ℕ) (words : List (List ℕ)) (command : ArrayCommand) → array_named name words ≡ Some command → Says ArrayFits array_words name words command
 unfolding array_named is_word
 array_says name words command =
@@ -26,7 +26,7 @@ array_says name words command =
     at_row says (codes "aor") refl (more slots (more slots (more slots no_more))) (λ p. Or p.0 p.1.0 p.1.1.0) (λ p f w. ((f.0, f.1.0, f.1.1.0), refl, w)) words name command None (
     λ e. absurd (none-some command e)))))))
 
--- the words of a command on boolean arrays say it
+-- the words of a command on boolean arrays are parsed as it
 pub array_of-words : (command : ArrayCommand) → ArrayFits command → command_of (array_words command) ≡ Some (Kinds.Array command)
 unfolding command_of named bitmap_named frozen_named offset_named frozen_offsets_named value_named storage_named kernel_named operator_named table_named growth_named array_named
 array_of-words (New to values validity) fits = rw (slot_of-decimal to fits.0, slot_of-decimal values fits.1, optional_slot_of-word validity fits.2) refl

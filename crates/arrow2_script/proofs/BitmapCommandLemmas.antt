@@ -1,4 +1,4 @@
--- Words say one command on bitmaps at most, and each is spelled in one way.
+-- Words spell one command on bitmaps at most, and each is spelled in one way.
 use Rattle.std.proofs.Common.{◌≡◌, refl, ℕ, List, ◌∷◌, true, codes}
 use Rattle.std.specs.Prelude.{Some, None}
 use Rattle.std.specs.List.{list_all}
@@ -12,7 +12,7 @@ use Rattle.arrow2_script.proofs.KindLemmas.{bit_texts, bits, numbers, slots, mor
 use Rattle.arrow2_script.proofs.SpellingLemmas.{is_word}
 use Rattle.arrow2_script.proofs.WordLemmas.{bit_of-byte, bits_of-text, number_of-decimal, slot_of-decimal}
 
--- words that say a command on bitmaps are its words
+-- words that are parsed as a command on bitmaps are its words
 pub bitmap_says : (name : List ℕ) (words : List (List ℕ)) (command : BitmapCommand) → bitmap_named name words ≡ Some command → Says BitmapFits bitmap_words name words command
 unfolding bitmap_named frozen_named is_word
 bitmap_says name words command =
@@ -28,7 +28,7 @@ bitmap_says name words command =
     at_row says (codes "bits") refl (more slots no_more) (λ p. Bits p.0) (λ p f w. (f.0, refl, w)) words name command None (
     λ e. absurd (none-some command e))))))))))
 
--- the words of a command on bitmaps say it
+-- the words of a command on bitmaps are parsed as it
 pub bitmap_of-words : (command : BitmapCommand) → BitmapFits command → command_of (bitmap_words command) ≡ Some (Kinds.Bitmap command)
 unfolding command_of named bitmap_named frozen_named
 bitmap_of-words (New slot bits) fits = rw (slot_of-decimal slot fits, bits_of-text bits) refl

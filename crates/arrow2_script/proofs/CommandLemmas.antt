@@ -46,7 +46,7 @@ named_says name words command =
       | inr q ↦ others q
     ]
 
--- words that say a command are its words
+-- words that are parsed as a command are its words
 pub command_says : (words : List (List ℕ)) (command : Command) → command_of words ≡ Some command → Fits command × (words ≡ command_words command) × (list_all is_word words ≡ true)
 unfolding command_of
 command_says [] command e = absurd (none-some command e)
@@ -58,7 +58,7 @@ unfolding command_of
 some_words [] command e = absurd (none-some command e)
 some_words (name ∷ words) command e = omega arith
 
--- the words of a command say it
+-- the words of a command are parsed as it
 pub command_of-words : (command : Command) → Fits command → command_of (command_words command) ≡ Some command
 command_of-words (Bitmap command) fits = bitmap_of-words command fits
 command_of-words (Offset command) fits = offset_of-words command fits
@@ -68,7 +68,7 @@ command_of-words (Kernel command) fits = kernel_of-words command fits
 command_of-words (Growth command) fits = growth_of-words command fits
 command_of-words (Array command) fits = array_of-words command fits
 
--- parts of which one is blank say no command
+-- parts one of which is blank spell no command
 blank_says_none : (parts : List (List ℕ)) → list_any is_blank parts ≡ true → command_of parts ≡ None
 blank_says_none parts blank = elim (some_or_none (command_of parts)) [
   | inl p ↦
@@ -81,12 +81,12 @@ whichever : (blank : Bool) (parts : List (List ℕ)) → (blank ≡ true → com
 whichever true parts none = none refl
 whichever false parts none = refl
 
--- all parts of a line say what its words say
+-- all parts of a line are parsed as its words are
 pub command_in-parts : (line : List ℕ) → command_of (parts_of line) ≡ command_in line
 unfolding command_in words_of command_of
 command_in-parts line = whichever (list_any is_blank (parts_of line)) (parts_of line) (blank_says_none (parts_of line))
 
--- what a line says, from its first part and the others
+-- the command of a line, from its first part and the others
 pub first_part : (line name : List ℕ) (others : List (List ℕ)) → parts_of line ≡ name ∷ others → command_in line ≡ named name others
 unfolding command_of
 first_part line name others e = sym (command_in-parts line) ∙ ap command_of e

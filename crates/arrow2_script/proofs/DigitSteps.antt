@@ -8,7 +8,7 @@ use Rattle.std.proofs.lemmas.List.{take_more}
 use Rattle.std.proofs.lemmas.Str.{digit_value_digit}
 use Rattle.std.proofs.lemmas.Str.Parse.{digit_from_value, digits_value-take-le}
 
--- what holds of each option holds of one
+-- a fact that holds at all holds where an option is none
 pub of_none : {A P : Type 0} (r : Option A) → P → IfNone r P
 of_none None p = p
 of_none (Some x) p = tt

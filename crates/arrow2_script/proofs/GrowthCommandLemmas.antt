@@ -1,4 +1,4 @@
--- Words say one command by which a bitmap grows at most, and each is spelled in one way.
+-- Words spell one command by which a bitmap grows at most, and each is spelled in one way.
 use Rattle.std.proofs.Common.{◌≡◌, refl, ℕ, List, ◌∷◌, true, codes}
 use Rattle.std.specs.Prelude.{Some, None}
 use Rattle.std.specs.List.{list_all}
@@ -13,7 +13,7 @@ use Rattle.arrow2_script.proofs.KindLemmas.{bits, numbers, slots, more, no_more,
 use Rattle.arrow2_script.proofs.SpellingLemmas.{is_word}
 use Rattle.arrow2_script.proofs.WordLemmas.{bit_of-byte, number_of-decimal, slot_of-decimal}
 
--- words that say a command by which a bitmap grows are its words
+-- words that are parsed as a command by which a bitmap grows are its words
 pub growth_says : (name : List ℕ) (words : List (List ℕ)) (command : GrowthCommand) → growth_named name words ≡ Some command → Says GrowthFits growth_words name words command
 unfolding growth_named is_word
 growth_says name words command =
@@ -22,7 +22,7 @@ growth_says name words command =
     at_row says (codes "append") refl (more slots (more slots no_more)) (λ p. Append p.0 p.1.0) (λ p f w. ((f.0, f.1.0), refl, w)) words name command None (
     λ e. absurd (none-some command e)))
 
--- the words of a command by which a bitmap grows say it
+-- the words of a command by which a bitmap grows are parsed as it
 pub growth_of-words : (command : GrowthCommand) → GrowthFits command → command_of (growth_words command) ≡ Some (Kinds.Growth command)
 unfolding command_of named bitmap_named frozen_named offset_named frozen_offsets_named value_named storage_named kernel_named operator_named table_named growth_named
 growth_of-words (Fill slot additional bit) fits = rw (slot_of-decimal slot fits.0, number_of-decimal additional fits.1, bit_of-byte bit) refl

@@ -1,4 +1,4 @@
--- Words that say bytes in hexadecimal, and the one word that says each.
+-- Words that spell bytes in hexadecimal, and the one word that spells each.
 use Rattle.std.proofs.Common.{codes, ◌≡◌, ◌∙◌, sym, ap, refl, ◌+◌, ◌*◌, ◌/◌, ◌%◌, ◌<◌, ℕ, List, [], ◌∷◌, length, true, false, cond, ◌&&◌, inl, inr, arith, eqb}
 use Rattle.std.specs.Prelude.{Some, None}
 use Rattle.std.specs.List.{All, list_all, flat_map}
@@ -8,12 +8,12 @@ use Rattle.arrow2_script.specs.Words.{is_hex_digit, hex_value, hex_digit, bytes_
 use Rattle.arrow2_script.proofs.LineLemmas.{parts_all}
 use Rattle.arrow2_script.proofs.WordLemmas.{at_word, choice, both, some_bytes, other_than}
 
--- two digits say the first byte, and those behind them the others
+-- two digits spell the first byte, and those after them the others
 pub first_byte : (digits behind rest : List ℕ) (high low h l : ℕ) → digits ≡ high ∷ behind → behind ≡ low ∷ rest → h ≡ hex_value high → l ≡ hex_value low → bytes_said digits ≡ (16 * h + l) ∷ bytes_said rest
 unfolding bytes_said
 first_byte digits behind rest high low h l e f is_high is_low = rw (e, f, is_high, is_low) refl
 
--- fewer digits say none
+-- fewer digits spell none
 pub no_byte : (digits : List ℕ) → length digits ≡ 0 → bytes_said digits ≡ []
 unfolding bytes_said
 no_byte [] e = refl
@@ -24,7 +24,7 @@ unfolding bytes_said
 half_byte digits [] high e f = rw e refl
 half_byte digits (low ∷ behind) high e f = cc
 
--- as many as half the digits
+-- half the number of digits
 pub length-bytes_said : (digits : List ℕ) → length (bytes_said digits) ≡ length digits / 2
 unfolding bytes_said
 length-bytes_said [] = refl
@@ -90,7 +90,7 @@ digits_again (high ∷ low ∷ digits) even e =
     let others = digits_again digits (omega (arith, even)) q.1 in
     (All-cons (λ m. m < 256) (16 * hex_value high + hex_value low) (bytes_said digits) (omega (arith, h.0, l.0)) others.0, rw (j.0, j.1, h.1, l.1, others.1) refl)
 
--- digits that are there say bytes that are there
+-- digits that are there spell bytes that are there
 whole_text : (word : List ℕ) → eqb (length word) 0 ≡ false → length word % 2 ≡ 0 → hex_text (bytes_said word) ≡ flat_map hex_digits (bytes_said word)
 unfolding bytes_said
 whole_text [] some even = cc

@@ -1,4 +1,4 @@
--- Words say one command that combines bitmaps at most, and each is spelled in one way.
+-- Words spell one command that combines bitmaps at most, and each is spelled in one way.
 use Rattle.std.proofs.Common.{◌≡◌, refl, ℕ, List, ◌∷◌, true, arith, codes}
 use Rattle.std.specs.Prelude.{Some, None}
 use Rattle.std.specs.List.{list_all}
@@ -13,7 +13,7 @@ use Rattle.arrow2_script.proofs.KindLemmas.{slots, tables, widths, more, no_more
 use Rattle.arrow2_script.proofs.SpellingLemmas.{is_word}
 use Rattle.arrow2_script.proofs.WordLemmas.{below_of-decimal, slot_of-decimal, width_of-word}
 
--- words that say a command that combines bitmaps are its words
+-- words that are parsed as a command that combines bitmaps are its words
 pub kernel_says : (name : List ℕ) (words : List (List ℕ)) (command : KernelCommand) → kernel_named name words ≡ Some command → Says KernelFits kernel_words name words command
 unfolding kernel_named operator_named table_named is_word
 kernel_says name words command =
@@ -30,7 +30,7 @@ kernel_says name words command =
     at_row says (codes "table4") refl (more slots (more (tables 65536 (omega arith)) (more slots (more slots (more slots (more slots no_more)))))) (λ p. Make p.0 (Quaternary p.1.0 p.1.1.0 p.1.1.1.0 p.1.1.1.1.0 p.1.1.1.1.1.0)) (λ p f w. ((f.0, (f.1.0, f.1.1.0, f.1.1.1.0, f.1.1.1.1.0, f.1.1.1.1.1.0)), refl, w)) words name command None (
     λ e. absurd (none-some command e)))))))))))
 
--- the words of a command that combines bitmaps say it
+-- the words of a command that combines bitmaps are parsed as it
 pub kernel_of-words : (command : KernelCommand) → KernelFits command → command_of (kernel_words command) ≡ Some (Kinds.Kernel command)
 unfolding command_of named bitmap_named frozen_named offset_named frozen_offsets_named value_named storage_named kernel_named operator_named table_named
 kernel_of-words (Make to (And left right)) fits = rw (slot_of-decimal to fits.0, slot_of-decimal left fits.1.0, slot_of-decimal right fits.1.1) refl

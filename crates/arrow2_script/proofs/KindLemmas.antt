@@ -1,4 +1,4 @@
--- Commands of one kind: the words that say each, and the names by which they are told apart.
+-- Commands of one group: the words that spell each, and the names that distinguish them.
 use Rattle.std.proofs.Common.{◌≡◌, subst, refl, ◌<◌, ◌≤◌, ◌^◌, ℕ, List, [], ◌∷◌, Bool, true, cond, inl, inr, arith}
 use Rattle.std.specs.Prelude.{Option, Some, None, IfSome, option_map}
 use Rattle.std.specs.List.{All, list_all}
@@ -50,7 +50,7 @@ widths = record { read = width_of; spell = width_word; Fits = λ width. Unit {0}
 abbrev pub hex_bytes : Reader (List ℕ)
 hex_bytes = record { read = bytes_of; spell = hex_text; Fits = λ bytes. All (λ b. b < 256) bytes; spelled = text-bytes_of; passes = hex_word }
 
--- how the words behind a name are read, and the words by which each value is spelled
+-- how the words after a name are read, and the words by which each value is spelled
 pub record Values (A : Type 0) : Type 1 where
   pub read : List (List ℕ) → Option A
   pub spell : A → List (List ℕ)
@@ -86,11 +86,12 @@ more_pass f g x fits = rw (f.passes x.0 fits.0, g.passes x.1 fits.1) refl
 abbrev pub more : {A B : Type 0} → Reader A → Values B → Values (A × B)
 more f g = record { read = f.read >> g.read; spell = λ x. f.spell x.0 ∷ g.spell x.1; Fits = λ x. f.Fits x.0 × g.Fits x.1; spelled = more_spelled f g; passes = more_pass f g }
 
--- behind this name, the words of a command, which are words
+-- after this name, the words of a command, which are words
 abbrev pub Says : {C : Type 0} → (C → Type 0) → (C → List (List ℕ)) → List ℕ → List (List ℕ) → C → Type 0
 Says fits words_of name words command = fits command × (name ∷ words ≡ words_of command) × (list_all is_word (name ∷ words) ≡ true)
 
--- a row of a table of commands: where the test of its name passes, the values behind it are a command's; else what comes next is one
+-- a row of a table of commands: where the test of its name passes, the values after it are a command's; else the next
+-- row is one
 pub at_row : {A C : Type 0} (Says : List ℕ → List (List ℕ) → C → Type 0) (known : List ℕ) → is_word known ≡ true → (values : Values A) (made : A → C) → ((x : A) → values.Fits x → list_all is_word (known ∷ values.spell x) ≡ true → Says known (values.spell x) (made x)) → (words : List (List ℕ)) (name : List ℕ) (command : C) (next : Option C) → (next ≡ Some command → Says name words command) → cond (bytes_eq name known) (option_map made (values.read words)) next ≡ Some command → Says name words command
 at_row Says known is values made says words name command next others e = elim (choice (bytes_eq name known) (option_map made (values.read words)) next (Some command) e) [
   | inl p ↦

@@ -5,7 +5,7 @@ use Rattle.std.proofs.lemmas.Bool.{eq-eqb}
 use Rattle.std.proofs.lemmas.List.Splits.{slice_split_none, slice_split_at}
 use Rattle.arrow2_script.specs.Lines.{lines_of, parts_between}
 
--- a byte that is not another is told apart by the test
+-- a byte that is not another is distinguished by the test
 other : (a b : ℕ) → a ≢ b → eqb a b ≡ false
 other a b ne = grind (arith, ne)
 
@@ -13,7 +13,7 @@ other a b ne = grind (arith, ne)
 pub parts_all : {X : Type 0} (P : X → Type 0) (x : X) (xs : List X) → All P (x ∷ xs) → P x × All P xs
 parts_all P x xs all = (all 0 x (omega arith), λ k d h. all (suc k) d (omega arith))
 
--- what is free of byte 10 is the first line, before a byte 10
+-- bytes free of byte 10 are the first line, before a byte 10
 pub lines_of-cut : (line rest : List ℕ) → All (λ b. b ≢ 10) line → lines_of (line ++ 10 ∷ rest) ≡ line ∷ lines_of rest
 unfolding lines_of
 lines_of-cut [] rest all = refl

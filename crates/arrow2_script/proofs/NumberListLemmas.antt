@@ -1,4 +1,4 @@
--- Words that say lists of numbers, and the one word that says each.
+-- Words that spell lists of numbers, and the one word that spells each.
 use Rattle.std.proofs.Common.{map, codes, ◌≡◌, ◌≢◌, ◌∙◌, sym, ap, refl, ◌<◌, ◌^◌, ℕ, List, [], ◌∷◌, length, get_or, true, inl, inr, arith, eqb}
 use Rattle.std.specs.Prelude.{Some, None}
 use Rattle.std.specs.List.{All, list_all, join_with_byte}
@@ -14,7 +14,7 @@ use Rattle.arrow2_script.specs.Words.{number_of, is_number, numbers_said, number
 use Rattle.arrow2_script.proofs.LineLemmas.{parts_all, parts-joined, parts-last}
 use Rattle.arrow2_script.proofs.WordLemmas.{number_of-decimal, decimal-number_of, some_or_none, at_word, both, other_than, no_dash}
 
--- a word that is a number says the number of its digits
+-- a word that is a number is parsed as the number of its digits
 pub number-said : (word : List ℕ) → is_number word ≡ true → (number_of word ≡ Some (digits_value 10 word)) × (digits_value 10 word < 2 ^ 64) × (decimal (digits_value 10 word) ≡ word)
 number-said word e = elim (some_or_none (number_of word)) [
   | inl p ↦
@@ -24,7 +24,7 @@ number-said word e = elim (some_or_none (number_of word)) [
   | inr none ↦ let never = rw none at e in cc
 ]
 
--- the first of such words says the first of their numbers
+-- the first of such words spells the first of their numbers
 pub first_number : (words others : List (List ℕ)) (word : List ℕ) (n : ℕ) → words ≡ word ∷ others → list_all is_number words ≡ true → number_of word ≡ Some n → numbers_said words ≡ n ∷ numbers_said others
 first_number words others word n e all says =
     let value = (number-said word (both (is_number word) (list_all is_number others) (ap (list_all is_number) (sym e) ∙ all)).0).0 in

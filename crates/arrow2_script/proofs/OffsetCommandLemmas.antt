@@ -1,4 +1,4 @@
--- Words say one command on offsets at most, and each is spelled in one way.
+-- Words spell one command on offsets at most, and each is spelled in one way.
 use Rattle.std.proofs.Common.{◌≡◌, refl, ℕ, List, ◌∷◌, true, codes}
 use Rattle.std.specs.Prelude.{Some, None}
 use Rattle.std.specs.List.{list_all}
@@ -13,7 +13,7 @@ use Rattle.arrow2_script.proofs.SpellingLemmas.{is_word}
 use Rattle.arrow2_script.proofs.WordLemmas.{number_of-decimal, slot_of-decimal}
 use Rattle.arrow2_script.proofs.NumberListLemmas.{numbers_of-text}
 
--- words that say a command on offsets are its words
+-- words that are parsed as a command on offsets are its words
 pub offset_says : (name : List ℕ) (words : List (List ℕ)) (command : OffsetCommand) → offset_named name words ≡ Some command → Says OffsetFits offset_words name words command
 unfolding offset_named frozen_offsets_named is_word
 offset_says name words command =
@@ -28,7 +28,7 @@ offset_says name words command =
     at_row says (codes "zip") refl (more slots (more slots no_more)) (λ p. Zip p.0 p.1.0) (λ p f w. ((f.0, f.1.0), refl, w)) words name command None (
     λ e. absurd (none-some command e)))))))))
 
--- the words of a command on offsets say it
+-- the words of a command on offsets are parsed as it
 pub offset_of-words : (command : OffsetCommand) → OffsetFits command → command_of (offset_words command) ≡ Some (Kinds.Offset command)
 unfolding command_of named bitmap_named frozen_named offset_named frozen_offsets_named
 offset_of-words (New slot first) fits = rw (slot_of-decimal slot fits.0, number_of-decimal first fits.1) refl

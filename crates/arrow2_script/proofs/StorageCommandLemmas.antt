@@ -1,4 +1,4 @@
--- Words say one command on stored bits at most, and each is spelled in one way.
+-- Words spell one command on stored bits at most, and each is spelled in one way.
 use Rattle.std.proofs.Common.{◌≡◌, refl, ℕ, List, ◌∷◌, true, codes}
 use Rattle.std.specs.Prelude.{Some, None}
 use Rattle.std.specs.List.{list_all}
@@ -13,7 +13,7 @@ use Rattle.arrow2_script.proofs.SpellingLemmas.{is_word}
 use Rattle.arrow2_script.proofs.WordLemmas.{bit_of-byte, number_of-decimal, slot_of-decimal, width_of-word}
 use Rattle.arrow2_script.proofs.HexLemmas.{bytes_of-text}
 
--- words that say a command on stored bits are its words
+-- words that are parsed as a command on stored bits are its words
 pub storage_says : (name : List ℕ) (words : List (List ℕ)) (command : StorageCommand) → storage_named name words ≡ Some command → Says StorageFits storage_words name words command
 unfolding storage_named is_word
 storage_says name words command =
@@ -24,7 +24,7 @@ storage_says name words command =
     at_row says (codes "runs") refl (more slots no_more) (λ p. Runs p.0) (λ p f w. (f.0, refl, w)) words name command None (
     λ e. absurd (none-some command e)))))
 
--- the words of a command on stored bits say it
+-- the words of a command on stored bits are parsed as it
 pub storage_of-words : (command : StorageCommand) → StorageFits command → command_of (storage_words command) ≡ Some (Kinds.Storage command)
 unfolding command_of named bitmap_named frozen_named offset_named frozen_offsets_named value_named storage_named
 storage_of-words (Raw slot bytes offset length) fits = rw (slot_of-decimal slot fits.0, bytes_of-text bytes fits.1, number_of-decimal offset fits.2, number_of-decimal length fits.3) refl

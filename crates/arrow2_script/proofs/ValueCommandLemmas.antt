@@ -1,4 +1,4 @@
--- Words say one command on values at most, and each is spelled in one way.
+-- Words spell one command on values at most, and each is spelled in one way.
 use Rattle.std.proofs.Common.{◌≡◌, refl, ℕ, List, ◌∷◌, true, codes}
 use Rattle.std.specs.Prelude.{Some, None}
 use Rattle.std.specs.List.{list_all}
@@ -12,7 +12,7 @@ use Rattle.arrow2_script.proofs.KindLemmas.{slots, more, no_more, at_row, Says}
 use Rattle.arrow2_script.proofs.SpellingLemmas.{is_word}
 use Rattle.arrow2_script.proofs.WordLemmas.{slot_of-decimal}
 
--- words that say a command on values are its words
+-- words that are parsed as a command on values are its words
 pub value_says : (name : List ℕ) (words : List (List ℕ)) (command : ValueCommand) → value_named name words ≡ Some command → Says ValueFits value_words name words command
 unfolding value_named is_word
 value_says name words command =
@@ -21,7 +21,7 @@ value_says name words command =
     at_row says (codes "eq") refl (more slots (more slots no_more)) (λ p. Compare p.0 p.1.0) (λ p f w. ((f.0, f.1.0), refl, w)) words name command None (
     λ e. absurd (none-some command e)))
 
--- the words of a command on values say it
+-- the words of a command on values are parsed as it
 pub value_of-words : (command : ValueCommand) → ValueFits command → command_of (value_words command) ≡ Some (Kinds.Value command)
 unfolding command_of named bitmap_named frozen_named offset_named frozen_offsets_named value_named
 value_of-words (Copy from to) fits = rw (slot_of-decimal from fits.0, slot_of-decimal to fits.1) refl

@@ -1,4 +1,4 @@
--- What a word says, and the one word that says it.
+-- The value of a word, and the one word that spells it.
 use Rattle.std.proofs.Common.{map, codes, eqb, ◌≡◌, ◌∙◌, sym, ap, subst, refl, ◌<◌, ◌≤◌, ◌^◌, ℕ, zero, suc, List, [], ◌∷◌, length, get_or, Bool, true, false, cond, ◌&&◌, ◌⊎◌, inl, inr, arith, lit<}
 use Rattle.std.specs.Prelude.{Option, Some, None, option_map, IfSome, IfNone, nat_lt}
 use Rattle.std.specs.Str.{bytes_eq}
@@ -13,7 +13,7 @@ use Rattle.arrow2_script.specs.declared.words.Width.{Width}
 use Rattle.arrow2_script.specs.declared.words.Width.TheVariants.{Bits8, Bits16, Bits32, Bits64}
 use Rattle.arrow2_script.specs.Words.{number_of, below_of, slot_of, optional_slot_word, optional_slot_of, width_word, width_of, bit_of, bits_of, bit_byte, bits_text, is_bit_byte, items_said}
 
--- a number's own word says it
+-- a number's own word spells it
 pub number_of-decimal : (n : ℕ) → n < 2 ^ 64 → number_of (decimal n) ≡ Some n
 unfolding number_of
 number_of-decimal n h =
@@ -27,7 +27,7 @@ both true true e = (refl, refl)
 both true false e = cc
 both false b e = cc
 
--- a word that says a number is its decimal digits
+-- a word that spells a number is its decimal digits
 pub decimal-number_of : (word : List ℕ) (n : ℕ) → number_of word ≡ Some n → (n < 2 ^ 64) × (decimal n ≡ word)
 unfolding number_of
 decimal-number_of word n e =
@@ -37,7 +37,7 @@ decimal-number_of word n e =
     let fits : v < 2 ^ 64 = grind (arith, q.0) in
     (rw (← p.1) fits, rw (← p.1) ((bytes_eq-Decides (decimal v) word).0 q.1))
 
--- what a value was mapped from
+-- the value before it was mapped
 pub mapped : {A B : Type 0} (f : A → B) (o : Option A) (y : B) → option_map f o ≡ Some y → (x : A) × (o ≡ Some x) × (f x ≡ y)
 mapped f None y e = absurd (none-some y e)
 mapped f (Some x) y e = (x, refl, same_Some (f x) y e)
@@ -47,7 +47,7 @@ pub some_or_none : {X : Type 0} (o : Option X) → ((x : X) × (o ≡ Some x)) �
 some_or_none None = inr refl
 some_or_none (Some x) = inl (x, refl)
 
--- a word says no number where it is no number's digits
+-- a word spells no number where it is no number's digits
 pub number_of-none : (word : List ℕ) → ((n : ℕ) → n < 2 ^ 64 → decimal n ≡ word → ⊥) → number_of word ≡ None
 number_of-none word never = elim (some_or_none (number_of word)) [
   | inl p ↦ let d = decimal-number_of word p.0 p.1 in absurd (never p.0 d.0 d.1)
@@ -111,7 +111,8 @@ pub choice : {X : Type 0} (b : Bool) (x y z : X) → cond b x y ≡ z → ((b �
 choice true x y z e = inl (refl, e)
 choice false x y z e = inr (refl, e)
 
--- a row of a table of words: what holds of the value beside a known word, and of what the next rows say, holds of the value
+-- a row of a table of words: a fact that holds of the value of a known word, and of those of the next rows, holds of
+-- the value
 pub at_word : {A : Type 0} (P : A → Type 0) (word known : List ℕ) (one x : A) (next : Option A) → (word ≡ known → P one) → (next ≡ Some x → P x) → cond (bytes_eq word known) (Some one) next ≡ Some x → P x
 at_word P word known one x next first others e = elim (choice (bytes_eq word known) (Some one) next (Some x) e) [
   | inl p ↦ subst P (same_Some one x p.1) (first ((bytes_eq-Decides word known).0 p.0))
@@ -174,7 +175,7 @@ byte-bit_of word bit =
     let at = at_word (λ one. bit_byte one ∷ [] ≡ word) word in
     at (codes "0") false bit _ sym (at (codes "1") true bit _ sym (λ e. absurd (none-some bit e)))
 
--- the items that a byte for each item says, and back
+-- the items that are spelled by a byte each, and back
 items_said-text : (items : List Bool) → items_said (map bit_byte items) ≡ items
 items_said-text [] = refl
 items_said-text (true ∷ items) = ap (λ t. true ∷ t) (items_said-text items)

@@ -1,4 +1,4 @@
--- The commands of a script, by kind, and how each is spelled.
+-- The commands of a script, by group, and how each is spelled.
 use Rattle.std.specs.Prelude.{◌≡◌, ℕ, List, [], ◌∷◌, Option, None, option_map}
 use Rattle.std.specs.Option.{option_or}
 use Rattle.std.specs.List.{join_with_byte}
@@ -13,7 +13,7 @@ unfoldable pub use Rattle.arrow2_script.specs.ArrayCommands.{array_named, array_
 use Rattle.arrow2_script.specs.declared.command.Command.{Command}
 use Rattle.arrow2_script.specs.declared.command.Command.TheVariants.{Bitmap, Offset, Value, Storage, Kernel, Growth, Array}
 
--- the command that the words after a name say, of whichever kind
+-- the command that the words after a name spell, of whichever group
 unfoldable pub named : List ℕ → List (List ℕ) → Option Command
 named name words =
     option_or (option_map Bitmap (bitmap_named name words)) (
@@ -24,12 +24,12 @@ named name words =
     option_or (option_map Growth (growth_named name words)) (
     option_map Array (array_named name words)))))))
 
--- the command that words say
+-- the command that words spell
 unfoldable pub command_of : List (List ℕ) → Option Command
 command_of [] = None
 command_of (name ∷ words) = named name words
 
--- the command that a line says, if it says one
+-- the command that a line spells, if it spells one
 unfoldable pub command_in : List ℕ → Option Command
 command_in line = command_of (words_of line)
 

@@ -7,7 +7,7 @@ unfoldable pub lines_of : List ℕ → List (List ℕ)
 lines_of [] = []
 lines_of (b ∷ bytes) = if b == 10 then [] ∷ lines_of bytes else onto_first b (lines_of bytes)
 
--- the parts of a list of bytes between the bytes of one kind, empty ones too
+-- the parts of a list of bytes between occurrences of one byte, empty ones too
 unfoldable pub parts_between : ℕ → List ℕ → List (List ℕ)
 parts_between byte bytes = slice_split (λ b. b == byte) bytes
 

@@ -8,7 +8,7 @@ use Rattle.arrow2_script.specs.Words.{number_of, slot_of, numbers_of, numbers_te
 use Rattle.arrow2_script.specs.declared.offset_command.OffsetCommand.{OffsetCommand}
 use Rattle.arrow2_script.specs.declared.offset_command.OffsetCommand.TheVariants.{New, Push, Pop, Extend, Offsets, Freeze, Slice, Zip}
 
--- the command that frozen offsets take, as those that grow take one of them: the one that the words after a name say
+-- the command that frozen offsets take, as those that grow take one of them: the one that the words after a name spell
 unfoldable pub frozen_offsets_named : List ℕ → List (List ℕ) → Option OffsetCommand
 frozen_offsets_named name words =
     if bytes_eq name (codes "olist") then option_map (λ p. Offsets p.0) ((slot_of >> no_words) words)
@@ -16,7 +16,7 @@ frozen_offsets_named name words =
     else if bytes_eq name (codes "zip") then option_map (λ p. Zip p.0 p.1.0) ((slot_of >> slot_of >> no_words) words)
     else None
 
--- the command on offsets that the words after a name say
+-- the command on offsets that the words after a name spell
 unfoldable pub offset_named : List ℕ → List (List ℕ) → Option OffsetCommand
 offset_named name words =
     if bytes_eq name (codes "onew") then option_map (λ p. New p.0 p.1.0) ((slot_of >> number_of >> no_words) words)

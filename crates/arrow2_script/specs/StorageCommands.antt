@@ -8,7 +8,7 @@ use Rattle.arrow2_script.specs.Words.{number_of, slot_of, bit_of, bit_byte, widt
 use Rattle.arrow2_script.specs.declared.storage_command.StorageCommand.{StorageCommand}
 use Rattle.arrow2_script.specs.declared.storage_command.StorageCommand.TheVariants.{Raw, Set, Words, Runs}
 
--- the command on stored bits that the words after a name say
+-- the command on stored bits that the words after a name spell
 unfoldable pub storage_named : List ℕ → List (List ℕ) → Option StorageCommand
 storage_named name words =
     if bytes_eq name (codes "raw") then option_map (λ p. Raw p.0 p.1.0 p.1.1.0 p.1.1.1.0) ((slot_of >> bytes_of >> number_of >> number_of >> no_words) words)

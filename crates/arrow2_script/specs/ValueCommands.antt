@@ -1,4 +1,4 @@
--- The commands on values of any kind, and how each is spelled.
+-- The commands on values of any type, and how each is spelled.
 use Rattle.std.specs.Prelude.{◌<◌, ℕ, List, [], ◌∷◌, codes, Option, None, option_map, if◌then◌else◌}
 use Rattle.std.specs.Str.{bytes_eq}
 use Rattle.std.specs.Fmt.{decimal}
@@ -7,7 +7,7 @@ use Rattle.arrow2_script.specs.Words.{slot_of}
 use Rattle.arrow2_script.specs.declared.value_command.ValueCommand.{ValueCommand}
 use Rattle.arrow2_script.specs.declared.value_command.ValueCommand.TheVariants.{Copy, Compare}
 
--- the command on values that the words after a name say
+-- the command on values that the words after a name spell
 unfoldable pub value_named : List ℕ → List (List ℕ) → Option ValueCommand
 value_named name words =
     if bytes_eq name (codes "copy") then option_map (λ p. Copy p.0 p.1.0) ((slot_of >> slot_of >> no_words) words)

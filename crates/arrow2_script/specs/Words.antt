@@ -1,4 +1,4 @@
--- What a word says, and the word that says it.
+-- The value of a word, and the word that spells it.
 use Rattle.std.specs.Prelude.{ℕ, ◌+◌, ◌-◌, ◌*◌, ◌/◌, ◌%◌, ◌^◌, ◌==◌, ◌&&◌, ◌||◌, nat_lt, Bool, true, false, List, [], ◌∷◌, length, map, codes, Option, Some, None, option_and_then, option_map, is_some, if◌then◌else◌}
 use Rattle.std.specs.List.{list_all, join_with_byte, flat_map}
 use Rattle.std.specs.Str.{bytes_eq}
@@ -29,7 +29,7 @@ optional_slot_word (Some slot) = decimal slot
 unfoldable pub optional_slot_of : List ℕ → Option (Option ℕ)
 optional_slot_of word = if bytes_eq word (codes "-") then Some None else option_map Some (slot_of word)
 
--- how many bits a width is
+-- the number of bits of a width
 abbrev pub width_bits : Width → ℕ
 width_bits Bits8 = 8
 width_bits Bits16 = 16
@@ -69,7 +69,7 @@ bits_text (item ∷ items) = map bit_byte (item ∷ items)
 abbrev pub is_bit_byte : ℕ → Bool
 is_bit_byte byte = byte == 48 || byte == 49
 
--- the items that bytes `0` and `1` say
+-- the items that bytes `0` and `1` spell
 abbrev pub items_said : List ℕ → List Bool
 items_said bytes = map (λ byte. byte == 49) bytes
 
@@ -85,7 +85,7 @@ bits_of word =
 abbrev pub is_number : List ℕ → Bool
 is_number word = is_some (number_of word)
 
--- the numbers that words say
+-- the numbers that words spell
 abbrev pub numbers_said : List (List ℕ) → List ℕ
 numbers_said words = map (digits_value 10) words
 
@@ -105,7 +105,7 @@ numbers_of word =
 abbrev pub is_hex_digit : ℕ → Bool
 is_hex_digit byte = (nat_lt 47 byte && nat_lt byte 58) || (nat_lt 96 byte && nat_lt byte 103)
 
--- what a hexadecimal digit stands for
+-- the value of a hexadecimal digit
 abbrev pub hex_value : ℕ → ℕ
 hex_value byte = if nat_lt byte 58 then byte - 48 else byte - 87
 
@@ -113,7 +113,7 @@ hex_value byte = if nat_lt byte 58 then byte - 48 else byte - 87
 abbrev pub hex_digit : ℕ → ℕ
 hex_digit n = if nat_lt n 10 then n + 48 else n + 87
 
--- the bytes that hexadecimal digits say, two digits each, that of the higher half first
+-- the bytes that hexadecimal digits spell, two digits each, that of the higher half first
 unfoldable pub bytes_said : List ℕ → List ℕ
 bytes_said [] = []
 bytes_said (high ∷ []) = []

@@ -1,16 +1,16 @@
-//! The words behind a command's name.
+//! The words after a command's name.
 ghost use Rattle.std.specs.Prelude.{◌≡◌, ℕ, List, Option};
 ghost use Rattle.arrow2_script.specs.Arguments.{◌>>◌, no_words};
 
 use crate::lines::Parts;
 use crate::words::Word;
 
-/// Values that words say, one a word, and no word more: a pair of the first one and the others, or `()` for none.
+/// The values of words, one a word, and no word more: a pair of the first one and the others, or `()` for none.
 pub(crate) trait Values<'a>: Drop {
-    // What words say.
+    // The values of words.
     ghost say: { List (List ℕ) → Option Self };
 
-    /// What the words say that are left.
+    /// Returns the values of the remaining words.
     fn read(parts: Parts<'a>) -> Option<Self>
         ensures { result ≡ say parts.entry };
 }

@@ -1,4 +1,4 @@
-//! The commands on boolean arrays, and which one the words of a line say.
+//! The commands on boolean arrays, and their parser from the words of a line.
 ghost use Rattle.std.specs.Prelude.{◌≡◌};
 ghost use Rattle.arrow2_script.specs.ArrayCommands.{array_named};
 
@@ -9,25 +9,25 @@ use crate::words::SlotIndex;
 /// A command on boolean arrays.
 #[derive(Drop)]
 pub enum ArrayCommand {
-    /// `anew d v m`: slot d holds a boolean array, the frozen bitmap of slot v with the validity in the frozen bitmap of
-    /// slot m, or with none.
+    /// `anew d v m`: slot d holds a boolean array, the frozen bitmap of slot v with the validity in the frozen bitmap
+    /// of slot m, or with none.
     New(SlotIndex, SlotIndex, Option<SlotIndex>),
     /// `alist s`: the items of the boolean array of slot s as a text.
     List(SlotIndex),
-    /// `anulls s`: how many items of the boolean array of slot s are null.
+    /// `anulls s`: the number of null items of the boolean array of slot s.
     Nulls(SlotIndex),
     /// `aslice s i n`: the boolean array of slot s is cut to its n items from item i on.
     Slice(SlotIndex, u64, u64),
-    /// `aand d a b`: slot d holds a boolean array that says, item by item, whether the boolean arrays of slots a and b are
-    /// both true, by Kleene's logic.
+    /// `aand d a b`: slot d holds the boolean array that is true, item by item, where the boolean arrays of slots a and
+    /// b are both true, by Kleene's logic.
     And(SlotIndex, SlotIndex, SlotIndex),
-    /// `aor d a b`: slot d holds a boolean array that says, item by item, whether one of the boolean arrays of slots a and b
-    /// is true, or both, by Kleene's logic.
+    /// `aor d a b`: slot d holds the boolean array that is true, item by item, where one of the boolean arrays of slots
+    /// a and b is true, or both, by Kleene's logic.
     Or(SlotIndex, SlotIndex, SlotIndex),
 }
 
 impl ArrayCommand {
-    /// The command of this name, with these words behind it.
+    /// Returns the command of this name, with these words after it.
     #[tactic(auto, unfolding(crate::specs::ArrayCommands::array_named))]
     pub fn read(name: &[u8], parts: Parts<'_>) -> Option<ArrayCommand>
         ensures { result ≡ array_named name.now parts.entry }

@@ -1,4 +1,4 @@
-//! The commands on bitmaps, and which one the words of a line say.
+//! The commands on bitmaps, and their parser from the words of a line.
 ghost use Rattle.std.specs.Prelude.{◌≡◌};
 ghost use Rattle.arrow2_script.specs.BitmapCommands.{bitmap_named, frozen_named};
 
@@ -23,14 +23,14 @@ pub enum BitmapCommand<'a> {
     Thaw(SlotIndex),
     /// `slice s i n`: the frozen bitmap of slot s is cut to its n items from item i on.
     Slice(SlotIndex, u64, u64),
-    /// `count s`: how many items of slot s are false.
+    /// `count s`: the number of false items of slot s.
     Count(SlotIndex),
     /// `bits s`: the items of slot s as a text.
     Bits(SlotIndex),
 }
 
 impl<'a> BitmapCommand<'a> {
-    /// The command of this name, with these words behind it.
+    /// Returns the command of this name, with these words after it.
     #[tactic(auto, unfolding(crate::specs::BitmapCommands::bitmap_named))]
     pub fn read(name: &[u8], parts: Parts<'a>) -> Option<BitmapCommand<'a>>
         ensures { result ≡ bitmap_named name.now parts.entry }
@@ -52,7 +52,7 @@ impl<'a> BitmapCommand<'a> {
         }
     }
 
-    /// The command of this name that a frozen bitmap takes.
+    /// Returns the command of this name that a frozen bitmap takes.
     #[tactic(auto, unfolding(crate::specs::BitmapCommands::frozen_named))]
     fn read_frozen(name: &[u8], parts: Parts<'a>) -> Option<BitmapCommand<'a>>
         ensures { result ≡ frozen_named name.now parts.entry }

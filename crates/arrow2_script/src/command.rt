@@ -1,4 +1,4 @@
-//! The commands of a script, by kind, and which one a line says.
+//! The commands of a script, by group, and their parser from a line.
 ghost use Rattle.std.specs.Prelude.{◌≡◌};
 ghost use Rattle.arrow2_script.specs.Commands.{named, command_in};
 
@@ -18,7 +18,7 @@ pub enum Command<'a> {
     Bitmap(BitmapCommand<'a>),
     /// A command on offsets.
     Offset(OffsetCommand<'a>),
-    /// A command on values of any kind.
+    /// A command on values of any type.
     Value(ValueCommand),
     /// A command on the bits in which bitmaps stand.
     Storage(StorageCommand<'a>),
@@ -30,7 +30,7 @@ pub enum Command<'a> {
     Array(ArrayCommand),
 }
 
-/// The command of this name, with these words behind it.
+/// Returns the command of this name, with these words after it.
 #[tactic(auto, unfolding(crate::specs::Commands::named))]
 fn read_named<'a>(name: &[u8], parts: Parts<'a>) -> Option<Command<'a>>
     ensures { result ≡ named name.now parts.entry }
@@ -57,7 +57,7 @@ fn read_named<'a>(name: &[u8], parts: Parts<'a>) -> Option<Command<'a>>
     Some(Command::Array(command))
 }
 
-/// The command that a line says, if it says one.
+/// Returns the command of a line, if it is one.
 #[tactic(auto, using(crate::proofs::CommandLemmas::parsing))]
 pub fn parse<'a>(line: &'a [u8]) -> Option<Command<'a>>
     ensures { result ≡ command_in line.entry.now }

@@ -1,4 +1,4 @@
-//! The commands by which bitmaps grow by many items, and which one the words of a line say.
+//! The commands by which bitmaps grow by many items, and their parser from the words of a line.
 ghost use Rattle.std.specs.Prelude.{◌≡◌};
 ghost use Rattle.arrow2_script.specs.GrowthCommands.{growth_named};
 
@@ -11,12 +11,12 @@ use crate::words::SlotIndex;
 pub enum GrowthCommand {
     /// `fill s n bit`: the growing bitmap of slot s gets the bit n times more.
     Fill(SlotIndex, u64, bool),
-    /// `append d s`: the growing bitmap of slot d gets the items of the frozen bitmap of slot s behind its own.
+    /// `append d s`: the items of the frozen bitmap of slot s are appended to the growing bitmap of slot d.
     Append(SlotIndex, SlotIndex),
 }
 
 impl GrowthCommand {
-    /// The command of this name, with these words behind it.
+    /// Returns the command of this name, with these words after it.
     #[tactic(auto, unfolding(crate::specs::GrowthCommands::growth_named))]
     pub fn read(name: &[u8], parts: Parts<'_>) -> Option<GrowthCommand>
         ensures { result ≡ growth_named name.now parts.entry }

@@ -1,4 +1,4 @@
-//! The commands that combine bitmaps by truth tables, and which one the words of a line say.
+//! The commands that combine bitmaps by truth tables, and their parser from the words of a line.
 ghost use Rattle.std.specs.Prelude.{◌≡◌};
 ghost use Rattle.arrow2_script.specs.KernelCommands.{kernel_named, operator_named, table_named};
 
@@ -9,17 +9,17 @@ use crate::words::{Below, SlotIndex, Width};
 /// A command that combines bitmaps.
 #[derive(Drop)]
 pub enum KernelCommand {
-    /// `and d a b`, `table1 d t a` and their like: slot d holds, frozen, what a kernel makes of frozen bitmaps.
+    /// `and d a b`, `table1 d t a` and their like: slot d holds, frozen, the result of a kernel for frozen bitmaps.
     Make(SlotIndex, Kernel),
-    /// `inplace1 s t w`: the growing bitmap of slot s becomes the answers of table t, the same for each
-    /// width w of words.
+    /// `inplace1 s t w`: the growing bitmap of slot s becomes the outputs of table t, the same for each width w of
+    /// words.
     AssignUnary(SlotIndex, Below<4>, Width),
-    /// `inplace2 s t w a`: the growing bitmap of slot s becomes the answers of table t for it and the frozen bitmap of slot
-    /// a, the same for each width w of words.
+    /// `inplace2 s t w a`: the growing bitmap of slot s becomes the outputs of table t for it and the frozen bitmap of
+    /// slot a, the same for each width w of words.
     AssignBinary(SlotIndex, Below<16>, Width, SlotIndex),
 }
 
-/// What makes a bitmap of the frozen bitmaps of slots.
+/// The kernels that make a bitmap of the frozen bitmaps of slots.
 #[derive(Drop)]
 pub enum Kernel {
     /// Item by item, whether both are true.
@@ -30,18 +30,18 @@ pub enum Kernel {
     Xor(SlotIndex, SlotIndex),
     /// Item by item, whether it is false.
     Not(SlotIndex),
-    /// The answers of a table of one input.
+    /// The outputs of a table of one input.
     Unary(Below<4>, SlotIndex),
-    /// The answers of a table of two inputs.
+    /// The outputs of a table of two inputs.
     Binary(Below<16>, SlotIndex, SlotIndex),
-    /// The answers of a table of three inputs.
+    /// The outputs of a table of three inputs.
     Ternary(Below<256>, SlotIndex, SlotIndex, SlotIndex),
-    /// The answers of a table of four inputs.
+    /// The outputs of a table of four inputs.
     Quaternary(Below<65536>, SlotIndex, SlotIndex, SlotIndex, SlotIndex),
 }
 
 impl KernelCommand {
-    /// The command of this name, with these words behind it.
+    /// Returns the command of this name, with these words after it.
     #[tactic(auto, unfolding(crate::specs::KernelCommands::kernel_named))]
     pub fn read(name: &[u8], parts: Parts<'_>) -> Option<KernelCommand>
         ensures { result ≡ kernel_named name.now parts.entry }
@@ -57,7 +57,7 @@ impl KernelCommand {
         }
     }
 
-    /// The command that makes a bitmap by the operator, or else the table, of this name.
+    /// Returns the command that makes a bitmap by the operator, or else the table, of this name.
     #[tactic(auto, unfolding(crate::specs::KernelCommands::operator_named))]
     fn read_operator(name: &[u8], parts: Parts<'_>) -> Option<KernelCommand>
         ensures { result ≡ operator_named name.now parts.entry }
@@ -79,7 +79,7 @@ impl KernelCommand {
         }
     }
 
-    /// The command that makes a bitmap by a table with as many inputs as this name says.
+    /// Returns the command that makes a bitmap by a table, with the number of inputs that this name has.
     #[tactic(auto, unfolding(crate::specs::KernelCommands::table_named))]
     fn read_table(name: &[u8], parts: Parts<'_>) -> Option<KernelCommand>
         ensures { result ≡ table_named name.now parts.entry }

@@ -21,8 +21,8 @@ pub fn words_of_a_line()
         (words_of line ≡ words) ↔ AreWords line words }
 {}
 
-/// A word says a number, a slot, a slot or none, a table, a bit, a text of bits, a list of numbers, bytes or a width
-/// exactly where it is the one word that spells it.
+/// A word is parsed as a number, a slot, a slot or none, a table, a bit, a text of bits, a list of numbers, bytes or a
+/// width exactly where it is the one word that spells it.
 pub fn one_word_of_a_value()
     ensures number { (word : List ℕ) (n : ℕ) → (number_of word ≡ Some n) ↔
         ((n < 2 ^ 64) × (decimal n ≡ word)) }
@@ -45,7 +45,7 @@ pub fn one_word_of_a_value()
         (width_word width ≡ word) }
 {}
 
-/// A line says a command exactly where it is that command's words, joined by one space.
+/// A line is parsed as a command exactly where it is that command's words, joined by one space.
 pub fn one_line_of_a_command()
     ensures { (line : List ℕ) (command : Command) → (command_in line ≡ Some command) ↔
         IsSpelling line command }

@@ -1,4 +1,4 @@
-//! The script's grammar: its lines, their words, and the commands that they say.
+//! The script's grammar: its lines, their words, and the commands that they spell.
 #![tactic(auto)]
 
 mod arguments;

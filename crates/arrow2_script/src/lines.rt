@@ -7,7 +7,7 @@ ghost use Rattle.arrow2_script.specs.Lines.{lines_of, parts_between, parts_left}
 use memchr::memchr;
 use std::marker::Model;
 
-/// The bytes before the first `byte`, and those behind it where there is one.
+/// Returns the bytes before the first `byte`, and those after it where there is one.
 fn cut_at(bytes: &[u8], byte: u8) -> (&[u8], Option<&[u8]>)
     ensures free { All (λ b. b ≢ byte) result.0.now }
     ensures joined { MatchOption result.1 (bytes.now ≡ result.0.now) (λ after.
@@ -20,7 +20,7 @@ fn cut_at(bytes: &[u8], byte: u8) -> (&[u8], Option<&[u8]>)
     (before, Some(&rest[1..]))
 }
 
-/// The first line of a script that is not empty, and the rest of the script behind its line end.
+/// Returns the first line of a script that is not empty, and the rest of the script after its line end.
 #[tactic(auto, using(crate::proofs::LineLemmas::cutting))]
 pub fn next_line(script: &[u8]) -> (&[u8], &[u8])
     requires { 0 < length script.now }
@@ -34,7 +34,7 @@ pub fn next_line(script: &[u8]) -> (&[u8], &[u8])
     }
 }
 
-/// The parts of some bytes between the bytes of one kind that are still to come, empty ones too.
+/// The parts of some bytes between occurrences of one byte that are still to come, empty ones too.
 #[derive(Drop)]
 pub struct Parts<'a> {
     byte: u8,
@@ -49,7 +49,7 @@ impl<'a> Model for Parts<'a> {
 }
 
 impl<'a> Parts<'a> {
-    /// All parts between bytes `byte`.
+    /// Returns all parts between bytes `byte`.
     pub fn new(bytes: &'a [u8], byte: u8) -> Parts<'a>
         ensures { result ≡ parts_between byte bytes.entry.now }
     {
@@ -60,7 +60,7 @@ impl<'a> Parts<'a> {
         }
     }
 
-    /// No parts.
+    /// Returns no parts.
     pub fn none() -> Parts<'a>
         ensures { result ≡ [] }
     {
@@ -71,7 +71,7 @@ impl<'a> Parts<'a> {
         }
     }
 
-    /// A second walk over the same parts.
+    /// Returns a second iterator over the same parts.
     pub fn again(&self) -> Parts<'a>
         ensures { result ≡ self.now }
     {

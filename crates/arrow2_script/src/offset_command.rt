@@ -1,4 +1,4 @@
-//! The commands on offsets, and which one the words of a line say.
+//! The commands on offsets, and their parser from the words of a line.
 ghost use Rattle.std.specs.Prelude.{◌≡◌};
 ghost use Rattle.arrow2_script.specs.OffsetCommands.{offset_named, frozen_offsets_named};
 
@@ -9,7 +9,7 @@ use crate::words::{NumberText, SlotIndex};
 /// A command on offsets.
 #[derive(Drop)]
 pub enum OffsetCommand<'a> {
-    /// `onew s x`: slot s holds growing offsets, of which x is the only one.
+    /// `onew s x`: slot s holds growing offsets whose only offset is x.
     New(SlotIndex, u64),
     /// `opush s n`: the growing offsets of slot s get one more length.
     Push(SlotIndex, u64),
@@ -28,7 +28,7 @@ pub enum OffsetCommand<'a> {
 }
 
 impl<'a> OffsetCommand<'a> {
-    /// The command of this name, with these words behind it.
+    /// Returns the command of this name, with these words after it.
     #[tactic(auto, unfolding(crate::specs::OffsetCommands::offset_named))]
     pub fn read(name: &[u8], parts: Parts<'a>) -> Option<OffsetCommand<'a>>
         ensures { result ≡ offset_named name.now parts.entry }
@@ -53,7 +53,7 @@ impl<'a> OffsetCommand<'a> {
         }
     }
 
-    /// The command of this name that frozen offsets take.
+    /// Returns the command of this name that frozen offsets take.
     #[tactic(auto, unfolding(crate::specs::OffsetCommands::frozen_offsets_named))]
     fn read_frozen(name: &[u8], parts: Parts<'a>) -> Option<OffsetCommand<'a>>
         ensures { result ≡ frozen_offsets_named name.now parts.entry }

@@ -1,4 +1,4 @@
-//! The commands on the bits in which bitmaps stand, and which one the words of a line say.
+//! The commands on the stored bits of bitmaps, and their parser from the words of a line.
 ghost use Rattle.std.specs.Prelude.{◌≡◌};
 ghost use Rattle.arrow2_script.specs.StorageCommands.{storage_named};
 
@@ -15,12 +15,12 @@ pub enum StorageCommand<'a> {
     Set(SlotIndex, u64, bool),
     /// `words s w`: the words of w bits of the frozen bitmap of slot s.
     Words(SlotIndex, Width),
-    /// `runs s`: the runs of set items of the frozen bitmap of slot s.
+    /// `runs s`: the runs of set bits of the frozen bitmap of slot s.
     Runs(SlotIndex),
 }
 
 impl<'a> StorageCommand<'a> {
-    /// The command of this name, with these words behind it.
+    /// Returns the command of this name, with these words after it.
     #[tactic(auto, unfolding(crate::specs::StorageCommands::storage_named))]
     pub fn read(name: &[u8], parts: Parts<'a>) -> Option<StorageCommand<'a>>
         ensures { result ≡ storage_named name.now parts.entry }

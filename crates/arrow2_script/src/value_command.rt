@@ -1,4 +1,4 @@
-//! The commands on values of any kind, and which one the words of a line say.
+//! The commands on values of any type, and their parser from the words of a line.
 ghost use Rattle.std.specs.Prelude.{◌≡◌};
 ghost use Rattle.arrow2_script.specs.ValueCommands.{value_named};
 
@@ -6,7 +6,7 @@ use crate::arguments::Values;
 use crate::lines::Parts;
 use crate::words::SlotIndex;
 
-/// A command on values of any kind.
+/// A command on values of any type.
 #[derive(Drop)]
 pub enum ValueCommand {
     /// `copy s d`: slot d holds the same frozen bitmap, frozen offsets or boolean array as slot s.
@@ -16,7 +16,7 @@ pub enum ValueCommand {
 }
 
 impl ValueCommand {
-    /// The command of this name, with these words behind it.
+    /// Returns the command of this name, with these words after it.
     #[tactic(auto, unfolding(crate::specs::ValueCommands::value_named))]
     pub fn read(name: &[u8], parts: Parts<'_>) -> Option<ValueCommand>
         ensures { result ≡ value_named name.now parts.entry }

@@ -1,4 +1,4 @@
-//! What a word of a line says.
+//! The value of a word of a line.
 ghost use Rattle.std.specs.Prelude.{◌≡◌, ◌<◌, ◌^◌, ◌↔◌, IfSome, IfNone, List, Bool, Option, ℕ, length, slice_index, IsTrue};
 ghost use Rattle.arrow2_script.specs.Words.{number_of, below_of, width_of, optional_slot_of, bit_of, bits_of, is_bit_byte, items_said, is_number, numbers_of, is_hex_digit, hex_value, bytes_said, bytes_of};
 ghost use Rattle.std.specs.Iterator.{YieldsFirst, item_count};
@@ -8,12 +8,12 @@ ghost use Rattle.std.specs.Str.Parse.{AllDigits, digits_value};
 use crate::lines::Parts;
 use std::marker::Model;
 
-/// A value that one word says.
+/// A value that is spelled by one word.
 pub trait Word<'a>: Drop {
-    // What each word says, where it says such a value.
+    // The value of each word, where it spells one of this type.
     ghost says: { List ℕ → Option Self };
 
-    /// The value that a word says.
+    /// Returns the value of a word.
     fn said(word: &'a [u8]) -> Option<Self>
         ensures { result ≡ says word.entry.now };
 }
@@ -25,7 +25,7 @@ fn has_leading_zero(word: &[u8]) -> bool
     matches!(word, [b'0', _, ..])
 }
 
-/// The number that decimal digits say, or `None` where a byte is no digit or the number is above `u64::MAX`.
+/// Returns the number of decimal digits, or `None` where a byte is no digit or the number is above `u64::MAX`.
 fn digits_number(digits: &[u8]) -> Option<u64>
     ensures some { IfSome result (λ n. AllDigits 10 digits.now × (n ≡ digits_value 10 digits.now)) }
     ensures fits { IfSome result (λ n. n < 2 ^ 64) }
@@ -44,7 +44,7 @@ fn digits_number(digits: &[u8]) -> Option<u64>
     Some(number)
 }
 
-/// The number that a word says: decimal digits without a leading zero, except `0`, at most `u64::MAX`.
+/// Returns the number of a word: decimal digits without a leading zero, except `0`, at most `u64::MAX`.
 fn number(word: &[u8]) -> Option<u64>
     ensures { result ≡ number_of word.now }
 {
@@ -96,7 +96,7 @@ impl<const BOUND: usize> Model for Below<BOUND> {
 }
 
 impl<const BOUND: usize> Below<BOUND> {
-    /// The number.
+    /// Returns the number.
     pub fn get(self) -> usize
         ensures value { result ≡ self.entry }
         ensures in_range { result < BOUND }
@@ -119,10 +119,10 @@ impl<'a, const BOUND: usize> Word<'a> for Below<BOUND> {
     }
 }
 
-/// The place of a slot among the sixteen, the first one 0.
+/// The index of a slot among the sixteen, the first one 0.
 pub type SlotIndex = Below<16>;
 
-/// A slot that may be left out: `-` for none, or the slot's place.
+/// A slot that may be left out: `-` for none, or the slot's index.
 impl<'a> Word<'a> for Option<SlotIndex> {
     ghost says = { optional_slot_of };
 
@@ -136,7 +136,7 @@ impl<'a> Word<'a> for Option<SlotIndex> {
     }
 }
 
-/// How many bits a word has, as a script says it.
+/// The number of bits of a word, as a script spells it.
 #[derive(Clone, Copy, Debug, PartialEq, Eq)]
 pub enum Width {
     /// 8 bits.
@@ -189,7 +189,7 @@ impl<'a> Model for BitText<'a> {
 }
 
 impl<'a> BitText<'a> {
-    /// A byte for each item: `1` for true.
+    /// Returns a byte for each item: `1` for true.
     pub fn digits(&self) -> &'a [u8]
         ensures { items_said result.now ≡ self.now }
     {
@@ -226,7 +226,7 @@ fn are_hex_digits(bytes: &[u8]) -> bool
         .all(|byte| matches!(byte, b'0'..=b'9' | b'a'..=b'f'))
 }
 
-/// What a hexadecimal digit stands for.
+/// Returns the value of a hexadecimal digit.
 fn hex_digit_value(digit: u8) -> u8
     requires { IsTrue (is_hex_digit digit) }
     ensures value { result ≡ hex_value digit }
@@ -239,7 +239,7 @@ fn hex_digit_value(digit: u8) -> u8
     }
 }
 
-/// Bytes in hexadecimal: the walk over the bytes that are still to come.
+/// Bytes in hexadecimal: the iterator over the bytes that are still to come.
 #[derive(Drop)]
 pub struct HexText<'a> {
     digits: &'a [u8],
@@ -258,7 +258,7 @@ impl<'a> Model for HexText<'a> {
 }
 
 impl<'a> HexText<'a> {
-    /// How many bytes there are.
+    /// Returns the number of bytes.
     #[tactic(auto, using(crate::proofs::HexLemmas::hex_bytes))]
     pub fn len(&self) -> usize
         ensures { result ≡ length self.now }
@@ -304,7 +304,7 @@ impl Iterator for HexText<'_> {
     }
 }
 
-/// A list of numbers, the first one first: the walk over the numbers that are still to come. It gives them as
+/// A list of numbers, the first one first: the iterator over the numbers that are still to come. It gives them as
 /// lengths, since a `usize` has 64 bits.
 #[derive(Drop)]
 pub struct NumberText<'a> {

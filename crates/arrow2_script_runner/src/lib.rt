@@ -16,9 +16,9 @@ use std::io::{Read, Write};
 ///
 /// # Errors
 ///
-/// `Read` exactly where a call of the reader failed, `Write` exactly where a call of the writer
-/// did, and `Memory` where a request for memory was refused. After `Read` and `Memory` nothing was
-/// written; after `Write` what was written is a beginning of the replies.
+/// `Read` exactly where a call of the reader failed, `Write` exactly where a call of the writer did, and `Memory` where
+/// an allocation failed. After `Read` and `Memory` nothing was written; after `Write` the written bytes are a prefix of
+/// the replies.
 pub fn replay<R: Read, W: Write>(
     alloc: Global,
     reader: &mut Watched<R>,

@@ -1,4 +1,4 @@
--- What a fault prints.
+-- The text of a fault.
 use Rattle.std.specs.Prelude.{ℕ, List, codes}
 use Rattle.arrow2_streams.specs.declared.fault.ReplayFault.{ReplayFault}
 use Rattle.arrow2_streams.specs.declared.fault.ReplayFault.TheVariants.{Read, Memory, Write}

@@ -1,4 +1,4 @@
--- What contracts see of a watched reader or writer.
+-- The model of a watched reader or writer.
 use Rattle.std.specs.Prelude.{ℕ, Bool, true, ◌&&◌, ◌==◌, not, Result, Ok, Err}
 
 -- a reader or a writer, how many of its calls failed, and how many writes came after its last flush that went well

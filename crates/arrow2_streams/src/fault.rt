@@ -1,4 +1,4 @@
-//! What can end a replay.
+//! The faults that can end a replay.
 ghost use Rattle.std.specs.Prelude.{◌≡◌, Some, MatchResult};
 
 use std::alloc::{AllocError, AllocFailed};
@@ -6,14 +6,14 @@ use std::fmt;
 use std::io::Eprint;
 use std::process::ExitCode;
 
-/// What ended a replay before its end.
+/// The fault that ended a replay before its end.
 #[derive(Clone, Copy, Debug, PartialEq, Eq)]
 pub enum ReplayFault {
     /// A call of the reader failed. Nothing was written.
     Read,
-    /// A request for memory was refused. Nothing was written.
+    /// An allocation failed. Nothing was written.
     Memory,
-    /// A call of the writer failed. What was written is a beginning of the replies.
+    /// A call of the writer failed. The written bytes are a prefix of the replies.
     Write,
 }
 
@@ -44,7 +44,7 @@ impl From<AllocError> for ReplayFault {
     }
 }
 
-/// The value that found no room is dropped.
+/// The value that could not be stored is dropped.
 impl<T: Drop> From<AllocFailed<T>> for ReplayFault {
     ghost use Rattle.arrow2_streams.specs.declared.fault.ReplayFault.TheVariants.{Memory};
 
@@ -55,7 +55,7 @@ impl<T: Drop> From<AllocFailed<T>> for ReplayFault {
     }
 }
 
-/// The status that a program ends with after a replay. A fault is said on standard error, as one line.
+/// Returns the status that a program ends with after a replay. A fault is reported on standard error, as one line.
 pub fn exit_code<R: Eprint>(rt: &R, answer: Result<(), ReplayFault>) -> ExitCode
     ensures { MatchResult answer (λ _. result ≡ ExitCode.SUCCESS) (λ _. result ≡ ExitCode.FAILURE) }
 {

@@ -7,17 +7,17 @@ use crate::watched::Watched;
 use std::alloc::{AllocError, Global};
 use std::io::{Read, Write};
 
-/// How many bytes a read may give at most.
+/// The greatest number of bytes that a read may give.
 const PIECE: usize = 65536;
 
-/// As many zeros.
+/// Returns `len` zeros.
 fn zeros(alloc: Global, len: usize) -> Result<Vec<u8>, AllocError>
     ensures { IfOk result (λ v. vec_len v ≡ len) }
 {
     vec![in alloc; 0u8; len]
 }
 
-/// All the bytes that the reader has left.
+/// Returns all the bytes that the reader has left.
 ///
 /// # Errors
 ///
@@ -33,7 +33,7 @@ pub fn read_all<R: Read>(alloc: Global, reader: &mut Watched<R>) -> Result<Vec<u
     read_through(alloc, reader, buffer.as_mut_slice())
 }
 
-/// All the bytes that the reader has left, read through `buffer`.
+/// Returns all the bytes that the reader has left, read through `buffer`.
 fn read_through<R: Read>(
     alloc: Global,
     reader: &mut Watched<R>,
@@ -62,7 +62,7 @@ fn read_through<R: Read>(
 ///
 /// # Errors
 ///
-/// `Write` exactly where a call of the writer failed. What was written is a beginning of the bytes then.
+/// `Write` exactly where a call of the writer failed. The written bytes are a prefix of the bytes then.
 pub fn write_all<W: Write>(writer: &mut Watched<W>, bytes: &[u8]) -> Result<(), ReplayFault>
     ensures ok { OnOk result (Appends (W.contents writer.old.inner)
         (W.contents writer.new.inner) bytes.now) }

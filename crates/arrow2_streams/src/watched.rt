@@ -11,8 +11,8 @@ use std::marker::Model;
 
 /// A reader or a writer, how many of its calls failed, and how many of its writes no flush has followed yet.
 ///
-/// A call fails that answers an error, and so does a write that takes 0 bytes of a text that is
-/// not empty. The counts take no bytes when the program runs: contracts alone see them.
+/// A call fails that returns an error, and so does a write that takes 0 bytes of a text that is not empty. The counts
+/// take no bytes when the program runs: contracts alone see them.
 #[derive(Drop)]
 pub struct Watched<T> {
     inner: T,
@@ -42,7 +42,7 @@ impl<T> Watched<T> {
         }
     }
 
-    /// The reader or the writer, which no one watches any more.
+    /// Returns the reader or the writer, which no one watches any more.
     pub fn into_inner(self) -> T
         ensures { result ≡ self.inner }
     {

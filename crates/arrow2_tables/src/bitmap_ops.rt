@@ -11,10 +11,10 @@ use arrow2_kernels::rows::{Beside, OneList, Pair};
 use arrow2_kernels::tables::{quaternary_answers, ternary_answers};
 use arrow2_types::error::{Error, Result};
 
-/// The bitmap of what `op` answers to each three words of 64 items at one place. In the last words false stands behind
-/// the items. Requires that all have one length, and that `op` answers whatever words.
+/// Returns the bitmap of the results of `op` for each three words of 64 items at one index. The last words are filled
+/// with false. Requires that all have one length, and that `op` accepts all words.
 ///
-/// Differs from arrow2: spare bits don't reach `op`, nor do words behind the last item. It returns no `Result`.
+/// Differs from arrow2: padding bits don't reach `op`, nor do words after the last item. It returns no `Result`.
 ///
 /// # Errors
 ///
@@ -58,10 +58,10 @@ pub fn ternary<F: Fn(u64, u64, u64) -> u64>(
     from_rows(a1.allocator(), a1.len(), three, |((x, y), z)| op(x, y, z))
 }
 
-/// The bitmap of what `op` answers to each four words of 64 items at one place. In the last words false stands behind
-/// the items. Requires that all have one length, and that `op` answers whatever words.
+/// Returns the bitmap of the results of `op` for each four words of 64 items at one index. The last words are filled
+/// with false. Requires that all have one length, and that `op` accepts all words.
 ///
-/// Differs from arrow2: spare bits don't reach `op`, nor do words behind the last item. It returns no `Result`.
+/// Differs from arrow2: padding bits don't reach `op`, nor do words after the last item. It returns no `Result`.
 ///
 /// # Errors
 ///
@@ -98,7 +98,7 @@ pub fn quaternary<F: Fn(u64, u64, u64, u64) -> u64>(
     })
 }
 
-/// The words of `left`, and beside them those of `right`.
+/// Returns the words of `left`, paired with those of `right`.
 fn pair<'a>(left: &'a Bitmap, right: &'a Bitmap) -> Pair<'a>
     ensures left { result.lists.left.chunks.items ≡ items_of left.now }
     ensures right { result.lists.right.chunks.items ≡ items_of right.now }
@@ -115,8 +115,8 @@ fn pair<'a>(left: &'a Bitmap, right: &'a Bitmap) -> Pair<'a>
     }
 }
 
-/// The answers of table `t` of three inputs, item by item: bit `a1 + 2 * a2 + 4 * a3` of `t`. Requires that all have
-/// one length.
+/// Returns the outputs of table `t` of three inputs, item by item: bit `a1 + 2 * a2 + 4 * a3` of `t`. Requires that all
+/// have one length.
 ///
 /// arrow2 has no such call.
 ///
@@ -135,8 +135,8 @@ pub fn ternary_table(a1: &Bitmap, a2: &Bitmap, a3: &Bitmap, t: u8) -> Result<Bit
     ternary(a1, a2, a3, |x, y, z| ternary_answers(u16::from(t), x, y, z))
 }
 
-/// The answers of table `t` of four inputs, item by item: bit `a1 + 2 * a2 + 4 * a3 + 8 * a4` of `t`. Requires that all
-/// have one length.
+/// Returns the outputs of table `t` of four inputs, item by item: bit `a1 + 2 * a2 + 4 * a3 + 8 * a4` of `t`. Requires
+/// that all have one length.
 ///
 /// arrow2 has no such call.
 ///

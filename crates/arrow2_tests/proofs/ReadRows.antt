@@ -1,4 +1,4 @@
--- How many bytes slices and cuts read, as numbers.
+-- The number of bytes that slices and cuts read.
 use Rattle.std.proofs.Common.{◌≡◌, ◌+◌, ◌%◌, ℕ, length, refl, ap, sym, ◌∙◌, arith}
 use Rattle.arrow2_model.specs.Storage.{BitmapStorage, items_of}
 use Rattle.arrow2_model.specs.Touched.{touched, slice_reads, cut_reads}

@@ -1,4 +1,4 @@
-//! Worked rows, printed texts, and calls that no command of a script makes: a module a subject.
+//! Worked examples, printed texts, and calls that no command of a script makes: a module a subject.
 mod array;
 mod bitmap;
 mod bits;

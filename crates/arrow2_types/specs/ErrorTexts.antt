@@ -1,4 +1,4 @@
--- What an error prints.
+-- The text of an error.
 use Rattle.std.specs.Prelude.{◌≡◌, ℕ, List, [], ◌++◌, codes, string_bytes, Option, Some, None}
 use Rattle.arrow2_types.specs.declared.error.Error.{Error}
 use Rattle.arrow2_types.specs.declared.error.Error.TheVariants.{NotYetImplemented, External, Io, InvalidArgumentError, ExternalFormat, Overflow, OutOfSpec, OutOfMemory}
@@ -14,7 +14,7 @@ error_text Overflow = Some (codes "Operation overflew the backing container.")
 error_text (OutOfSpec text) = Some (string_bytes text)
 error_text OutOfMemory = Some (codes "Out of memory")
 
--- an error of another library with no message before its text, where P holds of the text; or memory was refused
+-- an error of another library with no message before its text, where P holds of the text; or out of memory
 abbrev pub WrapsText : Error → (List ℕ → Type 0) → Type 0
 WrapsText (External message text) P = (string_bytes message ≡ []) × P (string_bytes text)
 WrapsText OutOfMemory P = Unit {0}

@@ -5,7 +5,7 @@ use Rattle.arrow2_types.specs.declared.error.Error.TheVariants.{InvalidArgumentE
 use Rattle.arrow2_types.specs.declared.refusal.Refusal.{Refusal}
 use Rattle.arrow2_types.specs.declared.refusal.Refusal.TheVariants as refusal
 
--- an invalid argument, in these words; or want of memory, where the words found none
+-- an invalid argument, in these words; or out of memory, where the allocation of the words fails
 abbrev pub IsInvalidArgument : Error → List ℕ → Type 0
 IsInvalidArgument (InvalidArgumentError text) words = string_bytes text ≡ words
 IsInvalidArgument OutOfMemory words = Unit {0}

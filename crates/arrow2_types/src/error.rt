@@ -1,4 +1,4 @@
-//! What a call of the layer can refuse.
+//! The errors of a call of the layer.
 ghost use Rattle.std.specs.Prelude.{◌≡◌, Some};
 ghost use Rattle.arrow2_types.specs.declared.error.Error.TheVariants.{OutOfMemory, Io};
 
@@ -9,12 +9,12 @@ use std::{fmt, io};
 
 /// Why a call was refused.
 ///
-/// Differs from arrow2: `External` holds a text in place of a boxed error, `OutOfMemory` is there
-/// in place of an abort, and `Overflow` means overflow alone.
+/// Differs from arrow2: `External` holds a text instead of a boxed error, `OutOfMemory` replaces an abort, and
+/// `Overflow` means overflow alone.
 #[derive(Debug, Drop)]
 #[non_exhaustive]
 pub enum Error {
-    /// What is asked for is not available yet.
+    /// The requested feature is not available yet.
     NotYetImplemented(String),
     /// An error of another library: a message, and the text of that error.
     External(String, String),
@@ -26,9 +26,9 @@ pub enum Error {
     ExternalFormat(String),
     /// A length, a count or an offset would pass the greatest number of its type.
     Overflow,
-    /// What was handed in does not follow the Arrow specification.
+    /// An input does not follow the Arrow specification.
     OutOfSpec(String),
-    /// A request for memory was refused.
+    /// An allocation failed.
     OutOfMemory,
 }
 
@@ -39,10 +39,10 @@ impl Error {
     ghost use Rattle.std.specs.Prelude.{◌≡◌, IfSome, codes};
     ghost use Rattle.arrow2_types.specs.ErrorTexts.{WrapsText};
 
-    /// `External` with an empty message and the text that `error` prints, or `OutOfMemory` where that
-    /// text finds no room.
+    /// Returns `External` with an empty message and the text that `error` prints, or `OutOfMemory` where the allocation
+    /// of that text fails.
     ///
-    /// Differs from arrow2: `error` need only print, and its text is kept in place of it.
+    /// Differs from arrow2: `error` need only print, and only its text is kept.
     pub fn from_external_error<E: fmt::Display>(alloc: Global, error: &E) -> Error
         ensures { WrapsText result
             (λ text. IfSome (E.output error.now) (λ printed. text ≡ printed)) }
@@ -53,7 +53,7 @@ impl Error {
         }
     }
 
-    /// The same of the error that std has for bytes that are no text.
+    /// Returns the same for the error that std has for bytes that are no text.
     pub fn from_utf8_error(alloc: Global, error: Utf8Error) -> Error
         ensures { WrapsText result (λ text.
             IfSome (⟦<Utf8Error as fmt::Display>⟧.output error) (λ printed. text ≡ printed)) }
@@ -61,7 +61,7 @@ impl Error {
         Error::from_external_error::<Utf8Error>(alloc, &error)
     }
 
-    /// The same of the error that holds the bytes. They are dropped.
+    /// Returns the same for the error that holds the bytes. They are dropped.
     pub fn from_string_utf8_error(alloc: Global, error: FromUtf8Error) -> Error
         ensures { WrapsText result (λ text.
             IfSome (⟦<FromUtf8Error as fmt::Display>⟧.output error) (λ printed. text ≡ printed)) }
@@ -69,7 +69,7 @@ impl Error {
         Error::from_external_error::<FromUtf8Error>(alloc, &error)
     }
 
-    /// The same of the error of the fast test for text.
+    /// Returns the same for the error of the fast test for text.
     pub fn from_basic_utf8_error(alloc: Global, error: simdutf8::basic::Utf8Error) -> Error
         ensures { WrapsText result (λ text. text ≡ codes "invalid utf-8 sequence") }
     {
@@ -77,8 +77,8 @@ impl Error {
     }
 }
 
-/// Prints the kind of the error and its text. Of [`Error::Io`] nothing is promised, since the standard library does not say
-/// what its own errors print.
+/// Prints the name of the error's variant and its text. Nothing is promised for [`Error::Io`], since the standard
+/// library does not specify the texts of its own errors.
 impl fmt::Display for Error {
     ghost use Rattle.arrow2_types.specs.ErrorTexts.{error_text};
 
@@ -109,7 +109,7 @@ impl From<AllocError> for Error {
     }
 }
 
-/// The value that found no room is dropped. Does not allocate.
+/// The value that could not be stored is dropped. Does not allocate.
 impl<T: Drop> From<AllocFailed<T>> for Error {
     ghost from_gives = { λ _ e. e ≡ OutOfMemory };
 

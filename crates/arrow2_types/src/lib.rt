@@ -1,4 +1,4 @@
-//! Errors of the memory layer, and the types whose values stand in its buffers.
+//! Errors of the memory layer, and the types of the values in its buffers.
 #![tactic(auto)]
 
 pub mod arrays;

@@ -1,4 +1,4 @@
-//! The values that stand in buffers, and their bytes.
+//! The values of buffers, and their bytes.
 ghost use Rattle.std.specs.Prelude.{◌≡◌, ◌<◌, ℕ, List, length, pos, reverse, slice_index};
 ghost use Rattle.arrow2_model.specs.Digits.{digits, natural_from, integer_from};
 ghost use Rattle.arrow2_model.proofs.Digits.{digits_of_read, digits_of_read_high, digits_of_integer, digits_of_integer_high};
@@ -10,8 +10,8 @@ use crate::primitive::PrimitiveType;
 use std::convert::AsSlice;
 use std::fmt::Debug;
 
-/// A type whose values stand in the layer's buffers. Each value has the same number of bytes, which are
-/// the digits of its value.
+/// A type whose values the layer's buffers hold. Each value has the same number of bytes, which are the digits of its
+/// value.
 ///
 /// Differs from arrow2: `Bytes` is read as a slice and made of one by `bytes_of_slice`; `SIZE`, `from_le_slice`
 /// and `from_be_slice` are there for generic code too.
@@ -19,10 +19,10 @@ pub trait NativeType: Copy + Debug + PartialEq + Default {
     // The name of the type.
     ghost PRIMITIVE: { PrimitiveType };
 
-    // How many bytes a value has.
+    // The number of bytes of a value.
     ghost SIZE: { ℕ };
 
-    // The digits of a value, as its bytes stand in each of the two orders.
+    // The digits of a value, as its bytes are in each of the two orders.
     ghost le_digits: { Self → List ℕ };
 
     ghost be_digits: { Self → List ℕ };
@@ -35,43 +35,44 @@ pub trait NativeType: Copy + Debug + PartialEq + Default {
     /// The name of the type.
     const PRIMITIVE: PrimitiveType;
 
-    /// How many bytes a value has.
+    /// The number of bytes of a value.
     const SIZE: usize;
 
     /// The bytes of a value: an array of `SIZE` bytes.
     type Bytes: AsSlice<u8> + Copy;
 
-    /// The bytes of the value in little-endian order.
+    /// Returns the bytes of the value in little-endian order.
     fn to_le_bytes(&self) -> Self::Bytes
         ensures digits { Self.Bytes.items result ≡ le_digits self.now }
         ensures size { length (Self.Bytes.items result) ≡ SIZE }
         ensures read_back { of_le (Self.Bytes.items result) ≡ self.now };
 
-    /// The bytes of the value in big-endian order.
+    /// Returns the bytes of the value in big-endian order.
     fn to_be_bytes(&self) -> Self::Bytes
         ensures digits { Self.Bytes.items result ≡ be_digits self.now }
         ensures size { length (Self.Bytes.items result) ≡ SIZE }
         ensures read_back { of_be (Self.Bytes.items result) ≡ self.now };
 
-    /// The value with these bytes in little-endian order.
+    /// Returns the value with these bytes in little-endian order.
     fn from_le_bytes(bytes: Self::Bytes) -> Self
         ensures { result ≡ of_le (Self.Bytes.items bytes) };
 
-    /// The value with these bytes in big-endian order.
+    /// Returns the value with these bytes in big-endian order.
     fn from_be_bytes(bytes: Self::Bytes) -> Self
         ensures { result ≡ of_be (Self.Bytes.items bytes) };
 
-    /// The array of these bytes, which generic code can hand to `from_le_bytes` or write to. Requires `SIZE` bytes.
+    /// Returns the array of these bytes, which generic code can hand to `from_le_bytes` or write to. Requires `SIZE`
+    /// bytes.
     fn bytes_of_slice(bytes: &[u8]) -> Self::Bytes
         requires { length bytes.now ≡ SIZE }
         ensures { Self.Bytes.items result ≡ bytes.now };
 
-    /// The value whose bytes these are in little-endian order. Requires `SIZE` bytes.
+    /// Returns the value whose bytes these are in little-endian order. Requires `SIZE` bytes.
     fn from_le_slice(bytes: &[u8]) -> Self
         requires { length bytes.now ≡ SIZE }
         ensures { result ≡ of_le bytes.now };
 
-    /// The value whose bytes these are in big-endian order. Requires `SIZE` bytes.
+    /// Returns the value whose bytes these are in big-endian order. Requires `SIZE` bytes.
     fn from_be_slice(bytes: &[u8]) -> Self
         requires { length bytes.now ≡ SIZE }
         ensures { result ≡ of_be bytes.now };

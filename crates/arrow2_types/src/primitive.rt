@@ -1,6 +1,6 @@
 //! The names of the native types.
 
-/// The native types, and the three kinds of floats that have a name alone.
+/// The native types, and the three floating-point types that have a name alone.
 #[derive(Debug, Clone, Copy, PartialEq, Eq, Hash)]
 pub enum PrimitiveType {
     /// A signed integer of 8 bits.

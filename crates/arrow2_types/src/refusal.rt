@@ -8,13 +8,13 @@ use std::alloc::{AllocError, AllocFailed};
 
 /// Why a value does not grow.
 ///
-/// It is one byte, where an [`Error`] is many: a call inside a loop answers it, so that no room for a wide error is
-/// written at each item. The public call makes the [`Error`] of it. Not in arrow2.
+/// It is one byte, where an [`Error`] is many: a call inside a loop returns it, so that no wide error is written at
+/// each item. The public call makes the [`Error`] of it. Not in arrow2.
 #[derive(Drop)]
 pub enum Refusal {
     /// A length, a count or an offset would pass the greatest number of its type.
     Overflow,
-    /// A request for memory was refused.
+    /// An allocation failed.
     OutOfMemory,
 }
 
@@ -27,7 +27,7 @@ impl From<AllocError> for Refusal {
     }
 }
 
-/// The value that found no room is dropped. Does not allocate.
+/// The value that could not be stored is dropped. Does not allocate.
 impl<T: Drop> From<AllocFailed<T>> for Refusal {
     ghost from_gives = { λ _ refusal. refusal ≡ OutOfMemory };
 

@@ -1,4 +1,4 @@
-//! Columns of numbers, made and asked.
+//! Columns of numbers, made and read.
 ghost use Rattle.std.specs.Prelude.{◌≡◌, ◌⊎◌, [], ◌∷◌, None, Some, pos, length, IfOk, IfErr};
 ghost use Rattle.arrow2.specs.Aggregates.{sum_there};
 ghost use Rattle.arrow2.specs.Primitive.{primitive_items};
@@ -12,7 +12,7 @@ use arrow2::compute::filter::filter;
 use arrow2::error::{Error, Result};
 use std::alloc::Global;
 
-/// Returns three prices, of which the second is not known.
+/// Returns three prices, the second of which is not known.
 ///
 /// # Errors
 ///

@@ -1,4 +1,4 @@
-//! A column of one's own: values beside their validity, and a builder that survives refused memory.
+//! A column of one's own: values with their validity, and a builder that survives a failed allocation.
 ghost use Rattle.std.specs.Prelude.{◌≡◌, ◌+◌, ◌^◌, ◌<◌, ◌≤◌, ◌++◌, ◌⊎◌, [], ◌∷◌, All, None, length as length', map, count_by, slice_index_or, if◌then◌else◌, IfOk, IfErr, IsErrOf, OnOk, OnErr};
 ghost use Rattle.std.specs.Option.{is_none};
 ghost use Rattle.std.specs.List.{flat_map};
@@ -38,7 +38,7 @@ impl<T: NativeType> Model for Column<T> {
 
 #[tactic(auto, using(arrow2::proofs::Columns::columns))]
 impl<T: NativeType> Column<T> {
-    /// The column of these values, null where the validity is false. Requires as many bits as values.
+    /// Returns the column of these values, null where the validity is false. Requires one bit for each value.
     pub fn new(values: Buffer<T>, validity: Bitmap) -> Column<T>
         requires same_length { length' (items_of validity) ≡ length' (buffer_items values) }
         ensures { result ≡ zipped (buffer_items values) (items_of validity) }
@@ -46,21 +46,21 @@ impl<T: NativeType> Column<T> {
         Column { values, validity }
     }
 
-    /// How many items it has.
+    /// Returns the number of items.
     pub fn len(&self) -> usize
         ensures { result ≡ length' self.now }
     {
         self.values.len()
     }
 
-    /// How many of them are null.
+    /// Returns the number of nulls.
     pub fn null_count(&self) -> usize
         ensures { result ≡ count_by is_none self.now }
     {
         self.validity.unset_bits()
     }
 
-    /// Item `index`, `None` where it is null. Requires that it is below the length.
+    /// Returns item `index`, `None` where it is null. Requires that it is below the length.
     pub fn get(&self, index: usize) -> Option<T>
         requires below { index < length' self.now }
         ensures { result ≡ slice_index_or self.now index None }
@@ -78,11 +78,11 @@ impl<T: NativeType> Column<T> {
         self.validity.slice(offset, length);
     }
 
-    /// The items at these places. Requires that each is below the length.
+    /// Returns the items at these indices. Requires that each is below the length.
     ///
     /// # Errors
     ///
-    /// `OutOfMemory`, or `Overflow` where the places are more than bits can be.
+    /// `OutOfMemory`, or `Overflow` where the length would pass `usize::MAX`.
     pub fn take(&self, places: &[usize]) -> Result<Column<T>>
         requires inside { All (λ place. place < length' self.now) places.now }
         ensures ok { IfOk result (λ c.
@@ -97,11 +97,11 @@ impl<T: NativeType> Column<T> {
         taken.finish()
     }
 
-    /// The items at whose place the mask is true. Requires that it has one item for each of the column's.
+    /// Returns the items at whose index the mask is true. Requires that it has one item for each of the column's.
     ///
     /// # Errors
     ///
-    /// `OutOfMemory`, or `Overflow` where bits cannot be more.
+    /// `OutOfMemory`, or `Overflow` where the length would pass `usize::MAX`.
     #[tactic(auto, using(arrow2::proofs::Columns::columns, arrow2::proofs::Columns::selections))]
     pub fn filter(&self, mask: &Bitmap) -> Result<Column<T>>
         requires same_length { length' (items_of mask.now) ≡ length' self.now }
@@ -136,7 +136,7 @@ impl<T: NativeType> Model for ColumnBuilder<T> {
 
 #[tactic(auto, using(arrow2::proofs::Columns::columns))]
 impl<T: NativeType> ColumnBuilder<T> {
-    /// A column without items.
+    /// Returns a column without items.
     pub fn new(alloc: Global) -> ColumnBuilder<T>
         ensures { result ≡ [] }
     {
@@ -150,7 +150,7 @@ impl<T: NativeType> ColumnBuilder<T> {
     ///
     /// # Errors
     ///
-    /// `OutOfMemory`, or `Overflow` where bits cannot be more.
+    /// `OutOfMemory`, or `Overflow` where the length would pass `usize::MAX`.
     pub fn push(&mut self, item: Option<T>) -> Result<()>
         ensures ok { OnOk result (self.new ≡ self.old ++ item ∷ []) }
         ensures err { OnErr result (self.new ≡ self.old) }
@@ -179,7 +179,7 @@ impl<T: NativeType> ColumnBuilder<T> {
     ///
     /// # Errors
     ///
-    /// `OutOfMemory`, or `Overflow` where bits cannot be more.
+    /// `OutOfMemory`, or `Overflow` where the length would pass `usize::MAX`.
     pub fn extend(&mut self, column: &Column<T>) -> Result<()>
         ensures ok { OnOk result (self.new ≡ self.old ++ column.now) }
         ensures err { OnErr result (self.new ≡ self.old) }
@@ -196,7 +196,7 @@ impl<T: NativeType> ColumnBuilder<T> {
         extended
     }
 
-    /// The column of the items.
+    /// Returns the column of the items.
     ///
     /// # Errors
     ///
@@ -212,11 +212,11 @@ impl<T: NativeType> ColumnBuilder<T> {
     }
 }
 
-/// The items of these columns, one behind the other.
+/// Returns the items of these columns, one after the other.
 ///
 /// # Errors
 ///
-/// `OutOfMemory`, or `Overflow` where the items are more than bits can be.
+/// `OutOfMemory`, or `Overflow` where the length would pass `usize::MAX`.
 pub fn concat<T: NativeType>(alloc: Global, columns: &[Column<T>]) -> Result<Column<T>>
     ensures ok { IfOk result (λ c. c ≡ flat_map (λ column. column) columns.now) }
     ensures only { IfErr result (λ e. (e ≡ Error.Overflow) ⊎ (e ≡ Error.OutOfMemory)) }
@@ -228,12 +228,12 @@ pub fn concat<T: NativeType>(alloc: Global, columns: &[Column<T>]) -> Result<Col
     joined.finish()
 }
 
-/// Item by item, that of the first column where the mask is true, and that of the other elsewhere. Requires that all
-/// have one length.
+/// Returns, item by item, that of the first column where the mask is true, and that of the other elsewhere. Requires
+/// that all have one length.
 ///
 /// # Errors
 ///
-/// `OutOfMemory`, or `Overflow` where bits cannot be more.
+/// `OutOfMemory`, or `Overflow` where the length would pass `usize::MAX`.
 #[tactic(auto, using(arrow2::proofs::Columns::selections))]
 pub fn if_then_else<T: NativeType>(
     mask: &Bitmap,

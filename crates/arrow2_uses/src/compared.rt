@@ -1,4 +1,4 @@
-//! Bitmaps of what comparisons answer.
+//! Bitmaps of the results of comparisons.
 ghost use Rattle.std.specs.Prelude.{◌≡◌, int_lt, length, map, IfOk, IfErr};
 ghost use Rattle.std.specs.Simd.Lanes.{zip2};
 ghost use Rattle.arrow2.specs.Buffers.{buffer_items};
@@ -8,7 +8,7 @@ use arrow2::bitmap::Bitmap;
 use arrow2::buffer::Buffer;
 use arrow2::error::{Error, Result};
 
-/// Which values are below a bound.
+/// Returns which values are below a bound.
 ///
 /// # Errors
 ///
@@ -25,7 +25,7 @@ pub fn below(values: &Buffer<i64>, bound: i64) -> Result<Bitmap>
     )
 }
 
-/// Which values are below those of another list in their place.
+/// Returns which values are below those of another list at their index.
 ///
 /// # Errors
 ///

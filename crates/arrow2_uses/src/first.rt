@@ -5,11 +5,11 @@ ghost use Rattle.arrow2.specs.Storage.{items_of};
 use arrow2::bitmap::Bitmap;
 use arrow2::error::{Error, Result};
 
-/// Each item turned.
+/// Returns each item inverted.
 ///
 /// # Errors
 ///
-/// `OutOfMemory`, or `Overflow` where bits cannot be more.
+/// `OutOfMemory`, or `Overflow` where the length would pass `usize::MAX`.
 pub fn invert(b: &Bitmap) -> Result<Bitmap>
     ensures items { IfOk result (λ r. items_of r ≡ map not (items_of b.now)) }
     ensures only { IfErr result (λ e. (e ≡ Error.Overflow) ⊎ (e ≡ Error.OutOfMemory)) }

@@ -7,7 +7,7 @@ use arrow2::types::{Index, NativeType};
 use std::alloc::Global;
 use std::convert::AsSlice;
 
-/// The bytes of the values one behind the other, the lowest byte of each first.
+/// Returns the bytes of the values one after the other, the lowest byte of each first.
 ///
 /// # Errors
 ///

@@ -7,7 +7,7 @@ ghost use Rattle.arrow2.specs.Tables.{each};
 use arrow2::bitmap::{Bitmap, MutableBitmap, binary_assign_table, binary_table, unary};
 use arrow2::error::{Error, Result};
 
-/// Where the first is true and the second is not: a truth table, whose one set bit is that of true and false.
+/// Returns where the first is true and the second is not, by a truth table whose one set bit is that of true and false.
 ///
 /// # Errors
 ///
@@ -29,7 +29,7 @@ pub fn remove(bitmap: &mut MutableBitmap, other: &Bitmap)
     binary_assign_table::<u64>(bitmap, other, 2);
 }
 
-/// The next number of each word of 64 items: a word function, which need not act bit by bit.
+/// Returns the next number of each word of 64 items: a word function, which need not act bit by bit.
 ///
 /// # Errors
 ///

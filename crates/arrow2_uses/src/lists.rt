@@ -42,8 +42,8 @@ impl Model for TextLists {
 
 #[tactic(auto, using(arrow2::proofs::Columns::columns, arrow2::proofs::Nested::nested))]
 impl TextLists {
-    /// The lists of these texts that begin at the offsets, null where the validity is false. Requires a validity of as
-    /// many items as there are lists, and that the offsets stay inside the texts.
+    /// Returns the lists of these texts that begin at the offsets, null where the validity is false. Requires a
+    /// validity of one item for each list, and that the offsets stay inside the texts.
     pub fn new(offsets: OffsetsBuffer<i32>, texts: Texts, validity: Bitmap) -> TextLists
         requires same_length { length' (items_of validity)
             ≡ length' (lengths_of (buffer_items offsets)) }
@@ -58,7 +58,7 @@ impl TextLists {
         }
     }
 
-    /// How many lists there are, nulls too.
+    /// Returns the number of lists, nulls too.
     pub fn len(&self) -> usize
         ensures { result ≡ length' self.now }
     {
@@ -73,8 +73,8 @@ impl TextLists {
         !self.validity.get_bit(index)
     }
 
-    /// Text `place` of list `index`, or `None` where the list is null or has no such text. Requires that there is such
-    /// a list.
+    /// Returns text `place` of list `index`, or `None` where the list is null or has no such text. Requires that there
+    /// is such a list.
     pub fn get(&self, index: usize, place: usize) -> Option<&[u8]>
         requires below { index < length' self.now }
         ensures { option_copied result ≡ option_and_then (λ texts. slice_get texts place)
@@ -97,8 +97,8 @@ impl TextLists {
     }
 }
 
-/// Text `place` of the texts from offset `index` to the one behind it, or `None` where there are not so many. Requires
-/// that there is such an offset, and that the offsets stay inside the texts.
+/// Returns text `place` of the texts from offset `index` to the one after it, or `None` where there are not more than
+/// `place` texts. Requires that there is such an offset, and that the offsets stay inside the texts.
 fn text_of<'a>(
     offsets: &OffsetsBuffer<i32>,
     texts: &'a Texts,

@@ -12,11 +12,11 @@ use arrow2::types::BitChunk;
 use std::alloc::Global;
 use std::convert::TryFrom;
 
-/// Each item turned, one by one.
+/// Returns each item inverted, one by one.
 ///
 /// # Errors
 ///
-/// `OutOfMemory`, or `Overflow` where bits cannot be more.
+/// `OutOfMemory`, or `Overflow` where the length would pass `usize::MAX`.
 pub fn turned(alloc: Global, b: &Bitmap) -> Result<Bitmap>
     ensures items { IfOk result (λ r. items_of r ≡ map not (items_of b.now)) }
     ensures only { IfErr result (λ e. (e ≡ Error.Overflow) ⊎ (e ≡ Error.OutOfMemory)) }
@@ -28,7 +28,7 @@ pub fn turned(alloc: Global, b: &Bitmap) -> Result<Bitmap>
     Bitmap::try_from(turned)
 }
 
-/// How many items are true, word by word.
+/// Returns the number of true items, counted word by word.
 #[tactic(auto, using(arrow2::proofs::Words::words))]
 pub fn true_items(b: &Bitmap) -> usize
     ensures { result + falses (items_of b.now) ≡ length (items_of b.now) }

@@ -11,7 +11,7 @@ use arrow2::error::{Error, Result};
 use arrow2::laws;
 use std::alloc::Global;
 
-/// The valid values in their order, copied run by run. Requires the validity of each value.
+/// Returns the valid values in their order, copied run by run. Requires the validity of each value.
 ///
 /// # Errors
 ///

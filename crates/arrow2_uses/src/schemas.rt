@@ -6,7 +6,7 @@ ghost use Rattle.arrow2.specs.Types.{physical};
 use arrow2::datatypes::{self, Schema};
 use arrow2::laws;
 
-/// The first `count` columns, or all where there are fewer.
+/// Returns the first `count` columns, or all where there are fewer.
 pub fn first_columns(schema: Schema, count: usize) -> Schema
     ensures columns { result.fields.items ≡ accepted (λ place _.
         nat_lt place count) schema.fields.items }
@@ -15,7 +15,7 @@ pub fn first_columns(schema: Schema, count: usize) -> Schema
     schema.filter(|place, _| place < count)
 }
 
-/// The columns in which nulls may stand.
+/// Returns the columns in which nulls may stand.
 pub fn nullable_columns(schema: Schema) -> Schema
     ensures columns { result.fields.items ≡ accepted (λ _ field.
         field.is_nullable) schema.fields.items }
@@ -24,7 +24,7 @@ pub fn nullable_columns(schema: Schema) -> Schema
     schema.filter(|_, field| field.is_nullable)
 }
 
-/// The columns at whose place the mask is true. Requires as many items as columns.
+/// Returns the columns at whose index the mask is true. Requires one item for each column.
 pub fn masked_columns(schema: Schema, mask: &[bool]) -> Schema
     requires same_length { length mask.now ≡ length schema.fields.items }
     ensures columns { result.fields.items ≡ accepted (λ place _.
@@ -34,7 +34,7 @@ pub fn masked_columns(schema: Schema, mask: &[bool]) -> Schema
     schema.filter(|place, _| mask[place])
 }
 
-/// How a type and all its extensions are laid out.
+/// Returns the layouts of a type and of all its extensions.
 pub fn layout(data_type: &datatypes::DataType) -> datatypes::PhysicalType
     ensures { result ≡ physical data_type.now }
 {

@@ -39,14 +39,14 @@ impl Model for Texts {
 
 #[tactic(auto, using(arrow2::proofs::Nested::nested))]
 impl Texts {
-    /// How many texts there are.
+    /// Returns the number of texts.
     pub fn len(&self) -> usize
         ensures { result ≡ length' self.now }
     {
         self.offsets.len_proxy()
     }
 
-    /// The bytes of text `index`. Requires that it is below the length.
+    /// Returns the bytes of text `index`. Requires that it is below the length.
     pub fn get(&self, index: usize) -> &[u8]
         requires below { index < length' self.now }
         ensures { result.now ≡ slice_index_or self.now index [] }
@@ -86,7 +86,7 @@ impl Model for TextsBuilder {
 
 #[tactic(auto, using(arrow2::proofs::Nested::nested))]
 impl TextsBuilder {
-    /// No text.
+    /// Returns no text.
     ///
     /// # Errors
     ///
@@ -135,7 +135,7 @@ impl TextsBuilder {
         Ok(())
     }
 
-    /// The column of the texts.
+    /// Returns the column of the texts.
     ///
     /// # Errors
     ///
@@ -151,7 +151,7 @@ impl TextsBuilder {
     }
 }
 
-/// The bytes that these offsets span. Requires that they stay inside the bytes.
+/// Returns the bytes that these offsets span. Requires that they stay inside the bytes.
 fn bytes_of<'a>(offsets: &OffsetsBuffer<i32>, bytes: &'a Buffer<u8>) -> &'a [u8]
     requires inside { last_of (buffer_items offsets.now) ≤ length' (buffer_items bytes.now) }
     ensures { result.now ≡ part (buffer_items bytes.now) (start_of (buffer_items offsets.now))
@@ -162,7 +162,7 @@ fn bytes_of<'a>(offsets: &OffsetsBuffer<i32>, bytes: &'a Buffer<u8>) -> &'a [u8]
     &bytes.as_slice()[start..end]
 }
 
-/// The column of these texts.
+/// Returns the column of these texts.
 ///
 /// # Errors
 ///
@@ -178,7 +178,7 @@ pub fn gather(alloc: Global, texts: &[&str]) -> Result<Texts>
     gathered.finish()
 }
 
-/// The length of each text, or `None` where it is null. Requires a validity of as many items as there are texts.
+/// Returns the length of each text, or `None` where it is null. Requires a validity of one item for each text.
 ///
 /// # Errors
 ///

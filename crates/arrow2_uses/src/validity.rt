@@ -7,7 +7,7 @@ use arrow2::bitmap::{Bitmap, MutableBitmap};
 use arrow2::error::{Error, Result};
 use std::alloc::Global;
 
-/// Which of the values are there, as a validity bitmap.
+/// Returns which of the values are not null, as a validity bitmap.
 ///
 /// # Errors
 ///
@@ -23,14 +23,14 @@ pub fn validity_of(alloc: Global, values: &[Option<i64>]) -> Result<Bitmap>
     Bitmap::try_from(validity)
 }
 
-/// How many of the values are there.
+/// Returns how many of the values are not null.
 pub fn valid_count(validity: &Bitmap) -> usize
     ensures { result + falses (items_of validity.now) ≡ length (items_of validity.now) }
 {
     validity.len() - validity.unset_bits()
 }
 
-/// The nulls of both halves together, by a ruleset of counts.
+/// Returns the nulls of both halves together, by a ruleset of counts.
 #[tactic(auto, using(arrow2::proofs::Rulesets::counting))]
 pub fn nulls_by_halves(validity: &Bitmap) -> usize
     ensures { result ≡ falses (items_of validity.now) }
@@ -40,7 +40,7 @@ pub fn nulls_by_halves(validity: &Bitmap) -> usize
     validity.null_count_range(0, middle) + validity.null_count_range(middle, rest)
 }
 
-/// The validity of a value, a null and a value: literal bytes compute where the definitions of bits are opened.
+/// Returns the validity of a value, a null and a value: literal bytes compute where the definitions of bits are opened.
 ///
 /// # Errors
 ///

@@ -31,7 +31,7 @@ all-texts xs ns text between =
     let here = IsUtf8-between (take (sum ns) xs) (sum (take k ns)) (sum (take (suc k) ns)) text (omega (arith, next)) (between k (omega (arith, inside))) (between (suc k) (omega (arith, inside))) in
     rw (at-cut xs 0 ns k inside, zero-on, ← part-is, ← size) here)
 
--- and back: texts one behind the other are one text
+-- and back: texts one after the other are one text
 pub whole-text : (xs : List ℕ) (ns : List ℕ) → All IsUtf8 (cut xs ns) → IsUtf8 (take (sum ns) xs)
 whole-text xs [] all = IsUtf8-nil
 whole-text xs (n ∷ ns) all =
@@ -48,13 +48,13 @@ text-boundary xs (n ∷ ns) (suc k) h all =
     let rest = text-boundary (drop n xs) ns k (omega (arith, h, s, r)) (All-tail IsUtf8 (take n xs) (cut (drop n xs) ns) all) in
     rw (sum-cons n ns, sum-cons n (take k ns)) (IsCharBoundary-from_rest (take (n + sum ns) xs) n (sum (take k ns)) (omega (arith, h, s, l)) (rw (drop-take n (sum ns) xs) rest))
 
--- the offset behind one slot more
+-- the offset after one slot more
 pub sum-take-step : (ns : List ℕ) (k : ℕ) → sum (take (k + 1) ns) ≡ sum (take k ns) + get_or ns k 0
 sum-take-step ns k = rw add-one (sum-take-next ns k)
 
 pub ruleset places = (length-lengths_of, length-map, sum-take-le, sum-take-step)
 
--- the same of what stands from the first offset, a, to the last, b
+-- the same of the bytes from the first offset, a, to the last, b
 module _ (xs : List ℕ) (ns : List ℕ) (start a b : ℕ) (from : a ≡ start) (to : b ≡ start + sum ns) where
   spanned : take (b - a) (drop a xs) ≡ take (sum ns) (drop start xs)
   spanned =

@@ -1,4 +1,4 @@
--- The bytes between offsets, and what is wrong with them (Arrow columnar format, "Variable-size Binary Layout").
+-- The bytes between offsets, and their faults (Arrow columnar format, "Variable-size Binary Layout").
 use Rattle.std.specs.Prelude.{◌≡◌, ℕ, ◌<◌, ◌≤◌, ℤ, List, [], length, take, drop, slice_index_or, All, IsUtf8}
 use Rattle.arrow2_offset.specs.Nested.{cut}
 use Rattle.arrow2_offset.specs.Offsets.{AreOffsets, start_of, lengths_of, last_of}
@@ -23,12 +23,12 @@ pub record IsFirstBroken (texts : List (List ℕ)) (k : ℕ) : Type 0 where
   pub before : All IsUtf8 (take k texts)
   pub broken : IsUtf8 (slice_index_or texts k []) → ⊥
 
--- it tells what is wrong with the values between offsets: the last offset is past them, or the first slot is not UTF-8
+-- the fault of the values between offsets: the last offset is past them, or the first slot is not UTF-8
 abbrev pub TellsBrokenTexts : List ℤ → List ℕ → BrokenTexts → Type 0
 TellsBrokenTexts offsets values PastTheValues = length values < last_of offsets
 TellsBrokenTexts offsets values (NotUtf8 k) = (last_of offsets ≤ length values) × IsFirstBroken (slot_values offsets values) k
 
--- the same of numbers that may be no offsets, which it tells first
+-- the same of numbers that may be no offsets, which is the first fault
 abbrev pub TellsBrokenArray : List ℤ → List ℕ → BrokenTextArray → Type 0
 TellsBrokenArray numbers values (Offsets rule) = (AreOffsets numbers → ⊥) × (rule ≡ first_broken numbers)
 TellsBrokenArray numbers values (Texts broken) = AreOffsets numbers × TellsBrokenTexts numbers values broken

@@ -9,7 +9,7 @@ use arrow2_index::offset::Offset;
 use arrow2_offset::{BrokenRule, OffsetsBuffer, broken_rule};
 use std::str;
 
-/// What is wrong with bytes between offsets that are not all texts.
+/// The fault of bytes between offsets that are not all texts.
 #[derive(Clone, Copy, Debug, PartialEq, Eq)]
 pub enum BrokenTexts {
     /// The last offset is past the values.
@@ -18,7 +18,7 @@ pub enum BrokenTexts {
     NotUtf8(usize),
 }
 
-/// What is wrong with numbers and bytes that are no offsets with texts between them.
+/// The fault of numbers and bytes that are no offsets with texts between them.
 #[derive(Clone, Copy, Debug, PartialEq, Eq)]
 pub enum BrokenTextArray {
     /// The numbers are not offsets: the first rule that they break.
@@ -27,7 +27,7 @@ pub enum BrokenTextArray {
     Texts(BrokenTexts),
 }
 
-/// Tests that no offset is past so many values. Does not allocate.
+/// Tests that no offset is above `values_len`. Does not allocate.
 ///
 /// Differs from arrow2, whose error has a text.
 ///
@@ -56,8 +56,8 @@ pub fn try_check_offsets_bounds<O: Offset>(
 ///
 /// # Errors
 ///
-/// `PastTheValues` exactly where the last offset is past the values; else `NotUtf8` with the first slot whose values are
-/// not UTF-8, exactly where there is one.
+/// `PastTheValues` exactly where the last offset is past the values; else `NotUtf8` with the first slot whose values
+/// are not UTF-8, exactly where there is one.
 pub fn try_check_utf8<O: Offset>(
     offsets: &OffsetsBuffer<O>,
     values: &[u8],
@@ -77,7 +77,7 @@ pub fn try_check_utf8<O: Offset>(
 /// # Errors
 ///
 /// `Offsets` exactly where the numbers are not offsets, with the first rule that they break; else `Texts` exactly where
-/// [`try_check_utf8`] refuses, with what it answers.
+/// [`try_check_utf8`] returns an error, with that error.
 pub fn try_check_offsets_and_utf8<O: Offset>(
     offsets: &[O],
     values: &[u8],
@@ -109,7 +109,7 @@ pub fn text_at<'a, O: Offset>(offsets: &OffsetsBuffer<O>, values: &'a [u8], slot
     unsafe { str::from_utf8_unchecked(bytes) }
 }
 
-/// The test of the values, by numbers that are known to be offsets.
+/// Checks the values between numbers that are known to be offsets.
 #[tactic(auto, using(crate::proofs::Between::places))]
 fn try_check_slots<O: Offset>(offsets: &[O], values: &[u8]) -> Result<(), BrokenTexts>
     requires valid { AreOffsets (map O.value offsets.now) }
@@ -129,7 +129,7 @@ fn try_check_slots<O: Offset>(offsets: &[O], values: &[u8]) -> Result<(), Broken
     }
 }
 
-/// Whether the values between the offsets are one text, and each offset stands between its characters.
+/// Returns whether the values between the offsets are one text, and each offset stands between its characters.
 #[tactic(auto, using(crate::proofs::Between::places))]
 fn are_texts_at_once<O: Offset>(offsets: &[O], values: &[u8]) -> bool
     requires valid { AreOffsets (map O.value offsets.now) }
@@ -140,7 +140,8 @@ fn are_texts_at_once<O: Offset>(offsets: &[O], values: &[u8]) -> bool
     bytes.is_ascii() || (is_text(bytes) && stand_between(offsets, bytes))
 }
 
-/// Whether each offset stands between characters of the bytes that they span. Reads all of them, with no branch.
+/// Returns whether each offset stands between characters of the bytes that they span. Reads all of them, with no
+/// branch.
 #[tactic(auto, using(crate::proofs::Between::places))]
 fn stand_between<O: Offset>(offsets: &[O], bytes: &[u8]) -> bool
     requires valid { AreOffsets (map O.value offsets.now) }
@@ -159,7 +160,7 @@ fn stand_between<O: Offset>(offsets: &[O], bytes: &[u8]) -> bool
     between
 }
 
-/// Returns whether a character may begin at a place, or the bytes end there. With no branch.
+/// Returns whether a character may begin at an index, or the bytes end there. With no branch.
 fn is_boundary(bytes: &[u8], place: usize) -> bool
     requires some { 0 < length bytes.now }
     requires inside { place ≤ length bytes.now }
@@ -170,7 +171,7 @@ fn is_boundary(bytes: &[u8], place: usize) -> bool
     (last < place) | (byte < 0x80) | (0xC0 <= byte)
 }
 
-/// The first slot whose values are not UTF-8.
+/// Returns the first slot whose values are not UTF-8.
 #[tactic(auto, using(crate::proofs::Between::places))]
 fn first_broken<O: Offset>(offsets: &[O], values: &[u8]) -> Option<usize>
     requires valid { AreOffsets (map O.value offsets.now) }
@@ -186,7 +187,7 @@ fn first_broken<O: Offset>(offsets: &[O], values: &[u8]) -> Option<usize>
     None
 }
 
-/// The values of a slot.
+/// Returns the values of a slot.
 #[tactic(auto, using(crate::proofs::Between::places))]
 fn slot_of<'a, O: Offset>(offsets: &[O], values: &'a [u8], slot: usize) -> &'a [u8]
     requires valid { AreOffsets (map O.value offsets.now) }
@@ -205,7 +206,7 @@ fn is_text(bytes: &[u8]) -> bool
     simdutf8::basic::from_utf8(bytes).is_ok()
 }
 
-/// The last offset.
+/// Returns the last offset.
 fn last_place<O: Offset>(offsets: &[O]) -> usize
     requires { AreOffsets (map O.value offsets.now) }
     ensures { result ≡ last_of (map O.value offsets.now) }
@@ -213,7 +214,7 @@ fn last_place<O: Offset>(offsets: &[O]) -> usize
     offsets[offsets.len() - 1].to_usize()
 }
 
-/// The offset at an index.
+/// Returns the offset at an index.
 fn place<O: Offset>(offsets: &[O], index: usize) -> usize
     requires valid { AreOffsets (map O.value offsets.now) }
     requires below { index < length offsets.now }

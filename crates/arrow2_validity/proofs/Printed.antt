@@ -21,7 +21,7 @@ nothing-before : (a : Option (List ℕ)) → Some [] ++? a ≡ a
 nothing-before None = refl
 nothing-before (Some a) = refl
 
--- what stands before an item, where `lead` stands before the first
+-- the separator before an item, where `lead` comes before the first
 abbrev lead_at : List ℕ → ℕ → List ℕ
 lead_at lead zero = lead
 lead_at lead (suc i) = comma_space
@@ -60,7 +60,7 @@ module _ {X : Type 0} (text : X → Option (List ℕ)) where
     pub none-shown : (items : List X) (f g : Formatter W) → (IsPlainFormatter f → HasWritten took f (codes "[") g) → IsPlainFormatter f → Shows f (Some (codes "[") ++? debug_items text [] (take 0 items)) g
     none-shown items f g bracket plain = bracket plain
 
-    -- an item behind those so far
+    -- an item after those so far
     pub item-shown : (items : List X) (i : ℕ) (d : X) (f g h k : Formatter W) → i < length items
         → Shows f (Some (codes "[") ++? debug_items text [] (take i items)) g → (IsPlainFormatter g → HasWritten took g (separator i) h)
         → (IsPlainFormatter h → Shows h (text (get_or items i d)) k) → Shows f (Some (codes "[") ++? debug_items text [] (take (i + 1) items)) k
@@ -73,7 +73,7 @@ module _ {X : Type 0} (text : X → Option (List ℕ)) where
         let behind = shows-then f g k (head ++? before) (Some (separator i) ++? last) so_far (λ plain. shows-then g h k (Some (separator i)) last (comma plain) item) in
         subst (λ o. Shows f o k) (assoc head before (Some (separator i) ++? last) ∙ ap (λ t. head ++? t) (sym one)) behind
 
-    -- the bracket behind all of them
+    -- the bracket after all of them
     pub all-shown : (items : List X) (i : ℕ) (f g h : Formatter W) → length items ≤ i
         → Shows f (Some (codes "[") ++? debug_items text [] (take i items)) g → (IsPlainFormatter g → HasWritten took g (codes "]") h) → Shows f (debug_list text items) h
     all-shown items i f g h most so_far bracket =

@@ -1,4 +1,4 @@
--- Values beside their validity: which items are null, and values that are all there.
+-- Values with their validity: which items are null, and values that are all there.
 use Rattle.std.proofs.Common.{◌≡◌, ℕ, zero, suc, ◌<◌, List, [], ◌∷◌, Bool, true, false, not, cond, count_by, length, get_or, replicate, map, refl, ap, arith}
 use Rattle.std.specs.Prelude.{Option, Some, None, is_some}
 use Rattle.std.specs.Option.{is_none}
@@ -31,7 +31,7 @@ module _ {X : Type 0} where
       let a = sum_by-cons (λ o. cond (is_none o) 1 0) (slot x false) (zipped xs vs) in
       absurd (omega (arith, a, none))
 
-  -- whether an item is not null, by its place
+  -- whether an item is not null, by its index
   pub valid-zipped : (xs : List X) (vs : List Bool) (k : ℕ) → length vs ≡ length xs → k < length xs → is_some (get_or (zipped xs vs) k None) ≡ get_or vs k false
   valid-zipped [] vs k e h = absurd (omega (arith, h))
   valid-zipped (x ∷ xs) [] k e h = absurd (omega (arith, e))

@@ -1,4 +1,4 @@
--- What a validity says of each item, whether it has a bitmap or not.
+-- Whether each item is valid, with a bitmap or without.
 use Rattle.std.proofs.Common.{Bor, ◌≡◌, ℕ, ◌+◌, ◌<◌, ◌≤◌, List, [], ◌∷◌, Bool, true, false, length, get_or, replicate, refl, ap, sym, ◌∙◌, arith}
 use Rattle.std.specs.Prelude.{Option, Some, None, MatchOption}
 use Rattle.std.specs.Option.{ForSome, option_copied}

@@ -6,7 +6,7 @@ abbrev pub item_output : {X : Type 0} → (X → Option (List ℕ)) → Option X
 item_output text None = Some (codes "None")
 item_output text (Some x) = text x
 
--- what stands before an item, by its place
+-- the separator before an item, by its index
 abbrev pub separator : ℕ → List ℕ
 separator zero = []
 separator (suc place) = codes ", "

@@ -1,10 +1,10 @@
-//! What the texts of arrays share.
+//! The parts that the texts of arrays share.
 ghost use Rattle.std.specs.Fmt.{WritesOnOk};
 ghost use Rattle.arrow2_validity.specs.ItemTexts.{separator};
 
 use std::fmt;
 
-/// Writes what stands before the item at a place: a comma, and before the first nothing.
+/// Writes the separator before the item at an index: a comma, and nothing before the first.
 pub fn write_separator<W: fmt::Write>(place: usize, f: &mut fmt::Formatter<W>) -> fmt::Result
     ensures { WritesOnOk W.write_str_gives f.old result (separator place) f.new }
 {

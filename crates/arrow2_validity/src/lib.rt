@@ -1,4 +1,4 @@
-//! Which items of an array are not null: an optional bitmap beside the number of items.
+//! Which items of an array are not null: an optional bitmap and the number of items.
 #![tactic(auto)]
 
 pub mod fmt;

@@ -42,7 +42,7 @@ impl Model for Validity {
 
 #[tactic(auto, using(crate::proofs::ValidItems::validities))]
 impl Validity {
-    /// Returns the validity of `len` items, none of which is null. Does not allocate.
+    /// Returns the validity of `len` items without nulls. Does not allocate.
     pub fn all_valid(len: usize) -> Validity
         ensures value { result ≡ record { len = len; bitmap = None } }
         ensures items { valid_items result ≡ replicate len true }
@@ -51,7 +51,7 @@ impl Validity {
         Validity { len, bitmap: None }
     }
 
-    /// Returns the validity of `len` items by a bitmap. Requires that the bitmap has as many.
+    /// Returns the validity of `len` items by a bitmap. Requires that the bitmap has `len` items.
     pub fn new(len: usize, bitmap: Option<Bitmap>) -> Validity
         requires same_length { ForSome bitmap (λ b. length (items_of b) ≡ len) }
         ensures value { result ≡ record { len = len; bitmap = bitmap } }
@@ -146,8 +146,8 @@ impl Validity {
         self.bitmap
     }
 
-    /// Returns the bitmap as it grows, where nobody else shares its bytes and its items begin at bit 0, else the validity as it
-    /// was. Without a bitmap it is one of true items.
+    /// Returns the bitmap as it grows, where nobody else shares its bytes and its items begin at bit 0, else the
+    /// validity as it was. Without a bitmap it is one of true items.
     ///
     /// # Errors
     ///
@@ -167,13 +167,13 @@ impl Validity {
         }
     }
 
-    /// Appends what the `len` items from item `start` on are to a bitmap that grows. Requires that they are inside. Within the
-    /// capacity it does not allocate.
+    /// Appends the validity of the `len` items from item `start` on to a bitmap that grows. Requires that they are
+    /// inside. Within the capacity it does not allocate.
     ///
     /// # Errors
     ///
-    /// `Overflow` exactly where the new length would pass `usize::MAX`, else `OutOfMemory` alone. After both the bitmap holds
-    /// the items that it held.
+    /// `Overflow` exactly where the new length would pass `usize::MAX`, else `OutOfMemory` alone. After both the bitmap
+    /// holds the items that it held.
     pub fn append_to(&self, start: usize, len: usize, grown: &mut MutableBitmap) -> Result<()>
         requires inside { start + len ≤ length (valid_items self.now) }
         ensures { Appends error_of result grown.old grown.new (part (valid_items self.now) start len) }
@@ -184,12 +184,12 @@ impl Validity {
         }
     }
 
-    /// Returns which items are null neither here nor in `other`, with no bitmap exactly where neither has one. Requires that
-    /// both have one length.
+    /// Returns which items are null neither here nor in `other`, with no bitmap exactly where neither has one. Requires
+    /// that both have one length.
     ///
     /// # Errors
     ///
-    /// `OutOfMemory` alone, and only where both have a bitmap or the count of owners of one is full.
+    /// `OutOfMemory` alone, and only where both have a bitmap or a reference count would overflow.
     pub fn both(&self, other: &Validity) -> Result<Validity>
         requires same_length { length (valid_items self.now) ≡ length (valid_items other.now) }
         ensures items { IfOk result (λ v.
@@ -207,7 +207,7 @@ impl Validity {
     }
 }
 
-/// Shares the bytes. Does not allocate: it is refused only where a count of owners is full.
+/// Shares the bytes. Does not allocate: it fails only where a reference count would overflow.
 impl Clone for Validity {
     ghost is_clone = { λ a copy. copy ≡ a };
 
@@ -231,7 +231,7 @@ fn append_part(bitmap: &Bitmap, start: usize, len: usize, grown: &mut MutableBit
     grown.extend_from_slice(bytes, offset + start, len)
 }
 
-/// Refuses a validity bitmap that does not have as many items as there are values.
+/// Returns an error where a validity bitmap does not have one item for each value.
 ///
 /// # Errors
 ///

@@ -1,4 +1,4 @@
--- Cuts of pieces: what stays, and what pays for the reads.
+-- Cuts of pieces: the facts that stay, and the potential that pays for the reads.
 use Rattle.std.proofs.Common.{◌≡◌, ℕ, zero, suc, ◌+◌, ◌-◌, ◌*◌, ◌<◌, ◌≤◌, List, [], ◌∷◌, ◌++◌, Bool, length, map, take, drop, get_or, set, subst, refl, ap, sym, ◌∙◌, arith}
 use Rattle.std.specs.List.{insert}
 use Rattle.std.proofs.lemmas.List.{take-append-drop, take_all, length-take-le, length-drop, append_assoc, get_or-map}
@@ -26,7 +26,7 @@ length-cut [] k i h = grind arith
 length-cut (p ∷ ps) zero i h = omega arith
 length-cut (p ∷ ps) (suc k) i h = let r = length-cut ps k i (omega arith) in omega (arith, r)
 
--- what a cut reads is what the pieces have less to read, and less than four bytes
+-- a cut reads at most the difference of the bytes left to read before and after it, and less than four bytes
 cut_pays : (ps : List Piece) (k i : ℕ) → k < length ps → i ≤ length (piece_at ps k).items → 8 * cut_reads (piece_at ps k).offset (length (piece_at ps k).items) i + all_to_read (lengths (cut_at ps k i)) ≤ all_to_read (lengths ps) + 30
 cut_pays [] k i h g = grind arith
 cut_pays (p ∷ ps) zero i h g =
@@ -61,7 +61,7 @@ paid-cut ps k i r s h g e paid =
 pub piece_is : (bs : List BitmapStorage) (k : ℕ) (b : BitmapStorage) → k < length bs → b ≡ get_or bs k b → piece_at (map piece_of bs) k ≡ piece_of b
 piece_is bs k b h e = get_or-map piece_of bs k b (record { items = []; offset = 0 }) h ∙ ap piece_of (sym e)
 
--- where a bitmap is put behind bitmap k, bitmap k stays
+-- where a bitmap is put after bitmap k, bitmap k stays
 pub same_before : (bs : List BitmapStorage) (k : ℕ) (w x b : BitmapStorage) → k < length bs → x ≡ get_or (insert bs (k + 1) w) k x → b ≡ get_or bs k b → x ≡ b
 same_before [] k w x b h e f = grind arith
 same_before (c ∷ bs) zero w x b h e f = e ∙ sym f
@@ -69,7 +69,7 @@ same_before (c ∷ bs) (suc k) w x b h e f =
     let j : suc k + 1 ≡ suc (k + 1) = omega arith in
     same_before bs k w x b (omega arith) (subst (λ (n : ℕ). x ≡ get_or (insert (c ∷ bs) n w) (suc k) x) j e) f
 
--- and it is the one behind, also where bitmap k is changed
+-- and it is the one after it, also where bitmap k is changed
 pub put_behind : (bs : List BitmapStorage) (k : ℕ) (w f x : BitmapStorage) → k < length bs → x ≡ get_or (set (insert bs (k + 1) w) k f) (k + 1) x → x ≡ w
 put_behind [] k w f x h e = grind arith
 put_behind (c ∷ bs) zero w f x h e = e
@@ -93,7 +93,7 @@ back_is q b x f i n e same size items offset =
     let all : part (items_of b) i (n - i) ≡ drop i (items_of b) = take_all (n - i) (drop i (items_of b)) (omega (arith, l, size)) in
     rw e (ap (λ (xs : List Bool). piece xs f.offset) (items ∙ (ap (λ (s : BitmapStorage). part (items_of s) i (n - i)) same ∙ all)) ∙ ap (piece (drop i (items_of b))) (offset ∙ ap (λ (s : BitmapStorage). s.offset + i) same))
 
--- a bitmap that was put behind bitmap k, where both are cut
+-- a bitmap that was put after bitmap k, where both are cut
 pub pieces_cut : (bs : List BitmapStorage) (k i : ℕ) (w f g : BitmapStorage) → k < length bs → piece_of f ≡ front (piece_at (map piece_of bs) k) i → piece_of g ≡ back (piece_at (map piece_of bs) k) i
     → map piece_of (set (set (insert bs (k + 1) w) k f) (k + 1) g) ≡ cut_at (map piece_of bs) k i
 pieces_cut [] k i w f g h is-f is-g = grind arith
@@ -102,7 +102,7 @@ pieces_cut (b ∷ bs) (suc k) i w f g h is-f is-g =
     let j : suc k + 1 ≡ suc (k + 1) = omega arith in
     rw j (ap (λ ps. piece_of b ∷ ps) (pieces_cut bs k i w f g (omega arith) is-f is-g))
 
--- what both slices read
+-- the reads of both slices
 pub cut_counted : (q : Piece) (b x y : BitmapStorage) (i n r s t : ℕ) → q ≡ piece_of b → x ≡ b → y ≡ b → n ≡ length (items_of b) → s ≡ r + slice_reads x.offset (length (items_of x)) 0 i → t ≡ s + slice_reads y.offset (length (items_of y)) i (n - i) → t ≡ r + cut_reads q.offset (length q.items) i
 cut_counted q b x y i n r s t e same-x same-y size first second =
     let a = ap (λ (c : BitmapStorage). slice_reads c.offset (length (items_of c)) 0 i) same-x in

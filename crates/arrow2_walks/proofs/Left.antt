@@ -1,14 +1,14 @@
--- A walk by what is left of it: the item that comes, and those behind it.
+-- An iterator by the items still to come: the next item, and those after it.
 use Rattle.std.proofs.Common.{◌≡◌, ℕ, suc, ◌+◌, ◌-◌, ◌++◌, ◌∷◌, List, All, length, get_or, take, drop, subst, ap, sym, ◌∙◌, append_assoc, arith}
 use Rattle.std.specs.List.{flat_map}
 use Rattle.arrow2_model.specs.Parts.{part}
 
 module _ {X : Type 0} {left rest : List X} {x : X} where
-  -- what holds of all that were left holds of those that are left now
+  -- a fact on all that were left holds of those that are left now
   pub left-all : (P : X → Type 0) → left ≡ x ∷ rest → All P left → All P rest
   left-all P first all = λ k d less. subst (λ (xs : List X). P (get_or xs (suc k) d)) first (all (suc k) d (omega (arith, ap length first, less)))
 
-  -- what comes of the item stands behind what came of those before it
+  -- the result of the item comes after the results of those before it
   pub left-done : {Y : Type 0} (f : X → List Y) (before after all : List Y) → left ≡ x ∷ rest → after ≡ before ++ f x → before ++ flat_map f left ≡ all → after ++ flat_map f rest ≡ all
   left-done f before after all first grown done =
       ap (λ ys. ys ++ flat_map f rest) grown ∙ (append_assoc before (f x) (flat_map f rest) ∙ (ap (λ xs. before ++ flat_map f xs) (sym first) ∙ done))

@@ -3,7 +3,7 @@ use Rattle.std.proofs.Common.{◌≡◌, ℕ, zero, suc, ◌+◌, ◌<◌, ◌�
 use Rattle.std.proofs.lemmas.Bool.{true≢false}
 use Rattle.arrow2_walks.specs.Runs.{moved, with_true, runs, IsRun, AllRuns, RisePast, Rise, InRuns, AreRuns}
 
--- a run stays one behind an item in front, where the run isn't first or the item is false
+-- a run stays one after an item is put before it, where the run isn't first or the item is false
 moved_run : (b : Bool) (xs : List Bool) (p : ℕ × ℕ) → (p.0 ≡ 0 → b ≡ false) → IsRun xs p → IsRun (b ∷ xs) (moved 1 p)
 moved_run b xs (s, n) first r =
     let one : 1 + s ≡ suc s = omega arith in
@@ -44,7 +44,7 @@ not_true : (b : Bool) → (b ≡ true → ⊥) → b ≡ false
 not_true true h = absurd (h refl)
 not_true false h = refl
 
--- a run of the one true item in front
+-- a run of the one true item at the start
 alone : (xs : List Bool) → get_or xs 0 false ≡ false → IsRun (true ∷ xs) (0, 1)
 alone xs h = record {
   some = omega arith;

@@ -1,4 +1,4 @@
--- The steps of a walk over the runs.
+-- The steps of an iterator over the runs.
 use Rattle.std.proofs.Common.{◌≡◌, ℕ, zero, suc, ◌+◌, ◌-◌, ◌<◌, ◌≤◌, List, [], ◌∷◌, Bool, true, false, map, get_or, drop, length, refl, sym, ap, ◌∙◌, arith}
 use Rattle.std.proofs.lemmas.Bool.{true≢false}
 use Rattle.std.proofs.lemmas.List.{drop_more, drop_all, drop-drop, get_or-drop, get_or_past}
@@ -23,7 +23,7 @@ runs_from_unset items at h e =
     let cut : drop at items ≡ false ∷ drop (at + 1) items = drop_more items at false h ∙ ap (λ x. x ∷ drop (at + 1) items) e in
     sym (ap (λ xs. map (moved at) (runs xs)) cut ∙ moved-moved at 1 (runs (drop (at + 1) items)))
 
--- so are the unset items up to place e
+-- so are the unset items up to index e
 pub runs_from_gap : (items : List Bool) (at n : ℕ) → at + n ≤ length items → ((k : ℕ) → at ≤ k → k < at + n → get_or items k false ≡ false) → runs_from items (at + n) ≡ runs_from items at
 runs_from_gap items at zero h f = let e : at + 0 ≡ at = omega arith in rw e refl
 runs_from_gap items at (suc n) h f =
@@ -72,6 +72,6 @@ runs_from_until items at e l h f =
     let r = runs_from_run items at (e - at) (omega arith) (λ k a b. h k a (omega arith)) (ap (λ t. get_or items t false) i ∙ f) in
     r ∙ ap (λ t. (at, e - at) ∷ runs_from items t) i
 
--- the same at the end of the list, where no item is behind the run
+-- the same at the end of the list, where no item is after the run
 pub runs_from_last : (items : List Bool) (at e : ℕ) → at < e → length items ≤ e → ((k : ℕ) → at ≤ k → k < e → get_or items k false ≡ true) → runs_from items at ≡ (at, e - at) ∷ runs_from items e
 runs_from_last items at e p l h = runs_from_until items at e p h (get_or_past items e false l)

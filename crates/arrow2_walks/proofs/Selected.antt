@@ -1,4 +1,4 @@
--- Items chosen by a mask: one item more, how many they are, and that the mask's runs cut them out. Items that are not null.
+-- Items chosen by a mask: one item more, their number, and that the mask's runs cut them out. Items that are not null.
 use Rattle.std.proofs.Common.{◌≡◌, ℕ, zero, suc, ◌+◌, ◌<◌, ◌≤◌, List, [], ◌∷◌, ◌++◌, Bool, true, false, cond, not, length, map, take, get_or, refl, ap, ◌∙◌, arith, add-one}
 use Rattle.std.specs.Prelude.{Option, Some, None, if◌then◌else◌}
 use Rattle.std.specs.List.{flat_map}
@@ -9,7 +9,7 @@ use Rattle.arrow2_walks.specs.Runs.{runs, moved, with_true}
 use Rattle.arrow2_walks.specs.Selected.{selected, chosen, there}
 use Rattle.arrow2_walks.specs.Zipped.{zipped}
 
--- of any items, where d stands for what is past them
+-- of any items, where d stands for the items past them
 module _ {X : Type 0} (d : X) where
   selected-next : (xs : List X) (ms : List Bool) (k : ℕ) → k < length xs → k < length ms
       → selected (take (suc k) xs) (take (suc k) ms) ≡ selected (take k xs) (take k ms) ++ (if get_or ms k false then get_or xs k d ∷ [] else [])
@@ -52,7 +52,7 @@ module _ {X : Type 0} where
   length-selected (x ∷ xs) (true ∷ ms) = let rest = length-selected xs ms in omega (arith, rest)
   length-selected (x ∷ xs) (false ∷ ms) = let rest = length-selected xs ms in omega (arith, rest)
 
-  -- and as many as the mask has true items
+  -- and their number is that of the mask's true items
   pub count-selected : (xs : List X) (ms : List Bool) → length ms ≡ length xs → length (selected xs ms) + falses ms ≡ length ms
   count-selected [] [] e = refl
   count-selected [] (m ∷ ms) e = absurd (omega (arith, e))
@@ -66,7 +66,7 @@ module _ {X : Type 0} where
       let s = sum_by-cons (λ (x : Bool). cond (not x) 1 0) false ms in
       omega (arith, rest, s)
 
-  -- what the runs of a mask cut out of a list with one item more in front
+  -- the items that the runs of a mask cut out of a list with one item more at its start
   behind : (x : X) (xs : List X) (ps : List (ℕ × ℕ)) → flat_map (λ (r : ℕ × ℕ). part (x ∷ xs) r.0 r.1) (map (moved 1) ps) ≡ flat_map (λ (r : ℕ × ℕ). part xs r.0 r.1) ps
   behind x xs [] = refl
   behind x xs (p ∷ ps) =
@@ -78,7 +78,7 @@ module _ {X : Type 0} where
   in-front x xs ((zero, n) ∷ ps) = ap (λ l. x ∷ (part xs 0 n ++ l)) (behind x xs ps)
   in-front x xs ((suc s, n) ∷ ps) = ap (λ l. x ∷ l) (behind x xs ((suc s, n) ∷ ps))
 
-  -- the runs of a mask cut out what it selects
+  -- the runs of a mask cut out the items that it selects
   pub selected-runs : (xs : List X) (ms : List Bool) → length ms ≡ length xs → flat_map (λ (r : ℕ × ℕ). part xs r.0 r.1) (runs ms) ≡ selected xs ms
   unfolding runs
   selected-runs [] [] e = refl
@@ -87,7 +87,7 @@ module _ {X : Type 0} where
   selected-runs (x ∷ xs) (true ∷ ms) e = in-front x xs (runs ms) ∙ ap (λ l. x ∷ l) (selected-runs xs ms (omega (arith, e)))
   selected-runs (x ∷ xs) (false ∷ ms) e = behind x xs (runs ms) ∙ selected-runs xs ms (omega (arith, e))
 
-  -- of two lists one behind the other
+  -- of two lists one after the other
   pub there-append : (xs ys : List (Option X)) → there (xs ++ ys) ≡ there xs ++ there ys
   there-append [] ys = refl
   there-append (Some x ∷ xs) ys = ap (λ l. x ∷ l) (there-append xs ys)

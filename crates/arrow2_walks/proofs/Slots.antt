@@ -1,4 +1,4 @@
--- A validity zip walks over its slots where its parts walk over lists of one length.
+-- A validity zip iterates over its slots where its parts iterate over lists of one length.
 use Rattle.std.proofs.Common.{◌≡◌, ◌⊎◌, inl, inr, suc, List, [], ◌∷◌, ◌++◌, Bool, true, false, map, length, refl, sym, ap, ◌∙◌, subst, arith, add-one}
 use Rattle.std.specs.Prelude.{Option, Some, None, MatchOption, option_map}
 use Rattle.std.proofs.iter.runs.Made.{took}
@@ -13,7 +13,7 @@ use Rattle.arrow2_walks.specs.Zips.{values_of, validity_of, MatchZip, zip_validi
 use Rattle.arrow2_walks.specs.Slots.{slots_of_both, slots_of}
 use Rattle.arrow2_walks.proofs.Zipped.{push-zipped}
 
--- what a step says of the lengths
+-- a step, as a fact on the lengths
 first_length : {A B : Type 0} (view : A → B) (xs ys : List B) (o : Option A) → MatchOption o ((xs ≡ []) × (ys ≡ [])) (λ x. xs ≡ view x ∷ ys) → MatchOption o ((xs ≡ []) × (ys ≡ [])) (λ _. length xs ≡ suc (length ys))
 first_length view xs ys None h = h
 first_length view xs ys (Some x) h = ap length h
@@ -91,7 +91,7 @@ module _ {S T A B : Type 0} (view : A → B) (rest : S → List B) (valid : T �
   last_of_either_by (Optional a) (Required b) r e h = absurd h
   last_of_either_by (Optional a) (Optional b) r e h = last_slot_by a b r e h
 
-  -- what the steps of a zip gave in all are its slots
+  -- the items that the steps of a zip gave in all are its slots
   pub drained_slots : (s t u : ZipValidityIter S T) (xs : List (Option A)) → HasEqualLengths rest valid s → Yields (zip_validity_steps (YieldsFirstBy view rest) (YieldsFirst valid)) s xs t
       → zip_validity_steps (YieldsFirstBy view rest) (YieldsFirst valid) t None u → map (option_map view) xs ≡ slots_of_both rest valid s
   drained_slots s t u [] e y n = sym (ap (slots_of_both rest valid) y ∙ (first_slot_by t u None (subst (HasEqualLengths rest valid) y e) n).0.0)
@@ -105,7 +105,7 @@ module _ {S T A : Type 0} (rest : S → List A) (valid : T → List Bool) where
   plain (None ∷ xs) = ap (λ l. None ∷ l) (plain xs)
   plain (Some x ∷ xs) = ap (λ l. Some x ∷ l) (plain xs)
 
-  -- the same of a run, as `collect` tells it
+  -- the same of a run, as `collect` specifies it
   pub collected_slots : (p : Run (zip_validity_steps (YieldsFirst rest) (YieldsFirst valid))) (s : ZipValidityIter S T) → p.from ≡ s → p.whole ≡ true → HasEqualLengths rest valid s → p.items ≡ slots_of_both rest valid s
   collected_slots p s is whole e =
       let t = took p in

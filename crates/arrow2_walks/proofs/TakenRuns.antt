@@ -1,4 +1,4 @@
--- The runs of a part of the bits, by the first places that are set and not set.
+-- The runs of a part of the bits, by the first indices that are set and not set.
 use Rattle.std.proofs.Common.{◌≡◌, ℕ, ◌+◌, ◌-◌, ◌*◌, ◌<◌, ◌≤◌, inl, inr, List, [], ◌∷◌, true, false, length, get_or, sym, ap, ◌∙◌, arith}
 use Rattle.std.proofs.lemmas.Bool.{true≢false, cases_lt}
 use Rattle.arrow2_model.specs.Bits.{bits}
@@ -33,7 +33,7 @@ module _ (bytes : List ℕ) (offset end : ℕ) where
       let set : (k : ℕ) → p ≤ k → k < q → get_or (part (bits bytes) offset end) k false ≡ true = λ k a b. get_or-part (bits bytes) offset end k false (omega (arith, w, b)) ∙ f.others k a b in
       (λ e. runs_from_last (part (bits bytes) offset end) p q l (omega (arith, n, e)) set, λ m. runs_from_until (part (bits bytes) offset end) p q l set (get_or-part (bits bytes) offset end q false m ∙ f.there m))
 
-  -- the item there is set, so the first one that is not set is behind it
+  -- the item there is set, so the first one that is not set is after it
   behind : (p q : ℕ) → p < end → get_or (bits bytes) (offset + p) false ≡ true → IsFirst (bits bytes) offset p end false q → p < q
   behind p q m s f = let a = f.from in elim (cases_lt p q) [
     | inl l ↦ l
@@ -55,7 +55,7 @@ module _ (bytes : List ℕ) (offset end : ℕ) where
         | inr last ↦ r.0 (omega (arith, v, last))
       ]
 
-  -- fewer are left behind it
+  -- fewer are left after it
   pub fewer_runs : (at p q : ℕ) → offset + end ≤ 8 * length bytes → IsFirst (bits bytes) offset at end true p → (p ≡ end → ⊥) → IsFirst (bits bytes) offset p end false q → length (runs_from (part (bits bytes) offset end) q) < length (runs_from (part (bits bytes) offset end) at)
   fewer_runs at p q h f some g = let l = ap length (next_run at p q h f some g) in omega (arith, l)
 

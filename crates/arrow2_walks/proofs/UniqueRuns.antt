@@ -1,4 +1,4 @@
--- The maximal runs, rising, are one list: what `AreRuns` says of a list determines it.
+-- The maximal runs, rising, are one list: `AreRuns` of a list determines it.
 use Rattle.std.proofs.Common.{◌≡◌, ℕ, suc, ◌+◌, ◌<◌, ◌≤◌, inl, inr, List, [], ◌∷◌, Bool, true, false, get_or, refl, sym, ap, subst, ◌∙◌, arith}
 use Rattle.std.proofs.lemmas.Bool.{true≢false, cases_order}
 use Rattle.arrow2_walks.specs.Runs.{runs, IsRun, AllRuns, RisePast, Rise, InRuns, AreRuns}
@@ -17,7 +17,7 @@ from_rise : (ps : List (ℕ × ℕ)) → Rise ps → From 0 ps
 from_rise [] h = tt
 from_rise (p ∷ ps) h = (omega arith, h)
 
--- a place in a rising list is past what stands before it
+-- an index in a rising list is past the indices before it
 pub in_past : (e k : ℕ) (ps : List (ℕ × ℕ)) → RisePast e ps → InRuns k ps → e < k
 in_past e k [] r h = absurd h
 in_past e k (p ∷ ps) r (inl h) = let a = r.0 in let b = h.0 in omega arith

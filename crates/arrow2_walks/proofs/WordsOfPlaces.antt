@@ -1,4 +1,4 @@
--- Bits of words, by places of the bytes that they are read from.
+-- Bits of words, by indices into the bytes that they are read from.
 use Rattle.std.proofs.Common.{◌≡◌, ℕ, zero, suc, ◌+◌, ◌-◌, ◌/◌, ◌^◌, ◌<◌, ◌≤◌, ◌==◌, inl, inr, List, Bool, true, false, not, get_or, refl, sym, ap, ◌∙◌, arith}
 use Rattle.std.specs.Int.{trailing_zeros}
 use Rattle.std.specs.Int as width
@@ -44,7 +44,7 @@ bit_behind (suc n) x i =
     ap (λ t. bit t i) d ∙ (bit_behind n (x / 2) i ∙ sym (ap (bit x) e))
 
 module _ (items : List Bool) (offset at end place w held : ℕ) (value : Bool) (read : IsRead items offset end place w held) where
-  -- a bit that was read, by its place
+  -- a bit that was read, by its index
   held_bit : (k : ℕ) → place ≤ k → k < place + held → get_or items (offset + k) false ≡ bit w (k - place)
   held_bit k l h =
       let e : place + (k - place) ≡ k = omega arith in
@@ -59,7 +59,7 @@ module _ (items : List Bool) (offset at end place w held : ℕ) (value : Bool) (
     | inr b ↦ held_bit k (omega arith) (omega arith) ∙ others (k - place) (omega arith)
   ]
 
-  -- the place is in this word
+  -- the index is in this word
   pub found_place : at ≤ place → ((k : ℕ) → at ≤ k → k < place → get_or items (offset + k) false ≡ not value)
       → (passed : ℕ) → passed < held → ((i : ℕ) → i < passed → bit w i ≡ not value) → bit w passed ≡ value
       → IsFirst items offset at end value (place + passed)
@@ -73,7 +73,7 @@ module _ (items : List Bool) (offset at end place w held : ℕ) (value : Bool) (
         there = λ l. held_bit (place + passed) (omega arith) (omega arith) ∙ (ap (bit w) e ∙ there);
       }
 
-  -- what is left of it behind that place
+  -- the bits left of it after that index
   pub read_behind : (passed : ℕ) → passed < held → IsRead items offset end (place + passed) (w / 2 ^ passed) (held - passed)
   read_behind passed most =
       let few = read.few in let within = read.within in

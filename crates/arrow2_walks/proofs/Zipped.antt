@@ -1,4 +1,5 @@
--- Values beside their validity: how many they are, place by place, in parts, with others behind them, and how many are null.
+-- Values with their validity: how many they are, index by index, in parts, with others after them, and how many are
+-- null.
 use Rattle.std.proofs.Common.{◌≡◌, ℕ, zero, suc, ◌<◌, List, [], ◌∷◌, ◌++◌, Bool, true, false, not, cond, length, take, drop, get_or, refl, ap, sym, ◌∙◌, arith}
 use Rattle.std.specs.Prelude.{Option, Some, None, is_some, unwrap_or, count_by}
 use Rattle.std.specs.Bool.{then_some}

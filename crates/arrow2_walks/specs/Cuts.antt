@@ -1,4 +1,4 @@
--- A bitmap in pieces, and what was read to cut them.
+-- A bitmap in pieces, and the number of reads of its cuts.
 use Rattle.std.specs.Prelude.{ℕ, zero, suc, ◌+◌, ◌-◌, ◌*◌, ◌≤◌, ◌<◌, List, [], ◌∷◌, Bool, length, map, take, drop, slice_index_or}
 use Rattle.std.specs.List.{flat_map}
 use Rattle.arrow2_model.specs.Storage.{BitmapStorage, items_of}
@@ -9,7 +9,7 @@ pub record Piece : Type 0 where
   pub items : List Bool
   pub offset : ℕ
 
--- the pieces, and how many bytes were read to count what is false in them
+-- the pieces, and the number of bytes that were read to count their false items
 pub record CutPieces : Type 0 where
   pub pieces : List Piece
   pub reads : ℕ
@@ -22,7 +22,7 @@ piece_of b = record { items = items_of b; offset = b.offset }
 abbrev pub piece_at : List Piece → ℕ → Piece
 piece_at ps k = slice_index_or ps k (record { items = []; offset = 0 })
 
--- the items of all pieces, one piece behind the other
+-- the items of all pieces, one piece after the other
 abbrev pub joined : List Piece → List Bool
 joined ps = flat_map (λ p. p.items) ps
 
@@ -39,12 +39,12 @@ cut_at [] k i = []
 cut_at (p ∷ ps) zero i = front p i ∷ back p i ∷ ps
 cut_at (p ∷ ps) (suc k) i = p ∷ cut_at ps k i
 
--- how many items each piece has
+-- the number of items of each piece
 abbrev pub lengths : List Piece → List ℕ
 lengths ps = map (λ p. length p.items) ps
 
--- the items that were cut into these pieces have paid for what was read, with 30 eighths of a byte a cut, and keep
--- what the pieces can still read
+-- the items that were cut into these pieces have paid for the bytes read, with 30 eighths of a byte a cut, and keep the
+-- bytes that the pieces can still read
 pub record IsPaid (ps : List Piece) (reads : ℕ) : Type 0 where
   pub some : 0 < length ps
   pub paid : 8 * reads + all_to_read (lengths ps) ≤ to_read (length (joined ps)) + 30 * (length ps - 1)

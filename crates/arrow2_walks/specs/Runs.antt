@@ -1,8 +1,8 @@
--- The runs of set items of a list, each by its first place and its length.
+-- The runs of set bits of a list, each by its first index and its length.
 use Rattle.std.specs.Prelude.{◌≡◌, ℕ, zero, suc, ◌+◌, ◌<◌, ◌≤◌, ◌⊎◌, List, [], ◌∷◌, Bool, true, false, map, get_or, drop}
 
--- p is a run that cannot grow: p.1 true items from place p.0 on, at least one, with no true item just before them and
--- none just behind (a place past the end is false)
+-- p is a run that cannot grow: p.1 true items from index p.0 on, at least one, with no true item just before them and
+-- none just after (an index past the end is false)
 pub record IsRun (items : List Bool) (p : ℕ × ℕ) : Type 0 where
   pub some : 0 < p.1
   pub set : (k : ℕ) → k < p.1 → get_or items (p.0 + k) false ≡ true
@@ -14,7 +14,7 @@ abbrev pub AllRuns : List Bool → List (ℕ × ℕ) → Type 0
 AllRuns items [] = Unit {0}
 AllRuns items (p ∷ ps) = IsRun items p × AllRuns items ps
 
--- each begins past the place behind the one before it, and the first past e: so they rise, and no two touch
+-- each begins past the index after the one before it, and the first past e: so they rise, and no two touch
 abbrev pub RisePast : ℕ → List (ℕ × ℕ) → Type 0
 RisePast e [] = Unit {0}
 RisePast e (p ∷ ps) = (e < p.0) × RisePast (p.0 + p.1) ps
@@ -23,7 +23,7 @@ abbrev pub Rise : List (ℕ × ℕ) → Type 0
 Rise [] = Unit {0}
 Rise (p ∷ ps) = RisePast (p.0 + p.1) ps
 
--- place k is in one of them
+-- index k is in one of them
 abbrev pub InRuns : ℕ → List (ℕ × ℕ) → Type 0
 InRuns k [] = ⊥
 InRuns k (p ∷ ps) = ((p.0 ≤ k) × (k < p.0 + p.1)) ⊎ InRuns k ps
@@ -34,11 +34,11 @@ pub record AreRuns (items : List Bool) (ps : List (ℕ × ℕ)) : Type 0 where
   pub rising : Rise ps
   pub all : (k : ℕ) → get_or items k false ≡ true → InRuns k ps
 
--- a run, n places further on
+-- a run, n indices further on
 abbrev pub moved : ℕ → ℕ × ℕ → ℕ × ℕ
 moved n p = (n + p.0, p.1)
 
--- the runs of a list with a true item in front, from the runs of the list behind it
+-- the runs of a list with a true item at its start, from the runs of the list after it
 abbrev pub with_true : List (ℕ × ℕ) → List (ℕ × ℕ)
 with_true [] = (0, 1) ∷ []
 with_true ((zero, n) ∷ ps) = (0, suc n) ∷ map (moved 1) ps
@@ -50,6 +50,6 @@ runs [] = []
 runs (false ∷ items) = map (moved 1) (runs items)
 runs (true ∷ items) = with_true (runs items)
 
--- the runs of the items from place `at` on, by their places in the whole list
+-- the runs of the items from index `at` on, by their indices into the whole list
 abbrev pub runs_from : List Bool → ℕ → List (ℕ × ℕ)
 runs_from items at = map (moved at) (runs (drop at items))

@@ -1,7 +1,7 @@
 -- Items chosen by a mask, and those that are not null.
 use Rattle.std.specs.Prelude.{List, [], ◌∷◌, Bool, Option, Some, None, if◌then◌else◌}
 
--- the items at whose place the mask is true
+-- the items at whose index the mask is true
 abbrev pub selected : {X : Type 0} → List X → List Bool → List X
 selected [] mask = []
 selected (x ∷ xs) [] = []

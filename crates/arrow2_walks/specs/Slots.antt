@@ -1,4 +1,4 @@
--- The slots that are still to come of a validity zip, by what is still to come of its walks.
+-- The slots that are still to come of a validity zip, by those of its iterators.
 use Rattle.std.specs.Prelude.{List, Bool, Option, Some, map}
 use Rattle.arrow2_walks.specs.Zipped.{zipped}
 use Rattle.arrow2_walks.specs.declared.zip_validity.ZipValidityIter.{ZipValidityIter}

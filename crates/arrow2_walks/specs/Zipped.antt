@@ -1,7 +1,7 @@
--- Values beside their validity (Arrow columnar format, "Validity bitmaps": a slot is null where its bit is not set).
+-- Values with their validity (Arrow columnar format, "Validity bitmaps": a slot is null where its bit is not set).
 use Rattle.std.specs.Prelude.{List, [], ◌∷◌, Bool, Some, None, Option, if◌then◌else◌}
 
--- what a slot means: its value where it is valid
+-- the meaning of a slot: its value where it is valid
 abbrev pub slot : {X : Type 0} → X → Bool → Option X
 slot x valid = if valid then Some x else None
 

@@ -6,7 +6,7 @@ use Rattle.arrow2_walks.specs.declared.zip_validity.ZipValidityIter.{ZipValidity
 use Rattle.arrow2_walks.specs.declared.zip_validity.ZipValidity.{ZipValidity}
 use Rattle.arrow2_walks.specs.declared.zip_validity.ZipValidity.TheVariants.{Required, Optional}
 
--- the walk over the values, and the one over their validity
+-- the iterator over the values, and the one over their validity
 abbrev pub values_of : {S T : Type 0} → ZipValidityIter S T → S
 values_of s = s.values
 
@@ -22,20 +22,20 @@ MatchZip (Optional both) P Q = Q both
 abbrev pub IsRequiredAnd : {S T : Type 0} → ZipValidity S T → (S → Type 0) → Type 0
 IsRequiredAnd s P = MatchZip s P (λ _. ⊥)
 
--- it is `Optional`, and Q holds of the two walks
+-- it is `Optional`, and Q holds of the two iterators
 abbrev pub IsOptionalAnd : {S T : Type 0} → ZipValidity S T → (ZipValidityIter S T → Type 0) → Type 0
 IsOptionalAnd s Q = MatchZip s (λ _. ⊥) Q
 
--- as many values are left as there is validity of them, where there is any
+-- the number of values left is that of their validity, where there is any
 abbrev pub HasEqualLengths : {S T A : Type 0} → (S → List A) → (T → List Bool) → ZipValidityIter S T → Type 0
 HasEqualLengths rest valid s = length (rest (values_of s)) ≡ length (valid (validity_of s))
 
--- the walk over the values, on either side
+-- the iterator over the values, on either side
 abbrev pub either_values : {S T : Type 0} → ZipValidity S T → S
 either_values (Required values) = values
 either_values (Optional both) = values_of both
 
--- as many items come from s as n, where they come to their end
+-- whole runs of s have n items
 abbrev pub GivesAsMany : {S A : Type 0} → (S → Option A → S → Type 0) → S → ℕ → Type 0
 GivesAsMany steps s n = EachRunFrom steps s (λ p. p.whole ≡ true → p.len ≡ n)
 
@@ -44,7 +44,7 @@ module _ {S T A : Type 0} (steps : S → Option A → S → Type 0) (others : T 
   abbrev pub GiveEquallyMany : S → T → Type 0
   GiveEquallyMany s t = EachRunFrom steps s (λ p. EachRunFrom others t (λ q. p.whole ≡ true → q.whole ≡ true → p.len ≡ q.len))
 
-  -- both walks take the step. Their items make a slot, and where one of them has none there is none.
+  -- both iterators take the step. Their items make a slot, and where one of them has none there is none.
   abbrev pub zip_validity_steps : ZipValidityIter S T → Option (Option A) → ZipValidityIter S T → Type 0
   zip_validity_steps s r t = MatchOption r
       ((o : Option A) × (p : Option Bool) × steps (values_of s) o (values_of t) × others (validity_of s) p (validity_of t) × ((o ≡ None) ⊎ (p ≡ None)))

@@ -1,4 +1,4 @@
-//! Laws of the walks. Each function is its law and nothing else.
+//! Laws of the iterators. Each function is its law and nothing else.
 ghost use Rattle.std.specs.Prelude.{◌≡◌, ◌↔◌, ℕ, ◌+◌, ◌<◌, ◌≤◌, All, Bool, List, Option, false, get_or, length, option_map, slice_index_or, true};
 ghost use Rattle.std.specs.List.{sum_by, flat_map};
 ghost use Rattle.arrow2_model.specs.Parts.{falses, part};
@@ -10,8 +10,8 @@ ghost use Rattle.arrow2_walks.specs.Selected.{selected};
 ghost use Rattle.arrow2_walks.specs.Zips.{MatchZip, zip_validity_steps, either_steps, HasEqualLengths};
 ghost use Rattle.arrow2_walks.specs.Slots.{slots_of_both, slots_of};
 
-/// Where values walk over a list, and their validity over one of the same length, the two together walk over their
-/// slots from both ends, and stay of one length. `view` is what an item shows of the list, as for references.
+/// Where values iterate over a list, and their validity over one of the same length, the two together iterate over
+/// their slots from both ends, and stay of one length. `view` maps an item to the list's, as for references.
 #[tactic(auto, using(crate::proofs::Slots::slots))]
 pub fn a_zip_walks_over_its_slots<I: Iterator, V: Iterator<Item = bool>, X>()
     ensures first { (view : I.Item → X) (rest : I → List X) (valid : V → List Bool)
@@ -54,7 +54,7 @@ pub fn runs_are_the_maximal_ones()
     ensures only { (items : List Bool) (ps : List (ℕ × ℕ)) → AreRuns items ps → ps ≡ runs items }
 {}
 
-/// A run ends before any later one begins, with a place between them: runs are disjoint, rising and not adjacent.
+/// A run ends before any later one begins, with an index between them: runs are disjoint, rising and not adjacent.
 #[tactic(auto, using(crate::proofs::RunLaws::runs_of_a_list))]
 pub fn runs_lie_apart()
     ensures { (items : List Bool) (i j : ℕ) → i < j → j < length (runs items) →
@@ -62,7 +62,7 @@ pub fn runs_lie_apart()
         < (slice_index_or (runs items) j (0, 0)).0 }
 {}
 
-/// The places in runs are those of the true items.
+/// The indices in runs are those of the true items.
 #[tactic(auto, using(crate::proofs::RunLaws::runs_of_a_list))]
 pub fn runs_cover_the_true_items()
     ensures { (items : List Bool) (k : ℕ) → (get_or items k false ≡ true) ↔ InRuns k (runs items) }
@@ -80,7 +80,7 @@ pub fn runs_lie_inside()
     ensures { (items : List Bool) → All (λ run. run.0 + run.1 ≤ length items) (runs items) }
 {}
 
-/// The parts of a list that the runs of a mask cut out, one behind the other, are the items that the mask selects.
+/// The parts of a list that the runs of a mask cut out, one after the other, are the items that the mask selects.
 pub fn runs_cut_out_the_selected_items<X>()
     ensures { (xs : List X) (mask : List Bool) → length mask ≡ length xs →
         flat_map (λ run. part xs run.0 run.1) (runs mask) ≡ selected xs mask }

@@ -1,4 +1,4 @@
-//! Walks over bitmaps: values beside their validity, and the runs of set items; and bitmaps in pieces.
+//! Iterators over bitmaps: values zipped with their validity, and the runs of set bits; and bitmaps in pieces.
 #![tactic(auto)]
 
 pub mod laws;

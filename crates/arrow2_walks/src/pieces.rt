@@ -35,7 +35,7 @@ impl Model for Pieces {
 
 #[tactic(auto, using(crate::proofs::Cuts::cuts))]
 impl Pieces {
-    /// The bitmap as one piece.
+    /// Returns the bitmap as one piece.
     ///
     /// # Errors
     ///
@@ -52,19 +52,19 @@ impl Pieces {
         })
     }
 
-    /// How many pieces there are: at least one.
+    /// Returns the number of pieces: at least one.
     pub fn len(&self) -> usize
         ensures pieces { result ≡ length self.now.pieces }
         ensures some { 0 < result }
         ensures bound { let n = length (joined self.now.pieces) in
             8 * self.now.reads ≤ 2 * (n * lg n) + 30 * (result - 1) }
     {
-        // The field is read for what the type keeps: the cuts are paid for.
+        // The field is read for the facts that the type guarantees: the cuts are paid for.
         let _ = &self.reads;
         self.bitmaps.len()
     }
 
-    /// Piece `p`. Requires that it is below the number of pieces.
+    /// Returns piece `p`. Requires that it is below the number of pieces.
     pub fn get(&self, p: usize) -> &Bitmap
         requires below { p < length self.now.pieces }
         ensures { piece_of result.now ≡ piece_at self.now.pieces p }
@@ -72,7 +72,7 @@ impl Pieces {
         &self.bitmaps[p]
     }
 
-    /// The pieces, in order.
+    /// Returns the pieces, in order.
     pub fn into_inner(self) -> Vec<Bitmap>
         ensures { map piece_of result.items ≡ self.pieces }
     {
@@ -80,8 +80,8 @@ impl Pieces {
         bitmaps
     }
 
-    /// Cuts piece `p` in two: its first `i` items and the others take its place. Requires that there are such a piece
-    /// and as many items. Takes its memory before it counts.
+    /// Cuts piece `p` in two: its first `i` items and the others replace it. Requires that there is a piece `p`, with
+    /// at least `i` items. Allocates before it counts.
     ///
     /// # Errors
     ///
@@ -102,7 +102,7 @@ impl Pieces {
     }
 }
 
-/// Cuts bitmap `p` in two at item `i`, and adds what both slices read.
+/// Cuts bitmap `p` in two at item `i`, and adds the reads of both slices.
 #[tactic(auto, using(crate::proofs::Cuts::cuts))]
 fn cut_in_two(bitmaps: &mut Vec<Bitmap>, p: usize, i: usize, reads: &mut Reads) -> Result<()>
     requires below { p < length bitmaps.old.items }

@@ -1,14 +1,14 @@
-//! The next place of a bit that is set, or of one that is not, by words.
+//! Finds the next index of a set bit, or of an unset one, by words.
 ghost use Rattle.std.specs.Prelude.{◌≡◌, ℕ, ◌+◌, ◌*◌, ◌<◌, ◌≤◌, not, get_or, false, length};
 ghost use Rattle.arrow2_model.specs.Bits.{bit, bits};
 ghost use Rattle.arrow2_walks.specs.Places.{IsFirst, IsRead};
 
 use arrow2_bits::chunks::word_from;
 
-/// A place, and the bits from it on that were read already, as the lowest ones of a word.
+/// An index, and the bits from it on that were read already, as the lowest ones of a word.
 #[derive(Clone, Copy, Debug)]
 pub struct Place {
-    /// The place.
+    /// The index.
     pub index: usize,
     /// The bits from it on, the lowest first.
     pub word: u64,
@@ -16,9 +16,9 @@ pub struct Place {
     pub held: usize,
 }
 
-/// The first place from `at` on whose bit, counted from bit `offset` on, is `value`, or `end` where there is none. Each
-/// word is read once, and shifted as it is passed. Requires that bits up to `end` are inside, and that `at` holds bits
-/// from its place on.
+/// Returns the first index from `at` on whose bit, counted from bit `offset` on, is `value`, or `end` where there is
+/// none. Each word is read once, and shifted as it is passed. Requires that bits up to `end` are inside, and that `at`
+/// holds bits from its index on.
 ///
 /// In arrow2 it is inside the iterator over runs.
 pub fn first_place(bytes: &[u8], offset: usize, end: usize, at: Place, value: bool) -> Place
@@ -50,7 +50,7 @@ pub fn first_place(bytes: &[u8], offset: usize, end: usize, at: Place, value: bo
     }
 }
 
-/// The first place in the word at which its bit is `value`, or 64 where there is none.
+/// Returns the first index in the word at which its bit is `value`, or 64 where there is none.
 fn first_bit(word: u64, value: bool) -> usize
     ensures within { result ≤ 64 }
     ensures others { (i : ℕ) → i < result → bit word i ≡ not value }

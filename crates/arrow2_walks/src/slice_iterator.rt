@@ -1,4 +1,4 @@
-//! The runs of set items of a bitmap.
+//! The runs of set bits of a bitmap.
 ghost use Rattle.std.specs.Prelude.{◌≡◌, ◌+◌, length};
 ghost use Rattle.std.specs.Iterator.{YieldsFirst, item_count};
 ghost use Rattle.arrow2_model.specs.Parts.{falses};
@@ -11,10 +11,21 @@ use arrow2_bitmap::Bitmap;
 use std::alloc::AllocError;
 use std::marker::Model;
 
-/// An iterator over the maximal runs of set items of a bitmap, rising, each by its first place and its length:
-/// contracts see the runs still to come, and the number of set items in all.
+/// An iterator over the maximal runs of set bits of a bitmap, rising, each by its first index and its length: contracts
+/// see the runs still to come, and the total number of set bits.
 ///
-/// arrow2's page gives (6, 1) as the last run of 00101111, which is (5, 1).
+/// arrow2's documentation gives (6, 1) as the last run of 00101111, which is (5, 1).
+///
+/// # Examples
+///
+/// ```rust
+/// use arrow2::bitmap::Bitmap;
+/// use arrow2::bitmap::utils::SlicesIterator;
+///
+/// let mask = Bitmap::from_bools(alloc, &[true, true, false, true])?;
+/// let runs: Vec<(usize, usize)> = SlicesIterator::new(&mask).collect(alloc)?;
+/// assert_eq!(rt; runs.as_slice(), [(0, 2), (3, 1)].as_slice());
+/// ```
 #[derive(Debug, Drop)]
 pub struct SlicesIterator<'a> {
     bytes: &'a [u8],
@@ -65,14 +76,14 @@ impl<'a> SlicesIterator<'a> {
         }
     }
 
-    /// How many items are set in all: what the lengths of all runs of the bitmap come to. No step changes it.
+    /// Returns the total number of set bits: the sum of the lengths of all runs of the bitmap. No step changes it.
     pub fn slots(&self) -> usize
         ensures { result ≡ self.now.slots }
     {
         self.slots
     }
 
-    /// The next run, as the iterator gives it. What [`SlicesIterator::slots`] answers stays the same.
+    /// Returns the next run, as the iterator gives it. The result of [`SlicesIterator::slots`] stays the same.
     ///
     /// arrow2 has the iterator alone.
     pub fn next_run(&mut self) -> Option<(usize, usize)>

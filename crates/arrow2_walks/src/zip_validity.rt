@@ -1,4 +1,4 @@
-//! Values beside their validity, item by item.
+//! Values zipped with their validity, item by item.
 ghost use Rattle.std.specs.Prelude.{◌≡◌, ◌⊎◌, ◌<◌, Bool, true, None, Some, MatchOption, IfSome, length};
 ghost use Rattle.std.specs.Option.{ForSome};
 ghost use Rattle.std.specs.Iterator.{UpTo};
@@ -32,7 +32,7 @@ impl<I: Iterator, V: Iterator<Item = bool>> ZipValidityIter<I, V> {
     }
 }
 
-/// What a value and its validity make. `None` where either walk has ended.
+/// Returns the slot of a value and its validity. `None` where either iterator has ended.
 fn zip<X: Drop>(value: Option<X>, is_valid: Option<bool>) -> Option<Option<X>>
     ensures { MatchOption result ((value ≡ None) ⊎ (is_valid ≡ None)) (λ item.
         (x : X) × (valid : Bool) × (value ≡ Some x) × (is_valid ≡ Some valid)
@@ -60,7 +60,7 @@ where
         zip(value, is_valid)
     }
 
-    /// That of the values.
+    /// Returns the size hint of the values.
     fn size_hint(&self) -> (usize, Option<usize>) {
         self.values.size_hint()
     }
@@ -87,7 +87,7 @@ impl<I: ExactSizeIterator, V: ExactSizeIterator<Item = bool>> ExactSizeIterator
 where
     I::Item: Drop,
 {
-    /// That of the values.
+    /// Returns the size hint of the values.
     fn len(&self) -> usize {
         self.values.len()
     }
@@ -104,7 +104,7 @@ pub enum ZipValidity<I, V> {
 }
 
 impl<I: Iterator, V: Iterator<Item = bool>> ZipValidity<I, V> {
-    /// `Optional` exactly where a validity is given. Requires that it has equally many items.
+    /// Returns `Optional` exactly where a validity is given. Requires that it has equally many items.
     pub fn new(values: I, validity: Option<V>) -> ZipValidity<I, V>
         requires same_length { ForSome validity (λ v.
             GiveEquallyMany I.next_gives V.next_gives values v) }
@@ -117,7 +117,7 @@ impl<I: Iterator, V: Iterator<Item = bool>> ZipValidity<I, V> {
         }
     }
 
-    /// The values. Requires that they come without validity.
+    /// Returns the values. Requires that they come without validity.
     pub fn unwrap_required(self) -> I
     where
         V: Drop,
@@ -131,7 +131,7 @@ impl<I: Iterator, V: Iterator<Item = bool>> ZipValidity<I, V> {
         }
     }
 
-    /// The values and their validity. Requires that there is one.
+    /// Returns the values and their validity. Requires that there is one.
     pub fn unwrap_optional(self) -> ZipValidityIter<I, V>
     where
         V: Drop,
@@ -147,8 +147,8 @@ impl<I: Iterator, V: Iterator<Item = bool>> ZipValidity<I, V> {
 }
 
 impl<'a, I: Iterator> ZipValidity<I, BitmapIter<'a>> {
-    /// `Optional` exactly where a validity is given that has an unset item. Requires that it has as many items as there
-    /// are values, also where none of them is unset; arrow2 does not test it there.
+    /// Returns `Optional` exactly where a validity is given that has an unset item. Requires one item for each value,
+    /// also where none of them is unset; arrow2 does not test it there.
     pub fn new_with_validity(
         values: I,
         validity: Option<&'a Bitmap>,
@@ -191,7 +191,7 @@ where
         }
     }
 
-    /// That of the values.
+    /// Returns the size hint of the values.
     fn size_hint(&self) -> (usize, Option<usize>) {
         match self {
             ZipValidity::Required(values) => values.size_hint(),
@@ -223,7 +223,7 @@ impl<I: ExactSizeIterator, V: ExactSizeIterator<Item = bool>> ExactSizeIterator
 where
     I::Item: Drop,
 {
-    /// That of the values.
+    /// Returns the size hint of the values.
     fn len(&self) -> usize {
         match self {
             ZipValidity::Required(values) => values.len(),

@@ -1,5 +1,5 @@
-//! Bits of bytes: reading, writing, counting, printing and walking them, also by words, and counts of the bytes read;
-//! walks over runs, and over values beside their validity.
+//! Bits of bytes: reading, writing, counting, printing and iterating, also by words, and counts of the bytes read;
+//! iterators over runs, and over values zipped with their validity.
 
 pub use arrow2_bits::chunk_iterator::{BitChunkIterExact, BitChunks};
 pub use arrow2_bits::chunks_exact::BitChunksExact;

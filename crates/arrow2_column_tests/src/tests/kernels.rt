@@ -1,4 +1,4 @@
-//! Kernels of two arrays, and those by arrays of indices and of booleans, beside plain code over lists.
+//! Kernels of two arrays, and those by arrays of indices and of booleans, compared with plain code over lists.
 ghost use Rattle.std.specs.Prelude.{◌≡◌, length};
 ghost use Rattle.arrow2.specs.Binary.{binary_items};
 ghost use Rattle.arrow2.specs.Items.{boolean_items};
@@ -28,8 +28,8 @@ use std::rc::Rc;
 /// The lengths at which kernels are tried: none, one, and around a word and two.
 const LENGTHS: [usize; 9] = [0, 1, 2, 63, 64, 65, 127, 129, 200];
 
-/// Returns the item at a place of the lists that the kernels are tried on, null at each place that `nulls` divides but for
-/// 0, where none is.
+/// Returns the item at an index of the lists that the kernels are tried on, null at each index that `nulls` divides;
+/// with 0, none is null.
 fn item_at(place: usize, salt: usize, nulls: usize) -> Option<i64> {
     if nulls > 0 && place.wrapping_add(salt) % nulls == 0 {
         return None;
@@ -37,7 +37,7 @@ fn item_at(place: usize, salt: usize, nulls: usize) -> Option<i64> {
     Some((place.wrapping_mul(salt) % 13) as i64 - 6)
 }
 
-/// Returns the items at the places below `len`.
+/// Returns the items at the indices below `len`.
 fn listed(rt: &impl Abort, alloc: Global, len: usize, salt: usize, nulls: usize) -> Vec<Option<i64>>
     ensures { length result.items ≡ len }
 {
@@ -75,7 +75,7 @@ fn says(rt: &impl Abort, alloc: Global, made: Result<BooleanArray>, items: &[Opt
     assert!(rt; own.as_slice() == items);
 }
 
-/// Returns what a test says of the items of two lists, place by place.
+/// Returns the results of a test on the items of two lists, index by index.
 fn told<F: Fn(i64, i64) -> bool>(
     rt: &impl Abort,
     alloc: Global,

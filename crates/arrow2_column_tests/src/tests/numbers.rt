@@ -21,7 +21,7 @@ use std::alloc::Global;
 use std::fmt::Debug;
 use std::process::Abort;
 
-/// Returns the item at a place of the lists that the kernels are tried on: every third is null.
+/// Returns the item at an index of the lists that the kernels are tried on: every third is null.
 fn item_at(place: usize) -> Option<i64> {
     if place % 3 == 1 {
         return None;
@@ -29,7 +29,7 @@ fn item_at(place: usize) -> Option<i64> {
     Some((place % 251) as i64 - 100)
 }
 
-/// Returns whether the mask is true at a place.
+/// Returns whether the mask is true at an index.
 fn is_kept(place: usize) -> bool {
     place % 7 < 4 && place % 2 == 0
 }
@@ -51,7 +51,7 @@ fn array_of(rt: &impl Abort, alloc: Global, len: usize) -> PrimitiveArray<i64>
     array
 }
 
-/// Returns the mask of the places below `len`, from bit 3 of its bytes on.
+/// Returns the mask of the indices below `len`, from bit 3 of its bytes on.
 fn mask_of(rt: &impl Abort, alloc: Global, len: usize) -> Bitmap
     ensures { length (items_of result) ≡ len }
 {
@@ -60,7 +60,7 @@ fn mask_of(rt: &impl Abort, alloc: Global, len: usize) -> Bitmap
     mask.expect(rt, "memory").sliced(3, len)
 }
 
-/// Returns the items that a test of their places keeps.
+/// Returns the items that a test of their indices keeps.
 fn listed(rt: &impl Abort, alloc: Global, len: usize, only_kept: bool) -> Vec<Option<i64>> {
     let mut items = Vec::new(alloc);
     for place in 0..len {
@@ -148,7 +148,7 @@ fn items_come_from_both_ends(rt: HostRuntime) {
     has(&rt, alloc, taken, [None, Some(-100), None].as_slice());
 }
 
-/// Checks that a comparison has these answers.
+/// Checks that a comparison has these results.
 fn answers(rt: &impl Abort, alloc: Global, made: Result<BooleanArray>, items: &[Option<bool>]) {
     let array = made.expect(rt, "memory");
     let own: Vec<Option<bool>> = array.iter().collect(alloc).expect(rt, "memory");
@@ -268,7 +268,7 @@ fn what_stands_under_nulls_is_not_compared(rt: HostRuntime) {
     compares(&rt, &values, &dates.expect(&rt, "memory"), false);
 }
 
-/// Checks that an array becomes one that grows exactly where it is said so, and that it then takes another item.
+/// Checks that an array becomes one that grows exactly where `owned`, and that it then takes another item.
 fn thaws(rt: &impl Abort, alloc: Global, array: PrimitiveArray<i32>, owned: bool, text: &str) {
     match array.into_mut().expect(rt, "memory") {
         Either::Left(array) => {

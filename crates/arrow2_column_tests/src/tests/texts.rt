@@ -141,7 +141,7 @@ fn what_stands_under_nulls_is_not_compared(rt: HostRuntime) {
     compares(&rt, &first(&rt, texts, 2), &short, true);
 }
 
-/// Checks that an array becomes one that grows exactly where it is said so, and that an item is then taken off and put back.
+/// Checks that an array becomes one that grows exactly where `owned`, and that an item is then taken off and put back.
 fn thaws(rt: &impl Abort, alloc: Global, array: Utf8Array<i32>, owned: bool, text: &str) {
     match array.into_mut().expect(rt, "memory") {
         Either::Left(array) => {

@@ -1,4 +1,4 @@
-//! Boolean arrays: what is read, shown and refused.
+//! Boolean arrays: reading, printing and errors.
 ghost use Rattle.std.specs.Prelude.{◌≡◌, length};
 ghost use Rattle.arrow2_model.specs.Storage.{items_of};
 ghost use Rattle.arrow2_array.specs.Items.{boolean_items};
@@ -10,7 +10,7 @@ use arrow2_types::error::Result;
 use std::alloc::Global;
 use std::process::Abort;
 
-/// The bitmap of a thousand bits, of which those of one byte are repeated.
+/// Returns the bitmap of a thousand bits that repeat those of one byte.
 fn bitmap_of(rt: &impl Abort, alloc: Global, byte: u8) -> Bitmap
     ensures { length (items_of result) ≡ 1000 }
 {
@@ -53,7 +53,7 @@ fn a_long_array_is_shown_whole(rt: HostRuntime) {
     shows(&rt, alloc, &array, text.as_str());
 }
 
-/// A bitmap of so many falses.
+/// Returns a bitmap of `length` unset bits.
 fn falses(rt: &impl Abort, alloc: Global, length: usize) -> Bitmap {
     Bitmap::new_zeroed(alloc, length).expect(rt, "no memory")
 }

@@ -1,4 +1,4 @@
-//! Worked rows of bitmaps, and storage that shows.
+//! Worked examples of bitmaps, and storage that shows.
 ghost use Rattle.std.specs.Prelude.{◌≡◌, IfOk, length as count};
 ghost use Rattle.arrow2_model.specs.Storage.{items_of};
 
@@ -159,7 +159,7 @@ fn an_iterator_is_taken_from_both_ends(rt: HostRuntime) {
     has(&rt, &ended, &[Some(true), None, None, None]);
 }
 
-/// What a caller of `try_from_iter` knows: the items of the iterator are those of the bitmap.
+/// A fact for a caller of `try_from_iter`: the items of the iterator are those of the bitmap.
 fn collect_again(alloc: Global, bitmap: &Bitmap) -> Result<MutableBitmap>
     ensures { IfOk result (λ m. m.items ≡ items_of bitmap.now) }
 {

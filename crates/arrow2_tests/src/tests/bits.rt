@@ -1,4 +1,4 @@
-//! Worked rows of bits and of iterators by words, and their printed texts.
+//! Worked examples of bits and of iterators by words, and their printed texts.
 ghost use Rattle.std.specs.Prelude.{◌≡◌, ◌+◌, ◌*◌, ◌<◌, ◌≤◌, length as count};
 
 use super::checks::{gives, has, shows};

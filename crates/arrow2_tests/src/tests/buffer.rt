@@ -1,4 +1,4 @@
-//! Buffers as their callers see them: sharing, what is written through a loan, and printed texts.
+//! Buffers as their callers see them: sharing, writing through a loan, and printed texts.
 ghost use Rattle.std.specs.Prelude.{◌≡◌, length, replicate, IfOk};
 ghost use Rattle.std.specs.Bool.{OnTrue, OnFalse};
 ghost use Rattle.arrow2_model.specs.Buffers.{buffer_items, whole_buffer};
@@ -27,7 +27,7 @@ fn set_all(items: &mut [u32], value: u32)
     items.fill(value);
 }
 
-/// What a caller of `change_slice` knows: every item after the change.
+/// A fact for a caller of `change_slice`: every item after the change.
 fn overwrite(buffer: &mut Buffer<u32>, value: u32) -> bool
     ensures set { OnTrue result
         (buffer_items buffer.new ≡ replicate (length (buffer_items buffer.old)) value) }
@@ -83,7 +83,7 @@ fn only_an_unshared_buffer_is_written(rt: HostRuntime) {
     written_items_are_the_items::<u32>();
 }
 
-/// Shows what a caller of `try_from_iter` knows: the items of the iterator.
+/// Shows a fact for a caller of `try_from_iter`: the items of the iterator.
 fn collected(alloc: Global, walk: IntoIter<u32>) -> Result<Buffer<u32>>
     ensures { IfOk result (λ buffer. buffer ≡ whole_buffer walk) }
 {

@@ -1,4 +1,4 @@
-//! What many tests ask, each proved once.
+//! Checks that many tests need, each proved once.
 ghost use Rattle.std.specs.Prelude.{◌≡◌};
 ghost use Rattle.std.specs.Iterator.{IsFinite};
 ghost use Rattle.arrow2_model.specs.Storage.{items_of};
@@ -75,7 +75,7 @@ pub(super) fn refuses<T: Drop>(rt: &impl Abort, alloc: Global, made: Result<T>, 
     prints(rt, alloc, &error, text);
 }
 
-/// The call answered as an overflow.
+/// The call returned `Overflow`.
 pub(super) fn overflows<T: Drop>(rt: &impl Abort, answer: Result<T>) {
     assert!(rt; matches!(answer, Err(Error::Overflow)));
 }

@@ -1,4 +1,4 @@
-//! Words as lists of bits: worked rows, and each call once.
+//! Words as lists of bits: worked examples, and each call once.
 use super::checks::{gives, has};
 use arrow2_chunk::bit_chunk::BitChunk;
 use arrow2_chunk::bit_chunk_iter::{BitChunkIter, BitChunkOnes};

@@ -1,4 +1,4 @@
-//! Chunks that are lent to be written, and what stands in the lender's bytes afterwards.
+//! Chunks that are lent to be written, and the lender's bytes afterwards.
 ghost use Rattle.std.specs.Prelude.{◌≡◌, length, replicate};
 ghost use Rattle.std.specs.Bool.{OnTrue};
 ghost use Rattle.arrow2_bits.specs.ChunksMut.{past};
@@ -28,14 +28,14 @@ fn clear_next<T>(walk: &mut BitChunksExactMut<'_, T>) -> bool
     walk.change_next(|chunk| clear(chunk))
 }
 
-/// Iterates over five bytes by chunks of two, of which it lends two. The last byte is the remainder.
+/// Iterates over five bytes by chunks of two, and lends two of these. The last byte is the remainder.
 fn walk_of(bytes: &mut [u8]) -> BitChunksExactMut<'_, u16>
     requires { length bytes.old ≡ 5 }
 {
     BitChunksExactMut::new(bytes, 35)
 }
 
-/// What is written to the chunks that `next_chunk` lends stands in the bytes afterwards.
+/// Bytes written to the chunks that `next_chunk` lends are in the bytes afterwards.
 fn writes_next_chunks(rt: &impl Abort, first: &[u8], second: &[u8], after: &[u8]) {
     let mut bytes = [1, 2, 3, 4, 5];
     let mut walk = walk_of(&mut bytes);

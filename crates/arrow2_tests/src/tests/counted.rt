@@ -1,4 +1,4 @@
-//! What slices and cuts read: facts, since a counter has no value when a test runs.
+//! The reads of slices and cuts: facts, since a counter has no value when a test runs.
 ghost use Rattle.std.specs.Prelude.{◌≡◌, ◌+◌, ◌<◌, ◌≤◌, ◌^◌};
 ghost use Rattle.arrow2_model.specs.Touched.{slice_reads, cut_reads};
 
@@ -12,7 +12,7 @@ use std::process::Abort;
 // A counter, which these hold, takes no bytes when the program runs.
 const _: () = prove!(size_of::<Reads>() == 0);
 
-/// What a slice of `length` bits from bit `offset` on reads.
+/// Returns the reads of a slice of `length` bits from bit `offset` on.
 fn read_by_slice(
     rt: &impl Abort,
     alloc: Global,
@@ -33,7 +33,7 @@ fn read_by_slice(
     reads
 }
 
-/// Requires that so many bytes were read.
+/// Requires that `bytes` bytes were read.
 fn is_read(reads: Reads, bytes: u64)
     requires { reads ≡ bytes }
 {
@@ -68,7 +68,7 @@ fn cut(rt: &impl Abort, pieces: &mut Pieces, p: usize, length: usize, i: usize)
     pieces.cut(p, i).expect(rt, "no memory");
 }
 
-/// Requires that the cuts have read so many bytes.
+/// Requires that the cuts have read `bytes` bytes.
 fn have_read(pieces: &Pieces, bytes: u64)
     requires { pieces.now.reads ≡ bytes }
 {}

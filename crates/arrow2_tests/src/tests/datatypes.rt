@@ -1,4 +1,4 @@
-//! Worked rows of the type tables, of extensions and of filtered schemas, and derived texts.
+//! Worked examples of the type tables, of extensions and of filtered schemas, and derived texts.
 use super::checks::{has, shows};
 use arrow2_datatypes::{
     DataType, Field, IntegerType, IntervalUnit, Metadata, PhysicalType, PrimitiveType, Schema,

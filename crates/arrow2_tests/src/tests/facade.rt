@@ -1,4 +1,4 @@
-//! Each item of the one crate that users name, at its path: what stands here compiles.
+//! Each item of the one crate that users name, at its path: this file compiles.
 use super::checks::{has, prints};
 pub use arrow2::array::{BooleanArray, BooleanIter, MutableBooleanArray};
 pub use arrow2::bitmap::utils::{

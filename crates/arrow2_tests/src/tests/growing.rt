@@ -14,7 +14,7 @@ fn grown_from(rt: &impl Abort, alloc: Global, items: &[bool]) -> MutableBitmap {
     MutableBitmap::from_bools(alloc, items).expect(rt, "no memory")
 }
 
-/// Appends so many bits from bit `offset` of the bytes on to the items.
+/// Appends bits of the bytes from bit `offset` on to the items.
 fn extended(
     rt: &impl Abort,
     alloc: Global,
@@ -31,7 +31,7 @@ fn extended(
     grown
 }
 
-/// Freezes the bitmap, and checks its length, how many items are false, and its runs.
+/// Freezes the bitmap, and checks its length, its number of false items, and its runs.
 fn has_runs(
     rt: &impl Abort,
     alloc: Global,

@@ -12,7 +12,7 @@ use arrow2_types::error::Result;
 use std::alloc::Global;
 use std::process::Abort;
 
-/// Gives the numbers from 1 on, as many as are left. Its size hint falls by `falls` an item.
+/// Gives the numbers from 1 on while `left` is not 0. Its size hint falls by `falls` an item.
 #[derive(Drop)]
 struct Hinting {
     given: usize,
@@ -41,7 +41,7 @@ impl Iterator for Hinting {
     }
 }
 
-/// So many numbers, under a size hint that begins at `hint` and falls by `falls` an item.
+/// Returns `left` numbers, under a size hint that begins at `hint` and falls by `falls` an item.
 fn numbers(left: u64, (hint, falls): (usize, usize)) -> Hinting {
     Hinting {
         given: 0,
@@ -56,7 +56,7 @@ fn has_items(rt: &impl Abort, made: Result<Buffer<bool>>, items: &[bool]) {
     has(rt, made.expect(rt, "no memory").as_slice(), items);
 }
 
-/// Under such a size hint, three trues are collected.
+/// Under such a size hint, three true items are collected.
 fn are_collected(rt: &impl Abort, alloc: Global, hint: (usize, usize)) {
     let grown = MutableBitmap::try_from_iter(alloc, numbers(3, hint).map(|_| true));
     stores(rt, grown, &[7]);

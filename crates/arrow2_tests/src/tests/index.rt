@@ -1,4 +1,4 @@
-//! Worked rows of whole numbers, and each call once.
+//! Worked examples of whole numbers, and each call once.
 ghost use Rattle.std.specs.Prelude.{◌≤◌};
 
 use super::checks::has;

@@ -1,4 +1,4 @@
-//! Worked rows of kernels, and callers of their clauses.
+//! Worked examples of kernels, and callers of their clauses.
 ghost use Rattle.std.specs.Prelude.{◌≡◌, ◌+◌, ◌%◌, ◌^◌, [], ◌∷◌, length as count, IfOk};
 ghost use Rattle.arrow2_model.specs.Kernels.{unary_kernel, binary_kernel};
 ghost use Rattle.arrow2_model.specs.Storage.{items_of};
@@ -14,7 +14,7 @@ use arrow2_types::error::Result;
 use std::alloc::Global;
 use std::process::Abort;
 
-/// A caller that knows what its function makes of each word knows the list.
+/// A caller that knows the result of its function for each word knows the list.
 fn next_words(bitmap: &Bitmap) -> Result<Bitmap>
     ensures { IfOk result (λ b.
         items_of b ≡ unary_kernel 64 (λ x. (x + 1) % 2 ^ 64) (items_of bitmap.now)) }
@@ -62,7 +62,7 @@ fn spare_bits_and_words_behind_reach_no_function(rt: HostRuntime) {
     is_zero(&rt, alloc, &[], 0);
 }
 
-/// So many falses.
+/// Returns a bitmap of `length` unset bits.
 fn falses(rt: &impl Abort, alloc: Global, length: usize) -> MutableBitmap {
     MutableBitmap::from_len_zeroed(alloc, length).expect(rt, "no memory")
 }

@@ -6,7 +6,7 @@ use std::alloc::{AllocError, Global};
 /// A list that plain code gives, where it found memory.
 pub(super) type Given = Result<Vec<bool>, AllocError>;
 
-/// Returns the item at a place, and false after the last one.
+/// Returns the item at an index, and false after the last one.
 pub(super) fn at(list: &[bool], i: usize) -> bool {
     matches!(list.get(i), Some(true))
 }
@@ -22,7 +22,7 @@ pub(super) fn joined(mut items: Vec<bool>, list: &[bool]) -> Given {
     Ok(items)
 }
 
-/// Returns item `i` of the sum of lists without carry, list `k` moved by `k` places within words of `width` items.
+/// Returns item `i` of the sum of lists without carry, list `k` moved by `k` positions within words of `width` items.
 fn mixed_at(lists: &[&[bool]], width: usize, i: usize) -> bool
     requires { 0 < width }
 {
@@ -104,7 +104,7 @@ pub(super) fn of_number(alloc: Global, number: u64, length: usize) -> Given {
         .collect(alloc)
 }
 
-/// The list that is true where 3 divides the place.
+/// Returns the list that is true where 3 divides the index.
 pub(super) fn thirds(alloc: Global, length: usize) -> Given {
     (0..length).map(|i| i % 3 == 0).collect(alloc)
 }

@@ -11,10 +11,10 @@ use std::alloc::Global;
 use std::convert::TryFrom;
 use std::process::Abort;
 
-/// How many items there are.
+/// Returns the number of items.
 const MILLION: usize = 1_000_000;
 
-/// The call made a million items, of which so many are false.
+/// The call made a million items, `falses` of which are false.
 fn counts(rt: &impl Abort, made: Result<Bitmap>, falses: usize) {
     let bitmap = made.expect(rt, "no memory");
     assert!(rt; bitmap.len() == MILLION && bitmap.unset_bits() == falses);
@@ -25,7 +25,7 @@ fn thirds(alloc: Global) -> Result<Bitmap> {
     Bitmap::try_from_iter(alloc, (0..MILLION).map(|i| i % 3 != 0))
 }
 
-/// A million falses of which bitmaps are packed.
+/// A million false items of which bitmaps are packed.
 fn is_packed(rt: &impl Abort, alloc: Global) {
     let list = vec![in alloc; false; MILLION].expect(rt, "no memory");
     counts(rt, Bitmap::from_bools(alloc, list.as_slice()), MILLION);
@@ -50,7 +50,7 @@ fn kernels_make_bitmaps(rt: HostRuntime) {
     counts(&rt, binary(&bitmap, &bitmap, |x, y| x ^ y), MILLION);
 }
 
-/// The call made so many items.
+/// The call made a million items.
 fn has_million(rt: &impl Abort, made: Result<Buffer<usize>>) {
     assert!(rt; made.expect(rt, "no memory").len() == MILLION);
 }

@@ -1,4 +1,4 @@
-//! Offsets as their callers see them: worked rows, texts of refusals, and calls that no command of a script makes.
+//! Offsets as their callers see them: worked examples, texts of refusals, and calls that no command of a script makes.
 use super::checks::{gives, has, overflows, refuses};
 use arrow2_buffer::Buffer;
 use arrow2_index::offset::Offset;
@@ -69,14 +69,14 @@ fn shared_offsets_are_read_and_sliced(rt: HostRuntime) {
     has(&rt, offsets.into_inner().as_slice(), &[5, 8]);
 }
 
-/// What could not be taken back has these offsets.
+/// The offsets that could not be taken back are these.
 fn stays(rt: &impl Abort, given: Either<OffsetsBuffer<i32>, Offsets<i32>>, items: &[i32]) {
     let left = given.left().expect(rt, "it is sliced or shared");
     has(rt, left.as_slice(), items);
     assert!(rt; left.len_proxy() + 1 == items.len());
 }
 
-/// What was taken back has these offsets.
+/// The offsets that were taken back are these.
 fn is_taken(rt: &impl Abort, given: Either<OffsetsBuffer<i32>, Offsets<i32>>, items: &[i32]) {
     let right = given.right().expect(rt, "it is whole, and not shared");
     has(rt, right.as_slice(), items);
@@ -102,7 +102,7 @@ fn grow_by_others(rt: &impl Abort, mut own: Offsets<i32>, other: &Offsets<i32>, 
     has(rt, own.as_slice(), wanted);
 }
 
-/// Offsets grow by so many lengths of others, shared, from length `start` on, to these.
+/// Offsets grow by `length` lengths of others, shared, from length `start` on, to these.
 fn grow_by_a_part(
     rt: &impl Abort,
     mut own: Offsets<i32>,
@@ -156,7 +156,7 @@ fn large_offsets_end_at_their_greatest(rt: HostRuntime) {
     overflows(&rt, Offsets::<i64>::with_capacity(alloc, usize::MAX));
 }
 
-/// What is handed in is refused with the text, growing and shared.
+/// The numbers are refused with the text, growing and shared.
 fn is_refused(rt: &impl Abort, alloc: Global, items: &[i32], text: &str) {
     let vector = items.to_vec(alloc).expect(rt, "no memory");
     refuses(rt, alloc, Offsets::try_from(vector), text);

@@ -1,5 +1,5 @@
 //! The storage test of the calls that no command of a script makes: each call that shows no storage depends on the list
-//! alone, whatever bit offset, spare bits and spare bytes the list has in memory.
+//! alone, whatever bit offset, padding bits and spare bytes the list has in memory.
 ghost use Rattle.std.specs.Prelude.{◌≡◌, ◌<◌, length};
 ghost use Rattle.arrow2_model.specs.Storage.{items_of};
 
@@ -48,7 +48,7 @@ fn is_walked(rt: &impl Abort, (bitmap, list): Of) {
     }
 }
 
-/// Skips to each place, and to the one after the last.
+/// Skips to each index, and to the one after the last.
 fn is_skipped(rt: &impl Abort, (bitmap, list): Of) {
     for i in 0..list.len() + 1 {
         assert!(rt; bitmap.iter().nth(i) == list.get(i).copied());
@@ -56,7 +56,7 @@ fn is_skipped(rt: &impl Abort, (bitmap, list): Of) {
     }
 }
 
-/// Counts the falses of each part from item `start` on.
+/// Counts the false items of each part from item `start` on.
 fn is_counted_from(rt: &impl Abort, (bitmap, list): Of, start: usize) {
     assert!(rt; bitmap.len() == list.len() && start <= list.len());
     let mut falses = 0usize;
@@ -158,7 +158,7 @@ fn goes_by_operators(rt: &impl Abort, (left, list): Of, (right, others): Of) {
     becomes(rt, !thawed(rt, left), &turned);
 }
 
-/// Appends the bytes of the list at each bit place.
+/// Appends the bytes of the list at each bit index.
 fn is_appended(rt: &impl Abort, (bitmap, list): Of) {
     let alloc = bitmap.allocator();
     let (bytes, offset, length) = bitmap.as_slice();
@@ -217,7 +217,7 @@ fn answers_beside(rt: &impl Abort, left: Of, right: Of) {
     tells_nulls(rt, left, right);
 }
 
-/// Stores the list from a bit offset on, all spare bits alike, those of `behind` more bytes too.
+/// Stores the list from a bit offset on, all padding bits alike, those of `behind` more bytes too.
 fn stored(
     rt: &impl Abort,
     alloc: Global,
@@ -238,7 +238,7 @@ fn scattered(rt: &impl Abort, alloc: Global, seed: u64, length: usize) -> Vec<bo
     lists::scattered(alloc, seed, length).expect(rt, "no memory")
 }
 
-/// Stores the list at each bit offset, with spare bits all false and all true, and with 0 to 2 spare bytes.
+/// Stores the list at each bit offset, with padding bits all false and all true, and with 0 to 2 spare bytes.
 fn in_each_storage(rt: &impl Abort, alloc: Global, list: &[bool]) {
     let others = scattered(rt, alloc, 3, list.len());
     let others = others.as_slice();

@@ -7,7 +7,7 @@ use arrow2_utf8::{
 use std::convert::TryFrom;
 use std::process::Abort;
 
-/// Numbers and bytes are told this.
+/// The check of numbers and bytes returns this.
 fn is_told(rt: &impl Abort, offsets: &[i32], values: &[u8], answer: Result<(), BrokenTextArray>) {
     assert!(rt; try_check_offsets_and_utf8(offsets, values) == answer);
 }
@@ -17,7 +17,7 @@ fn numbers_and_bytes_that_are_texts_pass(rt: HostRuntime) {
     is_told(&rt, &[0], b"", Ok(()));
     is_told(&rt, &[0, 2, 2, 5], b"abcde", Ok(()));
     is_told(&rt, &[0, 3, 3, 6, 6], "a\u{e9}\u{20ac}".as_bytes(), Ok(()));
-    // What stands before the first offset and behind the last is not tested.
+    // Bytes before the first offset and after the last are not tested.
     is_told(&rt, &[1, 3, 3], b"\xff\xc3\xa9\xff", Ok(()));
 }
 
@@ -62,7 +62,7 @@ fn the_first_fault_is_told(rt: HostRuntime) {
     );
 }
 
-/// A test answers this.
+/// A test returns this.
 fn answers(rt: &impl Abort, told: Result<(), BrokenTexts>, answer: Result<(), BrokenTexts>) {
     assert!(rt; told == answer);
 }

@@ -1,4 +1,4 @@
-//! Runs of set items, and values with their validity.
+//! Runs of set bits, and values with their validity.
 ghost use Rattle.std.specs.Prelude.{◌≡◌, length};
 
 use super::checks::{bitmap_from, gives, has, shows};
@@ -18,7 +18,8 @@ fn bitmap_of(rt: &impl Abort, alloc: Global, bytes: &[u8], offset: usize, len: u
     bitmap.sliced(offset, len)
 }
 
-/// Checks that the `len` bits from bit `offset` of the bytes on have these runs, and as many set items.
+/// Checks that the `len` bits from bit `offset` of the bytes on have these runs, and the same number of set bits in
+/// all.
 fn bits_have_runs(
     rt: &impl Abort,
     alloc: Global,

@@ -8,7 +8,7 @@ use Rattle.arrow2_model.proofs.RowKernels.{unary_is}
 use Rattle.arrow2_model.specs.Rows.{AreRowsOf}
 use Rattle.arrow2_bitmap.proofs.bitmap_ops.unary.Goals as goal
 
--- the rows of a walk over all items
+-- the rows of an iterator over all items
 rows_of : (items walked : List Bool) (n : ℕ) → walked ≡ items → length walked ≡ n → AreRowsOf 64 (items ∷ []) (λ j. word 64 walked j ∷ []) n
 rows_of items walked n e l = (sym (ap length e) ∙ l, λ j. ap (λ (i : List Bool). word 64 i j ∷ []) e)
 

@@ -55,7 +55,7 @@ loop-byte-preserved g c =
           ];
     }
 
--- no bit is left behind the last byte
+-- no bit is left after the last byte
 none_left : (n offset len j : ℕ) → (0 < len → offset + len ≤ 8 * n) → n ≤ j → len ≤ 8 * j - offset
 none_left n offset zero j inside end = omega arith
 none_left n offset (suc len) j inside end = omega (arith, inside (omega arith))

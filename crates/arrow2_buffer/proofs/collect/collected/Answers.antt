@@ -17,7 +17,7 @@ returns-in_default g c =
     let ran = run_of_exit g.I.Iterator.next_gives c.args.source c.loop-item.items.items c.loop-item.source c.loop-item.invariant.took c.next.new.self c.in_default.ensures.steps in
     (ran.0, ran.1, ran.2, sym ran.3.0)
 
--- the source ended inside the room
+-- the source ended within the capacity
 pub returns-then-not-went_on : goal.returns-then-not-went_on
 returns-then-not-went_on g c =
     let one = Yields-more g.I.Iterator.next_gives c.args.source c.loop-item.items.items c.loop-item.source c.in-Some.item c.next.new.self c.loop-item.invariant.took c.in-Some.ensures.steps in

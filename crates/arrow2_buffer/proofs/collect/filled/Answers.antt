@@ -3,7 +3,7 @@ use Rattle.std.proofs.iter.Next.{Yields-more}
 use Rattle.std.specs.Iterator.{Yields}
 use Rattle.arrow2_buffer.proofs.collect.filled.Goals as goal
 
--- one item more came, and one more stands behind
+-- one item more came, and one more is appended
 pub loop-items-preserved : goal.loop-items-preserved
 loop-items-preserved g c =
     let before = c.loop-items.invariant in

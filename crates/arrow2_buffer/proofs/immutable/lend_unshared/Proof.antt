@@ -103,7 +103,7 @@ lend_unshared_spec 𝓤 𝓛 𝓜 𝓡 wired T laws =
       | None ↦ split ! $ split ! $ move ! (1 ∷ []) $ fpick ! (λ us. fsplit ! $ feq_l ! (λ e. fpick ! (λ vss. fsplit ! $ feq_l ! (λ e'. drop ! $
           let is : v ≡ live 0 (of_list []) = ap only e ∙ ap (λ ws. live 0 (of_list ws)) e' in
           move ! (1 ∷ []) $ pick ! (λ ws. split3 ! $ drop ! $ move ! (1 ∷ []) $ drop ! $
-          -- [what the storage ends as; the tokens; the locals]
+          -- [the final value of the storage; the tokens; the locals]
           lands_as ! is refl (tt, (record { fits = lit< tt }, tt)) $ first ! $ switches_on ! (get_tag ! (vrt ! refl (fld ! refl (stop !))) (whole !)) $
           exec ! 𝓣.C 𝓣.Λ En (arm_body 1 matches) Then $ sets_last ! (agg ! (and_then ! (lit ! tt) (no_more !))) refl (tt, (record { fits = lit< tt }, tt)) $
           exec ! 𝓣.C 𝓣.Λ En (after 3 (function T).body) (at_ret En (W.post y)) $ sets ! (of_opd ! (get ! refl)) refl (tt, (record { fits = lit< tt }, tt)) $
@@ -130,7 +130,8 @@ lend_unshared_spec 𝓤 𝓛 𝓜 𝓡 wired T laws =
           use1 𝓛 (later (some (λ (s : MutBor (List T.Denot)). (Tokens ⊛ ‵ (Lent.own_val s (v' ∷ []))) ⊛
           some (λ (ws' : Unit {0} × (Unit {0} × (Unit {0} × Unit {0}))). ‵ (lasts (h.ended T) κs (r, (start, (end, tt))) ws') ⊛ ‵ (LendsPart (f.T-row T) r start s) ⊛ raw (fact 𝓤 (s.now ≡ part r.now start (end - start))) ⊛ raw (fact 𝓤 (length s.now ≡ end - start)))))) (id⊢ 𝓤 _) $
           await ! tt $ pick ! (λ s. split ! $ split ! $ move ! (2 ∷ []) $ pick ! (λ ws'. split3 ! $ drop ! $ move ! (1 ∷ []) $ split ! $ heard ! _ (λ value. drop ! $
-          -- [how the storage follows the part; the tokens; the part; how the shared storage follows the storage; the locals]
+          -- [how the storage follows the part; the tokens; the part; how the shared storage follows the storage; the
+          -- locals]
           move ! (3 ∷ 0 ∷ []) $
           use2 𝓛 (‵ (follows (shared_row (f.T-row T)) (Array (f.T-row T) 0) a.0.ghost_name s.ghost_name (λ w. rc_with_value a.0.now (rewritten r.now start w))))
           (follows_then 𝓛 (shared_row (f.T-row T)) (stored.the_row (f.T-row T)) (Array (f.T-row T) 0) (rc_with_value a.0.now) (rewritten r.now start) a.0.ghost_name r.ghost_name s.ghost_name) $

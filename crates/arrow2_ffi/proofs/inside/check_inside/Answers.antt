@@ -13,7 +13,7 @@ not_negative : (y : ℤ) (ys : List ℤ) → rule_code (first_broken (y ∷ ys))
 not_negative (pos n) ys e h = omega (arith, ints, h)
 not_negative (negsuc n) ys e h = omega (arith, e)
 
--- numbers that break no earlier rule, and none of which falls, are offsets
+-- numbers that break no earlier rule, and that never decrease, are offsets
 none_falls : {X : Type 0} (value : X → ℤ) (items : List X) → rule_code (first_broken (map value items)) ≡ ARROW2_SPEC_FALLING → ((k : ℕ) → k + 1 < length items → slice_index_or (map value items) k (pos 0) ≤ℤ slice_index_or (map value items) (k + 1) (pos 0)) → AreOffsets (map value items)
 none_falls value [] e up = absurd (omega (arith, e))
 none_falls value (x ∷ items) e up = offsets_told value (x ∷ items) x (λ none. omega (arith, none)) refl (not_negative (value x) (map value items) e) up

@@ -10,7 +10,7 @@ use Rattle.arrow2_ffi.specs.Ranges.{HasBits, first_bits}
 use Rattle.arrow2_ffi.proofs.WriteSteps.{wrote}
 use Rattle.arrow2_ffi.proofs.kleene.write.Goals as goal
 
--- what the two tables answer are the items that f makes
+-- the outputs of the two tables are the items that f makes
 answered : (f : Option Bool → Option Bool → Option Bool) (t known n : ℕ) (left left_known right right_known : Bits) (values validity : List Bool) → Spells t known f → HasBits left n → HasBits left_known n → HasBits right n → HasBits right_known n
     → values ≡ each t (first_bits left n ∷ first_bits right n ∷ [])
     → validity ≡ each known (first_bits left n ∷ first_bits left_known n ∷ first_bits right n ∷ first_bits right_known n ∷ [])

@@ -8,7 +8,7 @@ use Rattle.arrow2_model.proofs.Kernels.{table_word}
 use Rattle.arrow2_model.proofs.RowKernels.{rows_table, acts_beside}
 use Rattle.arrow2_ffi.proofs.rows.assign_answers.Goals as goal
 
--- the rows of the list itself and of those beside it
+-- the rows of the list itself and of those paired with it
 beside_own : (w n : ℕ) (own : List Bool) (lists : List (List Bool)) (row : ℕ → List ℕ) → length own ≡ n → ((j : ℕ) → row j ≡ words_at w lists j) → AreRowsOf w (own ∷ lists) (λ j. word w own j ∷ row j) n
 beside_own w n own lists row l are = (l, λ j. ap (λ r. word w own j ∷ r) (are j))
 

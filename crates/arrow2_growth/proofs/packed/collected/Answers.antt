@@ -17,7 +17,7 @@ words-init g c = record {
   took = subst (λ (xs : List Bool). Yields g.I.Iterator.next_gives c.args.items xs c.args.items) (sym (ap bits c.new-bytes.ensures.items ∙ bits-nil)) refl;
 }
 
--- what came is the bytes and the front of the block, and no more comes
+-- the items that came are the bytes and the front of the block, and no more comes
 pub returns-then-count-lt64-clause-items : goal.returns-then-count-lt64-clause-items
 returns-then-count-lt64-clause-items g c =
     let steps = g.I.Iterator.next_gives in

@@ -6,7 +6,7 @@ use Rattle.arrow2.specs.Zipped.{zipped}
 use Rattle.arrow2.proofs.Zips.{collected_slots}
 use Rattle.arrow2_uses.proofs.texts.valid_lengths.Goals as goal
 
--- what is collected of the zip is its slots
+-- the items collected from the zip are its slots
 pub returns-clause-lengths : goal.returns-clause-lengths
 returns-clause-lengths c =
     let run = c.in_ok-collect.ensures.runs tt in

@@ -1,7 +1,7 @@
 use Rattle.std.proofs.Common.{◌∙◌}
 use Rattle.arrow2_bitmap.proofs.mutable.MutableBitmap.try_from_iter.Goals as goal
 
--- the run of what was collected is the iterator's whole run
+-- the run of the collected items is the iterator's whole run
 pub returns-clause-items : goal.returns-clause-items
 returns-clause-items g c =
     let run = c.in_ok-bytes.ensures.items in

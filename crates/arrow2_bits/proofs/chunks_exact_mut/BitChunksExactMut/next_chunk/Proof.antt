@@ -1,4 +1,4 @@
--- The chunk that the walk lends next leaves in an `Option`, and the walk follows it.
+-- The chunk that the iterator lends next is returned in an `Option`, and the iterator follows it.
 use mathlib.Core.Path.{◌≡◌, refl, ap, sym, subst, ◌∙◌}
 use Prim.Native.Nat.{ℕ, zero, suc, ◌<◌}
 use native.Mathlib.Omega.{arith}
@@ -97,7 +97,7 @@ next_chunk_spec 𝓤 𝓛 𝓜 𝓡 wired T laws =
     ⊛ raw (fact 𝓤 (r.now ≡ part walk.bytes walk.at (next_len walk))) ⊛ ‵ (follows S (Array u8 0) γ r.ghost_name (past walk (next_len walk))))))) (id⊢ 𝓤 _) $
     await ! tt $ pick ! (λ r. split ! $ split ! $ move ! (2 ∷ []) $ pick ! (λ ws. split ! $ drop ! $ split3 ! $
     heard ! _ (λ any. heard ! _ (λ len. split ! $ heard ! _ (λ chunk. move ! (2 ∷ []) $
-    -- [the chunk; what the walk follows; the tokens; the locals]
+    -- [the chunk; the value that the iterator follows; the tokens; the locals]
     peeks ! Lent _ (shows 𝓛 Lent) r (v ∷ []) (λ is.
     let room : Room u8 (length r.now) = is.0.1 in
     let n : ℕ = length r.now in

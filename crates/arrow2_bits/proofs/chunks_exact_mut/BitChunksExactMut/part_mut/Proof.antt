@@ -1,4 +1,4 @@
--- A part of the bytes is lent on, and the walk follows it.
+-- A part of the bytes is lent on, and the iterator follows it.
 use mathlib.Core.Path.{◌≡◌, refl, sym, ap, subst, ◌∙◌}
 use Prim.Native.Nat.{ℕ, ◌+◌, ◌-◌, ◌^◌, ◌<◌, ◌≤◌}
 use native.Mathlib.Omega.{arith}
@@ -92,7 +92,7 @@ part_mut_spec 𝓤 𝓛 𝓜 𝓡 wired T laws =
     use1 𝓛 (later (some (λ (r : MutBor (List ℕ)). (Tokens ⊛ ‵ (Lent.own_val r (v ∷ []))) ⊛
     some (λ (ws : Unit {0} × Unit {0}). ‵ (lasts (g.ended T) κs (a.0, tt) ws) ⊛ raw (fact 𝓤 (r.now ≡ walk.bytes)) ⊛ ‵ (follows S (Array u8 0) γ r.ghost_name (λ w. record walk { bytes = w })))))) (id⊢ 𝓤 _) $
     await ! tt $ pick ! (λ r. split ! $ split ! $ move ! (2 ∷ []) $ pick ! (λ ws. split3 ! $ drop ! $ heard ! _ (λ same. move ! (2 ∷ []) $
-    -- [the bytes; how the walk follows them; the tokens; the locals]
+    -- [the bytes; how the iterator follows them; the tokens; the locals]
     peeks ! Lent _ (shows 𝓛 Lent) r (v ∷ []) (λ is.
     let b : ℕ = r.ref_ptr.0 in let o : ℕ = r.ref_ptr.1 in let p : ℕ = start + o in
     let xs : List ℕ = r.now in
@@ -116,16 +116,16 @@ part_mut_spec 𝓤 𝓛 𝓜 𝓡 wired T laws =
     sets ! (addr ! (through ! refl (stop !))) refl (tt, tt) $
     sets ! (agg ! (and_then ! (get ! refl) (and_then ! (get ! refl) (no_more !)))) refl (tt, (tt, (record { fits = fits }, tt))) $
     move ! (2 ∷ []) $ split ! $ move ! (2 ∷ 0 ∷ []) $
-    -- [the bytes; their token; the other tokens; how the walk follows them; the locals]
+    -- [the bytes; their token; the other tokens; how the iterator follows them; the locals]
     use2 𝓛 (later (some (part_lent 𝓛 (named 0) κs.0 qs.0 b o r.ghost_name u8 xs front part back cut p on room' (overwritten xs start) around)))
     (lends_part 𝓛 (named 0) κs.0 qs.0 b o r.ghost_name u8 xs front part back cut p on room' (overwritten xs start) around (slice_val r.ref_ptr (length xs) ∷ [])) $ await ! tt $ pick ! (λ δ. split3 ! $
     rewrite ! 0 (λ (k : ℕ). ‵ (Lent.own_val (s δ) (slice_val (b, p) k ∷ []))) long refl $
-    -- [the part; its token; how the bytes follow it; the other tokens; how the walk follows the bytes; the locals]
+    -- [the part; its token; how the bytes follow it; the other tokens; how the iterator follows the bytes; the locals]
     move ! (4 ∷ 2 ∷ []) $
     use2 𝓛 (‵ (follows S (Array u8 0) γ δ (λ w. record walk { bytes = overwritten xs start w })))
     (follows_then 𝓛 S (Array u8 0) (Array u8 0) (λ w. record walk { bytes = w }) (overwritten xs start) γ r.ghost_name δ) $
     rewrite ! 0 (λ (items : List ℕ). ‵ (follows S (Array u8 0) γ δ (λ w. record walk { bytes = overwritten items start w }))) same refl $
     returns ! (look_at ! 0 refl) $ free_all ! refl $ move ! (2 ∷ 3 ∷ []) $ join ! $ move ! (2 ∷ 1 ∷ 0 ∷ []) $
-    -- [the part; how the walk follows it; the tokens]
+    -- [the part; how the iterator follows it; the tokens]
     suffices ! _ (ends_at 𝓛 (f.ended T) (stayed T) c y (slice_val (b, p) n) (s δ) (tt, (tt, (tt, tt))) (tt, (tt, (tt, tt)))) $
     nothing ! $ nothing ! $ fjoin ! $ nothing ! $ fjoin ! $ nothing ! $ fjoin ! $ join ! $ move ! (2 ∷ 0 ∷ []) $ join ! $ frame ! $ says ! (ap (λ (items : List ℕ). take n (behind start items)) same) $ done !)))))))))))

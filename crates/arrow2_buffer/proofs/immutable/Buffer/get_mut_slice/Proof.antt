@@ -1,4 +1,5 @@
--- The storage is lent out of the buffer, which stays open meanwhile. What comes back closes it: whatever is written, the storage keeps its length.
+-- The storage is lent out of the buffer, which stays open meanwhile. The loan that comes back closes it: whatever is
+-- written, the storage keeps its length.
 use mathlib.Core.Path.{◌≡◌, refl, ap, ◌∙◌}
 use Prim.Native.Nat.{ℕ, ◌+◌, ◌-◌, ◌<◌, ◌≤◌, ◌^◌}
 use native.Mathlib.Omega.{arith}
@@ -154,7 +155,8 @@ get_mut_slice_spec 𝓤 𝓛 𝓜 𝓡 wired T laws =
     let Offset = ‵ (part_at usize full_share a.offset rb (ro + 8)) in let Len = ‵ (part_at usize full_share a.len rb (ro + 16)) in
     use1 𝓛 (‵ (part_at Z full_share a.storage rb (ro + 0)) ⊛ raw (Back T laws 𝓛 rb ro a ok)) (field_of T laws 𝓛 rb ro a ok) $ split ! $ move ! (1 ∷ []) $
     use1 𝓛 ((Offset ⊛ Len ⊛ ‵ ftrue) ⊛ raw (PartsBack 𝓛 full_share [] (members T) rb ro)) (id⊢ 𝓤 _) $ split ! $ split3 ! $
-    -- [the offset; the length; true; the way back; the storage; the open borrow; the name's two halves; a half of the first token; the second; true]
+    -- [the offset; the length; true; the way back; the storage; the open borrow; the name's two halves; a half of the
+    -- first token; the second; true]
     use1 𝓛 (‵ (fat full_share (ty_int Syntax.w64) rb (ro + 8) (vint Syntax.w64 start))) (uint_out 𝓛 full_share Syntax.w64 start rb (ro + 8)) $ move ! (1 ∷ []) $
     use1 𝓛 (‵ (fat full_share (ty_int Syntax.w64) rb (ro + 16) (vint Syntax.w64 a.len))) (uint_out 𝓛 full_share Syntax.w64 a.len rb (ro + 16)) $
     sets ! (of_opd ! (load ! (through ! refl (fld ! refl (stop !))) (look ! 1 refl))) refl (tt, record { fits = short }) $
@@ -162,7 +164,8 @@ get_mut_slice_spec 𝓤 𝓛 𝓜 𝓡 wired T laws =
     sets ! (bin ! (get ! refl) (get ! refl) (record { fits = ok.1 })) refl (tt, record { fits = ok.1 }) $
     use1 𝓛 Len (uint_in 𝓛 full_share Syntax.w64 a.len rb (ro + 16)) $ move ! (1 ∷ []) $ use1 𝓛 Offset (uint_in 𝓛 full_share Syntax.w64 start rb (ro + 8)) $
     group ! 3 $ join ! $ use1 𝓛 (raw (Back T laws 𝓛 rb ro a ok)) (id⊢ 𝓤 _) $
-    -- [what stays of the buffer; the storage; the open borrow; the name's two halves; a half of the first token; the second; true]
+    -- [what stays of the buffer; the storage; the open borrow; the name's two halves; a half of the first token; the
+    -- second; true]
     move ! (2 ∷ []) $ ages ! (λ n. name_new ! tt (Z.coded.code a.storage) (λ δ. move ! (4 ∷ 1 ∷ []) $ fjoin ! $
     fpack ! Z.Denot (λ z. fsep (part_at Z full_share z rb (ro + 0)) (fauth δ (Z.coded.code z))) a.storage $ bor_new_deep ! tt n κ $
     let r : MutBor Z.Denot = record { ref_ptr = (rb, ro + 0); ghost_name = δ; now = a.storage } in
@@ -185,7 +188,8 @@ get_mut_slice_spec 𝓤 𝓛 𝓜 𝓡 wired T laws =
       | None ↦ split ! $ split ! $ move ! (1 ∷ []) $ fpick ! (λ us. fsplit ! $ feq_l ! (λ e. fpick ! (λ vss. fsplit ! $ feq_l ! (λ e'. drop ! $
           let is : v ≡ live 0 (of_list []) = ap only e ∙ ap (λ ws. live 0 (of_list ws)) e' in
           move ! (1 ∷ []) $ pick ! (λ ws. split3 ! $ drop ! $ move ! (1 ∷ []) $ drop ! $
-          -- [what the storage ends as; the tokens; the right to the storage; the open borrow; what stays; the name's two halves]
+          -- [the final value of the storage; the tokens; the right to the storage; the open borrow; the frame; the
+          -- name's two halves]
           move ! (3 ∷ 5 ∷ 6 ∷ 2 ∷ 0 ∷ 4 ∷ []) $ group ! 6 $
           use1 𝓛 (later (‵ (flft κ (halves.left q)) ⊛ ‵ (fres γ (R.coded.code (view T a)))))
           (closes_said R Z Items (Good T laws 𝓛 rb ro a ok) (with T laws 𝓛 rb ro a ok) 𝓛 n κ (halves.left q) rb ro (ro + 0) γ δ (R.coded.code d) (Back T laws 𝓛 rb ro a ok) (fill T laws 𝓛 rb ro a ok) a.storage ok.0) $ await ! tt $ split ! $
@@ -202,7 +206,8 @@ get_mut_slice_spec 𝓤 𝓛 𝓜 𝓡 wired T laws =
           rewrite ! 0 (λ (us : List Val). ‵ (Lent.own_val s us)) is'.0.0 refl $ move ! (2 ∷ []) $ pick ! (λ ws. split3 ! $ drop ! $ move ! (1 ∷ []) $ heard ! _ (λ value.
           let back : List T.Denot → Z.Denot = λ w. rc_with_value a.storage (rewritten a.storage.value start w) in
           let long : (w : List T.Denot) → end ≤ length (back w).value = λ w. rw length-rewritten ok.0 in
-          -- [what the storage follows; the items; the tokens; the right to the storage; the open borrow; what stays; the name's two halves]
+          -- [the value that the storage follows; the items; the tokens; the right to the storage; the open borrow; the
+          -- frame; the name's two halves]
           move ! (4 ∷ 6 ∷ 7 ∷ 3 ∷ 0 ∷ 5 ∷ []) $ group ! 6 $
           use1 𝓛 (later (‵ (flft κ (halves.left q)) ⊛ ‵ (follows R Items γ s.ghost_name (λ w. with T laws 𝓛 rb ro a ok (back w) (long w)))))
           (closes_tie R Z Items (Good T laws 𝓛 rb ro a ok) (with T laws 𝓛 rb ro a ok) 𝓛 n κ (halves.left q) rb ro (ro + 0) γ δ (R.coded.code d) (Back T laws 𝓛 rb ro a ok) (fill T laws 𝓛 rb ro a ok) s.ghost_name (maybe.some back) long) $ await ! tt $ split ! $

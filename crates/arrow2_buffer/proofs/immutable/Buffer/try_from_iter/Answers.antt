@@ -3,7 +3,7 @@ use Rattle.std.proofs.lemmas.Result.{MatchResult-weaker}
 use Rattle.arrow2_model.specs.Buffers.{whole_buffer}
 use Rattle.arrow2_buffer.proofs.immutable.Buffer.try_from_iter.Goals as goal
 
--- what was collected is the iterator's whole run
+-- the collected items are the iterator's whole run
 pub returns-clause-items : goal.returns-clause-items
 returns-clause-items g c =
     let ran = c.in_ok-items.ensures in

@@ -5,7 +5,7 @@ use Rattle.arrow2_growth.proofs.Pushed.{Hold}
 use Rattle.arrow2_growth.proofs.packed_bits.PackedBits.push.Goals as goal
 use Rattle.arrow2_growth.proofs.packed_bits.PackedBits.push.Goals.{then-place-eq0+in_ok-push, else-place-eq0}
 
--- the bytes hold one item more, and there is no less room
+-- the bytes hold one item more, and the capacity is no less
 pushed : (c : goal.After-self-2-1) →
     (vec_capacity c.self.inside.bytes ≤ vec_capacity c.if-place-eq0.self-inside.bytes)
     × Hold c.if-place-eq0.self-inside.bytes.items (c.if-place-eq0.self-inside.length + 1) (take c.self.inside.length (bits c.self.inside.bytes.items) ++ c.args.item ∷ [])

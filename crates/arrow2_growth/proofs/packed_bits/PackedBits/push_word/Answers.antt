@@ -39,7 +39,7 @@ merged-requires-clause-clear c i h h' =
     let b = c.self.inside in
     last_clear b.bytes.items _ _ b.length c.index_mut-last.result.now i c.self.invariant (omega (arith, c.if-place-eq0.false)) c.in_ok-push_first-2.ensures.ok c.index_mut-last.ensures.value h h'
 
--- the bytes hold these items more, and there is no less room
+-- the bytes hold these items more, and the capacity is no less
 pushed : (c : goal.After-self-2-1) →
     (vec_capacity c.self.inside.bytes ≤ vec_capacity c.if-place-eq0.self-inside.bytes)
     × Hold c.if-place-eq0.self-inside.bytes.items (c.if-place-eq0.self-inside.length + c.args.count) (take c.self.inside.length (bits c.self.inside.bytes.items) ++ take c.args.count (unnum 64 c.args.word))

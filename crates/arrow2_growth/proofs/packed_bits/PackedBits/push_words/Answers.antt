@@ -33,7 +33,7 @@ returns-in_err-push_word c =
       capacity = omega (arith, w.invariant.capacity, c.push_word.ensures.pushes.capacity);
     }
 
--- what is left is the rest
+-- the items left are the rest
 left_over : (c : goal.After-remainder_len) → rest 64 c.next.new.self.items ≡ c.loop-word.chunks.items
 left_over c = c.in_default.ensures.steps.rest ∙ c.in_default.ensures.steps.items
 
