@@ -1,6 +1,6 @@
 /* Checks each batch of a stream of the Arrow C data interface, and prints a table of its columns.
  *
- *   check_stream                 a stream made here: two batches, of which the second has a text that is no UTF-8
+ *   check_stream                 a stream made here: two batches, the second of which has a text that is no UTF-8
  *   check_stream FILE [ROWS]     a file that GDAL reads, in batches of ROWS rows (with ARROW2_WITH_GDAL)
  */
 #include "arrow2_c_data.h"
@@ -13,7 +13,7 @@
 #include <ogr_api.h>
 #endif
 
-/* Prints a row of the table, and says whether the column is right. */
+/* Prints a row of the table, and returns whether the column is right. */
 static bool print_column(const struct ArrowSchema *schema, const struct ArrowArray *array) {
     struct arrow2_where where;
     uint32_t code = arrow2_array_check(schema, array, &where);
@@ -49,7 +49,7 @@ static bool print_batch(const struct ArrowSchema *schema, const struct ArrowArra
     return code == ARROW2_OK;
 }
 
-/* Checks a stream to its end, and releases what it gave. Returns how many batches are not right, or -1. */
+/* Checks a stream to its end, and releases its batches. Returns the number of batches that are not right, or -1. */
 static int check_stream(struct ArrowArrayStream *stream) {
     struct ArrowSchema schema;
     struct ArrowArray batch;

@@ -26,7 +26,7 @@ struct tree {
     struct ArrowArray *child_arrays[8];
     struct tree *children[8];
     struct tree *dictionary;
-    int64_t buffers_count, children_count; /* as they are, whatever the array says */
+    int64_t buffers_count, children_count; /* as they are, whatever the array declares */
 };
 
 static check_function check;
@@ -91,7 +91,7 @@ static struct tree *look_up(struct tree *indices, struct tree *dictionary) {
     return indices;
 }
 
-/* Writes the sizes of a tree's buffers in the order of the check, and returns how many these are. */
+/* Writes the sizes of a tree's buffers in the order of the check, and returns their number. */
 static size_t sizes_of(const struct tree *of, size_t *sizes) {
     size_t count = 0;
     for (int64_t i = 0; i < of->buffers_count; i++) {
@@ -154,7 +154,7 @@ static void break_buffers(const char *name, struct tree *root, struct tree *at) 
         expect_one_of(name, "a byte short", root, true, ARROW2_RANGE, ARROW2_PAST);
         at->buffers[i] = NULL;
         at->sizes[i] = size;
-        /* A validity that is not there says that there are no nulls. */
+        /* A validity that is not there means that there are no nulls. */
         bool is_validity = i == 0 && at->schema.format[1] != 'u';
         uint32_t code = !is_validity ? ARROW2_C_NULL : at->array.null_count > 0 ? ARROW2_NULLS : ARROW2_OK;
         if (!is_validity || !at->dictionary) {
@@ -260,7 +260,7 @@ static void right(const char *name, struct tree *of) {
     break_all(name, of, of);
 }
 
-/* ---- Right arrays: three items from item 2 on, of which the second is null, if they may be */
+/* ---- Right arrays: three items from item 2 on, the second of which is null, if they may be */
 
 static const uint8_t valid[] = {0x15};
 
@@ -497,7 +497,7 @@ static void expect_too_large(const char *name, struct tree *of) {
     report(name, "without sizes", code == ARROW2_C_TOO_LARGE, code, &where);
 }
 
-/* A number of a format that is not known, in as many lists as may be. */
+/* A number of a format that is not known, in the greatest number of lists that is allowed. */
 static void hostile_paths(void) {
     char path[ARROW2_C_PATH] = "";
     struct tree *made = tree("q", 0, 0, 0);
@@ -539,7 +539,7 @@ static void hostile_roots(void) {
     report("no place", "", check(NULL, &some->array, NULL, 0, NULL) == ARROW2_C_NULL, 0, &where);
 }
 
-/* Gives all arrays to a check, and returns how many of its results are not as they must be. */
+/* Gives all arrays to a check, and returns the number of its results that are not as they must be. */
 int arrow2_hostile_run(check_function given, bool pages) {
     check = given;
     in_pages = pages;

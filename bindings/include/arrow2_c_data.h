@@ -2,9 +2,9 @@
  * every test of bits, offsets, texts and indices is a call of the library, whose result is proved (arrow2_proved.h);
  * the way through the tree of an array is written by hand here (docs/BINDINGS.md).
  *
- * The interface does not say how many bytes a buffer has. `arrow2_array_check` trusts that buffers are as long as
- * format, length, offset and last offset say; `arrow2_array_check_sized` is given the sizes, and trusts nothing but
- * those. */
+ * The interface does not state the number of bytes of a buffer. `arrow2_array_check` trusts that buffers have the
+ * length that format, length, offset and last offset require; `arrow2_array_check_sized` gets the sizes, and trusts
+ * nothing but those. */
 #ifndef ARROW2_C_DATA_H
 #define ARROW2_C_DATA_H
 
@@ -66,9 +66,9 @@ struct ArrowArrayStream {
 
 #endif
 
-/* ---- Bits: the bytes, how many they are, and the bit at which they begin.
+/* ---- Bits: the bytes, their number, and the bit at which they begin.
  *
- * Where a validity is meant, null bytes say that nothing is null. Of `out`, `values` and `validity` see
+ * Where a validity is meant, null bytes mean that nothing is null. Of `out`, `values` and `validity` see
  * arrow2_proved.h; those without a count have (length + 7) / 8 bytes. */
 
 struct arrow2_bits {
@@ -77,7 +77,7 @@ struct arrow2_bits {
     size_t offset;
 };
 
-/* A pointer that is not null: the given one, or one to something of which no item is read. */
+/* A pointer that is not null: the given one, or one to memory that is not read. */
 static inline const void *arrow2_c_some(const void *pointer) {
     static const int64_t none = 0;
     return pointer ? pointer : &none;
@@ -89,7 +89,7 @@ static inline const uint8_t *arrow2_c_bytes(struct arrow2_bits bits) {
 
 static inline size_t arrow2_bytes_for(size_t bits) { return bits / 8 + (bits % 8 != 0); }
 
-/* How many of `length` items are null by a validity, which may be missing. */
+/* Returns how many of `length` items are null by a validity, which may be missing. */
 static inline uint32_t arrow2_bits_null_count(struct arrow2_bits validity, size_t length, size_t *nulls) {
     if (!validity.bytes) {
         *nulls = 0;
@@ -182,14 +182,14 @@ static inline struct arrow2_bits arrow2_bits_of(const struct ArrowArray *array, 
 
 /* ---- Checks of whole arrays */
 
-/* What the check of an array returns beside the codes of arrow2_proved.h. */
+/* The codes that the check of an array returns, next to those of arrow2_proved.h. */
 /* A pointer that the array needs is null. */
 #define ARROW2_C_NULL 32u
 /* The schema or the array was released. */
 #define ARROW2_C_RELEASED 33u
 /* A length, an offset or a number of children is negative, or length and offset together are above 2^63 - 1. */
 #define ARROW2_C_NEGATIVE 34u
-/* The format is not known: nothing is said of such an array. */
+/* The format is not known: such an array is not checked. */
 #define ARROW2_C_FORMAT 35u
 /* The format has another number of buffers. */
 #define ARROW2_C_BUFFERS 36u
@@ -201,7 +201,7 @@ static inline struct arrow2_bits arrow2_bits_of(const struct ArrowArray *array, 
 #define ARROW2_C_DICTIONARY 39u
 /* A slot of a union has a type that the format does not name. */
 #define ARROW2_C_TYPE 40u
-/* A slot of a dense union points outside its child, or in front of an earlier slot's item. */
+/* A slot of a dense union points outside its child, or before an earlier slot's item. */
 #define ARROW2_C_UNION_OFFSET 41u
 /* The tree is deeper than ARROW2_C_MAX_DEPTH, or has more arrays than ARROW2_C_MAX_ARRAYS. */
 #define ARROW2_C_TOO_LARGE 42u
@@ -214,7 +214,7 @@ static inline struct arrow2_bits arrow2_bits_of(const struct ArrowArray *array, 
 #define ARROW2_C_MAX_ARRAYS 1048576
 /* More bytes than any buffer has: the size of a buffer whose size is not known. */
 #define ARROW2_C_MAX_BYTES ((size_t)1 << 56)
-/* As many bytes as the longest path needs. */
+/* The number of bytes that the longest path needs. */
 #define ARROW2_C_PATH 1280
 
 /* Where the check refused: the array's path from the root, as `struct.3/list.0`, and the slot of that array, or -1. */
@@ -237,8 +237,9 @@ enum arrow2_c_kind {
     ARROW2_C_KIND_DENSE_UNION
 };
 
-/* What a format says: `size` is the bytes of a value, those of an offset, or the items of a slot; `index` the letter
- * of a whole number; `types` those of a union, `children` how many children there are, or -1 for any number. */
+/* The layout that a format describes: `size` is the bytes of a value, those of an offset, or the items of a slot;
+ * `index` the letter of a whole number; `types` those of a union, `children` the number of children, or -1 for any
+ * number. */
 struct arrow2_c_layout {
     enum arrow2_c_kind kind;
     size_t size;
@@ -261,7 +262,7 @@ struct arrow2_c_tree {
 
 /* ---- Formats */
 
-/* Reads a number without a sign, at most 2^31 - 1, and moves behind it; false where there is none. */
+/* Reads a number without a sign, at most 2^31 - 1, and moves past it; false where there is none. */
 static inline bool arrow2_c_number(const char **at, size_t *number) {
     const char *digit = *at;
     size_t sum = 0;
@@ -330,7 +331,7 @@ static inline size_t arrow2_c_temporal(const char *format) {
     return 0;
 }
 
-/* How many types a union names, each from 0 to 127 and none twice; -1 where this is no list of them. */
+/* Returns the number of types of a union, each from 0 to 127 and none twice; -1 where this is no list of them. */
 static inline int64_t arrow2_c_types(const char *at) {
     bool named[128] = {false};
     size_t type;
@@ -458,14 +459,14 @@ static inline uint32_t arrow2_c_refuse(const struct arrow2_c_tree *tree, uint32_
     return code;
 }
 
-/* The same, where the code says that something is wrong. */
+/* The same, where the code is an error. */
 static inline uint32_t arrow2_c_unless_ok(const struct arrow2_c_tree *tree, uint32_t code, int64_t slot) {
     return code == ARROW2_OK ? code : arrow2_c_refuse(tree, code, slot);
 }
 
 /* ---- One array */
 
-/* A buffer, its size, and the array's length and offset, of which the signs were tested. */
+/* A buffer, its size, and the array's length and offset, whose signs were tested. */
 struct arrow2_c_buffer {
     const void *bytes;
     size_t size;
@@ -491,14 +492,14 @@ static inline uint32_t arrow2_c_check_head(const struct ArrowSchema *schema, con
     return ARROW2_OK;
 }
 
-/* Goes to child `index` of an array of a kind, or to its dictionary, by -1. */
+/* Goes to child `index` of an array by its format, or to its dictionary, by -1. */
 static inline void arrow2_c_enter(struct arrow2_c_tree *tree, enum arrow2_c_kind kind, int64_t index) {
     tree->kinds[tree->depth] = index < 0 ? "dictionary" : arrow2_c_kind_name(kind);
     tree->children[tree->depth] = index;
     tree->depth++;
 }
 
-/* Whether there are as many buffers, sizes and children as the format has, and a dictionary of both or of none. */
+/* Whether there are the buffers, sizes and children that the format has, and a dictionary of both or of none. */
 static inline uint32_t arrow2_c_check_counts(struct arrow2_c_tree *tree, const struct arrow2_c_layout *layout,
                                              const struct ArrowSchema *schema, const struct ArrowArray *array) {
     int64_t children = layout->children < 0 ? schema->n_children : layout->children;
@@ -554,7 +555,7 @@ static inline struct arrow2_c_buffer arrow2_c_buffer_of(const struct arrow2_c_tr
     return buffer;
 }
 
-/* Whether a buffer of which `count` items of `width` bytes are read is there, and aligned. */
+/* Whether a buffer is there, and aligned, from which `count` items of `width` bytes are read. */
 static inline uint32_t arrow2_c_check_pointer(const void *bytes, size_t count, size_t width) {
     if (!bytes && count && width) {
         return ARROW2_C_NULL;
@@ -562,7 +563,7 @@ static inline uint32_t arrow2_c_check_pointer(const void *bytes, size_t count, s
     return width > 1 && (uintptr_t)bytes % width ? ARROW2_C_UNALIGNED : ARROW2_OK;
 }
 
-/* Whether the validity is there for all items, and has as many nulls as were declared. */
+/* Whether the validity has a bit for each item, and the declared number of nulls. */
 static inline uint32_t arrow2_c_check_validity(const struct arrow2_c_tree *tree, const struct ArrowArray *array) {
     struct arrow2_c_buffer buffer = arrow2_c_buffer_of(tree, array, 0);
     if (!buffer.bytes) {
@@ -576,7 +577,7 @@ static inline uint32_t arrow2_c_check_validity(const struct arrow2_c_tree *tree,
                                  buffer.offset, buffer.length, array->null_count);
 }
 
-/* Whether a buffer has the array's values: of one bit each where `bits` says so, else of `width` bytes. */
+/* Whether a buffer has the array's values: of one bit each where `bits` is true, else of `width` bytes. */
 static inline uint32_t arrow2_c_check_values(struct arrow2_c_buffer values, bool bits, size_t width) {
     uint32_t code = bits ? arrow2_bits_check(values.size, values.offset, values.length)
                          : arrow2_values_check(values.size, width, values.offset, values.length);
@@ -678,8 +679,8 @@ static inline void arrow2_c_read_types(const char *at, int64_t child_of[128]) {
     }
 }
 
-/* Whether each slot of a union has a type of the format, and with offsets points into its child, at no item in front of
- * that of an earlier slot. */
+/* Whether each slot of a union has a type of the format, and with offsets points into its child, at no item before that
+ * of an earlier slot. */
 static inline uint32_t arrow2_c_check_union(struct arrow2_c_buffer types, const struct arrow2_c_buffer *offsets,
                                             const char *named, const struct ArrowArray *array, int64_t *slot) {
     int64_t child_of[128];
@@ -721,8 +722,8 @@ static inline uint32_t arrow2_c_check_union_buffers(const struct arrow2_c_tree *
     return code != ARROW2_OK ? code : arrow2_c_check_union(types, dense ? &offsets : NULL, named, array, slot);
 }
 
-/* Whether each child has as many items as its parent needs of it: `of_a_slot` for each slot, those in front too. Stays
- * at the child that has not. */
+/* Whether each child has the items that its parent needs of it: `of_a_slot` for each slot, including those before the
+ * offset. Stays at the child that has not. */
 static inline uint32_t arrow2_c_check_lengths(struct arrow2_c_tree *tree, enum arrow2_c_kind kind, size_t of_a_slot,
                                               const struct ArrowArray *array) {
     for (int64_t i = 0; i < array->n_children; i++) {
@@ -756,7 +757,7 @@ static inline uint32_t arrow2_c_check_flat(const struct arrow2_c_tree *tree, con
                                   (size_t)array->dictionary->length, slot);
 }
 
-/* Whether what an array itself holds is right, whose counts and children's heads are. */
+/* Whether the array's own buffers are right, where its counts and its children's heads are. */
 static inline uint32_t arrow2_c_check_content(struct arrow2_c_tree *tree, const struct arrow2_c_layout *layout,
                                               const struct ArrowSchema *schema, const struct ArrowArray *array,
                                               int64_t *slot) {
@@ -855,8 +856,8 @@ static inline uint32_t arrow2_c_check_root(const struct ArrowSchema *schema, con
 }
 
 /* Whether an array is one of its schema: ARROW2_OK exactly where it is, else the first rule that is broken. `where`,
- * which may be null, is written where it is not. What cannot be known is how many bytes a buffer has: as many as
- * format, length, offset and last offset say are read. */
+ * which may be null, is written where it is not. The sizes of buffers cannot be known: they are read to the length that
+ * format, length, offset and last offset require. */
 static inline uint32_t arrow2_array_check(const struct ArrowSchema *schema, const struct ArrowArray *array,
                                           struct arrow2_where *where) {
     return arrow2_c_check_root(schema, array, NULL, 0, where);
@@ -869,7 +870,7 @@ static inline uint32_t arrow2_array_check_sized(const struct ArrowSchema *schema
     return arrow2_c_check_root(schema, array, (const size_t *)arrow2_c_some(sizes), sizes_count, where);
 }
 
-/* What a code says. */
+/* Returns the text of a code. */
 static inline const char *arrow2_code_text(uint32_t code) {
     static const char *const of_library[] = {
         "right", "a range is not inside", "a slice has another length", "a number is above the greatest offset",

@@ -1,4 +1,5 @@
-//! Links the static library of `crates/arrow2_ffi`: that of a folder which a variable names, or of `lib` beside this file.
+//! Links the static library of `crates/arrow2_ffi`: that of a folder which a variable names, or of `lib` next to this
+//! file.
 
 use std::path::Path;
 

@@ -1,4 +1,4 @@
-//! Makes a stream of two batches, one of which has a text that is no UTF-8, checks it, and prints what it has.
+//! Makes a stream of two batches, one of which has a text that is no UTF-8, checks it, and prints its columns.
 
 use arrow2_proved::c_data::{ArrowArray, ArrowArrayStream, ArrowSchema, Stream};
 use core::ffi::{c_int, c_void};
@@ -8,7 +8,7 @@ static OFFSETS: [i32; 4] = [0, 1, 3, 5];
 static BATCHES: [&[u8; 5]; 2] = [b"a\xc3\xa9xy", b"ab\xc3\xa9y"];
 
 unsafe extern "C" fn release_schema(schema: *mut ArrowSchema) {
-    // SAFETY: the interface hands in what it was given.
+    // SAFETY: the interface hands in the pointers that it was given.
     unsafe { (*schema).release = None }
 }
 
@@ -40,7 +40,7 @@ unsafe extern "C" fn get_schema(_: *mut ArrowArrayStream, out: *mut ArrowSchema)
         release: Some(release_schema),
         private_data: ptr::null_mut(),
     };
-    // SAFETY: the caller's place for a schema.
+    // SAFETY: the caller's memory for a schema.
     unsafe { out.write(schema) };
     0
 }
@@ -64,7 +64,7 @@ unsafe extern "C" fn get_next(stream: *mut ArrowArrayStream, out: *mut ArrowArra
         release: Some(release_array),
         private_data: buffers.cast(),
     };
-    // SAFETY: the caller's place for an array.
+    // SAFETY: the caller's memory for an array.
     unsafe {
         out.write(array);
         if batch.is_none() {

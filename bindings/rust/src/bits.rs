@@ -4,7 +4,7 @@ use crate::Bits;
 use crate::refusal::{Refusal, told};
 use crate::sys;
 
-/// How many of the `length` bits from bit `offset` on are not set.
+/// Returns how many of the `length` bits from bit `offset` on are not set.
 ///
 /// # Errors
 ///
@@ -78,7 +78,7 @@ pub fn set_bit(bytes: &mut [u8], index: usize, value: bool) -> Result<(), Refusa
     told(unsafe { sys::arrow2_set_bit(bytes.as_mut_ptr(), bytes.len(), index, value) })
 }
 
-/// Copies the `length` bits from bit `offset` on over `out`, from bit 0 on. Spare bits become 0.
+/// Copies the `length` bits from bit `offset` on over `out`, from bit 0 on. Padding bits become 0.
 ///
 /// # Errors
 ///

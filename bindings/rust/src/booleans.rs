@@ -4,7 +4,7 @@ use crate::Bits;
 use crate::refusal::{Refusal, told};
 use crate::sys;
 
-/// Writes the booleans as bits over `out`, from bit 0 on. Spare bits become 0.
+/// Writes the booleans as bits over `out`, from bit 0 on. Padding bits become 0.
 ///
 /// # Errors
 ///
@@ -15,7 +15,7 @@ pub fn pack(items: &[bool], out: &mut [u8]) -> Result<(), Refusal> {
     told(unsafe { sys::arrow2_pack(items.as_ptr(), items.len(), out.as_mut_ptr(), out.len()) })
 }
 
-/// Writes as many bits as `out` has items as booleans.
+/// Fills `out` with bits, as booleans.
 ///
 /// # Errors
 ///

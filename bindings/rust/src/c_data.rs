@@ -1,4 +1,4 @@
-//! Arrays of the Arrow C data interface: owners that release once, checks, and views of what was checked.
+//! Arrays of the Arrow C data interface: owners that release once, checks, and views of checked arrays.
 //!
 //! ```no_run
 //! use arrow2_proved::c_data::{ArrowArrayStream, Stream};

@@ -4,12 +4,12 @@ use crate::Bits;
 use crate::refusal::{Refusal, RefusalAt, told, told_at};
 use crate::sys;
 
-/// Whether the `length` bits are inside, and as many of them not set as declared, if that is declared.
+/// Checks that the `length` bits are inside, and that the declared number of them is not set, if it is declared.
 ///
 /// # Errors
 ///
-/// [`Refusal::Range`] exactly where they are not inside the bytes, else [`Refusal::Nulls`] exactly where `null_count` is
-/// neither -1 nor their number.
+/// [`Refusal::Range`] exactly where they are not inside the bytes, else [`Refusal::Nulls`] exactly where `null_count`
+/// is neither -1 nor their number.
 #[inline]
 pub fn check_validity(validity: Bits<'_>, length: usize, null_count: i64) -> Result<(), Refusal> {
     let Bits { bytes, offset } = validity;
@@ -21,7 +21,7 @@ pub fn check_validity(validity: Bits<'_>, length: usize, null_count: i64) -> Res
 ///
 /// # Errors
 ///
-/// [`Refusal::Range`] exactly where they have not.
+/// [`Refusal::Range`] exactly where they do not.
 #[inline]
 pub fn check_bits(bytes: usize, offset: usize, length: usize) -> Result<(), Refusal> {
     // SAFETY: the call takes numbers alone.
@@ -32,7 +32,7 @@ pub fn check_bits(bytes: usize, offset: usize, length: usize) -> Result<(), Refu
 ///
 /// # Errors
 ///
-/// [`Refusal::Range`] exactly where they have not.
+/// [`Refusal::Range`] exactly where they do not.
 #[inline]
 pub fn check_values(bytes: usize, width: usize, offset: usize, length: usize) -> Result<(), Refusal> {
     // SAFETY: the call takes numbers alone.

@@ -1,10 +1,10 @@
-//! Kleene's logic on values beside their validity.
+//! Kleene's logic on values with their validity.
 
 use crate::Bits;
 use crate::refusal::{Refusal, told};
 use crate::sys;
 
-/// Values beside their validity: an item is null where its validity bit is not set.
+/// Values with their validity: an item is null where its validity bit is not set.
 #[derive(Clone, Copy, Debug)]
 pub struct Nullable<'a> {
     /// The values.
@@ -69,7 +69,7 @@ operator!(
     arrow2_or_kleene
 );
 
-/// Values beside their validity, which may be missing: then no item is null.
+/// Values with their validity, which may be missing: then no item is null.
 #[derive(Clone, Copy, Debug)]
 pub struct OptionalNullable<'a> {
     /// The values.

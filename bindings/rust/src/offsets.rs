@@ -24,8 +24,8 @@ mod sealed {
 /// A number that an offset may be: `i32` or `i64`.
 ///
 /// Offsets are at least one number, none negative and none below the one before it: slot `i` spans from offset `i` to
-/// offset `i + 1`. Each call on numbers that are no offsets answers [`Refusal::NoOffset`],
-/// [`Refusal::NegativeOffset`] or [`Refusal::FallingOffsets`]: the first rule that they break, before any other error.
+/// offset `i + 1`. Each call on numbers that are no offsets returns [`Refusal::NoOffset`], [`Refusal::NegativeOffset`]
+/// or [`Refusal::FallingOffsets`]: the first rule that they break, before any other error.
 pub trait Offset: sealed::Sealed + Copy {
     /// Whether the numbers are offsets.
     ///
@@ -41,7 +41,7 @@ pub trait Offset: sealed::Sealed + Copy {
     /// The first rule that the numbers break, else [`Refusal::Length`] exactly where `out` has not one item less.
     fn lengths(offsets: &[Self], out: &mut [usize]) -> Result<(), Refusal>;
 
-    /// Writes `start`, and behind it the running sums of the lengths.
+    /// Writes `start`, followed by the running sums of the lengths.
     ///
     /// # Errors
     ///
@@ -49,7 +49,7 @@ pub trait Offset: sealed::Sealed + Copy {
     /// exactly where `start` and all lengths together are above the greatest offset.
     fn from_lengths(start: usize, lengths: &[usize], out: &mut [Self]) -> Result<(), Refusal>;
 
-    /// Writes as many offsets as `out` has, from offset `from` on, each less the first of them.
+    /// Fills `out` with the offsets from offset `from` on, each less the first of them.
     ///
     /// # Errors
     ///
@@ -62,16 +62,16 @@ pub trait Offset: sealed::Sealed + Copy {
     /// # Errors
     ///
     /// The first rule that the numbers break, else [`Refusal::PastOffset`] exactly where the last one is above `items`.
-    /// [`Refusal::FallingOffsets`] and [`Refusal::PastOffset`] come with the index of the first number that is below the
-    /// one before it, or above `items`.
+    /// [`Refusal::FallingOffsets`] and [`Refusal::PastOffset`] come with the index of the first number that is below
+    /// the one before it, or above `items`.
     fn check_inside(offsets: &[Self], items: usize) -> Result<(), RefusalAt>;
 
     /// Whether the numbers are offsets, none is past the values, and the values of each slot are UTF-8.
     ///
     /// # Errors
     ///
-    /// As [`Offset::check_inside`] with as many items as values, else [`Refusal::NotUtf8`] with the first slot that is
-    /// not UTF-8, exactly where there is one.
+    /// As [`Offset::check_inside`] with the values as items, else [`Refusal::NotUtf8`] with the first slot that is not
+    /// UTF-8, exactly where there is one.
     fn check_texts(offsets: &[Self], values: &[u8]) -> Result<(), RefusalAt>;
 }
 
@@ -81,7 +81,8 @@ macro_rules! offset {
         $width:ty, $check:ident, $lengths:ident, $lengths_unchecked:ident, $from_lengths:ident, $from_zero:ident,
         $from_zero_unchecked:ident, $inside:ident, $texts:ident
     ) => {
-        // SAFETY, of each call: each slice is borrowed for the call, what is written alone, and no call keeps one.
+        // SAFETY, of each call: each slice is borrowed for the call, those that are written exclusively, and no call
+        // keeps one.
         impl sealed::Sealed for $width {
             #[inline]
             unsafe fn lengths_unchecked(offsets: &[Self], out: &mut [usize]) -> u32 {

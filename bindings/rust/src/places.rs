@@ -1,11 +1,12 @@
-//! The places of set bits.
+//! The indices of set bits.
 
 use crate::Bits;
 use crate::refusal::{Refusal, told};
 use crate::sys;
 
-/// Writes the places of set bits among `length` bits, from place `at` of them on, rising, as many as fit. Answers how
-/// many these are, and moves `at` to where to go on; fewer than fit are the last ones, and `at` is then `length`.
+/// Writes the indices of set bits among `length` bits, from index `at` of them on, rising, until `out` is full or none
+/// is left. Returns how many were written, and moves `at` to the index from which to go on. If fewer are written than
+/// fit, they are the last ones, and `at` is then `length`.
 ///
 /// # Errors
 ///
@@ -13,7 +14,7 @@ use crate::sys;
 #[inline]
 pub fn set_places(bits: Bits<'_>, length: usize, at: &mut usize, places: &mut [usize]) -> Result<usize, Refusal> {
     let mut count = 0;
-    // All is borrowed for the call, what is written alone, and it keeps nothing.
+    // All is borrowed for the call, slices that are written exclusively, and it keeps nothing.
     told(unsafe {
         sys::arrow2_set_places(
             bits.bytes.as_ptr(),

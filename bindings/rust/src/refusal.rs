@@ -6,23 +6,23 @@ use core::fmt;
 /// Why a call refused. Nothing was written.
 #[derive(Clone, Copy, Debug, PartialEq, Eq)]
 pub enum Refusal {
-    /// A place or a range is not inside, or a table has bits past its last answer.
+    /// An index or a range is not inside, or a table has bits past its last output.
     Range,
     /// A slice has more or fewer items than the call needs.
     Length,
     /// A number is above the greatest offset.
     Overflow,
-    /// Memory was refused. No call of this version answers it.
+    /// An allocation failed. No call of this version returns it.
     Memory,
-    /// What should be offsets has no item.
+    /// A list of offsets has no item.
     NoOffset,
-    /// What should be offsets begins with a negative number.
+    /// A list of offsets begins with a negative number.
     NegativeOffset,
-    /// What should be offsets has a number that is below the one before it.
+    /// A list of offsets has a number that is below the one before it.
     FallingOffsets,
     /// The number of nulls is not the declared one.
     Nulls,
-    /// An offset is past what the offsets cut.
+    /// An offset is past the items that the offsets cut.
     PastOffset,
     /// The bytes of a slot are not UTF-8.
     NotUtf8,
@@ -67,13 +67,13 @@ impl fmt::Display for Refusal {
 
 impl core::error::Error for Refusal {}
 
-/// What a code of the library says.
+/// The error of a code of the library.
 #[inline]
 pub(crate) fn told(code: u32) -> Result<(), Refusal> {
     if code == sys::ARROW2_OK { Ok(()) } else { Err(refusal(code)) }
 }
 
-/// What a code that is not `ARROW2_OK` stands for.
+/// Returns the error of a code that is not `ARROW2_OK`.
 #[cold]
 fn refusal(code: u32) -> Refusal {
     match code {

@@ -4,9 +4,9 @@ use crate::Bits;
 use crate::refusal::{Refusal, told};
 use crate::sys;
 
-/// Writes the runs of set bits among `length` bits, from place `at` of them on: each by its first place and its length,
-/// as many as fit. Answers how many these are, and moves `at` to where to go on; fewer than fit are the last ones, and
-/// `at` is then `length`.
+/// Writes the runs of set bits among `length` bits, from index `at` of them on: each by its first index and its length,
+/// until `out` is full or no run is left. Returns how many were written, and moves `at` to the index from which to go
+/// on. If fewer are written than fit, they are the last ones, and `at` is then `length`.
 ///
 /// # Errors
 ///
@@ -21,7 +21,7 @@ pub fn runs(
     lengths: &mut [usize],
 ) -> Result<usize, Refusal> {
     let mut count = 0;
-    // All is borrowed for the call, what is written alone, and it keeps nothing.
+    // All is borrowed for the call, slices that are written exclusively, and it keeps nothing.
     told(unsafe {
         sys::arrow2_runs(
             bits.bytes.as_ptr(),

@@ -1,24 +1,24 @@
 //! Truth tables over bits.
 //!
-//! Bit `a1 + 2 * a2 + 4 * a3 + 8 * a4` of a table is its answer for inputs `a1` to `a4`.
+//! Bit `a1 + 2 * a2 + 4 * a3 + 8 * a4` of a table is its output for inputs `a1` to `a4`.
 
 use crate::Bits;
 use crate::refusal::{Refusal, told};
 use crate::sys;
 
-/// The table of one input that answers its opposite.
+/// The table of one input whose output is the negated input.
 pub const NOT: u16 = 0b01;
 
-/// The table of two inputs that answers whether both are set.
+/// The table of two inputs whose output is whether both are set.
 pub const AND: u16 = 0b1000;
 
-/// The table of two inputs that answers whether one is set, or both.
+/// The table of two inputs whose output is whether one is set, or both.
 pub const OR: u16 = 0b1110;
 
-/// The table of two inputs that answers whether one is set, and not both.
+/// The table of two inputs whose output is whether one is set, and not both.
 pub const XOR: u16 = 0b0110;
 
-/// Writes the answers of `table` for `length` bits of the input over `out`, from bit 0 on. Spare bits become 0.
+/// Writes the outputs of `table` for `length` bits of the input over `out`, from bit 0 on. Padding bits become 0.
 ///
 /// # Errors
 ///
@@ -135,7 +135,7 @@ pub fn quaternary_table(
     })
 }
 
-/// Writes the answers of `table` for the first `length` bits of `bytes` in their place. Spare bits become 0.
+/// Replaces the first `length` bits of `bytes` by the outputs of `table` for them. Padding bits become 0.
 ///
 /// # Errors
 ///
@@ -147,7 +147,7 @@ pub fn unary_assign_table(bytes: &mut [u8], length: usize, table: u16) -> Result
     told(unsafe { sys::arrow2_unary_assign_table(bytes.as_mut_ptr(), bytes.len(), length, table) })
 }
 
-/// The same of two inputs: the first `length` bits of `bytes`, and as many of `second`.
+/// The same of two inputs: the first `length` bits of `bytes`, and `length` bits of `second`.
 ///
 /// # Errors
 ///

@@ -1,4 +1,4 @@
-//! Owners release once; views show what was checked.
+//! Owners release once; views show checked arrays.
 
 use arrow2_proved::c_data::{
     Array, ArrowArray, ArrowArrayStream, ArrowSchema, Broken, Offsets, Schema, Stream, StreamError,
@@ -8,11 +8,11 @@ use core::ffi::{CStr, c_int, c_void};
 use std::cell::Cell;
 use std::ptr;
 
-/// How often what a test made was released.
+/// How often the arrays of a test were released.
 type Releases = Cell<usize>;
 
 unsafe extern "C" fn release_schema(schema: *mut ArrowSchema) {
-    // SAFETY: the test's counter outlives what it made.
+    // SAFETY: the test's counter outlives the array.
     unsafe { count(&mut (*schema).private_data) };
     unsafe { (*schema).release = None };
 }
@@ -69,7 +69,7 @@ fn texts(values: &'static [u8; 5]) -> [*const c_void; 3] {
 fn each_owner_releases_once() {
     let releases = Releases::new(0);
     let mut buffers = texts(b"a\xc3\xa9xy");
-    // SAFETY, of all below: the buffers are as long as the format says, and outlive the owners.
+    // SAFETY, of all below: the buffers have the length that the format requires, and outlive the owners.
     let of_type = unsafe { Schema::from_raw(schema(&releases, c"u")) };
     let moved = unsafe { Array::from_raw(array(&releases, 3, 0, &mut buffers)) }.into_raw();
     assert_eq!(releases.get(), 0);
@@ -130,7 +130,7 @@ unsafe extern "C" fn refuse(_: *mut ArrowArrayStream, _: *mut ArrowSchema) -> c_
 }
 
 unsafe extern "C" fn last(_: *mut ArrowArrayStream, out: *mut ArrowArray) -> c_int {
-    // SAFETY: the caller's place for an array, which is all zero.
+    // SAFETY: the caller's memory for an array, which is all zero.
     unsafe { (*out).release = None };
     0
 }

@@ -1,4 +1,4 @@
-//! The checks beside plain loops, on random inputs.
+//! The checks compared with plain loops, on random inputs.
 
 mod inputs;
 
@@ -8,7 +8,7 @@ use arrow2_proved::{
 };
 use inputs::{Random, part};
 
-/// How many random inputs each check gets.
+/// The number of random inputs of each check.
 const INPUTS: usize = 10_000;
 
 #[test]

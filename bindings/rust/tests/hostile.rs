@@ -27,7 +27,7 @@ unsafe extern "C" fn in_rust(
     count: usize,
     place: *mut Where,
 ) -> u32 {
-    // SAFETY: C hands in sizes or null, and a place or null.
+    // SAFETY: C hands in sizes or null, and an index or null.
     let sizes = (!sizes.is_null()).then(|| unsafe { slice::from_raw_parts(sizes, count) });
     match unsafe { check_raw(schema, array, sizes) } {
         Ok(()) => 0,

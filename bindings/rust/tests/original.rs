@@ -1,4 +1,4 @@
-//! Each call beside arrow2 0.17.4, on random inputs. `bindings/run` adds arrow2 where its folder is given.
+//! Each call compared with arrow2 0.17.4, on random inputs. `bindings/run` adds arrow2 where its folder is given.
 
 mod inputs;
 
@@ -11,7 +11,7 @@ use arrow2_proved::{
 };
 use inputs::Random;
 
-/// How many random inputs each call gets.
+/// The number of random inputs of each call.
 const INPUTS: usize = 10_000;
 
 /// A bitmap of arrow2 over the bits of a range.

@@ -1,4 +1,4 @@
-//! Each call beside a plain loop, on random inputs.
+//! Each call compared with a plain loop, on random inputs.
 
 mod inputs;
 
@@ -10,7 +10,7 @@ use arrow2_proved::{
 };
 use inputs::{Random, part, written};
 
-/// How many random inputs each call gets.
+/// The number of random inputs of each call.
 const INPUTS: usize = 10_000;
 
 #[test]
@@ -42,7 +42,7 @@ fn equality() {
         assert_eq!(answer, told);
         same += usize::from(told == Ok(true));
     }
-    // Both answers came often.
+    // Both results came often.
     assert!(INPUTS / 10 < same && same < INPUTS * 9 / 10, "{same} of {INPUTS}");
 }
 
@@ -82,7 +82,7 @@ fn copies() {
     }
 }
 
-/// The answers of a table for as many inputs as it is given.
+/// The outputs of a table, by the number of its inputs.
 fn answers(table: u16, inputs: &[Vec<bool>], length: usize) -> Vec<bool> {
     let answer = |place: usize| {
         let bits = inputs.iter().enumerate();
@@ -92,7 +92,7 @@ fn answers(table: u16, inputs: &[Vec<bool>], length: usize) -> Vec<bool> {
     (0..length).map(answer).collect()
 }
 
-/// What a table of `count` inputs answers, or why it refuses.
+/// The outputs of a table of `count` inputs, or its error.
 fn expected(table: u16, inputs: &[Bits<'_>], length: usize) -> Result<Vec<bool>, Refusal> {
     let most = [3, 15, 255, u16::MAX][inputs.len() - 1];
     if table > most {
@@ -162,7 +162,7 @@ fn rule(offsets: &[i128]) -> Result<(), Refusal> {
     }
 }
 
-/// Offsets that were checked once give what those do that are checked at each call.
+/// Offsets that were checked once give the same as those that are checked at each call.
 fn checked_once<O: Offset + Default + PartialEq + std::fmt::Debug>(offsets: &[O], random: &mut Random) {
     let Ok(checked) = CheckedOffsets::new(offsets) else {
         assert!(O::check(offsets).is_err());
@@ -260,7 +260,7 @@ fn widths() {
     }
 }
 
-/// The runs of set bits, each by its first place and its length.
+/// The runs of set bits, each by its first index and its length.
 fn plain_runs(bits: &[bool], from: usize) -> Vec<(usize, usize)> {
     let mut runs: Vec<(usize, usize)> = vec![];
     for place in (from..bits.len()).filter(|place| bits[*place]) {

@@ -14,13 +14,13 @@ pub struct ArrowSchema {
     pub metadata: *const c_char,
     /// Whether a dictionary is ordered, items may be null, keys are sorted.
     pub flags: i64,
-    /// How many children there are.
+    /// The number of children.
     pub n_children: i64,
     /// The types of the children.
     pub children: *mut *mut ArrowSchema,
     /// The type of the dictionary, or null.
     pub dictionary: *mut ArrowSchema,
-    /// Frees what is held; null once that was done.
+    /// Frees the private data; null once that was done.
     pub release: Option<unsafe extern "C" fn(*mut ArrowSchema)>,
     /// The producer's own.
     pub private_data: *mut c_void,
@@ -30,15 +30,15 @@ pub struct ArrowSchema {
 #[repr(C)]
 #[derive(Debug)]
 pub struct ArrowArray {
-    /// How many items there are.
+    /// The number of items.
     pub length: i64,
-    /// How many of them are null, or -1.
+    /// The number of nulls, or -1.
     pub null_count: i64,
     /// The first item.
     pub offset: i64,
-    /// How many buffers there are.
+    /// The number of buffers.
     pub n_buffers: i64,
-    /// How many children there are.
+    /// The number of children.
     pub n_children: i64,
     /// The buffers.
     pub buffers: *mut *const c_void,
@@ -46,13 +46,13 @@ pub struct ArrowArray {
     pub children: *mut *mut ArrowArray,
     /// The dictionary, or null.
     pub dictionary: *mut ArrowArray,
-    /// Frees what is held; null once that was done.
+    /// Frees the private data; null once that was done.
     pub release: Option<unsafe extern "C" fn(*mut ArrowArray)>,
     /// The producer's own.
     pub private_data: *mut c_void,
 }
 
-/// Arrays of one schema, one behind the other.
+/// Arrays of one schema, one after the other.
 #[repr(C)]
 #[derive(Debug)]
 pub struct ArrowArrayStream {
@@ -62,7 +62,7 @@ pub struct ArrowArrayStream {
     pub get_next: Option<unsafe extern "C" fn(*mut ArrowArrayStream, *mut ArrowArray) -> c_int>,
     /// The text of the last error, or null.
     pub get_last_error: Option<unsafe extern "C" fn(*mut ArrowArrayStream) -> *const c_char>,
-    /// Frees what is held; null once that was done.
+    /// Frees the private data; null once that was done.
     pub release: Option<unsafe extern "C" fn(*mut ArrowArrayStream)>,
     /// The producer's own.
     pub private_data: *mut c_void,

@@ -1,5 +1,5 @@
-//! Whether an array is one of its schema. The same way through the tree as `arrow2_c_data.h` has in C; every test of bits,
-//! offsets, texts and indices is a call of the library.
+//! Whether an array is one of its schema. The same way through the tree as `arrow2_c_data.h` has in C; every test of
+//! bits, offsets, texts and indices is a call of the library.
 
 use super::abi::{ArrowArray, ArrowSchema};
 use super::layout::{Kind, Layout};
@@ -13,7 +13,7 @@ use core::slice;
 /// How deep a tree may be.
 pub const MAX_DEPTH: usize = 64;
 
-/// How many arrays a tree may have, and how many children an array.
+/// The greatest number of arrays of a tree, and of children of an array.
 pub const MAX_ARRAYS: usize = 1_048_576;
 
 /// More bytes than any buffer has: the size of a buffer whose size is not known.
@@ -30,7 +30,7 @@ pub enum Broken {
     Released,
     /// A length, an offset or a number of children is negative, or length and offset together are above 2^63 - 1.
     Negative,
-    /// The format is not known: nothing is said of such an array.
+    /// The format is not known: such an array is not checked.
     Format,
     /// The format has another number of buffers.
     Buffers,
@@ -42,7 +42,7 @@ pub enum Broken {
     Dictionary,
     /// A slot of a union has a type that the format does not name.
     Type,
-    /// A slot of a dense union points outside its child, or in front of an earlier slot's item.
+    /// A slot of a dense union points outside its child, or before an earlier slot's item.
     UnionOffset,
     /// The tree is deeper than [`MAX_DEPTH`], or has more arrays than [`MAX_ARRAYS`].
     TooLarge,
@@ -170,9 +170,9 @@ fn of_slot(refused: RefusalAt) -> Fault {
     Fault(Broken::Part(refused.refusal), Some(refused.at))
 }
 
-/// Whether an array is one of a schema, by the sizes in bytes of the tree's buffers: those of an array, then those of its
-/// children in order, then those of its dictionary. Without sizes as many bytes are read as format, length, offset and
-/// last offset say.
+/// Whether an array is one of a schema, by the sizes in bytes of the tree's buffers: those of an array, then those of
+/// its children in order, then those of its dictionary. Without sizes, the buffers are read to the length that format,
+/// length, offset and last offset require.
 ///
 /// # Errors
 ///
@@ -180,8 +180,8 @@ fn of_slot(refused: RefusalAt) -> Fault {
 ///
 /// # Safety
 ///
-/// Each pointer is null, or points to what the interface says; each buffer has as many bytes as its size, or without
-/// sizes as are read.
+/// Each pointer is null, or follows the interface; each buffer has at least its size in bytes, or without sizes the
+/// bytes that are read.
 pub unsafe fn check_raw(
     schema: *const ArrowSchema,
     array: *const ArrowArray,
@@ -200,8 +200,8 @@ pub unsafe fn check_raw(
     }
 }
 
-/// An array of the tree and its schema. SAFETY, of each `unsafe fn` below: as of [`check_raw`]; where a node is said to be
-/// checked, its head was.
+/// An array of the tree and its schema. SAFETY, of each `unsafe fn` below: as of [`check_raw`]; where a node is
+/// required to be checked, its head was.
 #[derive(Clone, Copy)]
 struct Node {
     schema: *const ArrowSchema,
@@ -230,7 +230,7 @@ impl Node {
 
     /// Child `index` of a node whose counts were checked.
     unsafe fn child(self, index: usize) -> Node {
-        // SAFETY: there are as many children of both.
+        // SAFETY: both have the same number of children.
         unsafe { Node { schema: *(*self.schema).children.add(index), array: *(*self.array).children.add(index) } }
     }
 
@@ -263,7 +263,7 @@ impl Buffer {
         Ok(())
     }
 
-    /// `count` items from item `from` on, of which the pointer was checked.
+    /// `count` items from item `from` on, whose pointer was checked.
     unsafe fn items<'a, T>(&self, from: usize, count: usize) -> &'a [T] {
         if count == 0 {
             return &[];
@@ -339,7 +339,7 @@ impl Tree<'_> {
         Refused { broken: fault.0, path: self.path.clone(), slot: fault.1 }
     }
 
-    /// Goes to child `index` of an array of a kind, or to its dictionary.
+    /// Goes to child `index` of an array by its format, or to its dictionary.
     fn enter(&mut self, kind: Kind, index: Option<usize>) {
         self.path.0.push((kind, index));
     }
@@ -401,7 +401,7 @@ impl Tree<'_> {
         }
     }
 
-    /// Whether there are as many buffers, sizes and children as the format has, and a dictionary of both or of none.
+    /// Whether there are the buffers, sizes and children that the format has, and a dictionary of both or of none.
     unsafe fn check_counts(&self, node: Node, layout: &Layout<'_>) -> Result<(), Broken> {
         // SAFETY: the head was checked.
         let (schema, array) = unsafe { (&*node.schema, &*node.array) };
@@ -443,7 +443,7 @@ impl Tree<'_> {
         Ok(())
     }
 
-    /// Whether the validity is there for all items, and has as many nulls as declared.
+    /// Whether the validity has a bit for each item, and the declared number of nulls.
     unsafe fn check_nulls(&self, node: Node) -> Result<(), Fault> {
         // SAFETY: the caller's.
         unsafe {
@@ -458,7 +458,7 @@ impl Tree<'_> {
         }
     }
 
-    /// Whether what the array itself holds is right.
+    /// Whether the array's own buffers are right.
     unsafe fn check_content(&mut self, node: Node, layout: &Layout<'_>) -> Result<(), Fault> {
         // SAFETY: the caller's; the counts and the heads of children were checked.
         unsafe {
@@ -519,8 +519,8 @@ impl Tree<'_> {
         }
     }
 
-    /// Whether each child has `of_a_slot` items for each slot, those in front too. Stays at the one that has
-    /// not.
+    /// Whether each child has `of_a_slot` items for each slot, including those before the offset. Stays at the one that
+    /// has not.
     unsafe fn check_lengths(&mut self, node: Node, kind: Kind, of_a_slot: usize) -> Result<(), Fault> {
         // SAFETY: the caller's.
         unsafe {
@@ -536,8 +536,8 @@ impl Tree<'_> {
         Ok(())
     }
 
-    /// Whether each slot of a union has a type of the format and, if it is dense, points into its child, at no item in
-    /// front of that of an earlier slot.
+    /// Whether each slot of a union has a type of the format and, if it is dense, points into its child, at no item
+    /// before that of an earlier slot.
     unsafe fn check_union(&self, node: Node, layout: &Layout<'_>) -> Result<(), Fault> {
         // SAFETY: the caller's.
         unsafe {

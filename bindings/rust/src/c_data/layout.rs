@@ -1,4 +1,4 @@
-//! What a format says.
+//! The layout that a format describes.
 
 /// How an array of a format is stored.
 #[derive(Clone, Copy, Debug, PartialEq, Eq)]
@@ -46,7 +46,7 @@ impl Kind {
     }
 }
 
-/// What a format says of an array.
+/// The layout of an array, by its format.
 #[derive(Clone, Copy, Debug)]
 pub struct Layout<'a> {
     /// How it is stored.
@@ -57,9 +57,9 @@ pub struct Layout<'a> {
     pub index: Option<u8>,
     /// The types of a union, as in the format.
     pub types: &'a [u8],
-    /// How many buffers it has.
+    /// Returns the number of buffers.
     pub buffers: usize,
-    /// How many children it has, `None` for any number.
+    /// Returns the number of children, `None` for any number.
     pub children: Option<usize>,
 }
 
@@ -173,7 +173,7 @@ fn temporal(rest: &[u8]) -> Option<usize> {
     }
 }
 
-/// How many types a union names, each from 0 to 127 and none twice.
+/// Returns the number of types of a union, each from 0 to 127 and none twice.
 fn count_types(types: &[u8]) -> Option<usize> {
     if types.is_empty() {
         return Some(0);

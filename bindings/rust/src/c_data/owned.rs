@@ -1,4 +1,4 @@
-//! Owners: what they hold is released exactly once, when they are dropped.
+//! Owners: their arrays and schemas are released exactly once, when they are dropped.
 
 use super::abi::{ArrowArray, ArrowArrayStream, ArrowSchema};
 use super::check::{Refused, check_raw};
@@ -19,15 +19,15 @@ macro_rules! owner {
             ///
             /// # Safety
             ///
-            /// It follows the interface: pointers that are not null point to what the specification says, each buffer has
-            /// as many bytes as format, length, offset and last offset say, nothing is written while it lives, and
-            /// nobody else releases it.
+            /// It follows the interface: pointers that are not null point to data as the specification requires, each
+            /// buffer has the bytes that format, length, offset and last offset require, nothing is written while it
+            /// lives, and nobody else releases it.
             #[must_use]
             pub unsafe fn from_raw(raw: $raw) -> Self {
                 $name(raw)
             }
 
-            /// What it holds.
+            /// Returns the array or schema.
             #[must_use]
             pub fn as_raw(&self) -> &$raw {
                 &self.0
@@ -62,7 +62,7 @@ owner!(
     Array, ArrowArray
 );
 owner!(
-    /// Arrays of one schema, one behind the other.
+    /// Arrays of one schema, one after the other.
     Stream, ArrowArrayStream
 );
 
@@ -94,7 +94,7 @@ impl Array {
     }
 }
 
-/// What a stream returns instead of a schema or an array.
+/// The error of a stream that returns no schema or array.
 #[derive(Clone, Copy, Debug, PartialEq, Eq)]
 pub enum StreamError {
     /// It was released, or lacks a function.
@@ -119,7 +119,7 @@ impl Stream {
     ///
     /// # Errors
     ///
-    /// What the stream returns instead.
+    /// The error that the stream returns instead.
     pub fn schema(&mut self) -> Result<Schema, StreamError> {
         let get = self.0.get_schema.filter(|_| self.0.release.is_some()).ok_or(StreamError::Released)?;
         let mut out = MaybeUninit::zeroed();
@@ -131,18 +131,18 @@ impl Stream {
         }
     }
 
-    /// The next array, or `None` behind the last one.
+    /// Returns the next array, or `None` after the last one.
     ///
     /// # Errors
     ///
-    /// What the stream returns instead.
+    /// The error that the stream returns instead.
     pub fn next_batch(&mut self) -> Result<Option<Array>, StreamError> {
         let get = self.0.get_next.filter(|_| self.0.release.is_some()).ok_or(StreamError::Released)?;
         let mut out = MaybeUninit::zeroed();
         // SAFETY: the stream is not released, and the call writes an array where it returns 0.
         match unsafe { get(&mut self.0, out.as_mut_ptr()) } {
             0 => {
-                // SAFETY: as above; behind the last array it wrote one that is released, which an owner leaves alone.
+                // SAFETY: as above; after the last array it wrote one that is released, which an owner leaves alone.
                 let array = unsafe { Array::from_raw(out.assume_init()) };
                 Ok(array.as_raw().release.is_some().then_some(array))
             }

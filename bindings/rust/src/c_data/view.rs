@@ -31,7 +31,7 @@ impl<'a> View<'a> {
         View { schema, array }
     }
 
-    /// How many items there are.
+    /// The number of items.
     #[must_use]
     pub fn len(&self) -> usize {
         self.array.length as usize
@@ -43,7 +43,7 @@ impl<'a> View<'a> {
         self.len() == 0
     }
 
-    /// The first item's place in the buffers.
+    /// The index of the first item in the buffers.
     #[must_use]
     pub fn offset(&self) -> usize {
         self.array.offset as usize
@@ -56,7 +56,7 @@ impl<'a> View<'a> {
         unsafe { CStr::from_ptr(self.schema.format) }
     }
 
-    /// What the format says.
+    /// The layout by the format.
     #[must_use]
     pub fn layout(&self) -> Layout<'a> {
         let known = Layout::read(self.format().to_bytes());
@@ -160,7 +160,7 @@ impl<'a> View<'a> {
 
     /// Buffer `index`, `None` where it is null.
     fn buffer(&self, index: usize) -> Option<*const u8> {
-        // SAFETY: the check found as many buffers as the format has.
+        // SAFETY: the check found the buffers that the format has.
         let start = unsafe { *self.array.buffers.add(index) };
         (!start.is_null()).then_some(start.cast())
     }

@@ -1,4 +1,4 @@
-//! Random inputs, and what plain loops make of them.
+//! Random inputs, and the results of plain loops for them.
 #![allow(dead_code)]
 
 use arrow2_proved::{Refusal, bytes_for};
@@ -50,7 +50,7 @@ impl Random {
         }
     }
 
-    /// A bit's place: inside three times of four.
+    /// A bit's index: inside three times of four.
     pub fn place(&mut self, bytes: &[u8]) -> usize {
         match self.below(8) {
             0 => 8 * bytes.len() + self.below(9),
@@ -59,7 +59,7 @@ impl Random {
         }
     }
 
-    /// Bytes for so many bits: with something in them, and one time in eight of another length.
+    /// Bytes for `length` bits: with something in them, and one time in eight of another length.
     pub fn out(&mut self, length: usize) -> Vec<u8> {
         let count = self.near(bytes_for(length.min(1 << 12)));
         (0..count).map(|_| self.next() as u8).collect()
@@ -77,15 +77,15 @@ impl Random {
         if self.below(8) == 0 { length + least } else { length }
     }
 
-    /// An offset from which there are so many bits, where the bytes have as many.
+    /// An offset from which there are `length` bits, where the bytes have that many.
     pub fn offset(&mut self, bytes: &[u8], length: usize) -> usize {
         let offset = self.below((8 * bytes.len()).saturating_sub(length) + 1);
         // A whole byte one time of two: those go another way.
         if self.flag() { offset / 8 * 8 } else { offset }
     }
 
-    /// Bytes in which the bits of that range stand again, one time of two with one of them flipped, and the offset at
-    /// which they stand there. One time of eight they end before that.
+    /// Bytes with a copy of the bits of that range, one time of two with one of them flipped, and the offset of the
+    /// copy. One time of eight they end before that.
     pub fn copy(&mut self, bytes: &[u8], offset: usize, length: usize) -> (Vec<u8>, usize) {
         let Ok(bits) = part(bytes, offset, length) else {
             return (self.bytes(), offset);
@@ -104,7 +104,7 @@ impl Random {
         (copied, start)
     }
 
-    /// A table of so many inputs, and now and then one with bits past its last answer.
+    /// A table of `inputs` inputs, and now and then one with bits past its last output.
     pub fn table(&mut self, inputs: u32) -> u16 {
         let any = self.next() as u16;
         match (self.below(8), inputs) {
@@ -139,7 +139,7 @@ pub fn part(bytes: &[u8], offset: usize, length: usize) -> Result<Vec<bool>, Ref
     Ok((offset..end).map(|i| bytes[i / 8] >> (i % 8) & 1 == 1).collect())
 }
 
-/// What a call that writes these bits answers, and what stands in `out` afterwards.
+/// The result of a call that writes these bits, and the bytes of `out` afterwards.
 pub fn written(bits: Result<Vec<bool>, Refusal>, length: usize, out: &[u8]) -> (Result<(), Refusal>, Vec<u8>) {
     let bits = match bits {
         Ok(bits) if out.len() == bytes_for(length) => bits,
