@@ -1,4 +1,4 @@
-//! Links the layer's static library, and the kit's C code that it stands on.
+//! Links the layer's static library, and the kit's C code that it needs.
 
 fn main() {
     for (variable, library) in [("BENCH_LIBRARY", "arrow2_bench"), ("BENCH_KIT", "libc_c")] {

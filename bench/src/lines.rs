@@ -7,10 +7,10 @@ use crate::inputs::{again, near_parts, parts, Inputs, Part, LONG, MANY, NUMBERS}
 use crate::{exports, original, ours};
 use std::rc::Rc;
 
-/// How many of the runs a call makes.
+/// The number of runs that a call makes.
 #[derive(Clone, Copy)]
 pub enum Runs {
-    /// None: it makes what comes before the first run, and nothing else.
+    /// None: it makes the inputs before the first run, and nothing else.
     None,
     /// All of them.
     All,
@@ -26,13 +26,13 @@ impl Runs {
     }
 }
 
-/// One side of a line: its answer on some of the runs.
+/// One side of a line: its result on some of the runs.
 pub type Side<'a> = Box<dyn Fn(Runs) -> usize + 'a>;
 
-/// A call of the layer beside the call of the original that it ports.
+/// A call of the layer next to the call of the original that it ports.
 pub struct Line<'a> {
     pub name: String,
-    /// How many elements all runs have, and what they are.
+    /// The number of elements of all runs, and their name.
     pub elements: usize,
     pub unit: &'static str,
     pub ours: Side<'a>,
@@ -59,8 +59,8 @@ impl<'a> Line<'a> {
     }
 }
 
-/// A line whose sides are the functions of one name in `ours` and in `original`, on the same inputs and,
-/// behind them, the same runs.
+/// A line whose sides are the functions of one name in `ours` and in `original`, on the same inputs followed by the
+/// same runs.
 macro_rules! line {
     ($name:expr, $elements:expr, $call:ident($($input:expr),*), $runs:expr) => {
         Line::new(
@@ -79,7 +79,7 @@ const ALL: (usize, &str) = (16 * LONG, "bits");
 /// The runs of a line on short inputs: each is one call.
 const CALLS: (usize, &str) = (100_000, "calls");
 
-/// As many runs, each the same.
+/// Returns equal runs, one for each of the calls.
 fn few(run: usize) -> Vec<usize> {
     vec![run; CALLS.0]
 }
@@ -176,7 +176,7 @@ static FROM_3: [Part; 1] = part(3, LONG);
 static FROM_5: [Part; 1] = part(5, LONG);
 static FROM_8: [Part; 1] = part(8, LONG);
 
-/// The first bits, and those from bit 3 on: enough for walks that are slow.
+/// The first bits, and those from bit 3 on: enough for iterators that are slow.
 static SOME_FROM_0: [Part; 1] = part(0, MANY);
 static SOME_FROM_3: [Part; 1] = part(3, MANY);
 
@@ -280,7 +280,7 @@ fn growing(inputs: &Inputs) -> Vec<Line<'_>> {
     ]
 }
 
-/// Bits and items appended behind the first items.
+/// Bits and items appended to the first items.
 fn appending(inputs: &Inputs) -> Vec<Line<'_>> {
     let bytes = &inputs.bytes;
     let slice = |name, elements, own, parts| {

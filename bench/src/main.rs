@@ -1,4 +1,4 @@
-//! The layer beside arrow2, call by call, in one process. `bench/run` builds it and runs it.
+//! The layer next to arrow2, call by call, in one process. `bench/run` builds it and runs it.
 //!
 //!     arrow2_speed check                      whether both sides answer the same
 //!     arrow2_speed measure SECONDS [WORD..]   a row for each line, of those whose names have a word
@@ -44,7 +44,7 @@ extern "C" {
     fn mallopt(parameter: i32, value: i32) -> i32;
 }
 
-/// Has `malloc`, which both sides call, keep what is freed: so neither asks the system for pages.
+/// Makes `malloc`, which both sides call, keep freed memory: so neither gets pages from the system.
 fn keep_memory() {
     const M_TRIM_THRESHOLD: i32 = -1;
     const M_MMAP_THRESHOLD: i32 = -3;

@@ -1,8 +1,8 @@
 //! The calls of the library for C and Rust, on 8 KiB and on 64 bytes: by crate `arrow2-proved`, as users of Rust call
 //! it.
 //!
-//! A new line is a function of one name in `ours` and in `original`, on the same inputs and, behind them, the same
-//! runs, and its name in a list below.
+//! A new line is a function of one name in `ours` and in `original`, on the same inputs followed by the same runs, and
+//! its name in a list below.
 mod inputs;
 mod original;
 mod ours;
@@ -12,7 +12,7 @@ use crate::lines::Line;
 use inputs::{FourBits, Slots};
 use std::rc::Rc;
 
-/// How many bits 8 KiB and 64 bytes have.
+/// The number of bits of 8 KiB and of 64 bytes.
 const MUCH: usize = 1 << 16;
 const LITTLE: usize = 1 << 9;
 
@@ -20,7 +20,7 @@ const LITTLE: usize = 1 << 9;
 const AT_0: [usize; 4] = [0; 4];
 const AT_3: [usize; 4] = [3, 5, 1, 6];
 
-/// One side of a call: its answers for the runs, on these inputs.
+/// One side of a call: its results for the runs, on these inputs.
 type Side<I> = fn(&I, &[usize]) -> usize;
 
 /// A call: its name, ours and the original's.
@@ -43,7 +43,7 @@ pub fn lines(inputs: &Inputs) -> Vec<Line<'_>> {
     lines
 }
 
-/// The line of a call on what `on` names.
+/// The line of a call on the inputs that `on` names.
 fn line<'a, I: ?Sized + 'a>(
     (name, ours, original): Call<I>,
     on_name: &str,
@@ -62,12 +62,12 @@ fn line<'a, I: ?Sized + 'a>(
     )
 }
 
-/// How often a call on so many bits is made for one time.
+/// How often a call on `bits` bits is made for one measurement.
 fn times(bits: usize) -> usize {
     (1 << 22) / (bits + 1_000)
 }
 
-/// What lines on bits are measured on, with their names: from bit 0 and at other bits.
+/// The inputs of lines on bits, with their names: from bit 0 and at other bits.
 fn four_bits(inputs: &Inputs) -> [(&'static str, Rc<FourBits<'_>>); 4] {
     let on = |offsets, length| Rc::new(FourBits::new(inputs, offsets, length));
     [

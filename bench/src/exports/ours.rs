@@ -1,14 +1,14 @@
 //! Our side: the calls of crate `arrow2-proved`, as users of Rust have them.
 //!
-//! Each function makes what its call needs, and then makes one call for each run, which is the length that it takes.
-//! What was written is read once, behind the runs.
+//! Each function makes the inputs of its call, and then makes one call for each run, whose item is the length that it
+//! takes. The output is read once, after the runs.
 use super::inputs::{digest, digest_of_bytes, FourBits, Slots, CHOICE, KNOWN};
 use arrow2_proved::{
     bytes_for, Bits, CheckedOffsets, Nullable, Offset, OptionalNullable, Refusal, NOT, XOR,
 };
 use std::hint::black_box;
 
-/// The answers of a call for each run, added up.
+/// The results of a call for each run, added up.
 fn added(runs: &[usize], call: impl Fn(usize) -> Result<usize, Refusal>) -> usize {
     let mut sum = 0usize;
     for run in runs {
@@ -17,7 +17,7 @@ fn added(runs: &[usize], call: impl Fn(usize) -> Result<usize, Refusal>) -> usiz
     sum
 }
 
-/// What a call leaves in bytes for so many bits, once it was made for each run.
+/// The bytes that a call writes for `length` bits, once it was made for each run.
 fn written(
     length: usize,
     runs: &[usize],
@@ -26,7 +26,7 @@ fn written(
     changed(vec![0; bytes_for(length)], runs, call)
 }
 
-/// What a call makes of these bytes, once it was made for each run.
+/// The output of a call for these bytes, once it was made for each run.
 fn changed(
     mut bytes: Vec<u8>,
     runs: &[usize],
@@ -138,7 +138,7 @@ fn arrays<'a>(on: &'a FourBits) -> [Nullable<'a>; 2] {
     ]
 }
 
-/// What a call leaves in values and in their validity, once it was made for each run.
+/// The values and their validity that a call writes, once it was made for each run.
 fn both_written(
     length: usize,
     runs: &[usize],
@@ -217,7 +217,7 @@ pub fn unpack(on: &FourBits, runs: &[usize]) -> usize {
     digest(items.into_iter().map(usize::from)).wrapping_add(refused)
 }
 
-/// What a call leaves in room for so many numbers, once it was made for each run.
+/// The numbers that a call writes to a slice of `length` numbers, once it was made for each run.
 fn numbers_written<T: Copy + Default + Into<i64>>(
     length: usize,
     runs: &[usize],
