@@ -1,5 +1,5 @@
-# Prints each public call whose clauses or documentation name want of memory: `Type::call`, `call` outside a type, or
-# the head of an `impl` of a trait. A call that never does says so: "Does not allocate", or "Takes no memory", with no
+# Prints each public call whose clauses or documentation name `OutOfMemory`: `Type::call`, `call` outside a type, or
+# the head of an `impl` of a trait. A call that never allocates states it: "Does not allocate", or "Takes no memory", with no
 # condition after it.
 # With `words`, those alone whose documentation has them.
 /^ *}/ { said = "" }

@@ -1,6 +1,6 @@
-/* Preloaded, it refuses one request for memory: the one whose number, from 1 on, REFUSE gives, and says so on
-   descriptor 3. Where REFUSE is 0 it refuses none, and writes a line there for each. It takes no header, since the kit's
-   compiler comes without any. */
+/* Preloaded, it lets one allocation fail: the one whose number, from 1 on, REFUSE gives, and reports it on descriptor
+   3. Where REFUSE is 0 none fails, and it writes a line there for each. It takes no header, since the kit's compiler
+   comes without any. */
 typedef __SIZE_TYPE__ size_t;
 
 extern void *dlsym(void *handle, const char *name);
@@ -8,7 +8,7 @@ extern char *getenv(const char *name);
 extern long atol(const char *digits);
 extern long write(int descriptor, const void *bytes, size_t count);
 
-/* The next library that has a name, as <dlfcn.h> says it. */
+/* The next library that has a name, as <dlfcn.h> declares it. */
 #define NEXT ((void *)-1L)
 
 static int refused(void) {

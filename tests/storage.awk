@@ -20,7 +20,7 @@ function holds(d, list, line) {
 function shown(list) { return list == "" ? "-" : list }
 function item(list, i) { return substr(list, i + 1, 1) }
 
-# Returns the text so many times.
+# Returns the text n times.
 function repeated(text, times,    all) {
     for (; times > 0; times = int(times / 2)) {
         if (times % 2)
@@ -109,7 +109,7 @@ function words_of(list, width,    i, all) {
 
 function words(s, width) { row("words " s " " width, shown(words_of(held[s], width))) }
 
-# Defines a table of so many inputs: items x, y, z, v give bit x + 2 * y + 4 * z + 8 * v of t.
+# Defines a table of some inputs: items x, y, z, v give bit x + 2 * y + 4 * z + 8 * v of t.
 function define(t, inputs,    i, k, items) {
     for (i = 0; i < 2 ^ inputs; i++) {
         items = ""
@@ -154,7 +154,7 @@ function negate(d, a) { holds(d, looked_up("not", held[a]), "not " d " " a) }
 # Runs an operator on bitmaps, or on arrays.
 function operator(name, d, a, b) { holds(d, looked_up(name, held[a], held[b]), name " " d " " a " " b) }
 
-# Runs a table of as many inputs as there are slots.
+# Runs a table with one input for each slot.
 function table(d, t, slots,    n, s) {
     n = split(slots, s, " ")
     holds(d, looked_up(t, held[s[1]], held[s[2]], held[s[3]], held[s[4]]), "table" n " " d " " t " " slots)
@@ -374,7 +374,7 @@ function without_validity(v) {
     alist(11)
 }
 
-# Makes offsets of as many lengths as the list has items.
+# Makes offsets with one length for each item of the list.
 function lengths(s, list,    i, all) {
     for (i = 1; i <= length(list); i++)
         all = all "," i % 7
@@ -422,7 +422,7 @@ function in_storages_from(list) {
     }
 }
 
-# Appends one value n times at each bit place.
+# Appends one value n times at each bit index.
 function at_each_place(n,    own) {
     for (own = 0; own < 16; own++) {
         new(9, substr(lists[4], 1, own))
@@ -433,7 +433,7 @@ function at_each_place(n,    own) {
     }
 }
 
-# Appends a list at each pair of bit places, and changes lists in place by it.
+# Appends a list at each pair of bit indices, and changes lists in place by it.
 function at_each_pair(n,    own, other) {
     for (other = 0; other < 8; other++) {
         raw(0, substr(lists[2], 1, n), other, 1, 1)
