@@ -1,7 +1,7 @@
 //! Shared buffers, and collections of numbers.
 
 use crate::runs::{Part, on_firsts};
-use arrow2_bitmap::immutable::Bitmap;
+use arrow2_bitmap::Bitmap;
 use arrow2_buffer::Buffer;
 use arrow2_types::error::Result;
 use std::alloc::Global;

@@ -2,7 +2,7 @@
 
 use crate::growing::pop;
 use crate::runs::{Part, on_each};
-use arrow2_bitmap::immutable::Bitmap;
+use arrow2_bitmap::Bitmap;
 use arrow2_bits::chunk_iterator::{BitChunkIterExact, BitChunks};
 use arrow2_bits::chunks_exact_mut::BitChunksExactMut;
 use arrow2_bits::iterator::BitmapIter;

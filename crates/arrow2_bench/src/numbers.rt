@@ -1,7 +1,7 @@
 //! Index numbers, words as bits, and bitmaps of unset bits.
 
 use crate::runs::on_each;
-use arrow2_bitmap::immutable::Bitmap;
+use arrow2_bitmap::Bitmap;
 use arrow2_chunk::bit_chunk_iter::BitChunkOnes;
 use arrow2_index::index::Index;
 use arrow2_types::error::Result;

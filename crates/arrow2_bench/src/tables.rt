@@ -3,7 +3,7 @@
 use crate::bitmaps::bitmaps;
 use crate::runs::{Part, on_each, on_pairs};
 use arrow2_array::BooleanArray;
-use arrow2_bitmap::immutable::Bitmap;
+use arrow2_bitmap::Bitmap;
 use arrow2_tables::bitmap_ops::{quaternary_table, ternary_table};
 use arrow2_types::error::Result;
 use std::alloc::Global;

@@ -4,8 +4,7 @@ use crate::items::items;
 use arrow2_bitmap::bitmap_ops::{
     and, binary, binary_table, from_rows, or, unary, unary_table, xor,
 };
-use arrow2_bitmap::immutable::Bitmap;
-use arrow2_bitmap::mutable::MutableBitmap;
+use arrow2_bitmap::{Bitmap, MutableBitmap};
 use arrow2_kernels::rows::OneList;
 use arrow2_tables::bitmap_ops::{quaternary, quaternary_table, ternary, ternary_table};
 use arrow2_types::error::Result;

@@ -1,8 +1,7 @@
 //! Bitmaps that grow.
 use crate::calls::{Change, Row, changed, input, made};
 use crate::items::{BYTES, growing_items, items};
-use arrow2_bitmap::immutable::Bitmap;
-use arrow2_bitmap::mutable::MutableBitmap;
+use arrow2_bitmap::{Bitmap, MutableBitmap};
 use arrow2_types::error::Result;
 use std::alloc::Global;
 use std::io::{Eprint, Print};

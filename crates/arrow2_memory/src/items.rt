@@ -1,6 +1,5 @@
 //! The items that calls are made on.
-use arrow2_bitmap::immutable::Bitmap;
-use arrow2_bitmap::mutable::MutableBitmap;
+use arrow2_bitmap::{Bitmap, MutableBitmap};
 use arrow2_types::error::{Error, Result};
 use std::alloc::Global;
 

@@ -8,8 +8,7 @@ use arrow2_array::{BooleanArray, MutableBooleanArray};
 use arrow2_bitmap::assign_ops::{
     binary_assign, binary_assign_table, unary_assign, unary_assign_table,
 };
-use arrow2_bitmap::immutable::Bitmap;
-use arrow2_bitmap::mutable::MutableBitmap;
+use arrow2_bitmap::{Bitmap, MutableBitmap};
 use arrow2_chunk::bit_chunk::BitChunk;
 use arrow2_offset::{Offsets, OffsetsBuffer};
 use arrow2_types::error::Result;

@@ -2,7 +2,7 @@
 use crate::calls::{Row, made, refused, show};
 use crate::items::items;
 use arrow2_array::BooleanArray;
-use arrow2_bitmap::immutable::Bitmap;
+use arrow2_bitmap::Bitmap;
 use arrow2_types::error::Result;
 use arrow2_walks::pieces::Pieces;
 use std::alloc::Global;

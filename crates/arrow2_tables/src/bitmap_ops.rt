@@ -5,8 +5,8 @@ ghost use Rattle.arrow2_model.specs.Storage.{items_of};
 ghost use Rattle.arrow2_model.specs.Tables.{each, ActsTernary, ActsQuaternary};
 ghost use Rattle.arrow2_bitmap.specs.Packed.{IsPacked};
 
+use arrow2_bitmap::Bitmap;
 use arrow2_bitmap::bitmap_ops::from_rows;
-use arrow2_bitmap::immutable::Bitmap;
 use arrow2_kernels::rows::{Beside, OneList, Pair};
 use arrow2_kernels::tables::{quaternary_answers, ternary_answers};
 use arrow2_types::error::{Error, Result};

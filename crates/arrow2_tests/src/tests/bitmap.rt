@@ -4,9 +4,8 @@ ghost use Rattle.arrow2_model.specs.Storage.{items_of};
 
 use super::checks::{bytes_of, gives, has, makes, refuses, shows, stores};
 use arrow2_bitmap::bitmap_ops::unary;
-use arrow2_bitmap::immutable::Bitmap;
 use arrow2_bitmap::iterator::IntoIter;
-use arrow2_bitmap::mutable::MutableBitmap;
+use arrow2_bitmap::{Bitmap, MutableBitmap};
 use arrow2_types::error::Result;
 use std::alloc::Global;
 use std::convert::TryFrom;

@@ -3,8 +3,7 @@ ghost use Rattle.std.specs.Prelude.{◌≡◌};
 ghost use Rattle.std.specs.Iterator.{IsFinite};
 ghost use Rattle.arrow2_model.specs.Storage.{items_of};
 
-use arrow2_bitmap::immutable::Bitmap;
-use arrow2_bitmap::mutable::MutableBitmap;
+use arrow2_bitmap::{Bitmap, MutableBitmap};
 use arrow2_types::error::{Error, Result};
 use arrow2_types::native::NativeType;
 use arrow2_types::primitive::PrimitiveType;

@@ -2,9 +2,8 @@
 ghost use Rattle.std.specs.Prelude.{◌+◌, ◌*◌, ◌≤◌, length as count};
 
 use super::checks::{bytes_of, gives, has, overflows, shows, stores};
-use arrow2_bitmap::immutable::Bitmap;
-use arrow2_bitmap::mutable::MutableBitmap;
-use arrow2_walks::slice_iterator::SlicesIterator;
+use arrow2_bitmap::{Bitmap, MutableBitmap};
+use arrow2_walks::SlicesIterator;
 use std::alloc::Global;
 use std::convert::TryFrom;
 use std::process::Abort;

@@ -4,8 +4,7 @@ ghost use Rattle.std.specs.Iterator.{at_most};
 
 use super::checks::{has, makes, stores};
 use super::offset;
-use arrow2_bitmap::immutable::Bitmap;
-use arrow2_bitmap::mutable::MutableBitmap;
+use arrow2_bitmap::{Bitmap, MutableBitmap};
 use arrow2_buffer::Buffer;
 use arrow2_offset::Offsets;
 use arrow2_types::error::Result;

@@ -1,8 +1,7 @@
 //! Calls that take memory, at a million items, where no command of a script makes them.
 use super::checks::has;
 use arrow2_bitmap::bitmap_ops::{binary, unary};
-use arrow2_bitmap::immutable::Bitmap;
-use arrow2_bitmap::mutable::MutableBitmap;
+use arrow2_bitmap::{Bitmap, MutableBitmap};
 use arrow2_buffer::Buffer;
 use arrow2_offset::Offsets;
 use arrow2_types::error::Result;
