@@ -29,7 +29,7 @@ static void bits(void) {
     EXPECT(ARROW2_OK, arrow2_pack(NULL, 0, NULL, 0));
     EXPECT(ARROW2_OK, arrow2_unpack(NULL, 0, 0, NULL, 0));
     EXPECT(ARROW2_OK, arrow2_runs(NULL, 0, 0, 0, &at, NULL, 0, NULL, 0, &count));
-    EXPECT(ARROW2_OK, arrow2_set_places(NULL, 0, 0, 0, &at, NULL, 0, &count));
+    EXPECT(ARROW2_OK, arrow2_set_indices(NULL, 0, 0, 0, &at, NULL, 0, &count));
     expect("what they wrote", zeros == 0 && flag && at == 0 && count == 0 ? ARROW2_OK : ARROW2_RANGE, ARROW2_OK);
 }
 
@@ -79,10 +79,10 @@ static void offsets(void) {
     EXPECT(ARROW2_OK, arrow2_offsets64_from_lengths(0, NULL, 0, wide_out, 1));
     EXPECT(ARROW2_LENGTH, arrow2_offsets32_from_lengths(0, NULL, 0, NULL, 0));
     EXPECT(ARROW2_LENGTH, arrow2_offsets64_from_lengths(0, NULL, 0, NULL, 0));
-    EXPECT(ARROW2_LENGTH, arrow2_offsets32_from_zero(narrow, 1, 0, NULL, 0));
-    EXPECT(ARROW2_LENGTH, arrow2_offsets64_from_zero(wide, 1, 0, NULL, 0));
-    EXPECT(ARROW2_LENGTH, arrow2_offsets32_from_zero_unchecked(narrow, 1, 0, NULL, 0));
-    EXPECT(ARROW2_LENGTH, arrow2_offsets64_from_zero_unchecked(wide, 1, 0, NULL, 0));
+    EXPECT(ARROW2_LENGTH, arrow2_offsets32_rebase(narrow, 1, 0, NULL, 0));
+    EXPECT(ARROW2_LENGTH, arrow2_offsets64_rebase(wide, 1, 0, NULL, 0));
+    EXPECT(ARROW2_LENGTH, arrow2_offsets32_rebase_unchecked(narrow, 1, 0, NULL, 0));
+    EXPECT(ARROW2_LENGTH, arrow2_offsets64_rebase_unchecked(wide, 1, 0, NULL, 0));
     EXPECT(ARROW2_SPEC_EMPTY, arrow2_offsets_widen(NULL, 0, NULL, 0));
     EXPECT(ARROW2_SPEC_EMPTY, arrow2_offsets_narrow(NULL, 0, NULL, 0));
     EXPECT(ARROW2_SPEC_EMPTY, arrow2_offsets32_check_inside(NULL, 0, 9, &index));

@@ -186,12 +186,12 @@ uint32_t arrow2_runs(const uint8_t *bytes, size_t bytes_count, size_t offset, si
                      size_t starts_count, size_t *lengths, size_t lengths_count, size_t *count);
 
 /* Writes the indices of set bits among the `length` bits from bit `offset` on, from index `*at` of them on, rising,
- * each counted from bit `offset` on, until `places` is full or none is left. Writes to `count` how many were written,
+ * each counted from bit `offset` on, until `indices` is full or none is left. Writes to `count` how many were written,
  * and to `at` the index from which to go on. Begin with 0 in `at`. If fewer indices are written than fit, all have been
  * returned and `*at` equals `length`. A loop over all indices needs a slice of at least one item.
  * ARROW2_RANGE: the bits are not inside the bytes, or `*at` is above `length`. */
-uint32_t arrow2_set_places(const uint8_t *bytes, size_t bytes_count, size_t offset, size_t length, size_t *at,
-                           size_t *places, size_t places_count, size_t *count);
+uint32_t arrow2_set_indices(const uint8_t *bytes, size_t bytes_count, size_t offset, size_t length, size_t *at,
+                           size_t *indices, size_t indices_count, size_t *count);
 
 /* ---- Offsets of 32 and of 64 bits
  *
@@ -224,15 +224,15 @@ uint32_t arrow2_offsets64_from_lengths(size_t start, const size_t *lengths, size
 
 /* Fills `out` with the offsets from offset `from` on, each less the first of them.
  * ARROW2_LENGTH: `out` has no item. Else ARROW2_RANGE: they are not inside. */
-uint32_t arrow2_offsets32_from_zero(const int32_t *offsets, size_t offsets_count, size_t from, int32_t *out,
+uint32_t arrow2_offsets32_rebase(const int32_t *offsets, size_t offsets_count, size_t from, int32_t *out,
                                     size_t out_count);
-uint32_t arrow2_offsets64_from_zero(const int64_t *offsets, size_t offsets_count, size_t from, int64_t *out,
+uint32_t arrow2_offsets64_rebase(const int64_t *offsets, size_t offsets_count, size_t from, int64_t *out,
                                     size_t out_count);
 
 /* The same, and no offset is tested. Requires that the numbers are offsets. */
-uint32_t arrow2_offsets32_from_zero_unchecked(const int32_t *offsets, size_t offsets_count, size_t from, int32_t *out,
+uint32_t arrow2_offsets32_rebase_unchecked(const int32_t *offsets, size_t offsets_count, size_t from, int32_t *out,
                                               size_t out_count);
-uint32_t arrow2_offsets64_from_zero_unchecked(const int64_t *offsets, size_t offsets_count, size_t from, int64_t *out,
+uint32_t arrow2_offsets64_rebase_unchecked(const int64_t *offsets, size_t offsets_count, size_t from, int64_t *out,
                                               size_t out_count);
 
 /* Writes the same numbers in the other width. ARROW2_LENGTH: `out` has another length than `offsets`.

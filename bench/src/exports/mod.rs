@@ -140,7 +140,7 @@ fn equal(inputs: &Inputs) -> Vec<Line<'_>> {
 
 /// Calls that take some time for each bit.
 fn walks(inputs: &Inputs) -> Vec<Line<'_>> {
-    let calls: [Call<FourBits>; 3] = calls![runs, set_places, unpack];
+    let calls: [Call<FourBits>; 3] = calls![runs, set_indices, unpack];
     on_bits(&calls, &four_bits(inputs), |bits| times(bits) / 8)
 }
 
@@ -160,7 +160,7 @@ fn offsets(inputs: &Inputs) -> Vec<Line<'_>> {
         offsets32_lengths,
         offsets32_lengths_unchecked,
         offsets32_from_lengths,
-        offsets32_from_zero,
+        offsets32_rebase,
         offsets_widen,
     ];
     let large: [Call<Slots>; 6] = calls![
@@ -168,7 +168,7 @@ fn offsets(inputs: &Inputs) -> Vec<Line<'_>> {
         texts64_check,
         offsets64_lengths,
         offsets64_from_lengths,
-        offsets64_from_zero,
+        offsets64_rebase,
         offsets_narrow,
     ];
     let on = |bits, width| (bits, Rc::new(Slots::new(inputs, bits / width)));

@@ -191,12 +191,12 @@ pub fn runs(on: &FourBits, runs: &[usize]) -> usize {
     digest(starts.into_iter().chain(lengths)).wrapping_add(count)
 }
 
-pub fn set_places(on: &FourBits, runs: &[usize]) -> usize {
+pub fn set_indices(on: &FourBits, runs: &[usize]) -> usize {
     let [input, ..] = on.inputs;
     let mut places = vec![0; on.length];
     let mut count = 0usize;
     for run in runs {
-        let written = arrow2_proved::set_places(input, *run, &mut 0, black_box(&mut places));
+        let written = arrow2_proved::set_indices(input, *run, &mut 0, black_box(&mut places));
         count = count.wrapping_add(written.unwrap_or(0));
     }
     digest(places).wrapping_add(count)
@@ -268,9 +268,9 @@ fn from_lengths<O: Offset + Default + Into<i64>>(lengths: &[usize], runs: &[usiz
     })
 }
 
-fn from_zero<O: Offset + Default + Into<i64>>(offsets: &[O], runs: &[usize]) -> usize {
+fn rebase<O: Offset + Default + Into<i64>>(offsets: &[O], runs: &[usize]) -> usize {
     numbers_written(offsets.len() - 1, runs, |count, out: &mut [O]| {
-        O::from_zero(&offsets[..count], 1, out)
+        O::rebase(&offsets[..count], 1, out)
     })
 }
 
@@ -311,12 +311,12 @@ pub fn offsets64_from_lengths(on: &Slots, runs: &[usize]) -> usize {
     from_lengths::<i64>(&on.lengths, runs)
 }
 
-pub fn offsets32_from_zero(on: &Slots, runs: &[usize]) -> usize {
-    from_zero(&on.offsets32, runs)
+pub fn offsets32_rebase(on: &Slots, runs: &[usize]) -> usize {
+    rebase(&on.offsets32, runs)
 }
 
-pub fn offsets64_from_zero(on: &Slots, runs: &[usize]) -> usize {
-    from_zero(&on.offsets64, runs)
+pub fn offsets64_rebase(on: &Slots, runs: &[usize]) -> usize {
+    rebase(&on.offsets64, runs)
 }
 
 pub fn offsets_widen(on: &Slots, runs: &[usize]) -> usize {

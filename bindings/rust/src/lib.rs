@@ -30,9 +30,9 @@ pub mod c_data;
 mod checks;
 mod kleene;
 mod offsets;
-mod places;
 mod refusal;
 mod runs;
+mod set_indices;
 mod sys;
 mod tables;
 
@@ -41,9 +41,9 @@ pub use booleans::{pack, unpack};
 pub use checks::{Index, check_bits, check_validity, check_values};
 pub use kleene::{Nullable, OptionalNullable, and_kleene, and_kleene_optional, or_kleene, or_kleene_optional};
 pub use offsets::{CheckedOffsets, Offset, narrow, widen};
-pub use places::set_places;
 pub use refusal::{Refusal, RefusalAt};
 pub use runs::runs;
+pub use set_indices::set_indices;
 pub use tables::{
     AND, NOT, OR, XOR, binary_assign_table, binary_table, quaternary_assign_table, quaternary_table,
     ternary_assign_table, ternary_table, unary_assign_table, unary_table,

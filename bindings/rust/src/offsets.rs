@@ -17,7 +17,7 @@ mod sealed {
         /// # Safety
         ///
         /// The numbers are offsets.
-        unsafe fn from_zero_unchecked(offsets: &[Self], from: usize, out: &mut [Self]) -> u32;
+        unsafe fn rebase_unchecked(offsets: &[Self], from: usize, out: &mut [Self]) -> u32;
     }
 }
 
@@ -55,7 +55,7 @@ pub trait Offset: sealed::Sealed + Copy {
     ///
     /// The first rule that the numbers break, else [`Refusal::Length`] exactly where `out` has no item, else
     /// [`Refusal::Range`] exactly where they are not inside.
-    fn from_zero(offsets: &[Self], from: usize, out: &mut [Self]) -> Result<(), Refusal>;
+    fn rebase(offsets: &[Self], from: usize, out: &mut [Self]) -> Result<(), Refusal>;
 
     /// Whether the numbers are offsets, and none is past `items` items.
     ///
@@ -78,8 +78,8 @@ pub trait Offset: sealed::Sealed + Copy {
 /// The calls of one width.
 macro_rules! offset {
     (
-        $width:ty, $check:ident, $lengths:ident, $lengths_unchecked:ident, $from_lengths:ident, $from_zero:ident,
-        $from_zero_unchecked:ident, $inside:ident, $texts:ident
+        $width:ty, $check:ident, $lengths:ident, $lengths_unchecked:ident, $from_lengths:ident, $rebase:ident,
+        $rebase_unchecked:ident, $inside:ident, $texts:ident
     ) => {
         // SAFETY, of each call: each slice is borrowed for the call, those that are written exclusively, and no call
         // keeps one.
@@ -90,8 +90,8 @@ macro_rules! offset {
             }
 
             #[inline]
-            unsafe fn from_zero_unchecked(offsets: &[Self], from: usize, out: &mut [Self]) -> u32 {
-                unsafe { sys::$from_zero_unchecked(offsets.as_ptr(), offsets.len(), from, out.as_mut_ptr(), out.len()) }
+            unsafe fn rebase_unchecked(offsets: &[Self], from: usize, out: &mut [Self]) -> u32 {
+                unsafe { sys::$rebase_unchecked(offsets.as_ptr(), offsets.len(), from, out.as_mut_ptr(), out.len()) }
             }
         }
 
@@ -113,8 +113,8 @@ macro_rules! offset {
             }
 
             #[inline]
-            fn from_zero(offsets: &[Self], from: usize, out: &mut [Self]) -> Result<(), Refusal> {
-                told(unsafe { sys::$from_zero(offsets.as_ptr(), offsets.len(), from, out.as_mut_ptr(), out.len()) })
+            fn rebase(offsets: &[Self], from: usize, out: &mut [Self]) -> Result<(), Refusal> {
+                told(unsafe { sys::$rebase(offsets.as_ptr(), offsets.len(), from, out.as_mut_ptr(), out.len()) })
             }
 
             #[inline]
@@ -141,8 +141,8 @@ offset!(
     arrow2_offsets32_lengths,
     arrow2_offsets32_lengths_unchecked,
     arrow2_offsets32_from_lengths,
-    arrow2_offsets32_from_zero,
-    arrow2_offsets32_from_zero_unchecked,
+    arrow2_offsets32_rebase,
+    arrow2_offsets32_rebase_unchecked,
     arrow2_offsets32_check_inside,
     arrow2_texts32_check
 );
@@ -152,8 +152,8 @@ offset!(
     arrow2_offsets64_lengths,
     arrow2_offsets64_lengths_unchecked,
     arrow2_offsets64_from_lengths,
-    arrow2_offsets64_from_zero,
-    arrow2_offsets64_from_zero_unchecked,
+    arrow2_offsets64_rebase,
+    arrow2_offsets64_rebase_unchecked,
     arrow2_offsets64_check_inside,
     arrow2_texts64_check
 );
@@ -197,9 +197,9 @@ impl<'a, O: Offset> CheckedOffsets<'a, O> {
     ///
     /// [`Refusal::Length`] exactly where `out` has no item, else [`Refusal::Range`] exactly where they are not inside.
     #[inline]
-    pub fn from_zero(self, from: usize, out: &mut [O]) -> Result<(), Refusal> {
+    pub fn rebase(self, from: usize, out: &mut [O]) -> Result<(), Refusal> {
         // SAFETY: `new` found that the numbers are offsets.
-        told(unsafe { O::from_zero_unchecked(self.0, from, out) })
+        told(unsafe { O::rebase_unchecked(self.0, from, out) })
     }
 }
 

@@ -155,28 +155,28 @@ unsafe extern "C" {
         out: *mut i64,
         out_count: usize,
     ) -> u32;
-    pub fn arrow2_offsets32_from_zero(
+    pub fn arrow2_offsets32_rebase(
         offsets: *const i32,
         count: usize,
         from: usize,
         out: *mut i32,
         out_count: usize,
     ) -> u32;
-    pub fn arrow2_offsets64_from_zero(
+    pub fn arrow2_offsets64_rebase(
         offsets: *const i64,
         count: usize,
         from: usize,
         out: *mut i64,
         out_count: usize,
     ) -> u32;
-    pub fn arrow2_offsets32_from_zero_unchecked(
+    pub fn arrow2_offsets32_rebase_unchecked(
         offsets: *const i32,
         count: usize,
         from: usize,
         out: *mut i32,
         out_count: usize,
     ) -> u32;
-    pub fn arrow2_offsets64_from_zero_unchecked(
+    pub fn arrow2_offsets64_rebase_unchecked(
         offsets: *const i64,
         count: usize,
         from: usize,
@@ -197,14 +197,14 @@ unsafe extern "C" {
         lengths_count: usize,
         written: *mut usize,
     ) -> u32;
-    pub fn arrow2_set_places(
+    pub fn arrow2_set_indices(
         bytes: *const u8,
         count: usize,
         offset: usize,
         length: usize,
         at: *mut usize,
-        places: *mut usize,
-        places_count: usize,
+        indices: *mut usize,
+        indices_count: usize,
         written: *mut usize,
     ) -> u32;
     pub fn arrow2_pack(items: *const bool, count: usize, out: *mut u8, out_count: usize) -> u32;

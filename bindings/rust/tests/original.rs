@@ -7,7 +7,7 @@ use arrow2::bitmap::utils::SlicesIterator;
 use arrow2::offset::Offsets;
 use arrow2_proved::{
     AND, Bits, NOT, OR, Offset, XOR, binary_table, bytes_for, copy_bits, count_zeros, equal_bits, get_bit, narrow,
-    pack, runs, set_places, unary_table, unpack, widen,
+    pack, runs, set_indices, unary_table, unpack, widen,
 };
 use inputs::Random;
 
@@ -95,7 +95,7 @@ fn offsets() {
 }
 
 #[test]
-fn copies_runs_places_and_booleans() {
+fn copies_runs_indices_and_booleans() {
     let mut random = Random::new(14);
     for _ in 0..INPUTS {
         let bytes = random.bytes();
@@ -112,10 +112,10 @@ fn copies_runs_places_and_booleans() {
         let ours: Vec<_> = starts.into_iter().zip(lengths).take(count).collect();
         assert_eq!(ours, SlicesIterator::new(&theirs).collect::<Vec<_>>());
 
-        let (mut at, mut places) = (0, vec![0; length]);
-        let count = set_places(bits, length, &mut at, &mut places).unwrap();
+        let (mut at, mut indices) = (0, vec![0; length]);
+        let count = set_indices(bits, length, &mut at, &mut indices).unwrap();
         let set: Vec<_> = theirs.iter().enumerate().filter(|(_, bit)| *bit).map(|(place, _)| place).collect();
-        assert_eq!(places[..count], set);
+        assert_eq!(indices[..count], set);
 
         let mut items = vec![false; length];
         unpack(bits, &mut items).unwrap();

@@ -5,7 +5,7 @@ mod inputs;
 use arrow2_proved::{
     Bits, CheckedOffsets, Nullable, Offset, Refusal, and_kleene, binary_assign_table, binary_table, bytes_for,
     copy_bits, count_zeros, equal_bits, get_bit, get_bit_inline, narrow, or_kleene, pack, quaternary_assign_table,
-    quaternary_table, runs, set_bit, set_places, ternary_assign_table, ternary_table, unary_assign_table, unary_table,
+    quaternary_table, runs, set_bit, set_indices, ternary_assign_table, ternary_table, unary_assign_table, unary_table,
     unpack, widen,
 };
 use inputs::{Random, part, written};
@@ -175,7 +175,7 @@ fn checked_once<O: Offset + Default + PartialEq + std::fmt::Debug>(offsets: &[O]
     assert_eq!(once, again);
     let (from, count) = (random.below(offsets.len() + 2), random.below(offsets.len() + 2));
     let (mut once, mut again) = (vec![O::default(); count], vec![O::default(); count]);
-    assert_eq!(checked.from_zero(from, &mut once), O::from_zero(offsets, from, &mut again));
+    assert_eq!(checked.rebase(from, &mut once), O::rebase(offsets, from, &mut again));
     assert_eq!(once, again);
 }
 
@@ -219,7 +219,7 @@ fn offsets<O: Offset + Into<i128> + TryFrom<i128> + Default + PartialEq + std::f
             count if from + count > numbers.len() => Err(Refusal::Range),
             _ => Ok(()),
         });
-        assert_eq!(O::from_zero(&offsets, from, &mut moved), told);
+        assert_eq!(O::rebase(&offsets, from, &mut moved), told);
         let moved: Vec<i128> = moved.into_iter().map(Into::into).collect();
         let wanted = match told {
             Ok(()) => numbers[from..from + moved.len()].iter().map(|n| n - numbers[from]).collect(),
@@ -308,34 +308,34 @@ fn runs_of_set_bits() {
 }
 
 #[test]
-fn places_of_set_bits() {
+fn indices_of_set_bits() {
     let mut random = Random::new(13);
     for _ in 0..INPUTS {
         let bytes = random.bytes();
         let (offset, length) = random.range(&bytes);
         let bits = Bits { bytes: &bytes, offset };
         let room = 1 + random.below(70);
-        let mut places = vec![7; room];
+        let mut indices = vec![7; room];
         let mut at = random.below(length.min(1 << 12) + 2);
         let begun = at;
         let Ok(items) =
             part(&bytes, offset, length).and_then(|b| if at <= length { Ok(b) } else { Err(Refusal::Range) })
         else {
-            assert_eq!(set_places(bits, length, &mut at, &mut places), Err(Refusal::Range));
-            assert_eq!((at, places), (begun, vec![7; room]));
+            assert_eq!(set_indices(bits, length, &mut at, &mut indices), Err(Refusal::Range));
+            assert_eq!((at, indices), (begun, vec![7; room]));
             continue;
         };
         let mut told = vec![];
         loop {
-            let count = set_places(bits, length, &mut at, &mut places).unwrap();
-            told.extend_from_slice(&places[..count]);
+            let count = set_indices(bits, length, &mut at, &mut indices).unwrap();
+            told.extend_from_slice(&indices[..count]);
             if count < room {
                 break;
             }
         }
         assert_eq!(told, (begun..length).filter(|place| items[*place]).collect::<Vec<_>>());
-        assert_eq!((set_places(bits, length, &mut at, &mut places), at), (Ok(0), length));
-        assert_eq!(set_places(bits, length, &mut at, &mut []), Ok(0));
+        assert_eq!((set_indices(bits, length, &mut at, &mut indices), at), (Ok(0), length));
+        assert_eq!(set_indices(bits, length, &mut at, &mut []), Ok(0));
     }
 }
 

@@ -35,7 +35,7 @@ pub use Rattle.arrow2_datatypes.specs.Types
 pub use Rattle.arrow2_bitmap.specs.Answered
 pub use Rattle.arrow2_bitmap.specs.Packed
 pub use Rattle.arrow2_walks.specs.Cuts
-pub use Rattle.arrow2_walks.specs.Places
+pub use Rattle.arrow2_walks.specs.Cursor
 pub use Rattle.arrow2_walks.specs.Selected
 pub use Rattle.arrow2_walks.specs.Slots
 pub use Rattle.arrow2_walks.specs.Zips

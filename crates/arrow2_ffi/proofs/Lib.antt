@@ -1,7 +1,7 @@
 mod BoolSteps
 mod OffsetCodes
 mod OptionalKleene
-mod PlaceSteps
+mod IndexSteps
 mod RunSteps
 mod TextCodes
 mod WriteSteps

@@ -5,7 +5,7 @@ use Rattle.std.proofs.lemmas.List.{append_assoc}
 use Rattle.arrow2_model.specs.Bits.{bits}
 use Rattle.arrow2_model.specs.Parts.{part}
 use Rattle.arrow2_walks.specs.Runs.{runs_from}
-use Rattle.arrow2_walks.specs.Places.{IsFirst}
+use Rattle.arrow2_walks.specs.Cursor.{IsFirst}
 use Rattle.arrow2_walks.proofs.TakenRuns.{next_run, no_run, none_at_end}
 
 zip_next : (xs ys : List ℕ) (k x y : ℕ) → k < length xs → k < length ys → zip (take (suc k) (set xs k x)) (take (suc k) (set ys k y)) ≡ zip (take k xs) (take k ys) ++ (x, y) ∷ []

@@ -16,10 +16,10 @@ pub mod kleene_optional;
 mod offset_calls;
 pub mod offset_widths;
 pub mod offsets;
-pub mod places;
 mod ranges;
 mod rows;
 pub mod runs;
+pub mod set_indices;
 pub mod tables;
 #[cfg(test)]
 mod tests;

@@ -83,7 +83,7 @@ pub(crate) fn sums<O: Offset>(start: usize, lengths: &[usize], offsets: &mut [O]
 }
 
 /// Fills `out` with the offsets from offset `from` on, each less the first of them.
-pub(crate) fn from_zero<O: Offset>(offsets: &[O], from: usize, out: &mut [O]) -> u32
+pub(crate) fn rebase<O: Offset>(offsets: &[O], from: usize, out: &mut [O]) -> u32
     ensures { WritesFromOffsetsOr ARROW2_RANGE (map O.value offsets.now) result
         (length out.old ≡ 0) (length offsets.now < from + length out.old)
         (map O.value out.new ≡ map pos
@@ -92,12 +92,12 @@ pub(crate) fn from_zero<O: Offset>(offsets: &[O], from: usize, out: &mut [O]) ->
 {
     match refusal(offsets) {
         Some(code) => code,
-        None => from_zero_unchecked(offsets, from, out),
+        None => rebase_unchecked(offsets, from, out),
     }
 }
 
 /// The same of numbers that are offsets.
-pub(crate) fn from_zero_unchecked<O: Offset>(offsets: &[O], from: usize, out: &mut [O]) -> u32
+pub(crate) fn rebase_unchecked<O: Offset>(offsets: &[O], from: usize, out: &mut [O]) -> u32
     requires are { AreOffsets (map O.value offsets.now) }
     ensures { WritesFromOffsetsOr ARROW2_RANGE (map O.value offsets.now) result
         (length out.old ≡ 0) (length offsets.now < from + length out.old)

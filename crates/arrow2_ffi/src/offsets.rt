@@ -8,9 +8,7 @@ ghost use Rattle.arrow2_ffi.specs.OffsetWrites.{WritesFromOffsets, WritesFromOff
 ghost use Rattle.arrow2_ffi.specs.Rules.{rule_code};
 
 use crate::codes::{ARROW2_LENGTH, ARROW2_OK, ARROW2_OVERFLOW, ARROW2_RANGE};
-use crate::offset_calls::{
-    check, from_zero, from_zero_unchecked, lengths, lengths_unchecked, sums,
-};
+use crate::offset_calls::{check, lengths, lengths_unchecked, rebase, rebase_unchecked, sums};
 
 /// Checks that the numbers are offsets of 32 bits, and returns which rule they break first.
 ///
@@ -75,23 +73,23 @@ pub extern "C" fn arrow2_offsets32_from_lengths(
 /// The code of the first rule that they break where they are no offsets, else `ARROW2_LENGTH` exactly where `out` has
 /// no item, else `ARROW2_RANGE` exactly where the offsets to be written are not inside.
 #[unsafe(no_mangle)]
-pub extern "C" fn arrow2_offsets32_from_zero(offsets: &[i32], from: usize, out: &mut [i32]) -> u32
+pub extern "C" fn arrow2_offsets32_rebase(offsets: &[i32], from: usize, out: &mut [i32]) -> u32
     ensures { WritesFromOffsetsOr ARROW2_RANGE offsets.now result (length out.old ≡ 0)
         (length offsets.now < from + length out.old)
         (out.new ≡ map pos
         (offsets_list 0 (part (lengths_of offsets.now) from (length out.old - 1))))
         (out.new ≡ out.old) }
 {
-    from_zero(offsets, from, out)
+    rebase(offsets, from, out)
 }
 
-/// Fills `out` with offsets of 32 bits, as `arrow2_offsets32_from_zero` does, and tests no offset. Requires that they
+/// Fills `out` with offsets of 32 bits, as `arrow2_offsets32_rebase` does, and tests no offset. Requires that they
 /// are offsets, as `arrow2_offsets32_check` tests.
 ///
 /// `ARROW2_LENGTH` exactly where `out` has no item, else `ARROW2_RANGE` exactly where the offsets to be written are not
 /// inside.
 #[unsafe(no_mangle)]
-pub extern "C" fn arrow2_offsets32_from_zero_unchecked(
+pub extern "C" fn arrow2_offsets32_rebase_unchecked(
     offsets: &[i32],
     from: usize,
     out: &mut [i32],
@@ -103,7 +101,7 @@ pub extern "C" fn arrow2_offsets32_from_zero_unchecked(
         (offsets_list 0 (part (lengths_of offsets.now) from (length out.old - 1))))
         (out.new ≡ out.old) }
 {
-    from_zero_unchecked(offsets, from, out)
+    rebase_unchecked(offsets, from, out)
 }
 
 /// Checks that the numbers are offsets of 64 bits, and returns which rule they break first.
@@ -169,23 +167,23 @@ pub extern "C" fn arrow2_offsets64_from_lengths(
 /// The code of the first rule that they break where they are no offsets, else `ARROW2_LENGTH` exactly where `out` has
 /// no item, else `ARROW2_RANGE` exactly where the offsets to be written are not inside.
 #[unsafe(no_mangle)]
-pub extern "C" fn arrow2_offsets64_from_zero(offsets: &[i64], from: usize, out: &mut [i64]) -> u32
+pub extern "C" fn arrow2_offsets64_rebase(offsets: &[i64], from: usize, out: &mut [i64]) -> u32
     ensures { WritesFromOffsetsOr ARROW2_RANGE offsets.now result (length out.old ≡ 0)
         (length offsets.now < from + length out.old)
         (out.new ≡ map pos
         (offsets_list 0 (part (lengths_of offsets.now) from (length out.old - 1))))
         (out.new ≡ out.old) }
 {
-    from_zero(offsets, from, out)
+    rebase(offsets, from, out)
 }
 
-/// Fills `out` with offsets of 64 bits, as `arrow2_offsets64_from_zero` does, and tests no offset. Requires that they
+/// Fills `out` with offsets of 64 bits, as `arrow2_offsets64_rebase` does, and tests no offset. Requires that they
 /// are offsets, as `arrow2_offsets64_check` tests.
 ///
 /// `ARROW2_LENGTH` exactly where `out` has no item, else `ARROW2_RANGE` exactly where the offsets to be written are not
 /// inside.
 #[unsafe(no_mangle)]
-pub extern "C" fn arrow2_offsets64_from_zero_unchecked(
+pub extern "C" fn arrow2_offsets64_rebase_unchecked(
     offsets: &[i64],
     from: usize,
     out: &mut [i64],
@@ -197,5 +195,5 @@ pub extern "C" fn arrow2_offsets64_from_zero_unchecked(
         (offsets_list 0 (part (lengths_of offsets.now) from (length out.old - 1))))
         (out.new ≡ out.old) }
 {
-    from_zero_unchecked(offsets, from, out)
+    rebase_unchecked(offsets, from, out)
 }

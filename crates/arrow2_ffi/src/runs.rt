@@ -9,7 +9,7 @@ ghost use Rattle.arrow2_ffi.specs.Writes.{GoesOn, Writes};
 
 use crate::codes::{ARROW2_LENGTH, ARROW2_OK, ARROW2_RANGE};
 use crate::ranges::{Bits, are_inside};
-use arrow2_walks::places::{Place, first_place};
+use arrow2_walks::cursor::{BitCursor, find_bit};
 
 /// Writes the runs of set bits among the `length` bits from bit `offset` on, from index `at` of them on: their first
 /// indices and their lengths, until the slices are full or no run is left. Writes to `count` how many were written, and
@@ -68,20 +68,16 @@ fn write_runs(
         result.0 (length' starts.old) at result.1 end }
 {
     let Bits(bytes, offset) = bits;
-    let mut place = Place {
-        index: at,
-        word: 0,
-        held: 0,
-    };
+    let mut cursor = BitCursor::at(at);
     for k in 0..starts.len() {
-        place = first_place(bytes, offset, end, place, true);
-        let start = place.index;
+        cursor = find_bit(bytes, offset, end, cursor, true);
+        let start = cursor.index;
         if start == end {
             return (k, end);
         }
-        place = first_place(bytes, offset, end, place, false);
+        cursor = find_bit(bytes, offset, end, cursor, false);
         starts[k] = start;
-        lengths[k] = place.index - start;
+        lengths[k] = cursor.index - start;
     }
-    (starts.len(), place.index)
+    (starts.len(), cursor.index)
 }

@@ -21,14 +21,13 @@ use crate::kleene::{arrow2_and_kleene, arrow2_or_kleene};
 use crate::kleene_optional::{arrow2_and_kleene_optional, arrow2_or_kleene_optional};
 use crate::offset_widths::{arrow2_offsets_narrow, arrow2_offsets_widen};
 use crate::offsets::{
-    arrow2_offsets32_check, arrow2_offsets32_from_lengths, arrow2_offsets32_from_zero,
-    arrow2_offsets32_from_zero_unchecked, arrow2_offsets32_lengths,
-    arrow2_offsets32_lengths_unchecked, arrow2_offsets64_check, arrow2_offsets64_from_lengths,
-    arrow2_offsets64_from_zero, arrow2_offsets64_from_zero_unchecked, arrow2_offsets64_lengths,
-    arrow2_offsets64_lengths_unchecked,
+    arrow2_offsets32_check, arrow2_offsets32_from_lengths, arrow2_offsets32_lengths,
+    arrow2_offsets32_lengths_unchecked, arrow2_offsets32_rebase, arrow2_offsets32_rebase_unchecked,
+    arrow2_offsets64_check, arrow2_offsets64_from_lengths, arrow2_offsets64_lengths,
+    arrow2_offsets64_lengths_unchecked, arrow2_offsets64_rebase, arrow2_offsets64_rebase_unchecked,
 };
-use crate::places::arrow2_set_places;
 use crate::runs::arrow2_runs;
+use crate::set_indices::arrow2_set_indices;
 use crate::tables::{
     arrow2_binary_table, arrow2_quaternary_table, arrow2_ternary_table, arrow2_unary_table,
 };
@@ -213,7 +212,7 @@ fn runs_and_places_are_written(rt: HostRuntime) {
     wrote(&rt, code, &[at, count], &[5, 2]);
     at = 2;
     let mut places = [0; 3];
-    let code = arrow2_set_places(&bytes, 1, 6, &mut at, &mut places, &mut count);
+    let code = arrow2_set_indices(&bytes, 1, 6, &mut at, &mut places, &mut count);
     wrote(&rt, code, &places, &[2, 4, 5]);
     wrote(&rt, code, &[at, count], &[6, 3]);
 }
@@ -227,7 +226,7 @@ fn offsets_of_32_bits_are_written(rt: HostRuntime) {
     let code = arrow2_offsets32_from_lengths(5, &[1, 2], &mut offsets);
     wrote(&rt, code, &offsets, &[5, 6, 8]);
     let mut part = [0; 2];
-    let code = arrow2_offsets32_from_zero(&[1, 3, 7, 9], 1, &mut part);
+    let code = arrow2_offsets32_rebase(&[1, 3, 7, 9], 1, &mut part);
     wrote(&rt, code, &part, &[0, 4]);
     let code = arrow2_offsets_narrow(&[2, 3], &mut part);
     wrote(&rt, code, &part, &[2, 3]);
@@ -242,7 +241,7 @@ fn offsets_of_64_bits_are_written(rt: HostRuntime) {
     let code = arrow2_offsets64_from_lengths(5, &[1, 2], &mut offsets);
     wrote(&rt, code, &offsets, &[5, 6, 8]);
     let mut part = [0; 2];
-    let code = arrow2_offsets64_from_zero(&[1, 3, 7, 9], 1, &mut part);
+    let code = arrow2_offsets64_rebase(&[1, 3, 7, 9], 1, &mut part);
     wrote(&rt, code, &part, &[0, 4]);
     let code = arrow2_offsets_widen(&[2, 3], &mut part);
     wrote(&rt, code, &part, &[2, 3]);
@@ -259,9 +258,9 @@ fn checked_offsets_are_not_checked_again(rt: HostRuntime) {
     let code = arrow2_offsets64_lengths_unchecked(&large, &mut lengths);
     wrote(&rt, code, &lengths, &[3, 0]);
     let (mut part, mut large_part) = ([0; 2], [0; 2]);
-    let code = arrow2_offsets32_from_zero_unchecked(&small, 0, &mut part);
+    let code = arrow2_offsets32_rebase_unchecked(&small, 0, &mut part);
     wrote(&rt, code, &part, &[0, 3]);
-    let code = arrow2_offsets64_from_zero_unchecked(&large, 0, &mut large_part);
+    let code = arrow2_offsets64_rebase_unchecked(&large, 0, &mut large_part);
     wrote(&rt, code, &large_part, &[0, 3]);
 }
 

@@ -8,5 +8,5 @@ pub mod Selected
 pub mod Slots
 pub mod TakenRuns
 pub mod UniqueRuns
-pub mod WordsOfPlaces
+pub mod CursorSteps
 pub mod Zipped

@@ -7,7 +7,7 @@ use Rattle.arrow2_walks.specs.Runs.{runs_from}
 use Rattle.arrow2_model.proofs.Parts.{get_or-part}
 use Rattle.arrow2_walks.proofs.RunSteps.{runs_from_start, runs_from_next, runs_from_end, runs_from_until, runs_from_last}
 use Rattle.arrow2_model.proofs.Walks.{length-part_bits}
-use Rattle.arrow2_walks.specs.Places.{IsFirst}
+use Rattle.arrow2_walks.specs.Cursor.{IsFirst}
 
 module _ (bytes : List ℕ) (offset end : ℕ) where
   -- up to the first set bit no run is passed

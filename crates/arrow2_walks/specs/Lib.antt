@@ -1,5 +1,5 @@
 pub mod Cuts
-pub mod Places
+pub mod Cursor
 pub mod Runs
 pub mod Selected
 pub mod Slots

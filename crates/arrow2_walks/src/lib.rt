@@ -1,9 +1,9 @@
 //! Iterators over bitmaps: values zipped with their validity, and the runs of set bits; and bitmaps in pieces.
 #![tactic(auto)]
 
+pub mod cursor;
 pub mod laws;
 pub mod pieces;
-pub mod places;
 pub mod slice_iterator;
 pub mod zip_validity;
 

@@ -4,9 +4,9 @@ ghost use Rattle.std.specs.Iterator.{YieldsFirst, item_count};
 ghost use Rattle.arrow2_model.specs.Parts.{falses};
 ghost use Rattle.arrow2_walks.specs.Runs.{runs};
 ghost use Rattle.arrow2_model.specs.Storage.{items_of};
-ghost use Rattle.arrow2_walks.specs.Places.{RunsLeft, GivesRun};
+ghost use Rattle.arrow2_walks.specs.Cursor.{RunsLeft, GivesRun};
 
-use crate::places::{Place, first_place};
+use crate::cursor::{BitCursor, find_bit};
 use arrow2_bitmap::Bitmap;
 use std::alloc::AllocError;
 use std::marker::Model;
@@ -31,7 +31,7 @@ pub struct SlicesIterator<'a> {
     bytes: &'a [u8],
     offset: usize,
     end: usize,
-    place: Place,
+    cursor: BitCursor,
     slots: usize,
 }
 
@@ -40,18 +40,18 @@ impl<'a> Model for SlicesIterator<'a> {
     ghost use Rattle.arrow2_model.specs.Bits.{bits};
     ghost use Rattle.arrow2_model.specs.Parts.{part};
     ghost use Rattle.arrow2_walks.specs.Runs.{runs_from};
-    ghost use Rattle.arrow2_walks.specs.Places.{IsRead, RunsLeft};
+    ghost use Rattle.arrow2_walks.specs.Cursor.{IsRead, RunsLeft};
 
     ghost Value = { RunsLeft };
 
     ghost view = { λ i. record {
       runs = runs_from (part (bits i.bytes.now) i.offset i.end)
-          i.place.index;
+          i.cursor.index;
       slots = i.slots;
     } };
 
-    ghost invariant = { λ i. IsRead (bits i.bytes.now) i.offset i.end i.place.index i.place.word
-        i.place.held × (i.offset + i.end ≤ 8 * length i.bytes.now) };
+    ghost invariant = { λ i. IsRead (bits i.bytes.now) i.offset i.end i.cursor.index i.cursor.word
+        i.cursor.buffered × (i.offset + i.end ≤ 8 * length i.bytes.now) };
 }
 
 #[tactic(auto, using(crate::proofs::TakenRuns::taking_runs))]
@@ -67,11 +67,7 @@ impl<'a> SlicesIterator<'a> {
             bytes,
             offset,
             end,
-            place: Place {
-                index: 0,
-                word: 0,
-                held: 0,
-            },
+            cursor: BitCursor::at(0),
             slots: values.len() - values.unset_bits(),
         }
     }
@@ -90,13 +86,13 @@ impl<'a> SlicesIterator<'a> {
         ensures steps { YieldsFirst (λ i. i.runs) self.old result self.new }
         ensures slots { self.new.slots ≡ self.old.slots }
     {
-        self.place = first_place(self.bytes, self.offset, self.end, self.place, true);
-        let start = self.place.index;
+        self.cursor = find_bit(self.bytes, self.offset, self.end, self.cursor, true);
+        let start = self.cursor.index;
         if start == self.end {
             return None;
         }
-        self.place = first_place(self.bytes, self.offset, self.end, self.place, false);
-        Some((start, self.place.index - start))
+        self.cursor = find_bit(self.bytes, self.offset, self.end, self.cursor, false);
+        Some((start, self.cursor.index - start))
     }
 }
 

@@ -7,7 +7,7 @@ use Rattle.arrow2_ffi.proofs.runs.write_runs.Goals as goal
 
 pub returns-then-start-end : goal.returns-then-start-end
 returns-then-start-end c = record {
-  items = run_last c.args.bits.0.now c.args.bits.1 c.args.end c.args.at c.loop-k.place.index c.first_place-place.result.index (zip (take c.loop-k.k c.loop-k.starts) (take c.loop-k.k c.loop-k.lengths)) c.requires.inside c.loop-k.invariant.done c.first_place-place.ensures.first (omega (arith, c.if-start-end.true));
+  items = run_last c.args.bits.0.now c.args.bits.1 c.args.end c.args.at c.loop-k.cursor.index c.find_bit-cursor.result.index (zip (take c.loop-k.k c.loop-k.starts) (take c.loop-k.k c.loop-k.lengths)) c.requires.inside c.loop-k.invariant.done c.find_bit-cursor.ensures.first (omega (arith, c.if-start-end.true));
   most = omega (arith, c.loop-k-test.true, c.loop-k.invariant.starts);
   last = λ _. (none_at_end c.args.bits.0.now c.args.bits.1 c.args.end c.args.end c.requires.inside refl, refl);
   forth = c.requires.within;
@@ -17,8 +17,8 @@ returns-then-start-end c = record {
 pub loop-k-preserved : goal.loop-k-preserved
 loop-k-preserved c =
     let k : ℕ = c.loop-k.k in
-    let p : ℕ = c.first_place-place.result.index in
-    let q : ℕ = c.first_place-place-in-loop-k.result.index in
+    let p : ℕ = c.find_bit-cursor.result.index in
+    let q : ℕ = c.find_bit-cursor-in-loop-k.result.index in
     let starts : List ℕ = c.loop-k.starts in
     let lengths : List ℕ = c.loop-k.lengths in
     let l = length-set starts k p in
@@ -27,7 +27,7 @@ loop-k-preserved c =
     record {
       starts = omega (arith, l, kept.starts);
       lengths = omega (arith, m, kept.lengths);
-      read = c.first_place-place-in-loop-k.ensures.read;
-      forth = omega (arith, kept.forth, c.first_place-place.ensures.first.from, c.first_place-place-in-loop-k.ensures.first.from);
-      done = run_more c.args.bits.0.now c.args.bits.1 c.args.end c.args.at c.loop-k.place.index p q k starts lengths c.requires.inside (omega (arith, c.loop-k-test.true, kept.starts)) (omega (arith, c.loop-k-test.true, kept.lengths)) kept.done c.first_place-place.ensures.first (λ e. omega (arith, e, c.if-start-end.false)) c.first_place-place-in-loop-k.ensures.first;
+      read = c.find_bit-cursor-in-loop-k.ensures.read;
+      forth = omega (arith, kept.forth, c.find_bit-cursor.ensures.first.from, c.find_bit-cursor-in-loop-k.ensures.first.from);
+      done = run_more c.args.bits.0.now c.args.bits.1 c.args.end c.args.at c.loop-k.cursor.index p q k starts lengths c.requires.inside (omega (arith, c.loop-k-test.true, kept.starts)) (omega (arith, c.loop-k-test.true, kept.lengths)) kept.done c.find_bit-cursor.ensures.first (λ e. omega (arith, e, c.if-start-end.false)) c.find_bit-cursor-in-loop-k.ensures.first;
     }

@@ -1,0 +1,97 @@
+//! The indices of set bits.
+ghost use Rattle.std.specs.Prelude.{◌≡◌, ◌+◌, ◌<◌, ◌≤◌, ◌^◌, ℕ, List, ◌∷◌, ◌++◌, map, take, length as length', IfNone, IfSome};
+ghost use Rattle.std.specs.List.{All};
+ghost use Rattle.arrow2_model.specs.Bits.{bits, unnum};
+ghost use Rattle.arrow2_model.specs.Parts.{part};
+ghost use Rattle.arrow2_chunk.specs.Ones.{ones};
+ghost use Rattle.arrow2_ffi.specs.SetIndices.{ones_from};
+ghost use Rattle.arrow2_ffi.specs.Ranges.{IsInside, HasBits, first_bits};
+ghost use Rattle.arrow2_ffi.specs.Writes.{GoesOn, WritesWhere};
+
+use crate::codes::{ARROW2_OK, ARROW2_RANGE};
+use crate::ranges::{Bits, are_inside};
+use arrow2_bits::chunks::word_from;
+use arrow2_chunk::bit_chunk::BitChunk;
+use arrow2_chunk::bit_chunk_iter::BitChunkOnes;
+
+/// Writes the indices of set bits among the `length` bits from bit `offset` on, from index `at` of them on, rising,
+/// until `out` is full or none is left. Writes to `count` how many were written, and to `at` the index from which to go
+/// on.
+///
+/// `ARROW2_RANGE` exactly where the bits are not inside, or `at` is above `length`.
+#[unsafe(no_mangle)]
+pub extern "C" fn arrow2_set_indices(
+    bytes: &[u8],
+    offset: usize,
+    length: usize,
+    at: &mut usize,
+    indices: &mut [usize],
+    count: &mut usize,
+) -> u32
+    ensures { WritesWhere ARROW2_RANGE result (IsInside bytes.now offset length × (at.old ≤ length))
+        (GoesOn (take count.new indices.new)
+        (ones_from (part (bits bytes.now) offset length) at.old)
+        (ones_from (part (bits bytes.now) offset length) at.new)
+        count.new (length' indices.old) at.old at.new length)
+        ((indices.new ≡ indices.old) × (at.new ≡ at.old) × (count.new ≡ count.old)) }
+{
+    let items = Bits(bytes, offset);
+    if !are_inside(items, length) || *at > length {
+        return ARROW2_RANGE;
+    }
+    let (written, next) = write_indices(items, length, *at, indices);
+    *count = written;
+    *at = next;
+    ARROW2_OK
+}
+
+/// Writes the indices of set bits from index `at` on, until `out` is full or none is left, and returns how many were
+/// written and the index from which to go on. Requires that the bits and the index are inside.
+fn write_indices(bits: Bits<'_>, end: usize, at: usize, indices: &mut [usize]) -> (usize, usize)
+    requires inside { HasBits bits end }
+    requires within { at ≤ end }
+    ensures { GoesOn (take result.0 indices.new)
+        (ones_from (first_bits bits.entry end) at)
+        (ones_from (first_bits bits.entry end) result.1)
+        result.0 (length' indices.old) at result.1 end }
+{
+    let Bits(bytes, offset) = bits;
+    let mut count = 0;
+    let mut base = at;
+    'words: while base < end {
+        let held = (end - base).min(64);
+        let word = BitChunk::masked(word_from(bytes, offset, base), held);
+        let (written, next) = write_ones(word, base, count, indices);
+        count = written;
+        match next {
+            Some(next) => return (count, next),
+            None => base += held,
+        }
+    }
+    (count, end)
+}
+
+/// Writes the indices of the word's set bits, counted from `base` on, after the first `count` indices, until `out` is
+/// full or none is left. Returns how many indices there are then, and the first that did not fit. Requires capacity for
+/// `count` indices, and that each index fits a `usize`.
+fn write_ones(word: u64, base: usize, count: usize, indices: &mut [usize]) -> (usize, Option<usize>)
+    requires few { count ≤ length' indices.old }
+    requires fit { All (λ index. index < 2 ^ 64) (map (λ k. base + k) (ones (unnum 64 word))) }
+    ensures room { length' indices.new ≡ length' indices.old }
+    ensures few { result.0 ≤ length' indices.old }
+    ensures all { IfNone result.1 (take result.0 indices.new
+        ≡ take count indices.old ++ map (λ k. base + k) (ones (unnum 64 word))) }
+    ensures next { IfSome result.1 (λ next. (result.0 ≡ length' indices.old)
+        × (others : List ℕ) × (take result.0 indices.new ++ next ∷ others
+        ≡ take count indices.old ++ map (λ k. base + k) (ones (unnum 64 word)))) }
+{
+    let mut count = count;
+    for one in BitChunkOnes::new(word) {
+        if count == indices.len() {
+            return (count, Some(base + one));
+        }
+        indices[count] = base + one;
+        count += 1;
+    }
+    (count, None)
+}

@@ -1,0 +1,81 @@
+//! Finds the next index of a set bit, or of an unset one, by words.
+ghost use Rattle.std.specs.Prelude.{◌≡◌, ℕ, ◌+◌, ◌*◌, ◌<◌, ◌≤◌, not, get_or, false, length};
+ghost use Rattle.arrow2_model.specs.Bits.{bit, bits};
+ghost use Rattle.arrow2_walks.specs.Cursor.{IsFirst, IsRead};
+
+use arrow2_bits::chunks::word_from;
+
+/// An index, and the bits from it on that were read already, as the lowest ones of a word.
+#[derive(Clone, Copy, Debug)]
+pub struct BitCursor {
+    /// The index.
+    pub index: usize,
+    /// The bits from it on, the lowest first.
+    pub word: u64,
+    /// How many of them were read.
+    pub buffered: usize,
+}
+
+impl BitCursor {
+    /// Returns the cursor at an index, with no bit read.
+    pub fn at(index: usize) -> BitCursor
+        ensures index { result.index ≡ index }
+        ensures none { result.buffered ≡ 0 }
+    {
+        BitCursor {
+            index,
+            word: 0,
+            buffered: 0,
+        }
+    }
+}
+
+/// Returns the first index from `at` on whose bit, counted from bit `offset` on, is `value`, or `end` where there is
+/// none. Each word is read once, and shifted as it is passed. Requires that bits up to `end` are inside, and that `at`
+/// holds bits from its index on.
+///
+/// In arrow2 it is inside the iterator over runs.
+pub fn find_bit(bytes: &[u8], offset: usize, end: usize, at: BitCursor, value: bool) -> BitCursor
+    requires inside { offset + end ≤ 8 * length bytes.now }
+    requires read { IsRead (bits bytes.now) offset end at.index at.word at.buffered }
+    ensures first { IsFirst (bits bytes.now) offset at.index end value result.index }
+    ensures read { IsRead (bits bytes.now) offset end result.index result.word result.buffered }
+{
+    let BitCursor {
+        mut index,
+        mut word,
+        mut buffered,
+    } = at;
+    'words: loop {
+        let passed = first_bit(word, value);
+        if passed < buffered {
+            return BitCursor {
+                index: index + passed,
+                word: word >> passed,
+                buffered: buffered - passed,
+            };
+        }
+        index += buffered;
+        buffered = (end - index).min(64);
+        if buffered == 0 {
+            return BitCursor {
+                index,
+                word,
+                buffered,
+            };
+        }
+        word = word_from(bytes, offset, index);
+    }
+}
+
+/// Returns the first index in the word at which its bit is `value`, or 64 where there is none.
+fn first_bit(word: u64, value: bool) -> usize
+    ensures within { result ≤ 64 }
+    ensures others { (i : ℕ) → i < result → bit word i ≡ not value }
+    ensures there { result < 64 → bit word result ≡ value }
+{
+    if value {
+        return word.trailing_zeros() as usize;
+    }
+    word.trailing_ones() as usize
+}
