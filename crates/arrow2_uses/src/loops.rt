@@ -45,7 +45,6 @@ pub fn true_items(b: &Bitmap) -> usize
 /// Inverts the full words of the first `len` bits, in place. Requires that they are inside the bytes.
 pub fn invert_words(bytes: &mut [u8], len: usize)
     requires inside { len ≤ 8 * length bytes.old }
-    ensures { length bytes.new ≡ length bytes.old }
 {
     let mut chunks = BitChunksExactMut::<u64>::new(bytes, len);
     while chunks.change_next(invert) {}
