@@ -1,4 +1,3 @@
 pub mod ArrayTexts
 pub mod Items
-pub mod Same
 pub mod Tables

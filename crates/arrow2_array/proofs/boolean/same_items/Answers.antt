@@ -1,6 +1,7 @@
 use Rattle.std.proofs.Common.{◌∙◌, length, sym, ap, refl, arith}
+use Rattle.std.specs.Bool.{beq}
 use Rattle.std.specs.Iterator.Adapters.{zip_first, zip_second}
-use Rattle.arrow2_array.proofs.Same.{equal-ended, equal-next, unequal-next}
+use Rattle.arrow2_validity.proofs.Alike.{equal-ended, equal-next, unequal-next}
 use Rattle.arrow2_array.proofs.boolean.same_items.Goals as goal
 
 pub loop-item-init : goal.loop-item-init
@@ -17,7 +18,7 @@ returns-then-ne c =
     let now = c.loop-item.item-iterator in
     let left = c.next.new.self in
     let steps = c.in-Some.ensures.steps in
-    unequal-next (zip_first now) (zip_second now) (zip_first left) (zip_second left) c.in-Some.item c.in-Some.other steps.0 steps.1 c.if-ne.ensures ∙ sym c.loop-item.invariant.alike
+    unequal-next beq (zip_first now) (zip_second now) (zip_first left) (zip_second left) c.in-Some.item c.in-Some.other steps.0 steps.1 c.if-ne.ensures ∙ sym c.loop-item.invariant.alike
 
 pub loop-item-preserved : goal.loop-item-preserved
 loop-item-preserved c =
@@ -25,11 +26,11 @@ loop-item-preserved c =
     let left = c.next.new.self in
     let steps = c.in-Some.ensures.steps in
     record {
-      alike = c.loop-item.invariant.alike ∙ equal-next (zip_first now) (zip_second now) (zip_first left) (zip_second left) c.in-Some.item c.in-Some.other steps.0 steps.1 c.if-ne.ensures;
+      alike = c.loop-item.invariant.alike ∙ equal-next beq (zip_first now) (zip_second now) (zip_first left) (zip_second left) c.in-Some.item c.in-Some.other steps.0 steps.1 c.if-ne.ensures;
       same = omega (arith, ap length steps.0, ap length steps.1, c.loop-item.invariant.same);
     }
 
 pub returns : goal.returns
 returns c =
     let now = c.loop-item.item-iterator in
-    sym (equal-ended (zip_first now) (zip_second now) c.loop-item.invariant.same c.in-None.ensures.steps) ∙ sym c.loop-item.invariant.alike
+    sym (equal-ended beq (zip_first now) (zip_second now) c.loop-item.invariant.same c.in-None.ensures.steps) ∙ sym c.loop-item.invariant.alike
