@@ -16,6 +16,9 @@ use std::rc::Rc;
 const MUCH: usize = 1 << 16;
 const LITTLE: usize = 1 << 9;
 
+/// A million, in round binary figures.
+const MILLION: usize = 1 << 20;
+
 /// The bit offsets of the inputs of a line.
 const AT_0: [usize; 4] = [0; 4];
 const AT_3: [usize; 4] = [3, 5, 1, 6];
@@ -174,7 +177,18 @@ fn offsets(inputs: &Inputs) -> Vec<Line<'_>> {
     let on = |bits, width| (bits, Rc::new(Slots::new(inputs, bits / width)));
     let mut lines = on_slots(&small, &[on(MUCH, 32), on(LITTLE, 32)]);
     lines.extend(on_slots(&large, &[on(MUCH, 64), on(LITTLE, 64)]));
+    lines.extend(checks(inputs));
     lines
+}
+
+/// The lines of checks of a million slots.
+fn checks(inputs: &Inputs) -> Vec<Line<'_>> {
+    let calls: [Call<Slots>; 4] =
+        calls![offsets32_check, texts32_check, offsets64_check, texts64_check];
+    let on = Rc::new(Slots::repeated(inputs, MILLION / inputs.slots.len()));
+    let count = on.offsets64.len();
+    let line = |call| line(call, " of a million slots", &on, (count, "offsets"), vec![count]);
+    calls.into_iter().map(line).collect()
 }
 
 /// The lines of calls on offsets, each on 8 KiB and on 64 bytes of them.
