@@ -82,7 +82,7 @@ impl<T: NativeType> Column<T> {
     ///
     /// # Errors
     ///
-    /// `OutOfMemory`, or `Overflow` where the length would pass `usize::MAX`.
+    /// `Overflow`, only where the length would pass `usize::MAX`, or `OutOfMemory`.
     pub fn take(&self, places: &[usize]) -> Result<Column<T>>
         requires inside { All (λ place. place < length' self.now) places.now }
         ensures ok { IfOk result (λ c.
@@ -101,7 +101,7 @@ impl<T: NativeType> Column<T> {
     ///
     /// # Errors
     ///
-    /// `OutOfMemory`, or `Overflow` where the length would pass `usize::MAX`.
+    /// `Overflow` or `OutOfMemory`.
     #[tactic(auto, using(arrow2::proofs::Columns::columns, arrow2::proofs::Columns::selections))]
     pub fn filter(&self, mask: &Bitmap) -> Result<Column<T>>
         requires same_length { length' (items_of mask.now) ≡ length' self.now }
@@ -150,7 +150,7 @@ impl<T: NativeType> ColumnBuilder<T> {
     ///
     /// # Errors
     ///
-    /// `OutOfMemory`, or `Overflow` where the length would pass `usize::MAX`.
+    /// `Overflow`, only where the length would pass `usize::MAX`, or `OutOfMemory`.
     pub fn push(&mut self, item: Option<T>) -> Result<()>
         ensures ok { OnOk result (self.new ≡ self.old ++ item ∷ []) }
         ensures err { OnErr result (self.new ≡ self.old) }
@@ -179,7 +179,7 @@ impl<T: NativeType> ColumnBuilder<T> {
     ///
     /// # Errors
     ///
-    /// `OutOfMemory`, or `Overflow` where the length would pass `usize::MAX`.
+    /// `Overflow`, only where the length would pass `usize::MAX`, or `OutOfMemory`.
     pub fn extend(&mut self, column: &Column<T>) -> Result<()>
         ensures ok { OnOk result (self.new ≡ self.old ++ column.now) }
         ensures err { OnErr result (self.new ≡ self.old) }
@@ -216,7 +216,7 @@ impl<T: NativeType> ColumnBuilder<T> {
 ///
 /// # Errors
 ///
-/// `OutOfMemory`, or `Overflow` where the length would pass `usize::MAX`.
+/// `Overflow` or `OutOfMemory`.
 pub fn concat<T: NativeType>(alloc: Global, columns: &[Column<T>]) -> Result<Column<T>>
     ensures ok { IfOk result (λ c. c ≡ flat_map (λ column. column) columns.now) }
     ensures only { IfErr result (λ e. (e ≡ Error.Overflow) ⊎ (e ≡ Error.OutOfMemory)) }
@@ -233,7 +233,7 @@ pub fn concat<T: NativeType>(alloc: Global, columns: &[Column<T>]) -> Result<Col
 ///
 /// # Errors
 ///
-/// `OutOfMemory`, or `Overflow` where the length would pass `usize::MAX`.
+/// `Overflow` or `OutOfMemory`.
 #[tactic(auto, using(arrow2::proofs::Columns::selections))]
 pub fn if_then_else<T: NativeType>(
     mask: &Bitmap,

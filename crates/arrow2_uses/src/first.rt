@@ -9,7 +9,7 @@ use arrow2::error::{Error, Result};
 ///
 /// # Errors
 ///
-/// `OutOfMemory`, or `Overflow` where the length would pass `usize::MAX`.
+/// `Overflow` or `OutOfMemory`.
 pub fn invert(b: &Bitmap) -> Result<Bitmap>
     ensures items { IfOk result (λ r. items_of r ≡ map not (items_of b.now)) }
     ensures only { IfErr result (λ e. (e ≡ Error.Overflow) ⊎ (e ≡ Error.OutOfMemory)) }

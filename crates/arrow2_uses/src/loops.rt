@@ -16,7 +16,7 @@ use std::convert::TryFrom;
 ///
 /// # Errors
 ///
-/// `OutOfMemory`, or `Overflow` where the length would pass `usize::MAX`.
+/// `Overflow` or `OutOfMemory`.
 pub fn turned(alloc: Global, b: &Bitmap) -> Result<Bitmap>
     ensures items { IfOk result (λ r. items_of r ≡ map not (items_of b.now)) }
     ensures only { IfErr result (λ e. (e ≡ Error.Overflow) ⊎ (e ≡ Error.OutOfMemory)) }

@@ -105,7 +105,7 @@ impl TextsBuilder {
     ///
     /// # Errors
     ///
-    /// `Overflow` where the bytes are too many for offsets of 32 bits, else `OutOfMemory`.
+    /// `Overflow` or `OutOfMemory`.
     pub fn push(&mut self, text: &[u8]) -> Result<()>
         ensures ok { OnOk result (self.new ≡ self.old ++ text.now ∷ []) }
         ensures err { OnErr result (self.new ≡ self.old) }
@@ -121,7 +121,7 @@ impl TextsBuilder {
     ///
     /// # Errors
     ///
-    /// `Overflow` where the bytes are too many for offsets of 32 bits, else `OutOfMemory`.
+    /// `Overflow` or `OutOfMemory`.
     pub fn extend(&mut self, texts: &Texts) -> Result<()>
         ensures ok { OnOk result (self.new ≡ self.old ++ texts.now) }
         ensures err { OnErr result (self.new ≡ self.old) }
@@ -166,7 +166,7 @@ fn bytes_of<'a>(offsets: &OffsetsBuffer<i32>, bytes: &'a Buffer<u8>) -> &'a [u8]
 ///
 /// # Errors
 ///
-/// `Overflow` where the bytes are too many for offsets of 32 bits, else `OutOfMemory`.
+/// `Overflow` or `OutOfMemory`.
 pub fn gather(alloc: Global, texts: &[&str]) -> Result<Texts>
     ensures ok { IfOk result (λ t. t ≡ map (λ text. text.now) texts.now) }
     ensures only { IfErr result (λ e. (e ≡ Error.Overflow) ⊎ (e ≡ Error.OutOfMemory)) }

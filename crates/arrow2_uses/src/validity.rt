@@ -40,7 +40,7 @@ pub fn nulls_by_halves(validity: &Bitmap) -> usize
     validity.null_count_range(0, middle) + validity.null_count_range(middle, rest)
 }
 
-/// Returns the validity of a value, a null and a value: literal bytes compute where the definitions of bits are opened.
+/// Returns the validity of a value, a null and a value. The items of literal bytes are computed by `unfolding`.
 ///
 /// # Errors
 ///
