@@ -1,5 +1,5 @@
-//! Lists of booleans kept as bits: shared ones, and ones that grow; functions of their words, in new memory and in
-//! place; and bitmaps in pieces.
+//! Lists of booleans kept as bits: shared ones, and ones that grow; word functions on them, in new memory and in place;
+//! and bitmaps in pieces.
 
 pub mod utils;
 

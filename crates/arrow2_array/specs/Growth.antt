@@ -14,7 +14,7 @@ pub record AppendsItems {T : Type 0} (r : Result T Error) (old new : GrowingBool
   pub overflow : IsErrOf r Overflow ↔ (2 ^ 64 ≤ length old.items + length more)
   -- the only other error is out of memory
   pub only : IfErr r (λ e. (e ≡ Overflow) ⊎ (e ≡ OutOfMemory))
-  -- within the capacity it does not allocate
+  -- within the capacity it succeeds
   pub succeeds : length old.items + length more ≤ old.capacity → IsOk r
   -- the capacity never falls
   pub capacity : old.capacity ≤ new.capacity

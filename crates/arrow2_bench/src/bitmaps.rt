@@ -126,7 +126,7 @@ fn not(bitmap: &Bitmap) -> Result<usize> {
     Ok((!bitmap)?.unset_bits())
 }
 
-/// Counts the false items of a new bitmap by a function of words that is not one of bits.
+/// Counts the false items of a new bitmap by a word function that does not act bit by bit.
 fn rotated(bitmap: &Bitmap) -> Result<usize> {
     Ok(unary(bitmap, |word| word.rotate_left(1))?.unset_bits())
 }

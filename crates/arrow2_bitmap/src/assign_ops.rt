@@ -1,4 +1,5 @@
-//! Bitmaps that grow, changed in place by functions of words, and their operators. None of these calls allocates.
+//! Bitmaps that grow, changed in place by word functions and truth tables, and their operators. None of these calls
+//! allocates.
 ghost use Rattle.std.specs.Prelude.{◌≡◌, ℕ, [], ◌∷◌, length};
 ghost use Rattle.arrow2_model.specs.Kernels.{unary_kernel, binary_kernel, IsUnary, IsBinary};
 ghost use Rattle.arrow2_model.specs.Storage.{items_of};
@@ -56,8 +57,10 @@ pub fn binary_assign<T: BitChunk, F: Fn(T, T) -> T>(lhs: &mut MutableBitmap, rhs
     }
 }
 
-/// Replaces each item by the output of table `t` for it: bit `a1` of `t`. Goes by 32 bytes at a time, whatever `W` is.
-/// Reads the two lowest bits of `t`. Does not allocate.
+/// Replaces each item by the output of the truth table `t`: bit `a` of `t`, where `a` is the item as 0 or 1. Reads the
+/// two lowest bits of `t`. Does not allocate.
+///
+/// `W` is not used, since it goes by 32 bytes at a time. It is there so that all calls in place name a width.
 ///
 /// arrow2 has no such call.
 pub fn unary_assign_table<W: BitChunk>(bitmap: &mut MutableBitmap, t: u8)
@@ -67,9 +70,11 @@ pub fn unary_assign_table<W: BitChunk>(bitmap: &mut MutableBitmap, t: u8)
     bitmap.bits.answer(t);
 }
 
-/// Replaces each item by the output of table `t` for it and the item of `rhs`: bit `a1 + 2 * a2` of `t`. Goes by 32
-/// bytes at a time where `rhs` begins at a whole byte, else by words of `W`, and gives the same list whatever `W` is.
-/// Reads the four lowest bits of `t`. Requires that both have one length. Does not allocate.
+/// Replaces each item by the output of the truth table `t`: bit `a + 2 * b` of `t`, where `a` and `b` are the items of
+/// `lhs` and `rhs` as 0 or 1. Reads the four lowest bits of `t`. Requires that both have one length. Does not allocate.
+///
+/// Goes by 32 bytes at a time where `rhs` begins at a whole byte, else by words of `W`. The list is the same for each
+/// `W`.
 ///
 /// arrow2 has no such call.
 #[inline(always)]

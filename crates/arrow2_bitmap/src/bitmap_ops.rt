@@ -1,4 +1,4 @@
-//! New bitmaps from functions of words, and the operators on shared bitmaps.
+//! New bitmaps from word functions and truth tables, and the operators on shared bitmaps.
 ghost use Rattle.std.specs.Prelude.{◌≡◌, ℕ, List, Bool, [], ◌∷◌, length as length', replicate, IfOk, IfErr, IfSome, IsTrue, MatchResult, ◌⊎◌};
 ghost use Rattle.arrow2_model.specs.Kernels.{kernel, unary_kernel, binary_kernel, IsUnary, IsBinary};
 ghost use Rattle.arrow2_model.specs.Storage.{items_of};
@@ -21,8 +21,8 @@ use std::alloc::Global;
 use std::convert::TryFrom;
 use std::ops::{BitAnd, BitOr, BitXor, Not};
 
-/// Returns the bitmap of the results of `op` for each row of words, for lists of `length` items. Requires that all
-/// lists have `length` items, and that `op` accepts every row.
+/// Applies `op` to each row of words, and returns a bitmap of the first `length` bits of the results. A row is the
+/// words at one index of several lists. Requires that all lists have `length` items, and that `op` accepts every row.
 ///
 /// arrow2 has no such call.
 ///
@@ -116,8 +116,8 @@ pub fn binary<F: Fn(u64, u64) -> u64>(lhs: &Bitmap, rhs: &Bitmap, op: F) -> Resu
     )
 }
 
-/// Returns, item by item, the output of table `t` of one input: bit `a1` of `t`. Goes by 32 bytes at a time where the
-/// items begin at a whole byte, else by words. Reads the two lowest bits of `t`.
+/// Returns, item by item, the output of the truth table `t`: bit `a` of `t`, where `a` is the item as 0 or 1. Reads the
+/// two lowest bits of `t`. Goes by 32 bytes at a time where the items begin at a whole byte, else by words.
 ///
 /// arrow2 has no such call.
 ///
@@ -141,9 +141,9 @@ pub fn unary_table(lhs: &Bitmap, t: u8) -> Result<Bitmap>
     }
 }
 
-/// Returns, item by item, the output of table `t` of two inputs: bit `a1 + 2 * a2` of `t`. Goes by 32 bytes at a time
-/// where both begin at a whole byte, else by words. Reads the four lowest bits of `t`. Requires that both have one
-/// length.
+/// Returns, item by item, the output of the truth table `t`: bit `a + 2 * b` of `t`, where `a` and `b` are the items of
+/// `lhs` and `rhs` as 0 or 1. Reads the four lowest bits of `t`. Requires that both have one length. Goes by 32 bytes
+/// at a time where both begin at a whole byte, else by words.
 ///
 /// arrow2 has no such call.
 ///

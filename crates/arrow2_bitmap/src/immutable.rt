@@ -42,7 +42,7 @@ use std::rc::Rc;
 use std::{fmt, mem};
 
 /// A bitmap over shared bytes: contracts see the bytes, the bit at which its items begin, and the number of items.
-/// Slices and clones share the bytes, all of them on one thread: by an `Rc`, where arrow2 has an `Arc`.
+/// Slices and clones share the bytes by an `Rc`, so all of them are on one thread. arrow2 has an `Arc`.
 ///
 /// # Examples
 ///
@@ -92,12 +92,12 @@ impl Bitmap {
         Bitmap::from_u8_vec(Vec::new(alloc), 0)
     }
 
-    /// Returns the first `length` bits of the bytes, which it keeps, every one.
+    /// Returns a bitmap of the first `length` bits of `bytes`. It keeps the whole vector.
     ///
     /// # Errors
     ///
-    /// `InvalidArgumentError` exactly if `length` is above eight times the number of bytes, or `OutOfMemory` there,
-    /// where the allocation of its text fails; else `OutOfMemory` alone. After each the bytes are dropped.
+    /// `InvalidArgumentError` exactly if `length` is above eight times the number of bytes, or `OutOfMemory` if the
+    /// message cannot be allocated. Otherwise the only error is `OutOfMemory`. After an error the bytes are dropped.
     pub fn try_new(bytes: Vec<u8>, length: usize) -> Result<Bitmap>
         ensures accepted { OnOk result (length ≤ 8 * vec_len bytes) }
         ensures ok { IfOk result (λ b. b ≡ record {
@@ -116,8 +116,8 @@ impl Bitmap {
         Bitmap::from_u8_vec(bytes, length)
     }
 
-    /// Returns the first `length` bits of the bytes, which it keeps, every one. Requires `length` to be at most eight
-    /// times the number of bytes; arrow2's documentation states the contrary.
+    /// Returns a bitmap of the first `length` bits of `bytes`. It keeps the whole vector. Requires `length` to be at
+    /// most eight times the number of bytes; arrow2's documentation states the contrary.
     ///
     /// # Errors
     ///
@@ -161,8 +161,8 @@ impl Bitmap {
         })
     }
 
-    /// Returns the first `length` bits of a copy of the bytes, every one. Requires `length` to be at most eight times
-    /// the number of bytes; arrow2's documentation states the contrary.
+    /// Returns a bitmap of the first `length` bits of a copy of `bytes`. It keeps the whole copy. Requires `length` to
+    /// be at most eight times the number of bytes; arrow2's documentation states the contrary.
     ///
     /// # Errors
     ///
@@ -218,7 +218,7 @@ impl Bitmap {
     ///
     /// # Errors
     ///
-    /// `Overflow` only after `usize::MAX` items and one more, else `OutOfMemory` alone.
+    /// `Overflow`, only after `usize::MAX` items and one more, or `OutOfMemory`.
     pub fn try_from_iter<I: IntoIterator<Item = bool>>(alloc: Global, iter: I) -> Result<Bitmap>
         requires { (it : I.IntoIter) → I.into_iter_gives iter it →
             I.IntoIter.can_next it × IsFinite (I.IntoIter.remaining it) }
@@ -328,9 +328,9 @@ impl Bitmap {
         self.length
     }
 
-    /// Returns the allocator of its bytes: a new bitmap can be made with it.
+    /// Returns the allocator of its bytes. A new bitmap can be made with it.
     ///
-    /// In arrow2 an allocator has no value.
+    /// arrow2 has no such call, since its calls take no allocator.
     pub fn allocator(&self) -> Global
         ensures { (only : Global) → result ≡ only }
     {
@@ -352,7 +352,7 @@ impl Bitmap {
         BitmapIter::within(self.bytes.as_slice(), self.offset, self.length)
     }
 
-    /// Returns item `index`, or `None` past the length.
+    /// Returns item `index`, or `None` if `index` is not below the length.
     pub fn get(&self, index: usize) -> Option<bool>
         ensures { result ≡ slice_get (items_of self.now) index }
     {
@@ -363,7 +363,8 @@ impl Bitmap {
         }
     }
 
-    /// Returns item `index`. Requires that it is below the length; arrow2 takes each index inside the bytes.
+    /// Returns item `index`. Requires that it is below the length. arrow2 also accepts an index past the length, if its
+    /// bit is inside the bytes.
     pub fn get_bit(&self, index: usize) -> bool
         requires below { index < length (items_of self.now) }
         ensures { result ≡ slice_index_or (items_of self.now) index false }
@@ -372,8 +373,8 @@ impl Bitmap {
         get_bit(self.bytes.as_slice(), self.offset + index)
     }
 
-    /// Returns the bytes that hold its items, the bit of the first of them at which the items begin, below 8, and the
-    /// number of items.
+    /// Returns the bytes that hold its items, the bit of the first byte at which the items begin, and the number of
+    /// items. The bit is below 8.
     pub fn as_slice(&self) -> (&[u8], usize, usize)
         ensures bytes { result.0.now ≡ part self.now.bytes (self.now.offset / 8)
             ((self.now.offset % 8 + self.now.len + 7) / 8) }
@@ -393,7 +394,8 @@ impl Bitmap {
         )
     }
 
-    /// Returns the items by words of `T`, from the first item on.
+    /// Returns an iterator over the items by words of `T`, from the first item on. In the contract `spill` is the word
+    /// that its `remainder` returns: the items after the last full word, and above them the bits that are stored there.
     pub fn chunks<T: BitChunk>(&self) -> BitChunks<'_, T>
         ensures items { result.items ≡ items_of self.now }
         ensures fits { length (items_of self.now) < 2 ^ 64 }
@@ -417,8 +419,8 @@ impl Bitmap {
         self.unset_bits()
     }
 
-    /// Returns how many of the `length` items from item `offset` on are false. Requires that they are inside. Counts
-    /// them anew. arrow2 counts past its end, up to the bytes.
+    /// Returns how many of the `length` items from item `offset` on are false. Counts them anew. Requires that they are
+    /// inside. arrow2 also accepts a range that ends past the length, if its bits are inside the bytes.
     pub fn null_count_range(&self, offset: usize, length: usize) -> usize
         requires inside { offset + length ≤ length' (items_of self.now) }
         ensures { result ≡ falses (part (items_of self.now) offset length) }
@@ -427,8 +429,8 @@ impl Bitmap {
         count_zeros(self.bytes.as_slice(), self.offset + offset, length)
     }
 
-    /// Keeps `length` items from item `offset` on, over the same bytes. Requires that they are inside. Does not
-    /// allocate.
+    /// Keeps only the `length` items from item `offset` on, over the same bytes. Requires that they are inside. Does
+    /// not allocate.
     pub fn slice(&mut self, offset: usize, length: usize)
         requires inside { offset + length ≤ length' (items_of self.old) }
         ensures storage { self.new ≡ record {
@@ -442,8 +444,8 @@ impl Bitmap {
         self.slice_counted(offset, length, &mut Reads::new());
     }
 
-    /// Slices as [`Bitmap::slice`] does, and adds the bytes that it reads to `reads`: at most a sixteenth of the items
-    /// that were there, and four.
+    /// Slices as [`Bitmap::slice`] does, and adds to `reads` the number of bytes that it reads: at most `L / 16 + 4`,
+    /// where `L` is the number of items before the slice.
     ///
     /// arrow2 counts no reads.
     pub fn slice_counted(&mut self, offset: usize, length: usize, reads: &mut Reads)
@@ -504,8 +506,11 @@ impl Bitmap {
         (self.bytes, self.offset, self.length, self.unset_bits)
     }
 
-    /// Returns the bitmap to be changed in place, on the right, where no one shares the bytes and the items begin at
-    /// bit 0; else the bitmap as it was, on the left. Does not allocate.
+    /// Returns a bitmap that is changed in place, on the right, if nobody shares the bytes and the items begin at bit
+    /// 0. Otherwise returns the bitmap as it was, on the left. Does not allocate.
+    ///
+    /// It is proved that the left side is the bitmap as it was, and that the right side has the same items and comes
+    /// only where they begin at bit 0. It is not proved that the right side comes whenever nobody shares the bytes.
     pub fn into_mut(self) -> Either<Bitmap, MutableBitmap>
         ensures { MatchEither result (λ b. b ≡ self) (λ m. (self.offset ≡ 0)
             × (m.items ≡ items_of self)) }
@@ -530,8 +535,8 @@ impl Bitmap {
         }
     }
 
-    /// Returns the bitmap to be changed: in place where [`Bitmap::into_mut`] can, else a copy. arrow2 returns no
-    /// `Result`.
+    /// Returns a bitmap with the same items that can be changed: over the same bytes if [`Bitmap::into_mut`] gives the
+    /// right side, otherwise a copy. arrow2 returns no `Result`.
     ///
     /// # Errors
     ///
@@ -622,7 +627,8 @@ impl Eq for Bitmap {
     ghost laws = { on_equiv items_of (lists_equiv bool_eq_equiv) };
 }
 
-/// Shares the bytes. Does not allocate: it fails only where the reference count would overflow.
+/// Shares the bytes. Does not allocate: in the code it fails only if the reference count would overflow. No clause
+/// states that.
 impl Clone for Bitmap {
     ghost is_clone = { λ a b. b ≡ a };
 

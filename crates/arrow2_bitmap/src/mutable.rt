@@ -69,14 +69,14 @@ impl MutableBitmap {
         }
     }
 
-    /// Returns the first `length` bits of the bytes. Spare bytes are cut and padding bits cleared, in place, and the
-    /// capacity of the vector stays. Does not allocate where the bytes have `length` bits. In arrow2 spare bytes stay,
+    /// Returns a bitmap of the first `length` bits of `bytes`, in their vector. It cuts spare bytes off, clears padding
+    /// bits and keeps the capacity. Does not allocate where the bytes have `length` bits. In arrow2 spare bytes stay,
     /// and `push` may write into the wrong byte.
     ///
     /// # Errors
     ///
-    /// `InvalidArgumentError` exactly if `length` is above eight times the number of bytes, or `OutOfMemory` there,
-    /// where the allocation of its text fails. The bytes are then dropped.
+    /// `InvalidArgumentError` exactly if `length` is above eight times the number of bytes, or `OutOfMemory` if the
+    /// message cannot be allocated. There is no other error. After an error the bytes are dropped.
     pub fn try_new(bytes: Vec<u8>, length: usize) -> Result<MutableBitmap>
         ensures accepted { IsOk result ↔ (length ≤ 8 * vec_len bytes) }
         ensures ok { IfOk result (λ m. m.items ≡ take length (bits bytes.items)) }
@@ -89,8 +89,8 @@ impl MutableBitmap {
         Ok(MutableBitmap::from_vec(bytes, length))
     }
 
-    /// Returns the first `length` bits of the bytes. Requires `length` to be at most eight times the number of bytes.
-    /// Spare bytes are cut and padding bits cleared, in place, and the capacity of the vector stays. Does not allocate.
+    /// Returns a bitmap of the first `length` bits of `bytes`, in their vector. It cuts spare bytes off, clears padding
+    /// bits and keeps the capacity. Requires `length` to be at most eight times the number of bytes. Does not allocate.
     /// In arrow2 spare bytes stay, and `push` may write into the wrong byte.
     pub fn from_vec(bytes: Vec<u8>, length: usize) -> MutableBitmap
         requires inside { length ≤ 8 * vec_len bytes }
@@ -152,7 +152,7 @@ impl MutableBitmap {
     ///
     /// # Errors
     ///
-    /// `Overflow` only after `usize::MAX` items and one more, else `OutOfMemory` alone.
+    /// `Overflow`, only after `usize::MAX` items and one more, or `OutOfMemory`.
     pub fn try_from_iter<I: IntoIterator<Item = bool>>(
         alloc: Global,
         iter: I,
@@ -261,9 +261,9 @@ impl MutableBitmap {
         Ok(())
     }
 
-    /// Gives back unused capacity, where the allocator takes it. arrow2 returns no `Result`.
+    /// Frees unused capacity if the allocator can. Always returns `Ok`. arrow2 returns no `Result`.
     ///
-    /// It never fails: where the smaller block cannot be allocated, the items stay where they are.
+    /// If the smaller block cannot be allocated, the items stay where they are.
     pub fn shrink_to_fit(&mut self) -> Result<()>
         ensures ok { IsOk result }
         ensures items { self.new.items ≡ self.old.items }
@@ -310,7 +310,8 @@ impl MutableBitmap {
         self.bits.pop()
     }
 
-    /// Returns item `index`. Requires that it is below the length; arrow2 takes each index inside the bytes.
+    /// Returns item `index`. Requires that it is below the length. arrow2 also accepts an index past the length, if its
+    /// bit is inside the bytes.
     pub fn get(&self, index: usize) -> bool
         requires below { index < length self.now.items }
         ensures { result ≡ slice_index_or self.now.items index false }
@@ -319,8 +320,8 @@ impl MutableBitmap {
         get_bit(self.as_slice(), index)
     }
 
-    /// Writes item `index`, and leaves every other. Requires that it is below the length; arrow2 takes each index
-    /// inside the bytes.
+    /// Writes item `index`, and leaves every other. Requires that it is below the length. arrow2 also accepts an index
+    /// past the length, if its bit is inside the bytes.
     pub fn set(&mut self, index: usize, value: bool)
         requires below { index < length self.old.items }
         ensures items { self.new.items ≡ slice_set self.old.items index value }
@@ -361,9 +362,9 @@ impl MutableBitmap {
         self.bits.len()
     }
 
-    /// Returns the allocator of its bytes: a new bitmap can be made with it.
+    /// Returns the allocator of its bytes. A new bitmap can be made with it.
     ///
-    /// In arrow2 an allocator has no value.
+    /// arrow2 has no such call, since its calls take no allocator.
     pub fn allocator(&self) -> Global
         ensures { (only : Global) → result ≡ only }
     {
@@ -391,8 +392,8 @@ impl MutableBitmap {
         self.unset_bits()
     }
 
-    /// Returns the bytes of its items: exactly those that the items need, with padding bits false. In arrow2 padding
-    /// bits show. Spare bytes don't show there either.
+    /// Returns the bytes of its items: as many as the items need, with padding bits false. arrow2 returns as many
+    /// bytes, but padding bits may be true there.
     pub fn as_slice(&self) -> &[u8]
         ensures bytes { result.now ≡ canonical_bytes self.now.items }
         ensures items { take (length self.now.items) (bits result.now) ≡ self.now.items }

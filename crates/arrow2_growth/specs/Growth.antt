@@ -18,7 +18,7 @@ pub record Appends {T E : Type 0} (told : Refusal → E) (r : Result T E) (old n
   pub overflow : IsErrOf r (told Overflow) ↔ (2 ^ 64 ≤ length old.items + length more)
   -- there is no other error but out of memory
   pub only : IfErr r (λ e. (e ≡ told Overflow) ⊎ (e ≡ told OutOfMemory))
-  -- within the capacity it does not allocate
+  -- within the capacity it succeeds
   pub succeeds : length old.items + length more ≤ old.capacity → IsOk r
   -- the capacity never falls
   pub capacity : old.capacity ≤ new.capacity
@@ -27,7 +27,7 @@ pub record Appends {T E : Type 0} (told : Refusal → E) (r : Result T E) (old n
 pub record Pushes {T E : Type 0} (r : Result T E) (old new : GrowingBitmap) (more : List Bool) : Type 0 where
   -- they come after the others
   pub ok : OnOk r (new.items ≡ old.items ++ more)
-  -- within the capacity it does not allocate
+  -- within the capacity it succeeds
   pub succeeds : length old.items + length more ≤ old.capacity → IsOk r
   -- the capacity never falls
   pub capacity : old.capacity ≤ new.capacity

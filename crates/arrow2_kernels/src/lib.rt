@@ -1,4 +1,4 @@
-//! Functions of words over lists of booleans: the loops, which know bytes and words alone.
+//! The loops that apply word functions to lists of booleans. They work on bytes and words alone.
 #![tactic(auto)]
 
 pub mod assigned;

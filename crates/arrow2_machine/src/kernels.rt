@@ -44,7 +44,7 @@ pub(crate) fn run(
     Ok(())
 }
 
-/// Returns the bitmap that a kernel makes of frozen bitmaps.
+/// Returns the bitmap that an operator or a table makes of frozen bitmaps.
 ///
 /// # Errors
 ///

@@ -89,7 +89,7 @@ fn of_rows(bitmap: &Bitmap) -> Result<Bitmap> {
     )
 }
 
-/// Functions of words.
+/// Word functions.
 fn by_words(bitmap: &Bitmap) -> [Row<Bitmap>; 5] {
     [
         ("unary", unary(bitmap, |x| x << 1)),

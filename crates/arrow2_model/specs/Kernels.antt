@@ -1,6 +1,6 @@
--- Functions of words on lists of booleans: each list is read as words of some width, the last one filled with false,
--- and the results are a list again (Arrow columnar format, "Validity bitmaps": a computation by words has to specify
--- what it does with the bits after the last item).
+-- Word functions on lists of booleans: each list is read as words of some width, the last one filled with false, and
+-- the bits of the results are a list again (Arrow columnar format, "Validity bitmaps": a computation by words has to
+-- specify what it does with the bits after the last item).
 use Rattle.std.specs.Prelude.{◌≡◌, ℕ, ◌*◌, ◌<◌, ◌^◌, List, [], ◌∷◌, Bool, map, take, length, slice_index, slice_index_or}
 use Rattle.std.specs.List.{flat_map, range_with_len}
 use Rattle.std.specs.Int.{div_ceil}
@@ -23,12 +23,12 @@ common_length lists = length (slice_index_or lists 0 [])
 unfoldable pub joined : ℕ → (ℕ → ℕ) → ℕ → List Bool
 joined w word_of n = take n (flat_map (λ j. unnum w (word_of j)) (range_with_len 0 (div_ceil n w)))
 
--- the kernel of a function of words, on lists of one length: its results for word j of each list, for each j in turn,
--- and of all these bits the first ones, one for each item of the lists
+-- the list that a word function gives for lists of one length: the bits of its results for word j of each list, for
+-- each j in turn, and of all these bits the first ones, one for each item of the lists
 unfoldable pub kernel : ℕ → (List ℕ → ℕ) → List (List Bool) → List Bool
 kernel w f lists = joined w (λ j. f (words_at w lists j)) (common_length lists)
 
--- the kernel of a function of one word, of two, of three and of four
+-- the same of a word function of one word, of two, of three and of four
 unfoldable pub unary_kernel : ℕ → (ℕ → ℕ) → List Bool → List Bool
 unary_kernel w f a = kernel w (λ xs. f (slice_index xs 0)) (a ∷ [])
 
@@ -45,7 +45,7 @@ quaternary_kernel w f a b c d = kernel w (λ xs. f (slice_index xs 0) (slice_ind
 abbrev pub AreWords : ℕ → List ℕ → Type 0
 AreWords w xs = (k : ℕ) → slice_index xs k < 2 ^ w
 
--- the results that a word function may give are, for each word, or words, of w bits, that of f
+-- for each word, or words, of w bits each result that a closure may give is that of the word function f
 abbrev pub IsUnary : {X : Type 0} → ℕ → (X → ℕ) → (X → X → Type 0) → (ℕ → ℕ) → Type 0
 IsUnary {X} w number gives f = (x r : X) → number x < 2 ^ w → gives x r → number r ≡ f (number x)
 

@@ -20,7 +20,7 @@ each t lists = map (λ i. answer t (items_at lists i)) (range_with_len 0 (common
 abbrev pub bits_at : List ℕ → ℕ → List Bool
 bits_at xs i = map (λ x. bit x i) xs
 
--- a function of words that acts on each of the first w bits by table t
+-- a word function that acts on each of the first w bits by table t
 abbrev pub Acts : ℕ → ℕ → (List ℕ → ℕ) → Type 0
 Acts t w f = (xs : List ℕ) (i : ℕ) → AreWords w xs → i < w → bit (f xs) i ≡ answer t (bits_at xs i)
 

@@ -122,14 +122,14 @@ pub fn a_comparison_tells_lists_apart()
     ensures { (xs ys : List Bool) → IsTrue (pointwise beq xs ys) ↔ (xs ≡ ys) }
 {}
 
-/// The words of which kernels are made are those of the list.
+/// The words that a word function is given are those of the list.
 #[tactic(auto, using(crate::proofs::Kernels::kernels))]
 pub fn kernels_go_by_the_words_of_a_list()
     ensures { (w : ℕ) (items : List Bool) (j : ℕ) → j < div_ceil (length items) w →
         slice_index (words w items) j ≡ word w items j }
 {}
 
-/// A function of words that acts on each bit by one table has that table, item by item, as its kernel.
+/// A word function that acts on each bit by one table gives the output of that table item by item.
 #[tactic(auto, using(crate::proofs::Kernels::kernels))]
 pub fn a_function_bit_by_bit_is_its_table()
     ensures { (w t : ℕ) (f : List ℕ → ℕ) (lists : List (List Bool)) → 0 < w → Acts t w f →

@@ -5,19 +5,20 @@ use Rattle.arrow2_offset.specs.declared.check.BrokenRule.TheVariants.{Empty, Neg
 use Rattle.arrow2_types.specs.declared.error.Error.{Error}
 use Rattle.arrow2_types.specs.declared.error.Error.TheVariants.{OutOfSpec, OutOfMemory}
 
--- the first rule that a list breaks which is not offsets
+-- the rule that a list breaks which is not offsets: that there is a number; else that the first is not negative; else
+-- that none is below the one before it
 abbrev pub first_broken : List ℤ → BrokenRule
 first_broken [] = Empty
 first_broken (negsuc n ∷ xs) = Negative
 first_broken (pos n ∷ xs) = Falling
 
--- the words for a list that breaks this rule first
+-- the words for a list that breaks this rule
 abbrev pub rule_words : BrokenRule → List ℕ
 rule_words Empty = codes "offsets must have at least one element"
 rule_words Negative = codes "offsets must be larger than 0"
 rule_words Falling = codes "offsets must be monotonically increasing"
 
--- the words for a list that is not offsets: those of the first rule that it breaks
+-- the words for a list that is not offsets: those of that rule
 abbrev pub why_not_offsets : List ℤ → List ℕ
 why_not_offsets xs = rule_words (first_broken xs)
 

@@ -7,7 +7,7 @@ use arrow2_index::offset::Offset;
 use arrow2_types::error::{Error, Result};
 use std::alloc::{AllocError, Global};
 
-/// The first rule of offsets that a list breaks.
+/// The rule of offsets that a list breaks: the first of these three faults that it has.
 #[derive(Clone, Copy, Debug, PartialEq, Eq)]
 pub enum BrokenRule {
     /// There is no offset at all.
@@ -18,7 +18,7 @@ pub enum BrokenRule {
     Falling,
 }
 
-/// Returns the first rule that the numbers break, or `None` where they are offsets. Does not allocate.
+/// Returns the rule that the numbers break, or `None` where they are offsets. Does not allocate.
 ///
 /// In arrow2 the test is private, and returns an error with a text.
 pub fn broken_rule<O: Offset>(offsets: &[O]) -> Option<BrokenRule>
@@ -40,7 +40,7 @@ pub fn broken_rule<O: Offset>(offsets: &[O]) -> Option<BrokenRule>
     None
 }
 
-/// Returns an error where the items are not offsets, with the text of the first rule that they break.
+/// Returns an error where the items are not offsets, with the text of the rule that they break.
 pub(crate) fn try_check_offsets<O: Offset>(alloc: Global, offsets: &[O]) -> Result<()>
     ensures ok { OnOk result (AreOffsetsUpTo O.MAX (map O.value offsets.now)) }
     ensures accepted { AreOffsets (map O.value offsets.now) → IsOk result }

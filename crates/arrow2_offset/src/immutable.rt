@@ -261,8 +261,8 @@ impl<O: Offset> OffsetsBuffer<O> {
 ///
 /// # Errors
 ///
-/// `OutOfSpec` exactly where the items are not offsets, with the text of the first rule that they break, or
-/// `OutOfMemory` there, where the allocation of the text fails. The buffer is then dropped.
+/// `OutOfSpec` exactly where the items are not offsets, with the text of the rule that they break, or
+/// `OutOfMemory` if the message cannot be allocated. The buffer is then dropped.
 impl<O: Offset> TryFrom<Buffer<O>> for OffsetsBuffer<O> {
     type Error = Error;
 
@@ -281,8 +281,8 @@ impl<O: Offset> TryFrom<Buffer<O>> for OffsetsBuffer<O> {
 ///
 /// # Errors
 ///
-/// `OutOfSpec` exactly where the items are not offsets, with the text of the first rule that they break, or
-/// `OutOfMemory` there, where the allocation of the text fails; else `OutOfMemory` alone. The vector is then dropped.
+/// `OutOfSpec` exactly where the items are not offsets, with the text of the rule that they break, or
+/// `OutOfMemory` if the message cannot be allocated; else `OutOfMemory` alone. The vector is then dropped.
 impl<O: Offset> TryFrom<Vec<O>> for OffsetsBuffer<O> {
     type Error = Error;
 

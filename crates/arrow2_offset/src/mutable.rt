@@ -478,8 +478,8 @@ impl<O: Offset> Offsets<O> {
 ///
 /// # Errors
 ///
-/// `OutOfSpec` exactly where the items are not offsets, with the text of the first rule that they break, or
-/// `OutOfMemory` there, where the allocation of the text fails. The vector is then dropped.
+/// `OutOfSpec` exactly where the items are not offsets, with the text of the rule that they break, or
+/// `OutOfMemory` if the message cannot be allocated. The vector is then dropped.
 impl<O: Offset> TryFrom<Vec<O>> for Offsets<O> {
     type Error = Error;
 

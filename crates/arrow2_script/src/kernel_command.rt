@@ -9,7 +9,7 @@ use crate::words::{Below, SlotIndex, Width};
 /// A command that combines bitmaps.
 #[derive(Drop)]
 pub enum KernelCommand {
-    /// `and d a b`, `table1 d t a` and their like: slot d holds, frozen, the result of a kernel for frozen bitmaps.
+    /// `and d a b`, `table1 d t a` and their like: slot d holds, frozen, the result for frozen bitmaps.
     Make(SlotIndex, Kernel),
     /// `inplace1 s t w`: the growing bitmap of slot s becomes the outputs of table t, the same for each width w of
     /// words.
@@ -19,7 +19,7 @@ pub enum KernelCommand {
     AssignBinary(SlotIndex, Below<16>, Width, SlotIndex),
 }
 
-/// The kernels that make a bitmap of the frozen bitmaps of slots.
+/// The operators and tables that make a bitmap of the frozen bitmaps of slots.
 #[derive(Drop)]
 pub enum Kernel {
     /// Item by item, whether both are true.

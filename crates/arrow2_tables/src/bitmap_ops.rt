@@ -1,4 +1,4 @@
-//! New bitmaps from three and four bitmaps: functions of words, and truth tables.
+//! New bitmaps from three and four bitmaps: word functions, and truth tables.
 ghost use Rattle.std.specs.Prelude.{◌≡◌, ℕ, [], ◌∷◌, length as length', IfOk, IfErr};
 ghost use Rattle.arrow2_model.specs.Kernels.{ternary_kernel, quaternary_kernel, IsTernary, IsQuaternary};
 ghost use Rattle.arrow2_model.specs.Storage.{items_of};
@@ -115,8 +115,8 @@ fn pair<'a>(left: &'a Bitmap, right: &'a Bitmap) -> Pair<'a>
     }
 }
 
-/// Returns the outputs of table `t` of three inputs, item by item: bit `a1 + 2 * a2 + 4 * a3` of `t`. Requires that all
-/// have one length.
+/// Returns, item by item, the output of the truth table `t`: bit `a + 2 * b + 4 * c` of `t`, where `a`, `b` and `c` are
+/// the items of `a1`, `a2` and `a3` as 0 or 1. Requires that all have one length.
 ///
 /// arrow2 has no such call.
 ///
@@ -135,8 +135,8 @@ pub fn ternary_table(a1: &Bitmap, a2: &Bitmap, a3: &Bitmap, t: u8) -> Result<Bit
     ternary(a1, a2, a3, |x, y, z| ternary_answers(u16::from(t), x, y, z))
 }
 
-/// Returns the outputs of table `t` of four inputs, item by item: bit `a1 + 2 * a2 + 4 * a3 + 8 * a4` of `t`. Requires
-/// that all have one length.
+/// Returns, item by item, the output of the truth table `t`: bit `a + 2 * b + 4 * c + 8 * d` of `t`, where `a` to `d`
+/// are the items of `a1` to `a4` as 0 or 1. Requires that all have one length.
 ///
 /// arrow2 has no such call.
 ///

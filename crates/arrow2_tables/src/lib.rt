@@ -1,4 +1,4 @@
-//! Kernels of three and of four bitmaps, and their truth tables.
+//! Word functions and truth tables of three and of four bitmaps.
 #![tactic(auto)]
 
 pub mod bitmap_ops;

@@ -21,7 +21,7 @@ pub enum BrokenTexts {
 /// The fault of numbers and bytes that are no offsets with texts between them.
 #[derive(Clone, Copy, Debug, PartialEq, Eq)]
 pub enum BrokenTextArray {
-    /// The numbers are not offsets: the first rule that they break.
+    /// The numbers are not offsets: the rule that they break.
     Offsets(BrokenRule),
     /// The numbers are offsets, and the bytes between them are not all texts.
     Texts(BrokenTexts),
@@ -76,7 +76,7 @@ pub fn try_check_utf8<O: Offset>(
 ///
 /// # Errors
 ///
-/// `Offsets` exactly where the numbers are not offsets, with the first rule that they break; else `Texts` exactly where
+/// `Offsets` exactly where the numbers are not offsets, with the rule that they break; else `Texts` exactly where
 /// [`try_check_utf8`] returns an error, with that error.
 pub fn try_check_offsets_and_utf8<O: Offset>(
     offsets: &[O],
