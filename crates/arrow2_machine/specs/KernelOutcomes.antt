@@ -44,8 +44,8 @@ two_answered t a b = do
   lists ← two_lists a b
   Ok (each t (lists.0 ∷ lists.1 ∷ []))
 
--- the slots after a command that combines bitmaps: the operators are tables too, as `and` is the one whose only set bit is that of two true
--- inputs
+-- the list that an operator or a table makes: the operators are tables too, as `and` is the one whose only set bit is
+-- that of two true inputs
 unfoldable pub made : List Held → Kernel → Result (List Bool) Refusal
 made slots (kernel.And a b) = two_answered 8 (at slots a) (at slots b)
 made slots (kernel.Or a b) = two_answered 14 (at slots a) (at slots b)
