@@ -68,8 +68,8 @@ impl BooleanArray {
     ///
     /// # Errors
     ///
-    /// `InvalidArgumentError` exactly if the lengths differ, or `OutOfMemory` there, if its text cannot be allocated.
-    /// Both are then dropped.
+    /// `InvalidArgumentError` exactly if the lengths differ, or `OutOfMemory` if the message cannot be allocated. There
+    /// is no other error. After an error both are dropped.
     pub fn try_new(values: Bitmap, validity: Option<Bitmap>) -> Result<BooleanArray>
         ensures ok { IfOk result (λ a. a ≡ record {
           values = values;
@@ -377,7 +377,7 @@ impl<'a> IntoIterator for &'a BooleanArray {
     }
 }
 
-/// Shares the bytes. Does not allocate: it fails only where a reference count would overflow.
+/// Shares the bytes. Does not allocate: in the code it fails only if a reference count would overflow.
 impl Clone for BooleanArray {
     ghost is_clone = { λ a copy. copy ≡ a };
 

@@ -87,8 +87,8 @@ impl DoubleEndedIterator for IntoIter {
     }
 }
 
-/// The same items still to come, over the same bytes. Does not allocate: it fails only where the reference count would
-/// overflow.
+/// The same items still to come, over the same bytes. Does not allocate: in the code it fails only if the reference
+/// count would overflow.
 impl Clone for IntoIter {
     ghost is_clone = { λ i copy. copy ≡ i };
 

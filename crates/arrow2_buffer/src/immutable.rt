@@ -160,11 +160,12 @@ impl<T> Buffer<T> {
         self
     }
 
-    /// Returns the items, to be written, where no one else shares the storage; `None` elsewhere. Does not allocate.
-    /// Afterwards the buffer holds the items that were written there, and the rest of the storage is as it was.
+    /// Returns the items, to be written, if nobody else shares the storage; otherwise `None`. Does not allocate.
+    /// Afterwards the buffer holds the items that were written there, and the rest of the storage is as it was. No
+    /// clause states when it returns the items.
     ///
-    /// A caller that is proved uses [`Buffer::change_slice`], since it learns nothing of a loan inside
-    /// an `Option`.
+    /// A caller with a contract of its own uses [`Buffer::change_slice`], since the prover knows nothing of a `&mut`
+    /// inside an `Option`.
     pub fn get_mut_slice(&mut self) -> Option<&mut [T]>
         ensures* writes_back { sem 𝓛 (LendsItems T.row self.entry result) }
         ensures value { IfSome result (λ r. r.now ≡ buffer_items self.old) }
@@ -174,8 +175,8 @@ impl<T> Buffer<T> {
         lend_unshared(&mut self.storage, start, end)
     }
 
-    /// Changes the items in place by `change` where no one else shares the storage, and returns whether it did. Does
-    /// not allocate. Requires that `change` may be called on the items.
+    /// Changes the items in place by `change` if nobody else shares the storage, and returns whether it did. No clause
+    /// states when it does. Does not allocate. Requires that `change` may be called on the items.
     ///
     /// arrow2 has [`Buffer::get_mut_slice`] alone.
     pub fn change_slice<F: FnOnce(&mut [T])>(&mut self, change: F) -> bool
@@ -201,8 +202,11 @@ impl<T> Buffer<T> {
         (self.storage, self.offset, self.len)
     }
 
-    /// Returns the vector where no one shares the storage and nothing is sliced off, and the buffer itself elsewhere.
-    /// Either side holds the same list. Does not allocate.
+    /// Returns the vector, on the right, if nobody shares the storage and nothing is sliced off; otherwise the buffer
+    /// as it was, on the left. Does not allocate.
+    ///
+    /// It is proved that the left side is the buffer as it was, and that the right side has the same items and comes
+    /// only if nothing is sliced off. It is not proved that the right side comes whenever nobody shares the storage.
     ///
     /// Differs from arrow2, which gives the whole vector of a sliced buffer.
     pub fn into_mut(self) -> Either<Self, Vec<T>>
@@ -364,7 +368,8 @@ impl<T: fmt::Debug> fmt::Debug for Buffer<T> {
     }
 }
 
-/// The same storage, offset and length. Does not allocate: it fails only where the reference count would overflow.
+/// The same storage, offset and length. Does not allocate: in the code it fails only if the reference count would
+/// overflow.
 impl<T: Drop> Clone for Buffer<T> {
     ghost is_clone = { λ b copy. copy ≡ b };
 

@@ -93,7 +93,8 @@ impl<T: Copy> ExactSizeIterator for IntoIter<T> {
     }
 }
 
-/// The same items still to come. Does not allocate: it fails only where the buffer's reference count would overflow.
+/// The same items still to come. Does not allocate: in the code it fails only if the buffer's reference count would
+/// overflow.
 impl<T: Copy> Clone for IntoIter<T> {
     ghost is_clone = { λ i copy. copy ≡ i };
 

@@ -71,8 +71,11 @@ impl<O: Offset> OffsetsBuffer<O> {
         OffsetsBuffer::try_from(Offsets::new(alloc)?)
     }
 
-    /// Returns the offsets that grow, where no one shares the storage and nothing is sliced off, and the offsets
-    /// themselves elsewhere. Either side holds the same list. Does not allocate.
+    /// Returns offsets that grow, on the right, if nobody shares the storage and nothing is sliced off; otherwise the
+    /// offsets as they were, on the left. Does not allocate.
+    ///
+    /// It is proved that the left side is the offsets as they were, and that the right side has the same list and comes
+    /// only if nothing is sliced off. It is not proved that the right side comes whenever nobody shares the storage.
     ///
     /// Differs from arrow2, which gives the whole storage of sliced offsets.
     pub fn into_mut(self) -> Either<Self, Offsets<O>>
@@ -331,8 +334,8 @@ impl<O: Offset> Index<usize> for OffsetsBuffer<O> {
     }
 }
 
-/// Returns the same storage, index and number of offsets. Does not allocate: it fails only where the reference count
-/// would overflow.
+/// Returns the same storage, index and number of offsets. Does not allocate: in the code it fails only if the reference
+/// count would overflow.
 impl<O: Offset> Clone for OffsetsBuffer<O> {
     ghost is_clone = { λ b copy. copy ≡ b };
 

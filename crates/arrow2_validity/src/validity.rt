@@ -64,8 +64,8 @@ impl Validity {
     ///
     /// # Errors
     ///
-    /// `InvalidArgumentError` exactly if the bitmap has another length, or `OutOfMemory` there, if its text cannot be
-    /// allocated. The bitmap is then dropped.
+    /// `InvalidArgumentError` exactly if the bitmap has another length, or `OutOfMemory` if the message cannot be
+    /// allocated. After an error the bitmap is dropped.
     pub fn try_new(len: usize, bitmap: Option<Bitmap>) -> Result<Validity>
         ensures ok { IfOk result (λ v. v ≡ record { len = len; bitmap = bitmap }) }
         ensures len { IfOk result (λ v. length (valid_items v) ≡ len) }
@@ -146,8 +146,9 @@ impl Validity {
         self.bitmap
     }
 
-    /// Returns the bitmap as it grows, where nobody else shares its bytes and its items begin at bit 0, else the
-    /// validity as it was. Without a bitmap it is one of true items.
+    /// Returns a bitmap that grows, on the right, if nobody else shares the bytes and the items begin at bit 0;
+    /// otherwise the validity as it was, on the left. Without a bitmap it makes one of true items alone. No clause
+    /// states when the right side comes.
     ///
     /// # Errors
     ///
@@ -207,7 +208,7 @@ impl Validity {
     }
 }
 
-/// Shares the bytes. Does not allocate: it fails only where a reference count would overflow.
+/// Shares the bytes. Does not allocate: in the code it fails only if a reference count would overflow.
 impl Clone for Validity {
     ghost is_clone = { λ a copy. copy ≡ a };
 
@@ -235,7 +236,7 @@ fn append_part(bitmap: &Bitmap, start: usize, len: usize, grown: &mut MutableBit
 ///
 /// # Errors
 ///
-/// `InvalidArgumentError` exactly if the lengths differ, or `OutOfMemory` there, if its text cannot be allocated.
+/// `InvalidArgumentError` exactly if the lengths differ, or `OutOfMemory` if the message cannot be allocated.
 pub fn check_same_length(values: usize, validity: &Bitmap) -> Result<()>
     ensures accepted { IsOk result ↔ (length (items_of validity.now) ≡ values) }
     ensures refused { IfErr result (λ e.
