@@ -1,6 +1,6 @@
 /* Checks each batch of a stream of the Arrow C data interface, and prints a table of its columns.
  *
- *   check_stream                 a stream made here: two batches, the second of which has a text that is no UTF-8
+ *   check_stream                 a stream made here: the batches of make_batch
  *   check_stream FILE [ROWS]     a file that GDAL reads, in batches of ROWS rows (with ARROW2_WITH_GDAL)
  */
 #include "arrow2_c_data.h"
@@ -13,40 +13,48 @@
 #include <ogr_api.h>
 #endif
 
-/* Prints a row of the table, and returns whether the column is right. */
-static bool print_column(const struct ArrowSchema *schema, const struct ArrowArray *array) {
-    struct arrow2_where where;
-    uint32_t code = arrow2_array_check(schema, array, &where);
-    printf("%-12s %-8s %6lld ", schema->name ? schema->name : "", schema->format ? schema->format : "",
-           (long long)array->length);
+/* Returns how many of `rows` items of a checked column, from item `from` on, are null. */
+static size_t nulls_of(const struct ArrowSchema *schema, const struct ArrowArray *column, size_t from, size_t rows) {
+    size_t nulls = 0;
+    if (strcmp(schema->format, "n") == 0) {
+        return rows;
+    }
+    if (strncmp(schema->format, "+u", 2) == 0) {
+        return 0; /* A union has no validity. */
+    }
+    struct arrow2_bits validity = arrow2_bits_of(column, 0);
+    validity.offset += from;
+    uint32_t code = arrow2_bits_null_count(validity, rows, &nulls);
     if (code != ARROW2_OK) {
-        printf("%6s  %s, at \"%s\" slot %lld\n", "", arrow2_code_text(code), where.path, (long long)where.slot);
-        return false;
+        printf("nulls of a checked column: %s\n", arrow2_code_text(code));
+        exit(1);
     }
-    size_t nulls = array->null_count > 0 ? (size_t)array->null_count : 0;
-    if (array->null_count == -1 && array->n_buffers > 0 && schema->format[1] != 'u') {
-        arrow2_bits_null_count(arrow2_bits_of(array, 0), (size_t)array->length, &nulls);
-    }
-    printf("%6zu  %s\n", nulls, arrow2_code_text(code));
-    return true;
+    return nulls;
 }
 
-/* Prints the columns of a batch, or the batch where it is no struct. */
+static void print_column(const struct ArrowSchema *schema, const struct ArrowArray *column, size_t from, size_t rows) {
+    printf("%-12s %-8s %6zu %6zu\n", schema->name ? schema->name : "", schema->format, rows,
+           nulls_of(schema, column, from, rows));
+}
+
+/* Prints the columns of a batch, or the batch itself where it is no struct, or why it is refused. Returns whether it is
+ * right. Row i of a struct is item `batch->offset + i` of each column. */
 static bool print_batch(const struct ArrowSchema *schema, const struct ArrowArray *batch) {
     struct arrow2_where where;
     uint32_t code = arrow2_array_check(schema, batch, &where);
-    printf("%-12s %-8s %6s %6s  %s\n", "column", "format", "rows", "nulls", "state");
-    if (code == ARROW2_C_NULL || code == ARROW2_C_RELEASED || strcmp(schema->format, "+s") != 0 ||
-        batch->n_children != schema->n_children) {
-        return print_column(schema, batch);
+    if (code != ARROW2_OK) {
+        printf("refused: %s, at \"%s\" slot %lld\n", arrow2_code_text(code), where.path, (long long)where.slot);
+        return false;
+    }
+    printf("%-12s %-8s %6s %6s\n", "column", "format", "rows", "nulls");
+    if (strcmp(schema->format, "+s") != 0) {
+        print_column(schema, batch, 0, (size_t)batch->length);
+        return true;
     }
     for (int64_t i = 0; i < batch->n_children; i++) {
-        print_column(schema->children[i], batch->children[i]);
+        print_column(schema->children[i], batch->children[i], (size_t)batch->offset, (size_t)batch->length);
     }
-    if (code != ARROW2_OK) {
-        printf("the batch: %s, at \"%s\" slot %lld\n", arrow2_code_text(code), where.path, (long long)where.slot);
-    }
-    return code == ARROW2_OK;
+    return true;
 }
 
 /* Checks a stream to its end, and releases its batches. Returns the number of batches that are not right, or -1. */
@@ -72,7 +80,7 @@ static int check_stream(struct ArrowArrayStream *stream) {
     return wrong;
 }
 
-/* ---- A stream of two batches, of a column of numbers and one of texts */
+/* ---- A stream made here: columns of numbers, of texts, and of nulls */
 
 static void release_schema(struct ArrowSchema *schema) { schema->release = NULL; }
 static void release_array(struct ArrowArray *array) { array->release = NULL; }
@@ -84,37 +92,61 @@ static struct ArrowSchema field(const char *format, const char *name, int64_t co
 }
 
 static int get_schema(struct ArrowArrayStream *stream, struct ArrowSchema *out) {
-    static struct ArrowSchema prices, names, *children[] = {&prices, &names};
+    static struct ArrowSchema prices, names, notes, *children[] = {&prices, &names, &notes};
     (void)stream;
     prices = field("l", "prices", 0, NULL);
     names = field("u", "names", 0, NULL);
-    *out = field("+s", "", 2, children);
+    notes = field("n", "notes", 0, NULL);
+    *out = field("+s", "", 3, children);
     return 0;
 }
 
-static int get_next(struct ArrowArrayStream *stream, struct ArrowArray *out) {
+static struct ArrowArray column(int64_t null_count, int64_t n_buffers, const void **buffers) {
+    struct ArrowArray made = {3, null_count, 0, n_buffers, 0, buffers, NULL, NULL, release_array, NULL};
+    return made;
+}
+
+enum { WHOLE, SLICED, NOT_UTF8, NO_BUFFERS, BATCHES };
+
+/* Makes a batch of three rows; one of the last two of them; one with a text that is no UTF-8; one with neither the
+ * buffer nor the children of a struct. */
+static struct ArrowArray make_batch(int which) {
     static const uint8_t valid[] = {0x05};
     static const int64_t prices[] = {30, 0, 50};
     static const int32_t offsets[] = {0, 1, 3, 5};
-    static const char *const texts[] = {"a\xc3\xa9xy", "ab\xc3\xa9y"};
     static const void *of_prices[] = {valid, prices}, *of_names[] = {NULL, offsets, NULL}, *of_batch[] = {NULL};
-    static struct ArrowArray columns[2], *children[] = {&columns[0], &columns[1]};
-    int *left = (int *)stream->private_data;
-    struct ArrowArray batch = {3, 0, 0, 1, 2, of_batch, children, NULL, *left ? release_array : NULL, NULL};
-    struct ArrowArray number = {3, -1, 0, 2, 0, of_prices, NULL, NULL, release_array, NULL};
-    struct ArrowArray text = {3, 0, 0, 3, 0, of_names, NULL, NULL, release_array, NULL};
-    if (*left) {
-        of_names[2] = texts[2 - (*left)--];
+    static struct ArrowArray columns[3], *children[] = {&columns[0], &columns[1], &columns[2]};
+    struct ArrowArray batch = {3, 0, 0, 1, 3, of_batch, children, NULL, release_array, NULL};
+    of_names[2] = which == NOT_UTF8 ? "ab\xc3\xa9y" : "a\xc3\xa9xy";
+    columns[0] = column(-1, 2, of_prices);
+    columns[1] = column(0, 3, of_names);
+    columns[2] = column(-1, 0, NULL);
+    if (which == SLICED) {
+        batch.offset = 1;
+        batch.length = 2;
     }
-    columns[0] = number;
-    columns[1] = text;
-    *out = batch;
+    if (which == NO_BUFFERS) {
+        batch.n_buffers = 0;
+        batch.buffers = NULL;
+        batch.children = NULL;
+    }
+    return batch;
+}
+
+static int get_next(struct ArrowArrayStream *stream, struct ArrowArray *out) {
+    int *next = (int *)stream->private_data;
+    *out = make_batch(*next);
+    if (*next == BATCHES) {
+        out->release = NULL;
+    } else {
+        (*next)++;
+    }
     return 0;
 }
 
 static int check_made_stream(void) {
-    int left = 2;
-    struct ArrowArrayStream stream = {get_schema, get_next, NULL, release_stream, &left};
+    int next = 0;
+    struct ArrowArrayStream stream = {get_schema, get_next, NULL, release_stream, &next};
     int wrong = check_stream(&stream);
     stream.release(&stream);
     return wrong;
@@ -123,14 +155,17 @@ static int check_made_stream(void) {
 #ifdef ARROW2_WITH_GDAL
 static int check_file(const char *path, const char *rows) {
     struct ArrowArrayStream stream;
+    int wrong = -1;
     GDALAllRegister();
     GDALDatasetH dataset = GDALOpenEx(path, GDAL_OF_VECTOR, NULL, NULL, NULL);
-    char **options = rows ? CSLSetNameValue(NULL, "MAX_FEATURES_IN_BATCH", rows) : NULL;
-    if (!dataset || !OGR_L_GetArrowStream(GDALDatasetGetLayer(dataset, 0), &stream, options)) {
+    if (!dataset) {
         return -1;
     }
-    int wrong = check_stream(&stream);
-    stream.release(&stream);
+    char **options = rows ? CSLSetNameValue(NULL, "MAX_FEATURES_IN_BATCH", rows) : NULL;
+    if (OGR_L_GetArrowStream(GDALDatasetGetLayer(dataset, 0), &stream, options)) {
+        wrong = check_stream(&stream);
+        stream.release(&stream);
+    }
     CSLDestroy(options);
     GDALClose(dataset);
     return wrong;
@@ -144,5 +179,5 @@ int main(int argc, char **argv) {
     }
 #endif
     (void)argv;
-    return argc > 1 || check_made_stream() != 1;
+    return argc > 1 || check_made_stream() != 2;
 }

@@ -366,6 +366,35 @@ static void hostile_offsets(void) {
            ARROW2_SPEC_FALLING, "struct.0/struct.1", 1);
 }
 
+/* Arrays of no item: of their offsets, indices and places nothing is read, wherever the pointer leads. */
+static void hostile_empties(void) {
+    static const char *const with_offsets[] = {"z", "Z", "u", "U", "+l", "+L"};
+    const void *const odd = (const void *)1;
+    const int64_t wrong[] = {-1, -1, -1};
+    for (size_t i = 0; i < sizeof with_offsets / sizeof with_offsets[0]; i++) {
+        for (int64_t offset = 0; offset < 3; offset += 2) {
+            for (int which = 0; which < 3; which++) {
+                struct tree *made = add(tree(with_offsets[i], 0, offset, 0), NULL, 0);
+                add(made, wrong, which == 0 ? sizeof wrong : 0);
+                made->buffers[1] = which == 2 ? odd : made->buffers[1];
+                expect("no item, and offsets that are not read", i < 4 ? add(made, NULL, 0) : adopt(made, items(0)),
+                       ARROW2_OK, "", -1);
+            }
+        }
+    }
+    const char *const indices[] = {"c", "S", "i", "L"};
+    for (size_t i = 0; i < sizeof indices / sizeof indices[0]; i++) {
+        struct tree *made = dictionary(indices[i], (size_t)1 << i, 0);
+        made->array.length = made->array.offset = made->array.null_count = 0;
+        made->buffers[1] = odd;
+        made->sizes[1] = 0;
+        expect("no item, and indices that are not read", made, ARROW2_OK, "", -1);
+    }
+    struct tree *either = adopt(add(add(tree("+ud:0", 0, 0, 0), "", 0), "", 0), items(1));
+    either->buffers[0] = either->buffers[1] = odd;
+    expect("no item, and a union that is not read", either, ARROW2_OK, "", -1);
+}
+
 /* Sixteen zeros that begin at no multiple of four. */
 static const void *unaligned_zeros(void) {
     const uint8_t zeros[17] = {0};
@@ -548,6 +577,7 @@ int arrow2_hostile_run(check_function given, bool pages) {
     right_nested_arrays();
     right_dictionaries();
     hostile_offsets();
+    hostile_empties();
     hostile_alignments();
     hostile_texts();
     hostile_indices();

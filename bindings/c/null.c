@@ -142,6 +142,67 @@ static void forms(void) {
     EXPECT(ARROW2_OK, arrow2_bits_not(none, 0, NULL, 0));
 }
 
+/* Null pointers with a count: the count is not used. */
+static void forms_with_counts(void) {
+    const uint8_t bytes[] = {0x6c, 0x03};
+    struct arrow2_bits none = {NULL, 0, 0}, false_count = {NULL, 100, 0}, some = {bytes, 2, 1};
+    uint8_t out[2] = {0xaa, 0xaa}, other[2] = {0xaa, 0xaa};
+    bool equal = true;
+    EXPECT(ARROW2_RANGE, arrow2_bits_equal(false_count, some, 9, &equal));
+    EXPECT(ARROW2_RANGE, arrow2_bits_equal(some, false_count, 9, &equal));
+    EXPECT(ARROW2_RANGE, arrow2_bits_table(false_count, some, 9, 9, out, 2));
+    EXPECT(ARROW2_RANGE, arrow2_bits_and(some, false_count, 9, out, 2));
+    EXPECT(ARROW2_RANGE, arrow2_bits_or(some, false_count, 9, out, 2));
+    EXPECT(ARROW2_RANGE, arrow2_bits_xor(false_count, some, 9, out, 2));
+    EXPECT(ARROW2_RANGE, arrow2_bits_not(false_count, 9, out, 2));
+    EXPECT(ARROW2_RANGE, arrow2_bits_and_kleene(false_count, none, some, some, 9, out, other));
+    EXPECT(ARROW2_RANGE, arrow2_bits_or_kleene(some, some, false_count, none, 9, out, other));
+    EXPECT(ARROW2_LENGTH, arrow2_bits_and(some, some, 9, NULL, 2));
+    EXPECT(ARROW2_LENGTH, arrow2_bits_or(some, some, 9, NULL, 2));
+    EXPECT(ARROW2_LENGTH, arrow2_bits_xor(some, some, 9, NULL, 2));
+    EXPECT(ARROW2_LENGTH, arrow2_bits_not(some, 9, NULL, 2));
+    EXPECT(ARROW2_LENGTH, arrow2_bits_and_kleene(some, some, some, none, 9, NULL, other));
+    EXPECT(ARROW2_LENGTH, arrow2_bits_or_kleene(some, some, some, some, 9, out, NULL));
+    EXPECT_BYTES(0xaa, 0xaa, ARROW2_OK);
+    expect("what they wrote", equal && other[0] == 0xaa && other[1] == 0xaa ? ARROW2_OK : ARROW2_RANGE, ARROW2_OK);
+    EXPECT(ARROW2_OK, arrow2_bits_and_kleene(some, false_count, some, false_count, 9, out, other));
+}
+
+static void release_schema(struct ArrowSchema *schema) { schema->release = NULL; }
+static void release_array(struct ArrowArray *array) { array->release = NULL; }
+
+/* Whether the bits of a buffer are none. */
+static void expect_none(const char *what, struct arrow2_bits bits) {
+    expect(what, !bits.bytes && bits.bytes_len == 0 && bits.offset == 0 ? ARROW2_OK : ARROW2_RANGE, ARROW2_OK);
+}
+
+/* Buffers that an array does not have, or that are null. */
+static void buffers(void) {
+    const uint8_t bytes[] = {0x6c};
+    const void *some[] = {NULL, bytes}, *no_bytes[] = {NULL, NULL};
+    struct ArrowSchema schema = {"n", "", NULL, 0, 0, NULL, NULL, release_schema, NULL};
+    struct ArrowArray nulls = {3, -1, 0, 0, 0, NULL, NULL, NULL, release_array, NULL};
+    struct ArrowArray three = {3, 0, 2, 2, 0, some, NULL, NULL, release_array, NULL};
+    struct ArrowArray empty = {0, 0, 5, 2, 0, no_bytes, NULL, NULL, release_array, NULL};
+    struct arrow2_where where;
+    uint8_t values[1], validity[1];
+    EXPECT(ARROW2_OK, arrow2_array_check(&schema, &nulls, NULL));
+    expect_none("a null array", arrow2_bits_of(&nulls, 0));
+    schema.format = "b";
+    EXPECT(ARROW2_OK, arrow2_array_check(&schema, &three, NULL));
+    EXPECT(ARROW2_C_SIZES, arrow2_array_check_sized(&schema, &three, NULL, 5, &where));
+    expect_none("no validity", arrow2_bits_of(&three, 0));
+    expect_none("buffer 2 of two", arrow2_bits_of(&three, 2));
+    expect_none("buffer -1", arrow2_bits_of(&three, -1));
+    struct arrow2_bits of_three = arrow2_bits_of(&three, 1);
+    bool right = of_three.bytes == bytes && of_three.bytes_len == 1 && of_three.offset == 2;
+    expect("the values", right ? ARROW2_OK : ARROW2_RANGE, ARROW2_OK);
+    EXPECT(ARROW2_OK, arrow2_array_check(&schema, &empty, NULL));
+    EXPECT(ARROW2_OK, arrow2_bits_and_kleene(arrow2_bits_of(&empty, 1), arrow2_bits_of(&empty, 0),
+                                             arrow2_bits_of(&empty, 1), arrow2_bits_of(&empty, 0), 0, values,
+                                             validity));
+}
+
 /* All nine pairs of false, true and null, where true stands under a null, with and without their validities. */
 static void kleene_forms(void) {
     const uint8_t lefts[] = {0x6c, 0x03}, rights[] = {0xc0, 0x0f}, of_rights[] = {0xf0, 0x03};
@@ -164,6 +225,8 @@ int main(void) {
     offsets();
     checks();
     forms();
+    forms_with_counts();
+    buffers();
     kleene_forms();
     printf("%d passed, %d failed\n", passed, failed);
     return failed != 0;

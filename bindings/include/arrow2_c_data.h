@@ -1,10 +1,12 @@
-/* The Arrow C data interface over the library: bits with fewer arguments, and checks of whole arrays. Header-only:
- * every test of bits, offsets, texts and indices is a call of the library, whose result is proved (arrow2_proved.h);
- * the way through the tree of an array is written by hand here (docs/BINDINGS.md).
+/* Bits with fewer arguments, and checks of whole arrays of the Arrow C data interface. Header-only.
  *
- * The interface does not state the number of bytes of a buffer. `arrow2_array_check` trusts that buffers have the
- * length that format, length, offset and last offset require; `arrow2_array_check_sized` gets the sizes, and trusts
- * nothing but those. */
+ * Every test of bits, offsets, texts and indices is a call of the library, whose result is proved (arrow2_proved.h).
+ * The walk over the tree of an array is written by hand here (docs/BINDINGS.md).
+ *
+ * The interface does not state the number of bytes of a buffer. `arrow2_array_check` trusts that each buffer has the
+ * bytes that format, length, offset and last offset require. `arrow2_array_check_sized` is given the number of bytes of
+ * each buffer, and reads nothing outside them. Both trust that every pointer that is not NULL is what the interface
+ * says. */
 #ifndef ARROW2_C_DATA_H
 #define ARROW2_C_DATA_H
 
@@ -66,10 +68,17 @@ struct ArrowArrayStream {
 
 #endif
 
-/* ---- Bits: the bytes, their number, and the bit at which they begin.
+/* ---- Bits
  *
- * Where a validity is meant, null bytes mean that nothing is null. Of `out`, `values` and `validity` see
- * arrow2_proved.h; those without a count have (length + 7) / 8 bytes. */
+ * Bits are `bytes`, the number of these bytes, `bytes_len`, and the bit at which the bits begin, `offset`.
+ *
+ * Each form below is one call of arrow2_proved.h, and returns the codes of that call. No memory that a form writes may
+ * overlap memory that it reads. If a pointer to bytes is NULL, the form hands the call NULL and a count of 0, and uses
+ * neither `bytes_len` nor `out_count`. Where bytes are needed, the call then returns ARROW2_RANGE for an input, and
+ * ARROW2_LENGTH for an output.
+ *
+ * Of a validity, `bytes == NULL` means that there is no validity bitmap: no item is null. Only arrow2_bits_null_count
+ * and the validity arguments of arrow2_bits_and_kleene and arrow2_bits_or_kleene accept this. */
 
 struct arrow2_bits {
     const uint8_t *bytes;
@@ -77,19 +86,13 @@ struct arrow2_bits {
     size_t offset;
 };
 
-/* A pointer that is not null: the given one, or one to memory that is not read. */
-static inline const void *arrow2_c_some(const void *pointer) {
-    static const int64_t none = 0;
-    return pointer ? pointer : &none;
-}
-
-static inline const uint8_t *arrow2_c_bytes(struct arrow2_bits bits) {
-    return (const uint8_t *)arrow2_c_some(bits.bytes);
-}
+/* The number of items of a slice: 0 where its pointer is NULL. */
+static inline size_t arrow2_c_count(const void *pointer, size_t count) { return pointer ? count : 0; }
 
 static inline size_t arrow2_bytes_for(size_t bits) { return bits / 8 + (bits % 8 != 0); }
 
-/* Returns how many of `length` items are null by a validity, which may be missing. */
+/* Writes to `*nulls` how many of `length` items are null by a validity, and returns the code of arrow2_count_zeros.
+ * Without a validity bitmap it writes 0 and returns ARROW2_OK. */
 static inline uint32_t arrow2_bits_null_count(struct arrow2_bits validity, size_t length, size_t *nulls) {
     if (!validity.bytes) {
         *nulls = 0;
@@ -98,84 +101,87 @@ static inline uint32_t arrow2_bits_null_count(struct arrow2_bits validity, size_
     return arrow2_count_zeros(validity.bytes, validity.bytes_len, validity.offset, length, nulls);
 }
 
+/* Writes to `*equal` whether the `length` bits of both are the same: arrow2_equal_bits. It does not accept a missing
+ * validity. */
 static inline uint32_t arrow2_bits_equal(struct arrow2_bits left, struct arrow2_bits right, size_t length,
                                          bool *equal) {
-    return arrow2_equal_bits(arrow2_c_bytes(left), left.bytes_len, left.offset, arrow2_c_bytes(right), right.bytes_len,
-                             right.offset, length, equal);
+    return arrow2_equal_bits(left.bytes, arrow2_c_count(left.bytes, left.bytes_len), left.offset, right.bytes,
+                             arrow2_c_count(right.bytes, right.bytes_len), right.offset, length, equal);
 }
 
+/* Writes the outputs of a table of two inputs over `out`, which has (length + 7) / 8 bytes: arrow2_binary_table. It
+ * does not accept a missing validity. `out` must not overlap an input. */
 static inline uint32_t arrow2_bits_table(struct arrow2_bits left, struct arrow2_bits right, size_t length,
                                          uint16_t table, uint8_t *out, size_t out_count) {
-    return arrow2_binary_table(arrow2_c_bytes(left), left.bytes_len, left.offset, arrow2_c_bytes(right),
-                               right.bytes_len, right.offset, length, table,
-                               out ? out : (uint8_t *)arrow2_c_some(out), out_count);
+    return arrow2_binary_table(left.bytes, arrow2_c_count(left.bytes, left.bytes_len), left.offset, right.bytes,
+                               arrow2_c_count(right.bytes, right.bytes_len), right.offset, length, table, out,
+                               arrow2_c_count(out, out_count));
 }
 
+/* As arrow2_bits_table, with the table of AND. */
 static inline uint32_t arrow2_bits_and(struct arrow2_bits left, struct arrow2_bits right, size_t length, uint8_t *out,
                                        size_t out_count) {
     return arrow2_bits_table(left, right, length, 8, out, out_count);
 }
 
+/* As arrow2_bits_table, with the table of OR. */
 static inline uint32_t arrow2_bits_or(struct arrow2_bits left, struct arrow2_bits right, size_t length, uint8_t *out,
                                       size_t out_count) {
     return arrow2_bits_table(left, right, length, 14, out, out_count);
 }
 
+/* As arrow2_bits_table, with the table of XOR. */
 static inline uint32_t arrow2_bits_xor(struct arrow2_bits left, struct arrow2_bits right, size_t length, uint8_t *out,
                                        size_t out_count) {
     return arrow2_bits_table(left, right, length, 6, out, out_count);
 }
 
+/* Writes NOT of the `length` bits over `out`, which has (length + 7) / 8 bytes: arrow2_unary_table. It does not accept
+ * a missing validity. `out` must not overlap the input. */
 static inline uint32_t arrow2_bits_not(struct arrow2_bits bits, size_t length, uint8_t *out, size_t out_count) {
-    return arrow2_unary_table(arrow2_c_bytes(bits), bits.bytes_len, bits.offset, length, 1,
-                              out ? out : (uint8_t *)arrow2_c_some(out), out_count);
+    return arrow2_unary_table(bits.bytes, arrow2_c_count(bits.bytes, bits.bytes_len), bits.offset, length, 1, out,
+                              arrow2_c_count(out, out_count));
 }
 
-/* Kleene's logic of two columns, each of which may have no validity. Where both have one, another call is faster. */
+/* Kleene's AND of two boolean columns: arrow2_and_kleene_optional. Either column may have no validity bitmap. `values`
+ * and `validity` get the result. Each has (length + 7) / 8 bytes, and neither overlaps the other or an input. */
 static inline uint32_t arrow2_bits_and_kleene(struct arrow2_bits left, struct arrow2_bits left_validity,
                                               struct arrow2_bits right, struct arrow2_bits right_validity,
                                               size_t length, uint8_t *values, uint8_t *validity) {
     size_t count = arrow2_bytes_for(length);
-    if (left_validity.bytes && right_validity.bytes) {
-        return arrow2_and_kleene(arrow2_c_bytes(left), left.bytes_len, left.offset, left_validity.bytes,
-                                 left_validity.bytes_len, left_validity.offset, arrow2_c_bytes(right), right.bytes_len,
-                                 right.offset, right_validity.bytes, right_validity.bytes_len, right_validity.offset,
-                                 length, values ? values : (uint8_t *)arrow2_c_some(values), count,
-                                 validity ? validity : (uint8_t *)arrow2_c_some(validity), count);
-    }
     return arrow2_and_kleene_optional(
-        arrow2_c_bytes(left), left.bytes_len, left.offset, arrow2_c_bytes(left_validity), left_validity.bytes_len,
-        left_validity.offset, !left_validity.bytes, arrow2_c_bytes(right), right.bytes_len, right.offset,
-        arrow2_c_bytes(right_validity), right_validity.bytes_len, right_validity.offset, !right_validity.bytes, length,
-        values ? values : (uint8_t *)arrow2_c_some(values), count,
-        validity ? validity : (uint8_t *)arrow2_c_some(validity), count);
+        left.bytes, arrow2_c_count(left.bytes, left.bytes_len), left.offset, left_validity.bytes,
+        arrow2_c_count(left_validity.bytes, left_validity.bytes_len), left_validity.offset, !left_validity.bytes,
+        right.bytes, arrow2_c_count(right.bytes, right.bytes_len), right.offset, right_validity.bytes,
+        arrow2_c_count(right_validity.bytes, right_validity.bytes_len), right_validity.offset, !right_validity.bytes,
+        length, values, arrow2_c_count(values, count), validity, arrow2_c_count(validity, count));
 }
 
+/* Kleene's OR of two boolean columns: arrow2_or_kleene_optional. Arguments as of arrow2_bits_and_kleene. */
 static inline uint32_t arrow2_bits_or_kleene(struct arrow2_bits left, struct arrow2_bits left_validity,
                                              struct arrow2_bits right, struct arrow2_bits right_validity, size_t length,
                                              uint8_t *values, uint8_t *validity) {
     size_t count = arrow2_bytes_for(length);
-    if (left_validity.bytes && right_validity.bytes) {
-        return arrow2_or_kleene(arrow2_c_bytes(left), left.bytes_len, left.offset, left_validity.bytes,
-                                 left_validity.bytes_len, left_validity.offset, arrow2_c_bytes(right), right.bytes_len,
-                                 right.offset, right_validity.bytes, right_validity.bytes_len, right_validity.offset,
-                                 length, values ? values : (uint8_t *)arrow2_c_some(values), count,
-                                 validity ? validity : (uint8_t *)arrow2_c_some(validity), count);
-    }
     return arrow2_or_kleene_optional(
-        arrow2_c_bytes(left), left.bytes_len, left.offset, arrow2_c_bytes(left_validity), left_validity.bytes_len,
-        left_validity.offset, !left_validity.bytes, arrow2_c_bytes(right), right.bytes_len, right.offset,
-        arrow2_c_bytes(right_validity), right_validity.bytes_len, right_validity.offset, !right_validity.bytes, length,
-        values ? values : (uint8_t *)arrow2_c_some(values), count,
-        validity ? validity : (uint8_t *)arrow2_c_some(validity), count);
+        left.bytes, arrow2_c_count(left.bytes, left.bytes_len), left.offset, left_validity.bytes,
+        arrow2_c_count(left_validity.bytes, left_validity.bytes_len), left_validity.offset, !left_validity.bytes,
+        right.bytes, arrow2_c_count(right.bytes, right.bytes_len), right.offset, right_validity.bytes,
+        arrow2_c_count(right_validity.bytes, right_validity.bytes_len), right_validity.offset, !right_validity.bytes,
+        length, values, arrow2_c_count(values, count), validity, arrow2_c_count(validity, count));
 }
 
-/* The bits of buffer `index` of an array that was checked: its validity is buffer 0, the values of booleans
- * buffer 1. */
+/* The bits of buffer `index` of an array that was checked, from the array's own offset on. Buffer 0 is the validity,
+ * except in a union, where it is the types. Buffer 1 of a boolean array is its values. A null array has no buffer. If
+ * `index` is not below `n_buffers`, or the buffer is NULL, the result is NULL, 0 bytes, offset 0.
+ *
+ * Only the array's own offset is applied: for the rows of a struct, add the struct's offset to that of the result. */
 static inline struct arrow2_bits arrow2_bits_of(const struct ArrowArray *array, int index) {
-    struct arrow2_bits bits;
+    struct arrow2_bits bits = {NULL, 0, 0};
+    if (index < 0 || index >= array->n_buffers || !array->buffers[index]) {
+        return bits;
+    }
     bits.bytes = (const uint8_t *)array->buffers[index];
-    bits.bytes_len = bits.bytes ? arrow2_bytes_for((size_t)array->offset + (size_t)array->length) : 0;
+    bits.bytes_len = arrow2_bytes_for((size_t)array->offset + (size_t)array->length);
     bits.offset = (size_t)array->offset;
     return bits;
 }
@@ -183,21 +189,22 @@ static inline struct arrow2_bits arrow2_bits_of(const struct ArrowArray *array, 
 /* ---- Checks of whole arrays */
 
 /* The codes that the check of an array returns, next to those of arrow2_proved.h. */
-/* A pointer that the array needs is null. */
+/* A pointer that the array needs is NULL. */
 #define ARROW2_C_NULL 32u
 /* The schema or the array was released. */
 #define ARROW2_C_RELEASED 33u
-/* A length, an offset or a number of children is negative, or length and offset together are above 2^63 - 1. */
+/* `length`, `offset`, `n_buffers` or `n_children` is negative, or length + offset is above 2^63 - 1. */
 #define ARROW2_C_NEGATIVE 34u
-/* The format is not known: such an array is not checked. */
+/* The check does not know the format, and refuses the array. */
 #define ARROW2_C_FORMAT 35u
-/* The format has another number of buffers. */
+/* `n_buffers` is not the number that the format requires. */
 #define ARROW2_C_BUFFERS 36u
-/* The format has another number of children, or the schema other children than the array. */
+/* `n_children` of the array or of the schema is not the number that the format requires, the two differ, or the child
+ * of a map is not a struct of two children. */
 #define ARROW2_C_CHILDREN 37u
-/* A child is shorter than its parent needs. */
+/* A child has fewer items than its parent needs. */
 #define ARROW2_C_SHORT_CHILD 38u
-/* The schema or the array has a dictionary and the other has none, or the indices are no whole numbers. */
+/* Only one of schema and array has a dictionary, or the format of the indices is not that of a whole number. */
 #define ARROW2_C_DICTIONARY 39u
 /* A slot of a union has a type that the format does not name. */
 #define ARROW2_C_TYPE 40u
@@ -205,9 +212,9 @@ static inline struct arrow2_bits arrow2_bits_of(const struct ArrowArray *array, 
 #define ARROW2_C_UNION_OFFSET 41u
 /* The tree is deeper than ARROW2_C_MAX_DEPTH, or has more arrays than ARROW2_C_MAX_ARRAYS. */
 #define ARROW2_C_TOO_LARGE 42u
-/* Numbers of several bytes, which the check has to read, are not aligned. */
+/* A buffer of numbers of several bytes, which the check reads, is not aligned. */
 #define ARROW2_C_UNALIGNED 43u
-/* There are more or fewer sizes than buffers in the tree. */
+/* There are more or fewer sizes than buffers in the tree. Only arrow2_array_check_sized returns it. */
 #define ARROW2_C_SIZES 44u
 
 #define ARROW2_C_MAX_DEPTH 64
@@ -217,7 +224,15 @@ static inline struct arrow2_bits arrow2_bits_of(const struct ArrowArray *array, 
 /* The number of bytes that the longest path needs. */
 #define ARROW2_C_PATH 1280
 
-/* Where the check refused: the array's path from the root, as `struct.3/list.0`, and the slot of that array, or -1. */
+/* Where the check refused.
+ *
+ * `path` leads from the root to the array that was refused. The path of the root is empty. A step to a child is
+ * `list.0`, `fixed_list.0`, `map.0`, `struct.K` or `union.K`, by the format of the parent; K counts children from 0 on.
+ * The step to a dictionary is `dictionary`. A `/` stands between two steps: `struct.3/list.0` is child 0 of a list,
+ * which is child 3 of a struct.
+ *
+ * `slot` is the slot of that array, or -1 where the rule is about no slot. It counts from 0 at `array->offset`. An
+ * offset that breaks a rule belongs to the slot that ends at it; the first offset belongs to slot 0. */
 struct arrow2_where {
     char path[ARROW2_C_PATH];
     int64_t slot;
@@ -555,12 +570,16 @@ static inline struct arrow2_c_buffer arrow2_c_buffer_of(const struct arrow2_c_tr
     return buffer;
 }
 
-/* Whether a buffer is there, and aligned, from which `count` items of `width` bytes are read. */
+/* Whether a buffer from which `count` items of `width` bytes are read is there and aligned. If nothing is read, any
+ * pointer will do. */
 static inline uint32_t arrow2_c_check_pointer(const void *bytes, size_t count, size_t width) {
-    if (!bytes && count && width) {
+    if (count == 0 || width == 0) {
+        return ARROW2_OK;
+    }
+    if (!bytes) {
         return ARROW2_C_NULL;
     }
-    return width > 1 && (uintptr_t)bytes % width ? ARROW2_C_UNALIGNED : ARROW2_OK;
+    return (uintptr_t)bytes % width ? ARROW2_C_UNALIGNED : ARROW2_OK;
 }
 
 /* Whether the validity has a bit for each item, and the declared number of nulls. */
@@ -585,11 +604,11 @@ static inline uint32_t arrow2_c_check_values(struct arrow2_c_buffer values, bool
 }
 
 /* Whether a buffer has offsets, of `width` bytes each, into `items` items. `slot` is where they are not, and `last` the
- * last of them. An array of no item needs no offset. */
+ * last of them. Of an array of no item no offset is read. */
 static inline uint32_t arrow2_c_check_offsets(struct arrow2_c_buffer offsets, size_t width, size_t items, int64_t *slot,
                                               size_t *last) {
     *last = 0;
-    if (offsets.length == 0 && (!offsets.bytes || offsets.size == 0)) {
+    if (offsets.length == 0) {
         return ARROW2_OK;
     }
     size_t index = 0, count = offsets.length + 1;
@@ -600,16 +619,19 @@ static inline uint32_t arrow2_c_check_offsets(struct arrow2_c_buffer offsets, si
     if (code != ARROW2_OK) {
         return code;
     }
-    const int32_t *narrow = (const int32_t *)offsets.bytes + offsets.offset;
-    const int64_t *wide = (const int64_t *)offsets.bytes + offsets.offset;
-    code = width == 4 ? arrow2_offsets32_check_inside(narrow, count, items, &index)
-                      : arrow2_offsets64_check_inside(wide, count, items, &index);
+    if (width == 4) {
+        const int32_t *first = (const int32_t *)offsets.bytes + offsets.offset;
+        code = arrow2_offsets32_check_inside(first, count, items, &index);
+        *last = code == ARROW2_OK ? (size_t)first[count - 1] : 0;
+    } else {
+        const int64_t *first = (const int64_t *)offsets.bytes + offsets.offset;
+        code = arrow2_offsets64_check_inside(first, count, items, &index);
+        *last = code == ARROW2_OK ? (size_t)first[count - 1] : 0;
+    }
     if (code != ARROW2_OK) {
         *slot = index ? (int64_t)(index - 1) : 0;
-        return code;
     }
-    *last = (size_t)(width == 4 ? narrow[count - 1] : wide[count - 1]);
-    return ARROW2_OK;
+    return code;
 }
 
 /* Whether the offsets of byte strings or texts are inside their bytes, and texts are UTF-8. */
@@ -643,9 +665,9 @@ static inline uint32_t arrow2_c_check_indices(struct arrow2_c_buffer indices, st
         return code;
     }
     const void *bytes = (const uint8_t *)indices.bytes + width * o;
-    const uint8_t *valid = (const uint8_t *)arrow2_c_some(validity.bytes);
-    bool all = !validity.bytes;
-    size_t valid_count = all ? 0 : arrow2_bytes_for(o + n);
+    const uint8_t *valid = (const uint8_t *)validity.bytes;
+    bool all = !valid;
+    size_t valid_count = arrow2_c_count(valid, arrow2_bytes_for(o + n));
 #define ARROW2_C_INDICES(name, type)                                                                                   \
     arrow2_indices_##name##_check((const type *)bytes, n, valid, valid_count, o, all, items, &first)
     switch (letter) {
@@ -785,7 +807,7 @@ static inline uint32_t arrow2_c_check_content(struct arrow2_c_tree *tree, const 
     }
 }
 
-/* Whether an array is right but for its children and its dictionary. Stays where it is not. */
+/* Whether an array is right, apart from its children and its dictionary. Stays where it is not. */
 static inline uint32_t arrow2_c_check_own(struct arrow2_c_tree *tree, const struct arrow2_c_layout *layout,
                                           const struct ArrowSchema *schema, const struct ArrowArray *array,
                                           int64_t *slot) {
@@ -835,7 +857,7 @@ static inline uint32_t arrow2_c_check_tree(struct arrow2_c_tree *tree, const str
     return code;
 }
 
-/* The same from the root on. */
+/* Whether a whole tree is right, and has as many buffers as there are sizes, if there are sizes. */
 static inline uint32_t arrow2_c_check_root(const struct ArrowSchema *schema, const struct ArrowArray *array,
                                            const size_t *sizes, size_t sizes_count, struct arrow2_where *where) {
     struct arrow2_c_tree tree;
@@ -855,19 +877,27 @@ static inline uint32_t arrow2_c_check_root(const struct ArrowSchema *schema, con
     return code;
 }
 
-/* Whether an array is one of its schema: ARROW2_OK exactly where it is, else the first rule that is broken. `where`,
- * which may be null, is written where it is not. The sizes of buffers cannot be known: they are read to the length that
- * format, length, offset and last offset require. */
+/* Checks whether an array follows the Arrow format and its schema. Returns ARROW2_OK if it does, else the code of the
+ * first rule that is broken. docs/BINDINGS.md has the order of the rules, and what is not tested.
+ *
+ * The codes are those above, and of arrow2_proved.h ARROW2_RANGE (a buffer is too short), ARROW2_NULLS,
+ * ARROW2_SPEC_NEGATIVE, ARROW2_SPEC_FALLING, ARROW2_PAST, ARROW2_UTF8 and ARROW2_INDEX.
+ *
+ * If the code is not ARROW2_OK and `where` is not NULL, `*where` is written; else it stays as it was. Each buffer is
+ * read to the length that format, length, offset and last offset require. */
 static inline uint32_t arrow2_array_check(const struct ArrowSchema *schema, const struct ArrowArray *array,
                                           struct arrow2_where *where) {
     return arrow2_c_check_root(schema, array, NULL, 0, where);
 }
 
-/* The same by the size in bytes of each buffer of the tree: those of an array, then those of its children in order,
- * then those of its dictionary. Nothing outside them is read. ARROW2_C_SIZES: there are more or fewer buffers. */
+/* The same with the number of bytes of each buffer of the tree, outside of which nothing is read. The order of the
+ * sizes is depth first: those of an array's buffers, then those of its children in order, then those of its dictionary.
+ * A buffer that is NULL takes a size too. If `sizes` is NULL there are no sizes, whatever `sizes_count` is.
+ * ARROW2_C_SIZES: there are more or fewer sizes than buffers. */
 static inline uint32_t arrow2_array_check_sized(const struct ArrowSchema *schema, const struct ArrowArray *array,
                                                 const size_t *sizes, size_t sizes_count, struct arrow2_where *where) {
-    return arrow2_c_check_root(schema, array, (const size_t *)arrow2_c_some(sizes), sizes_count, where);
+    static const size_t none = 0;
+    return arrow2_c_check_root(schema, array, sizes ? sizes : &none, arrow2_c_count(sizes, sizes_count), where);
 }
 
 /* Returns the text of a code. */

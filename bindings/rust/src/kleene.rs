@@ -80,7 +80,7 @@ pub struct OptionalNullable<'a> {
 
 /// The calls of both operators where a validity may be missing.
 macro_rules! optional_operator {
-    ($(#[$doc:meta])* $name:ident, $with_both:ident, $export:ident) => {
+    ($(#[$doc:meta])* $name:ident, $export:ident) => {
         $(#[$doc])*
         ///
         /// # Errors
@@ -95,12 +95,6 @@ macro_rules! optional_operator {
             values: &mut [u8],
             validity: &mut [u8],
         ) -> Result<(), Refusal> {
-            if let (Some(left_validity), Some(right_validity)) = (left.validity, right.validity) {
-                // The call for that is faster.
-                let left = Nullable { values: left.values, validity: left_validity };
-                let right = Nullable { values: right.values, validity: right_validity };
-                return $with_both(left, right, length, values, validity);
-            }
             let none = Bits { bytes: &[], offset: 0 };
             let left_validity = left.validity.unwrap_or(none);
             let right_validity = right.validity.unwrap_or(none);
@@ -135,7 +129,6 @@ macro_rules! optional_operator {
 optional_operator!(
     /// Writes, item by item, whether both are true, as [`and_kleene`] does, where either side may have no validity.
     and_kleene_optional,
-    and_kleene,
     arrow2_and_kleene_optional
 );
 
@@ -143,6 +136,5 @@ optional_operator!(
     /// Writes, item by item, whether one is true, or both, as [`or_kleene`] does, where either side may have no
     /// validity.
     or_kleene_optional,
-    or_kleene,
     arrow2_or_kleene_optional
 );

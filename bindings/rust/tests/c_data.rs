@@ -115,6 +115,19 @@ fn values_of_one_width_begin_at_the_first_item() {
 }
 
 #[test]
+fn of_no_item_no_offset_is_read() {
+    let releases = Releases::new(0);
+    let nowhere: *const c_void = ptr::without_provenance(1);
+    let mut buffers = [ptr::null(), nowhere, ptr::null()];
+    let of_type = unsafe { Schema::from_raw(schema(&releases, c"u")) };
+    let owner = unsafe { Array::from_raw(array(&releases, 0, 2, &mut buffers)) };
+    let view = owner.check(&of_type).unwrap();
+    assert_eq!(view.offsets(), Some(Offsets::Narrow(&[0])));
+    assert_eq!((view.bytes(), view.slot(0)), (Some(&[][..]), None));
+    assert_eq!(owner.check_sized(&of_type, &[0, 0, 0]).unwrap().offsets(), Some(Offsets::Narrow(&[0])));
+}
+
+#[test]
 fn what_is_refused_has_no_view() {
     let releases = Releases::new(0);
     let mut buffers = texts(b"ab\xc3\xa9y");

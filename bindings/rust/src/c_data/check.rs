@@ -252,12 +252,15 @@ struct Buffer {
 }
 
 impl Buffer {
-    /// Whether `count` items of `width` bytes, if any are read, are there and aligned.
+    /// Whether `count` items of `width` bytes are there and aligned. If nothing is read, any pointer will do.
     fn check_pointer(&self, count: usize, width: usize) -> Result<(), Broken> {
-        if self.start.is_null() && count > 0 && width > 0 {
+        if count == 0 || width == 0 {
+            return Ok(());
+        }
+        if self.start.is_null() {
             return Err(Broken::Null);
         }
-        if width > 1 && self.start.addr() % width != 0 {
+        if self.start.addr() % width != 0 {
             return Err(Broken::Unaligned);
         }
         Ok(())
@@ -291,9 +294,9 @@ impl Buffer {
         (!self.start.is_null()).then(|| Bits { bytes: unsafe { self.items(0, count) }, offset: self.offset })
     }
 
-    /// Offsets into this number of items: one more than slots, or none where there is no slot.
+    /// Offsets into this number of items: one more than slots. Where there is no slot none is read.
     unsafe fn offsets<'a, O: Offset>(&self, items: usize) -> Result<&'a [O], Fault> {
-        if self.length == 0 && (self.start.is_null() || self.size == 0) {
+        if self.length == 0 {
             return Ok(&[]);
         }
         let width = size_of::<O>();

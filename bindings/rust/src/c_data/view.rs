@@ -82,20 +82,20 @@ impl<'a> View<'a> {
         if self.layout().kind == Kind::Boolean { self.bits(1) } else { None }
     }
 
-    /// The offsets of texts, byte strings, lists and maps.
+    /// The offsets of texts, byte strings, lists and maps: one more than items. Without an item it is 0 alone, and the
+    /// buffer is not read.
     #[must_use]
     pub fn offsets(&self) -> Option<Offsets<'a>> {
         let layout = self.layout();
         if !matches!(layout.kind, Kind::Bytes | Kind::Text | Kind::List | Kind::Map) {
             return None;
         }
-        let start = self.buffer(1);
-        if self.is_empty() && start.is_none() {
+        if self.is_empty() {
             return Some(if layout.size == 4 { Offsets::Narrow(&[0]) } else { Offsets::Wide(&[0]) });
         }
         let count = self.len() + 1;
         // SAFETY: the check found the pointer aligned, and these offsets from the array's own on.
-        start.map(|start| unsafe {
+        self.buffer(1).map(|start| unsafe {
             if layout.size == 4 {
                 Offsets::Narrow(slice::from_raw_parts(start.cast::<i32>().add(self.offset()), count))
             } else {
@@ -124,7 +124,6 @@ impl<'a> View<'a> {
     /// The last offset, 0 where there is no slot.
     fn last_offset(&self) -> usize {
         match self.offsets() {
-            _ if self.is_empty() => 0,
             Some(Offsets::Narrow(offsets)) => offsets[self.len()] as usize,
             Some(Offsets::Wide(offsets)) => offsets[self.len()] as usize,
             None => 0,
