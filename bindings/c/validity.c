@@ -12,7 +12,7 @@ static void expect_ok(uint32_t code, const char *call) {
     }
 }
 
-/* Prints `length` bits from bit 0 on, and the number that are not set. */
+/* Prints `length` bits from bit `offset` on, and the number that are not set. */
 static void print_bits(const char *name, const uint8_t *bytes, size_t bytes_count, size_t offset, size_t length) {
     size_t zeros = 0;
     printf("%s: ", name);

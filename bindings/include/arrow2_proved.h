@@ -1,18 +1,21 @@
-/* The layer's loops over the caller's memory. The contract of each call is proved of the library (docs/BINDINGS.md);
- * this header is written by hand.
+/* Calls on bits, offsets, texts and indices in the caller's memory, as Apache Arrow arrays have them. The library is
+ * written in Rattle, a language whose programs are proved. The contract of each call is proved (docs/BINDINGS.md); this
+ * header is written by hand.
  *
  * Rules for every call:
- * - A slice is a pointer followed by its number of items. A pointer to no item may be null; no other may.
- * - Memory that a call reads may be shared with others. Memory that it writes is the caller's alone while the call
- *   runs: no two of the slices and single values overlap where one of them is written.
+ * - A slice is a pointer followed by its number of items. If the number is 0 the pointer may be NULL, else it must not
+ *   be.
+ * - While a call runs, others may read memory that it reads, and nobody may write it. Memory that the call writes
+ *   nobody else may read or write. No slice or single value that the call writes overlaps another one.
  * - Bit i of bytes is bit i % 8 of byte i / 8, the lowest first. Offsets and lengths of bits are in bits, and may be
- *   any numbers; those of other slices are in items.
+ *   any numbers. Those of other slices are in items.
+ * - The `length` bits from bit `offset` on are inside `bytes` if offset + length <= 8 * bytes_count. The sum is
+ *   computed without overflow, and this holds for length 0 too. Bit `index` is inside if index < 8 * bytes_count.
  * - `out` of a call that writes bits has (length + 7) / 8 bytes, no more and no fewer. The bits are written from bit 0
  *   on, and padding bits become 0.
  * - The result is one of the codes below. With any code but ARROW2_OK nothing was written, except that a check writes
  *   the index or slot of the first fault.
- * - Nothing is kept between calls, no call allocates, and calls may run on several threads at once.
- */
+ * - Nothing is kept between calls, no call allocates, and calls may run on several threads at once. */
 #ifndef ARROW2_PROVED_H
 #define ARROW2_PROVED_H
 
@@ -26,7 +29,7 @@
 extern "C" {
 #endif
 
-/* The version of the header and of the library. */
+/* The version of this header. No call returns the version of the library at run time. */
 #define ARROW2_PROVED_VERSION_MAJOR 0
 #define ARROW2_PROVED_VERSION_MINOR 1
 #define ARROW2_PROVED_VERSION_PATCH 0
@@ -37,17 +40,19 @@ extern "C" {
 #define ARROW2_RANGE 1u
 /* A slice has more or fewer items than the call needs. */
 #define ARROW2_LENGTH 2u
-/* A number is above the greatest offset. */
+/* A number is above the greatest offset: 2147483647 of 32 bits, 9223372036854775807 of 64 bits. */
 #define ARROW2_OVERFLOW 3u
 /* An allocation failed. No call of this version returns it. */
 #define ARROW2_MEMORY 4u
-/* A list of offsets has no item, begins with a negative number, has a number that is below the one before it. */
+/* Numbers that should be offsets: there is none. */
 #define ARROW2_SPEC_EMPTY 5u
+/* Numbers that should be offsets: the first is negative. */
 #define ARROW2_SPEC_NEGATIVE 6u
+/* Numbers that should be offsets: the first is not negative, and some number is below the one before it. */
 #define ARROW2_SPEC_FALLING 7u
 /* The number of nulls is not the declared one. */
 #define ARROW2_NULLS 8u
-/* An offset is past the items that the offsets cut. */
+/* An offset is greater than the number of bytes or child items that the offsets index. */
 #define ARROW2_PAST 9u
 /* The bytes of a slot are not UTF-8. */
 #define ARROW2_UTF8 10u
@@ -88,8 +93,8 @@ uint32_t arrow2_copy_bits(const uint8_t *bytes, size_t bytes_count, size_t offse
 
 /* ---- Truth tables
  *
- * Bit a1 + 2 * a2 + 4 * a3 + 8 * a4 of `table` is its output for inputs a1 to a4: 8 is and, 14 or, 6 xor of two inputs,
- * 1 is not. Each input is `length` bits from its offset on.
+ * Bit a1 + 2 * a2 + 4 * a3 + 8 * a4 of `table` is its output for inputs a1 to a4. Of two inputs 8 is AND, 14 OR, 6 XOR;
+ * of one input 1 is NOT. Each input is `length` bits from its offset on.
  * ARROW2_RANGE: a table of one input is above 3, of two above 15, of three above 255, or an input is not inside its
  * bytes. Else ARROW2_LENGTH: `out` has another length. */
 
@@ -109,8 +114,9 @@ uint32_t arrow2_quaternary_table(const uint8_t *first, size_t first_count, size_
                                  size_t third_offset, const uint8_t *fourth, size_t fourth_count, size_t fourth_offset,
                                  size_t length, uint16_t table, uint8_t *out, size_t out_count);
 
-/* The same in place: the first input is the first `length` bits of `bytes`, which are (length + 7) / 8, and the outputs
- * are written over it. Codes as above; ARROW2_LENGTH: `bytes` has another length. */
+/* The same in place: the first input is the first `length` bits of `bytes`, and the outputs are written over it.
+ * ARROW2_RANGE: the table is above the same bound, or an input after the first is not inside its bytes.
+ * Else ARROW2_LENGTH: `bytes_count` is not (length + 7) / 8. */
 
 uint32_t arrow2_unary_assign_table(uint8_t *bytes, size_t bytes_count, size_t length, uint16_t table);
 
@@ -147,8 +153,9 @@ uint32_t arrow2_or_kleene(const uint8_t *left, size_t left_count, size_t left_of
                           size_t right_validity_count, size_t right_validity_offset, size_t length, uint8_t *values,
                           size_t values_count, uint8_t *validity, size_t validity_count);
 
-/* The same where a side may have no validity: with `left_all_valid` no item of the left side is null, and
- * `left_validity` is not read; so of the right side. */
+/* The same where a side may have no validity. If `left_all_valid` is true no item of the left side is null: pointer,
+ * count and offset of `left_validity` are ignored, and ARROW2_RANGE never comes from them. The same holds for the right
+ * side. */
 uint32_t arrow2_and_kleene_optional(const uint8_t *left, size_t left_count, size_t left_offset,
                                     const uint8_t *left_validity, size_t left_validity_count,
                                     size_t left_validity_offset, bool left_all_valid, const uint8_t *right,
@@ -170,36 +177,43 @@ uint32_t arrow2_or_kleene_optional(const uint8_t *left, size_t left_count, size_
  * length. */
 uint32_t arrow2_pack(const bool *items, size_t items_count, uint8_t *out, size_t out_count);
 
-/* Fills `out` with the bits from bit `offset` on, as booleans. ARROW2_RANGE: they are not inside. */
+/* Writes the `out_count` bits from bit `offset` on, as booleans. ARROW2_RANGE: they are not inside. */
 uint32_t arrow2_unpack(const uint8_t *bytes, size_t bytes_count, size_t offset, bool *out, size_t out_count);
 
 /* ---- Runs and indices of set bits */
 
-/* Writes the runs of set bits among the `length` bits from bit `offset` on, from index `*at` of them on: each by its
- * first index, counted from bit `offset` on, and its length, until the slices are full or no run is left. Writes to
- * `count` how many were written, and to `at` the index from which to go on. Begin with 0 in `at`. If fewer runs are
- * written than fit, all runs have been returned and `*at` equals `length`. A loop over all runs needs slices of at
- * least one item: with none `count` is 0 and `at` may stay.
- * ARROW2_RANGE: the bits are not inside the bytes, or `*at` is above `length`. Else ARROW2_LENGTH: `starts` and
- * `lengths` have different lengths. */
+/* Finds the runs of set bits in a range, the `length` bits from bit `offset` on. Bits of the range are counted from
+ * `offset`. The search begins at bit `*at` of the range: set `*at` to 0 before the first call. Run k is `lengths[k]`
+ * bits from bit `starts[k]` of the range on. The call stops when the slices are full or no run is left. It writes to
+ * `*count` how many runs it has written, and to `*at` where the next call goes on. If `*count < starts_count`, all runs
+ * are done, and `*at` equals `length`. The items of `starts` and `lengths` from `*count` on may have been written too.
+ * A loop over all runs needs slices of at least one item: with none `*count` is 0, and `*at` may stay.
+ * ARROW2_RANGE: the range is not inside the bytes, or `*at` is above `length`. Else ARROW2_LENGTH: `starts_count` is
+ * not `lengths_count`. */
 uint32_t arrow2_runs(const uint8_t *bytes, size_t bytes_count, size_t offset, size_t length, size_t *at, size_t *starts,
                      size_t starts_count, size_t *lengths, size_t lengths_count, size_t *count);
 
-/* Writes the indices of set bits among the `length` bits from bit `offset` on, from index `*at` of them on, rising,
- * each counted from bit `offset` on, until `indices` is full or none is left. Writes to `count` how many were written,
- * and to `at` the index from which to go on. Begin with 0 in `at`. If fewer indices are written than fit, all have been
- * returned and `*at` equals `length`. A loop over all indices needs a slice of at least one item.
- * ARROW2_RANGE: the bits are not inside the bytes, or `*at` is above `length`. */
+/* Finds the set bits in a range, the `length` bits from bit `offset` on. Bits of the range are counted from `offset`.
+ * The search begins at bit `*at` of the range: set `*at` to 0 before the first call. Bit `indices[k]` of the range is
+ * set, and the indices rise. The call stops when `indices` is full or no set bit is left. It writes to `*count` how
+ * many indices it has written, and to `*at` where the next call goes on. If `*count < indices_count`, all set bits are
+ * done, and `*at` equals `length`. The items of `indices` from `*count` on may have been written too. A loop over all
+ * set bits needs a slice of at least one item.
+ * ARROW2_RANGE: the range is not inside the bytes, or `*at` is above `length`. */
 uint32_t arrow2_set_indices(const uint8_t *bytes, size_t bytes_count, size_t offset, size_t length, size_t *at,
                            size_t *indices, size_t indices_count, size_t *count);
 
 /* ---- Offsets of 32 and of 64 bits
  *
- * Offsets are at least one number, none negative and none below the one before it: slot i spans from offset i to offset
- * i + 1. A call on numbers which are no offsets returns the first rule that they break, before any other code:
- * ARROW2_SPEC_EMPTY, ARROW2_SPEC_NEGATIVE, ARROW2_SPEC_FALLING. */
+ * Offsets are at least one number, none negative and none below the one before it. Slot i spans from offset i to offset
+ * i + 1. If the numbers are no offsets, each call on them but the `_unchecked` ones returns, before any other code,
+ * ARROW2_SPEC_EMPTY: there is no number; ARROW2_SPEC_NEGATIVE: the first is negative; ARROW2_SPEC_FALLING: the first is
+ * not negative, and some number is below the one before it.
+ *
+ * The four `_unchecked` calls test no offset. Their numbers must be offsets, so at least one; else the behaviour is
+ * undefined, and memory outside `offsets` may be read. Their other codes come as without `_unchecked`. */
 
-/* Whether the numbers are offsets. */
+/* Returns ARROW2_OK if the numbers are offsets. */
 uint32_t arrow2_offsets32_check(const int32_t *offsets, size_t offsets_count);
 uint32_t arrow2_offsets64_check(const int64_t *offsets, size_t offsets_count);
 
@@ -207,33 +221,34 @@ uint32_t arrow2_offsets64_check(const int64_t *offsets, size_t offsets_count);
 uint32_t arrow2_offsets32_lengths(const int32_t *offsets, size_t offsets_count, size_t *out, size_t out_count);
 uint32_t arrow2_offsets64_lengths(const int64_t *offsets, size_t offsets_count, size_t *out, size_t out_count);
 
-/* The same, and no offset is tested. Requires that the numbers are offsets, as arrow2_offsets32_check or
- * arrow2_offsets64_check found: of other numbers memory outside `offsets` may be read. */
+/* The same of numbers that must be offsets, as arrow2_offsets32_check or arrow2_offsets64_check found; else the
+ * behaviour is undefined. ARROW2_LENGTH as above. */
 uint32_t arrow2_offsets32_lengths_unchecked(const int32_t *offsets, size_t offsets_count, size_t *out,
                                             size_t out_count);
 uint32_t arrow2_offsets64_lengths_unchecked(const int64_t *offsets, size_t offsets_count, size_t *out,
                                             size_t out_count);
 
-/* Writes `start`, followed by the running sums of the lengths.
+/* Writes `start`; each number after it is the one before plus the next length.
  * ARROW2_LENGTH: `out_count` is not `lengths_count + 1`. Else ARROW2_OVERFLOW: `start` and all lengths, added up
- * exactly, are above the greatest offset. */
+ * exactly, are above 2147483647 or 9223372036854775807. */
 uint32_t arrow2_offsets32_from_lengths(size_t start, const size_t *lengths, size_t lengths_count, int32_t *out,
                                        size_t out_count);
 uint32_t arrow2_offsets64_from_lengths(size_t start, const size_t *lengths, size_t lengths_count, int64_t *out,
                                        size_t out_count);
 
-/* Fills `out` with the offsets from offset `from` on, each less the first of them.
- * ARROW2_LENGTH: `out` has no item. Else ARROW2_RANGE: they are not inside. */
+/* Writes out[i] = offsets[from + i] - offsets[from] for each item of `out`.
+ * ARROW2_LENGTH: `out_count` is 0. Else ARROW2_RANGE: from + out_count > offsets_count, without overflow. */
 uint32_t arrow2_offsets32_rebase(const int32_t *offsets, size_t offsets_count, size_t from, int32_t *out,
-                                    size_t out_count);
+                                 size_t out_count);
 uint32_t arrow2_offsets64_rebase(const int64_t *offsets, size_t offsets_count, size_t from, int64_t *out,
-                                    size_t out_count);
+                                 size_t out_count);
 
-/* The same, and no offset is tested. Requires that the numbers are offsets. */
+/* The same of numbers that must be offsets, so at least one; else the behaviour is undefined. ARROW2_LENGTH and
+ * ARROW2_RANGE as above. */
 uint32_t arrow2_offsets32_rebase_unchecked(const int32_t *offsets, size_t offsets_count, size_t from, int32_t *out,
-                                              size_t out_count);
+                                           size_t out_count);
 uint32_t arrow2_offsets64_rebase_unchecked(const int64_t *offsets, size_t offsets_count, size_t from, int64_t *out,
-                                              size_t out_count);
+                                           size_t out_count);
 
 /* Writes the same numbers in the other width. ARROW2_LENGTH: `out` has another length than `offsets`.
  * Else, where they are narrowed, ARROW2_OVERFLOW: the last one is above 2147483647. */
@@ -242,8 +257,9 @@ uint32_t arrow2_offsets_narrow(const int64_t *offsets, size_t offsets_count, int
 
 /* ---- Checks of arrays that somebody else made
  *
- * Each returns ARROW2_OK exactly where its condition holds, and else the first rule that is broken, in the order in
- * which its codes are named. `index` and `slot` are written with the codes that name them, and with no other. */
+ * Each returns ARROW2_OK exactly where its condition holds, else the code of the first rule that is broken, in the
+ * order in which its codes are named. `*index` and `*slot` are written with the codes that name them, and with no
+ * other. */
 
 /* Whether the `length` bits from bit `offset` on are inside, and `null_count` of them not set; with -1 the count is not
  * checked.
@@ -251,28 +267,31 @@ uint32_t arrow2_offsets_narrow(const int64_t *offsets, size_t offsets_count, int
 uint32_t arrow2_validity_check(const uint8_t *bytes, size_t bytes_count, size_t offset, size_t length,
                                int64_t null_count);
 
-/* Whether `bytes` bytes have `length` bits from bit `offset` on, or `length` values of `width` bytes from value
- * `offset` on. ARROW2_RANGE: they do not. */
+/* `bytes` is a number of bytes. The first returns ARROW2_OK if offset + length <= 8 * bytes, the second if
+ * (offset + length) * width <= bytes; else ARROW2_RANGE. All is computed without overflow. Values of width 0 always
+ * fit. */
 uint32_t arrow2_bits_check(size_t bytes, size_t offset, size_t length);
 uint32_t arrow2_values_check(size_t bytes, size_t width, size_t offset, size_t length);
 
-/* Whether the numbers are offsets, and none is past `items` items. ARROW2_SPEC_EMPTY, ARROW2_SPEC_NEGATIVE,
- * ARROW2_SPEC_FALLING: they are no offsets. ARROW2_PAST: the last one is above `items`. With ARROW2_SPEC_FALLING and
- * ARROW2_PAST `index` is that of the first number that is below the one before it, or above `items`. */
+/* Whether the numbers are offsets, and none is above `items`. ARROW2_SPEC_EMPTY, ARROW2_SPEC_NEGATIVE,
+ * ARROW2_SPEC_FALLING: they are no offsets. ARROW2_PAST: the last one is above `items`.
+ * `*index` is a position in `offsets`: with ARROW2_SPEC_FALLING that of the first number below the one before it, with
+ * ARROW2_PAST that of the first number above `items`. With any other code it is not written. */
 uint32_t arrow2_offsets32_check_inside(const int32_t *offsets, size_t offsets_count, size_t items, size_t *index);
 uint32_t arrow2_offsets64_check_inside(const int64_t *offsets, size_t offsets_count, size_t items, size_t *index);
 
-/* Whether the numbers are offsets, none is past the values, and the values of each slot, from its offset to the next,
- * are UTF-8. Codes and `index` as above, with the values as items. ARROW2_UTF8: a slot is not UTF-8; `index` is the
- * first such slot. */
+/* Whether the numbers are offsets, none is above `values_count`, and the values of each slot, from its offset to the
+ * next, are UTF-8. Codes and `*index` as above, with `values_count` as `items`. Then ARROW2_UTF8: a slot is not UTF-8;
+ * `*index` is the first such slot. */
 uint32_t arrow2_texts32_check(const int32_t *offsets, size_t offsets_count, const uint8_t *values, size_t values_count,
                               size_t *index);
 uint32_t arrow2_texts64_check(const int64_t *offsets, size_t offsets_count, const uint8_t *values, size_t values_count,
                               size_t *index);
 
-/* Whether each index is at least 0 and below `items`, or null by its bit of the validity. With `all_valid` none is
- * null, and of the validity nothing is read. ARROW2_RANGE: the validity has no bit for each. ARROW2_INDEX: an index is
- * neither; `slot` is the first such. */
+/* Whether each index is at least 0 and below `items`, or null by its bit of the validity. If `all_valid` is true none
+ * is null: pointer, count and offset of the validity are ignored, and ARROW2_RANGE never comes from them.
+ * ARROW2_RANGE: the bits of the indices are not inside the validity. ARROW2_INDEX: an index that is not null is
+ * negative or not below `items`; `*slot` is the first such, counted from 0. */
 uint32_t arrow2_indices_i8_check(const int8_t *indices, size_t indices_count, const uint8_t *validity,
                                  size_t validity_count, size_t validity_offset, bool all_valid, size_t items,
                                  size_t *slot);
