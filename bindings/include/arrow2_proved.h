@@ -201,7 +201,7 @@ uint32_t arrow2_runs(const uint8_t *bytes, size_t bytes_count, size_t offset, si
  * set bits needs a slice of at least one item.
  * ARROW2_RANGE: the range is not inside the bytes, or `*at` is above `length`. */
 uint32_t arrow2_set_indices(const uint8_t *bytes, size_t bytes_count, size_t offset, size_t length, size_t *at,
-                           size_t *indices, size_t indices_count, size_t *count);
+                            size_t *indices, size_t indices_count, size_t *count);
 
 /* ---- Offsets of 32 and of 64 bits
  *
