@@ -21,26 +21,27 @@ pub record IsFirstPast (xs : List ℤ) (n k : ℕ) : Type 0 where
 
 -- the code of a check that numbers are offsets into n items, and the index that it writes
 pub record ChecksOffsets (code : ℕ) (xs : List ℤ) (n old new : ℕ) : Type 0 where
-  -- it is that of success exactly where they are, and the last one is at most n
+  -- `code` is ARROW2_OK exactly where the numbers are offsets and the last one is at most n
   pub ok : (code ≡ ARROW2_OK) ↔ (AreOffsets xs × (last_of xs ≤ n))
-  -- for numbers that are not offsets it is that of the rule which they break first
+  -- for numbers that are not offsets, `code` is that of the rule which they break first
   pub broken : ¬ AreOffsets xs → code ≡ rule_code (first_broken xs)
-  -- and for offsets the last of which is above n the one of this
+  -- for offsets of which the last one is above n, `code` is ARROW2_PAST
   pub past : AreOffsets xs → n < last_of xs → code ≡ ARROW2_PAST
-  -- the index of the first number that falls, or is above n
+  -- with ARROW2_SPEC_FALLING, `new` is the index of the first number that is below the one before it
   pub falling : code ≡ ARROW2_SPEC_FALLING → IsFirstFalling xs new
+  -- with ARROW2_PAST, `new` is the index of the first number that is above n
   pub past_index : code ≡ ARROW2_PAST → IsFirstPast xs n new
-  -- with any other code nothing was written
+  -- with any other code the index is not written
   pub kept : code ≢ ARROW2_SPEC_FALLING → code ≢ ARROW2_PAST → new ≡ old
 
--- the code of a check that numbers are offsets, and the values of each slot UTF-8
+-- the code of a check that numbers are offsets, and that the values of each slot are UTF-8
 pub record ChecksTexts (code : ℕ) (xs : List ℤ) (values : List ℕ) (old new : ℕ) : Type 0 where
-  -- it is that of success exactly where this is so
+  -- `code` is ARROW2_OK exactly where the numbers are offsets, and are texts of the values
   pub ok : (code ≡ ARROW2_OK) ↔ (AreOffsets xs × AreTexts xs values)
-  -- where it is that of values that are not UTF-8, the numbers are offsets and inside, and the first such slot was
-  -- written
+  -- with ARROW2_UTF8 the numbers are offsets, none is above the number of values, and `new` is the first slot whose
+  -- values are not UTF-8
   pub utf8 : code ≡ ARROW2_UTF8 → AreOffsets xs × (last_of xs ≤ length values) × IsFirstBroken (slot_values xs values) new
-  -- any other is that of the offsets
+  -- any other code but ARROW2_OK is that of the check of the offsets alone
   pub other : code ≢ ARROW2_OK → code ≢ ARROW2_UTF8 → ChecksOffsets code xs (length values) old new
-  -- where all is right nothing was written
+  -- with ARROW2_OK the index is not written
   pub kept : code ≡ ARROW2_OK → new ≡ old

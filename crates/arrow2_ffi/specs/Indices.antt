@@ -12,7 +12,7 @@ IsIndex x n = (pos 0 ≤ℤ x) × (x <ℤ pos n)
 abbrev pub IsIndexOrNull : List ℤ → List Bool → ℕ → ℕ → Type 0
 IsIndexOrNull xs valid n k = IsTrue (slice_index_or valid k false) → IsIndex (slice_index_or xs k (pos 0)) n
 
--- item k is the first that is neither
+-- item k is the first that is neither null nor an index below n
 pub record IsFirstOutside (xs : List ℤ) (valid : List Bool) (n k : ℕ) : Type 0 where
   pub inside : k < length xs
   pub before : (j : ℕ) → j < k → IsIndexOrNull xs valid n j
@@ -20,13 +20,13 @@ pub record IsFirstOutside (xs : List ℤ) (valid : List Bool) (n k : ℕ) : Type
 
 -- the code of a check that items are indices below n or null, and the slot that it writes
 pub record ChecksIndices (code : ℕ) (xs : List ℤ) (validity : Option (List ℕ × ℕ)) (n old new : ℕ) : Type 0 where
-  -- it is that of ranges exactly where the validity has too few bits
+  -- `code` is ARROW2_RANGE exactly where the validity has too few bits
   pub range : (code ≡ ARROW2_RANGE) ↔ ¬ SaysOf validity (length xs)
-  -- that of success exactly where it has enough, and each item is null or an index
+  -- `code` is ARROW2_OK exactly where the validity has a bit for each item, and each item is null or an index
   pub ok : (code ≡ ARROW2_OK) ↔ (SaysOf validity (length xs) × ((k : ℕ) → k < length xs → IsIndexOrNull xs (valid_items validity (length xs)) n k))
-  -- else it is that of indices
+  -- `code` is ARROW2_OK, ARROW2_RANGE or ARROW2_INDEX
   pub only : (code ≡ ARROW2_OK) ⊎ (code ≡ ARROW2_RANGE) ⊎ (code ≡ ARROW2_INDEX)
-  -- and then the first item that is neither was written
+  -- with ARROW2_INDEX, `new` is the first item that is neither null nor an index
   pub index : code ≡ ARROW2_INDEX → IsFirstOutside xs (valid_items validity (length xs)) n new
-  -- with any other code nothing was
+  -- with any other code the slot is not written
   pub kept : code ≢ ARROW2_INDEX → new ≡ old

@@ -11,16 +11,16 @@ use Rattle.arrow2_ffi.specs.Writes.{Stores, Writes}
 use Rattle.arrow2_ffi.specs.declared.kleene.Nullable.{Nullable}
 use Rattle.arrow2_ffi.specs.declared.kleene_optional.Side.{Side}
 
--- values and their validity: of each the bytes, and the first bit
+-- values and their validity: for each of the two, the bytes and the first bit
 pub record Input : Type 0 where
   pub values : List ℕ × ℕ
   pub validity : List ℕ × ℕ
 
--- the same of the slices that a call has
+-- the input that a call was given as slices
 abbrev pub input_of : Nullable → Input
 input_of x = record { values = (x.values.0.now, x.values.1); validity = (x.validity.0.now, x.validity.1) }
 
--- n of the items
+-- the first n items of an input: each a value, or none where it is null
 abbrev pub items_of : ℕ → Input → List (Option Bool)
 items_of n x = zipped (part (bits x.values.0) x.values.1 n) (part (bits x.validity.0) x.validity.1 n)
 
@@ -28,11 +28,12 @@ items_of n x = zipped (part (bits x.values.0) x.values.1 n) (part (bits x.validi
 abbrev pub values_of : Input → Input → List (List ℕ × ℕ)
 values_of left right = left.values ∷ right.values ∷ []
 
--- the same, each before its validity
+-- values and validity of the left input, then values and validity of the right one
 abbrev pub parts_of : Input → Input → List (List ℕ × ℕ)
 parts_of left right = left.values ∷ left.validity ∷ right.values ∷ right.validity ∷ []
 
--- the n items that f makes are stored, by a table of the values and one of which of them are known
+-- the results of f for n items of both inputs are stored: their values by table `t` of two inputs, their validity by
+-- table `known` of four
 pub record StoresKleene (f : Option Bool → Option Bool → Option Bool) (t known n : ℕ) (left right : Input) (new_values new_validity : List ℕ) : Type 0 where
   -- item by item
   pub items : zipped (take n (bits new_values)) (take n (bits new_validity)) ≡ by_items f (items_of n left) (items_of n right)
@@ -41,41 +42,42 @@ pub record StoresKleene (f : Option Bool → Option Bool → Option Bool) (t kno
   -- the validity
   pub validity : Stores new_validity n (each known (inputs_of n (parts_of left right)))
 
--- the code of a call that writes these
+-- the code of a call that stores the results of f for n items of both inputs in `values` and `validity`
 abbrev pub WritesKleene : (code : ℕ) → (Option Bool → Option Bool → Option Bool) → (t known n : ℕ) → (left right : Input) → (values new_values validity new_validity : List ℕ) → Type 0
 WritesKleene code f t known n left right values new_values validity new_validity = Writes code (AreInside n (parts_of left right)) (Holds values n × Holds validity n) (StoresKleene f t known n left right new_values new_validity) ((new_values ≡ values) × (new_validity ≡ validity))
 
--- values, and their validity where some may be null
+-- values, and their validity, which may be missing where no item is null
 pub record OptionalInput : Type 0 where
   pub values : List ℕ × ℕ
   pub validity : Option (List ℕ × ℕ)
 
--- the same of the slices that a call has
+-- the input that a call was given as slices, with a validity or none
 abbrev pub optional_of : Side → OptionalInput
 optional_of x = record { values = (x.values.0.now, x.values.1); validity = validity_of x.validity }
 
--- n of the values, and which of n items are not null
+-- the first n values of an input; and which of its first n items are not null
 abbrev pub first_values : ℕ → OptionalInput → List Bool
 first_values n x = part (bits x.values.0) x.values.1 n
 
 abbrev pub first_valid : ℕ → OptionalInput → List Bool
 first_valid n x = valid_items x.validity n
 
--- n of both are inside
+-- n values of an input are inside their bytes, and its validity, if there is one, has a bit for each
 abbrev pub IsWholeInside : ℕ → OptionalInput → Type 0
 IsWholeInside n x = IsInside x.values.0 x.values.1 n × SaysOf x.validity n
 
--- a table of three inputs, of value and validity of an item and of the value of one that is not null, has the outputs
--- of a table of four
+-- table `beside` of three inputs has the outputs of table `known` of four where one of the two items is not null. The
+-- inputs of `beside` are value and validity of the item that may be null, then the value of the other item
 pub record IsBeside (beside known : ℕ) : Type 0 where
-  -- where the second item is the one that is not null
+  -- where the second item is not null
   pub second : (a n b : Bool) → answer beside (a ∷ n ∷ b ∷ []) ≡ answer known (a ∷ n ∷ b ∷ true ∷ [])
-  -- where the first one is
+  -- where the first item is not null
   pub first : (a b m : Bool) → answer beside (b ∷ m ∷ a ∷ []) ≡ answer known (a ∷ true ∷ b ∷ m ∷ [])
-  -- and where neither is null the output of the table of four is true
+  -- where neither item is null the output of `known` is true
   pub both : (a b : Bool) → answer known (a ∷ true ∷ b ∷ true ∷ []) ≡ true
 
--- the n items that f makes are stored, by a table of the values and one of which of them are known
+-- the results of f for n items of both inputs are stored: their values by table `t` of two inputs, their validity by
+-- table `known` of four
 pub record StoresOptionalKleene (f : Option Bool → Option Bool → Option Bool) (t known n : ℕ) (left right : OptionalInput) (new_values new_validity : List ℕ) : Type 0 where
   -- item by item
   pub items : zipped (take n (bits new_values)) (take n (bits new_validity)) ≡ by_items f (zipped (first_values n left) (first_valid n left)) (zipped (first_values n right) (first_valid n right))
@@ -84,6 +86,6 @@ pub record StoresOptionalKleene (f : Option Bool → Option Bool → Option Bool
   -- the validity
   pub validity : Stores new_validity n (each known (first_values n left ∷ first_valid n left ∷ first_values n right ∷ first_valid n right ∷ []))
 
--- the code of a call that writes these
+-- the code of a call that stores the results of f for n items of both inputs in `values` and `validity`
 abbrev pub WritesOptionalKleene : (code : ℕ) → (Option Bool → Option Bool → Option Bool) → (t known n : ℕ) → (left right : OptionalInput) → (values new_values validity new_validity : List ℕ) → Type 0
 WritesOptionalKleene code f t known n left right values new_values validity new_validity = Writes code (IsWholeInside n left × IsWholeInside n right) (Holds values n × Holds validity n) (StoresOptionalKleene f t known n left right new_values new_validity) ((new_values ≡ values) × (new_validity ≡ validity))

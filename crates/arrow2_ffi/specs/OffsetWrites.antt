@@ -5,30 +5,30 @@ use Rattle.arrow2_offset.specs.Refused.{first_broken}
 use Rattle.arrow2_ffi.specs.declared.codes.TheConstants.{ARROW2_OK, ARROW2_LENGTH}
 use Rattle.arrow2_ffi.specs.Rules.{rule_code}
 
--- the code of a call on offsets that writes unless a slice is too short or too long
+-- the code of a call on the numbers xs that writes what `done` states, unless they are not offsets or a slice `misfits`
 pub record WritesFromOffsets (xs : List ℤ) (code : ℕ) (misfits done unchanged : Type 0) : Type 0 where
-  -- for numbers that are not offsets it is that of the rule which they break first
+  -- for numbers that are not offsets, `code` is that of the rule which they break first
   pub broken : ¬ AreOffsets xs → code ≡ rule_code (first_broken xs)
-  -- for offsets it is that of lengths exactly where the slice misfits
+  -- for offsets, `code` is ARROW2_LENGTH exactly where the slice misfits
   pub length : AreOffsets xs → ((code ≡ ARROW2_LENGTH) ↔ misfits)
-  -- else it is that of success
+  -- for offsets, `code` is ARROW2_OK or ARROW2_LENGTH
   pub only : AreOffsets xs → (code ≡ ARROW2_OK) ⊎ (code ≡ ARROW2_LENGTH)
-  -- and then it did
+  -- with ARROW2_OK the call wrote what `done` states
   pub ok : code ≡ ARROW2_OK → done
   -- with any other code nothing was written
   pub refused : code ≢ ARROW2_OK → unchanged
 
--- the same of a call with a second code, for an index beyond a bound
+-- the code of a call as of WritesFromOffsets that returns `second_code` where something is beyond a bound
 pub record WritesFromOffsetsOr (second_code : ℕ) (xs : List ℤ) (code : ℕ) (misfits beyond done unchanged : Type 0) : Type 0 where
-  -- for numbers that are not offsets it is that of the rule which they break first
+  -- for numbers that are not offsets, `code` is that of the rule which they break first
   pub broken : ¬ AreOffsets xs → code ≡ rule_code (first_broken xs)
-  -- for offsets it is that of lengths exactly where the slice misfits
+  -- for offsets, `code` is ARROW2_LENGTH exactly where the slice misfits
   pub length : AreOffsets xs → ((code ≡ ARROW2_LENGTH) ↔ misfits)
-  -- it is the second one exactly where the slice fits and something is beyond it
+  -- for offsets, `code` is `second_code` exactly where `code` is not ARROW2_LENGTH and `beyond` holds
   pub second : AreOffsets xs → ((code ≡ second_code) ↔ ((code ≢ ARROW2_LENGTH) × beyond))
-  -- else it is that of success
+  -- for offsets, `code` is ARROW2_OK, ARROW2_LENGTH or `second_code`
   pub only : AreOffsets xs → (code ≡ ARROW2_OK) ⊎ (code ≡ ARROW2_LENGTH) ⊎ (code ≡ second_code)
-  -- and then it did
+  -- with ARROW2_OK the call wrote what `done` states
   pub ok : code ≡ ARROW2_OK → done
   -- with any other code nothing was written
   pub refused : code ≢ ARROW2_OK → unchanged

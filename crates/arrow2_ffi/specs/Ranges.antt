@@ -8,12 +8,12 @@ use Rattle.arrow2_ffi.specs.declared.ranges.Bits.{Bits}
 abbrev pub IsInside : List ℕ → ℕ → ℕ → Type 0
 IsInside bytes o n = o + n ≤ 8 * length bytes
 
--- the same of each of these bytes, from the bit paired with them on
+-- for each pair (bytes, o) of `inputs`, the n bits from bit o on are inside the bytes
 abbrev pub AreInside : ℕ → List (List ℕ × ℕ) → Type 0
 AreInside n [] = Unit {0}
 AreInside n (input ∷ inputs) = IsInside input.0 input.1 n × AreInside n inputs
 
--- n bits of each of these bytes, from the bit paired with them on
+-- for each pair (bytes, o) of `inputs`, the n bits from bit o on
 abbrev pub inputs_of : ℕ → List (List ℕ × ℕ) → List (List Bool)
 inputs_of n inputs = map (λ input. part (bits input.0) input.1 n) inputs
 
@@ -21,10 +21,10 @@ inputs_of n inputs = map (λ input. part (bits input.0) input.1 n) inputs
 abbrev pub Holds : List ℕ → ℕ → Type 0
 Holds bytes n = length bytes ≡ (n + 7) / 8
 
--- the first n bits of these
+-- the first n bits of the bits `b`, which are bytes and the bit at which they begin
 abbrev pub first_bits : Bits → ℕ → List Bool
 first_bits b n = part (bits b.0.now) b.1 n
 
--- there are n
+-- the bits `b` are at least n: n bits from their first bit on are inside their bytes
 abbrev pub HasBits : Bits → ℕ → Type 0
 HasBits b n = IsInside b.0.now b.1 n

@@ -6,17 +6,17 @@ use Rattle.arrow2_offset.specs.declared.check.BrokenRule.{BrokenRule}
 use Rattle.arrow2_offset.specs.declared.check.BrokenRule.TheVariants.{Empty, Negative, Falling}
 use Rattle.arrow2_ffi.specs.declared.codes.TheConstants.{ARROW2_OK, ARROW2_SPEC_EMPTY, ARROW2_SPEC_NEGATIVE, ARROW2_SPEC_FALLING}
 
--- that of the rule which it breaks first
+-- the code for the rule that a list breaks first
 abbrev pub rule_code : BrokenRule → ℕ
 rule_code Empty = ARROW2_SPEC_EMPTY
 rule_code Negative = ARROW2_SPEC_NEGATIVE
 rule_code Falling = ARROW2_SPEC_FALLING
 
--- the code is that for such a list
+-- `code` is the one for a list that is not offsets
 pub record TellsBroken (code : ℕ) (xs : List ℤ) : Type 0 where
   -- the list is not offsets
   pub broken : ¬ AreOffsets xs
-  -- the code is that of the rule which it breaks first
+  -- `code` is that of the rule which the list breaks first
   pub rule : code ≡ rule_code (first_broken xs)
-  -- so it is not that of success
+  -- `code` is not ARROW2_OK
   pub other : code ≢ ARROW2_OK

@@ -5,21 +5,21 @@ use Rattle.arrow2_model.specs.Parts.{part}
 use Rattle.arrow2_ffi.specs.declared.ranges.Bits.{Bits}
 use Rattle.arrow2_ffi.specs.Ranges.{IsInside}
 
--- a validity that a call was given: its bytes and the first bit, or none where all items are valid
+-- the validity that a call was given: none if `all_valid` is true, else its bytes and its first bit
 abbrev pub given : Bool → List ℕ → ℕ → Option (List ℕ × ℕ)
 given all_valid bytes offset = if all_valid then None else Some (bytes, offset)
 
--- the same of the bits that a call has
+-- the validity that a call was given as bits, or none: its bytes and its first bit
 abbrev pub validity_of : Option Bits → Option (List ℕ × ℕ)
 validity_of None = None
 validity_of (Some b) = Some (b.0.now, b.1)
 
--- which of n items are not null by it
+-- which of n items are not null by a validity: all of them where there is none
 abbrev pub valid_items : Option (List ℕ × ℕ) → ℕ → List Bool
 valid_items None n = replicate n true
 valid_items (Some v) n = part (bits v.0) v.1 n
 
--- it has a bit for each of n items
+-- a validity, if there is one, has a bit for each of n items
 abbrev pub SaysOf : Option (List ℕ × ℕ) → ℕ → Type 0
 SaysOf None n = Unit {0}
 SaysOf (Some v) n = IsInside v.0 v.1 n

@@ -6,26 +6,26 @@ use Rattle.arrow2_model.specs.Tables.{each}
 use Rattle.arrow2_ffi.specs.Ranges.{Holds, AreInside, inputs_of}
 use Rattle.arrow2_ffi.specs.declared.codes.TheConstants.{ARROW2_OK, ARROW2_RANGE, ARROW2_LENGTH}
 
--- the code of a call that writes where all is inside and slices have the lengths that it needs
+-- the code of a call that writes where its ranges are inside and its slices have the lengths that it needs
 pub record Writes (code : ℕ) (inside holds done unchanged : Type 0) : Type 0 where
-  -- it is that of ranges exactly where something is not inside
+  -- `code` is ARROW2_RANGE exactly where `inside` does not hold
   pub range : (code ≡ ARROW2_RANGE) ↔ ¬ inside
-  -- it is that of lengths exactly where all is inside and a slice has more or fewer items
+  -- `code` is ARROW2_LENGTH exactly where `inside` holds and `holds` does not
   pub length : (code ≡ ARROW2_LENGTH) ↔ ((code ≢ ARROW2_RANGE) × ¬ holds)
-  -- else it is that of success
+  -- `code` is ARROW2_OK, ARROW2_RANGE or ARROW2_LENGTH
   pub only : (code ≡ ARROW2_OK) ⊎ (code ≡ ARROW2_RANGE) ⊎ (code ≡ ARROW2_LENGTH)
-  -- and then it did
+  -- with ARROW2_OK the call wrote what `done` states
   pub ok : code ≡ ARROW2_OK → done
   -- with any other code nothing was written
   pub refused : code ≢ ARROW2_OK → unchanged
 
--- the code of a call that writes where one thing fits, and has one code for where it does not
+-- the code of a call that writes where `fits` holds, and has the one code `other` for where it does not
 pub record WritesWhere (other code : ℕ) (fits done unchanged : Type 0) : Type 0 where
-  -- it is that one exactly where the thing does not fit
+  -- `code` is `other` exactly where `fits` does not hold
   pub refusal : (code ≡ other) ↔ ¬ fits
-  -- else it is that of success
+  -- `code` is ARROW2_OK or `other`
   pub only : (code ≡ ARROW2_OK) ⊎ (code ≡ other)
-  -- and then it did
+  -- with ARROW2_OK the call wrote what `done` states
   pub ok : code ≡ ARROW2_OK → done
   -- with any other code nothing was written
   pub refused : code ≢ ARROW2_OK → unchanged
@@ -37,24 +37,24 @@ pub record Stores (bytes : List ℕ) (n : ℕ) (list : List Bool) : Type 0 where
   -- the spare bytes and the padding bits
   pub canonical : IsCanonical bytes n
 
--- the code of a call that writes the outputs of table t for n bits of each input: the table is below a bound, and the
--- inputs are inside
+-- the code of a call that writes over `old` the outputs of table t for n bits of each input: with ARROW2_RANGE t is not
+-- below the bound or an input is not inside its bytes, with ARROW2_LENGTH `old` is not the bytes that n bits need
 abbrev pub WritesTable : (code bound t n : ℕ) → List (List ℕ × ℕ) → (old new : List ℕ) → Type 0
 WritesTable code bound t n inputs old new = Writes code ((t < bound) × AreInside n inputs) (Holds old n) (Stores new n (each t (inputs_of n inputs))) (new ≡ old)
 
--- the same where the first input is the first n bits of the bytes themselves
+-- the code of such a call in place: its first input is the first n bits of `old`, and `inputs` are the others
 abbrev pub WritesTableInPlace : (code bound t n : ℕ) → List (List ℕ × ℕ) → (old new : List ℕ) → Type 0
 WritesTableInPlace code bound t n inputs old new = Writes code ((t < bound) × AreInside n inputs) (Holds old n) (Stores new n (each t (take n (bits old) ∷ inputs_of n inputs))) (new ≡ old)
 
--- the first of the items that were left are written, until the capacity is used, and the others are left now
+-- of the items that were left before, the call wrote the first `count`, at most `room`; the others are left now
 pub record GoesOn {X : Type 0} (written left_before left_now : List X) (count room before at end : ℕ) : Type 0 where
-  -- those that were written come before those that are left
+  -- the written items, and then the items left now, are the items left before
   pub items : written ++ left_now ≡ left_before
-  -- there was capacity for them
+  -- no more items were written than there was room for
   pub most : count ≤ room
-  -- where capacity is left no item is, and the index from which to go on is the end
+  -- where fewer were written, no item is left, and the index `at` from which to go on is `end`
   pub last : count < room → (left_now ≡ []) × (at ≡ end)
-  -- that index is not before the one from which it went
+  -- the index `at` is not before the index `before` from which the call went on
   pub forth : before ≤ at
-  -- and it is inside
+  -- the index `at` is at most `end`
   pub goes_on : at ≤ end

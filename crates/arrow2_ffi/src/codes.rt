@@ -10,25 +10,25 @@ pub const ARROW2_RANGE: u32 = 1;
 /// A slice has more or fewer items than the call needs.
 pub const ARROW2_LENGTH: u32 = 2;
 
-/// A number is above the greatest offset.
+/// A number is above the greatest offset: 2147483647 of 32 bits, 9223372036854775807 of 64 bits.
 pub const ARROW2_OVERFLOW: u32 = 3;
 
 /// An allocation failed. No call allocates, so none returns it.
 pub const ARROW2_MEMORY: u32 = 4;
 
-/// A list of offsets has no item.
+/// Of numbers that should be offsets there is none.
 pub const ARROW2_SPEC_EMPTY: u32 = 5;
 
-/// A list of offsets begins with a negative number.
+/// The first of numbers that should be offsets is negative.
 pub const ARROW2_SPEC_NEGATIVE: u32 = 6;
 
-/// A list of offsets has a number that is below the one before it.
+/// The first of numbers that should be offsets is not negative, and some number is below the one before it.
 pub const ARROW2_SPEC_FALLING: u32 = 7;
 
 /// The number of nulls is not the declared one.
 pub const ARROW2_NULLS: u32 = 8;
 
-/// An offset is past the items that the offsets cut.
+/// An offset is greater than the number of bytes or child items that the offsets index.
 pub const ARROW2_PAST: u32 = 9;
 
 /// The bytes of a slot are not UTF-8.

@@ -6,9 +6,9 @@ use crate::inside::{check_inside, check_texts};
 
 /// Returns whether the numbers are offsets of 32 bits, none of which is above `items`.
 ///
-/// `ARROW2_SPEC_EMPTY`, `ARROW2_SPEC_NEGATIVE` or `ARROW2_SPEC_FALLING` for the first rule of offsets that they break,
-/// else `ARROW2_PAST` exactly where the last one is above `items`. `ARROW2_SPEC_FALLING` and `ARROW2_PAST` write the
-/// index of the first number that is below the one before it, or above `items`.
+/// The code of `arrow2_offsets32_check` where the numbers are no offsets, else `ARROW2_PAST` exactly where the last one
+/// is above `items`. `ARROW2_SPEC_FALLING` writes the index of the first number that is below the one before it,
+/// `ARROW2_PAST` that of the first number above `items`.
 #[unsafe(no_mangle)]
 pub extern "C" fn arrow2_offsets32_check_inside(
     offsets: &[i32],
@@ -32,11 +32,11 @@ pub extern "C" fn arrow2_offsets64_check_inside(
     check_inside(offsets, items, index)
 }
 
-/// Checks that the numbers are offsets of 32 bits, none is past the values, and the values of each slot, from its
-/// offset to the next, are UTF-8.
+/// Checks that the numbers are offsets of 32 bits, none is above the number of values, and the values of each slot,
+/// from its offset to the next, are UTF-8.
 ///
-/// Codes and index as of `arrow2_offsets32_check_inside` with the values as items; else `ARROW2_UTF8` exactly where a
-/// slot is not UTF-8, which writes the first such slot.
+/// Codes and index as of `arrow2_offsets32_check_inside` with the number of values as `items`; else `ARROW2_UTF8`
+/// exactly where a slot is not UTF-8, which writes the first such slot.
 #[unsafe(no_mangle)]
 pub extern "C" fn arrow2_texts32_check(offsets: &[i32], values: &[u8], index: &mut usize) -> u32
     ensures { ChecksTexts result offsets.now values.now index.old index.new }

@@ -27,11 +27,11 @@ struct Side<'a> {
     validity: Option<Bits<'a>>,
 }
 
-/// Writes, item by item, whether both are true, as `arrow2_and_kleene` does. Where `left_all_valid` is true no item of the
-/// left side is null, and of `left_validity` nothing is read; so of the right side.
+/// Writes, item by item, whether both are true, as `arrow2_and_kleene` does. Where `left_all_valid` is true no item of
+/// the left side is null, and `left_validity` and its offset are ignored; so of the right side.
 ///
-/// `ARROW2_RANGE` exactly where bits of any that are read are not inside, else `ARROW2_LENGTH` exactly where `values` or
-/// `validity` has not as many bytes as hold the items.
+/// `ARROW2_RANGE` exactly where bits of values or of a validity that is not ignored are not inside, else
+/// `ARROW2_LENGTH` exactly where `values` or `validity` has not as many bytes as hold the items.
 #[unsafe(no_mangle)]
 pub extern "C" fn arrow2_and_kleene_optional(
     left: &[u8],
@@ -70,8 +70,8 @@ pub extern "C" fn arrow2_and_kleene_optional(
     write::<AND_VALUES, AND_KNOWN, AND_KNOWN_BESIDE>(left, right, length, values, validity)
 }
 
-/// Writes, item by item, whether one is true, or both, as `arrow2_or_kleene` does. Where `left_all_valid` is true no item
-/// of the left side is null, and of `left_validity` nothing is read; so of the right side.
+/// Writes, item by item, whether one is true, or both, as `arrow2_or_kleene` does. Where `left_all_valid` is true no
+/// item of the left side is null, and `left_validity` and its offset are ignored; so of the right side.
 ///
 /// Codes as of `arrow2_and_kleene_optional`.
 #[unsafe(no_mangle)]
@@ -112,7 +112,8 @@ pub extern "C" fn arrow2_or_kleene_optional(
     write::<OR_VALUES, OR_KNOWN, OR_KNOWN_BESIDE>(left, right, length, values, validity)
 }
 
-/// Writes the values by table `VALUES` of two inputs, and the validity by table `KNOWN` of four, or by `BESIDE` of three.
+/// Writes the values by table `VALUES` of two inputs, and the validity by table `KNOWN` of four, or by `BESIDE` of
+/// three.
 fn write<const VALUES: u8, const KNOWN: u16, const BESIDE: u8>(
     left: Side<'_>,
     right: Side<'_>,
@@ -142,8 +143,8 @@ fn is_inside(side: Side<'_>, length: usize) -> bool
     are_inside(side.values, length) && says_of(side.validity, length)
 }
 
-/// Writes which answers are known: by table `KNOWN` of values and validities, and where one side has no validity by table
-/// `BESIDE`, whose inputs are value and validity of the other side and the value of this one.
+/// Writes which answers are known: by table `KNOWN` of values and validities, and where one side has no validity by
+/// table `BESIDE`, whose inputs are value and validity of the other side and the value of this one.
 fn write_known<const KNOWN: u16, const BESIDE: u8>(
     out: &mut [u8],
     length: usize,

@@ -27,7 +27,7 @@ pub(crate) fn refusal<O: Offset>(offsets: &[O]) -> Option<u32>
     }
 }
 
-/// Returns whether the numbers are offsets, and else which rule they break first.
+/// Returns `ARROW2_OK` where the numbers are offsets, else the code of the first rule that they break.
 pub(crate) fn check<O: Offset>(offsets: &[O]) -> u32
     ensures ok { result ≡ ARROW2_OK ↔ AreOffsets (map O.value offsets.now) }
     ensures broken { result ≢ ARROW2_OK →
@@ -48,7 +48,7 @@ pub(crate) fn lengths<O: Offset>(offsets: &[O], lengths: &mut [usize]) -> u32
     }
 }
 
-/// The same of numbers that are offsets.
+/// Writes how far each offset is from the next one, and tests no offset. Requires that the numbers are offsets.
 pub(crate) fn lengths_unchecked<O: Offset>(offsets: &[O], lengths: &mut [usize]) -> u32
     requires are { AreOffsets (map O.value offsets.now) }
     ensures { WritesFromOffsets (map O.value offsets.now) result
@@ -62,7 +62,7 @@ pub(crate) fn lengths_unchecked<O: Offset>(offsets: &[O], lengths: &mut [usize])
     ARROW2_OK
 }
 
-/// Writes the start, followed by the running sums of the lengths.
+/// Writes the start; each number after it is the one before plus the next length.
 pub(crate) fn sums<O: Offset>(start: usize, lengths: &[usize], offsets: &mut [O]) -> u32
     ensures length { result ≡ ARROW2_LENGTH ↔ (length offsets.old ≢ length lengths.now + 1) }
     ensures overflow { result ≡ ARROW2_OVERFLOW ↔
@@ -82,7 +82,7 @@ pub(crate) fn sums<O: Offset>(start: usize, lengths: &[usize], offsets: &mut [O]
     ARROW2_OK
 }
 
-/// Fills `out` with the offsets from offset `from` on, each less the first of them.
+/// Writes to each item `i` of `out` offset `from + i` minus offset `from`.
 pub(crate) fn rebase<O: Offset>(offsets: &[O], from: usize, out: &mut [O]) -> u32
     ensures { WritesFromOffsetsOr ARROW2_RANGE (map O.value offsets.now) result
         (length out.old ≡ 0) (length offsets.now < from + length out.old)
@@ -96,7 +96,8 @@ pub(crate) fn rebase<O: Offset>(offsets: &[O], from: usize, out: &mut [O]) -> u3
     }
 }
 
-/// The same of numbers that are offsets.
+/// Writes to each item `i` of `out` offset `from + i` minus offset `from`, and tests no offset. Requires that the
+/// numbers are offsets.
 pub(crate) fn rebase_unchecked<O: Offset>(offsets: &[O], from: usize, out: &mut [O]) -> u32
     requires are { AreOffsets (map O.value offsets.now) }
     ensures { WritesFromOffsetsOr ARROW2_RANGE (map O.value offsets.now) result

@@ -10,9 +10,11 @@ ghost use Rattle.arrow2_ffi.specs.Rules.{rule_code};
 use crate::codes::{ARROW2_LENGTH, ARROW2_OK, ARROW2_OVERFLOW, ARROW2_RANGE};
 use crate::offset_calls::{check, lengths, lengths_unchecked, rebase, rebase_unchecked, sums};
 
-/// Checks that the numbers are offsets of 32 bits, and returns which rule they break first.
+/// Checks whether the numbers are offsets of 32 bits.
 ///
-/// `ARROW2_SPEC_EMPTY`, `ARROW2_SPEC_NEGATIVE` or `ARROW2_SPEC_FALLING` for that rule.
+/// `ARROW2_OK`: the numbers are offsets. `ARROW2_SPEC_EMPTY`: there is no number. `ARROW2_SPEC_NEGATIVE`: the first
+/// number is negative. `ARROW2_SPEC_FALLING`: the first number is not negative, and some number is below the one before
+/// it.
 #[unsafe(no_mangle)]
 pub extern "C" fn arrow2_offsets32_check(offsets: &[i32]) -> u32
     ensures ok { result ≡ ARROW2_OK ↔ AreOffsets offsets.now }
@@ -23,8 +25,8 @@ pub extern "C" fn arrow2_offsets32_check(offsets: &[i32]) -> u32
 
 /// Writes how far each offset of 32 bits is from the next one: one length for each slot.
 ///
-/// The code of the first rule that they break where they are no offsets, else `ARROW2_LENGTH` exactly where `out` has
-/// not one item less.
+/// The code of `arrow2_offsets32_check` where the numbers are no offsets, else `ARROW2_LENGTH` exactly where the number
+/// of items of `out` is not that of `offsets` minus 1.
 #[unsafe(no_mangle)]
 pub extern "C" fn arrow2_offsets32_lengths(offsets: &[i32], out: &mut [usize]) -> u32
     ensures { WritesFromOffsets offsets.now result (length offsets.now ≢ length out.old + 1)
@@ -34,10 +36,10 @@ pub extern "C" fn arrow2_offsets32_lengths(offsets: &[i32], out: &mut [usize]) -
 }
 
 /// Writes how far each offset of 32 bits is from the next one, as `arrow2_offsets32_lengths` does, and tests no offset.
-/// Requires that they are offsets, as `arrow2_offsets32_check` tests: for other numbers memory outside `offsets` may be
-/// read.
+/// Requires that the numbers are offsets, as `arrow2_offsets32_check` tests, so at least one. With other numbers the
+/// behaviour is undefined: memory outside `offsets` may be read.
 ///
-/// `ARROW2_LENGTH` exactly where `out` does not have one item less.
+/// `ARROW2_LENGTH` exactly where the number of items of `out` is not that of `offsets` minus 1.
 #[unsafe(no_mangle)]
 pub extern "C" fn arrow2_offsets32_lengths_unchecked(offsets: &[i32], out: &mut [usize]) -> u32
     requires are { AreOffsets offsets.now }
@@ -47,10 +49,10 @@ pub extern "C" fn arrow2_offsets32_lengths_unchecked(offsets: &[i32], out: &mut 
     lengths_unchecked(offsets, out)
 }
 
-/// Writes `start`, followed by the running sums of the lengths: offsets of 32 bits.
+/// Writes `start`; each number after it is the one before plus the next length. They are offsets of 32 bits.
 ///
-/// `ARROW2_LENGTH` exactly where `out` has not one item more than `lengths`, else `ARROW2_OVERFLOW` exactly where
-/// `start` and all lengths, added up exactly, are above the greatest offset.
+/// `ARROW2_LENGTH` exactly where the number of items of `out` is not that of `lengths` plus 1, else `ARROW2_OVERFLOW`
+/// exactly where `start` and all lengths, added up exactly, are above 2147483647.
 #[unsafe(no_mangle)]
 pub extern "C" fn arrow2_offsets32_from_lengths(
     start: usize,
@@ -67,11 +69,11 @@ pub extern "C" fn arrow2_offsets32_from_lengths(
     sums(start, lengths, out)
 }
 
-/// Fills `out` with the offsets of 32 bits from offset `from` on, each less the first of them: so they begin at 0 and
-/// span the same slots.
+/// Writes to each item `i` of `out` offset `from + i` minus offset `from`, of 32 bits. So the written offsets begin at
+/// 0, and each slot has the length that it had.
 ///
-/// The code of the first rule that they break where they are no offsets, else `ARROW2_LENGTH` exactly where `out` has
-/// no item, else `ARROW2_RANGE` exactly where the offsets to be written are not inside.
+/// The code of `arrow2_offsets32_check` where the numbers are no offsets, else `ARROW2_LENGTH` exactly where `out` has
+/// no item, else `ARROW2_RANGE` exactly where `from` plus the number of items of `out` is above that of `offsets`.
 #[unsafe(no_mangle)]
 pub extern "C" fn arrow2_offsets32_rebase(offsets: &[i32], from: usize, out: &mut [i32]) -> u32
     ensures { WritesFromOffsetsOr ARROW2_RANGE offsets.now result (length out.old ≡ 0)
@@ -83,11 +85,12 @@ pub extern "C" fn arrow2_offsets32_rebase(offsets: &[i32], from: usize, out: &mu
     rebase(offsets, from, out)
 }
 
-/// Fills `out` with offsets of 32 bits, as `arrow2_offsets32_rebase` does, and tests no offset. Requires that they
-/// are offsets, as `arrow2_offsets32_check` tests.
+/// Fills `out` with offsets of 32 bits, as `arrow2_offsets32_rebase` does, and tests no offset. Requires that the
+/// numbers are offsets, as `arrow2_offsets32_check` tests, so at least one. With other numbers the behaviour is
+/// undefined: memory outside `offsets` may be read.
 ///
-/// `ARROW2_LENGTH` exactly where `out` has no item, else `ARROW2_RANGE` exactly where the offsets to be written are not
-/// inside.
+/// `ARROW2_LENGTH` exactly where `out` has no item, else `ARROW2_RANGE` exactly where `from` plus the number of items
+/// of `out` is above that of `offsets`.
 #[unsafe(no_mangle)]
 pub extern "C" fn arrow2_offsets32_rebase_unchecked(
     offsets: &[i32],
@@ -104,9 +107,11 @@ pub extern "C" fn arrow2_offsets32_rebase_unchecked(
     rebase_unchecked(offsets, from, out)
 }
 
-/// Checks that the numbers are offsets of 64 bits, and returns which rule they break first.
+/// Checks whether the numbers are offsets of 64 bits.
 ///
-/// `ARROW2_SPEC_EMPTY`, `ARROW2_SPEC_NEGATIVE` or `ARROW2_SPEC_FALLING` for that rule.
+/// `ARROW2_OK`: the numbers are offsets. `ARROW2_SPEC_EMPTY`: there is no number. `ARROW2_SPEC_NEGATIVE`: the first
+/// number is negative. `ARROW2_SPEC_FALLING`: the first number is not negative, and some number is below the one before
+/// it.
 #[unsafe(no_mangle)]
 pub extern "C" fn arrow2_offsets64_check(offsets: &[i64]) -> u32
     ensures ok { result ≡ ARROW2_OK ↔ AreOffsets offsets.now }
@@ -117,8 +122,8 @@ pub extern "C" fn arrow2_offsets64_check(offsets: &[i64]) -> u32
 
 /// Writes how far each offset of 64 bits is from the next one: one length for each slot.
 ///
-/// The code of the first rule that they break where they are no offsets, else `ARROW2_LENGTH` exactly where `out` has
-/// not one item less.
+/// The code of `arrow2_offsets64_check` where the numbers are no offsets, else `ARROW2_LENGTH` exactly where the number
+/// of items of `out` is not that of `offsets` minus 1.
 #[unsafe(no_mangle)]
 pub extern "C" fn arrow2_offsets64_lengths(offsets: &[i64], out: &mut [usize]) -> u32
     ensures { WritesFromOffsets offsets.now result (length offsets.now ≢ length out.old + 1)
@@ -128,10 +133,10 @@ pub extern "C" fn arrow2_offsets64_lengths(offsets: &[i64], out: &mut [usize]) -
 }
 
 /// Writes how far each offset of 64 bits is from the next one, as `arrow2_offsets64_lengths` does, and tests no offset.
-/// Requires that they are offsets, as `arrow2_offsets64_check` tests: for other numbers memory outside `offsets` may be
-/// read.
+/// Requires that the numbers are offsets, as `arrow2_offsets64_check` tests, so at least one. With other numbers the
+/// behaviour is undefined: memory outside `offsets` may be read.
 ///
-/// `ARROW2_LENGTH` exactly where `out` does not have one item less.
+/// `ARROW2_LENGTH` exactly where the number of items of `out` is not that of `offsets` minus 1.
 #[unsafe(no_mangle)]
 pub extern "C" fn arrow2_offsets64_lengths_unchecked(offsets: &[i64], out: &mut [usize]) -> u32
     requires are { AreOffsets offsets.now }
@@ -141,10 +146,10 @@ pub extern "C" fn arrow2_offsets64_lengths_unchecked(offsets: &[i64], out: &mut 
     lengths_unchecked(offsets, out)
 }
 
-/// Writes `start`, followed by the running sums of the lengths: offsets of 64 bits.
+/// Writes `start`; each number after it is the one before plus the next length. They are offsets of 64 bits.
 ///
-/// `ARROW2_LENGTH` exactly where `out` has not one item more than `lengths`, else `ARROW2_OVERFLOW` exactly where
-/// `start` and all lengths, added up exactly, are above the greatest offset.
+/// `ARROW2_LENGTH` exactly where the number of items of `out` is not that of `lengths` plus 1, else `ARROW2_OVERFLOW`
+/// exactly where `start` and all lengths, added up exactly, are above 9223372036854775807.
 #[unsafe(no_mangle)]
 pub extern "C" fn arrow2_offsets64_from_lengths(
     start: usize,
@@ -161,11 +166,11 @@ pub extern "C" fn arrow2_offsets64_from_lengths(
     sums(start, lengths, out)
 }
 
-/// Fills `out` with the offsets of 64 bits from offset `from` on, each less the first of them: so they begin at 0 and
-/// span the same slots.
+/// Writes to each item `i` of `out` offset `from + i` minus offset `from`, of 64 bits. So the written offsets begin at
+/// 0, and each slot has the length that it had.
 ///
-/// The code of the first rule that they break where they are no offsets, else `ARROW2_LENGTH` exactly where `out` has
-/// no item, else `ARROW2_RANGE` exactly where the offsets to be written are not inside.
+/// The code of `arrow2_offsets64_check` where the numbers are no offsets, else `ARROW2_LENGTH` exactly where `out` has
+/// no item, else `ARROW2_RANGE` exactly where `from` plus the number of items of `out` is above that of `offsets`.
 #[unsafe(no_mangle)]
 pub extern "C" fn arrow2_offsets64_rebase(offsets: &[i64], from: usize, out: &mut [i64]) -> u32
     ensures { WritesFromOffsetsOr ARROW2_RANGE offsets.now result (length out.old ≡ 0)
@@ -177,11 +182,12 @@ pub extern "C" fn arrow2_offsets64_rebase(offsets: &[i64], from: usize, out: &mu
     rebase(offsets, from, out)
 }
 
-/// Fills `out` with offsets of 64 bits, as `arrow2_offsets64_rebase` does, and tests no offset. Requires that they
-/// are offsets, as `arrow2_offsets64_check` tests.
+/// Fills `out` with offsets of 64 bits, as `arrow2_offsets64_rebase` does, and tests no offset. Requires that the
+/// numbers are offsets, as `arrow2_offsets64_check` tests, so at least one. With other numbers the behaviour is
+/// undefined: memory outside `offsets` may be read.
 ///
-/// `ARROW2_LENGTH` exactly where `out` has no item, else `ARROW2_RANGE` exactly where the offsets to be written are not
-/// inside.
+/// `ARROW2_LENGTH` exactly where `out` has no item, else `ARROW2_RANGE` exactly where `from` plus the number of items
+/// of `out` is above that of `offsets`.
 #[unsafe(no_mangle)]
 pub extern "C" fn arrow2_offsets64_rebase_unchecked(
     offsets: &[i64],

@@ -11,9 +11,10 @@ use crate::codes::{ARROW2_LENGTH, ARROW2_OK, ARROW2_RANGE};
 use crate::ranges::{Bits, are_inside};
 use arrow2_walks::cursor::{BitCursor, find_bit};
 
-/// Writes the runs of set bits among the `length` bits from bit `offset` on, from index `at` of them on: their first
-/// indices and their lengths, until the slices are full or no run is left. Writes to `count` how many were written, and
-/// to `at` the index from which to go on.
+/// Finds the runs of set bits among the `length` bits from bit `offset` on, and counts these bits from `offset`. The
+/// search begins at bit `at`. Writes the first bits of runs to `starts` and their lengths to `lengths`, until the
+/// slices are full or no run is left. Writes to `count` how many runs it wrote, and to `at` where the next call goes
+/// on.
 ///
 /// `ARROW2_RANGE` exactly where the bits are not inside, or `at` is above `length`; else `ARROW2_LENGTH` exactly where
 /// `starts` and `lengths` differ in length.

@@ -14,9 +14,9 @@ use arrow2_bits::chunks::word_from;
 use arrow2_chunk::bit_chunk::BitChunk;
 use arrow2_chunk::bit_chunk_iter::BitChunkOnes;
 
-/// Writes the indices of set bits among the `length` bits from bit `offset` on, from index `at` of them on, rising,
-/// until `out` is full or none is left. Writes to `count` how many were written, and to `at` the index from which to go
-/// on.
+/// Finds the set bits among the `length` bits from bit `offset` on, and counts these bits from `offset`. The search
+/// begins at bit `at`. Writes the indices of set bits to `indices`, rising, until it is full or no set bit is left.
+/// Writes to `count` how many indices it wrote, and to `at` where the next call goes on.
 ///
 /// `ARROW2_RANGE` exactly where the bits are not inside, or `at` is above `length`.
 #[unsafe(no_mangle)]
