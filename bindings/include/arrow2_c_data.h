@@ -171,8 +171,9 @@ static inline uint32_t arrow2_bits_or_kleene(struct arrow2_bits left, struct arr
 }
 
 /* The bits of buffer `index` of an array that was checked, from the array's own offset on. Buffer 0 is the validity,
- * except in a union, where it is the types. Buffer 1 of a boolean array is its values. A null array has no buffer. If
- * `index` is not below `n_buffers`, or the buffer is NULL, the result is NULL, 0 bytes, offset 0.
+ * except in a union, where it is the types. Buffer 1 of a boolean array is its values. A null array has no buffer, and
+ * each of its items is null. If `index` is negative or not below `n_buffers`, or the buffer is NULL, the result has
+ * `bytes` NULL, `bytes_len` 0 and `offset` 0.
  *
  * Only the array's own offset is applied: for the rows of a struct, add the struct's offset to that of the result. */
 static inline struct arrow2_bits arrow2_bits_of(const struct ArrowArray *array, int index) {
@@ -905,7 +906,7 @@ static inline const char *arrow2_code_text(uint32_t code) {
     static const char *const of_library[] = {
         "right", "a range is not inside", "a slice has another length", "a number is above the greatest offset",
         "out of memory", "there is no offset", "the first offset is negative", "an offset falls",
-        "the nulls are not as many as declared", "an offset is past what it cuts", "a text is not UTF-8",
+        "the nulls are not as many as declared", "an offset is past its items", "a text is not UTF-8",
         "an index is past its dictionary"};
     static const char *const of_tree[] = {
         "a pointer is null", "it was released", "a number is negative", "the format is not known",

@@ -23,9 +23,10 @@ mod sealed {
 
 /// A number that an offset may be: `i32` or `i64`.
 ///
-/// Offsets are at least one number, none negative and none below the one before it: slot `i` spans from offset `i` to
-/// offset `i + 1`. Each call on numbers that are no offsets returns [`Refusal::NoOffset`], [`Refusal::NegativeOffset`]
-/// or [`Refusal::FallingOffsets`]: the first rule that they break, before any other error.
+/// Offsets are at least one number, none negative and none below the one before it. Slot `i` spans from offset `i` to
+/// offset `i + 1`. If the numbers are no offsets, each call on them returns, before any other error,
+/// [`Refusal::NoOffset`]: there is no number; [`Refusal::NegativeOffset`]: the first is negative;
+/// [`Refusal::FallingOffsets`]: the first is not negative, and some number is below the one before it.
 pub trait Offset: sealed::Sealed + Copy {
     /// Whether the numbers are offsets.
     ///
@@ -38,40 +39,40 @@ pub trait Offset: sealed::Sealed + Copy {
     ///
     /// # Errors
     ///
-    /// The first rule that the numbers break, else [`Refusal::Length`] exactly where `out` has not one item less.
+    /// As [`Offset::check`], else [`Refusal::Length`] exactly where `out.len() + 1` is not `offsets.len()`.
     fn lengths(offsets: &[Self], out: &mut [usize]) -> Result<(), Refusal>;
 
-    /// Writes `start`, followed by the running sums of the lengths.
+    /// Writes `start`; each number after it is the one before plus the next length.
     ///
     /// # Errors
     ///
-    /// [`Refusal::Length`] exactly where `out` has not one item more than `lengths`, else [`Refusal::Overflow`]
-    /// exactly where `start` and all lengths together are above the greatest offset.
+    /// [`Refusal::Length`] exactly where `out.len()` is not `lengths.len() + 1`, else [`Refusal::Overflow`] exactly
+    /// where `start` and all lengths together are above `i32::MAX` or `i64::MAX`.
     fn from_lengths(start: usize, lengths: &[usize], out: &mut [Self]) -> Result<(), Refusal>;
 
-    /// Fills `out` with the offsets from offset `from` on, each less the first of them.
+    /// Writes `offsets[from + i] - offsets[from]` to each item `i` of `out`.
     ///
     /// # Errors
     ///
-    /// The first rule that the numbers break, else [`Refusal::Length`] exactly where `out` has no item, else
-    /// [`Refusal::Range`] exactly where they are not inside.
+    /// As [`Offset::check`], else [`Refusal::Length`] exactly where `out` has no item, else [`Refusal::Range`] exactly
+    /// where `from + out.len()` is above `offsets.len()`.
     fn rebase(offsets: &[Self], from: usize, out: &mut [Self]) -> Result<(), Refusal>;
 
-    /// Whether the numbers are offsets, and none is past `items` items.
+    /// Whether the numbers are offsets, and none is above `items`.
     ///
     /// # Errors
     ///
-    /// The first rule that the numbers break, else [`Refusal::PastOffset`] exactly where the last one is above `items`.
-    /// [`Refusal::FallingOffsets`] and [`Refusal::PastOffset`] come with the index of the first number that is below
-    /// the one before it, or above `items`.
+    /// As [`Offset::check`], else [`Refusal::PastOffset`] exactly where the last number is above `items`.
+    /// [`Refusal::FallingOffsets`] comes with the index of the first number that is below the one before it,
+    /// [`Refusal::PastOffset`] with that of the first number above `items`.
     fn check_inside(offsets: &[Self], items: usize) -> Result<(), RefusalAt>;
 
-    /// Whether the numbers are offsets, none is past the values, and the values of each slot are UTF-8.
+    /// Whether the numbers are offsets, none is above `values.len()`, and the values of each slot are UTF-8.
     ///
     /// # Errors
     ///
-    /// As [`Offset::check_inside`] with the values as items, else [`Refusal::NotUtf8`] with the first slot that is not
-    /// UTF-8, exactly where there is one.
+    /// As [`Offset::check_inside`] with `values.len()` as `items`, else [`Refusal::NotUtf8`] with the first slot that
+    /// is not UTF-8, exactly where there is one.
     fn check_texts(offsets: &[Self], values: &[u8]) -> Result<(), RefusalAt>;
 }
 
@@ -184,18 +185,19 @@ impl<'a, O: Offset> CheckedOffsets<'a, O> {
     ///
     /// # Errors
     ///
-    /// [`Refusal::Length`] exactly where `out` has not one item less.
+    /// [`Refusal::Length`] exactly where `out.len() + 1` is not the number of offsets.
     #[inline]
     pub fn lengths(self, out: &mut [usize]) -> Result<(), Refusal> {
         // SAFETY: `new` found that the numbers are offsets.
         told(unsafe { O::lengths_unchecked(self.0, out) })
     }
 
-    /// Writes `out.len()` offsets from offset `from` on, each less the first of them.
+    /// Writes offset `from + i` minus offset `from` to each item `i` of `out`.
     ///
     /// # Errors
     ///
-    /// [`Refusal::Length`] exactly where `out` has no item, else [`Refusal::Range`] exactly where they are not inside.
+    /// [`Refusal::Length`] exactly where `out` has no item, else [`Refusal::Range`] exactly where `from + out.len()` is
+    /// above the number of offsets.
     #[inline]
     pub fn rebase(self, from: usize, out: &mut [O]) -> Result<(), Refusal> {
         // SAFETY: `new` found that the numbers are offsets.
@@ -207,7 +209,7 @@ impl<'a, O: Offset> CheckedOffsets<'a, O> {
 ///
 /// # Errors
 ///
-/// The first rule that the numbers break, else [`Refusal::Length`] exactly where `out` has another length.
+/// As [`Offset::check`], else [`Refusal::Length`] exactly where `out.len()` is not `offsets.len()`.
 #[inline]
 pub fn widen(offsets: &[i32], out: &mut [i64]) -> Result<(), Refusal> {
     // SAFETY: the slices are borrowed for the call, `out` alone, and it keeps none.

@@ -10,19 +10,19 @@ pub enum Refusal {
     Range,
     /// A slice has more or fewer items than the call needs.
     Length,
-    /// A number is above the greatest offset.
+    /// A number is above the greatest offset: `i32::MAX` or `i64::MAX`.
     Overflow,
     /// An allocation failed. No call of this version returns it.
     Memory,
-    /// A list of offsets has no item.
+    /// Of numbers that should be offsets there is none.
     NoOffset,
-    /// A list of offsets begins with a negative number.
+    /// The first of numbers that should be offsets is negative.
     NegativeOffset,
-    /// A list of offsets has a number that is below the one before it.
+    /// The first of numbers that should be offsets is not negative, and some number is below the one before it.
     FallingOffsets,
     /// The number of nulls is not the declared one.
     Nulls,
-    /// An offset is past the items that the offsets cut.
+    /// An offset is greater than the number of bytes or child items that the offsets index.
     PastOffset,
     /// The bytes of a slot are not UTF-8.
     NotUtf8,
@@ -50,7 +50,7 @@ impl core::error::Error for RefusalAt {}
 impl fmt::Display for Refusal {
     fn fmt(&self, f: &mut fmt::Formatter<'_>) -> fmt::Result {
         f.write_str(match self {
-            Refusal::Range => "a place, a range or a table is not inside",
+            Refusal::Range => "an index, a range or a table is not inside",
             Refusal::Length => "a slice has another length than the call needs",
             Refusal::Overflow => "a number is above the greatest offset",
             Refusal::Memory => "out of memory",
@@ -58,7 +58,7 @@ impl fmt::Display for Refusal {
             Refusal::NegativeOffset => "offsets must be larger than 0",
             Refusal::FallingOffsets => "offsets must be monotonically increasing",
             Refusal::Nulls => "the nulls are not as many as declared",
-            Refusal::PastOffset => "an offset is past what it cuts",
+            Refusal::PastOffset => "an offset is past its items",
             Refusal::NotUtf8 => "a text is not UTF-8",
             Refusal::Index => "an index is past its dictionary",
         })

@@ -4,9 +4,10 @@ use crate::Bits;
 use crate::refusal::{Refusal, told};
 use crate::sys;
 
-/// Writes the runs of set bits among `length` bits, from index `at` of them on: each by its first index and its length,
-/// until `out` is full or no run is left. Returns how many were written, and moves `at` to the index from which to go
-/// on. If fewer are written than fit, they are the last ones, and `at` is then `length`.
+/// Finds the runs of set bits among `length` bits, which are counted from `bits.offset`. The search begins at bit `at`:
+/// set it to 0 before the first call. Run `k` is `lengths[k]` bits from bit `starts[k]` on. The call stops when the
+/// slices are full or no run is left. Returns how many runs it wrote, and moves `at` to where the next call goes on. If
+/// it wrote fewer than fit, all runs are done, and `at` is `length`.
 ///
 /// # Errors
 ///

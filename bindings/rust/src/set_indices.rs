@@ -4,9 +4,10 @@ use crate::Bits;
 use crate::refusal::{Refusal, told};
 use crate::sys;
 
-/// Writes the indices of set bits among `length` bits, from index `at` of them on, rising, until `out` is full or none
-/// is left. Returns how many were written, and moves `at` to the index from which to go on. If fewer are written than
-/// fit, they are the last ones, and `at` is then `length`.
+/// Finds the set bits among `length` bits, which are counted from `bits.offset`. The search begins at bit `at`: set it
+/// to 0 before the first call. Writes their indices, rising, until `indices` is full or no set bit is left. Returns how
+/// many it wrote, and moves `at` to where the next call goes on. If it wrote fewer than fit, all set bits are done, and
+/// `at` is `length`.
 ///
 /// # Errors
 ///

@@ -28,17 +28,18 @@ pub enum Broken {
     Null,
     /// The schema or the array was released.
     Released,
-    /// A length, an offset or a number of children is negative, or length and offset together are above 2^63 - 1.
+    /// A length, an offset, or a number of buffers or children is negative, or length + offset is above 2^63 - 1.
     Negative,
-    /// The format is not known: such an array is not checked.
+    /// The check does not know the format, and refuses the array.
     Format,
-    /// The format has another number of buffers.
+    /// The number of buffers is not the one that the format requires.
     Buffers,
-    /// The format has another number of children, or the schema other children than the array.
+    /// The number of children of the array or of the schema is not the one that the format requires, the two differ, or
+    /// the child of a map is not a struct of two children.
     Children,
-    /// A child is shorter than its parent needs.
+    /// A child has fewer items than its parent needs.
     ShortChild,
-    /// One of schema and array has a dictionary, or the indices are no whole numbers.
+    /// Only one of schema and array has a dictionary, or the format of the indices is not that of a whole number.
     Dictionary,
     /// A slot of a union has a type that the format does not name.
     Type,
@@ -46,7 +47,7 @@ pub enum Broken {
     UnionOffset,
     /// The tree is deeper than [`MAX_DEPTH`], or has more arrays than [`MAX_ARRAYS`].
     TooLarge,
-    /// Numbers of several bytes, which the check has to read, are not aligned.
+    /// A buffer of numbers of several bytes, which the check reads, is not aligned.
     Unaligned,
     /// There are more or fewer sizes than buffers in the tree.
     Sizes,
@@ -108,7 +109,9 @@ impl fmt::Display for Broken {
     }
 }
 
-/// From the root to an array of the tree, as `struct.3/list.0`.
+/// From the root, whose path is empty, to an array of the tree. A step to a child is `list.0`, `fixed_list.0`, `map.0`,
+/// `struct.K` or `union.K`, by the format of the parent; `K` counts children from 0 on. The step to a dictionary is
+/// `dictionary`. A `/` stands between two steps, as in `struct.3/list.0`.
 #[derive(Clone, Debug, Default, PartialEq, Eq)]
 pub struct Path(Vec<(Kind, Option<usize>)>);
 
@@ -132,7 +135,8 @@ pub struct Refused {
     pub broken: Broken,
     /// Where the array is in the tree.
     pub path: Path,
-    /// The slot of that array, if the rule is about one.
+    /// The slot of that array, if the rule is about one, counted from 0 at the array's offset. An offset that breaks a
+    /// rule belongs to the slot that ends at it; the first offset belongs to slot 0.
     pub slot: Option<usize>,
 }
 
@@ -180,8 +184,8 @@ fn of_slot(refused: RefusalAt) -> Fault {
 ///
 /// # Safety
 ///
-/// Each pointer is null, or follows the interface; each buffer has at least its size in bytes, or without sizes the
-/// bytes that are read.
+/// Each pointer is null, or is what the interface says. Each buffer has at least its size in bytes, or without sizes
+/// the bytes that format, length, offset and last offset require.
 pub unsafe fn check_raw(
     schema: *const ArrowSchema,
     array: *const ArrowArray,

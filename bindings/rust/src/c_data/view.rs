@@ -70,7 +70,10 @@ impl<'a> View<'a> {
         unsafe { (!self.schema.name.is_null()).then(|| CStr::from_ptr(self.schema.name)) }
     }
 
-    /// Which items are not null, from [`Bits::offset`] on; `None` where none is.
+    /// Which items are not null, from [`Bits::offset`] on; `None` where there is no validity bitmap. Then no item is
+    /// null, except in a null array, where each is.
+    ///
+    /// Only the array's own offset is applied: row `i` of a struct is item `offset() + i` of each child.
     #[must_use]
     pub fn validity(&self) -> Option<Bits<'a>> {
         if self.layout().has_validity() { self.bits(0) } else { None }
