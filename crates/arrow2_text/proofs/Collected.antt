@@ -1,12 +1,14 @@
 -- Items that are collected one by one: they, and how many bytes they have.
 use Rattle.std.proofs.Common.{Bor, ◌≡◌, ◌∙◌, ℕ, zero, suc, ◌+◌, ◌<◌, ◌≤◌, ◌^◌, ◌⊎◌, inl, inr, List, [], ◌∷◌, ◌++◌, length, map, sum, take, get_or, cond, count_by, refl, ap, sym, arith}
-use Rattle.std.specs.Prelude.{Option, Some, Result, Ok, Err, IfOk, IsErrAnd, IsNone, ◌↔◌}
+use Rattle.std.specs.Prelude.{Option, Some, Result, Ok, Err, IfErr, IfOk, IsErrAnd, IsNone, ◌↔◌}
 use Rattle.std.specs.Option.{is_none, option_copied, option_map_or}
 use Rattle.std.proofs.lemmas.List.Sums.{sum_by-cons}
-use Rattle.std.proofs.lemmas.List.{length-append, length-map, length-take, map-append}
+use Rattle.std.proofs.lemmas.List.{length-append, length-map, length-take, map-append, take_all, take_more}
 use Rattle.arrow2_offset.proofs.Appending.{sum-push}
 use Rattle.arrow2_types.specs.declared.error.Error.{Error}
-use Rattle.arrow2_text.specs.Binary.{BinaryParts}
+use Rattle.arrow2_types.specs.declared.error.Error.TheVariants.{OutOfMemory, Overflow}
+use Rattle.arrow2_datatypes.specs.declared.DataType.{DataType}
+use Rattle.arrow2_text.specs.Binary.{BinaryParts, binary_items}
 use Rattle.arrow2_text.specs.Growth.{bytes_of_items, items_by_bytes}
 
 -- one item more has its bytes more
@@ -63,6 +65,35 @@ module _ {X : Type 0} (size : X → ℕ) where
 -- no more are taken than it is said
 pub count-taken : {X Y : Type 0} (f : X → Y) (xs : List X) (i : ℕ) {ys : List Y} → ys ≡ map f (take i xs) → length ys ≤ i
 count-taken f xs i e = let l = length-map (take i xs) f in let t = length-take i xs in let n = ap length e in omega (arith, l, t, n)
+
+-- one more of those that are taken
+pub taken-more : {X Y : Type 0} (f : X → Y) (xs : List X) (i : ℕ) (d : X) {ys : List Y} → i < length xs → ys ≡ map f (take i xs) → ys ++ f (get_or xs i d) ∷ [] ≡ map f (take (i + 1) xs)
+taken-more f xs i d below e = ap (λ l. l ++ f (get_or xs i d) ∷ []) e ∙ sym (ap (map f) (take_more xs i d below) ∙ map-append f (take i xs) (get_or xs i d ∷ []))
+
+pub sum-taken-more : {X : Type 0} (size : X → ℕ) (xs : List X) (i : ℕ) (d : X) {n : ℕ} → i < length xs → n ≡ sum (map size (take i xs)) → n + size (get_or xs i d) ≡ sum (map size (take (i + 1) xs))
+sum-taken-more size xs i d below e = ap (λ k. k + size (get_or xs i d)) e ∙ (sym (sum-push (map size (take i xs)) (size (get_or xs i d))) ∙ ap sum (taken-more size xs i d below refl))
+
+-- they are all taken at the end
+pub all-taken : {X Y : Type 0} (f : X → Y) (xs : List X) (i : ℕ) {ys : List Y} → length xs ≤ i → ys ≡ map f (take i xs) → ys ≡ map f xs
+all-taken f xs i end e = e ∙ ap (map f) (take_all i xs end)
+
+-- what is known of an array that was made
+pub made-items : (r : Result BinaryParts Error) {items all : List (Option (List ℕ))} → IfOk r (λ a. binary_items a ≡ items) → items ≡ all → IfOk r (λ a. binary_items a ≡ all)
+made-items (Ok a) h e = h ∙ e
+made-items (Err x) h e = tt
+
+pub made-type : (r : Result BinaryParts Error) {held all : DataType} → IfOk r (λ a. a.data_type ≡ held) → held ≡ all → IfOk r (λ a. a.data_type ≡ all)
+made-type (Ok a) h e = h ∙ e
+made-type (Err x) h e = tt
+
+-- refused memory is no overflow
+pub no-overflow : {U : Type 0} (r : Result U Error) → IfErr r (λ e. e ≡ OutOfMemory) → r ≡ Err Overflow → ⊥
+no-overflow (Ok u) only is = cc
+no-overflow (Err x) only is = cc
+
+pub refused-memory : {U : Type 0} (r : Result U Error) → IfErr r (λ e. e ≡ OutOfMemory) → IfErr r (λ e. (e ≡ Overflow) ⊎ (e ≡ OutOfMemory))
+refused-memory (Ok u) only = tt
+refused-memory (Err x) only = inr only
 
 -- how many bytes items have, by their references
 pub bytes-by_reference : (xs : List (Option (Bor (List ℕ)))) → sum (map (λ o. option_map_or length (option_copied o) 0) xs) ≡ bytes_of_items (items_by_bytes xs)

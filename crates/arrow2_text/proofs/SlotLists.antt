@@ -1,5 +1,5 @@
 -- Slots between offsets beside their validity.
-use Rattle.std.proofs.Common.{◌≡◌, ℕ, ◌+◌, ◌≤◌, List, [], ◌∷◌, ◌++◌, Bool, true, false, not, cond, get_or, length, sum, take, drop, replicate, refl, ap, sym, ◌∙◌, arith}
+use Rattle.std.proofs.Common.{◌≡◌, ℕ, ℤ, ◌+◌, ◌≤◌, List, [], ◌∷◌, ◌++◌, Bool, true, false, not, cond, get_or, length, sum, take, drop, replicate, refl, ap, sym, ◌∙◌, arith}
 use Rattle.std.proofs.Math.Nat.{min-le_left, min-le_right, le-min}
 use Rattle.std.proofs.lemmas.List.{length-append, length-drop, length-take, take_all, take_more, take-append-drop}
 use Rattle.std.proofs.lemmas.List.Sums.{sum_by-cons, sum_by-append}
@@ -8,6 +8,8 @@ use Rattle.std.specs.Prelude.{Option, Some, None, MatchOption}
 use Rattle.arrow2_model.specs.Buffers.{BufferStorage, buffer_items, whole_buffer}
 use Rattle.arrow2_model.specs.Parts.{falses, part}
 use Rattle.arrow2_offset.specs.Nested.{cut}
+use Rattle.arrow2_offset.specs.Offsets.{lengths_of, start_of}
+use Rattle.arrow2_utf8.specs.Texts.{slot_values}
 use Rattle.arrow2_offset.proofs.Nested.{nested, length-cut, extend-cut, part-cut, push-cut, sum-part}
 use Rattle.arrow2_offset.proofs.Appending.{sum-push}
 use Rattle.arrow2_walks.specs.Zipped.{zipped}
@@ -85,6 +87,12 @@ popped-bits (Some v) old new k e h =
 -- as many items as lengths
 pub length-slots : {X : Type 0} (xs : List X) (ns : List ℕ) (vs : List Bool) → length vs ≡ length ns → length (zipped (cut xs ns) vs) ≡ length ns
 length-slots xs ns vs e = let l = length-cut xs ns in length-zipped (cut xs ns) vs (omega (arith, l, e)) ∙ l
+
+-- the slots of offsets from 0 on, over all of a list
+pub frozen-values : (offsets : BufferStorage ℤ) (values : BufferStorage ℕ) (xs ns : List ℕ) → start_of (buffer_items offsets) ≡ 0 → lengths_of (buffer_items offsets) ≡ ns → values ≡ whole_buffer xs → slot_values (buffer_items offsets) (buffer_items values) ≡ cut xs ns
+frozen-values offsets values xs ns first lengths whole =
+    ap (λ l. cut (drop (start_of (buffer_items offsets)) (buffer_items values)) l) lengths
+    ∙ (ap (λ n. cut (drop n (buffer_items values)) ns) first ∙ (ap (λ b. cut (buffer_items b) ns) whole ∙ ap (λ l. cut l ns) (take_all (length xs) xs (omega arith))))
 
 pub ruleset slotted = (arrays, nested, sum-part-behind, sum-take-all)
 

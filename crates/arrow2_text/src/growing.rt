@@ -168,6 +168,8 @@ impl<O: Offset> Growing<O> {
         ensures capacity { self.old.capacity ≤ self.new.capacity }
         ensures byte_capacity { self.old.byte_capacity ≤ self.new.byte_capacity }
     {
+        // The length is read for what the type keeps: as many slots are told to be null or not as there are.
+        let _ = self.len();
         self.validity.reserve(slots)?;
         self.offsets.reserve(slots)?;
         self.values.reserve(bytes)?;

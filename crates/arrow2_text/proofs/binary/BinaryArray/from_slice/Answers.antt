@@ -2,8 +2,26 @@ use Rattle.std.proofs.Common.{◌∙◌, ap, length, take, count_by}
 use Rattle.std.specs.Prelude.{Some, Err}
 use Rattle.std.specs.Option.{is_none}
 use Rattle.arrow2_types.specs.declared.error.Error.TheVariants.{Overflow}
-use Rattle.arrow2_text.proofs.Collected.{count-taken, handed-on, no-bitmap, none-null, past-taken}
+use Rattle.arrow2_text.proofs.Collected.{all-taken, count-taken, handed-on, made-items, made-type, no-bitmap, no-overflow, none-null, past-taken, refused-memory, sum-taken-more, taken-more}
 use Rattle.arrow2_text.proofs.binary.BinaryArray.from_slice.Goals as goal
+
+pub loop-value-init : goal.loop-value-init
+loop-value-init g c =
+    let new = c.in_ok-array.ensures in
+    record { items = new.items.0; bytes = new.items.1; data_type = new.data_type }
+
+pub loop-value-preserved : goal.loop-value-preserved
+loop-value-preserved g c =
+    let kept = c.loop-value.invariant in
+    let pushed = c.in_ok-push.ensures in
+    let values = c.args.values.now in
+    let i = c.loop-value.value-index in
+    let below = c.loop-value-test.true in
+    record {
+      items = pushed.ok ∙ taken-more (λ value. Some value.now) values i _ below kept.items;
+      bytes = pushed.ok_bytes ∙ sum-taken-more (λ value. length value.now) values i _ below kept.bytes;
+      data_type = pushed.data_type ∙ kept.data_type;
+    }
 
 pub returns-in_err-push-clause-overflow : goal.returns-in_err-push-clause-overflow
 returns-in_err-push-clause-overflow g c = λ is.
@@ -17,3 +35,15 @@ pub returns-clause-bitmap : goal.returns-clause-bitmap
 returns-clause-bitmap g c =
     let items = c.loop-value.array.items in
     no-bitmap c.freeze.result items (ap (count_by is_none) c.loop-value.invariant.items ∙ none-null (λ value. value.now) (take c.loop-value.value-index c.args.values.now)) c.freeze.ensures.bitmap
+
+pub returns-clause-items : goal.returns-clause-items
+returns-clause-items g c = made-items c.freeze.result c.freeze.ensures.items (all-taken (λ value. Some value.now) c.args.values.now c.loop-value.value-index c.loop-value-test.false c.loop-value.invariant.items)
+
+pub returns-clause-data_type : goal.returns-clause-data_type
+returns-clause-data_type g c = made-type c.freeze.result c.freeze.ensures.data_type c.loop-value.invariant.data_type
+
+pub returns-clause-overflow : goal.returns-clause-overflow
+returns-clause-overflow g c = λ is. absurd (no-overflow c.freeze.result c.freeze.ensures.only is)
+
+pub returns-clause-only : goal.returns-clause-only
+returns-clause-only g c = refused-memory c.freeze.result c.freeze.ensures.only

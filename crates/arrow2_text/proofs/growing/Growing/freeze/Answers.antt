@@ -1,8 +1,10 @@
-use Rattle.std.proofs.Common.{List, Bool, length, ap, sym, ◌∙◌}
+use Rattle.std.proofs.Common.{◌≡◌, List, Bool, length, ap, sym, ◌∙◌}
 use Rattle.arrow2_validity.specs.OptionalValidity.{valid_items}
-use Rattle.arrow2_text.specs.Binary.{BinaryParts}
+use Rattle.arrow2_offset.proofs.Nested.{length-cut}
+use Rattle.arrow2_text.specs.Binary.{BinaryParts, binary_values}
 use Rattle.arrow2_text.specs.Growth.{GrowingSlots}
-use Rattle.arrow2_text.proofs.GrowthItems.{known-validity}
+use Rattle.arrow2_text.proofs.GrowthItems.{bitmap-there, known-validity}
+use Rattle.arrow2_text.proofs.SlotLists.{frozen-values}
 use Rattle.arrow2_text.proofs.growing.Growing.freeze.Goals as goal
 
 pub returns-clause-valid : goal.returns-clause-valid
@@ -14,3 +16,21 @@ returns-clause-valid g c =
     ap of_parts c.new.ensures ∙ (ap valid_items c.new-validity.ensures.value
     ∙ (known-validity c.len_proxy.result c.self.inside.validity.items validity.field-0 count validity.ensures.none validity.ensures.items
     ∙ ap of_growing c.self.view_is))
+
+pub returns-clause-data_type : goal.returns-clause-data_type
+returns-clause-data_type g c = ap (λ s. s.data_type) c.new.ensures ∙ ap (λ s. s.data_type) c.self.view_is
+
+pub returns-clause-values : goal.returns-clause-values
+returns-clause-values g c =
+    let offsets = c.in_ok-offsets.ensures in
+    ap binary_values c.new.ensures
+    ∙ (frozen-values c.in_ok-offsets.offsets c.in_ok-values.values c.self.inside.values.items c.self.inside.offsets.lengths (offsets.1 ∙ c.self.invariant.0) offsets.2 c.in_ok-values.ensures
+    ∙ ap (λ s. s.values) c.self.view_is)
+
+pub returns-clause-bitmap : goal.returns-clause-bitmap
+returns-clause-bitmap g c =
+    let validity = c.in_ok-into_validity in
+    let slots = length-cut c.self.inside.values.items c.self.inside.offsets.lengths in
+    let same : length c.args.self.valid ≡ length c.args.self.values = ap (λ s. length s.valid) (sym c.self.view_is) ∙ (c.self.invariant.2 ∙ (sym slots ∙ ap (λ s. length s.values) c.self.view_is)) in
+    bitmap-there c.new.result.validity.bitmap validity.field-0 c.args.self.values c.args.self.valid c.self.inside.validity.items same (ap (λ s. s.valid) (sym c.self.view_is))
+    (ap (λ s. s.validity.bitmap) c.new.ensures ∙ ap (λ v. v.bitmap) c.new-validity.ensures.value) validity.ensures.none
