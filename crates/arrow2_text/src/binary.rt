@@ -17,7 +17,7 @@ ghost use Rattle.arrow2_text.specs.Refused.{past_the_values, other_binary_layout
 
 use crate::iterator::BinaryIter;
 use crate::mutable_binary::MutableBinaryArray;
-use crate::refusals::{binary_type, check_binary_layout, check_bounds};
+use crate::refusals::{binary_type, check_binary};
 use crate::slots::Slots;
 use arrow2_bitmap::Bitmap;
 use arrow2_buffer::Buffer;
@@ -91,11 +91,8 @@ impl<O: Offset> BinaryArray<O> {
             HasBitPerSlot (buffer_items offsets) validity →
             physical data_type ≡ binary_layout O.IS_LARGE → IfErr result (λ e. e ≡ Error.OutOfMemory) }
     {
-        let alloc = values.allocator();
-        check_bounds(alloc, &offsets, values.len())?;
-        let validity = Validity::try_new(offsets.len_proxy(), validity)?;
-        check_binary_layout::<O>(alloc, &data_type)?;
-        let data_type = Rc::new(alloc, data_type)?;
+        let validity = check_binary(&data_type, &offsets, &values, validity)?;
+        let data_type = Rc::new(values.allocator(), data_type)?;
         Ok(BinaryArray {
             slots: Slots::new(data_type, offsets, values, validity),
         })

@@ -1,18 +1,25 @@
 //! How parts that are no array are refused.
-ghost use Rattle.std.specs.Prelude.{◌≡◌, ◌<◌, ◌≤◌, ◌↔◌, length, IfErr, IsOk, IsTrue};
+ghost use Rattle.std.specs.Prelude.{◌≡◌, ◌<◌, ◌≤◌, ◌↔◌, length, IfErr, IfOk, IsOk, IsTrue, OnOk};
+ghost use Rattle.std.specs.Option.{ForSome};
 ghost use Rattle.arrow2_model.specs.Buffers.{buffer_items};
-ghost use Rattle.arrow2_offset.specs.Offsets.{last_of};
+ghost use Rattle.arrow2_model.specs.Storage.{items_of};
+ghost use Rattle.arrow2_offset.specs.Offsets.{last_of, lengths_of};
 ghost use Rattle.arrow2_types.specs.Refusals.{IsInvalidArgument};
 ghost use Rattle.arrow2_datatypes.specs.Types.{physical};
 ghost use Rattle.arrow2_utf8.specs.Texts.{AreTexts};
-ghost use Rattle.arrow2_text.specs.Binary.{binary_layout, default_binary, default_text, text_layout};
+ghost use Rattle.arrow2_validity.specs.OptionalValidity.{valid_items};
+ghost use Rattle.arrow2_validity.specs.Refused.{unequal_lengths};
+ghost use Rattle.arrow2_text.specs.Binary.{HasBitPerSlot, binary_layout, default_binary, default_text, text_layout};
 ghost use Rattle.arrow2_text.specs.Refused.{not_utf8, other_binary_layout, other_text_layout, past_the_values};
 
+use arrow2_bitmap::Bitmap;
+use arrow2_buffer::Buffer;
 use arrow2_datatypes::{DataType, PhysicalType};
 use arrow2_index::offset::Offset;
 use arrow2_offset::OffsetsBuffer;
 use arrow2_types::error::{Error, Result};
 use arrow2_utf8::{BrokenTexts, try_check_utf8};
+use arrow2_validity::Validity;
 use std::alloc::Global;
 
 /// Returns the error of an invalid argument in these words, or that of refused memory, where they find none.
@@ -90,6 +97,81 @@ pub(crate) fn check_text_layout<O: Offset>(alloc: Global, data_type: &DataType) 
         ));
     }
     Ok(())
+}
+
+/// Returns the validity of the slots of these parts. Refuses parts that are no array of byte strings.
+pub(crate) fn check_binary<O: Offset>(
+    data_type: &DataType,
+    offsets: &OffsetsBuffer<O>,
+    values: &Buffer<u8>,
+    validity: Option<Bitmap>,
+) -> Result<Validity>
+    ensures ok { IfOk result (λ v. v ≡ record {
+      len = length (lengths_of (buffer_items offsets.now));
+      bitmap = validity;
+    }) }
+    ensures len { IfOk result (λ v. length (valid_items v) ≡ length (lengths_of (buffer_items offsets.now))) }
+    ensures accepted { OnOk result ((last_of (buffer_items offsets.now) ≤ length (buffer_items values.now))
+        × HasBitPerSlot (buffer_items offsets.now) validity
+        × (physical data_type.now ≡ binary_layout O.IS_LARGE)) }
+    ensures past { length (buffer_items values.now) < last_of (buffer_items offsets.now) →
+        IfErr result (λ e. IsInvalidArgument e past_the_values) }
+    ensures unequal { last_of (buffer_items offsets.now) ≤ length (buffer_items values.now) →
+        ForSome validity (λ v. ¬ (length (items_of v) ≡ length (lengths_of (buffer_items offsets.now))) →
+        IfErr result (λ e. IsInvalidArgument e
+        (unequal_lengths (length (items_of v)) (length (lengths_of (buffer_items offsets.now)))))) }
+    ensures layout { last_of (buffer_items offsets.now) ≤ length (buffer_items values.now) →
+        HasBitPerSlot (buffer_items offsets.now) validity →
+        ¬ (physical data_type.now ≡ binary_layout O.IS_LARGE) →
+        IfErr result (λ e. IsInvalidArgument e other_binary_layout) }
+    ensures only { last_of (buffer_items offsets.now) ≤ length (buffer_items values.now) →
+        HasBitPerSlot (buffer_items offsets.now) validity →
+        physical data_type.now ≡ binary_layout O.IS_LARGE → IfErr result (λ e. e ≡ Error.OutOfMemory) }
+{
+    let alloc = values.allocator();
+    check_bounds(alloc, offsets, values.len())?;
+    let validity = Validity::try_new(offsets.len_proxy(), validity)?;
+    check_binary_layout::<O>(alloc, data_type)?;
+    Ok(validity)
+}
+
+/// Returns the validity of the slots of these parts. Refuses parts that are no array of texts.
+pub(crate) fn check_utf8<O: Offset>(
+    data_type: &DataType,
+    offsets: &OffsetsBuffer<O>,
+    values: &Buffer<u8>,
+    validity: Option<Bitmap>,
+) -> Result<Validity>
+    ensures ok { IfOk result (λ v. v ≡ record {
+      len = length (lengths_of (buffer_items offsets.now));
+      bitmap = validity;
+    }) }
+    ensures len { IfOk result (λ v. length (valid_items v) ≡ length (lengths_of (buffer_items offsets.now))) }
+    ensures accepted { OnOk result (AreTexts (buffer_items offsets.now) (buffer_items values.now)
+        × HasBitPerSlot (buffer_items offsets.now) validity
+        × (physical data_type.now ≡ text_layout O.IS_LARGE)) }
+    ensures past { length (buffer_items values.now) < last_of (buffer_items offsets.now) →
+        IfErr result (λ e. IsInvalidArgument e past_the_values) }
+    ensures broken { last_of (buffer_items offsets.now) ≤ length (buffer_items values.now) →
+        ¬ AreTexts (buffer_items offsets.now) (buffer_items values.now) →
+        IfErr result (λ e. IsInvalidArgument e not_utf8) }
+    ensures unequal { AreTexts (buffer_items offsets.now) (buffer_items values.now) →
+        ForSome validity (λ v. ¬ (length (items_of v) ≡ length (lengths_of (buffer_items offsets.now))) →
+        IfErr result (λ e. IsInvalidArgument e
+        (unequal_lengths (length (items_of v)) (length (lengths_of (buffer_items offsets.now)))))) }
+    ensures layout { AreTexts (buffer_items offsets.now) (buffer_items values.now) →
+        HasBitPerSlot (buffer_items offsets.now) validity →
+        ¬ (physical data_type.now ≡ text_layout O.IS_LARGE) →
+        IfErr result (λ e. IsInvalidArgument e other_text_layout) }
+    ensures only { AreTexts (buffer_items offsets.now) (buffer_items values.now) →
+        HasBitPerSlot (buffer_items offsets.now) validity →
+        physical data_type.now ≡ text_layout O.IS_LARGE → IfErr result (λ e. e ≡ Error.OutOfMemory) }
+{
+    let alloc = values.allocator();
+    check_texts(alloc, offsets, values.as_slice())?;
+    let validity = Validity::try_new(offsets.len_proxy(), validity)?;
+    check_text_layout::<O>(alloc, data_type)?;
+    Ok(validity)
 }
 
 /// Returns whether this is how byte strings are laid out.

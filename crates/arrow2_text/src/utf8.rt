@@ -19,7 +19,7 @@ ghost use Rattle.arrow2_text.specs.Refused.{not_utf8, other_text_layout, past_th
 use crate::binary::BinaryArray;
 use crate::iterator::Utf8Iter;
 use crate::mutable_utf8::MutableUtf8Array;
-use crate::refusals::{binary_type, check_text_layout, check_texts, text_type};
+use crate::refusals::{binary_type, check_utf8, text_type};
 use crate::slots::Slots;
 use arrow2_bitmap::Bitmap;
 use arrow2_buffer::Buffer;
@@ -101,11 +101,8 @@ impl<O: Offset> Utf8Array<O> {
             HasBitPerSlot (buffer_items offsets) validity →
             physical data_type ≡ text_layout O.IS_LARGE → IfErr result (λ e. e ≡ Error.OutOfMemory) }
     {
-        let alloc = values.allocator();
-        check_texts(alloc, &offsets, values.as_slice())?;
-        let validity = Validity::try_new(offsets.len_proxy(), validity)?;
-        check_text_layout::<O>(alloc, &data_type)?;
-        let data_type = Rc::new(alloc, data_type)?;
+        let validity = check_utf8(&data_type, &offsets, &values, validity)?;
+        let data_type = Rc::new(values.allocator(), data_type)?;
         Ok(Utf8Array {
             slots: Slots::new(data_type, offsets, values, validity),
         })
