@@ -1,0 +1,13 @@
+use Rattle.std.proofs.Common.{ap, length, arith}
+use Rattle.arrow2_offset.specs.Nested.{cut}
+use Rattle.arrow2_text.proofs.growing.Growing.with_capacity.Goals as goal
+
+pub returns-clause-ok : goal.returns-clause-ok
+returns-clause-ok g c =
+    (ap (cut c.in_ok-values.values.items) c.in_ok-offsets.ensures.ok.1, c.in_ok-validity.ensures.ok, ap length c.in_ok-values.ensures.items)
+
+pub returns-clause-capacity : goal.returns-clause-capacity
+returns-clause-capacity g c = (omega (arith, c.in_ok-offsets.ensures.capacity, c.in_ok-validity.ensures.capacity), c.in_ok-values.ensures.capacity)
+
+pub returns-clause-overflow : goal.returns-clause-overflow
+returns-clause-overflow g c = (λ is. cc, λ h. let never = c.in_ok-offsets.ensures.overflow.1 h in cc)
