@@ -157,37 +157,71 @@ fn casts(array: &PrimitiveArray<i32>, alloc: Global) -> [Row<PrimitiveArray<u8>>
     ]
 }
 
+/// Makes the calls on an array of numbers alone.
+fn on_numbers<R: Print + Eprint>(rt: &R, array: &PrimitiveArray<i32>, alloc: Global) {
+    made(
+        rt,
+        &compared_with_number(array),
+        &compared_with_number(array),
+    );
+    made(rt, &compared(array), &compared(array));
+    made(rt, &casts(array, alloc), &casts(array, alloc));
+    made(rt, &taken(array, alloc), &taken(array, alloc));
+}
+
+/// Makes the calls on numbers, a boolean array and a mask.
+fn on_masked_numbers<R: Print + Eprint>(
+    rt: &R,
+    array: &PrimitiveArray<i32>,
+    booleans: &BooleanArray,
+    mask: &Bitmap,
+) {
+    if array.len() == 3 && booleans.len() == 3 && mask.len() == 3 {
+        made(
+            rt,
+            &chosen_numbers(array, booleans, mask),
+            &chosen_numbers(array, booleans, mask),
+        );
+    }
+}
+
+/// Makes the calls on booleans and a mask.
+fn on_masked_booleans<R: Print + Eprint>(rt: &R, array: &BooleanArray, mask: &Bitmap) {
+    if array.len() == 3 && mask.len() == 3 {
+        made(
+            rt,
+            &chosen_booleans(array, mask),
+            &chosen_booleans(array, mask),
+        );
+    }
+}
+
+/// Makes the calls on texts and a mask.
+fn on_masked_texts<R: Print + Eprint>(rt: &R, array: &Utf8Array<i32>, mask: &Bitmap) {
+    if array.len() == 3 && mask.len() == 3 {
+        made(rt, &chosen_texts(array, mask), &chosen_texts(array, mask));
+    }
+}
+
+/// Makes the calls on arrays and a mask.
+fn on_mask<R: Print + Eprint>(
+    rt: &R,
+    alloc: Global,
+    numbers: &PrimitiveArray<i32>,
+    mask: &Bitmap,
+) -> Result<()> {
+    let booleans = booleans(alloc).or(booleans(alloc))?;
+    on_masked_numbers(rt, numbers, &booleans, mask);
+    on_masked_booleans(rt, &booleans, mask);
+    let texts = texts(alloc).or(texts(alloc))?;
+    on_masked_texts(rt, &texts, mask);
+    Ok(())
+}
+
 /// Makes each of these calls.
 pub(crate) fn all<R: Print + Eprint>(rt: &R, alloc: Global) -> Result<()> {
     let numbers = numbers(alloc).or(numbers(alloc))?;
-    made(
-        rt,
-        &compared_with_number(&numbers),
-        &compared_with_number(&numbers),
-    );
-    made(rt, &compared(&numbers), &compared(&numbers));
-    made(rt, &casts(&numbers, alloc), &casts(&numbers, alloc));
-    made(rt, &taken(&numbers, alloc), &taken(&numbers, alloc));
-    let booleans = booleans(alloc).or(booleans(alloc))?;
-    let texts = texts(alloc).or(texts(alloc))?;
+    on_numbers(rt, &numbers, alloc);
     let mask = mask(alloc).or(mask(alloc))?;
-    if numbers.len() != 3 || booleans.len() != 3 || texts.len() != 3 || mask.len() != 3 {
-        return Ok(());
-    }
-    made(
-        rt,
-        &chosen_numbers(&numbers, &booleans, &mask),
-        &chosen_numbers(&numbers, &booleans, &mask),
-    );
-    made(
-        rt,
-        &chosen_booleans(&booleans, &mask),
-        &chosen_booleans(&booleans, &mask),
-    );
-    made(
-        rt,
-        &chosen_texts(&texts, &mask),
-        &chosen_texts(&texts, &mask),
-    );
-    Ok(())
+    on_mask(rt, alloc, &numbers, &mask)
 }
