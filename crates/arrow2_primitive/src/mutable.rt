@@ -246,7 +246,9 @@ impl<T: NativeType> MutablePrimitiveArray<T> {
     pub fn push(&mut self, item: Option<T>) -> Result<()>
         ensures { AppendsItems result self.old self.new (item ∷ []) }
     {
-        self.reserve(1)?;
+        if self.values.len() == self.values.capacity() {
+            return self.push_growing(item);
+        }
         self.validity.push(item.is_some())?;
         self.values.push_reserved(item.unwrap_or(T::default()));
         Ok(())
@@ -387,6 +389,15 @@ impl<T: NativeType> MutablePrimitiveArray<T> {
         let values = Buffer::try_from(values)?;
         let validity = validity.into_validity()?;
         Ok(PrimitiveArray::new(data_type, values, validity))
+    }
+
+    /// Makes room for an item, and appends it.
+    fn push_growing(&mut self, item: Option<T>) -> Result<()>
+        ensures { AppendsItems result self.old self.new (item ∷ []) }
+    {
+        self.reserve(1)?;
+        self.push_within(item);
+        Ok(())
     }
 
     /// Appends an item within the capacity.
