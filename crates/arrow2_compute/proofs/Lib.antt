@@ -6,3 +6,5 @@ pub mod Masked
 pub mod Best
 pub mod Converted
 pub mod Weighed
+mod Gathered
+mod Selecting

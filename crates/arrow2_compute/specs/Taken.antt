@@ -1,5 +1,5 @@
 -- Items at places that may be null.
-use Rattle.std.specs.Prelude.{◌≤ℤ◌, ◌<ℤ◌, ℕ, ℤ, pos, List, Option, Some, None, slice_index_or, unsigned_abs}
+use Rattle.std.specs.Prelude.{◌≡◌, ◌≤ℤ◌, ◌<ℤ◌, ℕ, ℤ, pos, List, Option, Some, None, slice_index_or, unsigned_abs}
 
 -- an index is null, or a place below n: `value` is the whole number that it stands for
 abbrev pub IsPlaceOrNull : {I : Type 0} → (I → ℤ) → ℕ → Option I → Type 0
@@ -10,3 +10,7 @@ IsPlaceOrNull value n (Some index) = (pos 0 ≤ℤ value index) × (value index 
 abbrev pub item_at : {I X : Type 0} → (I → ℤ) → List (Option X) → Option I → Option X
 item_at value items None = None
 item_at value items (Some index) = slice_index_or items (unsigned_abs (value index)) None
+
+-- this stands at the place
+abbrev pub StandsAt : {X : Type 0} → List X → ℕ → X → Type 0
+StandsAt items index x = slice_index_or items index x ≡ x

@@ -1,29 +1,37 @@
 //! The items that a mask selects.
-ghost use Rattle.std.specs.Prelude.{◌≡◌, length, map, IfOk, IfErr};
+ghost use Rattle.std.specs.Prelude.{◌≡◌, ◌+◌, ◌<◌, ◌≤◌, ◌^◌, ◌++◌, length, map, IfOk, IfErr, OnOk};
 ghost use Rattle.arrow2_array.specs.Items.{boolean_items};
 ghost use Rattle.arrow2_compute.specs.Masks.{is_true};
+ghost use Rattle.arrow2_model.specs.Bits.{unnum};
+ghost use Rattle.arrow2_model.specs.Parts.{falses};
 ghost use Rattle.arrow2_model.specs.Storage.{items_of};
 ghost use Rattle.arrow2_primitive.specs.Primitive.{primitive_items};
 ghost use Rattle.arrow2_text.specs.Binary.{binary_items};
+ghost use Rattle.arrow2_validity.specs.OptionalValidity.{valid_items};
 ghost use Rattle.arrow2_walks.specs.Selected.{selected};
 
 use crate::binary::Binary;
-use arrow2_array::{BooleanArray, MutableBooleanArray};
-use arrow2_bitmap::Bitmap;
+use arrow2_array::BooleanArray;
 use arrow2_bitmap::bitmap_ops::and;
-use arrow2_primitive::{MutablePrimitiveArray, PrimitiveArray};
+use arrow2_bitmap::{Bitmap, MutableBitmap};
+use arrow2_buffer::Buffer;
+use arrow2_chunk::bit_chunk::BitChunk;
+use arrow2_chunk::bit_chunk_iter::BitChunkOnes;
+use arrow2_primitive::PrimitiveArray;
 use arrow2_types::error::{Error, Result};
 use arrow2_types::native::NativeType;
+use arrow2_validity::Validity;
 use arrow2_walks::{SlicesIterator, laws};
+use std::alloc::AllocError;
+use std::convert::TryFrom;
 
-/// Returns the items at whose place the mask is true, copied run by run. Requires that both have one length.
+/// Returns the items at whose place the mask is true. Requires that both have one length.
 ///
 /// Differs from arrow2: the mask is a bitmap, in which no item is null.
 ///
 /// # Errors
 ///
 /// `OutOfMemory` alone.
-#[tactic(auto, using(crate::proofs::Filtered::joining))]
 pub fn filter<T: NativeType>(array: &PrimitiveArray<T>, mask: &Bitmap) -> Result<PrimitiveArray<T>>
     requires same_length { length (items_of mask.now) ≡ length (primitive_items array.now) }
     ensures items { IfOk result (λ a.
@@ -31,14 +39,103 @@ pub fn filter<T: NativeType>(array: &PrimitiveArray<T>, mask: &Bitmap) -> Result
     ensures data_type { IfOk result (λ a. a.data_type ≡ array.now.data_type) }
     ensures only { IfErr result (λ e. e ≡ Error.OutOfMemory) }
 {
-    laws::runs_lie_inside();
-    laws::runs_cut_out_the_selected_items::<Option<T>>();
-    let mut kept = MutablePrimitiveArray::like(array)?;
-    kept.reserve(mask.len() - mask.unset_bits())?;
-    for (start, len) in SlicesIterator::new(mask) {
-        kept.extend_from_array(array, start, len)?;
+    let data_type = array.data_type().clone()?;
+    let values = Buffer::try_from(selected_values(array.values().as_slice(), mask)?)?;
+    let validity = selected_validity(array.optional_validity(), mask)?;
+    Ok(PrimitiveArray::new(data_type, values, validity.into_bitmap()))
+}
+
+/// Returns the values at whose place the mask is true, word by word of the mask. Requires that both have one length.
+fn selected_values<T: NativeType>(
+    values: &[T],
+    mask: &Bitmap,
+) -> std::result::Result<Vec<T>, AllocError>
+    requires same_length { length (items_of mask.now) ≡ length values.now }
+    ensures { IfOk result (λ kept. kept.items ≡ selected values.entry.now (items_of mask.now)) }
+{
+    let mut values = values;
+    let mut kept = Vec::with_capacity(mask.allocator(), mask.len() - mask.unset_bits())?;
+    let mut words = mask.chunks::<u64>();
+    while let Some(word) = words.next() {
+        let (block, rest) = values.split_at(64);
+        push_values(&mut kept, block, word)?;
+        values = rest;
     }
-    kept.freeze()
+    let last = BitChunk::masked(words.remainder(), words.remainder_len());
+    push_values(&mut kept, values, last)?;
+    Ok(kept)
+}
+
+/// Appends those of at most 64 values at whose place the bit of the word is set.
+#[tactic(auto, using(crate::proofs::Selecting::selecting))]
+fn push_values<T: NativeType>(
+    kept: &mut Vec<T>,
+    values: &[T],
+    word: u64,
+) -> std::result::Result<(), AllocError>
+    requires few { length values.now ≤ 64 }
+    ensures { OnOk result (kept.new.items ≡ kept.old.items ++ selected values.now (unnum 64 word)) }
+{
+    if word == u64::MAX {
+        return kept.extend_from_slice(values);
+    }
+    for place in BitChunkOnes::new(word) {
+        if let Some(value) = values.get(place) {
+            kept.push(*value)?;
+        }
+    }
+    Ok(())
+}
+
+/// Returns which of the items at whose place the mask is true are not null, with a bitmap exactly where `validity` has
+/// one. Requires that both have one length.
+fn selected_validity(validity: &Validity, mask: &Bitmap) -> Result<Validity>
+    requires same_length { length (items_of mask.now) ≡ length (valid_items validity.now) }
+    ensures items { IfOk result (λ v. valid_items v
+        ≡ selected (valid_items validity.now) (items_of mask.now)) }
+    ensures len { IfOk result (λ v. v.len + falses (items_of mask.now) ≡ length (items_of mask.now)) }
+    ensures only { IfErr result (λ e. e ≡ Error.OutOfMemory) }
+{
+    let count = mask.len() - mask.unset_bits();
+    let Some(bitmap) = validity.bitmap() else {
+        return Ok(Validity::all_valid(count));
+    };
+    Ok(Validity::new(count, Some(selected_bits(bitmap, mask)?)))
+}
+
+/// Returns the items of a bitmap at whose place the mask is true, word by word of both. Requires that both have one
+/// length.
+fn selected_bits(bitmap: &Bitmap, mask: &Bitmap) -> Result<Bitmap>
+    requires same_length { length (items_of mask.now) ≡ length (items_of bitmap.now) }
+    ensures items { IfOk result (λ b. items_of b ≡ selected (items_of bitmap.now) (items_of mask.now)) }
+    ensures only { IfErr result (λ e. e ≡ Error.OutOfMemory) }
+{
+    let mut kept = MutableBitmap::with_capacity(mask.allocator(), mask.len() - mask.unset_bits())?;
+    let mut words = mask.chunks::<u64>();
+    let mut blocks = bitmap.chunks::<u64>();
+    while let Some(word) = words.next() {
+        let block = blocks.next().unwrap_or(0);
+        push_bits(&mut kept, block, word)?;
+    }
+    let last = BitChunk::masked(words.remainder(), words.remainder_len());
+    push_bits(&mut kept, blocks.remainder(), last)?;
+    Bitmap::try_from(kept)
+}
+
+/// Appends the bits of a block at whose place the bit of the word is set. Requires that a `usize` counts all bits.
+#[tactic(auto, using(crate::proofs::Selecting::selecting))]
+fn push_bits(kept: &mut MutableBitmap, block: u64, word: u64) -> Result<()>
+    requires fits { length kept.old.items + length (selected (unnum 64 block) (unnum 64 word)) < 2 ^ 64 }
+    ensures ok { OnOk result (kept.new.items ≡ kept.old.items ++ selected (unnum 64 block) (unnum 64 word)) }
+    ensures only { IfErr result (λ e. e ≡ Error.OutOfMemory) }
+{
+    if word == u64::MAX {
+        return kept.extend_from_slice(&BitChunk::to_ne_bytes(block), 0, 64);
+    }
+    for place in BitChunkOnes::new(word) {
+        kept.push(BitChunk::bit(block, place))?;
+    }
+    Ok(())
 }
 
 /// Returns the items at whose place the mask is true, and not null. Requires that both have one length.
@@ -96,26 +193,20 @@ pub fn filter_binary<A: Binary>(array: &A, mask: &Bitmap) -> Result<A>
     A::freeze(kept)
 }
 
-/// Returns the booleans at whose place the mask is true, copied run by run. Requires that both have one length.
+/// Returns the booleans at whose place the mask is true. Requires that both have one length.
 ///
 /// In arrow2 it is `filter`, whose mask is a boolean array.
 ///
 /// # Errors
 ///
 /// `OutOfMemory` alone.
-#[tactic(auto, using(crate::proofs::Filtered::joining))]
 pub fn filter_boolean(array: &BooleanArray, mask: &Bitmap) -> Result<BooleanArray>
     requires same_length { length (items_of mask.now) ≡ length (boolean_items array.now) }
     ensures items { IfOk result (λ a.
         boolean_items a ≡ selected (boolean_items array.now) (items_of mask.now)) }
     ensures only { IfErr result (λ e. e ≡ Error.OutOfMemory) }
 {
-    laws::runs_lie_inside();
-    laws::runs_cut_out_the_selected_items::<Option<bool>>();
-    let count = mask.len() - mask.unset_bits();
-    let mut kept = MutableBooleanArray::with_capacity(mask.allocator(), count)?;
-    for (start, length) in SlicesIterator::new(mask) {
-        kept.extend_from_array(array, start, length)?;
-    }
-    kept.freeze()
+    let values = selected_bits(array.values(), mask)?;
+    let validity = selected_validity(array.optional_validity(), mask)?;
+    Ok(BooleanArray::from_parts(values, validity))
 }

@@ -1,17 +1,26 @@
 //! The items at given places.
-ghost use Rattle.std.specs.Prelude.{◌≡◌, ◌<◌, ◌⊎◌, All, None, length, map, slice_index_or, sum_by, IfOk, IfErr, IsErrOf};
+ghost use Rattle.std.specs.Prelude.{◌≡◌, ◌<◌, ◌⊎◌, All, None, false, length, map, slice_index_or, sum_by, IfOk, IfErr, IsErrOf};
+ghost use Rattle.std.specs.List.{AllZip};
 ghost use Rattle.arrow2_array.specs.Items.{boolean_items};
-ghost use Rattle.arrow2_compute.specs.Taken.{IsPlaceOrNull, item_at};
+ghost use Rattle.arrow2_compute.specs.Taken.{IsPlaceOrNull, StandsAt, item_at};
 ghost use Rattle.arrow2_compute.specs.Sizes.{item_bytes};
+ghost use Rattle.arrow2_model.specs.Buffers.{buffer_items};
+ghost use Rattle.arrow2_model.specs.Storage.{items_of};
 ghost use Rattle.arrow2_primitive.specs.Primitive.{primitive_items};
 ghost use Rattle.arrow2_text.specs.Binary.{binary_items};
+ghost use Rattle.arrow2_validity.specs.OptionalValidity.{valid_items};
 
 use crate::binary::Binary;
-use arrow2_array::{BooleanArray, MutableBooleanArray};
+use arrow2_array::BooleanArray;
+use arrow2_bitmap::Bitmap;
+use arrow2_buffer::Buffer;
 use arrow2_index::index::Index;
 use arrow2_primitive::{MutablePrimitiveArray, PrimitiveArray};
 use arrow2_types::error::{Error, Result};
 use arrow2_types::native::NativeType;
+use arrow2_validity::Validity;
+use std::alloc::AllocError;
+use std::convert::TryFrom;
 
 /// Returns the items at these places, in their order. Requires that each is below the length.
 ///
@@ -30,12 +39,59 @@ pub fn take<T: NativeType>(
     ensures data_type { IfOk result (λ a. a.data_type ≡ array.now.data_type) }
     ensures only { IfErr result (λ e. e ≡ Error.OutOfMemory) }
 {
-    let mut taken = MutablePrimitiveArray::like(array)?;
-    taken.reserve(indices.len())?;
+    let data_type = array.data_type().clone()?;
+    let values = Buffer::try_from(values_at(array.values(), indices)?)?;
+    let validity = validity_at(array.optional_validity(), indices)?;
+    Ok(PrimitiveArray::new(data_type, values, validity.into_bitmap()))
+}
+
+/// Returns what stands in the values at these places, under nulls too. Requires that each is below the length.
+fn values_at<T: NativeType>(
+    values: &Buffer<T>,
+    indices: &[usize],
+) -> std::result::Result<Vec<T>, AllocError>
+    requires inside { All (λ index. index < length (buffer_items values.now)) indices.now }
+    ensures { IfOk result (λ taken. AllZip (StandsAt (buffer_items values.now)) indices.now taken.items) }
+{
+    let mut taken = Vec::with_capacity(values.allocator(), indices.len())?;
+    let slots = values.as_slice();
     for index in indices {
-        taken.push(array.get(*index))?;
+        taken.push_reserved(slots[*index]);
     }
-    taken.freeze()
+    Ok(taken)
+}
+
+/// Returns which of the items at these places are not null, with a bitmap exactly where `validity` has one. Requires that
+/// each is below the length.
+fn validity_at(validity: &Validity, indices: &[usize]) -> Result<Validity>
+    requires inside { All (λ index. index < length (valid_items validity.now)) indices.now }
+    ensures items { IfOk result (λ v. valid_items v
+        ≡ map (λ index. slice_index_or (valid_items validity.now) index false) indices.now) }
+    ensures len { IfOk result (λ v. v.len ≡ length indices.now) }
+    ensures only { IfErr result (λ e. e ≡ Error.OutOfMemory) }
+{
+    let Some(bitmap) = validity.bitmap() else {
+        return Ok(Validity::all_valid(indices.len()));
+    };
+    Ok(Validity::new(indices.len(), Some(bits_at(bitmap, indices)?)))
+}
+
+/// Returns the items of a bitmap at these places. Requires that each is below the length.
+fn bits_at(bitmap: &Bitmap, indices: &[usize]) -> Result<Bitmap>
+    requires inside { All (λ index. index < length (items_of bitmap.now)) indices.now }
+    ensures items { IfOk result (λ b. items_of b
+        ≡ map (λ index. slice_index_or (items_of bitmap.now) index false) indices.now) }
+    ensures len { IfOk result (λ b. length (items_of b) ≡ length indices.now) }
+    ensures only { IfErr result (λ e. e ≡ Error.OutOfMemory) }
+{
+    Bitmap::from_slice_with(
+        bitmap.allocator(),
+        indices,
+        |index|
+            requires { index.now < length (items_of bitmap.now) }
+            ensures { result ≡ slice_index_or (items_of bitmap.entry.now) index.now false }
+        { bitmap.get_bit(*index) },
+    )
 }
 
 /// Returns the items at the places of an array of indices, in their order: null where the index is null. What stands under a
@@ -112,10 +168,7 @@ pub fn take_boolean(array: &BooleanArray, indices: &[usize]) -> Result<BooleanAr
         ≡ map (λ index. slice_index_or (boolean_items array.now) index None) indices.now) }
     ensures only { IfErr result (λ e. e ≡ Error.OutOfMemory) }
 {
-    let mut items = MutableBooleanArray::new(array.values().allocator());
-    items.reserve(indices.len())?;
-    for index in indices {
-        items.push(array.get(*index))?;
-    }
-    items.freeze()
+    let values = bits_at(array.values(), indices)?;
+    let validity = validity_at(array.optional_validity(), indices)?;
+    Ok(BooleanArray::from_parts(values, validity))
 }

@@ -1,44 +1,42 @@
-use Rattle.std.proofs.Common.{◌≡◌, ◌∙◌, ℕ, ◌+◌, ◌<◌, ◌≤◌, ◌^◌, length, ap, subst, arith}
-use Rattle.std.specs.Prelude.{IfOk}
-use Rattle.std.proofs.lemmas.Grind.{common_steps}
-use Rattle.arrow2_model.specs.Parts.{part}
+use Rattle.std.proofs.Common.{◌≡◌, ◌∙◌, length, ap, sym, arith}
+use Rattle.std.specs.Prelude.{is_some}
+use Rattle.std.proofs.lemmas.List.{length-map}
+use Rattle.std.proofs.Math.Seq.{take-length}
+use Rattle.arrow2_model.specs.Buffers.{buffer_items}
 use Rattle.arrow2_model.specs.Storage.{items_of}
 use Rattle.arrow2_primitive.specs.Primitive.{primitive_items}
+use Rattle.arrow2_validity.specs.OptionalValidity.{valid_items}
 use Rattle.arrow2_walks.specs.Selected.{selected}
-use Rattle.arrow2_walks.proofs.Left.{left-all, left-done}
-use Rattle.arrow2_walks.proofs.Selected.{length-selected, selected-runs}
-use Rattle.arrow2_compute.proofs.Filtered.{kept-fits}
+use Rattle.arrow2_walks.specs.Zipped.{zipped}
+use Rattle.arrow2_walks.proofs.Selected.{count-selected}
+use Rattle.arrow2_compute.proofs.Gathered.{by-bitmap, by-parts}
+use Rattle.arrow2_compute.proofs.Selecting.{selected-zipped}
 use Rattle.arrow2_compute.proofs.filter.filter.Goals as goal
 
--- the run that comes was the first one left, and its items are those that are appended
-pub loop-start-preserved : goal.loop-start-preserved
-loop-start-preserved g c =
-    let items = primitive_items c.args.array.now in
-    let before = c.loop-start.invariant in
-    let first = c.in-Some.ensures.steps.runs in
-    record {
-      inside = left-all (λ (run : ℕ × ℕ). run.0 + run.1 ≤ length items) first before.inside;
-      done = left-done (λ (run : ℕ × ℕ). part items run.0 run.1) _ _ _ first c.in_ok-extend_from_array.ensures.ok before.done;
-      data_type = c.extend_from_array.ensures.data_type ∙ before.data_type;
-    }
-
--- no more is kept than there is, which a usize counts
-pub returns-in_err-extend_from_array-clause-only : goal.returns-in_err-extend_from_array-clause-only
-returns-in_err-extend_from_array-clause-only g c =
-    let items = primitive_items c.args.array.now in
+pub new-requires-clause-same_length : goal.new-requires-clause-same_length
+new-requires-clause-same_length g c = λ x e.
     let mask = items_of c.args.mask.now in
-    let cut = λ (run : ℕ × ℕ). part items run.0 run.1 in
-    let fits = kept-fits cut c.loop-start.kept.items _ _ _ _ c.in-Some.ensures.steps.runs c.loop-start.invariant.done in
-    let whole = ap length (selected-runs items mask c.requires.same_length) in
-    let few = length-selected items mask in
-    let counted : length c.loop-start.kept.items + length (part items c.in-Some.start c.in-Some.len) < 2 ^ 64 = omega (arith, fits, whole, few, c.requires.same_length, c.len.ensures.items) in
-    grind (arith, common_steps, counted)
+    let slots = buffer_items c.values.result.now in
+    let valid = valid_items c.optional_validity.result.now in
+    let kept : buffer_items c.in_ok-values.values ≡ selected slots mask = ap buffer_items c.in_ok-values.ensures ∙ (take-length c.in_ok-selected_values.field-0.items ∙ (c.in_ok-selected_values.ensures ∙ ap (λ l. selected l mask) c.as_slice.ensures)) in
+    let there = by-bitmap c.in_ok-validity.validity x (sym c.into_bitmap.ensures ∙ e) ∙ c.in_ok-validity.ensures.items in
+    let sized : length valid ≡ length (primitive_items c.args.array.now) = ap length c.optional_validity.ensures.items ∙ length-map (primitive_items c.args.array.now) is_some in
+    let m = count-selected slots mask (omega (arith, c.values.ensures.len, c.requires.same_length)) in
+    let n = count-selected valid mask (omega (arith, sized, c.requires.same_length)) in
+    omega (arith, ap length kept, ap length there, m, n)
 
 pub returns-clause-items : goal.returns-clause-items
 returns-clause-items g c =
-    let items = primitive_items c.args.array.now in
     let mask = items_of c.args.mask.now in
-    let whole = selected-runs items mask c.requires.same_length in
-    let done = c.loop-start.invariant.done in
-    let all : c.loop-start.kept.items ≡ selected items mask = grind (arith, common_steps, whole, done) in
-    subst (λ z. IfOk c.freeze.result (λ a. primitive_items a ≡ z)) all c.freeze.ensures.items
+    let items = primitive_items c.args.array.now in
+    let slots = buffer_items c.values.result.now in
+    let valid = valid_items c.optional_validity.result.now in
+    let kept : buffer_items c.in_ok-values.values ≡ selected slots mask = ap buffer_items c.in_ok-values.ensures ∙ (take-length c.in_ok-selected_values.field-0.items ∙ (c.in_ok-selected_values.ensures ∙ ap (λ l. selected l mask) c.as_slice.ensures)) in
+    let m = count-selected slots mask (omega (arith, c.values.ensures.len, c.requires.same_length)) in
+    let parts = by-parts (length (buffer_items c.in_ok-values.values)) c.into_bitmap.result c.in_ok-validity.validity c.into_bitmap.ensures (omega (arith, ap length kept, m, c.in_ok-validity.ensures.len)) in
+    let sized : length valid ≡ length slots = omega (arith, ap length c.optional_validity.ensures.items, length-map items is_some, c.values.ensures.len) in
+    let whole : zipped slots valid ≡ items = ap (λ b. zipped (buffer_items b) valid) c.values.ensures.value ∙ c.optional_validity.ensures.zipped in
+    ap primitive_items c.new.ensures
+    ∙ (ap (zipped (buffer_items c.in_ok-values.values)) (parts ∙ c.in_ok-validity.ensures.items)
+    ∙ (ap (λ xs. zipped xs (selected valid mask)) kept
+    ∙ (sym (selected-zipped slots valid mask sized) ∙ ap (λ l. selected l mask) whole)))

@@ -1,11 +1,23 @@
-use Rattle.std.proofs.Common.{◌≡◌, ℕ, None, map, ap, subst, ◌∙◌}
-use Rattle.std.specs.Prelude.{IfOk, slice_index_or}
-use Rattle.std.proofs.lemmas.List.{take_all}
+use Rattle.std.proofs.Common.{◌≡◌, ◌∙◌, ℕ, ◌<◌, All, None, false, length, map, get_or, ap, sym, subst, arith}
 use Rattle.arrow2_array.specs.Items.{boolean_items}
+use Rattle.arrow2_model.specs.Storage.{items_of}
+use Rattle.arrow2_validity.specs.OptionalValidity.{valid_items}
+use Rattle.arrow2_walks.specs.Zipped.{zipped}
+use Rattle.arrow2_compute.proofs.Gathered.{stand-there, taken-zipped}
 use Rattle.arrow2_compute.proofs.take.take_boolean.Goals as goal
 
 pub returns-clause-items : goal.returns-clause-items
 returns-clause-items c =
-    let items = λ (index : ℕ). slice_index_or (boolean_items c.args.array.now) index None in
-    let all = c.loop-index.invariant.items ∙ ap (map items) (take_all c.loop-index.index-index c.args.indices.now c.loop-index-test.false) in
-    subst (λ z. IfOk c.freeze.result (λ a. boolean_items a ≡ z)) all c.freeze.ensures.items
+    let v = c.in_ok-validity.validity in
+    let indices = c.args.indices.now in
+    let items = boolean_items c.args.array.now in
+    let bits = items_of c.values.result.now in
+    let valid = valid_items c.optional_validity.result.now in
+    let sized : length valid ≡ length bits = omega (arith, c.optional_validity.ensures.len, c.values.ensures.len) in
+    let inside = subst (λ (n : ℕ). All (λ (index : ℕ). index < n) indices) (sym c.values.ensures.len) c.requires.inside in
+    let whole : zipped bits valid ≡ items = ap (λ b. zipped (items_of b) valid) c.values.ensures.value ∙ c.optional_validity.ensures.zipped in
+    ap boolean_items c.from_parts.ensures
+    ∙ (ap (zipped (items_of c.in_ok-values.values)) c.in_ok-validity.ensures.items
+    ∙ (ap (λ xs. zipped xs (map (λ (index : ℕ). get_or valid index false) indices)) c.in_ok-values.ensures.items
+    ∙ (taken-zipped bits valid indices (map (λ (index : ℕ). get_or bits index false) indices) sized inside (stand-there bits false indices inside)
+    ∙ ap (λ l. map (λ (index : ℕ). get_or l index None) indices) whole)))

@@ -1,0 +1,172 @@
+-- What a mask selects word by word, and by the places of the bits that are set.
+use Rattle.std.proofs.Common.{◌≡◌, ℕ, zero, suc, ◌+◌, ◌-◌, ◌<◌, ◌≤◌, ◌^◌, List, [], ◌∷◌, ◌++◌, Bool, true, false, cond, length, take, drop, get_or, replicate, refl, ap, sym, subst, ◌∙◌, append_assoc, arith, add-one}
+use Rattle.std.specs.Prelude.{Option, Some, None, unwrap_or}
+use Rattle.std.proofs.lemmas.List.{length-append}
+use Rattle.std.specs.List.{All, filter, flat_map, range_with_len}
+use Rattle.std.proofs.lemmas.List.Elements.{All-filter}
+use Rattle.std.proofs.lemmas.List.FromFn.{get_or-range_with_len, length-range_with_len}
+use Rattle.arrow2_model.specs.Bits.{bit, unnum}
+use Rattle.arrow2_model.specs.Words.{PassesItems, rest}
+use Rattle.arrow2_model.proofs.Bits.{get_or-unnum, length-unnum}
+use Rattle.arrow2_model.proofs.Words.{length-rest}
+use Rattle.arrow2_model.specs.Parts.{part}
+use Rattle.arrow2_chunk.specs.Ones.{ones}
+use Rattle.arrow2_walks.specs.Selected.{selected}
+use Rattle.arrow2_walks.specs.Zipped.{slot, zipped}
+
+all-true : unnum 64 (2 ^ 64 - 1) ≡ replicate 64 true
+unfolding unnum
+all-true = refl
+
+module _ {X : Type 0} where
+  -- of two lists one behind the other
+  pub selected-append : (xs ys : List X) (ms ns : List Bool) → length xs ≡ length ms → selected (xs ++ ys) (ms ++ ns) ≡ selected xs ms ++ selected ys ns
+  selected-append [] ys [] ns e = refl
+  selected-append [] ys (m ∷ ms) ns e = absurd (omega (arith, e))
+  selected-append (x ∷ xs) ys [] ns e = absurd (omega (arith, e))
+  selected-append (x ∷ xs) ys (true ∷ ms) ns e = ap (λ l. x ∷ l) (selected-append xs ys ms ns (omega (arith, e)))
+  selected-append (x ∷ xs) ys (false ∷ ms) ns e = selected-append xs ys ms ns (omega (arith, e))
+
+  none-selected : (xs : List X) (n : ℕ) → selected xs (replicate n false) ≡ []
+  none-selected [] n = refl
+  none-selected (x ∷ xs) zero = refl
+  none-selected (x ∷ xs) (suc n) = none-selected xs n
+
+  -- of values beside their validity
+  pub selected-zipped : (xs : List X) (vs ms : List Bool) → length vs ≡ length xs → selected (zipped xs vs) ms ≡ zipped (selected xs ms) (selected vs ms)
+  selected-zipped [] [] ms e = refl
+  selected-zipped [] (v ∷ vs) ms e = absurd (omega (arith, e))
+  selected-zipped (x ∷ xs) [] ms e = absurd (omega (arith, e))
+  selected-zipped (x ∷ xs) (v ∷ vs) [] e = refl
+  selected-zipped (x ∷ xs) (v ∷ vs) (true ∷ ms) e = ap (λ l. slot x v ∷ l) (selected-zipped xs vs ms (omega (arith, e)))
+  selected-zipped (x ∷ xs) (v ∷ vs) (false ∷ ms) e = selected-zipped xs vs ms (omega (arith, e))
+
+  -- of a mask of which the first n items count
+  pub selected-masked : (xs : List X) (ms : List Bool) (n k : ℕ) → selected xs (take n ms ++ replicate k false) ≡ selected (take n xs) (take n ms)
+  selected-masked [] ms zero k = refl
+  selected-masked [] ms (suc n) k = refl
+  selected-masked (x ∷ xs) ms zero k = none-selected (x ∷ xs) k
+  selected-masked (x ∷ xs) [] (suc n) k = none-selected (x ∷ xs) k
+  selected-masked (x ∷ xs) (true ∷ ms) (suc n) k = ap (λ l. x ∷ l) (selected-masked xs ms n k)
+  selected-masked (x ∷ xs) (false ∷ ms) (suc n) k = selected-masked xs ms n k
+
+  -- of a mask that is true throughout
+  pub selected-all : (xs : List X) (n : ℕ) → length xs ≤ n → selected xs (replicate n true) ≡ xs
+  selected-all [] n h = refl
+  selected-all (x ∷ xs) zero h = absurd (omega (arith, h))
+  selected-all (x ∷ xs) (suc n) h = ap (λ l. x ∷ l) (selected-all xs n (omega (arith, h)))
+
+  selected-first : (xs : List X) (m : Bool) (ms : List Bool) → selected xs (m ∷ ms) ≡ cond m (take 1 xs) [] ++ selected (drop 1 xs) ms
+  selected-first [] true ms = refl
+  selected-first [] false ms = refl
+  selected-first (x ∷ xs) true ms = refl
+  selected-first (x ∷ xs) false ms = refl
+
+  drop-next : (xs : List X) (k : ℕ) → drop (suc k) xs ≡ drop 1 (drop k xs)
+  drop-next xs zero = refl
+  drop-next [] (suc k) = refl
+  drop-next (x ∷ xs) (suc k) = drop-next xs k
+
+  drop-more : (xs : List X) (k : ℕ) → drop (k + 1) xs ≡ drop 1 (drop k xs)
+  drop-more xs k = rw add-one (drop-next xs k)
+
+  nothing-selected : (xs : List X) → selected xs [] ≡ []
+  nothing-selected [] = refl
+  nothing-selected (x ∷ xs) = refl
+
+  cut-one : (b : Bool) (xs : List X) (k : ℕ) (ks : List ℕ) → flat_map (λ j. part xs j 1) (cond b (k ∷ ks) ks) ≡ cond b (part xs k 1) [] ++ flat_map (λ j. part xs j 1) ks
+  cut-one true xs k ks = refl
+  cut-one false xs k ks = refl
+
+  cut-from : (xs : List X) (p : ℕ → Bool) (k : ℕ) (ms : List Bool) → ((i : ℕ) → i < length ms → p (k + i) ≡ get_or ms i false)
+      → flat_map (λ j. part xs j 1) (filter p (range_with_len k (length ms))) ≡ selected (drop k xs) ms
+  cut-from xs p k [] h = sym (nothing-selected (drop k xs))
+  cut-from xs p k (m ∷ ms) h =
+      let here : p k ≡ m = ap p (omega arith) ∙ h 0 (omega arith) in
+      let others = cut-from xs p (k + 1) ms (λ i l. ap p (omega arith) ∙ h (suc i) (omega (arith, l))) in
+      cut-one (p k) xs k (filter p (range_with_len (k + 1) (length ms)))
+      ∙ (ap (λ b. cond b (part xs k 1) [] ++ flat_map (λ j. part xs j 1) (filter p (range_with_len (k + 1) (length ms)))) here
+      ∙ (ap (λ l. cond m (part xs k 1) [] ++ l) (others ∙ ap (λ l. selected l ms) (drop-more xs k))
+      ∙ sym (selected-first (drop k xs) m ms)))
+
+  -- what the places of the true items cut out
+  pub cut-ones : (xs : List X) (ms : List Bool) → flat_map (λ j. part xs j 1) (ones ms) ≡ selected xs ms
+  unfolding ones
+  cut-ones xs ms = cut-from xs (λ i. get_or ms i false) 0 ms (λ i l. ap (λ j. get_or ms j false) (omega arith))
+
+-- the places of true items are below the length
+pub ones-inside : (ms : List Bool) → All (λ place. place < length ms) (ones ms)
+unfolding ones
+ones-inside ms = All-filter (λ k. get_or ms k false) (λ place. place < length ms) (range_with_len 0 (length ms))
+    (λ k d m. let n = length-range_with_len 0 (length ms) in rw (get_or-range_with_len 0 (length ms) k d (omega (arith, m, n))) (omega (arith, m, n)))
+
+module _ {X : Type 0} where
+  -- of a word all of whose bits are set
+  pub selected-max : (xs : List X) (w : ℕ) → w ≡ 2 ^ 64 - 1 → length xs ≤ 64 → selected xs (unnum 64 w) ≡ xs
+  selected-max xs w e h = ap (λ v. selected xs (unnum 64 v)) e ∙ (ap (selected xs) all-true ∙ selected-all xs 64 h)
+
+  -- one item, as a part
+  pub one-at : (xs : List X) (k : ℕ) (d : X) → k < length xs → part xs k 1 ≡ get_or xs k d ∷ []
+  one-at [] k d h = absurd (omega (arith, h))
+  one-at (x ∷ xs) zero d h = refl
+  one-at (x ∷ xs) (suc k) d h = one-at xs k d (omega (arith, h))
+
+  -- what a word of the mask selects stands behind the others
+  pub word-kept : (kept grown xs block others : List X) (ms m ns : List Bool) (all : List X) → xs ≡ block ++ others → ms ≡ m ++ ns → length block ≡ length m
+      → grown ≡ kept ++ selected block m → kept ++ selected xs ms ≡ all → grown ++ selected others ns ≡ all
+  word-kept kept grown xs block others ms m ns all is-xs is-ms size more done =
+      ap (λ l. l ++ selected others ns) more
+      ∙ (append_assoc kept (selected block m) (selected others ns)
+      ∙ (ap (λ l. kept ++ l) (sym (selected-append block others m ns size))
+      ∙ (ap (λ l. kept ++ selected l (m ++ ns)) (sym is-xs) ∙ (ap (λ l. kept ++ selected xs l) (sym is-ms) ∙ done))))
+
+  -- and what the last one selects is the end
+  pub last-kept : (kept grown xs block : List X) (ms m last : List Bool) (n : ℕ) (all : List X) → take n block ≡ xs → take n m ≡ ms → last ≡ take n m ++ replicate (64 - n) false
+      → grown ≡ kept ++ selected block last → kept ++ selected xs ms ≡ all → grown ≡ all
+  last-kept kept grown xs block ms m last n all is-xs is-ms is-last more done =
+      more ∙ (ap (λ l. kept ++ selected block l) is-last
+      ∙ (ap (λ l. kept ++ l) (selected-masked block m n (64 - n))
+      ∙ (ap (λ l. kept ++ selected l (take n m)) is-xs ∙ (ap (λ l. kept ++ selected xs l) is-ms ∙ done))))
+
+  -- what is kept and what the next word selects are no more than all
+  pub word-fits : (kept xs block others : List X) (ms m ns : List Bool) (all : List X) → xs ≡ block ++ others → ms ≡ m ++ ns → length block ≡ length m
+      → kept ++ selected xs ms ≡ all → length kept + length (selected block m) ≤ length all
+  word-fits kept xs block others ms m ns all is-xs is-ms size done =
+      let e = word-kept kept (kept ++ selected block m) xs block others ms m ns all is-xs is-ms size refl done in
+      let l = length-append (kept ++ selected block m) (selected others ns) in
+      let n = length-append kept (selected block m) in
+      omega (arith, l, n, ap length e)
+
+  pub last-fits : (kept xs block : List X) (ms m last : List Bool) (n : ℕ) (all : List X) → take n block ≡ xs → take n m ≡ ms → last ≡ take n m ++ replicate (64 - n) false
+      → kept ++ selected xs ms ≡ all → length kept + length (selected block last) ≤ length all
+  last-fits kept xs block ms m last n all is-xs is-ms is-last done =
+      let e = last-kept kept (kept ++ selected block last) xs block ms m last n all is-xs is-ms is-last refl done in
+      let l = length-append kept (selected block last) in
+      omega (arith, l, ap length e)
+
+-- what is selected of true items
+pub selected-true : (n : ℕ) (ms : List Bool) → selected (replicate n true) ms ≡ replicate (length (selected (replicate n true) ms)) true
+selected-true zero ms = refl
+selected-true (suc n) [] = refl
+selected-true (suc n) (true ∷ ms) = ap (λ l. true ∷ l) (selected-true n ms)
+selected-true (suc n) (false ∷ ms) = selected-true n ms
+
+-- the places of set bits of a word
+pub places-inside : (w : ℕ) (places : List ℕ) → places ≡ ones (unnum 64 w) → All (λ place. place < 64) places
+places-inside w places is = rw is (subst (λ n. All (λ place. place < n) (ones (unnum 64 w))) (length-unnum 64 w) (ones-inside (unnum 64 w)))
+
+-- a bit of a word, as a part of its list
+pub bit-at : (w k : ℕ) (b : Bool) → k < 64 → b ≡ bit w k → part (unnum 64 w) k 1 ≡ b ∷ []
+bit-at w k b less is = let n = length-unnum 64 w in one-at (unnum 64 w) k false (omega (arith, n, less)) ∙ ap (λ v. v ∷ []) (get_or-unnum 64 w k false less ∙ sym is)
+
+-- the next block of as many items as a word has, or more
+pub block-step : (items left : List Bool) (r : Option ℕ) → PassesItems 64 (λ x. x) items r left → 64 ≤ length items → items ≡ unnum 64 (unwrap_or r 0) ++ left
+block-step items left None h less = let n = length-rest 64 items (omega arith) in absurd (omega (arith, n, ap length h, less))
+block-step items left (Some x) h less = h
+
+-- of items in a word's own length
+pub front-of : (w n : ℕ) (items left : List Bool) → rest 64 left ≡ rest 64 items → rest 64 items ≡ items → take (length (rest 64 left)) (unnum 64 w) ≡ rest 64 left → n ≡ length (rest 64 left)
+    → (take n (unnum 64 w) ≡ items) × (n ≡ length items)
+front-of w n items left same none spilled size = (ap (λ k. take k (unnum 64 w)) size ∙ (spilled ∙ (same ∙ none)), size ∙ ap length (same ∙ none))
+
+pub ruleset selecting = (selected-max, cut-ones)

@@ -1,0 +1,9 @@
+use Rattle.std.proofs.Common.{◌≡◌, ◌++◌}
+use Rattle.std.specs.List.{flat_map}
+use Rattle.arrow2_model.specs.Bits.{unnum}
+use Rattle.arrow2_model.specs.Parts.{part}
+use Rattle.arrow2_walks.specs.Selected.{selected}
+use Rattle.arrow2_compute.proofs.filter.push_values.Given as goal
+
+abbrev pub invariant-loop-place : goal.invariant-loop-place
+invariant-loop-place g l = l.kept.items ++ flat_map (λ place. part l.values place 1) l.place-iterator ≡ l.fn.kept.items ++ selected l.values (unnum 64 l.word)
