@@ -45,6 +45,7 @@ pub extern "C" fn bench_columns(
 }
 
 /// The inputs of a call on columns.
+#[derive(Drop)]
 struct Inputs<'a> {
     values: &'a [i64],
     validity: &'a [u8],

@@ -11,6 +11,6 @@ abbrev pub item_at : {I X : Type 0} → (I → ℤ) → List (Option X) → Opti
 item_at value items None = None
 item_at value items (Some index) = slice_index_or items (unsigned_abs (value index)) None
 
--- this stands at the place
+-- `x` is the item at `index`
 abbrev pub StandsAt : {X : Type 0} → List X → ℕ → X → Type 0
 StandsAt items index x = slice_index_or items index x ≡ x

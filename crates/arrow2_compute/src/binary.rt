@@ -11,7 +11,7 @@ use arrow2_index::offset::Offset;
 use arrow2_text::{BinaryArray, MutableBinaryArray, MutableUtf8Array, Utf8Array};
 use arrow2_types::error::{Error, Result};
 
-/// An array of byte strings or of texts: its kernels are the same, whatever its offsets are.
+/// An array of byte strings or of texts, with offsets of 32 or 64 bits. One set of kernels serves all of these.
 pub trait Binary: Drop {
     // What contracts see of it.
     ghost parts: { Self → BinaryParts };
@@ -19,7 +19,7 @@ pub trait Binary: Drop {
     // The greatest offset.
     ghost GREATEST: { ℕ };
 
-    /// The array that grows into one.
+    /// The type of the array that grows, which `freeze` turns into this array.
     type Growing: Drop;
 
     // What contracts see of that.
@@ -45,15 +45,16 @@ pub trait Binary: Drop {
     ///
     /// # Errors
     ///
-    /// `Overflow` exactly where the last offset would pass the greatest one, or the length is `usize::MAX`; else `OutOfMemory`
-    /// alone. After both it holds the items that it held.
+    /// `Overflow` exactly if the last offset would pass `O::MAX` or the length is `usize::MAX`. Otherwise the only
+    /// error is `OutOfMemory`. After an error it holds the items that it held.
     fn push_item(grown: &mut Self::Growing, array: &Self, index: usize) -> Result<()>
         requires below { index < length (binary_items (parts array.now)) }
         ensures { AppendsBinary GREATEST result (growing grown.old) (growing grown.new)
             (slice_index_or (binary_items (parts array.now)) index None ∷ [])
             (item_bytes (slice_index_or (binary_items (parts array.now)) index None)) };
 
-    /// Appends the `len` items of an array from item `start` on, with what stands under nulls. Requires that they are inside.
+    /// Appends the `len` items of an array from item `start` on, with the bytes under nulls. Requires that they are
+    /// inside.
     ///
     /// # Errors
     ///

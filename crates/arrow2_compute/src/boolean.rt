@@ -79,7 +79,7 @@ impl<O: Offset> Nullable for Utf8Array<O> {
     }
 }
 
-/// Returns, item by item, whether it is null. No item of the result is.
+/// Returns, item by item, whether the item is null. The result has no nulls.
 ///
 /// # Errors
 ///

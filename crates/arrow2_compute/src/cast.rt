@@ -48,7 +48,8 @@ pub fn primitive_to_primitive<I: NativeType + PrimInt, O: NativeType + PrimInt>(
 ///
 /// # Errors
 ///
-/// `InvalidArgumentError` exactly where the other type lacks a number, naming the first such item; or `OutOfMemory`.
+/// `InvalidArgumentError` exactly if the number of an item does not fit `O`, or `OutOfMemory` if the message cannot be
+/// allocated; the message names the first such item. Otherwise the only error is `OutOfMemory`.
 pub fn try_primitive_to_primitive<I: NativeType + PrimInt, O: NativeType + PrimInt>(
     array: &PrimitiveArray<I>,
     data_type: Rc<DataType>,

@@ -14,11 +14,12 @@ use arrow2_types::native::NativeType;
 
 /// Returns the items of `first` and of these arrays, one behind the other, with the logical type of `first`.
 ///
-/// Differs from arrow2: it takes the first array by itself, so that there is one, and compares no logical types.
+/// Differs from arrow2: the first array is a parameter of its own, so there is at least one. Logical types are not
+/// compared.
 ///
 /// # Errors
 ///
-/// `Overflow` only where there are more items than a `usize` counts, else `OutOfMemory` alone.
+/// `Overflow`, only if a `usize` cannot count the items, or `OutOfMemory`.
 #[tactic(auto, using(crate::proofs::Filtered::joining))]
 pub fn concatenate<T: NativeType>(
     first: &PrimitiveArray<T>,
@@ -45,8 +46,8 @@ pub fn concatenate<T: NativeType>(
 ///
 /// # Errors
 ///
-/// `Overflow` only where all slots have more bytes than the greatest offset, those under nulls too, or there are more items
-/// than a `usize` counts; else `OutOfMemory` alone.
+/// `Overflow`, only if the slots of all arrays, those under nulls too, have more than `O::MAX` bytes in all, or a
+/// `usize` cannot count the items; or `OutOfMemory`.
 #[tactic(auto, using(crate::proofs::Filtered::joining))]
 pub fn concatenate_binary<A: Binary>(first: &A, others: &[&A]) -> Result<A>
     ensures items { IfOk result (λ a. binary_items (A.parts a) ≡ binary_items (A.parts first.now)
@@ -73,7 +74,7 @@ pub fn concatenate_binary<A: Binary>(first: &A, others: &[&A]) -> Result<A>
 ///
 /// # Errors
 ///
-/// `Overflow` only where there are more items than a `usize` counts, else `OutOfMemory` alone.
+/// `Overflow`, only if a `usize` cannot count the items, or `OutOfMemory`.
 #[tactic(auto, using(crate::proofs::Filtered::joining))]
 pub fn concatenate_boolean(first: &BooleanArray, others: &[&BooleanArray]) -> Result<BooleanArray>
     ensures items { IfOk result (λ a. boolean_items a

@@ -25,7 +25,7 @@ use arrow2_walks::{SlicesIterator, laws};
 use std::alloc::AllocError;
 use std::convert::TryFrom;
 
-/// Returns the items at whose place the mask is true. Requires that both have one length.
+/// Returns the items at whose index the mask is true. Requires that both have one length.
 ///
 /// Differs from arrow2: the mask is a bitmap, in which no item is null.
 ///
@@ -45,7 +45,7 @@ pub fn filter<T: NativeType>(array: &PrimitiveArray<T>, mask: &Bitmap) -> Result
     Ok(PrimitiveArray::new(data_type, values, validity.into_bitmap()))
 }
 
-/// Returns the values at whose place the mask is true, word by word of the mask. Requires that both have one length.
+/// Returns the values at whose index the mask is true, word by word of the mask. Requires that both have one length.
 fn selected_values<T: NativeType>(
     values: &[T],
     mask: &Bitmap,
@@ -66,7 +66,7 @@ fn selected_values<T: NativeType>(
     Ok(kept)
 }
 
-/// Appends those of at most 64 values at whose place the bit of the word is set.
+/// Appends those of at most 64 values at whose index the bit of the word is set.
 #[tactic(auto, using(crate::proofs::Selecting::selecting))]
 fn push_values<T: NativeType>(
     kept: &mut Vec<T>,
@@ -87,7 +87,7 @@ fn push_values<T: NativeType>(
     Ok(())
 }
 
-/// Returns which of the items at whose place the mask is true are not null, with a bitmap exactly where `validity` has
+/// Returns which of the items at whose index the mask is true are not null, with a bitmap exactly if `validity` has
 /// one. Requires that both have one length.
 fn selected_validity(validity: &Validity, mask: &Bitmap) -> Result<Validity>
     requires same_length { length (items_of mask.now) ≡ length (valid_items validity.now) }
@@ -103,7 +103,7 @@ fn selected_validity(validity: &Validity, mask: &Bitmap) -> Result<Validity>
     Ok(Validity::new(count, Some(selected_bits(bitmap, mask)?)))
 }
 
-/// Returns the items of a bitmap at whose place the mask is true, word by word of both. Requires that both have one
+/// Returns the items of a bitmap at whose index the mask is true, word by word of both. Requires that both have one
 /// length.
 fn selected_bits(bitmap: &Bitmap, mask: &Bitmap) -> Result<Bitmap>
     requires same_length { length (items_of mask.now) ≡ length (items_of bitmap.now) }
@@ -122,7 +122,7 @@ fn selected_bits(bitmap: &Bitmap, mask: &Bitmap) -> Result<Bitmap>
     Bitmap::try_from(kept)
 }
 
-/// Appends the bits of a block at whose place the bit of the word is set. Requires that a `usize` counts all bits.
+/// Appends the bits of a block at whose index the bit of the word is set. Requires that a `usize` counts all bits.
 #[tactic(auto, using(crate::proofs::Selecting::selecting))]
 fn push_bits(kept: &mut MutableBitmap, block: u64, word: u64) -> Result<()>
     requires fits { length kept.old.items + length (selected (unnum 64 block) (unnum 64 word)) < 2 ^ 64 }
@@ -138,7 +138,7 @@ fn push_bits(kept: &mut MutableBitmap, block: u64, word: u64) -> Result<()>
     Ok(())
 }
 
-/// Returns the items at whose place the mask is true, and not null. Requires that both have one length.
+/// Returns the items at whose index the mask is `Some(true)`. Requires that both have one length.
 ///
 /// In arrow2 it is `filter`.
 ///
@@ -169,7 +169,8 @@ fn true_items(mask: &BooleanArray) -> Result<Bitmap>
     }
 }
 
-/// Returns the byte strings or texts at whose place the mask is true, copied run by run. Requires that both have one length.
+/// Returns the byte strings or texts at whose index the mask is true, copied run by run. Requires that both have one
+/// length.
 ///
 /// In arrow2 it is `filter`, whose mask is a boolean array.
 ///
@@ -193,7 +194,7 @@ pub fn filter_binary<A: Binary>(array: &A, mask: &Bitmap) -> Result<A>
     A::freeze(kept)
 }
 
-/// Returns the booleans at whose place the mask is true. Requires that both have one length.
+/// Returns the booleans at whose index the mask is true. Requires that both have one length.
 ///
 /// In arrow2 it is `filter`, whose mask is a boolean array.
 ///

@@ -49,14 +49,14 @@ pub fn if_then_else<T: NativeType>(
     items.freeze()
 }
 
-/// Returns, place by place, the byte string or text of `lhs` where the mask is true, and that of `rhs` elsewhere, with the
-/// logical type of `lhs`. Requires that all three have one length.
+/// Returns, index by index, the byte string or text of `lhs` where the mask is true, and that of `rhs` elsewhere, with
+/// the logical type of `lhs`. Requires that all three have one length.
 ///
 /// In arrow2 it is `if_then_else`, whose mask is a boolean array.
 ///
 /// # Errors
 ///
-/// `Overflow` only where the items have more bytes in all than the greatest offset, else `OutOfMemory` alone.
+/// `Overflow`, only if the chosen items have more than `O::MAX` bytes in all, or `OutOfMemory`.
 #[tactic(auto, using(crate::proofs::Weighed::weighed))]
 pub fn if_then_else_binary<A: Binary>(mask: &Bitmap, lhs: &A, rhs: &A) -> Result<A>
     requires left { length (items_of mask.now) ≡ length (binary_items (A.parts lhs.now)) }

@@ -22,7 +22,7 @@ use arrow2_validity::Validity;
 use std::alloc::AllocError;
 use std::convert::TryFrom;
 
-/// Returns the items at these places, in their order. Requires that each is below the length.
+/// Returns the items at these indices, in their order. Requires that each is below the length.
 ///
 /// Differs from arrow2: the indices are numbers, none of which is null.
 ///
@@ -45,7 +45,7 @@ pub fn take<T: NativeType>(
     Ok(PrimitiveArray::new(data_type, values, validity.into_bitmap()))
 }
 
-/// Returns what stands in the values at these places, under nulls too. Requires that each is below the length.
+/// Returns the stored values at these indices, those under nulls too. Requires that each is below the length.
 fn values_at<T: NativeType>(
     values: &Buffer<T>,
     indices: &[usize],
@@ -61,7 +61,7 @@ fn values_at<T: NativeType>(
     Ok(taken)
 }
 
-/// Returns which of the items at these places are not null, with a bitmap exactly where `validity` has one. Requires that
+/// Returns which of the items at these indices are not null, with a bitmap exactly if `validity` has one. Requires that
 /// each is below the length.
 fn validity_at(validity: &Validity, indices: &[usize]) -> Result<Validity>
     requires inside { All (λ index. index < length (valid_items validity.now)) indices.now }
@@ -76,7 +76,7 @@ fn validity_at(validity: &Validity, indices: &[usize]) -> Result<Validity>
     Ok(Validity::new(indices.len(), Some(bits_at(bitmap, indices)?)))
 }
 
-/// Returns the items of a bitmap at these places. Requires that each is below the length.
+/// Returns the items of a bitmap at these indices. Requires that each is below the length.
 fn bits_at(bitmap: &Bitmap, indices: &[usize]) -> Result<Bitmap>
     requires inside { All (λ index. index < length (items_of bitmap.now)) indices.now }
     ensures items { IfOk result (λ b. items_of b
@@ -94,8 +94,8 @@ fn bits_at(bitmap: &Bitmap, indices: &[usize]) -> Result<Bitmap>
     )
 }
 
-/// Returns the items at the places of an array of indices, in their order: null where the index is null. What stands under a
-/// null index is not read. Requires that each index that is not null is below the length.
+/// Returns the items at the indices that an array has, in their order: null where the index is null. The number stored
+/// under a null is not read. Requires that each index that is not null is below the length.
 ///
 /// In arrow2 it is `take`.
 ///
@@ -131,13 +131,13 @@ fn item_at<T: NativeType, I: Index>(array: &PrimitiveArray<T>, index: Option<I>)
     }
 }
 
-/// Returns the byte strings or texts at these places, in their order. Requires that each is below the length.
+/// Returns the byte strings or texts at these indices, in their order. Requires that each is below the length.
 ///
 /// In arrow2 it is `take`, whose indices are an array.
 ///
 /// # Errors
 ///
-/// `Overflow` only where the items have more bytes in all than the greatest offset, else `OutOfMemory` alone.
+/// `Overflow`, only if the items that are taken have more than `O::MAX` bytes in all, or `OutOfMemory`.
 #[tactic(auto, using(crate::proofs::Weighed::weighed))]
 pub fn take_binary<A: Binary>(array: &A, indices: &[usize]) -> Result<A>
     requires inside { All (λ index. index < length (binary_items (A.parts array.now))) indices.now }
@@ -155,7 +155,7 @@ pub fn take_binary<A: Binary>(array: &A, indices: &[usize]) -> Result<A>
     A::freeze(taken)
 }
 
-/// Returns the booleans at these places, in their order. Requires that each is below the length.
+/// Returns the booleans at these indices, in their order. Requires that each is below the length.
 ///
 /// In arrow2 it is `take`, whose indices are an array.
 ///

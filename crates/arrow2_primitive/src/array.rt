@@ -72,8 +72,9 @@ impl<T: NativeType> PrimitiveArray<T> {
     ///
     /// # Errors
     ///
-    /// `InvalidArgumentError` exactly if the validity has another length than the values, or else if the physical type of
-    /// `data_type` is not that of `T`; or `OutOfMemory`. What was handed in is then dropped.
+    /// `InvalidArgumentError` exactly if the validity has another length than the values, or else the physical type of
+    /// `data_type` is not that of `T`; or `OutOfMemory` if the message cannot be allocated. Otherwise the only error is
+    /// `OutOfMemory`. After an error the arguments are dropped.
     pub fn try_new(
         data_type: DataType,
         values: Buffer<T>,
@@ -128,7 +129,8 @@ impl<T: NativeType> PrimitiveArray<T> {
         }
     }
 
-    /// Returns the array of these values, none of which is null, over their storage, of the logical type of `T`'s own.
+    /// Returns an array of these values, over their storage. None is null. Its logical type is the one that belongs to
+    /// `T`.
     ///
     /// # Errors
     ///
@@ -145,7 +147,7 @@ impl<T: NativeType> PrimitiveArray<T> {
         Ok(PrimitiveArray::new(data_type, values, None))
     }
 
-    /// Returns the array of a copy of these values, none of which is null, of the logical type of `T`'s own.
+    /// Returns an array of a copy of these values. None is null. Its logical type is the one that belongs to `T`.
     ///
     /// # Errors
     ///
@@ -160,8 +162,8 @@ impl<T: NativeType> PrimitiveArray<T> {
         PrimitiveArray::from_vec(Vec::from_slice(alloc, values)?)
     }
 
-    /// Returns the array of these items, of the logical type of `T`'s own. It has a validity bitmap exactly where an item is
-    /// null. What stands in the values under a null is left open.
+    /// Returns an array of these items. Its logical type is the one that belongs to `T`. It has a validity bitmap
+    /// exactly if an item is null. The stored value under a null is not specified.
     ///
     /// Stands for arrow2's `From` of a slice.
     ///
@@ -190,7 +192,7 @@ impl<T: NativeType> PrimitiveArray<T> {
         &self.data_type
     }
 
-    /// Returns the values. Those under nulls are what they are.
+    /// Returns the stored values, those under nulls too.
     pub fn values(&self) -> &Buffer<T>
         ensures value { result.now ≡ self.now.values }
         ensures len { length (buffer_items result.now) ≡ length (primitive_items self.now) }
@@ -232,7 +234,7 @@ impl<T: NativeType> PrimitiveArray<T> {
         self.validity.is_valid(index).then_some(value)
     }
 
-    /// Returns what stands in the values at `index`, also under a null. Requires that it is below the length.
+    /// Returns the stored value at `index`, also under a null. Requires that `index` is below the length.
     pub fn value(&self, index: usize) -> T
         requires below { index < length (primitive_items self.now) }
         ensures { result ≡ slice_index_or (buffer_items self.now.values) index result }
@@ -336,14 +338,18 @@ impl<T: NativeType> PrimitiveArray<T> {
         PrimitiveArray::new(data_type, values, validity)
     }
 
-    /// Returns the array as it grows, over the same storage, on the right, where nobody else shares the values and the bitmap,
-    /// none of the values is sliced off, and the bitmap's items begin at bit 0; else the array as it was, on the left.
+    /// Returns an array that grows, on the right, if nobody else shares the values or the bitmap, nothing of the values
+    /// is sliced off, and the bitmap's items begin at bit 0. Otherwise returns the array as it was, on the left. It is
+    /// proved that the left side is the array as it was, and that the right side has its items and its logical type and
+    /// comes only if nothing of the values is sliced off. It is not proved that the right side comes whenever nobody
+    /// else shares the storage.
     ///
     /// Differs from arrow2, whose array that grows needs no bitmap where no item is null.
     ///
     /// # Errors
     ///
-    /// `OutOfMemory` alone, and only where the array has no bitmap or somebody else shares it. The array is then dropped.
+    /// `OutOfMemory` alone. In the code it comes only if the array has no bitmap, or the bitmap is shared or begins at
+    /// a bit other than 0; no clause states that. The array is then dropped.
     pub fn into_mut(self) -> Result<Either<PrimitiveArray<T>, MutablePrimitiveArray<T>>>
         ensures ok { IfOk result (λ r. MatchEither r (λ a. a ≡ self)
             (λ m. (m.items ≡ primitive_items self) × (m.data_type ≡ self.data_type))) }
@@ -385,8 +391,8 @@ impl<T: NativeType> PrimitiveArray<T> {
     }
 }
 
-/// Shares the logical type, the values and the validity. Does not allocate: it is refused only where a count of owners
-/// is full.
+/// Shares the logical type, the values and the validity. Does not allocate: in the code it fails only if a count of
+/// owners is full. No clause states that.
 impl<T: NativeType> Clone for PrimitiveArray<T> {
     ghost is_clone = { λ a copy. copy ≡ a };
 
@@ -399,7 +405,7 @@ impl<T: NativeType> Clone for PrimitiveArray<T> {
     }
 }
 
-/// Returns the logical type of `T`'s own.
+/// Returns the logical type that belongs to `T`.
 pub(crate) fn native_type<T: NativeType>(
     alloc: Global,
 ) -> std::result::Result<Rc<DataType>, AllocError>

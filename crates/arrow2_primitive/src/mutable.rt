@@ -62,7 +62,7 @@ impl<T: NativeType> Model for MutablePrimitiveArray<T> {
 
 #[tactic(auto, using(crate::proofs::Growing::growing))]
 impl<T: NativeType> MutablePrimitiveArray<T> {
-    /// Returns an array without items, of the logical type of `T`'s own.
+    /// Returns an array without items. Its logical type is the one that belongs to `T`.
     ///
     /// # Errors
     ///
@@ -76,7 +76,8 @@ impl<T: NativeType> MutablePrimitiveArray<T> {
         MutablePrimitiveArray::with_capacity(alloc, 0)
     }
 
-    /// Returns an array without items, of the logical type of `T`'s own, with room for `capacity` of them.
+    /// Returns an array without items, with capacity for `capacity` items. Its logical type is the one that belongs to
+    /// `T`.
     ///
     /// # Errors
     ///
@@ -109,12 +110,12 @@ impl<T: NativeType> MutablePrimitiveArray<T> {
         }
     }
 
-    /// Returns an array without items, of the logical type of `array`, which they share. Does not allocate: it is
-    /// refused only where the count of owners is full.
+    /// Returns an array without items that shares the logical type of `array`. Does not allocate: in the code it fails
+    /// only if the count of owners is full. No clause states that.
     ///
     /// # Errors
     ///
-    /// `OutOfMemory` alone, and only where the count of owners is full.
+    /// `OutOfMemory` alone.
     pub fn like(array: &PrimitiveArray<T>) -> Result<MutablePrimitiveArray<T>>
         ensures items { IfOk result (λ a. a.items ≡ []) }
         ensures data_type { IfOk result (λ a. a.data_type ≡ array.now.data_type) }
@@ -124,14 +125,14 @@ impl<T: NativeType> MutablePrimitiveArray<T> {
         Ok(MutablePrimitiveArray::of_type(array.values().allocator(), data_type))
     }
 
-    /// Returns the array of the items of an iterator that ends, in its order, of the logical type of `T`'s own. Does not read
-    /// its size hint.
+    /// Returns an array of the items of an iterator, in their order. Requires that the iterator ends. Does not read its
+    /// size hint. The logical type is the one that belongs to `T`.
     ///
     /// Stands for arrow2's `FromIterator`.
     ///
     /// # Errors
     ///
-    /// `Overflow` only after `usize::MAX` items and one more, else `OutOfMemory` alone.
+    /// `Overflow`, only after `usize::MAX` items and one more, or `OutOfMemory`.
     pub fn try_from_iter<I: IntoIterator<Item = Option<T>>>(
         alloc: Global,
         iter: I,
@@ -353,7 +354,7 @@ impl<T: NativeType> MutablePrimitiveArray<T> {
         Some(is_valid.then_some(value))
     }
 
-    /// Gives back capacity that is not used, where the allocator takes it. It is never refused.
+    /// Frees unused capacity if the allocator can. Always returns `Ok`.
     pub fn shrink_to_fit(&mut self) -> Result<()>
         ensures ok { IsOk result }
         ensures items { self.new.items ≡ self.old.items }
@@ -364,8 +365,8 @@ impl<T: NativeType> MutablePrimitiveArray<T> {
         self.validity.shrink_to_fit()
     }
 
-    /// Returns the array of the items, over the same storage, of which nothing is sliced off. It has a validity bitmap exactly
-    /// where an item is null.
+    /// Returns an array of the items, over the same storage, with nothing sliced off. It has a validity bitmap exactly
+    /// if an item is null.
     ///
     /// Stands for arrow2's `From<MutablePrimitiveArray>`.
     ///

@@ -327,15 +327,17 @@ impl<O: Offset> BinaryArray<O> {
         BinaryArray::new(data_type, offsets, values, validity)
     }
 
-    /// Returns the array as it grows, over the same storage, on the right, where nobody else shares it and nothing is sliced off;
-    /// else the array as it was, on the left.
+    /// Returns an array that grows, on the right, if nobody else shares a part of the storage, nothing is sliced off,
+    /// and the bitmap's items begin at bit 0. Otherwise returns the array as it was, on the left. It is proved that the
+    /// left side is the array as it was, and that the right side has its items and its logical type. It is not proved
+    /// when the right side comes.
     ///
     /// Differs from arrow2, whose array that grows needs no bitmap where no item is null.
     ///
     /// # Errors
     ///
-    /// `OutOfMemory` alone, and only where the array has no bitmap, or somebody else shares a part of it. The array is then
-    /// dropped.
+    /// `OutOfMemory` alone. In the code it comes only if the array has no bitmap, a part of the array is shared or
+    /// sliced, or the bitmap begins at a bit other than 0; no clause states that. The array is then dropped.
     pub fn into_mut(self) -> Result<Either<BinaryArray<O>, MutableBinaryArray<O>>>
         ensures ok { IfOk result (λ r. MatchEither r (λ a. a ≡ self)
             (λ m. (m.items ≡ binary_items self) × (m.data_type ≡ self.data_type))) }
