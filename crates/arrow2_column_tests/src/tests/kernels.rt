@@ -330,6 +330,7 @@ fn texts(rt: &impl Abort, alloc: Global, items: &[Option<&str>]) -> Utf8Array<i3
     let mut array = array.freeze().expect(rt, "memory");
     assert!(rt; 2 <= array.len() && array.len() - 2 == items.len());
     array.slice(1, items.len() + 1);
+    assert!(rt; 1 <= array.len() && array.len() - 1 == items.len());
     array.slice(1, items.len());
     array
 }

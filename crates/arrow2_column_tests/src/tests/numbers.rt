@@ -47,6 +47,7 @@ fn array_of(rt: &impl Abort, alloc: Global, len: usize) -> PrimitiveArray<i64>
     let mut array = items.freeze().expect(rt, "memory");
     assert!(rt; 3 <= array.len() && array.len() - 3 == len);
     array.slice(1, len + 2);
+    assert!(rt; 2 <= array.len() && array.len() - 2 == len);
     array.slice(2, len);
     array
 }
