@@ -21,7 +21,7 @@ use arrow2_compute::take::{take, take_binary, take_boolean, take_by_array};
 use arrow2_datatypes::DataType;
 use arrow2_primitive::{MutablePrimitiveArray, PrimitiveArray};
 use arrow2_text::Utf8Array;
-use arrow2_types::error::Result;
+use arrow2_types::error::{Error, Result};
 use std::alloc::Global;
 use std::io::{Eprint, Print};
 use std::rc::Rc;
@@ -75,9 +75,15 @@ fn compared(array: &PrimitiveArray<i32>) -> [Row<BooleanArray>; 8] {
 
 /// Two nulls, by an array of indices.
 fn taken_by_array(array: &PrimitiveArray<i32>, alloc: Global) -> Result<PrimitiveArray<i32>> {
-    let mut indices = input(MutablePrimitiveArray::<u8>::new(alloc))?;
-    input(indices.extend_constant(2, None))?;
-    let indices = input(indices.freeze())?;
+    let Ok(mut indices) = MutablePrimitiveArray::<u8>::new(alloc) else {
+        return Err(Error::Overflow);
+    };
+    if indices.extend_constant(2, None).is_err() {
+        return Err(Error::Overflow);
+    }
+    let Ok(indices) = indices.freeze() else {
+        return Err(Error::Overflow);
+    };
     take_by_array(array, &indices)
 }
 
@@ -134,14 +140,18 @@ fn chosen_texts(array: &Utf8Array<i32>, mask: &Bitmap) -> [Row<Utf8Array<i32>>; 
 
 /// Numbers of another type.
 fn cast(array: &PrimitiveArray<i32>, alloc: Global) -> Result<PrimitiveArray<u8>> {
-    let data_type = Rc::new(alloc, DataType::UInt8);
-    primitive_to_primitive(array, input(data_type.map_err(Into::into))?)
+    let Ok(data_type) = Rc::new(alloc, DataType::UInt8) else {
+        return Err(Error::Overflow);
+    };
+    primitive_to_primitive(array, data_type)
 }
 
 /// Numbers of another type, which all fit.
 fn cast_all(array: &PrimitiveArray<i32>, alloc: Global) -> Result<PrimitiveArray<u8>> {
-    let data_type = Rc::new(alloc, DataType::UInt8);
-    try_primitive_to_primitive(array, input(data_type.map_err(Into::into))?)
+    let Ok(data_type) = Rc::new(alloc, DataType::UInt8) else {
+        return Err(Error::Overflow);
+    };
+    try_primitive_to_primitive(array, data_type)
 }
 
 /// Two nulls of an array, by an array of indices.
