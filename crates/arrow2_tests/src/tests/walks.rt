@@ -88,7 +88,7 @@ fn derived_texts_name_the_parts(rt: HostRuntime) {
     assert!(rt; validity.len() == 2);
     let runs = SlicesIterator::new(&validity);
     let text =
-        "SlicesIterator { bytes: [1], offset: 0, end: 2, place: Place { index: 0, word: 0, held: 0 }, slots: 1 }";
+        "SlicesIterator { bytes: [1], offset: 0, end: 2, cursor: BitCursor { index: 0, word: 0, buffered: 0 }, slots: 1 }";
     shows(&rt, alloc, &runs, text);
     let values = [1u32, 2];
     let zip = ZipValidity::new_with_validity(values.iter().copied(), Some(&validity));
