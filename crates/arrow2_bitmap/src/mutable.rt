@@ -392,8 +392,8 @@ impl MutableBitmap {
         self.unset_bits()
     }
 
-    /// Returns the bytes of its items: as many as the items need, with padding bits false. arrow2 returns as many
-    /// bytes, but padding bits may be true there.
+    /// Returns the bytes that its items need, with padding bits false. arrow2 returns the same bytes, but padding bits
+    /// may be true there.
     pub fn as_slice(&self) -> &[u8]
         ensures bytes { result.now ≡ canonical_bytes self.now.items }
         ensures items { take (length self.now.items) (bits result.now) ≡ self.now.items }

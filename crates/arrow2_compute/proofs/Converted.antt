@@ -66,6 +66,6 @@ pub if-err : {V E : Type 0} {P Q : E → Type 0} (r : Result V E) → ((e : E) �
 if-err (Ok v) gives p = tt
 if-err (Err e) gives p = gives e p
 
--- want of memory stands for any refusal
+-- any refusal becomes the error of memory
 pub out_of_memory : (e : Error) (words : List ℕ) → e ≡ OutOfMemory → IsInvalidArgument e words
 out_of_memory e words is = subst (λ (z : Error). IsInvalidArgument z words) (sym is) tt

@@ -53,7 +53,7 @@ part-whole xs n e = ap (λ k. take k xs) e ∙ take-length xs
 
 pub ruleset joining = (part-whole, length-part)
 
--- growth that cannot overflow is refused for want of memory alone
+-- growth that cannot overflow fails only where memory runs out
 pub only-memory : {V : Type 0} (r : Result V Error) (n : ℕ) → (IsErrOf r Overflow ↔ (2 ^ 64 ≤ n)) → IfErr r (λ e. (e ≡ Overflow) ⊎ (e ≡ OutOfMemory)) → n < 2 ^ 64 → IfErr r (λ e. e ≡ OutOfMemory)
 only-memory (Ok v) n over only less = tt
 only-memory {V = V} (Err e) n over only less = by-error only

@@ -93,8 +93,8 @@ pub fn is_null<A: Nullable>(array: &A) -> Result<BooleanArray>
     Ok(BooleanArray::new(nulls, None))
 }
 
-/// Returns, item by item, whether it is not null. No item of the result is null. Where the array has a validity bitmap, the
-/// values of the result share its bytes.
+/// Returns, item by item, whether it is not null. No item of the result is null. Where the array has a validity bitmap,
+/// the values of the result share its bytes.
 ///
 /// # Errors
 ///

@@ -41,8 +41,8 @@ pub fn primitive_to_primitive<I: NativeType + PrimInt, O: NativeType + PrimInt>(
     numbers.freeze()
 }
 
-/// Returns the same numbers as another type, null where the item is null. Requires that the physical type of `data_type` is
-/// that of `O`.
+/// Returns the same numbers as another type, null where the item is null. Requires that the physical type of
+/// `data_type` is that of `O`.
 ///
 /// It goes over the numbers twice: first to see that they fit, before anything is allocated. arrow2 has no such call.
 ///

@@ -40,7 +40,8 @@ pub fn concatenate<T: NativeType>(
     joined.freeze()
 }
 
-/// Returns the byte strings or texts of `first` and of these arrays, one behind the other, with the logical type of `first`.
+/// Returns the byte strings or texts of `first` and of these arrays, one behind the other, with the logical type of
+/// `first`.
 ///
 /// In arrow2 it is `concatenate`.
 ///

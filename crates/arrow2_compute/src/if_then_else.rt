@@ -15,8 +15,8 @@ use arrow2_primitive::{MutablePrimitiveArray, PrimitiveArray};
 use arrow2_types::error::{Error, Result};
 use arrow2_types::native::NativeType;
 
-/// Returns, place by place, the item of `lhs` where the mask is true, and that of `rhs` elsewhere, with the logical type of
-/// `lhs`. Requires that all three have one length.
+/// Returns, place by place, the item of `lhs` where the mask is true, and that of `rhs` elsewhere, with the logical
+/// type of `lhs`. Requires that all three have one length.
 ///
 /// Differs from arrow2: the mask is a bitmap, in which no item is null.
 ///
@@ -98,8 +98,8 @@ fn push_either<A: Binary>(
     }
 }
 
-/// Returns, place by place, the boolean of `lhs` where the mask is true, and that of `rhs` elsewhere. Requires that all three
-/// have one length.
+/// Returns, place by place, the boolean of `lhs` where the mask is true, and that of `rhs` elsewhere. Requires that all
+/// three have one length.
 ///
 /// In arrow2 it is `if_then_else`, whose mask is a boolean array.
 ///

@@ -31,7 +31,7 @@ struct Side<'a> {
 /// the left side is null, and `left_validity` and its offset are ignored; so of the right side.
 ///
 /// `ARROW2_RANGE` exactly where bits of values or of a validity that is not ignored are not inside, else
-/// `ARROW2_LENGTH` exactly where `values` or `validity` has not as many bytes as hold the items.
+/// `ARROW2_LENGTH` exactly where `values` or `validity` has other than the bytes that the items need.
 #[unsafe(no_mangle)]
 pub extern "C" fn arrow2_and_kleene_optional(
     left: &[u8],

@@ -1,4 +1,4 @@
-//! Bits copied, and the answers of truth tables for them, in memory of the caller.
+//! Bits copied, and the outputs of truth tables for them, in memory of the caller.
 ghost use Rattle.std.specs.Prelude.{◌≡◌, ◌*◌, ◌<◌, ◌≤◌, ℕ, List, Bool, [], ◌∷◌, take, length as length'};
 ghost use Rattle.arrow2_model.specs.Bits.{bit, bits};
 ghost use Rattle.arrow2_model.specs.Canonical.{IsCanonical};
@@ -16,7 +16,7 @@ use arrow2_kernels::mapped::write_rows;
 use arrow2_kernels::rows::{Beside, OneList, Pair, WordRows};
 use arrow2_kernels::tables::{binary_answers, quaternary_answers, ternary_answers};
 
-/// The first `length` bits, word by word. Requires that there are so many.
+/// Returns the first `length` bits, word by word. Requires that they are inside.
 fn words(bits: Bits<'_>, length: usize) -> OneList<BitChunks<'_, u64>>
     requires inside { HasBits bits length }
     ensures items { result.chunks.items ≡ first_bits bits.entry length }
@@ -27,8 +27,8 @@ fn words(bits: Bits<'_>, length: usize) -> OneList<BitChunks<'_, u64>>
     }
 }
 
-/// Writes what `op` answers to each word of the first `length` bits, and to the row of words beside it, in place of
-/// that word. Requires as many bytes as hold so many bits, and for rows of as many items.
+/// Replaces each word of the first `length` bits by the result of `op` for it and its row of words. Requires exactly
+/// the bytes that `length` bits need, and rows of `length` items.
 fn assign_answers<S: WordRows<u64>, F: Fn(u64, S::Row) -> u64>(
     bytes: &mut [u8],
     length: usize,
@@ -48,7 +48,7 @@ fn assign_answers<S: WordRows<u64>, F: Fn(u64, S::Row) -> u64>(
     assign_rows(bytes, length, rows, op);
 }
 
-/// The first `length` bits of both, word by word. Requires that there are so many.
+/// Returns the first `length` bits of both, word by word. Requires that they are inside.
 fn pair<'a>(first: Bits<'a>, second: Bits<'a>, length: usize) -> Pair<'a>
     requires first { HasBits first length }
     requires second { HasBits second length }
@@ -65,8 +65,8 @@ fn pair<'a>(first: Bits<'a>, second: Bits<'a>, length: usize) -> Pair<'a>
     }
 }
 
-/// Writes the answers of table `T` for the first `length` bits of two inputs over `out`, from bit 0 on. Requires that
-/// both have so many, and for as many bytes as hold them. Each table has a loop of its own.
+/// Writes the outputs of table `T` for the first `length` bits of two inputs over `out`, from bit 0 on. Requires that
+/// these are inside, and that `out` has exactly the bytes that they need. Each table has a loop of its own.
 pub(crate) fn write_two<const T: u8>(
     out: &mut [u8],
     length: usize,
@@ -148,8 +148,8 @@ pub(crate) fn write_four<const T: u16>(
     );
 }
 
-/// Writes the first `length` bits over `out`, from bit 0 on. Requires that there are so many, and for as many bytes as
-/// hold them. It is inlined: a call would take a fifth of the time of 64 bytes.
+/// Writes the first `length` bits over `out`, from bit 0 on. Requires that they are inside, and that `out` has exactly
+/// the bytes that they need. It is inlined: a call would take a fifth of the time of 64 bytes.
 #[inline(always)]
 pub(crate) fn copy(bits: Bits<'_>, length: usize, out: &mut [u8])
     requires inside { HasBits bits length }
@@ -163,8 +163,8 @@ pub(crate) fn copy(bits: Bits<'_>, length: usize, out: &mut [u8])
     }
 }
 
-/// Writes the first `length` bits of `bytes` over `out`, all bytes at once. Requires that there are so many, and for as
-/// many bytes as hold them.
+/// Writes the first `length` bits of `bytes` over `out`, all bytes at once. Requires that they are inside, and that
+/// `out` has exactly the bytes that they need.
 fn copy_bytes(bytes: &[u8], length: usize, out: &mut [u8])
     requires inside { length ≤ 8 * length' bytes.now }
     requires exact { Holds out.old length }
@@ -174,8 +174,8 @@ fn copy_bytes(bytes: &[u8], length: usize, out: &mut [u8])
     clear_spare(out, length);
 }
 
-/// Writes the answers of table `t` for the first `length` bits, and for as many of the second input, in place. Requires
-/// as many bytes as hold so many bits, and that the second input has as many.
+/// Replaces the first `length` bits by the outputs of table `t` for them and those of the second input. Requires
+/// exactly the bytes that `length` bits need, and that those of the second input are inside.
 pub(crate) fn assign_two(bytes: &mut [u8], length: usize, second: Bits<'_>, t: u8)
     requires exact { Holds bytes.old length }
     requires second { HasBits second length }

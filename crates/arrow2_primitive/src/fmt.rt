@@ -10,7 +10,8 @@ use arrow2_validity::fmt::write_separator;
 use std::fmt;
 use std::fmt::Debug;
 
-/// The logical type, and behind it the items in brackets, `None` where one is null. The formatter's options change nothing.
+/// The logical type, and behind it the items in brackets, `None` where one is null. The formatter's options change
+/// nothing.
 ///
 /// Differs from arrow2, which prints dates, times, durations and decimals by their logical type, where this prints the
 /// numbers that they are stored as.

@@ -105,7 +105,8 @@ impl<'a, T: NativeType> ExactSizeIterator for PrimitiveIter<'a, T> {
     }
 }
 
-/// An iterator over the values of an array that are not null, in their order: contracts see the list of those still to come.
+/// An iterator over the values of an array that are not null, in their order: contracts see the list of those still to
+/// come.
 #[derive(Drop)]
 pub struct NonNullValuesIter<'a, T: NativeType> {
     items: PrimitiveIter<'a, T>,

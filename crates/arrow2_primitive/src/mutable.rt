@@ -28,8 +28,8 @@ use std::rc::Rc;
 ///
 /// Contracts see its logical type, its items, and how many fit before it allocates.
 ///
-/// Differs from arrow2: its validity is always there, and [`MutablePrimitiveArray::freeze`] leaves it out where no item is
-/// null.
+/// Differs from arrow2: its validity is always there, and [`MutablePrimitiveArray::freeze`] leaves it out where no item
+/// is null.
 #[derive(Drop)]
 pub struct MutablePrimitiveArray<T: NativeType> {
     data_type: Rc<DataType>,
@@ -168,8 +168,8 @@ impl<T: NativeType> MutablePrimitiveArray<T> {
         Ok(array)
     }
 
-    /// Returns the array of these values and this validity, over their storage. Requires that the physical type of `data_type`
-    /// is that of `T`, and that the validity has the length of the values.
+    /// Returns the array of these values and this validity, over their storage. Requires that the physical type of
+    /// `data_type` is that of `T`, and that the validity has the length of the values.
     pub(crate) fn of_parts(
         data_type: Rc<DataType>,
         values: Vec<T>,
@@ -221,8 +221,8 @@ impl<T: NativeType> MutablePrimitiveArray<T> {
     ///
     /// # Errors
     ///
-    /// `Overflow` exactly where the length and `additional` pass `usize::MAX` together, else `OutOfMemory` alone. After both
-    /// the array holds the items that it held.
+    /// `Overflow` exactly where the length and `additional` pass `usize::MAX` together, else `OutOfMemory` alone. After
+    /// both the array holds the items that it held.
     pub fn reserve(&mut self, additional: usize) -> Result<()>
         ensures items { self.new.items ≡ self.old.items }
         ensures data_type { self.new.data_type ≡ self.old.data_type }
@@ -242,8 +242,8 @@ impl<T: NativeType> MutablePrimitiveArray<T> {
     ///
     /// # Errors
     ///
-    /// `Overflow` exactly where the length is `usize::MAX`, else `OutOfMemory` alone. After both the array holds the items
-    /// that it held.
+    /// `Overflow` exactly where the length is `usize::MAX`, else `OutOfMemory` alone. After both the array holds the
+    /// items that it held.
     pub fn push(&mut self, item: Option<T>) -> Result<()>
         ensures { AppendsItems result self.old self.new (item ∷ []) }
     {
@@ -259,8 +259,8 @@ impl<T: NativeType> MutablePrimitiveArray<T> {
     ///
     /// # Errors
     ///
-    /// `Overflow` exactly where the length is `usize::MAX`, else `OutOfMemory` alone. After both the array holds the items
-    /// that it held.
+    /// `Overflow` exactly where the length is `usize::MAX`, else `OutOfMemory` alone. After both the array holds the
+    /// items that it held.
     pub fn push_null(&mut self) -> Result<()>
         ensures { AppendsItems result self.old self.new (None ∷ []) }
     {
@@ -271,8 +271,8 @@ impl<T: NativeType> MutablePrimitiveArray<T> {
     ///
     /// # Errors
     ///
-    /// `Overflow` exactly where the new length would pass `usize::MAX`, else `OutOfMemory` alone. After both the array holds
-    /// the items that it held.
+    /// `Overflow` exactly where the new length would pass `usize::MAX`, else `OutOfMemory` alone. After both the array
+    /// holds the items that it held.
     pub fn extend_from_slice(&mut self, values: &[T]) -> Result<()>
         ensures { AppendsItems result self.old self.new (map (λ x. Some x) values.now) }
     {
@@ -286,8 +286,8 @@ impl<T: NativeType> MutablePrimitiveArray<T> {
     ///
     /// # Errors
     ///
-    /// `Overflow` exactly where the new length would pass `usize::MAX`, else `OutOfMemory` alone. After both the array holds
-    /// the items that it held.
+    /// `Overflow` exactly where the new length would pass `usize::MAX`, else `OutOfMemory` alone. After both the array
+    /// holds the items that it held.
     pub fn extend_from_options(&mut self, items: &[Option<T>]) -> Result<()>
         ensures { AppendsItems result self.old self.new items.now }
     {
@@ -303,8 +303,8 @@ impl<T: NativeType> MutablePrimitiveArray<T> {
     ///
     /// # Errors
     ///
-    /// `Overflow` exactly where the new length would pass `usize::MAX`, else `OutOfMemory` alone. After both the array holds
-    /// the items that it held.
+    /// `Overflow` exactly where the new length would pass `usize::MAX`, else `OutOfMemory` alone. After both the array
+    /// holds the items that it held.
     pub fn extend_constant(&mut self, additional: usize, item: Option<T>) -> Result<()>
         ensures { AppendsItems result self.old self.new (replicate additional item) }
     {
@@ -316,13 +316,13 @@ impl<T: NativeType> MutablePrimitiveArray<T> {
         Ok(())
     }
 
-    /// Appends the `len` items of an array from item `start` on. Requires that they are inside. Within the capacity it does not
-    /// allocate.
+    /// Appends the `len` items of an array from item `start` on. Requires that they are inside. Within the capacity it
+    /// does not allocate.
     ///
     /// # Errors
     ///
-    /// `Overflow` exactly where the new length would pass `usize::MAX`, else `OutOfMemory` alone. After both the array holds
-    /// the items that it held.
+    /// `Overflow` exactly where the new length would pass `usize::MAX`, else `OutOfMemory` alone. After both the array
+    /// holds the items that it held.
     pub fn extend_from_array(
         &mut self,
         array: &PrimitiveArray<T>,

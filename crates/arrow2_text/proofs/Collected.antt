@@ -62,7 +62,7 @@ module _ {X : Type 0} (size : X → ℕ) where
   past-taken greatest xs i d bytes count below few e f (inl past) = let all = taken-sum xs i d below in omega (arith, all, past, e)
   past-taken greatest xs i d bytes count below few e f (inr many) = absurd (few (omega (arith, below, f, many)))
 
--- no more are taken than it is said
+-- no more are taken than the bound
 pub count-taken : {X Y : Type 0} (f : X → Y) (xs : List X) (i : ℕ) {ys : List Y} → ys ≡ map f (take i xs) → length ys ≤ i
 count-taken f xs i e = let l = length-map (take i xs) f in let t = length-take i xs in let n = ap length e in omega (arith, l, t, n)
 

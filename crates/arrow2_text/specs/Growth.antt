@@ -36,7 +36,7 @@ growing_binary s = record {
   byte_capacity = s.byte_capacity;
 }
 
--- growth by these items, whose slots have so many bytes, all of them or none, where the last offset may reach the greatest
+-- growth by these items, whose slots have `bytes` bytes in all, all of them or none, where the last offset may reach the greatest
 -- one and not pass it
 pub record AppendsBinary {T : Type 0} (greatest : ℕ) (r : Result T Error) (old new : GrowingBinary) (more : List (Option (List ℕ))) (bytes : ℕ) : Type 0 where
   -- they stand behind the others
@@ -59,7 +59,7 @@ pub record AppendsBinary {T : Type 0} (greatest : ℕ) (r : Result T Error) (old
 
 -- the same, by slots and by which of them are not null
 pub record AppendsSlots {T : Type 0} (greatest : ℕ) (r : Result T Error) (old new : GrowingSlots) (values : List (List ℕ)) (valid : List Bool) (bytes : ℕ) : Type 0 where
-  -- as many of them are told to be null or not as there are
+  -- the validity has an item for each of them
   pub same : length old.valid ≡ length old.values
   -- they stand behind the others
   pub ok_values : OnOk r (new.values ≡ old.values ++ values)
@@ -104,7 +104,7 @@ pub record PopsBinary {V : Type 0} (bytes_of : V → List ℕ) (r : Result (Opti
 
 -- the same, by slots and by which of them are not null
 pub record PopsSlot {V : Type 0} (bytes_of : V → List ℕ) (r : Result (Option (Option V)) Error) (old new : GrowingSlots) : Type 0 where
-  -- as many of them are told to be null or not as there are
+  -- the validity has an item for each of them
   pub same : length old.valid ≡ length old.values
   pub same_left : length new.valid ≡ length new.values
   -- it stood behind those that are left

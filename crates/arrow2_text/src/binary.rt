@@ -33,8 +33,8 @@ use std::rc::Rc;
 
 /// An array of byte strings, each of which may be null, by offsets into one buffer of bytes.
 ///
-/// Contracts see its logical type, its offsets, its bytes and its validity; `binary_items` is the list of its items, each
-/// the list of its bytes. Slices and clones share all four.
+/// Contracts see its logical type, its offsets, its bytes and its validity; `binary_items` is the list of its items,
+/// each the list of its bytes. Slices and clones share all four.
 ///
 /// Differs from arrow2: the logical type is shared by an `Rc`, so that a clone does not allocate.
 #[derive(Drop)]
@@ -59,14 +59,14 @@ impl<O: Offset> Model for BinaryArray<O> {
 }
 
 impl<O: Offset> BinaryArray<O> {
-    /// Returns the array of the bytes between the offsets, each null where the validity is false. Without a validity none
-    /// is null.
+    /// Returns the array of the bytes between the offsets, each null where the validity is false. Without a validity
+    /// none is null.
     ///
     /// # Errors
     ///
-    /// `InvalidArgumentError` exactly if the last offset is past the values, or else if the validity has another length than
-    /// there are slots, or else if the physical type of `data_type` is not `Binary`, or `LargeBinary` where `O` has 64 bits;
-    /// or `OutOfMemory`. What was handed in is then dropped.
+    /// `InvalidArgumentError` exactly if the last offset is past the values, or else if the validity has another length
+    /// than there are slots, or else if the physical type of `data_type` is not `Binary`, or `LargeBinary` where `O`
+    /// has 64 bits; or `OutOfMemory`. What was handed in is then dropped.
     pub fn try_new(
         data_type: DataType,
         offsets: OffsetsBuffer<O>,

@@ -59,7 +59,7 @@ impl<O: Offset> Model for Growing<O> {
 
 #[tactic(auto, using(crate::proofs::SlotLists::growing))]
 impl<O: Offset> Growing<O> {
-    /// Returns no slots, with room for so many of them and for so many bytes.
+    /// Returns no slots, with capacity for `capacity` slots and `byte_capacity` bytes.
     pub(crate) fn with_capacity(
         data_type: Rc<DataType>,
         alloc: Global,
@@ -84,7 +84,8 @@ impl<O: Offset> Growing<O> {
         })
     }
 
-    /// Returns no slots, with room for so many of them and for so many bytes. The logical type is made shared.
+    /// Returns no slots, with capacity for `capacity` slots and `byte_capacity` bytes. Allocates the shared logical
+    /// type.
     pub(crate) fn of_default(
         data_type: DataType,
         alloc: Global,
@@ -105,8 +106,8 @@ impl<O: Offset> Growing<O> {
         Growing::with_capacity(data_type, alloc, capacity, byte_capacity)
     }
 
-    /// Returns the slots of these parts. Requires that the offsets begin at 0 and end behind the last byte, and that the validity
-    /// has an item for each slot.
+    /// Returns the slots of these parts. Requires that the offsets begin at 0 and end behind the last byte, and that
+    /// the validity has an item for each slot.
     pub(crate) fn of_parts(
         data_type: Rc<DataType>,
         offsets: Offsets<O>,
@@ -152,7 +153,7 @@ impl<O: Offset> Growing<O> {
         self.offsets.last().to_usize()
     }
 
-    /// Makes room for so many slots more, and so many bytes.
+    /// Reserves capacity for more slots and bytes.
     pub(crate) fn reserve(&mut self, slots: usize, bytes: usize) -> Result<()>
         ensures data_type { self.new.data_type ≡ self.old.data_type }
         ensures same { length self.old.valid ≡ length self.old.values }
@@ -168,7 +169,7 @@ impl<O: Offset> Growing<O> {
         ensures capacity { self.old.capacity ≤ self.new.capacity }
         ensures byte_capacity { self.old.byte_capacity ≤ self.new.byte_capacity }
     {
-        // The length is read for what the type keeps: as many slots are told to be null or not as there are.
+        // The length is read for the type's invariant: the validity has an item for each slot.
         let _ = self.len();
         self.validity.reserve(slots)?;
         self.offsets.reserve(slots)?;
@@ -176,7 +177,7 @@ impl<O: Offset> Growing<O> {
         Ok(())
     }
 
-    /// Makes room for so many slots more, and so many bytes. Refuses first where the last offset would pass the greatest one.
+    /// Reserves capacity for more slots and bytes. Returns an error first where the last offset would pass `O::MAX`.
     fn reserve_below(&mut self, slots: usize, bytes: usize) -> Result<()>
         ensures data_type { self.new.data_type ≡ self.old.data_type }
         ensures same { length self.old.valid ≡ length self.old.values }
@@ -195,7 +196,7 @@ impl<O: Offset> Growing<O> {
         ensures capacity { self.old.capacity ≤ self.new.capacity }
         ensures byte_capacity { self.old.byte_capacity ≤ self.new.byte_capacity }
     {
-        // The length is read for what the type keeps: as many slots are told to be null or not as there are.
+        // The length is read for the type's invariant: the validity has an item for each slot.
         let _ = self.len();
         if bytes > O::MAX - self.bytes() {
             return Err(Error::Overflow);
@@ -222,7 +223,8 @@ impl<O: Offset> Growing<O> {
             (part (valid_items slots.now.validity) start len)
             (sum (part (lengths_of (buffer_items slots.now.offsets)) start len)) }
     {
-        // The lengths are read for what the types keep: there is one offset more than slots, and the validity has an item for each.
+        // The lengths are read for what the types keep: there is one offset more than slots, and the validity has an
+        // item for each.
         let _ = slots.len();
         let bytes = slots.bytes_of(start, len);
         let offsets = slots.offsets();
@@ -234,8 +236,8 @@ impl<O: Offset> Growing<O> {
         Ok(())
     }
 
-    /// Takes the last slot off and returns a copy of its bytes, or `None` of them where it is null, or `None` where there is no
-    /// slot.
+    /// Takes the last slot off and returns a copy of its bytes, or `None` of them where it is null, or `None` where
+    /// there is no slot.
     pub(crate) fn pop(&mut self) -> Result<Option<Option<Vec<u8>>>>
         ensures { PopsSlot (λ value. value.items) result self.old self.new }
     {

@@ -11,7 +11,8 @@ use arrow2_index::offset::Offset;
 use std::alloc::AllocError;
 use std::marker::Model;
 
-/// An iterator over the items of an array of byte strings, from both ends: contracts see the list of those still to come.
+/// An iterator over the items of an array of byte strings, from both ends: contracts see the list of those still to
+/// come.
 #[derive(Drop)]
 pub struct BinaryIter<'a, O: Offset> {
     array: &'a BinaryArray<O>,

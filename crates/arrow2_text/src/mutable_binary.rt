@@ -22,10 +22,11 @@ use std::rc::Rc;
 
 /// An array of byte strings that grows.
 ///
-/// Contracts see its logical type, its items, how many bytes their slots have, and how many items and bytes fit before it
-/// allocates.
+/// Contracts see its logical type, its items, how many bytes their slots have, and how many items and bytes fit before
+/// it allocates.
 ///
-/// Differs from arrow2: its validity is always there, and [`MutableBinaryArray::freeze`] leaves it out where no item is null.
+/// Differs from arrow2: its validity is always there, and [`MutableBinaryArray::freeze`] leaves it out where no item is
+/// null.
 #[derive(Drop)]
 pub struct MutableBinaryArray<O: Offset> {
     slots: Growing<O>,
@@ -63,8 +64,8 @@ impl<O: Offset> MutableBinaryArray<O> {
         MutableBinaryArray::with_capacity(alloc, 0, 0)
     }
 
-    /// Returns an array without items, of this logical type. Requires that its physical type is `Binary`, or `LargeBinary`
-    /// where `O` has 64 bits.
+    /// Returns an array without items, of this logical type. Requires that its physical type is `Binary`, or
+    /// `LargeBinary` where `O` has 64 bits.
     ///
     /// # Errors
     ///
@@ -79,7 +80,8 @@ impl<O: Offset> MutableBinaryArray<O> {
         Ok(MutableBinaryArray { slots })
     }
 
-    /// Returns an array without items, of the logical type of byte strings, with room for so many items and bytes.
+    /// Returns an array without items, of the logical type of byte strings, with capacity for `capacity` items and
+    /// `byte_capacity` bytes.
     ///
     /// In arrow2 it is `with_capacities`.
     ///
@@ -115,8 +117,8 @@ impl<O: Offset> MutableBinaryArray<O> {
         self.slots.pop()
     }
 
-    /// Returns the array of the items of an iterator that ends, in its order, of the logical type of byte strings. Does not read its
-    /// size hint.
+    /// Returns the array of the items of an iterator that ends, in its order, of the logical type of byte strings. Does
+    /// not read its size hint.
     ///
     /// # Errors
     ///
@@ -188,12 +190,12 @@ impl<O: Offset> MutableBinaryArray<O> {
         self.len() == 0
     }
 
-    /// Makes room for so many items more, and so many bytes. Within both capacities it does not allocate.
+    /// Reserves capacity for more items and bytes. Within both capacities it does not allocate.
     ///
     /// # Errors
     ///
-    /// `Overflow` exactly where the length and `additional` pass `usize::MAX` together, else `OutOfMemory` alone. After both
-    /// the array holds the items that it held.
+    /// `Overflow` exactly where the length and `additional` pass `usize::MAX` together, else `OutOfMemory` alone. After
+    /// both the array holds the items that it held.
     pub fn reserve(&mut self, additional: usize, bytes: usize) -> Result<()>
         ensures items { self.new.items ≡ self.old.items }
         ensures bytes { self.new.bytes ≡ self.old.bytes }
@@ -215,8 +217,8 @@ impl<O: Offset> MutableBinaryArray<O> {
     ///
     /// # Errors
     ///
-    /// `Overflow` exactly where the last offset would pass `O::MAX`, or the length is `usize::MAX`; else `OutOfMemory` alone.
-    /// After both the array holds the items that it held.
+    /// `Overflow` exactly where the last offset would pass `O::MAX`, or the length is `usize::MAX`; else `OutOfMemory`
+    /// alone. After both the array holds the items that it held.
     pub fn push(&mut self, item: Option<&[u8]>) -> Result<()>
         ensures { AppendsBinary O.MAX result self.old self.new (option_copied item.entry ∷ [])
             (option_map_or length (option_copied item.entry) 0) }
@@ -231,23 +233,23 @@ impl<O: Offset> MutableBinaryArray<O> {
     ///
     /// # Errors
     ///
-    /// `Overflow` exactly where the length is `usize::MAX`, else `OutOfMemory` alone. After both the array holds the items
-    /// that it held.
+    /// `Overflow` exactly where the length is `usize::MAX`, else `OutOfMemory` alone. After both the array holds the
+    /// items that it held.
     pub fn push_null(&mut self) -> Result<()>
         ensures { AppendsBinary O.MAX result self.old self.new (None ∷ []) 0 }
     {
         self.slots.push(&[], false)
     }
 
-    /// Appends the `len` items of an array from item `start` on, with what stands under nulls. Requires that they are inside.
-    /// Within both capacities it does not allocate.
+    /// Appends the `len` items of an array from item `start` on, with what stands under nulls. Requires that they are
+    /// inside. Within both capacities it does not allocate.
     ///
     /// arrow2 has it in `growable`.
     ///
     /// # Errors
     ///
-    /// `Overflow` exactly where the last offset would pass `O::MAX`, or the new length `usize::MAX`; else `OutOfMemory` alone.
-    /// After both the array holds the items that it held.
+    /// `Overflow` exactly where the last offset would pass `O::MAX`, or the new length `usize::MAX`; else `OutOfMemory`
+    /// alone. After both the array holds the items that it held.
     pub fn extend_from_array(
         &mut self,
         array: &BinaryArray<O>,

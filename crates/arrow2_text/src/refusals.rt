@@ -32,7 +32,7 @@ pub(crate) fn refusal(alloc: Global, words: &str) -> Error
     }
 }
 
-/// Refuses offsets the last of which is past so many values.
+/// Returns an error for offsets whose last one is above the number of values.
 pub(crate) fn check_bounds<O: Offset>(
     alloc: Global,
     offsets: &OffsetsBuffer<O>,

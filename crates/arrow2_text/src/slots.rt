@@ -59,8 +59,8 @@ impl<O: Offset> Model for Slots<O> {
 
 #[tactic(auto, using(crate::proofs::SlotLists::slotted))]
 impl<O: Offset> Slots<O> {
-    /// Returns the slots of these parts. Requires that the last offset is not past the values, and that the validity has an
-    /// item for each slot.
+    /// Returns the slots of these parts. Requires that the last offset is not past the values, and that the validity
+    /// has an item for each slot.
     pub(crate) fn new(
         data_type: Rc<DataType>,
         offsets: OffsetsBuffer<O>,
@@ -224,8 +224,8 @@ impl<O: Offset> Slots<O> {
         true
     }
 
-    /// Returns the slots as they grow, over the same storage, on the right, where nobody else shares it and nothing is sliced
-    /// off; else the slots as they were, on the left.
+    /// Returns the slots as they grow, over the same storage, on the right, where nobody else shares it and nothing is
+    /// sliced off; else the slots as they were, on the left.
     pub(crate) fn into_mut(self) -> Result<Either<Slots<O>, Growing<O>>>
         ensures ok { IfOk result (λ r. MatchEither r (λ s. s ≡ self) (λ g.
             (g.values ≡ binary_values self) × (g.valid ≡ valid_items self.validity)
@@ -274,8 +274,8 @@ fn same_item(item: Option<&[u8]>, other: Option<&[u8]>) -> bool
     }
 }
 
-/// Returns the slots of these parts as they grow, where nobody else shares the bytes and the bitmap, and none of the bytes is
-/// sliced off; else the slots. Requires that the offsets begin at 0 and end behind the last byte.
+/// Returns the slots of these parts as they grow, where nobody else shares the bytes and the bitmap, and none of the
+/// bytes is sliced off; else the slots. Requires that the offsets begin at 0 and end behind the last byte.
 fn thawed<O: Offset>(
     data_type: Rc<DataType>,
     offsets: Offsets<O>,

@@ -34,10 +34,11 @@ use std::marker::Model;
 use std::rc::Rc;
 use std::str;
 
-/// An array of texts, each of which may be null, by offsets into one buffer of bytes. Each slot is UTF-8, also under a null.
+/// An array of texts, each of which may be null, by offsets into one buffer of bytes. Each slot is UTF-8, also under a
+/// null.
 ///
-/// Contracts see its logical type, its offsets, its bytes and its validity; `binary_items` is the list of its items, each
-/// the list of its bytes. Slices and clones share all four.
+/// Contracts see its logical type, its offsets, its bytes and its validity; `binary_items` is the list of its items,
+/// each the list of its bytes. Slices and clones share all four.
 ///
 /// Differs from arrow2: the logical type is shared by an `Rc`, so that a clone does not allocate.
 #[derive(Drop)]
@@ -65,15 +66,15 @@ impl<O: Offset> Model for Utf8Array<O> {
 }
 
 impl<O: Offset> Utf8Array<O> {
-    /// Returns the array of the bytes between the offsets, each null where the validity is false. Without a validity none
-    /// is null.
+    /// Returns the array of the bytes between the offsets, each null where the validity is false. Without a validity
+    /// none is null.
     ///
     /// # Errors
     ///
-    /// `InvalidArgumentError` exactly if the last offset is past the values, or else if a slot is not UTF-8, also under a null
-    /// or where it begins inside a character, or else if the validity has another length than there are slots, or else if the
-    /// physical type of `data_type` is not `Utf8`, or `LargeUtf8` where `O` has 64 bits; or `OutOfMemory`. What was handed in
-    /// is then dropped.
+    /// `InvalidArgumentError` exactly if the last offset is past the values, or else if a slot is not UTF-8, also under
+    /// a null or where it begins inside a character, or else if the validity has another length than there are slots,
+    /// or else if the physical type of `data_type` is not `Utf8`, or `LargeUtf8` where `O` has 64 bits; or
+    /// `OutOfMemory`. What was handed in is then dropped.
     pub fn try_new(
         data_type: DataType,
         offsets: OffsetsBuffer<O>,
