@@ -31,6 +31,11 @@ fn numbers(alloc: Global) -> Result<PrimitiveArray<i32>> {
     input(PrimitiveArray::from_options(alloc, &[Some(1), None, Some(3)]))
 }
 
+/// The array of three numbers, none of which is null.
+fn valid_numbers(alloc: Global) -> Result<PrimitiveArray<i32>> {
+    input(PrimitiveArray::from_slice(alloc, &[1, 2, 3]))
+}
+
 /// The array of three texts, one of which is null.
 fn texts(alloc: Global) -> Result<Utf8Array<i32>> {
     input(Utf8Array::from_options(alloc, &[Some("first"), None, Some("third")]))
@@ -59,8 +64,8 @@ fn compared_with_number(array: &PrimitiveArray<i32>) -> [Row<BooleanArray>; 7] {
     ]
 }
 
-/// Comparisons of an array with itself, and which of its items are null.
-fn compared(array: &PrimitiveArray<i32>) -> [Row<BooleanArray>; 8] {
+/// Comparisons of an array with itself.
+fn compared(array: &PrimitiveArray<i32>) -> [Row<BooleanArray>; 6] {
     [
         ("eq", eq(array, array)),
         ("neq", neq(array, array)),
@@ -68,6 +73,12 @@ fn compared(array: &PrimitiveArray<i32>) -> [Row<BooleanArray>; 8] {
         ("lt_eq", lt_eq(array, array)),
         ("gt", gt(array, array)),
         ("gt_eq", gt_eq(array, array)),
+    ]
+}
+
+/// Which items of an array are null. Where the array has no bitmap, one is made.
+fn nulls(array: &PrimitiveArray<i32>) -> [Row<BooleanArray>; 2] {
+    [
         ("is_null", is_null(array)),
         ("is_not_null", is_not_null(array)),
     ]
@@ -179,6 +190,13 @@ fn on_numbers<R: Print + Eprint>(rt: &R, array: &PrimitiveArray<i32>, alloc: Glo
     made(rt, &taken(array, alloc), &taken(array, alloc));
 }
 
+/// Makes the calls on an array without a bitmap.
+fn on_valid_numbers<R: Print + Eprint>(rt: &R, alloc: Global) -> Result<()> {
+    let array = valid_numbers(alloc).or(valid_numbers(alloc))?;
+    made(rt, &nulls(&array), &nulls(&array));
+    Ok(())
+}
+
 /// Makes the calls on numbers, a boolean array and a mask.
 fn on_masked_numbers<R: Print + Eprint>(
     rt: &R,
@@ -232,6 +250,7 @@ fn on_mask<R: Print + Eprint>(
 pub(crate) fn all<R: Print + Eprint>(rt: &R, alloc: Global) -> Result<()> {
     let numbers = numbers(alloc).or(numbers(alloc))?;
     on_numbers(rt, &numbers, alloc);
+    on_valid_numbers(rt, alloc)?;
     let mask = mask(alloc).or(mask(alloc))?;
     on_mask(rt, alloc, &numbers, &mask)
 }
