@@ -444,7 +444,7 @@ impl Bitmap {
         self.slice_counted(offset, length, &mut Reads::new());
     }
 
-    /// Slices as [`Bitmap::slice`] does, and adds to `reads` the number of bytes that it reads: at most `L / 16 + 4`,
+    /// Slices as [`Bitmap::slice`] does, and adds to `reads` the number of bytes that it counts: at most `L / 16 + 4`,
     /// where `L` is the number of items before the slice.
     ///
     /// arrow2 counts no reads.
