@@ -30,9 +30,9 @@ pub use Rattle.arrow2_offset.specs.Made
 pub use Rattle.arrow2_offset.specs.Nested
 pub use Rattle.arrow2_utf8.specs.Texts
 pub use Rattle.arrow2_datatypes.specs.Extensions
-pub use Rattle.arrow2_datatypes.specs.Kept
+pub use Rattle.arrow2_datatypes.specs.Filter
 pub use Rattle.arrow2_datatypes.specs.Types
-pub use Rattle.arrow2_bitmap.specs.Answered
+pub use Rattle.arrow2_bitmap.specs.Predicates
 pub use Rattle.arrow2_bitmap.specs.Packed
 pub use Rattle.arrow2_walks.specs.Cuts
 pub use Rattle.arrow2_walks.specs.Cursor

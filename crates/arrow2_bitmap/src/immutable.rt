@@ -18,7 +18,7 @@ ghost use Rattle.arrow2_model.specs.Words.{spill};
 ghost use Rattle.arrow2_model.specs.Storage.{BitmapStorage, items_of};
 ghost use Rattle.arrow2_types.specs.Refusals.{IsInvalidArgument};
 ghost use Rattle.arrow2_types.specs.declared.error.Error.TheVariants.{OutOfMemory};
-ghost use Rattle.arrow2_bitmap.specs.Answered.{AnswersBelow, AnswersOfEach, AnswersOfPairs, IsAnswerAt, IsPairAnswerAt, MayBeAskedOfEach, MayBeAskedOfPairs};
+ghost use Rattle.arrow2_bitmap.specs.Predicates.{ReturnsBelow, ReturnsOnEach, ReturnsOnPairs, IsResultAt, IsPairResultAt, IsCallableWithEach, IsCallableWithPairs};
 ghost use Rattle.arrow2_bitmap.specs.Collected.{GivesTooMany};
 ghost use Rattle.arrow2_bitmap.specs.Packed.{IsPacked};
 ghost use Rattle.arrow2_bitmap.specs.Refused.{too_long};
@@ -243,7 +243,7 @@ impl Bitmap {
     /// `OutOfMemory` alone.
     pub fn try_from_fn<F: Fn(usize) -> bool>(alloc: Global, length: usize, f: F) -> Result<Bitmap>
         requires callable { (index : ℕ) → index < length → F.pre f index }
-        ensures items { (test : ℕ → Bool) → AnswersBelow length (F.post f) test →
+        ensures items { (test : ℕ → Bool) → ReturnsBelow length (F.post f) test →
             IfOk result (λ b. items_of b ≡ map test (range_with_len 0 length)) }
         ensures answers { IfOk result (λ b. (index : ℕ) → index < length →
             F.post f index (slice_index_or (items_of b) index false)) }
@@ -264,11 +264,11 @@ impl Bitmap {
     ///
     /// `OutOfMemory` alone.
     pub fn from_slice_with<T, F: Fn(&T) -> bool>(alloc: Global, items: &[T], f: F) -> Result<Bitmap>
-        requires callable { MayBeAskedOfEach items.now (F.pre f) }
-        ensures items { (test : T → Bool) → AnswersOfEach items.now (F.post f) test →
+        requires callable { IsCallableWithEach items.now (F.pre f) }
+        ensures items { (test : T → Bool) → ReturnsOnEach items.now (F.post f) test →
             IfOk result (λ b. items_of b ≡ map test items.now) }
         ensures answers { IfOk result (λ b. (index : ℕ) → index < length' items.now →
-            IsAnswerAt items.now (F.post f) index (slice_index_or (items_of b) index false)) }
+            IsResultAt items.now (F.post f) index (slice_index_or (items_of b) index false)) }
         ensures len { IfOk result (λ b. length' (items_of b) ≡ length' items.now) }
         ensures storage { IfOk result (λ b. IsPacked b) }
         ensures only { IfErr result (λ e. e ≡ Error.OutOfMemory) }
@@ -278,8 +278,8 @@ impl Bitmap {
             items.len(),
             |index|
                 requires inside { index < length' items.now }
-                requires callable { MayBeAskedOfEach items.now (F.pre f) }
-                ensures { IsAnswerAt items.entry.now (F.post f) index result }
+                requires callable { IsCallableWithEach items.now (F.pre f) }
+                ensures { IsResultAt items.entry.now (F.post f) index result }
             { f(&items[index]) },
         )
     }
@@ -299,11 +299,11 @@ impl Bitmap {
         f: F,
     ) -> Result<Bitmap>
         requires same_length { length' left.now ≡ length' right.now }
-        requires callable { MayBeAskedOfPairs left.now right.now (F.pre f) }
-        ensures items { (test : S → T → Bool) → AnswersOfPairs left.now right.now (F.post f) test →
+        requires callable { IsCallableWithPairs left.now right.now (F.pre f) }
+        ensures items { (test : S → T → Bool) → ReturnsOnPairs left.now right.now (F.post f) test →
             IfOk result (λ b. items_of b ≡ zip2 test left.now right.now) }
         ensures answers { IfOk result (λ b. (index : ℕ) → index < length' left.now →
-            IsPairAnswerAt left.now right.now (F.post f) index
+            IsPairResultAt left.now right.now (F.post f) index
             (slice_index_or (items_of b) index false)) }
         ensures len { IfOk result (λ b. length' (items_of b) ≡ length' left.now) }
         ensures storage { IfOk result (λ b. IsPacked b) }
@@ -314,8 +314,8 @@ impl Bitmap {
             left.len(),
             |index|
                 requires inside { (index < length' left.now) × (index < length' right.now) }
-                requires callable { MayBeAskedOfPairs left.now right.now (F.pre f) }
-                ensures { IsPairAnswerAt left.entry.now right.entry.now (F.post f) index result }
+                requires callable { IsCallableWithPairs left.now right.now (F.pre f) }
+                ensures { IsPairResultAt left.entry.now right.entry.now (F.post f) index result }
             { f(&left[index], &right[index]) },
         )
     }

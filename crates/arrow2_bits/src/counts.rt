@@ -57,16 +57,16 @@ pub fn recount(
         return unset;
     }
     if count < len / 2 {
-        return zeros_behind(stored, offset, start, count);
+        return zeros_after(stored, offset, start, count);
     }
     let end = start + count;
     let head = count_zeros_counted(stored, offset, start);
-    let tail = zeros_behind(stored, offset, end, len - end);
+    let tail = zeros_after(stored, offset, end, len - end);
     unset - (head + tail)
 }
 
 /// Returns how many of the `len` bits from bit `offset + start` on are not set. Their sum need not fit a `usize`.
-fn zeros_behind(stored: &mut Stored<'_>, offset: usize, start: usize, len: usize) -> usize
+fn zeros_after(stored: &mut Stored<'_>, offset: usize, start: usize, len: usize) -> usize
     requires inside { offset + start + len ≤ 8 * length stored.old.bytes }
     ensures zeros { result ≡ falses (part (bits stored.old.bytes) (offset + start) len) }
     ensures bytes { stored.new.bytes ≡ stored.old.bytes }

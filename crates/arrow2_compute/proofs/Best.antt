@@ -8,45 +8,45 @@ use Rattle.std.specs.declared.cmp.Ordering.TheVariants.{Less, Equal, Greater}
 use Rattle.std.proofs.lemmas.Cmp.{upto, tied_itself}
 use Rattle.std.proofs.lemmas.List.{take_more}
 use Rattle.std.proofs.lemmas.List.Elements.{All-push, All-weaker, All-nil, Contains-append_left, Contains-push}
-use Rattle.arrow2_walks.specs.Selected.{there}
-use Rattle.arrow2_walks.proofs.Selected.{there-append}
-use Rattle.arrow2_compute.specs.Aggregates.{IsBestThere}
+use Rattle.arrow2_walks.specs.Selected.{non_null_values}
+use Rattle.arrow2_walks.proofs.Selected.{non_null_values-append}
+use Rattle.arrow2_compute.specs.Aggregates.{IsExtremum}
 
 append-nil : {X : Type 0} (xs : List X) → xs ++ [] ≡ xs
 append-nil [] = refl
 append-nil (x ∷ xs) = ap (λ l. x ∷ l) (append-nil xs)
 
 module _ {X : Type 0} (R : X → X → Type 0) where
-  same-list : (items more : List (Option X)) (list : List X) (best : Option X) → there more ≡ list → there items ≡ list → IsBestThere R items best → IsBestThere R more best
+  same-list : (items more : List (Option X)) (list : List X) (best : Option X) → non_null_values more ≡ list → non_null_values items ≡ list → IsExtremum R items best → IsExtremum R more best
   same-list items more list None e f h = e ∙ (sym f ∙ h)
   same-list items more list (Some x) e f h =
-      let same : there items ≡ there more = f ∙ sym e in
+      let same : non_null_values items ≡ non_null_values more = f ∙ sym e in
       subst (λ (l : List X). Contains l x × All (R x) l) same h
 
   -- an item that is null
-  pub best-null : (items : List (Option X)) (best : Option X) → IsBestThere R items best → IsBestThere R (items ++ None ∷ []) best
-  best-null items best h = same-list items (items ++ None ∷ []) (there items) best (there-append items (None ∷ []) ∙ append-nil (there items)) refl h
+  pub best-null : (items : List (Option X)) (best : Option X) → IsExtremum R items best → IsExtremum R (items ++ None ∷ []) best
+  best-null items best h = same-list items (items ++ None ∷ []) (non_null_values items) best (non_null_values-append items (None ∷ []) ∙ append-nil (non_null_values items)) refl h
 
 module _ {X : Type 0} (R : X → X → Type 0) (itself : (x : X) → R x x) where
   -- the first one
-  pub best-first : (items : List (Option X)) (x : X) → IsBestThere R items None → IsBestThere R (items ++ Some x ∷ []) (Some x)
+  pub best-first : (items : List (Option X)) (x : X) → IsExtremum R items None → IsExtremum R (items ++ Some x ∷ []) (Some x)
   best-first items x h =
-      let all : there (items ++ Some x ∷ []) ≡ x ∷ [] = there-append items (Some x ∷ []) ∙ ap (λ l. l ++ x ∷ []) h in
+      let all : non_null_values (items ++ Some x ∷ []) ≡ x ∷ [] = non_null_values-append items (Some x ∷ []) ∙ ap (λ l. l ++ x ∷ []) h in
       subst (λ (l : List X). Contains l x × All (R x) l) (sym all) (Contains-push [] x, All-push (R x) [] x (All-nil (R x)) (itself x))
 
 module _ {X : Type 0} (R : X → X → Type 0) (itself : (x : X) → R x x) (chain : (x y z : X) → R x y → R y z → R x z) where
   -- one that is no better
-  pub best-kept : (items : List (Option X)) (best x : X) → R best x → IsBestThere R items (Some best) → IsBestThere R (items ++ Some x ∷ []) (Some best)
+  pub best-kept : (items : List (Option X)) (best x : X) → R best x → IsExtremum R items (Some best) → IsExtremum R (items ++ Some x ∷ []) (Some best)
   best-kept items best x r h =
-      let all : there (items ++ Some x ∷ []) ≡ there items ++ x ∷ [] = there-append items (Some x ∷ []) in
-      subst (λ (l : List X). Contains l best × All (R best) l) (sym all) (Contains-append_left (there items) (x ∷ []) best h.0, All-push (R best) (there items) x h.1 r)
+      let all : non_null_values (items ++ Some x ∷ []) ≡ non_null_values items ++ x ∷ [] = non_null_values-append items (Some x ∷ []) in
+      subst (λ (l : List X). Contains l best × All (R best) l) (sym all) (Contains-append_left (non_null_values items) (x ∷ []) best h.0, All-push (R best) (non_null_values items) x h.1 r)
 
   -- one that is better
-  pub best-replaced : (items : List (Option X)) (best x : X) → R x best → IsBestThere R items (Some best) → IsBestThere R (items ++ Some x ∷ []) (Some x)
+  pub best-replaced : (items : List (Option X)) (best x : X) → R x best → IsExtremum R items (Some best) → IsExtremum R (items ++ Some x ∷ []) (Some x)
   best-replaced items best x r h =
-      let all : there (items ++ Some x ∷ []) ≡ there items ++ x ∷ [] = there-append items (Some x ∷ []) in
-      let kept = All-weaker (R best) (R x) (λ y s. chain x best y r s) (there items) h.1 in
-      subst (λ (l : List X). Contains l x × All (R x) l) (sym all) (Contains-push (there items) x, All-push (R x) (there items) x kept (itself x))
+      let all : non_null_values (items ++ Some x ∷ []) ≡ non_null_values items ++ x ∷ [] = non_null_values-append items (Some x ∷ []) in
+      let kept = All-weaker (R best) (R x) (λ y s. chain x best y r s) (non_null_values items) h.1 in
+      subst (λ (l : List X). Contains l x × All (R x) l) (sym all) (Contains-push (non_null_values items) x, All-push (R x) (non_null_values items) x kept (itself x))
 
 le-not_gt : (o : Ordering) → is_le o ≡ true → is_gt o ≡ false
 le-not_gt Less e = refl
@@ -90,61 +90,61 @@ module _ {X : Type 0} {cmp : X → X → Ordering} (order : IsTotalOrder cmp) wh
   ge-chain x y z a b = turned x z ∙ le-chain z y x (sym (turned y z) ∙ b) (sym (turned x y) ∙ a)
 
   by-test : (items : List (Option X)) (best x : X) (b : Bool) → is_lt (cmp x best) ≡ b
-      → IsBestThere (λ x y. IsTrue (is_le (cmp x y))) items (Some best)
-      → IsBestThere (λ x y. IsTrue (is_le (cmp x y))) (items ++ Some x ∷ []) (Some (ord_min cmp best x))
+      → IsExtremum (λ x y. IsTrue (is_le (cmp x y))) items (Some best)
+      → IsExtremum (λ x y. IsTrue (is_le (cmp x y))) (items ++ Some x ∷ []) (Some (ord_min cmp best x))
   by-test items best x true e h = rw e (best-replaced (λ x y. IsTrue (is_le (cmp x y))) le-itself le-chain items best x (lt-le (cmp x best) e) h)
   by-test items best x false e h = rw e (best-kept (λ x y. IsTrue (is_le (cmp x y))) le-itself le-chain items best x (ap is_le (order.antisymm best x) ∙ not_lt-le (cmp x best) e) h)
 
   -- the lesser of two is the least of the items before and of the one more
   pub least-more : (items : List (Option X)) (best x : X)
-      → IsBestThere (λ x y. IsTrue (is_le (cmp x y))) items (Some best)
-      → IsBestThere (λ x y. IsTrue (is_le (cmp x y))) (items ++ Some x ∷ []) (Some (ord_min cmp best x))
+      → IsExtremum (λ x y. IsTrue (is_le (cmp x y))) items (Some best)
+      → IsExtremum (λ x y. IsTrue (is_le (cmp x y))) (items ++ Some x ∷ []) (Some (ord_min cmp best x))
   least-more items best x h = by-test items best x (is_lt (cmp x best)) refl h
 
   by-other_test : (items : List (Option X)) (best x : X) (b : Bool) → is_lt (cmp x best) ≡ b
-      → IsBestThere (λ x y. IsTrue (is_ge (cmp x y))) items (Some best)
-      → IsBestThere (λ x y. IsTrue (is_ge (cmp x y))) (items ++ Some x ∷ []) (Some (ord_max cmp best x))
+      → IsExtremum (λ x y. IsTrue (is_ge (cmp x y))) items (Some best)
+      → IsExtremum (λ x y. IsTrue (is_ge (cmp x y))) (items ++ Some x ∷ []) (Some (ord_max cmp best x))
   by-other_test items best x true e h = rw e (best-kept (λ x y. IsTrue (is_ge (cmp x y))) ge-itself ge-chain items best x (turned best x ∙ lt-le (cmp x best) e) h)
   by-other_test items best x false e h = rw e (best-replaced (λ x y. IsTrue (is_ge (cmp x y))) ge-itself ge-chain items best x (turned x best ∙ (ap is_le (order.antisymm best x) ∙ not_lt-le (cmp x best) e)) h)
 
   -- and the greater of two the greatest
   pub greatest-more : (items : List (Option X)) (best x : X)
-      → IsBestThere (λ x y. IsTrue (is_ge (cmp x y))) items (Some best)
-      → IsBestThere (λ x y. IsTrue (is_ge (cmp x y))) (items ++ Some x ∷ []) (Some (ord_max cmp best x))
+      → IsExtremum (λ x y. IsTrue (is_ge (cmp x y))) items (Some best)
+      → IsExtremum (λ x y. IsTrue (is_ge (cmp x y))) (items ++ Some x ∷ []) (Some (ord_max cmp best x))
   greatest-more items best x h = by-other_test items best x (is_lt (cmp x best)) refl h
 
   -- of items that may be null
   pub least-of : (items : List (Option X)) (best item : Option X) (least x m : X) → best ≡ Some least → item ≡ Some x → m ≡ ord_min cmp least x
-      → IsBestThere (λ x y. IsTrue (is_le (cmp x y))) items best → IsBestThere (λ x y. IsTrue (is_le (cmp x y))) (items ++ item ∷ []) (Some m)
+      → IsExtremum (λ x y. IsTrue (is_le (cmp x y))) items best → IsExtremum (λ x y. IsTrue (is_le (cmp x y))) (items ++ item ∷ []) (Some m)
   least-of items best item least x m e f k h =
-      let start = subst (λ (o : Option X). IsBestThere (λ x y. IsTrue (is_le (cmp x y))) items o) e h in
+      let start = subst (λ (o : Option X). IsExtremum (λ x y. IsTrue (is_le (cmp x y))) items o) e h in
       let done = least-more items least x start in
-      subst (λ (o : Option X). IsBestThere (λ x y. IsTrue (is_le (cmp x y))) (items ++ o ∷ []) (Some m)) (sym f)
-      (subst (λ (r : X). IsBestThere (λ x y. IsTrue (is_le (cmp x y))) (items ++ Some x ∷ []) (Some r)) (sym k) done)
+      subst (λ (o : Option X). IsExtremum (λ x y. IsTrue (is_le (cmp x y))) (items ++ o ∷ []) (Some m)) (sym f)
+      (subst (λ (r : X). IsExtremum (λ x y. IsTrue (is_le (cmp x y))) (items ++ Some x ∷ []) (Some r)) (sym k) done)
 
   pub greatest-of : (items : List (Option X)) (best item : Option X) (greatest x m : X) → best ≡ Some greatest → item ≡ Some x → m ≡ ord_max cmp greatest x
-      → IsBestThere (λ x y. IsTrue (is_ge (cmp x y))) items best → IsBestThere (λ x y. IsTrue (is_ge (cmp x y))) (items ++ item ∷ []) (Some m)
+      → IsExtremum (λ x y. IsTrue (is_ge (cmp x y))) items best → IsExtremum (λ x y. IsTrue (is_ge (cmp x y))) (items ++ item ∷ []) (Some m)
   greatest-of items best item greatest x m e f k h =
-      let start = subst (λ (o : Option X). IsBestThere (λ x y. IsTrue (is_ge (cmp x y))) items o) e h in
+      let start = subst (λ (o : Option X). IsExtremum (λ x y. IsTrue (is_ge (cmp x y))) items o) e h in
       let done = greatest-more items greatest x start in
-      subst (λ (o : Option X). IsBestThere (λ x y. IsTrue (is_ge (cmp x y))) (items ++ o ∷ []) (Some m)) (sym f)
-      (subst (λ (r : X). IsBestThere (λ x y. IsTrue (is_ge (cmp x y))) (items ++ Some x ∷ []) (Some r)) (sym k) done)
+      subst (λ (o : Option X). IsExtremum (λ x y. IsTrue (is_ge (cmp x y))) (items ++ o ∷ []) (Some m)) (sym f)
+      (subst (λ (r : X). IsExtremum (λ x y. IsTrue (is_ge (cmp x y))) (items ++ Some x ∷ []) (Some r)) (sym k) done)
 
 module _ {X : Type 0} (R : X → X → Type 0) where
   -- an item more that is null
-  pub null-of : (items : List (Option X)) (best item : Option X) (x : X) → best ≡ Some x → item ≡ None → IsBestThere R items best → IsBestThere R (items ++ item ∷ []) (Some x)
+  pub null-of : (items : List (Option X)) (best item : Option X) (x : X) → best ≡ Some x → item ≡ None → IsExtremum R items best → IsExtremum R (items ++ item ∷ []) (Some x)
   null-of items best item x e f h =
-      let start = subst (λ (o : Option X). IsBestThere R items o) e h in
-      subst (λ (o : Option X). IsBestThere R (items ++ o ∷ []) (Some x)) (sym f) (best-null R items (Some x) start)
+      let start = subst (λ (o : Option X). IsExtremum R items o) e h in
+      subst (λ (o : Option X). IsExtremum R (items ++ o ∷ []) (Some x)) (sym f) (best-null R items (Some x) start)
 
   -- an item more where each was null
-  pub first-of : (items : List (Option X)) (best item : Option X) → ((x : X) → R x x) → best ≡ None → IsBestThere R items best → IsBestThere R (items ++ item ∷ []) item
-  first-of items best None itself e h = best-null R items None (subst (λ (o : Option X). IsBestThere R items o) e h)
-  first-of items best (Some x) itself e h = best-first R itself items x (subst (λ (o : Option X). IsBestThere R items o) e h)
+  pub first-of : (items : List (Option X)) (best item : Option X) → ((x : X) → R x x) → best ≡ None → IsExtremum R items best → IsExtremum R (items ++ item ∷ []) item
+  first-of items best None itself e h = best-null R items None (subst (λ (o : Option X). IsExtremum R items o) e h)
+  first-of items best (Some x) itself e h = best-first R itself items x (subst (λ (o : Option X). IsExtremum R items o) e h)
 
   -- an item more of a list
   pub one-more : (items : List (Option X)) (k : ℕ) (item result : Option X) → k < length items → item ≡ get_or items k None
-      → IsBestThere R (take k items ++ item ∷ []) result → IsBestThere R (take (k + 1) items) result
+      → IsExtremum R (take k items ++ item ∷ []) result → IsExtremum R (take (k + 1) items) result
   one-more items k item result less is h =
       let more : take k items ++ item ∷ [] ≡ take (k + 1) items = ap (λ o. take k items ++ o ∷ []) is ∙ sym (take_more items k None less) in
-      subst (λ (l : List (Option X)). IsBestThere R l result) more h
+      subst (λ (l : List (Option X)). IsExtremum R l result) more h

@@ -9,12 +9,12 @@ use Rattle.arrow2_validity.specs.OptionalValidity.{OptionalValidity, items_or_tr
 use Rattle.arrow2_validity.proofs.ValidItems.{items-some}
 use Rattle.arrow2_walks.specs.Zipped.{slot, zipped}
 use Rattle.arrow2_walks.proofs.Zipped.{at-zipped}
-use Rattle.arrow2_compute.specs.Taken.{StandsAt}
+use Rattle.arrow2_compute.specs.Taken.{IsItemAt}
 
 module _ {X : Type 0} where
   -- what stands at the places and what is valid there are the items there
   pub taken-zipped : (xs : List X) (vs : List Bool) (places : List ℕ) (ys : List X) → length vs ≡ length xs
-      → All (λ place. place < length xs) places → AllZip (StandsAt xs) places ys
+      → All (λ place. place < length xs) places → AllZip (IsItemAt xs) places ys
       → zipped ys (map (λ place. get_or vs place false) places) ≡ map (λ place. get_or (zipped xs vs) place None) places
   taken-zipped xs vs [] [] e inside stand = refl
   taken-zipped xs vs [] (y ∷ ys) e inside stand = absurd stand
@@ -32,7 +32,7 @@ module _ {X : Type 0} where
   any-default (x ∷ xs) (suc k) d e h = any-default xs k d e (omega (arith, h))
 
   -- what is read at places stands there
-  pub stand-there : (xs : List X) (d : X) (places : List ℕ) → All (λ place. place < length xs) places → AllZip (StandsAt xs) places (map (λ place. get_or xs place d) places)
+  pub stand-there : (xs : List X) (d : X) (places : List ℕ) → All (λ place. place < length xs) places → AllZip (IsItemAt xs) places (map (λ place. get_or xs place d) places)
   stand-there xs d [] inside = tt
   stand-there xs d (place ∷ places) inside =
       (any-default xs place (get_or xs place d) d (All-head (λ place. place < length xs) place places inside), stand-there xs d places (All-tail (λ place. place < length xs) place places inside))

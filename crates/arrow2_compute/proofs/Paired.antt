@@ -50,6 +50,6 @@ tested-pairs xs ys items says test alike size given told =
     let less : k < length xs = omega (arith, h, size) in
     let more : k < length ys = omega (arith, less, alike) in
     let one = given k less in
-    told one.left one.right (get_or items k false) one.told
-    ∙ (ap (λ x. test x one.right) (sym one.left_there)
-    ∙ (ap (test (get_or xs k one.left)) (sym one.right_there) ∙ sym (get_or-zip2 test xs ys k one.left one.right false less more))))
+    told one.left one.right (get_or items k false) one.returned
+    ∙ (ap (λ x. test x one.right) (sym one.is_left)
+    ∙ (ap (test (get_or xs k one.left)) (sym one.is_right) ∙ sym (get_or-zip2 test xs ys k one.left one.right false less more))))

@@ -7,10 +7,10 @@ of_both f None y = None
 of_both f (Some x) None = None
 of_both f (Some x) (Some y) = Some (f x y)
 
--- this was said of the items of two lists at a place
-pub record IsTestedAt {X Y : Type 0} (xs : List X) (ys : List Y) (says : X → Y → Bool → Type 0) (index : ℕ) (said : Bool) : Type 0 where
+-- this was returned for the items of two lists at an index
+pub record IsTestedAt {X Y : Type 0} (xs : List X) (ys : List Y) (returns : X → Y → Bool → Type 0) (index : ℕ) (result : Bool) : Type 0 where
   pub left : X
   pub right : Y
-  pub left_there : slice_index_or xs index left ≡ left
-  pub right_there : slice_index_or ys index right ≡ right
-  pub told : says left right said
+  pub is_left : slice_index_or xs index left ≡ left
+  pub is_right : slice_index_or ys index right ≡ right
+  pub returned : returns left right result

@@ -2,9 +2,9 @@
 use Rattle.std.specs.Prelude.{◌≡◌, ◌≤ℤ◌, ◌<ℤ◌, ℕ, ℤ, pos, List, Option, Some, None, slice_index_or, unsigned_abs}
 
 -- an index is null, or a place below n: `value` is the whole number that it stands for
-abbrev pub IsPlaceOrNull : {I : Type 0} → (I → ℤ) → ℕ → Option I → Type 0
-IsPlaceOrNull value n None = Unit {0}
-IsPlaceOrNull value n (Some index) = (pos 0 ≤ℤ value index) × (value index <ℤ pos n)
+abbrev pub IsInBoundsOrNull : {I : Type 0} → (I → ℤ) → ℕ → Option I → Type 0
+IsInBoundsOrNull value n None = Unit {0}
+IsInBoundsOrNull value n (Some index) = (pos 0 ≤ℤ value index) × (value index <ℤ pos n)
 
 -- the item at an index, and none where the index is null
 abbrev pub item_at : {I X : Type 0} → (I → ℤ) → List (Option X) → Option I → Option X
@@ -12,5 +12,5 @@ item_at value items None = None
 item_at value items (Some index) = slice_index_or items (unsigned_abs (value index)) None
 
 -- `x` is the item at `index`
-abbrev pub StandsAt : {X : Type 0} → List X → ℕ → X → Type 0
-StandsAt items index x = slice_index_or items index x ≡ x
+abbrev pub IsItemAt : {X : Type 0} → List X → ℕ → X → Type 0
+IsItemAt items index x = slice_index_or items index x ≡ x

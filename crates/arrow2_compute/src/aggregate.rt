@@ -1,7 +1,7 @@
 //! What is made of all items of an array.
 ghost use Rattle.std.specs.Prelude.{◌≡◌, ◌<◌, ◌+◌, ◌-◌, ◌*◌, ◌^◌, ◌≤ℤ◌, ◌+ℤ◌, [], ◌∷◌, ◌++◌, List, Option, ℤ, length, pos, negsuc, IsTrue};
 ghost use Rattle.std.specs.Ordering.{is_le, is_ge};
-ghost use Rattle.arrow2_compute.specs.Aggregates.{sum_there, IsBestThere};
+ghost use Rattle.arrow2_compute.specs.Aggregates.{sum_of_non_null, IsExtremum};
 ghost use Rattle.arrow2_primitive.specs.Primitive.{primitive_items};
 
 use arrow2_primitive::PrimitiveArray;
@@ -125,7 +125,7 @@ impl WholeNumber for u64 {
 /// Differs from arrow2, whose sum is of the items' own type and wraps, and is `None` where no item is left.
 #[tactic(auto, using(crate::proofs::Sums::sums))]
 pub fn sum<T: WholeNumber>(array: &PrimitiveArray<T>) -> i128
-    ensures { result ≡ sum_there T.integer (primitive_items array.now) }
+    ensures { result ≡ sum_of_non_null T.integer (primitive_items array.now) }
 {
     let mut total = 0i128;
     for index in 0..T::count(array.values().as_slice()) {
@@ -139,7 +139,7 @@ fn with_item<T: WholeNumber>(total: i128, item: Option<T>, count: usize) -> i128
     requires few { count < 2 ^ 63 }
     requires low { pos 0 ≤ℤ (total +ℤ pos (count * 2 ^ 63)) }
     requires high { total ≤ℤ pos (count * (2 ^ 64 - 1)) }
-    ensures sum { result ≡ total +ℤ sum_there T.integer (item ∷ []) }
+    ensures sum { result ≡ total +ℤ sum_of_non_null T.integer (item ∷ []) }
     ensures low { pos 0 ≤ℤ (result +ℤ pos ((count + 1) * 2 ^ 63)) }
     ensures high { result ≤ℤ pos ((count + 1) * (2 ^ 64 - 1)) }
 {
@@ -153,7 +153,7 @@ fn with_item<T: WholeNumber>(total: i128, item: Option<T>, count: usize) -> i128
 ///
 /// Stands for arrow2's `min_primitive`, which takes floats too.
 pub fn min<T: NativeType + Ord>(array: &PrimitiveArray<T>) -> Option<T>
-    ensures { IsBestThere (λ x y. IsTrue (is_le (T.Ord.cmp x y))) (primitive_items array.now) result }
+    ensures { IsExtremum (λ x y. IsTrue (is_le (T.Ord.cmp x y))) (primitive_items array.now) result }
 {
     let mut least = None;
     for index in 0..array.len() {
@@ -166,7 +166,7 @@ pub fn min<T: NativeType + Ord>(array: &PrimitiveArray<T>) -> Option<T>
 ///
 /// Stands for arrow2's `max_primitive`, which takes floats too.
 pub fn max<T: NativeType + Ord>(array: &PrimitiveArray<T>) -> Option<T>
-    ensures { IsBestThere (λ x y. IsTrue (is_ge (T.Ord.cmp x y))) (primitive_items array.now) result }
+    ensures { IsExtremum (λ x y. IsTrue (is_ge (T.Ord.cmp x y))) (primitive_items array.now) result }
 {
     let mut greatest = None;
     for index in 0..array.len() {
@@ -177,8 +177,8 @@ pub fn max<T: NativeType + Ord>(array: &PrimitiveArray<T>) -> Option<T>
 
 /// Returns the lesser of the least so far and an item, where they are there.
 fn lesser<T: NativeType + Ord>(least: Option<T>, item: Option<T>) -> Option<T>
-    ensures { (items : List (Option T)) → IsBestThere (λ x y. IsTrue (is_le (T.Ord.cmp x y))) items least →
-        IsBestThere (λ x y. IsTrue (is_le (T.Ord.cmp x y))) (items ++ item ∷ []) result }
+    ensures { (items : List (Option T)) → IsExtremum (λ x y. IsTrue (is_le (T.Ord.cmp x y))) items least →
+        IsExtremum (λ x y. IsTrue (is_le (T.Ord.cmp x y))) (items ++ item ∷ []) result }
 {
     match (least, item) {
         (Some(least), Some(value)) => Some(least.min(value)),
@@ -189,8 +189,8 @@ fn lesser<T: NativeType + Ord>(least: Option<T>, item: Option<T>) -> Option<T>
 
 /// Returns the greater of the greatest so far and an item, where they are there.
 fn greater<T: NativeType + Ord>(greatest: Option<T>, item: Option<T>) -> Option<T>
-    ensures { (items : List (Option T)) → IsBestThere (λ x y. IsTrue (is_ge (T.Ord.cmp x y))) items greatest →
-        IsBestThere (λ x y. IsTrue (is_ge (T.Ord.cmp x y))) (items ++ item ∷ []) result }
+    ensures { (items : List (Option T)) → IsExtremum (λ x y. IsTrue (is_ge (T.Ord.cmp x y))) items greatest →
+        IsExtremum (λ x y. IsTrue (is_ge (T.Ord.cmp x y))) (items ++ item ∷ []) result }
 {
     match (greatest, item) {
         (Some(greatest), Some(value)) => Some(greatest.max(value)),

@@ -3,7 +3,7 @@ ghost use Rattle.std.specs.Prelude.{◌≡◌, ◌<◌, [], ◌∷◌, Bool, len
 ghost use Rattle.std.specs.Ordering.{partial_lt, partial_le, partial_gt, partial_ge};
 ghost use Rattle.std.specs.Simd.Lanes.{zip2};
 ghost use Rattle.arrow2_array.specs.Items.{boolean_items};
-ghost use Rattle.arrow2_bitmap.specs.Answered.{MayBeAskedOfEach, AnswersOfEach};
+ghost use Rattle.arrow2_bitmap.specs.Predicates.{IsCallableWithEach, ReturnsOnEach};
 ghost use Rattle.arrow2_compute.specs.Pairs.{of_both, IsTestedAt};
 ghost use Rattle.arrow2_model.specs.Buffers.{buffer_items};
 ghost use Rattle.arrow2_primitive.specs.Primitive.{primitive_items};
@@ -24,9 +24,9 @@ pub fn tested<T: NativeType, F: Fn(&T) -> bool>(
     array: &PrimitiveArray<T>,
     test: F,
 ) -> Result<BooleanArray>
-    requires callable { MayBeAskedOfEach (buffer_items array.now.values) (F.pre test) }
+    requires callable { IsCallableWithEach (buffer_items array.now.values) (F.pre test) }
     ensures items { (answer : T → Bool) →
-        AnswersOfEach (buffer_items array.now.values) (F.post test) answer →
+        ReturnsOnEach (buffer_items array.now.values) (F.post test) answer →
         IfOk result (λ a. boolean_items a ≡ map (option_map answer) (primitive_items array.now)) }
     ensures only { IfErr result (λ e. e ≡ Error.OutOfMemory) }
 {

@@ -2,7 +2,7 @@
 ghost use Rattle.std.specs.Prelude.{◌≡◌, ◌<◌, ◌⊎◌, All, None, false, length, map, slice_index_or, sum_by, IfOk, IfErr, IsErrOf};
 ghost use Rattle.std.specs.List.{AllZip};
 ghost use Rattle.arrow2_array.specs.Items.{boolean_items};
-ghost use Rattle.arrow2_compute.specs.Taken.{IsPlaceOrNull, StandsAt, item_at};
+ghost use Rattle.arrow2_compute.specs.Taken.{IsInBoundsOrNull, IsItemAt, item_at};
 ghost use Rattle.arrow2_compute.specs.Sizes.{item_bytes};
 ghost use Rattle.arrow2_model.specs.Buffers.{buffer_items};
 ghost use Rattle.arrow2_model.specs.Storage.{items_of};
@@ -51,7 +51,7 @@ fn values_at<T: NativeType>(
     indices: &[usize],
 ) -> std::result::Result<Vec<T>, AllocError>
     requires inside { All (λ index. index < length (buffer_items values.now)) indices.now }
-    ensures { IfOk result (λ taken. AllZip (StandsAt (buffer_items values.now)) indices.now taken.items) }
+    ensures { IfOk result (λ taken. AllZip (IsItemAt (buffer_items values.now)) indices.now taken.items) }
 {
     let mut taken = Vec::with_capacity(values.allocator(), indices.len())?;
     let slots = values.as_slice();
@@ -106,7 +106,7 @@ pub fn take_by_array<T: NativeType, I: Index>(
     array: &PrimitiveArray<T>,
     indices: &PrimitiveArray<I>,
 ) -> Result<PrimitiveArray<T>>
-    requires inside { All (IsPlaceOrNull I.value (length (primitive_items array.now))) (primitive_items indices.now) }
+    requires inside { All (IsInBoundsOrNull I.value (length (primitive_items array.now))) (primitive_items indices.now) }
     ensures items { IfOk result (λ a. primitive_items a
         ≡ map (item_at I.value (primitive_items array.now)) (primitive_items indices.now)) }
     ensures data_type { IfOk result (λ a. a.data_type ≡ array.now.data_type) }
@@ -122,7 +122,7 @@ pub fn take_by_array<T: NativeType, I: Index>(
 
 /// Returns the item at an index, null where the index is. Requires that it is below the length.
 fn item_at<T: NativeType, I: Index>(array: &PrimitiveArray<T>, index: Option<I>) -> Option<T>
-    requires inside { IsPlaceOrNull I.value (length (primitive_items array.now)) index }
+    requires inside { IsInBoundsOrNull I.value (length (primitive_items array.now)) index }
     ensures { result ≡ item_at I.value (primitive_items array.now) index }
 {
     match index {

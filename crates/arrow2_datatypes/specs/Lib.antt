@@ -1,3 +1,3 @@
 pub mod Extensions
-pub mod Kept
+pub mod Filter
 pub mod Types

@@ -2,7 +2,7 @@
 ghost use Rattle.std.specs.Prelude.{◌≡◌, ℕ, Bool, length};
 ghost use Rattle.std.specs.BTreeMap.{IsEmpty};
 ghost use Rattle.arrow2_datatypes.specs.declared.field.Field.{Field};
-ghost use Rattle.arrow2_datatypes.specs.Kept.{AnswersAs, MayBeAsked, accepted};
+ghost use Rattle.arrow2_datatypes.specs.Filter.{ReturnsOnFields, IsCallableWithFields, accepted};
 
 use crate::{Field, Metadata};
 use std::alloc::Global;
@@ -57,9 +57,9 @@ impl Schema {
     /// field and the field. The metadata stays. Does not allocate. Requires that the predicate may be called with each
     /// index and the field there.
     pub fn filter<F: Fn(usize, &Field) -> bool>(self, predicate: F) -> Schema
-        requires { MayBeAsked (F.pre predicate) self.fields.items }
+        requires { IsCallableWithFields (F.pre predicate) self.fields.items }
         ensures fields { (accepts : ℕ → Field → Bool) →
-            AnswersAs (length self.fields.items) (F.post predicate) accepts →
+            ReturnsOnFields (length self.fields.items) (F.post predicate) accepts →
             result.fields.items ≡ accepted accepts self.fields.items }
         ensures metadata { result.metadata ≡ self.metadata }
     {

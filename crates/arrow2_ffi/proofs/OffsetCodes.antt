@@ -4,12 +4,12 @@ use Rattle.std.specs.Prelude.{ℤ}
 use Rattle.arrow2_offset.specs.Offsets.{AreOffsets}
 use Rattle.arrow2_ffi.specs.declared.codes.TheConstants.{ARROW2_OK, ARROW2_LENGTH}
 use Rattle.arrow2_ffi.specs.OffsetWrites.{WritesFromOffsets, WritesFromOffsetsOr}
-use Rattle.arrow2_ffi.specs.Rules.{TellsBroken}
+use Rattle.arrow2_ffi.specs.Rules.{ReportsBrokenRule}
 
 -- ---- with one code for offsets
 
 -- the numbers are not offsets
-pub not_offsets : {misfits done unchanged : Type 0} (xs : List ℤ) (code : ℕ) → TellsBroken code xs → unchanged → WritesFromOffsets xs code misfits done unchanged
+pub not_offsets : {misfits done unchanged : Type 0} (xs : List ℤ) (code : ℕ) → ReportsBrokenRule code xs → unchanged → WritesFromOffsets xs code misfits done unchanged
 not_offsets xs code told same = record {
   broken = λ _. told.rule;
   length = λ are. absurd (told.broken are);
@@ -41,7 +41,7 @@ written xs are fit is = record {
 -- ---- with a second one
 
 -- the numbers are not offsets
-pub not_offsets_or : {misfits beyond done unchanged : Type 0} (second : ℕ) (xs : List ℤ) (code : ℕ) → TellsBroken code xs → unchanged → WritesFromOffsetsOr second xs code misfits beyond done unchanged
+pub not_offsets_or : {misfits beyond done unchanged : Type 0} (second : ℕ) (xs : List ℤ) (code : ℕ) → ReportsBrokenRule code xs → unchanged → WritesFromOffsetsOr second xs code misfits beyond done unchanged
 not_offsets_or second xs code told same = record {
   broken = λ _. told.rule;
   length = λ are. absurd (told.broken are);

@@ -10,7 +10,7 @@ use Rattle.arrow2_array.proofs.Tables.{and_behind, and_beside, and_known, or_beh
 use Rattle.arrow2_ffi.specs.declared.ranges.Bits.{Bits}
 use Rattle.arrow2_ffi.specs.Kleene.{IsBeside}
 use Rattle.arrow2_ffi.specs.Ranges.{first_bits}
-use Rattle.arrow2_ffi.specs.Validities.{SaysOf, valid_items, validity_of}
+use Rattle.arrow2_ffi.specs.Validities.{CoversItems, valid_items, validity_of}
 
 pub and_beside_table : IsBeside 207 53060
 and_beside_table = record { second = and_beside; first = and_behind; both = and_known }
@@ -18,7 +18,7 @@ and_beside_table = record { second = and_beside; first = and_behind; both = and_
 pub or_beside_table : IsBeside 252 64648
 or_beside_table = record { second = or_beside; first = or_behind; both = or_known }
 
-pub length-valid_items : (validity : Option Bits) (n : ℕ) → SaysOf (validity_of validity) n → length (valid_items (validity_of validity) n) ≡ n
+pub length-valid_items : (validity : Option Bits) (n : ℕ) → CoversItems (validity_of validity) n → length (valid_items (validity_of validity) n) ≡ n
 length-valid_items None n says = length-replicate n true
 length-valid_items (Some b) n says = length-part_bits b.0.now b.1 n says
 

@@ -5,7 +5,7 @@ use Rattle.arrow2_model.specs.Parts.{part}
 use Rattle.arrow2_model.specs.Tables.{answer, each}
 use Rattle.arrow2_walks.specs.Zipped.{zipped}
 use Rattle.arrow2_array.specs.Kleene.{by_items}
-use Rattle.arrow2_ffi.specs.Validities.{SaysOf, valid_items, validity_of}
+use Rattle.arrow2_ffi.specs.Validities.{CoversItems, valid_items, validity_of}
 use Rattle.arrow2_ffi.specs.Ranges.{IsInside, Holds, AreInside, inputs_of}
 use Rattle.arrow2_ffi.specs.Writes.{Stores, Writes}
 use Rattle.arrow2_ffi.specs.declared.kleene.Nullable.{Nullable}
@@ -64,7 +64,7 @@ first_valid n x = valid_items x.validity n
 
 -- n values of an input are inside their bytes, and its validity, if there is one, has a bit for each
 abbrev pub IsWholeInside : ℕ → OptionalInput → Type 0
-IsWholeInside n x = IsInside x.values.0 x.values.1 n × SaysOf x.validity n
+IsWholeInside n x = IsInside x.values.0 x.values.1 n × CoversItems x.validity n
 
 -- table `beside` of three inputs has the outputs of table `known` of four where one of the two items is not null. The
 -- inputs of `beside` are value and validity of the item that may be null, then the value of the other item

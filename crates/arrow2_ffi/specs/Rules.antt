@@ -13,7 +13,7 @@ rule_code Negative = ARROW2_SPEC_NEGATIVE
 rule_code Falling = ARROW2_SPEC_FALLING
 
 -- `code` is the one for a list that is not offsets
-pub record TellsBroken (code : ℕ) (xs : List ℤ) : Type 0 where
+pub record ReportsBrokenRule (code : ℕ) (xs : List ℤ) : Type 0 where
   -- the list is not offsets
   pub broken : ¬ AreOffsets xs
   -- `code` is that of the rule which the list breaks first

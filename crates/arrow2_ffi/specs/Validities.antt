@@ -6,8 +6,8 @@ use Rattle.arrow2_ffi.specs.declared.ranges.Bits.{Bits}
 use Rattle.arrow2_ffi.specs.Ranges.{IsInside}
 
 -- the validity that a call was given: none if `all_valid` is true, else its bytes and its first bit
-abbrev pub given : Bool → List ℕ → ℕ → Option (List ℕ × ℕ)
-given all_valid bytes offset = if all_valid then None else Some (bytes, offset)
+abbrev pub given_validity : Bool → List ℕ → ℕ → Option (List ℕ × ℕ)
+given_validity all_valid bytes offset = if all_valid then None else Some (bytes, offset)
 
 -- the validity that a call was given as bits, or none: its bytes and its first bit
 abbrev pub validity_of : Option Bits → Option (List ℕ × ℕ)
@@ -20,6 +20,6 @@ valid_items None n = replicate n true
 valid_items (Some v) n = part (bits v.0) v.1 n
 
 -- a validity, if there is one, has a bit for each of n items
-abbrev pub SaysOf : Option (List ℕ × ℕ) → ℕ → Type 0
-SaysOf None n = Unit {0}
-SaysOf (Some v) n = IsInside v.0 v.1 n
+abbrev pub CoversItems : Option (List ℕ × ℕ) → ℕ → Type 0
+CoversItems None n = Unit {0}
+CoversItems (Some v) n = IsInside v.0 v.1 n

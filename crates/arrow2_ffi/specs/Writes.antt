@@ -47,7 +47,7 @@ abbrev pub WritesTableInPlace : (code bound t n : ℕ) → List (List ℕ × ℕ
 WritesTableInPlace code bound t n inputs old new = Writes code ((t < bound) × AreInside n inputs) (Holds old n) (Stores new n (each t (take n (bits old) ∷ inputs_of n inputs))) (new ≡ old)
 
 -- of the items that were left before, the call wrote the first `count`, at most `room`; the others are left now
-pub record GoesOn {X : Type 0} (written left_before left_now : List X) (count room before at end : ℕ) : Type 0 where
+pub record Resumes {X : Type 0} (written left_before left_now : List X) (count room before at end : ℕ) : Type 0 where
   -- the written items, and then the items left now, are the items left before
   pub items : written ++ left_now ≡ left_before
   -- no more items were written than there was room for

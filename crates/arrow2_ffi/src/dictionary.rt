@@ -1,7 +1,7 @@
 //! The indices of a dictionary: which of them count, by a validity, and whether these are below its length.
 ghost use Rattle.std.specs.Prelude.{map, pos};
 ghost use Rattle.arrow2_ffi.specs.Indices.{ChecksIndices};
-ghost use Rattle.arrow2_ffi.specs.Validities.{given};
+ghost use Rattle.arrow2_ffi.specs.Validities.{given_validity};
 
 use crate::indexed::check;
 use crate::validities::given_validity;
@@ -22,7 +22,7 @@ pub extern "C" fn arrow2_indices_i8_check(
     slot: &mut usize,
 ) -> u32
     ensures { ChecksIndices result indices.now
-        (given all_valid validity.now validity_offset) items slot.old slot.new }
+        (given_validity all_valid validity.now validity_offset) items slot.old slot.new }
 {
     let validity = given_validity(all_valid, validity, validity_offset);
     check(indices, validity, items, slot)
@@ -39,7 +39,7 @@ pub extern "C" fn arrow2_indices_u8_check(
     slot: &mut usize,
 ) -> u32
     ensures { ChecksIndices result (map pos indices.now)
-        (given all_valid validity.now validity_offset) items slot.old slot.new }
+        (given_validity all_valid validity.now validity_offset) items slot.old slot.new }
 {
     let validity = given_validity(all_valid, validity, validity_offset);
     check(indices, validity, items, slot)
@@ -56,7 +56,7 @@ pub extern "C" fn arrow2_indices_i16_check(
     slot: &mut usize,
 ) -> u32
     ensures { ChecksIndices result indices.now
-        (given all_valid validity.now validity_offset) items slot.old slot.new }
+        (given_validity all_valid validity.now validity_offset) items slot.old slot.new }
 {
     let validity = given_validity(all_valid, validity, validity_offset);
     check(indices, validity, items, slot)
@@ -73,7 +73,7 @@ pub extern "C" fn arrow2_indices_u16_check(
     slot: &mut usize,
 ) -> u32
     ensures { ChecksIndices result (map pos indices.now)
-        (given all_valid validity.now validity_offset) items slot.old slot.new }
+        (given_validity all_valid validity.now validity_offset) items slot.old slot.new }
 {
     let validity = given_validity(all_valid, validity, validity_offset);
     check(indices, validity, items, slot)
@@ -90,7 +90,7 @@ pub extern "C" fn arrow2_indices_i32_check(
     slot: &mut usize,
 ) -> u32
     ensures { ChecksIndices result indices.now
-        (given all_valid validity.now validity_offset) items slot.old slot.new }
+        (given_validity all_valid validity.now validity_offset) items slot.old slot.new }
 {
     let validity = given_validity(all_valid, validity, validity_offset);
     check(indices, validity, items, slot)
@@ -107,7 +107,7 @@ pub extern "C" fn arrow2_indices_u32_check(
     slot: &mut usize,
 ) -> u32
     ensures { ChecksIndices result (map pos indices.now)
-        (given all_valid validity.now validity_offset) items slot.old slot.new }
+        (given_validity all_valid validity.now validity_offset) items slot.old slot.new }
 {
     let validity = given_validity(all_valid, validity, validity_offset);
     check(indices, validity, items, slot)
@@ -124,7 +124,7 @@ pub extern "C" fn arrow2_indices_i64_check(
     slot: &mut usize,
 ) -> u32
     ensures { ChecksIndices result indices.now
-        (given all_valid validity.now validity_offset) items slot.old slot.new }
+        (given_validity all_valid validity.now validity_offset) items slot.old slot.new }
 {
     let validity = given_validity(all_valid, validity, validity_offset);
     check(indices, validity, items, slot)
@@ -141,7 +141,7 @@ pub extern "C" fn arrow2_indices_u64_check(
     slot: &mut usize,
 ) -> u32
     ensures { ChecksIndices result (map pos indices.now)
-        (given all_valid validity.now validity_offset) items slot.old slot.new }
+        (given_validity all_valid validity.now validity_offset) items slot.old slot.new }
 {
     let validity = given_validity(all_valid, validity, validity_offset);
     check(indices, validity, items, slot)

@@ -1,7 +1,7 @@
 //! The bodies of the exports on indices, for any width.
 ghost use Rattle.std.specs.Prelude.{◌≡◌, ◌<◌, ◌↔◌, ℕ, pos, map, length, slice_index_or, IsTrue, MatchOption};
 ghost use Rattle.arrow2_ffi.specs.Indices.{ChecksIndices, IsFirstOutside, IsIndex, IsIndexOrNull};
-ghost use Rattle.arrow2_ffi.specs.Validities.{SaysOf, valid_items, validity_of};
+ghost use Rattle.arrow2_ffi.specs.Validities.{CoversItems, valid_items, validity_of};
 
 use crate::codes::{ARROW2_INDEX, ARROW2_OK, ARROW2_RANGE};
 use crate::ranges::Bits;
@@ -32,7 +32,7 @@ pub(crate) fn check<I: Index>(
 
 /// Returns the first item that is neither null nor an index below `items`.
 fn first_outside<I: Index>(indices: &[I], validity: Option<Bits<'_>>, items: usize) -> Option<usize>
-    requires says { SaysOf (validity_of validity) (length indices.now) }
+    requires says { CoversItems (validity_of validity) (length indices.now) }
     ensures { MatchOption result
         ((k : ℕ) → k < length indices.now → IsIndexOrNull (map I.value indices.now)
         (valid_items (validity_of validity.entry) (length indices.now)) items k)

@@ -6,7 +6,7 @@ ghost use Rattle.arrow2_model.specs.Tables.{each};
 ghost use Rattle.arrow2_array.specs.Kleene.{kleene_and, kleene_or, Spells};
 ghost use Rattle.arrow2_ffi.specs.Kleene.{IsBeside, IsWholeInside, WritesOptionalKleene, first_valid, first_values, optional_of};
 ghost use Rattle.arrow2_ffi.specs.Ranges.{Holds};
-ghost use Rattle.arrow2_ffi.specs.Validities.{given};
+ghost use Rattle.arrow2_ffi.specs.Validities.{given_validity};
 ghost use Rattle.arrow2_ffi.specs.Writes.{Stores};
 
 use crate::codes::{ARROW2_LENGTH, ARROW2_OK, ARROW2_RANGE};
@@ -51,11 +51,11 @@ pub extern "C" fn arrow2_and_kleene_optional(
     ensures { WritesOptionalKleene result kleene_and 8 53060 length
         (record {
           values = (left.now, left_offset);
-          validity = given left_all_valid left_validity.now left_validity_offset;
+          validity = given_validity left_all_valid left_validity.now left_validity_offset;
         })
         (record {
           values = (right.now, right_offset);
-          validity = given right_all_valid right_validity.now right_validity_offset;
+          validity = given_validity right_all_valid right_validity.now right_validity_offset;
         })
         values.old values.new validity.old validity.new }
 {
@@ -93,11 +93,11 @@ pub extern "C" fn arrow2_or_kleene_optional(
     ensures { WritesOptionalKleene result kleene_or 14 64648 length
         (record {
           values = (left.now, left_offset);
-          validity = given left_all_valid left_validity.now left_validity_offset;
+          validity = given_validity left_all_valid left_validity.now left_validity_offset;
         })
         (record {
           values = (right.now, right_offset);
-          validity = given right_all_valid right_validity.now right_validity_offset;
+          validity = given_validity right_all_valid right_validity.now right_validity_offset;
         })
         values.old values.new validity.old validity.new }
 {

@@ -4,7 +4,7 @@ ghost use Rattle.arrow2_offset.specs.Offsets.{AreOffsets, AreOffsetsUpTo, last_o
 ghost use Rattle.arrow2_model.specs.Parts.{part};
 ghost use Rattle.arrow2_offset.specs.Refused.{first_broken};
 ghost use Rattle.arrow2_ffi.specs.OffsetWrites.{WritesFromOffsets, WritesFromOffsetsOr};
-ghost use Rattle.arrow2_ffi.specs.Rules.{rule_code, TellsBroken};
+ghost use Rattle.arrow2_ffi.specs.Rules.{rule_code, ReportsBrokenRule};
 
 use crate::codes::{
     ARROW2_LENGTH, ARROW2_OK, ARROW2_OVERFLOW, ARROW2_RANGE, ARROW2_SPEC_EMPTY,
@@ -17,7 +17,7 @@ use arrow2_offset::{BrokenRule, broken_rule};
 /// Returns the code of the first rule that the numbers break, or `None` where they are offsets.
 pub(crate) fn refusal<O: Offset>(offsets: &[O]) -> Option<u32>
     ensures none { IfNone result (AreOffsetsUpTo O.MAX (map O.value offsets.now)) }
-    ensures some { IfSome result (λ code. TellsBroken code (map O.value offsets.now)) }
+    ensures some { IfSome result (λ code. ReportsBrokenRule code (map O.value offsets.now)) }
 {
     match broken_rule(offsets) {
         None => None,

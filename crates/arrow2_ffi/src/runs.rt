@@ -5,7 +5,7 @@ ghost use Rattle.arrow2_model.specs.Bits.{bits};
 ghost use Rattle.arrow2_model.specs.Parts.{part};
 ghost use Rattle.arrow2_walks.specs.Runs.{runs_from};
 ghost use Rattle.arrow2_ffi.specs.Ranges.{IsInside, HasBits, first_bits};
-ghost use Rattle.arrow2_ffi.specs.Writes.{GoesOn, Writes};
+ghost use Rattle.arrow2_ffi.specs.Writes.{Resumes, Writes};
 
 use crate::codes::{ARROW2_LENGTH, ARROW2_OK, ARROW2_RANGE};
 use crate::ranges::{Bits, are_inside};
@@ -30,7 +30,7 @@ pub extern "C" fn arrow2_runs(
 ) -> u32
     ensures { Writes result (IsInside bytes.now offset length × (at.old ≤ length))
         (length' starts.old ≡ length' lengths.old)
-        (GoesOn (zip (take count.new starts.new) (take count.new lengths.new))
+        (Resumes (zip (take count.new starts.new) (take count.new lengths.new))
         (runs_from (part (bits bytes.now) offset length) at.old)
         (runs_from (part (bits bytes.now) offset length) at.new)
         count.new (length' starts.old) at.old at.new length)
@@ -63,7 +63,7 @@ fn write_runs(
     requires inside { HasBits bits end }
     requires within { at ≤ end }
     requires alike { length' starts.old ≡ length' lengths.old }
-    ensures { GoesOn (zip (take result.0 starts.new) (take result.0 lengths.new))
+    ensures { Resumes (zip (take result.0 starts.new) (take result.0 lengths.new))
         (runs_from (first_bits bits.entry end) at)
         (runs_from (first_bits bits.entry end) result.1)
         result.0 (length' starts.old) at result.1 end }

@@ -1,13 +1,13 @@
 //! Validities that a call may be given or not: without one no item is null.
 ghost use Rattle.std.specs.Prelude.{◌≡◌, ◌<◌, ◌↔◌, false, slice_index_or, IsTrue};
-ghost use Rattle.arrow2_ffi.specs.Validities.{SaysOf, given, valid_items, validity_of};
+ghost use Rattle.arrow2_ffi.specs.Validities.{CoversItems, given_validity, valid_items, validity_of};
 
 use crate::ranges::{Bits, are_inside};
 use arrow2_bits::get_bit_from;
 
 /// Returns a validity that a call was given, `None` where all items are valid.
 pub(crate) fn given_validity(all_valid: bool, bytes: &[u8], offset: usize) -> Option<Bits<'_>>
-    ensures { validity_of result ≡ given all_valid bytes.now offset }
+    ensures { validity_of result ≡ given_validity all_valid bytes.now offset }
 {
     if all_valid {
         return None;
@@ -17,7 +17,7 @@ pub(crate) fn given_validity(all_valid: bool, bytes: &[u8], offset: usize) -> Op
 
 /// Returns whether the validity has a bit for each of `length` items.
 pub(crate) fn says_of(validity: Option<Bits<'_>>, length: usize) -> bool
-    ensures { IsTrue result ↔ SaysOf (validity_of validity.entry) length }
+    ensures { IsTrue result ↔ CoversItems (validity_of validity.entry) length }
 {
     match validity {
         None => true,
@@ -27,7 +27,7 @@ pub(crate) fn says_of(validity: Option<Bits<'_>>, length: usize) -> bool
 
 /// Returns whether item `index` of `length` is not null.
 pub(crate) fn is_valid(validity: Option<Bits<'_>>, index: usize, length: usize) -> bool
-    requires says { SaysOf (validity_of validity) length }
+    requires says { CoversItems (validity_of validity) length }
     requires below { index < length }
     ensures { result ≡ slice_index_or (valid_items (validity_of validity.entry) length) index
         false }

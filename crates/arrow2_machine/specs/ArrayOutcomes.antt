@@ -8,17 +8,17 @@ use Rattle.arrow2_script.specs.declared.array_command.ArrayCommand.{ArrayCommand
 use Rattle.arrow2_script.specs.declared.array_command.ArrayCommand.TheVariants as command
 use Rattle.arrow2_machine.specs.declared.refusal.Refusal.{Refusal}
 use Rattle.arrow2_machine.specs.declared.refusal.Refusal.TheVariants.{Length}
-use Rattle.arrow2_machine.specs.Held.{Held, Array, ◌>>=◌, at, frozen, array, replaced, told}
+use Rattle.arrow2_machine.specs.Held.{Held, Array, ◌>>=◌, at, frozen, array, with_slot, with_reply}
 use Rattle.arrow2_machine.specs.BitmapOutcomes.{part_inside}
 use Rattle.arrow2_machine.specs.KernelOutcomes.{two_lists}
 use Rattle.arrow2_machine.specs.Replies.{array_items_text}
 
 -- the boolean array of one slot's items, null where another's are false: without another none is null
-abbrev pub arrayed : Held → Option Held → Result Held Refusal
-arrayed values None = do
+abbrev pub after_new_array : Held → Option Held → Result Held Refusal
+after_new_array values None = do
   items ← frozen values
   Ok (Array (map (λ item. Some item) items))
-arrayed values (Some validity) = do
+after_new_array values (Some validity) = do
   lists ← two_lists values validity
   Ok (Array (zipped lists.0 lists.1))
 
@@ -29,14 +29,14 @@ array_text held = do
   Ok (array_items_text items)
 
 -- the number of null items of a slot's boolean array
-abbrev pub counted_nulls : Held → Result ℕ Refusal
-counted_nulls held = do
+abbrev pub null_count : Held → Result ℕ Refusal
+null_count held = do
   items ← array held
   Ok (nulls items)
 
 -- a slot after its boolean array is cut to its n items from item i on
-abbrev pub sliced_array : Held → ℕ → ℕ → Result Held Refusal
-sliced_array held i n = do
+abbrev pub after_array_slice : Held → ℕ → ℕ → Result Held Refusal
+after_array_slice held i n = do
   items ← array held
   inside ← part_inside items i n
   Ok (Array inside)
@@ -49,18 +49,18 @@ two_arrays a b = do
   if length x == length y then Ok (x, y) else Err Length
 
 -- the array that an operator of Kleene's logic makes of them, item by item
-abbrev pub combined : (Option Bool → Option Bool → Option Bool) → Held → Held → Result Held Refusal
-combined operator a b = do
+abbrev pub after_kleene : (Option Bool → Option Bool → Option Bool) → Held → Held → Result Held Refusal
+after_kleene operator a b = do
   arrays ← two_arrays a b
   Ok (Array (by_items operator arrays.0 arrays.1))
 
 -- the slots after a command on boolean arrays, and its reply
 unfoldable pub array_outcome : List Held → ArrayCommand → Result (List Held × List ℕ) Refusal
-array_outcome slots (command.New d v m) = replaced slots d (arrayed (at slots v) (option_map (at slots) m))
-array_outcome slots (command.List s) = told slots (array_text (at slots s))
+array_outcome slots (command.New d v m) = with_slot slots d (after_new_array (at slots v) (option_map (at slots) m))
+array_outcome slots (command.List s) = with_reply slots (array_text (at slots s))
 array_outcome slots (command.Nulls s) = do
-  number ← counted_nulls (at slots s)
+  number ← null_count (at slots s)
   Ok (slots, decimal number)
-array_outcome slots (command.Slice s i n) = replaced slots s (sliced_array (at slots s) i n)
-array_outcome slots (command.And d a b) = replaced slots d (combined kleene_and (at slots a) (at slots b))
-array_outcome slots (command.Or d a b) = replaced slots d (combined kleene_or (at slots a) (at slots b))
+array_outcome slots (command.Slice s i n) = with_slot slots s (after_array_slice (at slots s) i n)
+array_outcome slots (command.And d a b) = with_slot slots d (after_kleene kleene_and (at slots a) (at slots b))
+array_outcome slots (command.Or d a b) = with_slot slots d (after_kleene kleene_or (at slots a) (at slots b))

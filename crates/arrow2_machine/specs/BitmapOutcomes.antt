@@ -7,36 +7,36 @@ use Rattle.arrow2_script.specs.declared.bitmap_command.BitmapCommand.{BitmapComm
 use Rattle.arrow2_script.specs.declared.bitmap_command.BitmapCommand.TheVariants.{New, Push, Pop, Get, Freeze, Thaw, Slice, Count, Bits}
 use Rattle.arrow2_machine.specs.declared.refusal.Refusal.{Refusal}
 use Rattle.arrow2_machine.specs.declared.refusal.Refusal.TheVariants.{Range, Overflow}
-use Rattle.arrow2_machine.specs.Held.{Held, Frozen, Growing, ◌>>=◌, at, growing, frozen, listed, replaced, told}
-use Rattle.arrow2_machine.specs.Replies.{item_said}
+use Rattle.arrow2_machine.specs.Held.{Held, Frozen, Growing, ◌>>=◌, at, growing, frozen, listed, with_slot, with_reply}
+use Rattle.arrow2_machine.specs.Replies.{item_reply}
 
 -- a slot after a bit is pushed to it: a length of 2 ^ 64 is too great
-abbrev pub pushed : Held → Bool → Result Held Refusal
-pushed held bit = do
+abbrev pub after_push : Held → Bool → Result Held Refusal
+after_push held bit = do
   items ← growing held
   if length items == 2 ^ 64 - 1 then Err Overflow else Ok (Growing (items ++ bit ∷ []))
 
 -- the items of a slot after its last item is taken off, and the reply with that item
-abbrev pub popped : Held → Result (Held × List ℕ) Refusal
-popped held = do
+abbrev pub after_pop : Held → Result (Held × List ℕ) Refusal
+after_pop held = do
   items ← growing held
-  Ok (Growing (take (length items - 1) items), item_said (slice_get items (length items - 1)))
+  Ok (Growing (take (length items - 1) items), item_reply (slice_get items (length items - 1)))
 
 -- the reply with item i of a slot
-abbrev pub got : Held → ℕ → Result (List ℕ) Refusal
-got held i = do
+abbrev pub item_at : Held → ℕ → Result (List ℕ) Refusal
+item_at held i = do
   items ← listed held
-  Ok (item_said (slice_get items i))
+  Ok (item_reply (slice_get items i))
 
 -- a slot after it is frozen
-abbrev pub froze : Held → Result Held Refusal
-froze held = do
+abbrev pub after_freeze : Held → Result Held Refusal
+after_freeze held = do
   items ← growing held
   Ok (Frozen items)
 
 -- a slot after it is thawed
-abbrev pub thawed : Held → Result Held Refusal
-thawed held = do
+abbrev pub after_thaw : Held → Result Held Refusal
+after_thaw held = do
   items ← frozen held
   Ok (Growing items)
 
@@ -45,15 +45,15 @@ abbrev pub part_inside : {X : Type 0} → List X → ℕ → ℕ → Result (Lis
 part_inside items i n = if nat_lt (length items) (i + n) then Err Range else Ok (part items i n)
 
 -- a slot after it is cut to its n items from item i on
-abbrev pub sliced : Held → ℕ → ℕ → Result Held Refusal
-sliced held i n = do
+abbrev pub after_slice : Held → ℕ → ℕ → Result Held Refusal
+after_slice held i n = do
   items ← frozen held
   inside ← part_inside items i n
   Ok (Frozen inside)
 
 -- the number of false items of a slot
-abbrev pub counted : Held → Result ℕ Refusal
-counted held = do
+abbrev pub false_count : Held → Result ℕ Refusal
+false_count held = do
   items ← listed held
   Ok (falses items)
 
@@ -65,16 +65,16 @@ item_text held = do
 
 -- the slots after a command on bitmaps, and its reply
 unfoldable pub bitmap_outcome : List Held → BitmapCommand → Result (List Held × List ℕ) Refusal
-bitmap_outcome slots (New s bits) = replaced slots s (Ok (Growing bits))
-bitmap_outcome slots (Push s bit) = replaced slots s (pushed (at slots s) bit)
+bitmap_outcome slots (New s bits) = with_slot slots s (Ok (Growing bits))
+bitmap_outcome slots (Push s bit) = with_slot slots s (after_push (at slots s) bit)
 bitmap_outcome slots (Pop s) = do
-  after ← popped (at slots s)
+  after ← after_pop (at slots s)
   Ok (slice_set slots s after.0, after.1)
-bitmap_outcome slots (Get s i) = told slots (got (at slots s) i)
-bitmap_outcome slots (Freeze s) = replaced slots s (froze (at slots s))
-bitmap_outcome slots (Thaw s) = replaced slots s (thawed (at slots s))
-bitmap_outcome slots (Slice s i n) = replaced slots s (sliced (at slots s) i n)
+bitmap_outcome slots (Get s i) = with_reply slots (item_at (at slots s) i)
+bitmap_outcome slots (Freeze s) = with_slot slots s (after_freeze (at slots s))
+bitmap_outcome slots (Thaw s) = with_slot slots s (after_thaw (at slots s))
+bitmap_outcome slots (Slice s i n) = with_slot slots s (after_slice (at slots s) i n)
 bitmap_outcome slots (Count s) = do
-  number ← counted (at slots s)
+  number ← false_count (at slots s)
   Ok (slots, decimal number)
-bitmap_outcome slots (Bits s) = told slots (item_text (at slots s))
+bitmap_outcome slots (Bits s) = with_reply slots (item_text (at slots s))

@@ -4,23 +4,23 @@ use Rattle.arrow2_script.specs.declared.growth_command.GrowthCommand.{GrowthComm
 use Rattle.arrow2_script.specs.declared.growth_command.GrowthCommand.TheVariants.{Fill, Append}
 use Rattle.arrow2_machine.specs.declared.refusal.Refusal.{Refusal}
 use Rattle.arrow2_machine.specs.declared.refusal.Refusal.TheVariants.{Overflow}
-use Rattle.arrow2_machine.specs.Held.{Held, Growing, ◌>>=◌, at, growing, frozen, replaced}
+use Rattle.arrow2_machine.specs.Held.{Held, Growing, ◌>>=◌, at, growing, frozen, with_slot}
 
 -- the items of a slot after a bit is appended to it n times: a length of 2 ^ 64 or more is too great
-abbrev pub filled : Held → ℕ → Bool → Result Held Refusal
-filled held n bit = do
+abbrev pub after_fill : Held → ℕ → Bool → Result Held Refusal
+after_fill held n bit = do
   items ← growing held
   if nat_lt (2 ^ 64 - 1) (length items + n) then Err Overflow else Ok (Growing (items ++ replicate n bit))
 
 -- a slot after other items are appended to it
-abbrev pub appended : Held → List Bool → Result Held Refusal
-appended held others = do
+abbrev pub after_append : Held → List Bool → Result Held Refusal
+after_append held others = do
   items ← growing held
   if nat_lt (2 ^ 64 - 1) (length items + length others) then Err Overflow else Ok (Growing (items ++ others))
 
 -- the slots after a command by which a bitmap grows, and its reply
 unfoldable pub growth_outcome : List Held → GrowthCommand → Result (List Held × List ℕ) Refusal
-growth_outcome slots (Fill s n bit) = replaced slots s (filled (at slots s) n bit)
+growth_outcome slots (Fill s n bit) = with_slot slots s (after_fill (at slots s) n bit)
 growth_outcome slots (Append d s) = do
   others ← frozen (at slots s)
-  replaced slots d (appended (at slots d) others)
+  with_slot slots d (after_append (at slots d) others)

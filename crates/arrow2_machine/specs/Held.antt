@@ -29,15 +29,15 @@ abbrev pub ◌>>=◌ : {A B : Type 0} → Result A Refusal → (A → Result B R
 abbrev pub at : List Held → ℕ → Held
 at slots s = slice_index_or slots s Nothing
 
--- the slots after slot s becomes the value that was made for it, and the reply `ok`
-abbrev pub replaced : List Held → ℕ → Result Held Refusal → Result (List Held × List ℕ) Refusal
-replaced slots s made = do
-  held ← made
+-- the slots after slot s becomes the value of a result, and the reply `ok`
+abbrev pub with_slot : List Held → ℕ → Result Held Refusal → Result (List Held × List ℕ) Refusal
+with_slot slots s result = do
+  held ← result
   Ok (slice_set slots s held, codes "ok")
 
 -- the same slots, and a reply about them
-abbrev pub told : List Held → Result (List ℕ) Refusal → Result (List Held × List ℕ) Refusal
-told slots text = do
+abbrev pub with_reply : List Held → Result (List ℕ) Refusal → Result (List Held × List ℕ) Refusal
+with_reply slots text = do
   said ← text
   Ok (slots, said)
 
@@ -68,10 +68,10 @@ frozen_offsets (FrozenOffsets o) = Ok o
 frozen_offsets _ = Err Kind
 
 -- offsets, frozen or not
-abbrev pub spelled_offsets : Held → Result Offsets Refusal
-spelled_offsets (FrozenOffsets o) = Ok o
-spelled_offsets (GrowingOffsets o) = Ok o
-spelled_offsets _ = Err Kind
+abbrev pub any_offsets : Held → Result Offsets Refusal
+any_offsets (FrozenOffsets o) = Ok o
+any_offsets (GrowingOffsets o) = Ok o
+any_offsets _ = Err Kind
 
 -- the list of offsets
 abbrev pub offset_list : Offsets → List ℕ

@@ -7,7 +7,7 @@ use Rattle.arrow2_script.specs.declared.kernel_command.Kernel.{Kernel}
 use Rattle.arrow2_script.specs.declared.kernel_command.Kernel.TheVariants as kernel
 use Rattle.arrow2_machine.specs.declared.refusal.Refusal.{Refusal}
 use Rattle.arrow2_machine.specs.declared.refusal.Refusal.TheVariants.{Length}
-use Rattle.arrow2_machine.specs.Held.{Held, Frozen, Growing, ◌>>=◌, at, growing, frozen, replaced}
+use Rattle.arrow2_machine.specs.Held.{Held, Frozen, Growing, ◌>>=◌, at, growing, frozen, with_slot}
 
 -- two frozen lists of one length
 abbrev pub two_lists : Held → Held → Result (List Bool × List Bool) Refusal
@@ -34,50 +34,50 @@ four_lists a b c e = do
   if length x == length y && length x == length z && length x == length v then Ok (x, y, z, v) else Err Length
 
 -- the outputs of a table for the items of one slot, and for those of two
-abbrev pub one_answered : ℕ → Held → Result (List Bool) Refusal
-one_answered t a = do
+abbrev pub table_of_one : ℕ → Held → Result (List Bool) Refusal
+table_of_one t a = do
   items ← frozen a
   Ok (each t (items ∷ []))
 
-abbrev pub two_answered : ℕ → Held → Held → Result (List Bool) Refusal
-two_answered t a b = do
+abbrev pub table_of_two : ℕ → Held → Held → Result (List Bool) Refusal
+table_of_two t a b = do
   lists ← two_lists a b
   Ok (each t (lists.0 ∷ lists.1 ∷ []))
 
 -- the list that an operator or a table makes: the operators are tables too, as `and` is the one whose only set bit is
 -- that of two true inputs
-unfoldable pub made : List Held → Kernel → Result (List Bool) Refusal
-made slots (kernel.And a b) = two_answered 8 (at slots a) (at slots b)
-made slots (kernel.Or a b) = two_answered 14 (at slots a) (at slots b)
-made slots (kernel.Xor a b) = two_answered 6 (at slots a) (at slots b)
-made slots (kernel.Not a) = one_answered 1 (at slots a)
-made slots (kernel.Unary t a) = one_answered t (at slots a)
-made slots (kernel.Binary t a b) = two_answered t (at slots a) (at slots b)
-made slots (kernel.Ternary t a b c) = do
+unfoldable pub kernel_items : List Held → Kernel → Result (List Bool) Refusal
+kernel_items slots (kernel.And a b) = table_of_two 8 (at slots a) (at slots b)
+kernel_items slots (kernel.Or a b) = table_of_two 14 (at slots a) (at slots b)
+kernel_items slots (kernel.Xor a b) = table_of_two 6 (at slots a) (at slots b)
+kernel_items slots (kernel.Not a) = table_of_one 1 (at slots a)
+kernel_items slots (kernel.Unary t a) = table_of_one t (at slots a)
+kernel_items slots (kernel.Binary t a b) = table_of_two t (at slots a) (at slots b)
+kernel_items slots (kernel.Ternary t a b c) = do
   lists ← three_lists (at slots a) (at slots b) (at slots c)
   Ok (each t (lists.0 ∷ lists.1 ∷ lists.2 ∷ []))
-made slots (kernel.Quaternary t a b c e) = do
+kernel_items slots (kernel.Quaternary t a b c e) = do
   lists ← four_lists (at slots a) (at slots b) (at slots c) (at slots e)
   Ok (each t (lists.0 ∷ lists.1 ∷ lists.2 ∷ lists.3 ∷ []))
 
 -- the items of a slot after they become the outputs of a table for them
-abbrev pub assigned : Held → ℕ → Result Held Refusal
-assigned held t = do
+abbrev pub after_assign_unary : Held → ℕ → Result Held Refusal
+after_assign_unary held t = do
   items ← growing held
   Ok (Growing (each t (items ∷ [])))
 
 -- and for them and other items
-abbrev pub assigned_beside : Held → ℕ → List Bool → Result Held Refusal
-assigned_beside held t others = do
+abbrev pub after_assign_binary : Held → ℕ → List Bool → Result Held Refusal
+after_assign_binary held t others = do
   items ← growing held
   if length items == length others then Ok (Growing (each t (items ∷ others ∷ []))) else Err Length
 
 -- the slots after a command that combines bitmaps, and its reply
 unfoldable pub kernel_outcome : List Held → KernelCommand → Result (List Held × List ℕ) Refusal
 kernel_outcome slots (Make d kernel) = do
-  items ← made slots kernel
-  replaced slots d (Ok (Frozen items))
-kernel_outcome slots (AssignUnary s t width) = replaced slots s (assigned (at slots s) t)
+  items ← kernel_items slots kernel
+  with_slot slots d (Ok (Frozen items))
+kernel_outcome slots (AssignUnary s t width) = with_slot slots s (after_assign_unary (at slots s) t)
 kernel_outcome slots (AssignBinary s t width a) = do
   others ← frozen (at slots a)
-  replaced slots s (assigned_beside (at slots s) t others)
+  with_slot slots s (after_assign_binary (at slots s) t others)

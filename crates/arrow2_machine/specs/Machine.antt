@@ -27,9 +27,9 @@ outcome slots (Growth command) = growth_outcome slots command
 outcome slots (Array command) = array_outcome slots command
 
 -- a line that is refused changes nothing
-abbrev pub settled : List Held → Result (List Held × List ℕ) Refusal → List Held × List ℕ
-settled slots (Ok after) = after
-settled slots (Err e) = (slots, refused_text e)
+abbrev pub slots_and_reply : List Held → Result (List Held × List ℕ) Refusal → List Held × List ℕ
+slots_and_reply slots (Ok after) = after
+slots_and_reply slots (Err e) = (slots, refused_text e)
 
 -- the result of a line: one that is no command is refused
 abbrev pub outcome_of : List Held → Option Command → Result (List Held × List ℕ) Refusal
@@ -38,7 +38,7 @@ outcome_of slots (Some command) = outcome slots command
 
 -- one step of the machine: the slots after a line, and its reply
 unfoldable pub step : List Held → List ℕ → List Held × List ℕ
-step slots line = settled slots (outcome_of slots (command_in line))
+step slots line = slots_and_reply slots (outcome_of slots (command_in line))
 
 -- the replies to lines, each followed by byte 10
 unfoldable pub replies : List Held → List (List ℕ) → List ℕ

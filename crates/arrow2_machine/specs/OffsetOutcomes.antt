@@ -8,7 +8,7 @@ use Rattle.arrow2_script.specs.declared.offset_command.OffsetCommand.{OffsetComm
 use Rattle.arrow2_script.specs.declared.offset_command.OffsetCommand.TheVariants as command
 use Rattle.arrow2_machine.specs.declared.refusal.Refusal.{Refusal}
 use Rattle.arrow2_machine.specs.declared.refusal.Refusal.TheVariants.{Range, Length, Overflow}
-use Rattle.arrow2_machine.specs.Held.{Offsets, Held, FrozenOffsets, GrowingOffsets, ◌>>=◌, at, frozen, growing_offsets, frozen_offsets, spelled_offsets, offset_list, replaced, told}
+use Rattle.arrow2_machine.specs.Held.{Offsets, Held, FrozenOffsets, GrowingOffsets, ◌>>=◌, at, frozen, growing_offsets, frozen_offsets, any_offsets, offset_list, with_slot, with_reply}
 use Rattle.arrow2_machine.specs.Replies.{words_text, slot_word}
 
 -- the greatest offset
@@ -16,34 +16,34 @@ abbrev pub greatest : ℕ
 greatest = 2147483647
 
 -- a slot with one offset alone
-abbrev pub begun : ℕ → Result Held Refusal
-begun first = if nat_lt greatest first then Err Range else Ok (GrowingOffsets (record { start = first; lengths = [] }))
+abbrev pub after_new_offsets : ℕ → Result Held Refusal
+after_new_offsets first = if nat_lt greatest first then Err Range else Ok (GrowingOffsets (record { start = first; lengths = [] }))
 
 -- a slot after lengths are appended to it
-abbrev pub grown : Held → List ℕ → Result Held Refusal
-grown held lengths = do
+abbrev pub after_lengths : Held → List ℕ → Result Held Refusal
+after_lengths held lengths = do
   o ← growing_offsets held
   if nat_lt greatest (last_offset o.start o.lengths + sum lengths) then Err Overflow else Ok (GrowingOffsets (record o { lengths = o.lengths ++ lengths }))
 
 -- the reply with the offset which is taken off: the last one, unless it is the only one
-abbrev pub taken_off : Offsets → List ℕ
-taken_off o = if length o.lengths == 0 then codes "none" else decimal (last_offset o.start o.lengths)
+abbrev pub last_offset_reply : Offsets → List ℕ
+last_offset_reply o = if length o.lengths == 0 then codes "none" else decimal (last_offset o.start o.lengths)
 
 -- the offsets of a slot after its last offset is taken off, and the reply with that offset
-abbrev pub shortened : Held → Result (Held × List ℕ) Refusal
-shortened held = do
+abbrev pub after_offset_pop : Held → Result (Held × List ℕ) Refusal
+after_offset_pop held = do
   o ← growing_offsets held
-  Ok (GrowingOffsets (record o { lengths = take (length o.lengths - 1) o.lengths }), taken_off o)
+  Ok (GrowingOffsets (record o { lengths = take (length o.lengths - 1) o.lengths }), last_offset_reply o)
 
 -- the text of a slot's offsets
 abbrev pub offset_text : Held → Result (List ℕ) Refusal
 offset_text held = do
-  o ← spelled_offsets held
+  o ← any_offsets held
   Ok (words_text (map decimal (offset_list o)))
 
 -- a slot after its offsets are frozen
-abbrev pub froze_offsets : Held → Result Held Refusal
-froze_offsets held = do
+abbrev pub after_offsets_freeze : Held → Result Held Refusal
+after_offsets_freeze held = do
   o ← growing_offsets held
   Ok (FrozenOffsets o)
 
@@ -52,8 +52,8 @@ abbrev pub offsets_inside : Offsets → ℕ → ℕ → Result Offsets Refusal
 offsets_inside o i n = if n == 0 || nat_lt (length o.lengths + 1) (i + n) then Err Range else Ok (record { start = offset_at o.start o.lengths i; lengths = part o.lengths i (n - 1) })
 
 -- a slot after it is cut to its n offsets from offset i on
-abbrev pub sliced_offsets : Held → ℕ → ℕ → Result Held Refusal
-sliced_offsets held i n = do
+abbrev pub after_offsets_slice : Held → ℕ → ℕ → Result Held Refusal
+after_offsets_slice held i n = do
   o ← frozen_offsets held
   inside ← offsets_inside o i n
   Ok (FrozenOffsets inside)
@@ -67,13 +67,13 @@ zip_text offsets validity = do
 
 -- the slots after a command on offsets, and its reply
 unfoldable pub offset_outcome : List Held → OffsetCommand → Result (List Held × List ℕ) Refusal
-offset_outcome slots (command.New s first) = replaced slots s (begun first)
-offset_outcome slots (command.Push s n) = replaced slots s (grown (at slots s) (n ∷ []))
+offset_outcome slots (command.New s first) = with_slot slots s (after_new_offsets first)
+offset_outcome slots (command.Push s n) = with_slot slots s (after_lengths (at slots s) (n ∷ []))
 offset_outcome slots (command.Pop s) = do
-  after ← shortened (at slots s)
+  after ← after_offset_pop (at slots s)
   Ok (slice_set slots s after.0, after.1)
-offset_outcome slots (command.Extend s lengths) = replaced slots s (grown (at slots s) lengths)
-offset_outcome slots (command.Offsets s) = told slots (offset_text (at slots s))
-offset_outcome slots (command.Freeze s) = replaced slots s (froze_offsets (at slots s))
-offset_outcome slots (command.Slice s i n) = replaced slots s (sliced_offsets (at slots s) i n)
-offset_outcome slots (command.Zip s v) = told slots (zip_text (at slots s) (at slots v))
+offset_outcome slots (command.Extend s lengths) = with_slot slots s (after_lengths (at slots s) lengths)
+offset_outcome slots (command.Offsets s) = with_reply slots (offset_text (at slots s))
+offset_outcome slots (command.Freeze s) = with_slot slots s (after_offsets_freeze (at slots s))
+offset_outcome slots (command.Slice s i n) = with_slot slots s (after_offsets_slice (at slots s) i n)
+offset_outcome slots (command.Zip s v) = with_reply slots (zip_text (at slots s) (at slots v))

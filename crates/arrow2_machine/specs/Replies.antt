@@ -15,9 +15,9 @@ refused_text Length = codes "error length"
 refused_text Overflow = codes "error overflow"
 
 -- the reply with an item, or that there is none
-abbrev pub item_said : Option Bool → List ℕ
-item_said None = codes "none"
-item_said (Some item) = bit_byte item ∷ []
+abbrev pub item_reply : Option Bool → List ℕ
+item_reply None = codes "none"
+item_reply (Some item) = bit_byte item ∷ []
 
 -- the reply that lists words: joined by one space, `-` where there is none
 unfoldable pub words_text : List (List ℕ) → List ℕ
@@ -38,9 +38,9 @@ abbrev pub run_word : ℕ × ℕ → List ℕ
 run_word run = decimal run.0 ++ 58 ∷ decimal run.1
 
 -- the reply with an offset, or that there is none
-abbrev pub offset_said : Option ℤ → List ℕ
-offset_said None = codes "none"
-offset_said (Some offset) = decimal (unsigned_abs offset)
+abbrev pub offset_reply : Option ℤ → List ℕ
+offset_reply None = codes "none"
+offset_reply (Some offset) = decimal (unsigned_abs offset)
 
 -- the byte of an item of a boolean array: `n` where it is null
 abbrev pub array_byte : Option Bool → ℕ

@@ -11,16 +11,16 @@ use Rattle.arrow2_script.specs.declared.storage_command.StorageCommand.{StorageC
 use Rattle.arrow2_script.specs.declared.storage_command.StorageCommand.TheVariants.{Raw, Set, Words, Runs}
 use Rattle.arrow2_machine.specs.declared.refusal.Refusal.{Refusal}
 use Rattle.arrow2_machine.specs.declared.refusal.Refusal.TheVariants.{Range}
-use Rattle.arrow2_machine.specs.Held.{Held, Frozen, Growing, ◌>>=◌, at, growing, frozen, replaced, told}
+use Rattle.arrow2_machine.specs.Held.{Held, Frozen, Growing, ◌>>=◌, at, growing, frozen, with_slot, with_reply}
 use Rattle.arrow2_machine.specs.Replies.{run_word, words_text}
 
 -- a slot with the n bits of some bytes from bit o on: they are inside, and o + n is below 2 ^ 64
-abbrev pub stored : List ℕ → ℕ → ℕ → Result Held Refusal
-stored bytes o n = if nat_lt (8 * length bytes) (o + n) || nat_lt (2 ^ 64 - 1) (o + n) then Err Range else Ok (Frozen (part (bits bytes) o n))
+abbrev pub after_raw : List ℕ → ℕ → ℕ → Result Held Refusal
+after_raw bytes o n = if nat_lt (8 * length bytes) (o + n) || nat_lt (2 ^ 64 - 1) (o + n) then Err Range else Ok (Frozen (part (bits bytes) o n))
 
 -- a slot after its item i becomes a bit
-abbrev pub item_set : Held → ℕ → Bool → Result Held Refusal
-item_set held i bit = do
+abbrev pub after_set : Held → ℕ → Bool → Result Held Refusal
+after_set held i bit = do
   items ← growing held
   if nat_lt i (length items) then Ok (Growing (slice_set items i bit)) else Err Range
 
@@ -38,7 +38,7 @@ run_text held = do
 
 -- the slots after a command on stored bits, and its reply
 unfoldable pub storage_outcome : List Held → StorageCommand → Result (List Held × List ℕ) Refusal
-storage_outcome slots (Raw s bytes o n) = replaced slots s (stored bytes o n)
-storage_outcome slots (Set s i bit) = replaced slots s (item_set (at slots s) i bit)
-storage_outcome slots (Words s width) = told slots (word_text (at slots s) width)
-storage_outcome slots (Runs s) = told slots (run_text (at slots s))
+storage_outcome slots (Raw s bytes o n) = with_slot slots s (after_raw bytes o n)
+storage_outcome slots (Set s i bit) = with_slot slots s (after_set (at slots s) i bit)
+storage_outcome slots (Words s width) = with_reply slots (word_text (at slots s) width)
+storage_outcome slots (Runs s) = with_reply slots (run_text (at slots s))

@@ -7,26 +7,26 @@ use Rattle.arrow2_script.specs.declared.value_command.ValueCommand.{ValueCommand
 use Rattle.arrow2_script.specs.declared.value_command.ValueCommand.TheVariants.{Copy, Compare}
 use Rattle.arrow2_machine.specs.declared.refusal.Refusal.{Refusal}
 use Rattle.arrow2_machine.specs.declared.refusal.Refusal.TheVariants.{Kind}
-use Rattle.arrow2_machine.specs.Held.{Held, Frozen, Growing, FrozenOffsets, GrowingOffsets, Array, ◌>>=◌, at, offset_list, replaced}
+use Rattle.arrow2_machine.specs.Held.{Held, Frozen, Growing, FrozenOffsets, GrowingOffsets, Array, ◌>>=◌, at, offset_list, with_slot}
 
 -- the copy of a slot: the same, where it is frozen or a boolean array
-abbrev pub copied : Held → Result Held Refusal
-copied (Frozen items) = Ok (Frozen items)
-copied (FrozenOffsets o) = Ok (FrozenOffsets o)
-copied (Array items) = Ok (Array items)
-copied _ = Err Kind
+abbrev pub after_copy : Held → Result Held Refusal
+after_copy (Frozen items) = Ok (Frozen items)
+after_copy (FrozenOffsets o) = Ok (FrozenOffsets o)
+after_copy (Array items) = Ok (Array items)
+after_copy _ = Err Kind
 
 -- whether two slots that hold values of one type hold the same list: boolean arrays are not compared
-abbrev pub compared : Held → Held → Result Bool Refusal
-compared (Frozen a) (Frozen b) = Ok (pointwise beq a b)
-compared (Growing a) (Growing b) = Ok (pointwise beq a b)
-compared (FrozenOffsets a) (FrozenOffsets b) = Ok (pointwise nat_eq (offset_list a) (offset_list b))
-compared (GrowingOffsets a) (GrowingOffsets b) = Ok (pointwise nat_eq (offset_list a) (offset_list b))
-compared _ _ = Err Kind
+abbrev pub are_equal : Held → Held → Result Bool Refusal
+are_equal (Frozen a) (Frozen b) = Ok (pointwise beq a b)
+are_equal (Growing a) (Growing b) = Ok (pointwise beq a b)
+are_equal (FrozenOffsets a) (FrozenOffsets b) = Ok (pointwise nat_eq (offset_list a) (offset_list b))
+are_equal (GrowingOffsets a) (GrowingOffsets b) = Ok (pointwise nat_eq (offset_list a) (offset_list b))
+are_equal _ _ = Err Kind
 
 -- the slots after a command on values, and its reply
 unfoldable pub value_outcome : List Held → ValueCommand → Result (List Held × List ℕ) Refusal
-value_outcome slots (Copy s d) = replaced slots d (copied (at slots s))
+value_outcome slots (Copy s d) = with_slot slots d (after_copy (at slots s))
 value_outcome slots (Compare a b) = do
-  same ← compared (at slots a) (at slots b)
+  same ← are_equal (at slots a) (at slots b)
   Ok (slots, bit_byte same ∷ [])

@@ -2,7 +2,7 @@
 ghost use Rattle.std.specs.Prelude.{◌≡◌, length as count_of, option_map, OnErr, IfOk};
 ghost use Rattle.arrow2_machine.specs.BitmapOutcomes.{part_inside};
 ghost use Rattle.arrow2_machine.specs.Held.{at, array as array_in, Array};
-ghost use Rattle.arrow2_machine.specs.ArrayOutcomes.{arrayed, array_text, counted_nulls, sliced_array, two_arrays, combined, array_outcome};
+ghost use Rattle.arrow2_machine.specs.ArrayOutcomes.{after_new_array, array_text, null_count, after_array_slice, two_arrays, after_kleene, array_outcome};
 ghost use Rattle.arrow2.specs.Items.{boolean_items};
 ghost use Rattle.arrow2.specs.Kleene.{kleene_and, kleene_or};
 ghost use Rattle.arrow2_machine.specs.Outcomes.{Gives, Carries, Writes, Answers};
@@ -58,7 +58,7 @@ fn array_of(
     validity: Option<SlotIndex>,
 ) -> Result<BooleanArray, CommandError>
     ensures { Gives (λ array. Array (boolean_items array)) result
-        (arrayed (at slots.now values) (option_map (at slots.now) validity)) }
+        (after_new_array (at slots.now values) (option_map (at slots.now) validity)) }
 {
     let array = match validity {
         Some(validity) => {
@@ -77,7 +77,7 @@ fn array_of(
 /// `Kind`, `Length` or `OutOfMemory`.
 fn both(slots: &[Slot; 16], left: SlotIndex, right: SlotIndex) -> Result<BooleanArray, CommandError>
     ensures { Gives (λ array. Array (boolean_items array)) result
-        (combined kleene_and (at slots.now left) (at slots.now right)) }
+        (after_kleene kleene_and (at slots.now left) (at slots.now right)) }
 {
     let (left, right) = two_boolean_arrays(slots, left, right)?;
     Ok(left.and_kleene(right)?)
@@ -94,7 +94,7 @@ fn either(
     right: SlotIndex,
 ) -> Result<BooleanArray, CommandError>
     ensures { Gives (λ array. Array (boolean_items array)) result
-        (combined kleene_or (at slots.now left) (at slots.now right)) }
+        (after_kleene kleene_or (at slots.now left) (at slots.now right)) }
 {
     let (left, right) = two_boolean_arrays(slots, left, right)?;
     Ok(left.or_kleene(right)?)
@@ -165,7 +165,7 @@ impl Slot {
     ///
     /// `Kind` alone.
     fn count_nulls(&self) -> Result<usize, Refusal>
-        ensures { result ≡ counted_nulls self.now }
+        ensures { result ≡ null_count self.now }
     {
         Ok(self.array()?.null_count())
     }
@@ -176,7 +176,7 @@ impl Slot {
     ///
     /// `Kind` or `Range`. They change nothing.
     fn slice_array(&mut self, offset: u64, length: u64) -> Result<(), Refusal>
-        ensures gives { Answers (λ _. self.new) result (sliced_array self.old offset length) }
+        ensures gives { Answers (λ _. self.new) result (after_array_slice self.old offset length) }
         ensures err { OnErr result (self.new ≡ self.old) }
     {
         match &mut self.contents {

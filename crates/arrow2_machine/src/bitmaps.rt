@@ -2,8 +2,8 @@
 ghost use Rattle.std.specs.Prelude.{◌≡◌, slice_get, OnErr};
 ghost use Rattle.arrow2.specs.Storage.{items_of};
 ghost use Rattle.arrow2_machine.specs.Held.{Growing};
-ghost use Rattle.arrow2_machine.specs.Replies.{item_said};
-ghost use Rattle.arrow2_machine.specs.BitmapOutcomes.{pushed, popped, got, froze, thawed, sliced, counted, item_text, part_inside, bitmap_outcome};
+ghost use Rattle.arrow2_machine.specs.Replies.{item_reply};
+ghost use Rattle.arrow2_machine.specs.BitmapOutcomes.{after_push, after_pop, item_at, after_freeze, after_thaw, after_slice, false_count, item_text, part_inside, bitmap_outcome};
 ghost use Rattle.arrow2_machine.specs.Outcomes.{Gives, Carries, Writes, Answers, Turns};
 
 use crate::refusal::CommandError::Refused;
@@ -67,7 +67,7 @@ impl Slot {
     ///
     /// `Kind`, `Overflow` or `OutOfMemory`. They change nothing.
     fn push(&mut self, bit: bool) -> Result<(), CommandError>
-        ensures gives { Gives (λ _. self.new) result (pushed self.old bit) }
+        ensures gives { Gives (λ _. self.new) result (after_push self.old bit) }
         ensures err { OnErr result (self.new ≡ self.old) }
     {
         match &mut self.contents {
@@ -86,7 +86,7 @@ impl Slot {
     /// `Kind` alone, which changes nothing.
     #[tactic(auto, using(crate::proofs::SlotLemmas::popping))]
     fn pop(&mut self) -> Result<Option<bool>, Refusal>
-        ensures gives { Answers (λ item. (self.new, item_said item)) result (popped self.old) }
+        ensures gives { Answers (λ item. (self.new, item_reply item)) result (after_pop self.old) }
         ensures err { OnErr result (self.new ≡ self.old) }
     {
         match &mut self.contents {
@@ -101,7 +101,7 @@ impl Slot {
     ///
     /// `Kind` alone.
     fn get(&self, index: u64) -> Result<Option<bool>, Refusal>
-        ensures { Answers item_said result (got self.now index) }
+        ensures { Answers item_reply result (item_at self.now index) }
     {
         match &self.contents {
             Contents::Frozen(bitmap) => Ok(bitmap.get(index as usize)),
@@ -116,7 +116,7 @@ impl Slot {
     ///
     /// `Kind`, which changes nothing, or `OutOfMemory`, which leaves nothing in the slot.
     fn freeze(&mut self) -> Result<(), CommandError>
-        ensures { Turns result self.old self.new (froze self.old) }
+        ensures { Turns result self.old self.new (after_freeze self.old) }
     {
         match mem::replace(&mut self.contents, Contents::Nothing) {
             Contents::Growing(bitmap) => {
@@ -136,7 +136,7 @@ impl Slot {
     ///
     /// `Kind`, which changes nothing, or `OutOfMemory`, which leaves nothing in the slot.
     fn thaw(&mut self) -> Result<(), CommandError>
-        ensures { Turns result self.old self.new (thawed self.old) }
+        ensures { Turns result self.old self.new (after_thaw self.old) }
     {
         match mem::replace(&mut self.contents, Contents::Nothing) {
             Contents::Frozen(bitmap) => {
@@ -156,7 +156,7 @@ impl Slot {
     ///
     /// `Kind` or `Range`. They change nothing.
     fn slice(&mut self, offset: u64, length: u64) -> Result<(), Refusal>
-        ensures gives { Answers (λ _. self.new) result (sliced self.old offset length) }
+        ensures gives { Answers (λ _. self.new) result (after_slice self.old offset length) }
         ensures err { OnErr result (self.new ≡ self.old) }
     {
         match &mut self.contents {
@@ -171,7 +171,7 @@ impl Slot {
     ///
     /// `Kind` alone.
     fn count(&self) -> Result<usize, Refusal>
-        ensures { result ≡ counted self.now }
+        ensures { result ≡ false_count self.now }
     {
         match &self.contents {
             Contents::Frozen(bitmap) => Ok(bitmap.unset_bits()),

@@ -1,7 +1,7 @@
 //! The commands by which bitmaps grow by many items: the effect of each on its slots, and its reply.
 ghost use Rattle.std.specs.Prelude.{◌≡◌, OnErr};
 ghost use Rattle.arrow2.specs.Storage.{items_of};
-ghost use Rattle.arrow2_machine.specs.GrowthOutcomes.{filled, appended, growth_outcome};
+ghost use Rattle.arrow2_machine.specs.GrowthOutcomes.{after_fill, after_append, growth_outcome};
 ghost use Rattle.arrow2_machine.specs.Outcomes.{Gives, Carries};
 
 use crate::refusal::CommandError::Refused;
@@ -38,7 +38,7 @@ impl Slot {
     ///
     /// `Kind`, `Overflow` or `OutOfMemory`. They change nothing.
     fn fill(&mut self, additional: u64, bit: bool) -> Result<(), CommandError>
-        ensures gives { Gives (λ _. self.new) result (filled self.old additional bit) }
+        ensures gives { Gives (λ _. self.new) result (after_fill self.old additional bit) }
         ensures err { OnErr result (self.new ≡ self.old) }
     {
         match &mut self.contents {
@@ -56,7 +56,7 @@ impl Slot {
     ///
     /// `Kind`, `Overflow` or `OutOfMemory`. They change nothing.
     fn append(&mut self, other: &Bitmap) -> Result<(), CommandError>
-        ensures gives { Gives (λ _. self.new) result (appended self.old (items_of other.now)) }
+        ensures gives { Gives (λ _. self.new) result (after_append self.old (items_of other.now)) }
         ensures err { OnErr result (self.new ≡ self.old) }
     {
         match &mut self.contents {

@@ -3,7 +3,7 @@ ghost use Rattle.std.specs.Prelude.{◌≡◌, [], ◌∷◌, length, OnErr, IfO
 ghost use Rattle.arrow2.specs.Storage.{items_of};
 ghost use Rattle.arrow2.specs.Tables.{each};
 ghost use Rattle.arrow2_machine.specs.Held.{at, frozen as frozen_in};
-ghost use Rattle.arrow2_machine.specs.KernelOutcomes.{two_lists, three_lists, four_lists, made as made_of, assigned, assigned_beside, kernel_outcome};
+ghost use Rattle.arrow2_machine.specs.KernelOutcomes.{two_lists, three_lists, four_lists, kernel_items, after_assign_unary, after_assign_binary, kernel_outcome};
 ghost use Rattle.arrow2_machine.specs.Outcomes.{Gives, Carries, Answers};
 
 use crate::refusal::{CommandError, Refusal};
@@ -49,9 +49,9 @@ pub(crate) fn run(
 /// # Errors
 ///
 /// `Kind`, `Length` or `OutOfMemory`.
-#[tactic(auto, unfolding(crate::specs::KernelOutcomes::made))]
+#[tactic(auto, unfolding(crate::specs::KernelOutcomes::kernel_items))]
 fn made(slots: &[Slot; 16], kernel: Kernel) -> Result<Bitmap, CommandError>
-    ensures { Gives (λ bitmap. items_of bitmap) result (made_of slots.now kernel) }
+    ensures { Gives (λ bitmap. items_of bitmap) result (kernel_items slots.now kernel) }
 {
     match kernel {
         Kernel::And(left, right) => {
@@ -196,7 +196,7 @@ impl Slot {
     ///
     /// `Kind` alone, which changes nothing.
     fn assign(&mut self, table: Below<4>, width: Width) -> Result<(), Refusal>
-        ensures gives { Answers (λ _. self.new) result (assigned self.old table) }
+        ensures gives { Answers (λ _. self.new) result (after_assign_unary self.old table) }
         ensures err { OnErr result (self.new ≡ self.old) }
     {
         match &mut self.contents {
@@ -221,7 +221,7 @@ impl Slot {
         other: &Bitmap,
     ) -> Result<(), Refusal>
         ensures gives { Answers (λ _. self.new) result
-            (assigned_beside self.old table (items_of other.now)) }
+            (after_assign_binary self.old table (items_of other.now)) }
         ensures err { OnErr result (self.new ≡ self.old) }
     {
         match &mut self.contents {

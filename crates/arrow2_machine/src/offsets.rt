@@ -3,8 +3,8 @@ ghost use Rattle.std.specs.Prelude.{◌≡◌, ◌<◌, ◌≤◌, ◌+◌, [], 
 ghost use Rattle.arrow2.specs.Buffers.{buffer_items};
 ghost use Rattle.arrow2.specs.Offsets.{last_of_growing, GrownBy, SameOffsets};
 ghost use Rattle.arrow2_machine.specs.Slots.{offsets_in};
-ghost use Rattle.arrow2_machine.specs.Replies.{offset_said};
-ghost use Rattle.arrow2_machine.specs.OffsetOutcomes.{begun, grown, shortened, offset_text, froze_offsets, offsets_inside, sliced_offsets, zip_text, offset_outcome};
+ghost use Rattle.arrow2_machine.specs.Replies.{offset_reply};
+ghost use Rattle.arrow2_machine.specs.OffsetOutcomes.{after_new_offsets, after_lengths, after_offset_pop, offset_text, after_offsets_freeze, offsets_inside, after_offsets_slice, zip_text, offset_outcome};
 ghost use Rattle.arrow2_machine.specs.Outcomes.{Gives, Carries, Writes, Answers, Turns};
 
 use crate::refusal::CommandError::Refused;
@@ -57,7 +57,7 @@ impl Slot {
     ///
     /// `Range` where `first` is above 2147483647, else `OutOfMemory` alone.
     fn with_offset(alloc: Global, first: u64) -> Result<Slot, CommandError>
-        ensures { Gives (λ slot. slot) result (begun first) }
+        ensures { Gives (λ slot. slot) result (after_new_offsets first) }
     {
         let Ok(first) = i32::try_from(first) else {
             return Err(Refused(Refusal::Range));
@@ -73,7 +73,7 @@ impl Slot {
     ///
     /// `Kind`, `Overflow` or `OutOfMemory`. They change nothing.
     fn push_length(&mut self, length: u64) -> Result<(), CommandError>
-        ensures gives { Gives (λ _. self.new) result (grown self.old (length ∷ [])) }
+        ensures gives { Gives (λ _. self.new) result (after_lengths self.old (length ∷ [])) }
         ensures err { OnErr result (self.new ≡ self.old) }
     {
         match &mut self.contents {
@@ -91,7 +91,7 @@ impl Slot {
     ///
     /// `Kind`, `Overflow` or `OutOfMemory`. They change nothing.
     fn extend_lengths(&mut self, lengths: NumberText<'_>) -> Result<(), CommandError>
-        ensures gives { Gives (λ _. self.new) result (grown self.old lengths.entry) }
+        ensures gives { Gives (λ _. self.new) result (after_lengths self.old lengths.entry) }
         ensures err { OnErr result (self.new ≡ self.old) }
     {
         match &mut self.contents {
@@ -110,7 +110,7 @@ impl Slot {
     /// `Kind` alone, which changes nothing.
     fn pop_offset(&mut self) -> Result<Option<i32>, Refusal>
         ensures gives { Answers (λ offset.
-            (self.new, offset_said offset)) result (shortened self.old) }
+            (self.new, offset_reply offset)) result (after_offset_pop self.old) }
         ensures err { OnErr result (self.new ≡ self.old) }
     {
         match &mut self.contents {
@@ -141,7 +141,7 @@ impl Slot {
     ///
     /// `Kind`, which changes nothing, or `OutOfMemory`, which leaves nothing in the slot.
     fn freeze_offsets(&mut self) -> Result<(), CommandError>
-        ensures { Turns result self.old self.new (froze_offsets self.old) }
+        ensures { Turns result self.old self.new (after_offsets_freeze self.old) }
     {
         match mem::replace(&mut self.contents, Contents::Nothing) {
             Contents::GrowingOffsets(offsets) => {
@@ -161,7 +161,7 @@ impl Slot {
     ///
     /// `Kind`, or `Range` where `count` is 0 or they are not inside. They change nothing.
     fn slice_offsets(&mut self, first: u64, count: u64) -> Result<(), Refusal>
-        ensures gives { Answers (λ _. self.new) result (sliced_offsets self.old first count) }
+        ensures gives { Answers (λ _. self.new) result (after_offsets_slice self.old first count) }
         ensures err { OnErr result (self.new ≡ self.old) }
     {
         match &mut self.contents {

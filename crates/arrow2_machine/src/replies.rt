@@ -4,7 +4,7 @@ ghost use Rattle.std.specs.Fmt.{decimal};
 ghost use Rattle.arrow2.specs.Zipped.{slot, zipped};
 ghost use Rattle.arrow2.specs.Words.{words};
 ghost use Rattle.arrow2_script.specs.Words.{bit_byte as byte_of, bits_text};
-ghost use Rattle.arrow2_machine.specs.Replies.{array_byte as array_byte_of, array_items_text, item_said, listed_word, offset_said, run_word, slot_word, words_text};
+ghost use Rattle.arrow2_machine.specs.Replies.{array_byte as array_byte_of, array_items_text, item_reply, listed_word, offset_reply, run_word, slot_word, words_text};
 
 use arrow2::array::BooleanIter;
 use arrow2::bitmap::utils::{BitChunk, BitChunks, BitmapIter, SlicesIterator};
@@ -28,7 +28,7 @@ pub(crate) fn write_number(number: usize, reply: &mut Vec<u8>) -> Result<(), All
 
 /// Appends the reply with an item, or that there is none.
 pub(crate) fn write_item(item: Option<bool>, reply: &mut Vec<u8>) -> Result<(), AllocError>
-    ensures { OnOk result (reply.new.items ≡ reply.old.items ++ item_said item) }
+    ensures { OnOk result (reply.new.items ≡ reply.old.items ++ item_reply item) }
 {
     match item {
         Some(item) => reply.push(bit_byte(item))?,
@@ -61,7 +61,7 @@ fn write_magnitude(number: &i32, out: &mut Vec<u8>) -> Result<(), AllocError>
 
 /// Appends the reply with an offset, or that there is none.
 pub(crate) fn write_offset(offset: Option<i32>, reply: &mut Vec<u8>) -> Result<(), AllocError>
-    ensures { OnOk result (reply.new.items ≡ reply.old.items ++ offset_said offset) }
+    ensures { OnOk result (reply.new.items ≡ reply.old.items ++ offset_reply offset) }
 {
     match offset {
         Some(offset) => write_magnitude(&offset, reply)?,

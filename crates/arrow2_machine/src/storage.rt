@@ -1,6 +1,6 @@
 //! The commands on the stored bits of bitmaps: the effect of each on its slots, and its reply.
 ghost use Rattle.std.specs.Prelude.{◌≡◌, OnErr, IfOk};
-ghost use Rattle.arrow2_machine.specs.StorageOutcomes.{stored, item_set, word_text, run_text, storage_outcome};
+ghost use Rattle.arrow2_machine.specs.StorageOutcomes.{after_raw, after_set, word_text, run_text, storage_outcome};
 ghost use Rattle.arrow2_machine.specs.Outcomes.{Gives, Carries, Writes, Answers};
 
 use crate::refusal::CommandError::Refused;
@@ -48,7 +48,7 @@ impl Slot {
         offset: u64,
         length: u64,
     ) -> Result<Slot, CommandError>
-        ensures { Gives (λ slot. slot) result (stored bytes.entry offset length) }
+        ensures { Gives (λ slot. slot) result (after_raw bytes.entry offset length) }
     {
         let Some(end) = offset.checked_add(length) else {
             return Err(Refused(Refusal::Range));
@@ -66,7 +66,7 @@ impl Slot {
     ///
     /// `Kind` or `Range`. They change nothing.
     fn set(&mut self, index: u64, bit: bool) -> Result<(), Refusal>
-        ensures gives { Answers (λ _. self.new) result (item_set self.old index bit) }
+        ensures gives { Answers (λ _. self.new) result (after_set self.old index bit) }
         ensures err { OnErr result (self.new ≡ self.old) }
     {
         match &mut self.contents {

@@ -1,6 +1,6 @@
 //! The commands on values of any type: the effect of each on its slots, and its reply.
 ghost use Rattle.std.specs.Prelude.{◌≡◌};
-ghost use Rattle.arrow2_machine.specs.ValueOutcomes.{copied, compared, value_outcome};
+ghost use Rattle.arrow2_machine.specs.ValueOutcomes.{after_copy, are_equal, value_outcome};
 ghost use Rattle.arrow2_machine.specs.Outcomes.{Gives, Carries};
 
 use crate::refusal::CommandError::Refused;
@@ -38,7 +38,7 @@ impl Slot {
     ///
     /// `Kind` or `OutOfMemory`.
     fn copy(&self) -> Result<Slot, CommandError>
-        ensures { Gives (λ slot. slot) result (copied self.now) }
+        ensures { Gives (λ slot. slot) result (after_copy self.now) }
     {
         let contents = match &self.contents {
             Contents::Frozen(bitmap) => Contents::Frozen(bitmap.clone()?),
@@ -55,7 +55,7 @@ impl Slot {
     ///
     /// `Kind` alone, where they hold values of different types, boolean arrays or nothing.
     fn compare(&self, other: &Slot) -> Result<bool, Refusal>
-        ensures { result ≡ compared self.now other.now }
+        ensures { result ≡ are_equal self.now other.now }
     {
         match (&self.contents, &other.contents) {
             (Contents::Frozen(a), Contents::Frozen(b)) => Ok(a == b),

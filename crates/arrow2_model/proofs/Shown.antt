@@ -11,7 +11,7 @@ use Rattle.std.proofs.lemmas.List.FromFn.{length-range_with_len, get_or-range_wi
 use Rattle.std.proofs.lemmas.List.Folds.{list_any_at}
 use Rattle.std.proofs.lemmas.Str.{encode_ascii}
 use Rattle.arrow2_model.specs.Bits.{bit, bits}
-use Rattle.arrow2_model.specs.Shown.{is_shown, bit_character, shown_byte, shown_places, shown, items_byte, items_text}
+use Rattle.arrow2_model.specs.Shown.{is_shown, bit_character, shown_byte, shown_indices, shown, items_byte, items_text}
 use Rattle.arrow2_model.proofs.Bits.{get_or-bits, length-bits}
 
 -- ---- one bit
@@ -118,8 +118,8 @@ any_none test a zero fails = refl
 any_none test a (suc n) fails = rw (fails a (omega arith) (omega arith)) (any_none test (a + 1) n (λ p x y. fails p (omega arith) (omega arith)))
 
 -- the bytes that hold a shown bit, where they are the first j
-shown_places_are : (bytes : List ℕ) (offset len j : ℕ) → offset < 8 → j ≤ length bytes → j ≤ len → 8 * j < offset + len + 8 → len ≤ 8 * j - offset → shown_places bytes offset len ≡ range_with_len 0 j
-unfolding shown_places
+shown_places_are : (bytes : List ℕ) (offset len j : ℕ) → offset < 8 → j ≤ length bytes → j ≤ len → 8 * j < offset + len + 8 → len ≤ 8 * j - offset → shown_indices bytes offset len ≡ range_with_len 0 j
+unfolding shown_indices
 shown_places_are bytes offset len j o within each last all =
     filter_front (λ k. list_any (is_shown offset len) (range_with_len (8 * k) 8)) 0 (length bytes) j within
     (λ k x y. any_at (is_shown offset len) (8 * k) 8 (8 * k + (offset - 8 * k)) (omega arith) (omega arith) (shown_yes offset len (8 * k + (offset - 8 * k)) (omega arith) (omega arith)))
@@ -174,7 +174,7 @@ shown_is bytes offset len j o within each last all =
 
 -- no bits
 pub shown_none : (bytes : List ℕ) (offset : ℕ) → shown bytes offset 0 ≡ codes "[]"
-unfolding shown shown_places
+unfolding shown shown_indices
 shown_none bytes offset =
     let places = filter_front (λ k. list_any (is_shown offset 0) (range_with_len (8 * k) 8)) 0 (length bytes) 0 (omega arith)
     (λ k x y. absurd (omega arith))

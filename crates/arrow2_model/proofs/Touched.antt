@@ -3,7 +3,7 @@ use Rattle.std.proofs.Common.{◌≡◌, ℕ, zero, suc, ◌+◌, ◌-◌, ◌*�
 use Rattle.std.specs.Prelude.{nat_lt}
 use Rattle.std.proofs.lemmas.Bool.{cases_lt, cond_both, cond-true, eq-eqb, eqb-true, ltb-true, ltb-false}
 use Rattle.std.proofs.Math.Nat.{pow-suc, mul-le-mul_left, add-mul}
-use Rattle.arrow2_model.specs.Touched.{touched, slice_reads, cut_reads, halvings, lg, to_read, HoldsBit}
+use Rattle.arrow2_model.specs.Touched.{touched, slice_reads, cut_reads, halvings, lg, cut_budget, HoldsBit}
 
 -- ---- the bytes that hold bits
 
@@ -154,7 +154,7 @@ lg-doubles m n p h =
 -- ---- many cuts
 
 -- a and b items apart, a no more than b, have less to read than both together
-apart_le : (a b : ℕ) → a ≤ b → to_read a + to_read b + 2 * a ≤ to_read (a + b)
+apart_le : (a b : ℕ) → a ≤ b → cut_budget a + cut_budget b + 2 * a ≤ cut_budget (a + b)
 apart_le zero b h = let e : zero + b ≡ b = omega arith in rw e (omega arith)
 apart_le (suc k) b h =
     let a : ℕ = suc k in
@@ -176,20 +176,20 @@ cut_reads-in_byte o n i =
     let second = slice_reads-in_byte o n i (n - i) in
     omega (arith, first, second, cut_reads-is o n i, cut_reads-is (o % 8) n i)
 
--- a cut reads at most the difference of `to_read` before and after it, and less than four bytes
-pub cut_le : (o n i : ℕ) → i ≤ n → 8 * cut_reads o n i + to_read i + to_read (n - i) ≤ to_read n + 30
+-- a cut reads at most the difference of `cut_budget` before and after it, and less than four bytes
+pub cut_le : (o n i : ℕ) → i ≤ n → 8 * cut_reads o n i + cut_budget i + cut_budget (n - i) ≤ cut_budget n + 30
 unfolding cut_reads
 cut_le o n i h = elim (cases_lt (n - i) i) [
   | inl l ↦
       let front = front_le o n i (n - i) h (λ s. omega arith) (λ s. omega arith) in
       let back = back_le o n i (n - i + 1) h (λ s. omega arith) (λ s. omega arith) in
       let less = apart_le (n - i) i (omega arith) in let e : (n - i) + i ≡ n = omega arith in
-      let less' : to_read (n - i) + to_read i + 2 * (n - i) ≤ to_read n = subst (λ (k : ℕ). to_read (n - i) + to_read i + 2 * (n - i) ≤ to_read k) e less in omega arith
+      let less' : cut_budget (n - i) + cut_budget i + 2 * (n - i) ≤ cut_budget n = subst (λ (k : ℕ). cut_budget (n - i) + cut_budget i + 2 * (n - i) ≤ cut_budget k) e less in omega arith
   | inr g ↦
       let front = front_le o n i (i + 1) h (λ s. omega arith) (λ s. omega arith) in
       let back = back_le o n i i h (λ s. omega arith) (λ s. omega arith) in
       let less = apart_le i (n - i) g in let e : i + (n - i) ≡ n = omega arith in
-      let less' : to_read i + to_read (n - i) + 2 * i ≤ to_read n = subst (λ (k : ℕ). to_read i + to_read (n - i) + 2 * i ≤ to_read k) e less in omega arith
+      let less' : cut_budget i + cut_budget (n - i) + 2 * i ≤ cut_budget n = subst (λ (k : ℕ). cut_budget i + cut_budget (n - i) + 2 * i ≤ cut_budget k) e less in omega arith
 ]
 
 pub touched_bytes : (o n j : ℕ) → (o / 8 ≤ j) × (j < o / 8 + touched o n) ↔ HoldsBit o n j

@@ -16,12 +16,12 @@ unfoldable pub shown_byte : List ℕ → ℕ → ℕ → ℕ → List ℕ
 shown_byte bytes offset len j = codes "0b" ++ map (λ p. bit_character (is_shown offset len p) (slice_index_or (bits bytes) p false)) (reverse (range_with_len (8 * j) 8))
 
 -- the indices of the bytes that hold a shown bit, rising
-unfoldable pub shown_places : List ℕ → ℕ → ℕ → List ℕ
-shown_places bytes offset len = filter (λ j. list_any (is_shown offset len) (range_with_len (8 * j) 8)) (range_with_len 0 (length bytes))
+unfoldable pub shown_indices : List ℕ → ℕ → ℕ → List ℕ
+shown_indices bytes offset len = filter (λ j. list_any (is_shown offset len) (range_with_len (8 * j) 8)) (range_with_len 0 (length bytes))
 
 -- the text of the len bits from bit offset on: each byte that holds one of them, in brackets and joined by commas
 unfoldable pub shown : List ℕ → ℕ → ℕ → List ℕ
-shown bytes offset len = codes "[" ++ (join_by (shown_byte bytes offset len) (codes ", ") (shown_places bytes offset len) ++ codes "]")
+shown bytes offset len = codes "[" ++ (join_by (shown_byte bytes offset len) (codes ", ") (shown_indices bytes offset len) ++ codes "]")
 
 -- byte j of a list of items, shown whole from its first item on: `0b`, and the characters of eight items from the last
 -- to the first

@@ -32,9 +32,9 @@ unfoldable pub lg : ℕ → ℕ
 lg n = halvings n n
 
 -- the reads of n items that are cut again and again, at most, but for a few bytes a cut: in eighths of a byte
-abbrev pub to_read : ℕ → ℕ
-to_read n = 2 * (n * lg n)
+abbrev pub cut_budget : ℕ → ℕ
+cut_budget n = 2 * (n * lg n)
 
 -- the same of pieces of these lengths together
-abbrev pub all_to_read : List ℕ → ℕ
-all_to_read lens = sum_by to_read lens
+abbrev pub total_cut_budget : List ℕ → ℕ
+total_cut_budget lens = sum_by cut_budget lens

@@ -9,7 +9,7 @@ ghost use Rattle.arrow2_model.specs.Parts.{part, falses};
 ghost use Rattle.arrow2_model.specs.Storage.{BitmapStorage, items_of};
 ghost use Rattle.arrow2_model.specs.Words.{words, full_words, rest};
 ghost use Rattle.arrow2_model.specs.Kernels.{word, kernel};
-ghost use Rattle.arrow2_model.specs.Touched.{touched, slice_reads, cut_reads, lg, to_read, HoldsBit};
+ghost use Rattle.arrow2_model.specs.Touched.{touched, slice_reads, cut_reads, lg, cut_budget, HoldsBit};
 ghost use Rattle.arrow2_model.specs.Tables.{each, Acts};
 ghost use Rattle.arrow2_model.specs.Canonical.{canonical_bytes};
 ghost use Rattle.arrow2_model.specs.Shown.{shown, items_text};
@@ -188,9 +188,9 @@ pub fn the_logarithm_is_the_greatest_exponent()
     ensures none { lg 0 ≡ 0 }
 {}
 
-/// A cut reads, in eighths of a byte, at most the difference of `to_read` before and after it, and 30.
+/// A cut reads, in eighths of a byte, at most the difference of `cut_budget` before and after it, and 30.
 #[tactic(auto, using(crate::proofs::Touched::reads))]
 pub fn cuts_pay_for_themselves()
     ensures { (o n i : ℕ) → i ≤ n →
-        8 * cut_reads o n i + to_read i + to_read (n - i) ≤ to_read n + 30 }
+        8 * cut_reads o n i + cut_budget i + cut_budget (n - i) ≤ cut_budget n + 30 }
 {}

@@ -7,7 +7,7 @@ ghost use Rattle.either.specs.Either.{MatchEither};
 ghost use Rattle.arrow2_model.specs.Buffers.{buffer_items, whole_buffer};
 ghost use Rattle.arrow2_model.specs.Parts.{part};
 ghost use Rattle.arrow2_bitmap.specs.Packed.{IsPacked};
-ghost use Rattle.arrow2_walks.specs.Selected.{there};
+ghost use Rattle.arrow2_walks.specs.Selected.{non_null_values};
 ghost use Rattle.arrow2_model.specs.Storage.{items_of};
 ghost use Rattle.arrow2_types.specs.Refusals.{IsInvalidArgument};
 ghost use Rattle.arrow2_validity.specs.OptionalValidity.{valid_items};
@@ -287,7 +287,7 @@ impl<T: NativeType> PrimitiveArray<T> {
 
     /// Returns an iterator over the values that are not null, in their order.
     pub fn non_null_values_iter(&self) -> NonNullValuesIter<'_, T>
-        ensures { result ≡ there (primitive_items self.now) }
+        ensures { result ≡ non_null_values (primitive_items self.now) }
     {
         NonNullValuesIter::new(self)
     }

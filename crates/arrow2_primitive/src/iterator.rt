@@ -2,7 +2,7 @@
 ghost use Rattle.std.specs.Prelude.{◌≡◌, length, Some, IfSome};
 ghost use Rattle.std.specs.Iterator.{YieldsFirst, YieldsLast, item_count, UpTo};
 ghost use Rattle.std.specs.Iterator.SizeHint.{IsWithinCount};
-ghost use Rattle.arrow2_walks.specs.Selected.{there};
+ghost use Rattle.arrow2_walks.specs.Selected.{non_null_values};
 ghost use Rattle.arrow2_primitive.specs.Primitive.{primitive_items};
 
 use crate::array::PrimitiveArray;
@@ -114,17 +114,17 @@ pub struct NonNullValuesIter<'a, T: NativeType> {
 
 impl<'a, T: NativeType> Model for NonNullValuesIter<'a, T> {
     ghost use Rattle.std.specs.Prelude.{List};
-    ghost use Rattle.arrow2_walks.specs.Selected.{there};
+    ghost use Rattle.arrow2_walks.specs.Selected.{non_null_values};
 
     ghost Value = { List T };
 
-    ghost view = { λ i. there i.items };
+    ghost view = { λ i. non_null_values i.items };
 }
 
 impl<'a, T: NativeType> NonNullValuesIter<'a, T> {
     /// Returns an iterator over all of them.
     pub(crate) fn new(array: &'a PrimitiveArray<T>) -> NonNullValuesIter<'a, T>
-        ensures { result ≡ there (primitive_items array.entry.now) }
+        ensures { result ≡ non_null_values (primitive_items array.entry.now) }
     {
         NonNullValuesIter {
             items: PrimitiveIter::new(array),

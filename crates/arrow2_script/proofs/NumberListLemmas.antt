@@ -10,7 +10,7 @@ use Rattle.std.proofs.lemmas.Option.{cond_some, same_Some, none-some}
 use Rattle.std.proofs.lemmas.List.Elements.{All-cons, All-nil}
 use Rattle.std.proofs.lemmas.List.Splits.{join_with_byte-slice_split, length-slice_split}
 use Rattle.arrow2_script.specs.Lines.{parts_between}
-use Rattle.arrow2_script.specs.Words.{number_of, is_number, numbers_said, numbers_text, numbers_of}
+use Rattle.arrow2_script.specs.Words.{number_of, is_number, numbers_of_words, numbers_text, numbers_of}
 use Rattle.arrow2_script.proofs.LineLemmas.{parts_all, parts-joined, parts-last}
 use Rattle.arrow2_script.proofs.WordLemmas.{number_of-decimal, decimal-number_of, some_or_none, at_word, both, other_than, no_dash}
 
@@ -25,7 +25,7 @@ number-said word e = elim (some_or_none (number_of word)) [
 ]
 
 -- the first of such words spells the first of their numbers
-pub first_number : (words others : List (List ℕ)) (word : List ℕ) (n : ℕ) → words ≡ word ∷ others → list_all is_number words ≡ true → number_of word ≡ Some n → numbers_said words ≡ n ∷ numbers_said others
+pub first_number : (words others : List (List ℕ)) (word : List ℕ) (n : ℕ) → words ≡ word ∷ others → list_all is_number words ≡ true → number_of word ≡ Some n → numbers_of_words words ≡ n ∷ numbers_of_words others
 first_number words others word n e all says =
     let value = (number-said word (both (is_number word) (list_all is_number others) (ap (list_all is_number) (sym e) ∙ all)).0).0 in
     let same : digits_value 10 word ≡ n = same_Some (digits_value 10 word) n (sym value ∙ says) in
@@ -45,7 +45,7 @@ pub ruleset numbers = (first_number, some_number, other_numbers)
 
 -- ---- from numbers to their word
 
-said_again : (ns : List ℕ) → All (λ m. m < 2 ^ 64) ns → (list_all is_number (map decimal ns) ≡ true) × (numbers_said (map decimal ns) ≡ ns)
+said_again : (ns : List ℕ) → All (λ m. m < 2 ^ 64) ns → (list_all is_number (map decimal ns) ≡ true) × (numbers_of_words (map decimal ns) ≡ ns)
 said_again [] all = (refl, refl)
 said_again (n ∷ ns) all =
     let p = parts_all (λ m. m < 2 ^ 64) n ns all in
@@ -83,15 +83,15 @@ numbers_of-text (n ∷ ns) all =
 
 -- ---- and back
 
-words_again : (words : List (List ℕ)) → list_all is_number words ≡ true → All (λ m. m < 2 ^ 64) (numbers_said words) × (map decimal (numbers_said words) ≡ words)
+words_again : (words : List (List ℕ)) → list_all is_number words ≡ true → All (λ m. m < 2 ^ 64) (numbers_of_words words) × (map decimal (numbers_of_words words) ≡ words)
 words_again [] e = (All-nil (λ m. m < 2 ^ 64), refl)
 words_again (word ∷ words) e =
     let p = both (is_number word) (list_all is_number words) e in
     let first = number-said word p.0 in
     let others = words_again words p.1 in
-    (All-cons (λ m. m < 2 ^ 64) (digits_value 10 word) (numbers_said words) first.1 others.0, rw (first.2, others.1) refl)
+    (All-cons (λ m. m < 2 ^ 64) (digits_value 10 word) (numbers_of_words words) first.1 others.0, rw (first.2, others.1) refl)
 
-joined_text : (words : List (List ℕ)) → 0 < length words → map decimal (numbers_said words) ≡ words → numbers_text (numbers_said words) ≡ join_with_byte 44 words
+joined_text : (words : List (List ℕ)) → 0 < length words → map decimal (numbers_of_words words) ≡ words → numbers_text (numbers_of_words words) ≡ join_with_byte 44 words
 joined_text [] some e = absurd (omega arith)
 joined_text (word ∷ words) some e = ap (join_with_byte 44) e
 
@@ -102,6 +102,6 @@ parts_again word = (omega (arith, length-slice_split (λ b. eqb b 44) word), joi
 pub text-numbers_of : (word : List ℕ) (ns : List ℕ) → numbers_of word ≡ Some ns → All (λ m. m < 2 ^ 64) ns × (numbers_text ns ≡ word)
 unfolding numbers_of
 text-numbers_of word ns = at_word (λ ms. All (λ m. m < 2 ^ 64) ms × (numbers_text ms ≡ word)) word (codes "-") [] ns _ (λ is. (All-nil (λ m. m < 2 ^ 64), sym is)) (λ e.
-    let p = cond_some (list_all is_number (parts_between 44 word)) (numbers_said (parts_between 44 word)) ns e in
+    let p = cond_some (list_all is_number (parts_between 44 word)) (numbers_of_words (parts_between 44 word)) ns e in
     let again = words_again (parts_between 44 word) p.0 in let parts = parts_again word in
     rw (← p.1) (again.0, joined_text (parts_between 44 word) parts.0 again.1 ∙ parts.1))

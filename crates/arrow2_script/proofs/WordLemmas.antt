@@ -11,7 +11,7 @@ use Rattle.std.specs.List.{list_all}
 use Rattle.std.proofs.lemmas.Option.{option_and_then_some, cond_some, same_Some, none-some}
 use Rattle.arrow2_script.specs.declared.words.Width.{Width}
 use Rattle.arrow2_script.specs.declared.words.Width.TheVariants.{Bits8, Bits16, Bits32, Bits64}
-use Rattle.arrow2_script.specs.Words.{number_of, below_of, slot_of, optional_slot_word, optional_slot_of, width_word, width_of, bit_of, bits_of, bit_byte, bits_text, is_bit_byte, items_said}
+use Rattle.arrow2_script.specs.Words.{number_of, below_of, slot_of, optional_slot_word, optional_slot_of, width_word, width_of, bit_of, bits_of, bit_byte, bits_text, is_bit_byte, items_of_digits}
 
 -- a number's own word spells it
 pub number_of-decimal : (n : ℕ) → n < 2 ^ 64 → number_of (decimal n) ≡ Some n
@@ -176,10 +176,10 @@ byte-bit_of word bit =
     at (codes "0") false bit _ sym (at (codes "1") true bit _ sym (λ e. absurd (none-some bit e)))
 
 -- the items that are spelled by a byte each, and back
-items_said-text : (items : List Bool) → items_said (map bit_byte items) ≡ items
-items_said-text [] = refl
-items_said-text (true ∷ items) = ap (λ t. true ∷ t) (items_said-text items)
-items_said-text (false ∷ items) = ap (λ t. false ∷ t) (items_said-text items)
+items_of_digits-text : (items : List Bool) → items_of_digits (map bit_byte items) ≡ items
+items_of_digits-text [] = refl
+items_of_digits-text (true ∷ items) = ap (λ t. true ∷ t) (items_of_digits-text items)
+items_of_digits-text (false ∷ items) = ap (λ t. false ∷ t) (items_of_digits-text items)
 
 all_bit_bytes : (items : List Bool) → list_all is_bit_byte (map bit_byte items) ≡ true
 all_bit_bytes [] = refl
@@ -189,11 +189,11 @@ all_bit_bytes (false ∷ items) = all_bit_bytes items
 said_byte : (byte : ℕ) → is_bit_byte byte ≡ true → bit_byte (eqb byte 49) ≡ byte
 said_byte byte e = grind (arith, e)
 
-text-items_said : (word : List ℕ) → list_all is_bit_byte word ≡ true → map bit_byte (items_said word) ≡ word
-text-items_said [] e = refl
-text-items_said (byte ∷ bytes) e =
+text-items_of_digits : (word : List ℕ) → list_all is_bit_byte word ≡ true → map bit_byte (items_of_digits word) ≡ word
+text-items_of_digits [] e = refl
+text-items_of_digits (byte ∷ bytes) e =
     let p = both (is_bit_byte byte) (list_all is_bit_byte bytes) e in
-    rw (said_byte byte p.0, text-items_said bytes p.1) refl
+    rw (said_byte byte p.0, text-items_of_digits bytes p.1) refl
 
 -- a list that begins with a byte is not empty
 pub some_bytes : (byte : ℕ) (bytes : List ℕ) → eqb (length (byte ∷ bytes)) 0 ≡ false
@@ -203,18 +203,18 @@ some_bytes byte bytes = grind arith
 pub bits_of-text : (items : List Bool) → bits_of (bits_text items) ≡ Some items
 unfolding bits_of
 bits_of-text [] = refl
-bits_of-text (true ∷ items) = rw (some_bytes 49 (map bit_byte items), all_bit_bytes items) (ap (λ t. Some (true ∷ t)) (items_said-text items))
-bits_of-text (false ∷ items) = rw (some_bytes 48 (map bit_byte items), all_bit_bytes items) (ap (λ t. Some (false ∷ t)) (items_said-text items))
+bits_of-text (true ∷ items) = rw (some_bytes 49 (map bit_byte items), all_bit_bytes items) (ap (λ t. Some (true ∷ t)) (items_of_digits-text items))
+bits_of-text (false ∷ items) = rw (some_bytes 48 (map bit_byte items), all_bit_bytes items) (ap (λ t. Some (false ∷ t)) (items_of_digits-text items))
 
-some_said : (word : List ℕ) → (eqb (length word) 0) ≡ false → bits_text (items_said word) ≡ map bit_byte (items_said word)
+some_said : (word : List ℕ) → (eqb (length word) 0) ≡ false → bits_text (items_of_digits word) ≡ map bit_byte (items_of_digits word)
 some_said [] e = cc
 some_said (byte ∷ bytes) e = refl
 
 pub text-bits_of : (word : List ℕ) (items : List Bool) → bits_of word ≡ Some items → bits_text items ≡ word
 unfolding bits_of
-text-bits_of word items = at_word (λ bits. bits_text bits ≡ word) word (codes "-") [] items _ sym (λ e. elim (choice (eqb (length word) 0) None (cond (list_all is_bit_byte word) (Some (items_said word)) None) (Some items) e) [
+text-bits_of word items = at_word (λ bits. bits_text bits ≡ word) word (codes "-") [] items _ sym (λ e. elim (choice (eqb (length word) 0) None (cond (list_all is_bit_byte word) (Some (items_of_digits word)) None) (Some items) e) [
   | inl p ↦ absurd (none-some items p.1)
   | inr r ↦
-      let p = cond_some (list_all is_bit_byte word) (items_said word) items r.1 in
-      rw (← p.1) (some_said word r.0 ∙ text-items_said word p.0)
+      let p = cond_some (list_all is_bit_byte word) (items_of_digits word) items r.1 in
+      rw (← p.1) (some_said word r.0 ∙ text-items_of_digits word p.0)
 ])

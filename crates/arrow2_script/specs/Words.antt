@@ -70,15 +70,15 @@ abbrev pub is_bit_byte : ℕ → Bool
 is_bit_byte byte = byte == 48 || byte == 49
 
 -- the items that bytes `0` and `1` spell
-abbrev pub items_said : List ℕ → List Bool
-items_said bytes = map (λ byte. byte == 49) bytes
+abbrev pub items_of_digits : List ℕ → List Bool
+items_of_digits bytes = map (λ byte. byte == 49) bytes
 
 -- a text of bits
 unfoldable pub bits_of : List ℕ → Option (List Bool)
 bits_of word =
     if bytes_eq word (codes "-") then Some []
     else if length word == 0 then None
-    else if list_all is_bit_byte word then Some (items_said word)
+    else if list_all is_bit_byte word then Some (items_of_digits word)
     else None
 
 -- whether a word is a number
@@ -86,8 +86,8 @@ abbrev pub is_number : List ℕ → Bool
 is_number word = is_some (number_of word)
 
 -- the numbers that words spell
-abbrev pub numbers_said : List (List ℕ) → List ℕ
-numbers_said words = map (digits_value 10) words
+abbrev pub numbers_of_words : List (List ℕ) → List ℕ
+numbers_of_words words = map (digits_value 10) words
 
 -- the text of a list of numbers: `-` where it is empty, else the digits of each, joined by `,`
 abbrev pub numbers_text : List ℕ → List ℕ
@@ -98,7 +98,7 @@ numbers_text (n ∷ ns) = join_with_byte 44 (map decimal (n ∷ ns))
 unfoldable pub numbers_of : List ℕ → Option (List ℕ)
 numbers_of word =
     if bytes_eq word (codes "-") then Some []
-    else if list_all is_number (parts_between 44 word) then Some (numbers_said (parts_between 44 word))
+    else if list_all is_number (parts_between 44 word) then Some (numbers_of_words (parts_between 44 word))
     else None
 
 -- whether a byte is a hexadecimal digit: `0` to `9` or `a` to `f`
@@ -114,10 +114,10 @@ abbrev pub hex_digit : ℕ → ℕ
 hex_digit n = if nat_lt n 10 then n + 48 else n + 87
 
 -- the bytes that hexadecimal digits spell, two digits each, that of the higher half first
-unfoldable pub bytes_said : List ℕ → List ℕ
-bytes_said [] = []
-bytes_said (high ∷ []) = []
-bytes_said (high ∷ low ∷ digits) = (16 * hex_value high + hex_value low) ∷ bytes_said digits
+unfoldable pub bytes_of_digits : List ℕ → List ℕ
+bytes_of_digits [] = []
+bytes_of_digits (high ∷ []) = []
+bytes_of_digits (high ∷ low ∷ digits) = (16 * hex_value high + hex_value low) ∷ bytes_of_digits digits
 
 -- the two digits of a byte
 abbrev pub hex_digits : ℕ → List ℕ
@@ -133,5 +133,5 @@ unfoldable pub bytes_of : List ℕ → Option (List ℕ)
 bytes_of word =
     if bytes_eq word (codes "-") then Some []
     else if length word == 0 then None
-    else if length word % 2 == 0 && list_all is_hex_digit word then Some (bytes_said word)
+    else if length word % 2 == 0 && list_all is_hex_digit word then Some (bytes_of_digits word)
     else None

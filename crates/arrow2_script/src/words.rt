@@ -1,6 +1,6 @@
 //! The value of a word of a line.
 ghost use Rattle.std.specs.Prelude.{◌≡◌, ◌<◌, ◌^◌, ◌↔◌, IfSome, IfNone, List, Bool, Option, ℕ, length, slice_index, IsTrue};
-ghost use Rattle.arrow2_script.specs.Words.{number_of, below_of, width_of, optional_slot_of, bit_of, bits_of, is_bit_byte, items_said, is_number, numbers_of, is_hex_digit, hex_value, bytes_said, bytes_of};
+ghost use Rattle.arrow2_script.specs.Words.{number_of, below_of, width_of, optional_slot_of, bit_of, bits_of, is_bit_byte, items_of_digits, is_number, numbers_of, is_hex_digit, hex_value, bytes_of_digits, bytes_of};
 ghost use Rattle.std.specs.Iterator.{YieldsFirst, item_count};
 ghost use Rattle.std.specs.List.{list_all};
 ghost use Rattle.std.specs.Str.Parse.{AllDigits, digits_value};
@@ -185,13 +185,13 @@ pub struct BitText<'a> {
 impl<'a> Model for BitText<'a> {
     ghost Value = { List Bool };
 
-    ghost view = { λ t. items_said t.digits.now };
+    ghost view = { λ t. items_of_digits t.digits.now };
 }
 
 impl<'a> BitText<'a> {
     /// Returns a byte for each item: `1` for true.
     pub fn digits(&self) -> &'a [u8]
-        ensures { items_said result.now ≡ self.now }
+        ensures { items_of_digits result.now ≡ self.now }
     {
         self.digits
     }
@@ -248,11 +248,11 @@ pub struct HexText<'a> {
 impl<'a> Model for HexText<'a> {
     ghost use Rattle.std.specs.Prelude.{◌≡◌, true, ℕ, List};
     ghost use Rattle.std.specs.List.{list_all};
-    ghost use Rattle.arrow2_script.specs.Words.{is_hex_digit, bytes_said};
+    ghost use Rattle.arrow2_script.specs.Words.{is_hex_digit, bytes_of_digits};
 
     ghost Value = { List ℕ };
 
-    ghost view = { λ t. bytes_said t.digits.now };
+    ghost view = { λ t. bytes_of_digits t.digits.now };
 
     ghost invariant = { λ t. list_all is_hex_digit t.digits.now ≡ true };
 }
@@ -271,7 +271,7 @@ impl<'a> HexText<'a> {
 impl<'a> Word<'a> for HexText<'a> {
     ghost says = { bytes_of };
 
-    #[tactic(auto, unfolding(crate::specs::Words::bytes_of, crate::specs::Words::bytes_said))]
+    #[tactic(auto, unfolding(crate::specs::Words::bytes_of, crate::specs::Words::bytes_of_digits))]
     fn said(word: &'a [u8]) -> Option<HexText<'a>> {
         if word == b"-".as_slice() {
             return Some(HexText { digits: &[] });
@@ -314,11 +314,11 @@ pub struct NumberText<'a> {
 impl<'a> Model for NumberText<'a> {
     ghost use Rattle.std.specs.Prelude.{◌≡◌, true, ℕ, List};
     ghost use Rattle.std.specs.List.{list_all};
-    ghost use Rattle.arrow2_script.specs.Words.{is_number, numbers_said};
+    ghost use Rattle.arrow2_script.specs.Words.{is_number, numbers_of_words};
 
     ghost Value = { List ℕ };
 
-    ghost view = { λ t. numbers_said t.words };
+    ghost view = { λ t. numbers_of_words t.words };
 
     ghost invariant = { λ t. list_all is_number t.words ≡ true };
 }

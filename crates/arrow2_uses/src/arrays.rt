@@ -1,6 +1,6 @@
 //! Columns of numbers, made and read.
 ghost use Rattle.std.specs.Prelude.{◌≡◌, ◌⊎◌, [], ◌∷◌, None, Some, pos, length, IfOk, IfErr};
-ghost use Rattle.arrow2.specs.Aggregates.{sum_there};
+ghost use Rattle.arrow2.specs.Aggregates.{sum_of_non_null};
 ghost use Rattle.arrow2.specs.Primitive.{primitive_items};
 ghost use Rattle.arrow2.specs.Selected.{selected};
 ghost use Rattle.arrow2.specs.Storage.{items_of};
@@ -37,7 +37,7 @@ pub fn prices(alloc: Global) -> Result<PrimitiveArray<i64>>
 pub fn selected_sum(column: &PrimitiveArray<i64>, mask: &Bitmap) -> Result<i128>
     requires same_length { length (items_of mask.now) ≡ length (primitive_items column.now) }
     ensures ok { IfOk result (λ total.
-        total ≡ sum_there (λ x. x) (selected (primitive_items column.now) (items_of mask.now))) }
+        total ≡ sum_of_non_null (λ x. x) (selected (primitive_items column.now) (items_of mask.now))) }
     ensures only { IfErr result (λ e. e ≡ Error.OutOfMemory) }
 {
     let selected = filter(column, mask)?;

@@ -1,6 +1,6 @@
 //! Columns chosen from a schema.
 ghost use Rattle.std.specs.Prelude.{◌≡◌, false, length, nat_lt, slice_index_or};
-ghost use Rattle.arrow2.specs.Kept.{accepted};
+ghost use Rattle.arrow2.specs.Filter.{accepted};
 ghost use Rattle.arrow2.specs.Types.{physical};
 
 use arrow2::datatypes::{self, Schema};

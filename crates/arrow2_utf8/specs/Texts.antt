@@ -24,11 +24,11 @@ pub record IsFirstBroken (texts : List (List ℕ)) (k : ℕ) : Type 0 where
   pub broken : IsUtf8 (slice_index_or texts k []) → ⊥
 
 -- the fault of the values between offsets: the last offset is past them, or the first slot is not UTF-8
-abbrev pub TellsBrokenTexts : List ℤ → List ℕ → BrokenTexts → Type 0
-TellsBrokenTexts offsets values PastTheValues = length values < last_of offsets
-TellsBrokenTexts offsets values (NotUtf8 k) = (last_of offsets ≤ length values) × IsFirstBroken (slot_values offsets values) k
+abbrev pub ReportsBrokenTexts : List ℤ → List ℕ → BrokenTexts → Type 0
+ReportsBrokenTexts offsets values PastTheValues = length values < last_of offsets
+ReportsBrokenTexts offsets values (NotUtf8 k) = (last_of offsets ≤ length values) × IsFirstBroken (slot_values offsets values) k
 
 -- the same of numbers that may be no offsets, which is the first fault
-abbrev pub TellsBrokenArray : List ℤ → List ℕ → BrokenTextArray → Type 0
-TellsBrokenArray numbers values (Offsets rule) = (AreOffsets numbers → ⊥) × (rule ≡ first_broken numbers)
-TellsBrokenArray numbers values (Texts broken) = AreOffsets numbers × TellsBrokenTexts numbers values broken
+abbrev pub ReportsBrokenArray : List ℤ → List ℕ → BrokenTextArray → Type 0
+ReportsBrokenArray numbers values (Offsets rule) = (AreOffsets numbers → ⊥) × (rule ≡ first_broken numbers)
+ReportsBrokenArray numbers values (Texts broken) = AreOffsets numbers × ReportsBrokenTexts numbers values broken

@@ -3,7 +3,7 @@ ghost use Rattle.std.specs.Prelude.{◌≡◌, ℕ, ◌<◌, ◌≤◌, ◌↔�
 ghost use Rattle.std.specs.Str.{IsCharBoundary};
 ghost use Rattle.arrow2_model.specs.Buffers.{buffer_items};
 ghost use Rattle.arrow2_offset.specs.Offsets.{AreOffsets, offset_at, start_of, lengths_of, last_of};
-ghost use Rattle.arrow2_utf8.specs.Texts.{slot_values, AreTexts, IsFirstBroken, TellsBrokenTexts, TellsBrokenArray};
+ghost use Rattle.arrow2_utf8.specs.Texts.{slot_values, AreTexts, IsFirstBroken, ReportsBrokenTexts, ReportsBrokenArray};
 
 use arrow2_index::offset::Offset;
 use arrow2_offset::{BrokenRule, OffsetsBuffer, broken_rule};
@@ -64,7 +64,7 @@ pub fn try_check_utf8<O: Offset>(
 ) -> Result<(), BrokenTexts>
     ensures accepted { IsOk result ↔ AreTexts (buffer_items offsets.now) values.now }
     ensures broken { IfErr result (λ broken.
-        TellsBrokenTexts (buffer_items offsets.now) values.now broken) }
+        ReportsBrokenTexts (buffer_items offsets.now) values.now broken) }
 {
     try_check_slots(offsets.as_slice(), values)
 }
@@ -85,7 +85,7 @@ pub fn try_check_offsets_and_utf8<O: Offset>(
     ensures accepted { IsOk result ↔ (AreOffsets (map O.value offsets.now)
         × AreTexts (map O.value offsets.now) values.now) }
     ensures broken { IfErr result (λ broken.
-        TellsBrokenArray (map O.value offsets.now) values.now broken) }
+        ReportsBrokenArray (map O.value offsets.now) values.now broken) }
 {
     if let Some(rule) = broken_rule(offsets) {
         return Err(BrokenTextArray::Offsets(rule));
@@ -115,7 +115,7 @@ fn try_check_slots<O: Offset>(offsets: &[O], values: &[u8]) -> Result<(), Broken
     requires valid { AreOffsets (map O.value offsets.now) }
     ensures accepted { IsOk result ↔ AreTexts (map O.value offsets.now) values.now }
     ensures broken { IfErr result (λ broken.
-        TellsBrokenTexts (map O.value offsets.now) values.now broken) }
+        ReportsBrokenTexts (map O.value offsets.now) values.now broken) }
 {
     if last_place(offsets) > values.len() {
         return Err(BrokenTexts::PastTheValues);

@@ -6,9 +6,9 @@ use Rattle.std.proofs.lemmas.List.Concat.{flat_map-cons}
 use Rattle.std.proofs.lemmas.List.Sums.{sum_by-cons}
 use Rattle.arrow2_model.specs.Parts.{part}
 use Rattle.arrow2_model.specs.Storage.{BitmapStorage, items_of}
-use Rattle.arrow2_model.specs.Touched.{slice_reads, cut_reads, lg, to_read, all_to_read}
+use Rattle.arrow2_model.specs.Touched.{slice_reads, cut_reads, lg, cut_budget, total_cut_budget}
 use Rattle.arrow2_model.proofs.Touched.{cut_le, cut_reads-is}
-use Rattle.arrow2_walks.specs.Cuts.{Piece, piece_of, piece_at, joined, front, back, cut_at, lengths, IsPaid}
+use Rattle.arrow2_walks.specs.Cuts.{Piece, piece_of, piece_at, joined, front, back, cut_at, lengths, IsWithinBudget}
 
 -- a cut keeps the joined items
 pub joined-cut : (ps : List Piece) (k i : ℕ) → joined (cut_at ps k i) ≡ joined ps
@@ -27,29 +27,29 @@ length-cut (p ∷ ps) zero i h = omega arith
 length-cut (p ∷ ps) (suc k) i h = let r = length-cut ps k i (omega arith) in omega (arith, r)
 
 -- a cut reads at most the difference of the bytes left to read before and after it, and less than four bytes
-cut_pays : (ps : List Piece) (k i : ℕ) → k < length ps → i ≤ length (piece_at ps k).items → 8 * cut_reads (piece_at ps k).offset (length (piece_at ps k).items) i + all_to_read (lengths (cut_at ps k i)) ≤ all_to_read (lengths ps) + 30
+cut_pays : (ps : List Piece) (k i : ℕ) → k < length ps → i ≤ length (piece_at ps k).items → 8 * cut_reads (piece_at ps k).offset (length (piece_at ps k).items) i + total_cut_budget (lengths (cut_at ps k i)) ≤ total_cut_budget (lengths ps) + 30
 cut_pays [] k i h g = grind arith
 cut_pays (p ∷ ps) zero i h g =
     let l = length-take-le i p.items g in
     let m = length-drop i p.items in
     let one = cut_le p.offset (length p.items) i g in
-    let old = sum_by-cons to_read (length p.items) (lengths ps) in
-    let new = sum_by-cons to_read (length (take i p.items)) (length (drop i p.items) ∷ lengths ps) in
-    let new' = sum_by-cons to_read (length (drop i p.items)) (lengths ps) in
-    let a = ap to_read l in
-    let b = ap to_read m in
+    let old = sum_by-cons cut_budget (length p.items) (lengths ps) in
+    let new = sum_by-cons cut_budget (length (take i p.items)) (length (drop i p.items) ∷ lengths ps) in
+    let new' = sum_by-cons cut_budget (length (drop i p.items)) (lengths ps) in
+    let a = ap cut_budget l in
+    let b = ap cut_budget m in
     omega (arith, one, old, new, new', a, b)
 cut_pays (p ∷ ps) (suc k) i h g =
     let r = cut_pays ps k i (omega arith) g in
-    let old = sum_by-cons to_read (length p.items) (lengths ps) in
-    let new = sum_by-cons to_read (length p.items) (lengths (cut_at ps k i)) in
+    let old = sum_by-cons cut_budget (length p.items) (lengths ps) in
+    let new = sum_by-cons cut_budget (length p.items) (lengths (cut_at ps k i)) in
     omega (arith, r, old, new)
 
 -- pieces stay paid
-pub paid-cut : (ps : List Piece) (k i r s : ℕ) → k < length ps → i ≤ length (piece_at ps k).items → s ≡ r + cut_reads (piece_at ps k).offset (length (piece_at ps k).items) i → IsPaid ps r → IsPaid (cut_at ps k i) s
+pub paid-cut : (ps : List Piece) (k i r s : ℕ) → k < length ps → i ≤ length (piece_at ps k).items → s ≡ r + cut_reads (piece_at ps k).offset (length (piece_at ps k).items) i → IsWithinBudget ps r → IsWithinBudget (cut_at ps k i) s
 paid-cut ps k i r s h g e paid =
     let l = length-cut ps k i h in
-    let j = ap (λ t. to_read (length t)) (joined-cut ps k i) in
+    let j = ap (λ t. cut_budget (length t)) (joined-cut ps k i) in
     let pays = cut_pays ps k i h g in
     let some = paid.some in
     let had = paid.paid in
@@ -113,10 +113,10 @@ cut_counted q b x y i n r s t e same-x same-y size first second =
     omega (arith, a, d, m, u, is, first, second)
 
 -- the bound that callers see
-pub paid_bound : (ps : List Piece) (r : ℕ) → IsPaid ps r → 8 * r ≤ 2 * (length (joined ps) * lg (length (joined ps))) + 30 * (length ps - 1)
+pub paid_bound : (ps : List Piece) (r : ℕ) → IsWithinBudget ps r → 8 * r ≤ 2 * (length (joined ps) * lg (length (joined ps))) + 30 * (length ps - 1)
 paid_bound ps r paid = let had = paid.paid in omega (arith, had)
 
-pub paid_some : (ps : List Piece) (r : ℕ) → IsPaid ps r → 0 < length ps
+pub paid_some : (ps : List Piece) (r : ℕ) → IsWithinBudget ps r → 0 < length ps
 paid_some ps r paid = paid.some
 
 pub ruleset cuts = (joined-cut, length-cut, paid-cut, paid_bound, paid_some)

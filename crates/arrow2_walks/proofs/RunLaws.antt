@@ -4,16 +4,16 @@ use Rattle.std.specs.Prelude.{slice_index_or}
 use Rattle.std.specs.List.{sum_by}
 use Rattle.std.proofs.lemmas.List.Sums.{sum_by-cons}
 use Rattle.arrow2_model.specs.Parts.{falses}
-use Rattle.arrow2_walks.specs.Runs.{moved, with_true, runs, AllRuns, RisePast, Rise, InRuns}
+use Rattle.arrow2_walks.specs.Runs.{moved, with_true, runs, AllRuns, AreRisingPast, AreRising, InRuns}
 use Rattle.arrow2_walks.proofs.MaximalRuns.{runs_are}
 use Rattle.arrow2_walks.proofs.UniqueRuns.{runs_unique}
 
-past : (e j : ℕ) (ps : List (ℕ × ℕ)) → RisePast e ps → j < length ps → e < (slice_index_or ps j (0, 0)).0
+past : (e j : ℕ) (ps : List (ℕ × ℕ)) → AreRisingPast e ps → j < length ps → e < (slice_index_or ps j (0, 0)).0
 past e j [] r l = absurd (omega arith)
 past e zero (p ∷ ps) r l = r.0
 past e (suc j) (p ∷ ps) r l = let a = r.0 in let b = past (p.0 + p.1) j ps r.1 (omega arith) in omega arith
 
-apart : (ps : List (ℕ × ℕ)) (i j : ℕ) → Rise ps → i < j → j < length ps → (slice_index_or ps i (0, 0)).0 + (slice_index_or ps i (0, 0)).1 < (slice_index_or ps j (0, 0)).0
+apart : (ps : List (ℕ × ℕ)) (i j : ℕ) → AreRising ps → i < j → j < length ps → (slice_index_or ps i (0, 0)).0 + (slice_index_or ps i (0, 0)).1 < (slice_index_or ps j (0, 0)).0
 apart [] i j r l h = absurd (omega arith)
 apart (p ∷ ps) i zero r l h = absurd (omega arith)
 apart (p ∷ ps) zero (suc j) r l h = past (p.0 + p.1) j ps r (omega arith)

@@ -6,7 +6,7 @@ use Rattle.std.proofs.lemmas.List.{take_more}
 use Rattle.std.proofs.lemmas.List.Sums.{sum_by-cons}
 use Rattle.arrow2_model.specs.Parts.{part, falses}
 use Rattle.arrow2_walks.specs.Runs.{runs, moved, with_true}
-use Rattle.arrow2_walks.specs.Selected.{selected, chosen, there}
+use Rattle.arrow2_walks.specs.Selected.{selected, chosen, non_null_values}
 use Rattle.arrow2_walks.specs.Zipped.{zipped}
 
 -- of any items, where d stands for the items past them
@@ -88,20 +88,20 @@ module _ {X : Type 0} where
   selected-runs (x ∷ xs) (false ∷ ms) e = behind x xs (runs ms) ∙ selected-runs xs ms (omega (arith, e))
 
   -- of two lists one after the other
-  pub there-append : (xs ys : List (Option X)) → there (xs ++ ys) ≡ there xs ++ there ys
-  there-append [] ys = refl
-  there-append (Some x ∷ xs) ys = ap (λ l. x ∷ l) (there-append xs ys)
-  there-append (None ∷ xs) ys = there-append xs ys
+  pub non_null_values-append : (xs ys : List (Option X)) → non_null_values (xs ++ ys) ≡ non_null_values xs ++ non_null_values ys
+  non_null_values-append [] ys = refl
+  non_null_values-append (Some x ∷ xs) ys = ap (λ l. x ∷ l) (non_null_values-append xs ys)
+  non_null_values-append (None ∷ xs) ys = non_null_values-append xs ys
 
   -- of one item more
-  pub there-more : (xs : List (Option X)) (k : ℕ) → k < length xs → there (take (k + 1) xs) ≡ there (take k xs) ++ there (get_or xs k None ∷ [])
-  there-more xs k h = ap there (take_more xs k None h) ∙ there-append (take k xs) (get_or xs k None ∷ [])
+  pub non_null_values-more : (xs : List (Option X)) (k : ℕ) → k < length xs → non_null_values (take (k + 1) xs) ≡ non_null_values (take k xs) ++ non_null_values (get_or xs k None ∷ [])
+  non_null_values-more xs k h = ap non_null_values (take_more xs k None h) ∙ non_null_values-append (take k xs) (get_or xs k None ∷ [])
 
   -- of slots they are the values that the validity selects
-  pub there-zipped : (xs : List X) (vs : List Bool) → there (zipped xs vs) ≡ selected xs vs
-  there-zipped [] vs = refl
-  there-zipped (x ∷ xs) [] = refl
-  there-zipped (x ∷ xs) (true ∷ vs) = ap (λ l. x ∷ l) (there-zipped xs vs)
-  there-zipped (x ∷ xs) (false ∷ vs) = there-zipped xs vs
+  pub non_null_values-zipped : (xs : List X) (vs : List Bool) → non_null_values (zipped xs vs) ≡ selected xs vs
+  non_null_values-zipped [] vs = refl
+  non_null_values-zipped (x ∷ xs) [] = refl
+  non_null_values-zipped (x ∷ xs) (true ∷ vs) = ap (λ l. x ∷ l) (non_null_values-zipped xs vs)
+  non_null_values-zipped (x ∷ xs) (false ∷ vs) = non_null_values-zipped xs vs
 
-pub ruleset selections = (selected-more, chosen-more, length-selected, count-selected, there-append, there-more, there-zipped)
+pub ruleset selections = (selected-more, chosen-more, length-selected, count-selected, non_null_values-append, non_null_values-more, non_null_values-zipped)

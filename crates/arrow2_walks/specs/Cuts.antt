@@ -2,7 +2,7 @@
 use Rattle.std.specs.Prelude.{ℕ, zero, suc, ◌+◌, ◌-◌, ◌*◌, ◌≤◌, ◌<◌, List, [], ◌∷◌, Bool, length, map, take, drop, slice_index_or}
 use Rattle.std.specs.List.{flat_map}
 use Rattle.arrow2_model.specs.Storage.{BitmapStorage, items_of}
-use Rattle.arrow2_model.specs.Touched.{to_read, all_to_read}
+use Rattle.arrow2_model.specs.Touched.{cut_budget, total_cut_budget}
 
 -- a piece: its items, and the bit at which they are stored
 pub record Piece : Type 0 where
@@ -45,6 +45,6 @@ lengths ps = map (λ p. length p.items) ps
 
 -- the items that were cut into these pieces have paid for the bytes read, with 30 eighths of a byte a cut, and keep the
 -- bytes that the pieces can still read
-pub record IsPaid (ps : List Piece) (reads : ℕ) : Type 0 where
+pub record IsWithinBudget (ps : List Piece) (reads : ℕ) : Type 0 where
   pub some : 0 < length ps
-  pub paid : 8 * reads + all_to_read (lengths ps) ≤ to_read (length (joined ps)) + 30 * (length ps - 1)
+  pub paid : 8 * reads + total_cut_budget (lengths ps) ≤ cut_budget (length (joined ps)) + 30 * (length ps - 1)

@@ -7,7 +7,7 @@ pub record IsRun (items : List Bool) (p : ℕ × ℕ) : Type 0 where
   pub some : 0 < p.1
   pub set : (k : ℕ) → k < p.1 → get_or items (p.0 + k) false ≡ true
   pub unset_before : (k : ℕ) → suc k ≡ p.0 → get_or items k false ≡ false
-  pub unset_behind : get_or items (p.0 + p.1) false ≡ false
+  pub unset_after : get_or items (p.0 + p.1) false ≡ false
 
 -- each of ps is such a run
 abbrev pub AllRuns : List Bool → List (ℕ × ℕ) → Type 0
@@ -15,13 +15,13 @@ AllRuns items [] = Unit {0}
 AllRuns items (p ∷ ps) = IsRun items p × AllRuns items ps
 
 -- each begins past the index after the one before it, and the first past e: so they rise, and no two touch
-abbrev pub RisePast : ℕ → List (ℕ × ℕ) → Type 0
-RisePast e [] = Unit {0}
-RisePast e (p ∷ ps) = (e < p.0) × RisePast (p.0 + p.1) ps
+abbrev pub AreRisingPast : ℕ → List (ℕ × ℕ) → Type 0
+AreRisingPast e [] = Unit {0}
+AreRisingPast e (p ∷ ps) = (e < p.0) × AreRisingPast (p.0 + p.1) ps
 
-abbrev pub Rise : List (ℕ × ℕ) → Type 0
-Rise [] = Unit {0}
-Rise (p ∷ ps) = RisePast (p.0 + p.1) ps
+abbrev pub AreRising : List (ℕ × ℕ) → Type 0
+AreRising [] = Unit {0}
+AreRising (p ∷ ps) = AreRisingPast (p.0 + p.1) ps
 
 -- index k is in one of them
 abbrev pub InRuns : ℕ → List (ℕ × ℕ) → Type 0
@@ -31,7 +31,7 @@ InRuns k (p ∷ ps) = ((p.0 ≤ k) × (k < p.0 + p.1)) ⊎ InRuns k ps
 -- ps are the runs of items: maximal ones, rising, and every true item is in one of them
 pub record AreRuns (items : List Bool) (ps : List (ℕ × ℕ)) : Type 0 where
   pub maximal : AllRuns items ps
-  pub rising : Rise ps
+  pub rising : AreRising ps
   pub all : (k : ℕ) → get_or items k false ≡ true → InRuns k ps
 
 -- a run, n indices further on

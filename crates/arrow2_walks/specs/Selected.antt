@@ -15,7 +15,7 @@ chosen (first ∷ mask) (x ∷ xs) [] = []
 chosen (first ∷ mask) (x ∷ xs) (y ∷ ys) = (if first then x else y) ∷ chosen mask xs ys
 
 -- the items that are not null
-abbrev pub there : {X : Type 0} → List (Option X) → List X
-there [] = []
-there (Some x ∷ items) = x ∷ there items
-there (None ∷ items) = there items
+abbrev pub non_null_values : {X : Type 0} → List (Option X) → List X
+non_null_values [] = []
+non_null_values (Some x ∷ items) = x ∷ non_null_values items
+non_null_values (None ∷ items) = non_null_values items

@@ -3,7 +3,7 @@ ghost use Rattle.std.specs.Prelude.{◌≡◌, ◌+◌, ◌-◌, ◌*◌, ◌<�
 ghost use Rattle.arrow2_model.specs.Storage.{BitmapStorage, items_of};
 ghost use Rattle.arrow2_model.specs.Touched.{cut_reads, lg};
 ghost use Rattle.arrow2_types.specs.declared.error.Error.TheVariants.{OutOfMemory};
-ghost use Rattle.arrow2_walks.specs.Cuts.{piece_of, piece_at, joined, cut_at, IsPaid};
+ghost use Rattle.arrow2_walks.specs.Cuts.{piece_of, piece_at, joined, cut_at, IsWithinBudget};
 
 use arrow2_bitmap::Bitmap;
 use arrow2_bits::Reads;
@@ -24,13 +24,13 @@ pub struct Pieces {
 
 impl Model for Pieces {
     ghost use Rattle.std.specs.Prelude.{map};
-    ghost use Rattle.arrow2_walks.specs.Cuts.{CutPieces, IsPaid, piece_of};
+    ghost use Rattle.arrow2_walks.specs.Cuts.{CutPieces, IsWithinBudget, piece_of};
 
     ghost Value = { CutPieces };
 
     ghost view = { λ p. record { pieces = map piece_of p.bitmaps.items; reads = p.reads } };
 
-    ghost invariant = { λ p. IsPaid (map piece_of p.bitmaps.items) p.reads };
+    ghost invariant = { λ p. IsWithinBudget (map piece_of p.bitmaps.items) p.reads };
 }
 
 #[tactic(auto, using(crate::proofs::Cuts::cuts))]
@@ -113,8 +113,8 @@ fn cut_in_two(bitmaps: &mut Vec<Bitmap>, p: usize, i: usize, reads: &mut Reads) 
         reads.new ≡ reads.old + cut_reads old.offset (length old.items) i) }
     ensures joined { joined (map piece_of bitmaps.new.items)
         ≡ joined (map piece_of bitmaps.old.items) }
-    ensures paid { IsPaid (map piece_of bitmaps.old.items) reads.old →
-        IsPaid (map piece_of bitmaps.new.items) reads.new }
+    ensures paid { IsWithinBudget (map piece_of bitmaps.old.items) reads.old →
+        IsWithinBudget (map piece_of bitmaps.new.items) reads.new }
     ensures err { OnErr result (bitmaps.new.items ≡ bitmaps.old.items) }
     ensures uncounted { OnErr result (reads.new ≡ reads.old) }
     ensures only { IfErr result (λ e. e ≡ Error.OutOfMemory) }

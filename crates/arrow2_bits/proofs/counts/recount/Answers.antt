@@ -13,35 +13,35 @@ returns-then-count-len-clause-reads c =
 pub returns-then-count-len-2-clause-reads : goal.returns-then-count-len-2-clause-reads
 returns-then-count-len-2-clause-reads c =
     let short = slice_reads-short c.args.offset c.args.len c.args.start c.args.count c.if-count-len.false c.if-count-len-2.true in
-    omega (arith, short, c.zeros_behind.ensures.reads)
+    omega (arith, short, c.zeros_after.ensures.reads)
 
 pub returns-then-count-len-2-clause-bound : goal.returns-then-count-len-2-clause-bound
 returns-then-count-len-2-clause-bound c =
     let short = slice_reads-short c.args.offset c.args.len c.args.start c.args.count c.if-count-len.false c.if-count-len-2.true in
     let most = slice_reads_le c.args.offset c.args.len c.args.start c.args.count c.requires.among in
-    omega (arith, short, most, c.zeros_behind.ensures.reads)
+    omega (arith, short, most, c.zeros_after.ensures.reads)
 
 pub overflow_sub-result : goal.overflow_sub-result
 overflow_sub-result c =
     let end : ℕ = c.args.start + c.args.count in
-    let tail = c.zeros_behind-tail.ensures.zeros ∙ ap (λ (b : List ℕ). falses (part (bits b) (c.args.offset + end) (c.args.len - end))) c.count_zeros_counted-head.ensures.bytes in
+    let tail = c.zeros_after-tail.ensures.zeros ∙ ap (λ (b : List ℕ). falses (part (bits b) (c.args.offset + end) (c.args.len - end))) c.count_zeros_counted-head.ensures.bytes in
     let between = zeros_between c.args.stored.now.bytes c.args.offset c.args.len c.args.start c.args.count c.args.unset _ _ c.requires.among c.requires.unset c.count_zeros_counted-head.ensures.zeros tail in
     omega (arith, between)
 
 pub returns-clause-zeros : goal.returns-clause-zeros
 returns-clause-zeros c =
     let end : ℕ = c.args.start + c.args.count in
-    let tail = c.zeros_behind-tail.ensures.zeros ∙ ap (λ (b : List ℕ). falses (part (bits b) (c.args.offset + end) (c.args.len - end))) c.count_zeros_counted-head.ensures.bytes in
+    let tail = c.zeros_after-tail.ensures.zeros ∙ ap (λ (b : List ℕ). falses (part (bits b) (c.args.offset + end) (c.args.len - end))) c.count_zeros_counted-head.ensures.bytes in
     let between = zeros_between c.args.stored.now.bytes c.args.offset c.args.len c.args.start c.args.count c.args.unset _ _ c.requires.among c.requires.unset c.count_zeros_counted-head.ensures.zeros tail in
     omega (arith, between)
 
 pub returns-clause-reads : goal.returns-clause-reads
 returns-clause-reads c =
     let long = slice_reads-long c.args.offset c.args.len c.args.start c.args.count (c.args.start + c.args.count) (c.args.len - (c.args.start + c.args.count)) c.if-count-len.false (omega arith) refl refl in
-    omega (arith, long, c.count_zeros_counted-head.ensures.reads, c.zeros_behind-tail.ensures.reads)
+    omega (arith, long, c.count_zeros_counted-head.ensures.reads, c.zeros_after-tail.ensures.reads)
 
 pub returns-clause-bound : goal.returns-clause-bound
 returns-clause-bound c =
     let long = slice_reads-long c.args.offset c.args.len c.args.start c.args.count (c.args.start + c.args.count) (c.args.len - (c.args.start + c.args.count)) c.if-count-len.false (omega arith) refl refl in
     let most = slice_reads_le c.args.offset c.args.len c.args.start c.args.count c.requires.among in
-    omega (arith, long, most, c.count_zeros_counted-head.ensures.reads, c.zeros_behind-tail.ensures.reads)
+    omega (arith, long, most, c.count_zeros_counted-head.ensures.reads, c.zeros_after-tail.ensures.reads)

@@ -6,7 +6,7 @@ use Rattle.arrow2_model.specs.Buffers.{buffer_items}
 use Rattle.arrow2_primitive.specs.Primitive.{primitive_items}
 use Rattle.arrow2_validity.specs.OptionalValidity.{valid_items}
 use Rattle.arrow2_walks.specs.Zipped.{zipped}
-use Rattle.arrow2_compute.specs.Taken.{StandsAt}
+use Rattle.arrow2_compute.specs.Taken.{IsItemAt}
 use Rattle.arrow2_compute.proofs.Converted.{length-zip}
 use Rattle.arrow2_compute.proofs.Gathered.{by-bitmap, by-parts, taken-zipped}
 use Rattle.arrow2_compute.proofs.take.take.Goals as goal
@@ -17,7 +17,7 @@ new-requires-clause-same_length g c = λ x e.
     let indices = c.args.indices.now in
     let taken = c.in_ok-values_at.field-0.items in
     let held = ap buffer_items c.in_ok-values.ensures ∙ take-length taken in
-    let many = length-zip (StandsAt (buffer_items c.values.result.now)) indices taken c.in_ok-values_at.ensures in
+    let many = length-zip (IsItemAt (buffer_items c.values.result.now)) indices taken c.in_ok-values_at.ensures in
     let there = by-bitmap v x (sym c.into_bitmap.ensures ∙ e) ∙ c.in_ok-validity.ensures.items in
     let counted = length-map indices (λ (index : ℕ). get_or (valid_items c.optional_validity.result.now) index false) in
     omega (arith, ap length held, many, ap length there, counted)
@@ -31,7 +31,7 @@ returns-clause-items g c =
     let valid = valid_items c.optional_validity.result.now in
     let taken = c.in_ok-values_at.field-0.items in
     let held : buffer_items c.in_ok-values.values ≡ taken = ap buffer_items c.in_ok-values.ensures ∙ take-length taken in
-    let many = length-zip (StandsAt slots) indices taken c.in_ok-values_at.ensures in
+    let many = length-zip (IsItemAt slots) indices taken c.in_ok-values_at.ensures in
     let parts = by-parts (length (buffer_items c.in_ok-values.values)) c.into_bitmap.result v c.into_bitmap.ensures (omega (arith, ap length held, many, c.in_ok-validity.ensures.len)) in
     let sized : length valid ≡ length slots = omega (arith, ap length c.optional_validity.ensures.items, length-map items is_some, c.values.ensures.len) in
     let inside = subst (λ (n : ℕ). All (λ (index : ℕ). index < n) indices) (sym c.values.ensures.len) c.requires.inside in

@@ -1,13 +1,13 @@
 use Rattle.std.proofs.Common.{◌∙◌, ◌+◌, take, get_or, ap, sym, subst, arith}
 use Rattle.std.specs.List.{AllZip}
 use Rattle.arrow2_model.specs.Buffers.{buffer_items}
-use Rattle.arrow2_compute.specs.Taken.{StandsAt}
+use Rattle.arrow2_compute.specs.Taken.{IsItemAt}
 use Rattle.arrow2_compute.proofs.Converted.{zip-more}
 use Rattle.arrow2_compute.proofs.take.values_at.Goals as goal
 
 pub loop-index-preserved : goal.loop-index-preserved
 loop-index-preserved g c =
-    let R = StandsAt (buffer_items c.args.values.now) in
+    let R = IsItemAt (buffer_items c.args.values.now) in
     let indices = c.args.indices.now in
     let place = c.loop-index.index-index in
     let value = c.index-slots-index.result in

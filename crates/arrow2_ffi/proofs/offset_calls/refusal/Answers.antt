@@ -4,11 +4,11 @@ use Rattle.arrow2_offset.specs.Offsets.{AreOffsets}
 use Rattle.arrow2_offset.specs.Refused.{first_broken}
 use Rattle.arrow2_offset.specs.declared.check.BrokenRule.{BrokenRule}
 use Rattle.arrow2_offset.specs.declared.check.BrokenRule.TheVariants.{Empty, Negative, Falling}
-use Rattle.arrow2_ffi.specs.Rules.{rule_code, TellsBroken}
+use Rattle.arrow2_ffi.specs.Rules.{rule_code, ReportsBrokenRule}
 use Rattle.arrow2_ffi.proofs.offset_calls.refusal.Goals as goal
 
 -- the code of the rule that is broken first determines it
-tells : (rule : BrokenRule) (xs : List ℤ) → (AreOffsets xs → IsNone (Some rule)) → rule ≡ first_broken xs → TellsBroken (rule_code rule) xs
+tells : (rule : BrokenRule) (xs : List ℤ) → (AreOffsets xs → IsNone (Some rule)) → rule ≡ first_broken xs → ReportsBrokenRule (rule_code rule) xs
 tells Empty xs accepted e = record { broken = λ are. let no = accepted are in cc; rule = ap rule_code e; other = λ e. omega (arith, e) }
 tells Negative xs accepted e = record { broken = λ are. let no = accepted are in cc; rule = ap rule_code e; other = λ e. omega (arith, e) }
 tells Falling xs accepted e = record { broken = λ are. let no = accepted are in cc; rule = ap rule_code e; other = λ e. omega (arith, e) }

@@ -1,5 +1,5 @@
 use Rattle.arrow2_model.specs.Storage.{items_of}
-use Rattle.arrow2_bitmap.proofs.Asked.{told-each, if-both}
+use Rattle.arrow2_bitmap.proofs.Predicates.{told-each, if-both}
 use Rattle.arrow2_bitmap.proofs.immutable.Bitmap.from_slice_with.Goals as goal
 
 pub returns-clause-items : goal.returns-clause-items

@@ -2,7 +2,7 @@ use Rattle.std.proofs.Common.{ℕ, ◌<◌, Bool, false, get_or, subst, ap, sym,
 use Rattle.std.proofs.lemmas.List.{get_or-take}
 use Rattle.std.proofs.lemmas.Result.{MatchResult-weaker}
 use Rattle.arrow2_model.specs.Bits.{bits}
-use Rattle.arrow2_bitmap.proofs.Asked.{told-below}
+use Rattle.arrow2_bitmap.proofs.Predicates.{told-below}
 use Rattle.arrow2_bitmap.proofs.immutable.Bitmap.try_from_fn.Goals as goal
 
 pub returns-clause-items : goal.returns-clause-items

@@ -1,5 +1,5 @@
 use Rattle.std.proofs.Common.{◌<◌, ◌∙◌, length, sym, true, false, arith}
-use Rattle.arrow2_datatypes.proofs.Kept.{kept_more, kept_same, back_stays, back_same, length_stays}
+use Rattle.arrow2_datatypes.proofs.Filter.{kept_more, kept_same, back_stays, back_same, length_stays}
 use Rattle.arrow2_datatypes.proofs.schema.Schema.filter.Goals as goal
 use Rattle.arrow2_datatypes.proofs.schema.Schema.filter.Goals.{then-predicate, else-predicate}
 

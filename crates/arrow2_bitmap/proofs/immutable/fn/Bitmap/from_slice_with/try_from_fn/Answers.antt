@@ -5,4 +5,4 @@ pub f-requires : goal.f-requires
 f-requires g c = c.requires.callable c.args.index _ c.requires.inside (sym c.index-items-index.is)
 
 pub returns : goal.returns
-returns g c = record { item = _; there = sym c.index-items-index.is; told = c.f.ensures }
+returns g c = record { item = _; is_item = sym c.index-items-index.is; returned = c.f.ensures }

@@ -4,7 +4,7 @@ use Rattle.std.specs.Prelude.{filter}
 use Rattle.std.specs.List.{enumerate_from, SwappedAt}
 use Rattle.std.proofs.lemmas.List.{take_more, map-append, length-take, append-nil, take-set-le, drop-set-lt, get_or-drop, drop-drop, length-set}
 use Rattle.std.proofs.lemmas.List.Elements.{filter-append}
-use Rattle.arrow2_datatypes.specs.Kept.{accepted}
+use Rattle.arrow2_datatypes.specs.Filter.{accepted}
 
 enumerate-append : {X : Type 0} (n : ℕ) (xs ys : List X) → enumerate_from n (xs ++ ys) ≡ enumerate_from n xs ++ enumerate_from (n + length xs) ys
 enumerate-append n [] ys = rw add-zero refl

@@ -5,12 +5,12 @@ use denote.Ref.{Bor}
 use Rattle.arrow2_datatypes.specs.declared.field.Field.{Field}
 
 -- a predicate may be called with each index of a list and the field there
-abbrev pub MayBeAsked : (ℕ → Bor Field → Type 0) → List Field → Type 0
-MayBeAsked may fields = (index : ℕ) (field : Bor Field) → index < length fields → slice_index_or fields index field.now ≡ field.now → may index field
+abbrev pub IsCallableWithFields : (ℕ → Bor Field → Type 0) → List Field → Type 0
+IsCallableWithFields may fields = (index : ℕ) (field : Bor Field) → index < length fields → slice_index_or fields index field.now ≡ field.now → may index field
 
 -- every result at one of the first n indices and a field is that of accepts
-abbrev pub AnswersAs : ℕ → (ℕ → Bor Field → Bool → Type 0) → (ℕ → Field → Bool) → Type 0
-AnswersAs n answers accepts = (index : ℕ) (field : Bor Field) (answer : Bool) → index < n → answers index field answer → answer ≡ accepts index field.now
+abbrev pub ReturnsOnFields : ℕ → (ℕ → Bor Field → Bool → Type 0) → (ℕ → Field → Bool) → Type 0
+ReturnsOnFields n answers accepts = (index : ℕ) (field : Bor Field) (answer : Bool) → index < n → answers index field answer → answer ≡ accepts index field.now
 
 -- the items that are accepted, each by its index in the list and by itself, in order
 abbrev pub accepted : {X : Type 0} → (ℕ → X → Bool) → List X → List X
