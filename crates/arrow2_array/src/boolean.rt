@@ -295,16 +295,20 @@ impl BooleanArray {
     /// `OutOfMemory` alone.
     pub fn and_kleene(&self, other: &BooleanArray) -> Result<BooleanArray>
         requires same_length { length' (boolean_items self.now) ≡ length' (boolean_items other.now) }
+        // The result, item by item.
         ensures items { IfOk result (λ a.
             boolean_items a ≡ by_items kleene_and (boolean_items self.now) (boolean_items other.now)) }
         ensures len { IfOk result (λ a. length' (boolean_items a) ≡ length' (boolean_items self.now)) }
+        // Its two parts: the values, also under nulls, and the validity.
         ensures values { IfOk result (λ a. items_of a.values
             ≡ each 8 (items_of self.now.values ∷ items_of other.now.values ∷ [])) }
         ensures validity { IfOk result (λ a. valid_items a.validity
             ≡ each 53060 (items_of self.now.values ∷ valid_items self.now.validity
             ∷ items_of other.now.values ∷ valid_items other.now.validity ∷ [])) }
+        // It has no bitmap exactly where neither array has one.
         ensures bitmap { IfOk result (λ a. IsNone a.validity.bitmap
             ↔ (IsNone self.now.validity.bitmap × IsNone other.now.validity.bitmap)) }
+        // The values are stored anew, and the only error is `OutOfMemory`.
         ensures storage { IfOk result (λ a. IsPacked a.values) }
         ensures only { IfErr result (λ e. e ≡ Error.OutOfMemory) }
     {
@@ -321,16 +325,20 @@ impl BooleanArray {
     /// `OutOfMemory` alone.
     pub fn or_kleene(&self, other: &BooleanArray) -> Result<BooleanArray>
         requires same_length { length' (boolean_items self.now) ≡ length' (boolean_items other.now) }
+        // The result, item by item.
         ensures items { IfOk result (λ a.
             boolean_items a ≡ by_items kleene_or (boolean_items self.now) (boolean_items other.now)) }
         ensures len { IfOk result (λ a. length' (boolean_items a) ≡ length' (boolean_items self.now)) }
+        // Its two parts: the values, also under nulls, and the validity.
         ensures values { IfOk result (λ a. items_of a.values
             ≡ each 14 (items_of self.now.values ∷ items_of other.now.values ∷ [])) }
         ensures validity { IfOk result (λ a. valid_items a.validity
             ≡ each 64648 (items_of self.now.values ∷ valid_items self.now.validity
             ∷ items_of other.now.values ∷ valid_items other.now.validity ∷ [])) }
+        // It has no bitmap exactly where neither array has one.
         ensures bitmap { IfOk result (λ a. IsNone a.validity.bitmap
             ↔ (IsNone self.now.validity.bitmap × IsNone other.now.validity.bitmap)) }
+        // The values are stored anew, and the only error is `OutOfMemory`.
         ensures storage { IfOk result (λ a. IsPacked a.values) }
         ensures only { IfErr result (λ e. e ≡ Error.OutOfMemory) }
     {
@@ -340,16 +348,20 @@ impl BooleanArray {
     /// Returns the result of the operator for both, item by item: by its tables.
     fn by_operator(&self, operator: Operator, other: &BooleanArray) -> Result<BooleanArray>
         requires same_length { length' (boolean_items self.now) ≡ length' (boolean_items other.now) }
+        // The result, item by item.
         ensures items { IfOk result (λ a. boolean_items a
             ≡ by_items (kleene operator) (boolean_items self.now) (boolean_items other.now)) }
         ensures len { IfOk result (λ a. length' (boolean_items a) ≡ length' (boolean_items self.now)) }
+        // Its two parts: the values, also under nulls, and the validity.
         ensures values { IfOk result (λ a. items_of a.values
             ≡ each (values_table operator) (items_of self.now.values ∷ items_of other.now.values ∷ [])) }
         ensures validity { IfOk result (λ a. valid_items a.validity
             ≡ each (known_table operator) (items_of self.now.values ∷ valid_items self.now.validity
             ∷ items_of other.now.values ∷ valid_items other.now.validity ∷ [])) }
+        // It has no bitmap exactly where neither array has one.
         ensures bitmap { IfOk result (λ a. IsNone a.validity.bitmap
             ↔ (IsNone self.now.validity.bitmap × IsNone other.now.validity.bitmap)) }
+        // The values are stored anew, and the only error is `OutOfMemory`.
         ensures storage { IfOk result (λ a. IsPacked a.values) }
         ensures only { IfErr result (λ e. e ≡ Error.OutOfMemory) }
     {

@@ -21,8 +21,10 @@ use std::ops::{BitAnd, BitAndAssign, BitOr, BitOrAssign, BitXor, BitXorAssign, N
 /// Differs from arrow2: padding bits don't reach `op`, and are false afterwards.
 pub fn unary_assign<T: BitChunk, F: Fn(T) -> T>(bitmap: &mut MutableBitmap, op: F)
     requires callable { F.IsAlwaysCallable op }
+    // For every word function `f` that `op` computes.
     ensures kernel { (f : ℕ → ℕ) → IsUnary T.BitChunk.WIDTH T.BitChunk.number (F.post op) f →
         bitmap.new.items ≡ unary_kernel T.BitChunk.WIDTH f bitmap.old.items }
+    // For every table `t` by which `op` acts on each bit.
     ensures table { (t : ℕ) → ActsUnary T.BitChunk.WIDTH T.BitChunk.number (F.post op) t →
         bitmap.new.items ≡ each t (bitmap.old.items ∷ []) }
     ensures len { length bitmap.new.items ≡ length bitmap.old.items }
@@ -40,8 +42,10 @@ pub fn unary_assign<T: BitChunk, F: Fn(T) -> T>(bitmap: &mut MutableBitmap, op: 
 pub fn binary_assign<T: BitChunk, F: Fn(T, T) -> T>(lhs: &mut MutableBitmap, rhs: &Bitmap, op: F)
     requires callable { F.IsAlwaysCallable op }
     requires same_length { length lhs.old.items ≡ length (items_of rhs.now) }
+    // For every word function `f` that `op` computes.
     ensures kernel { (f : ℕ → ℕ → ℕ) → IsBinary T.BitChunk.WIDTH T.BitChunk.number (F.post op) f →
         lhs.new.items ≡ binary_kernel T.BitChunk.WIDTH f lhs.old.items (items_of rhs.now) }
+    // For every table `t` by which `op` acts on each bit.
     ensures table { (t : ℕ) → ActsBinary T.BitChunk.WIDTH T.BitChunk.number (F.post op) t →
         lhs.new.items ≡ each t (lhs.old.items ∷ items_of rhs.now ∷ []) }
     ensures len { length lhs.new.items ≡ length lhs.old.items }

@@ -35,16 +35,20 @@ pub fn from_rows<S: WordRows<u64>, F: Fn(S::Row) -> u64>(
     rows: S,
     op: F,
 ) -> Result<Bitmap>
+    // `op` accepts each row, and each list of `rows` has `length` items.
     requires callable { F.IsAlwaysCallable op }
     requires alike { S.alike rows }
     requires length { S.length rows ≡ length }
+    // For every word function `f` that `op` computes: the items are what `f` gives for the lists.
     ensures kernel { (f : List ℕ → ℕ) (lists : List (List Bool)) →
         IsRowFunction 64 S.words (λ x. x) (F.post op) f →
         AreRowsOf 64 lists (S.row_at rows) length →
         IfOk result (λ b. items_of b ≡ kernel 64 f lists) }
+    // For every table `t` by which `op` acts on each bit: the outputs of `t` for the lists.
     ensures table { (t : ℕ) (lists : List (List Bool)) →
         ActsOnRows 64 S.words (λ x. x) (F.post op) t → AreRowsOf 64 lists (S.row_at rows) length →
         IfOk result (λ b. items_of b ≡ each t lists) }
+    // It is stored in canonical bytes, and the only error is `OutOfMemory`.
     ensures len { IfOk result (λ b. length' (items_of b) ≡ length) }
     ensures storage { IfOk result (λ b. IsPacked b) }
     ensures only { IfErr result (λ e. e ≡ Error.OutOfMemory) }
@@ -64,10 +68,13 @@ pub fn from_rows<S: WordRows<u64>, F: Fn(S::Row) -> u64>(
 /// `OutOfMemory` alone.
 pub fn unary<F: Fn(u64) -> u64>(lhs: &Bitmap, op: F) -> Result<Bitmap>
     requires callable { F.IsAlwaysCallable op }
+    // For every word function `f` that `op` computes.
     ensures kernel { (f : ℕ → ℕ) → IsUnary 64 (λ x. x) (F.post op) f →
         IfOk result (λ b. items_of b ≡ unary_kernel 64 f (items_of lhs.now)) }
+    // For every table `t` by which `op` acts on each bit.
     ensures table { (t : ℕ) → ActsUnary 64 (λ x. x) (F.post op) t →
         IfOk result (λ b. items_of b ≡ each t (items_of lhs.now ∷ [])) }
+    // It is stored in canonical bytes, and the only error is `OutOfMemory`.
     ensures len { IfOk result (λ b. length' (items_of b) ≡ length' (items_of lhs.now)) }
     ensures storage { IfOk result (λ b. IsPacked b) }
     ensures only { IfErr result (λ e. e ≡ Error.OutOfMemory) }
@@ -94,10 +101,13 @@ pub fn unary<F: Fn(u64) -> u64>(lhs: &Bitmap, op: F) -> Result<Bitmap>
 pub fn binary<F: Fn(u64, u64) -> u64>(lhs: &Bitmap, rhs: &Bitmap, op: F) -> Result<Bitmap>
     requires callable { F.IsAlwaysCallable op }
     requires same_length { length' (items_of lhs.now) ≡ length' (items_of rhs.now) }
+    // For every word function `f` that `op` computes.
     ensures kernel { (f : ℕ → ℕ → ℕ) → IsBinary 64 (λ x. x) (F.post op) f →
         IfOk result (λ b. items_of b ≡ binary_kernel 64 f (items_of lhs.now) (items_of rhs.now)) }
+    // For every table `t` by which `op` acts on each bit.
     ensures table { (t : ℕ) → ActsBinary 64 (λ x. x) (F.post op) t →
         IfOk result (λ b. items_of b ≡ each t (items_of lhs.now ∷ items_of rhs.now ∷ [])) }
+    // It is stored in canonical bytes, and the only error is `OutOfMemory`.
     ensures len { IfOk result (λ b. length' (items_of b) ≡ length' (items_of lhs.now)) }
     ensures storage { IfOk result (λ b. IsPacked b) }
     ensures only { IfErr result (λ e. e ≡ Error.OutOfMemory) }

@@ -243,10 +243,13 @@ impl Bitmap {
     /// `OutOfMemory` alone.
     pub fn try_from_fn<F: Fn(usize) -> bool>(alloc: Global, length: usize, f: F) -> Result<Bitmap>
         requires callable { (index : ℕ) → index < length → F.pre f index }
+        // Where `f` computes a function `test`.
         ensures items { (test : ℕ → Bool) → ReturnsBelow length (F.post f) test →
             IfOk result (λ b. items_of b ≡ map test (range_with_len 0 length)) }
+        // For any `f`: each item is what one of its calls returned.
         ensures answers { IfOk result (λ b. (index : ℕ) → index < length →
             F.post f index (slice_index_or (items_of b) index false)) }
+        // It is stored in canonical bytes, and the only error is `OutOfMemory`.
         ensures len { IfOk result (λ b. length' (items_of b) ≡ length) }
         ensures storage { IfOk result (λ b. IsPacked b) }
         ensures only { IfErr result (λ e. e ≡ Error.OutOfMemory) }
@@ -265,10 +268,13 @@ impl Bitmap {
     /// `OutOfMemory` alone.
     pub fn from_slice_with<T, F: Fn(&T) -> bool>(alloc: Global, items: &[T], f: F) -> Result<Bitmap>
         requires callable { IsCallableWithEach items.now (F.pre f) }
+        // Where `f` computes a function `test`.
         ensures items { (test : T → Bool) → ReturnsOnEach items.now (F.post f) test →
             IfOk result (λ b. items_of b ≡ map test items.now) }
+        // For any `f`: each item is what one of its calls returned.
         ensures answers { IfOk result (λ b. (index : ℕ) → index < length' items.now →
             IsResultAt items.now (F.post f) index (slice_index_or (items_of b) index false)) }
+        // It is stored in canonical bytes, and the only error is `OutOfMemory`.
         ensures len { IfOk result (λ b. length' (items_of b) ≡ length' items.now) }
         ensures storage { IfOk result (λ b. IsPacked b) }
         ensures only { IfErr result (λ e. e ≡ Error.OutOfMemory) }
@@ -300,11 +306,14 @@ impl Bitmap {
     ) -> Result<Bitmap>
         requires same_length { length' left.now ≡ length' right.now }
         requires callable { IsCallableWithPairs left.now right.now (F.pre f) }
+        // Where `f` computes a function `test`.
         ensures items { (test : S → T → Bool) → ReturnsOnPairs left.now right.now (F.post f) test →
             IfOk result (λ b. items_of b ≡ zip2 test left.now right.now) }
+        // For any `f`: each item is what one of its calls returned.
         ensures answers { IfOk result (λ b. (index : ℕ) → index < length' left.now →
             IsPairResultAt left.now right.now (F.post f) index
             (slice_index_or (items_of b) index false)) }
+        // It is stored in canonical bytes, and the only error is `OutOfMemory`.
         ensures len { IfOk result (λ b. length' (items_of b) ≡ length' left.now) }
         ensures storage { IfOk result (λ b. IsPacked b) }
         ensures only { IfErr result (λ e. e ≡ Error.OutOfMemory) }
@@ -332,6 +341,7 @@ impl Bitmap {
     ///
     /// arrow2 has no such call, since its calls take no allocator.
     pub fn allocator(&self) -> Global
+        // There is one `Global` only.
         ensures { (only : Global) → result ≡ only }
     {
         self.bytes.allocator()

@@ -248,13 +248,16 @@ impl MutableBitmap {
     /// `Overflow` exactly where the length and `additional` pass `usize::MAX` together, else `OutOfMemory` alone.
     /// After both the bitmap holds the items that it held.
     pub fn reserve(&mut self, additional: usize) -> Result<()>
+        // The items stay, and `additional` more fit.
         ensures items { self.new.items ≡ self.old.items }
         ensures ok { OnOk result (length self.old.items + additional ≤ self.new.capacity) }
         ensures held { length self.old.items ≤ self.old.capacity }
+        // When each error comes, and when none does.
         ensures overflow { IsErrOf result Error.Overflow ↔
             (2 ^ 64 ≤ length self.old.items + additional) }
         ensures only { IfErr result (λ e. (e ≡ Error.Overflow) ⊎ (e ≡ Error.OutOfMemory)) }
         ensures succeeds { length self.old.items + additional ≤ self.old.capacity → IsOk result }
+        // The capacity never falls.
         ensures capacity { self.old.capacity ≤ self.new.capacity }
     {
         self.bits.reserve(additional)?;
@@ -366,6 +369,7 @@ impl MutableBitmap {
     ///
     /// arrow2 has no such call, since its calls take no allocator.
     pub fn allocator(&self) -> Global
+        // There is one `Global` only.
         ensures { (only : Global) → result ≡ only }
     {
         self.bits.allocator()

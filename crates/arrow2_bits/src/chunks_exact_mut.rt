@@ -49,11 +49,13 @@ impl<'a, T: BitChunk> BitChunksExactMut<'a, T> {
     /// Returns an iterator over the first `length` bits. Requires that they are inside the bytes, where arrow2 panics.
     pub fn new(bytes: &'a mut [u8], length: usize) -> BitChunksExactMut<'a, T>
         requires { length ≤ 8 * length' bytes.old }
+        // The full chunks, of which the first comes next.
         ensures bytes { result.bytes ≡ take
             (T.NativeType.SIZE * (length / 8 / T.NativeType.SIZE)) bytes.old }
         ensures at { result.at ≡ 0 }
         ensures size { result.size ≡ T.NativeType.SIZE }
         ensures left { chunks_left result ≡ length / 8 / T.NativeType.SIZE }
+        // The bytes after them, and the number of their bits.
         ensures remainder { let full = T.NativeType.SIZE * (length / 8 / T.NativeType.SIZE) in
             result.remainder ≡ part bytes.old full ((length + 7) / 8 - full) }
         ensures remainder_len { result.remainder_len

@@ -44,11 +44,14 @@ pub fn recount(
     start: usize,
     count: usize,
 ) -> usize
+    // The bits are inside, the part is among them, and their count is `unset`.
     requires inside { offset + len ≤ 8 * length stored.old.bytes }
     requires among { start + count ≤ len }
     requires unset { unset ≡ falses (part (bits stored.old.bytes) offset len) }
+    // The count of the part; the bytes stay.
     ensures zeros { result ≡ falses (part (bits stored.old.bytes) (offset + start) count) }
     ensures bytes { stored.new.bytes ≡ stored.old.bytes }
+    // The bytes counted as read: exactly, and at most.
     ensures reads { stored.new.reads ≡ stored.old.reads + slice_reads offset len start count }
     ensures bound { stored.new.reads ≤ stored.old.reads + len / 16 + 4 }
 {
@@ -168,12 +171,15 @@ fn ones_in_words<T: BitChunk, const N: usize>(
     first: usize,
     words: usize,
 ) -> usize
+    // The words are inside the bytes, and no number of theirs overflows.
     requires width { T.BitChunk.WIDTH ≡ 8 * N }
     requires fits { first + N * words < 2 ^ 64 }
     requires few { 8 * (N * words) < 2 ^ 64 }
     requires inside { first + N * words ≤ length stored.old.bytes }
+    // The set bits are those that are not unset.
     ensures ones { result + falses (part (bits stored.old.bytes) (8 * first) (8 * (N * words)))
         ≡ 8 * (N * words) }
+    // The bytes stay, and each is counted as read once.
     ensures bytes { stored.new.bytes ≡ stored.old.bytes }
     ensures reads { stored.new.reads ≡ stored.old.reads + N * words }
 {

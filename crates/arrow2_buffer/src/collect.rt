@@ -43,12 +43,15 @@ pub(crate) fn collected<T: Drop, I: Iterator<Item = T>>(
 /// Appends items of an iterator while there is spare capacity. Returns the items, and whether the iterator may yield
 /// more.
 fn filled<T: Drop, I: Iterator<Item = T>>(items: Vec<T>, source: &mut I) -> (Vec<T>, bool)
+    // The iterator can be advanced, and ends.
     requires can { I.can_next source.old }
     requires ends { IsFinite (I.remaining source.old) }
+    // Where it may yield more, that is still so, and it has come no further from its end.
     ensures can { result.1 ≡ true → I.can_next source.new }
     ensures ends { result.1 ≡ true → IsFinite (I.remaining source.new) }
     ensures nearer { result.1 ≡ true →
         size (I.remaining source.new) ≤ size (I.remaining source.old) }
+    // The items are those that it yielded, after those before; where the second part is false it ended.
     ensures more { result.1 ≡ true → (it : I) → Yields I.next_gives it items.items source.old →
         Yields I.next_gives it result.0.items source.new }
     ensures ended { result.1 ≡ false → (it : I) → Yields I.next_gives it items.items source.old →

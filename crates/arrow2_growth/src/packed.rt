@@ -52,12 +52,15 @@ pub fn collected<I: Iterator<Item = bool> + Drop>(
 /// Writes the next items into a block, from its first slot on, until it is full or no item is left, and returns how
 /// many were written.
 fn fill<I: Iterator<Item = bool>>(items: &mut I, block: &mut [bool; 64]) -> usize
+    // The iterator can be advanced, and ends.
     requires can { I.can_next items.old }
     requires ends { IsFinite (I.remaining items.old) }
+    // A full block has the next 64 items.
     ensures size { length block.new ≡ 64 }
     ensures few { result ≤ 64 }
     ensures full { result ≡ 64 → Yields I.next_gives items.old block.new items.new }
     ensures goes { result ≡ 64 → IsNearerEnd I.can_next I.remaining items.old items.new }
+    // Else the iterator ended after the first `result` items of the block.
     ensures ended { result < 64 → YieldsThen I.next_gives items.old
         (take result block.new) None items.new }
 {

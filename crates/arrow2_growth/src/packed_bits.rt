@@ -138,13 +138,17 @@ impl PackedBits {
     ///
     /// `Overflow` exactly where they would be more than `usize::MAX`, else `OutOfMemory` alone.
     pub fn reserve(&mut self, additional: usize) -> Result<(), Refusal>
+        // The items stay, and `additional` more fit.
         ensures items { self.new.items ≡ self.old.items }
         ensures ok { OnOk result (length self.old.items + additional ≤ self.new.capacity) }
+        // Facts that the type guarantees.
         ensures fits { length self.old.items < 2 ^ 64 }
         ensures held { length self.old.items ≤ self.old.capacity }
+        // When each error comes, and when none does.
         ensures overflow { IsErrOf result refusal.Overflow ↔
             (2 ^ 64 ≤ length self.old.items + additional) }
         ensures succeeds { length self.old.items + additional ≤ self.old.capacity → IsOk result }
+        // The capacity never falls.
         ensures capacity { self.old.capacity ≤ self.new.capacity }
     {
         let Some(total) = self.length.checked_add(additional) else {
@@ -296,17 +300,21 @@ impl PackedBits {
         rows: S,
         op: F,
     )
+        // `op` accepts each row, and each list of `rows` has as many items.
         requires callable { F.IsAlwaysCallable op }
         requires alike { S.alike rows }
         requires length { S.length rows ≡ length' self.old.items }
+        // For every word function `f` that `op` computes of its own word and a row.
         ensures kernel { (f : List ℕ → ℕ) (lists : List (List Bool)) →
             IsOwnRowFunction T.BitChunk.WIDTH S.words T.BitChunk.number (F.post op) f →
             ((j : ℕ) → S.row_at rows j ≡ words_at T.BitChunk.WIDTH lists j) →
             self.new.items ≡ kernel T.BitChunk.WIDTH f (self.old.items ∷ lists) }
+        // For every table `t` by which `op` acts on each bit.
         ensures table { (t : ℕ) (lists : List (List Bool)) →
             ActsBesideRows T.BitChunk.WIDTH S.words T.BitChunk.number (F.post op) t →
             ((j : ℕ) → S.row_at rows j ≡ words_at T.BitChunk.WIDTH lists j) →
             self.new.items ≡ each t (self.old.items ∷ lists) }
+        // The number of items and the capacity stay.
         ensures len { length' self.new.items ≡ length' self.old.items }
         ensures capacity { self.new.capacity ≡ self.old.capacity }
     {

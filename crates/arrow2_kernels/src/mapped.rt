@@ -20,13 +20,17 @@ pub fn write_rows<S: WordRows<u64>, F: Fn(S::Row) -> u64>(
     rows: S,
     op: F,
 )
+    // `op` accepts each row, and each list of `rows` has `length` items.
     requires callable { F.IsAlwaysCallable op }
     requires alike { S.alike rows }
     requires length { S.length rows ≡ length }
     requires exact { length' bytes.old ≡ (length + 7) / 8 }
+    // Padding bits are false.
     ensures canonical { IsCanonical bytes.new length }
+    // For every word function `f` that `op` computes.
     ensures items { (f : List ℕ → ℕ) → IsRowFunction 64 S.words (λ x. x) (F.post op) f →
         take length (bits bytes.new) ≡ joined 64 (λ j. f (S.row_at rows j)) length }
+    // For every table `t` by which `op` acts on each bit.
     ensures table { (t : ℕ) (lists : List (List Bool)) →
         ActsOnRows 64 S.words (λ x. x) (F.post op) t → AreRowsOf 64 lists (S.row_at rows) length →
         take length (bits bytes.new) ≡ each t lists }

@@ -60,18 +60,22 @@ fn appended<O: Offset, I: Iterator<Item = usize> + Drop>(
     mut offsets: Vec<O>,
     lengths: I,
 ) -> (Vec<O>, Result<(), Refusal>)
+    // The vector holds offsets, and the iterator ends.
     requires valid { AreOffsetsUpTo O.MAX (map O.value offsets.items) }
     requires can { I.can_next lengths }
     requires ends { IsFinite (I.remaining lengths) }
+    // The offsets that were there stay; with `Ok` those of all lengths come after them.
     ensures valid { OnOk result.1 (AreOffsetsUpTo O.MAX (map O.value result.0.items)) }
     ensures front { take (length offsets.items) result.0.items ≡ offsets.items }
     ensures ok { OnOk result.1 (WholeRun I.next_gives lengths (λ p.
         LengthenedBy p.items (map O.value offsets.items) (map O.value result.0.items))) }
+    // An error comes only where the iterator may give too many lengths.
     ensures overflow { IsErrOf result.1 refusal.Overflow →
         GivesPast O.MAX (last_of (map O.value offsets.items)) I.next_gives lengths }
     ensures room { IsErrOf result.1 refusal.OutOfMemory →
         GivesMoreThan (vec_capacity offsets - 1
         - length (lengths_of (map O.value offsets.items))) I.next_gives lengths }
+    // The capacity never falls.
     ensures capacity { vec_capacity offsets ≤ vec_capacity result.0 }
 {
     let greatest = O::MAX as u128;

@@ -171,10 +171,13 @@ impl<O: Offset> Offsets<O> {
     ///
     /// `OutOfMemory` alone. After it the offsets are as they were.
     pub fn reserve(&mut self, additional: usize) -> Result<()>
+        // The offsets stay, and `additional` more lengths fit.
         ensures items { SameOffsets self.old self.new }
         ensures ok { OnOk result (slots self.old + additional ≤ self.new.capacity) }
+        // The capacity never falls, and holds the slots that there are.
         ensures capacity { self.old.capacity ≤ self.new.capacity }
         ensures held { slots self.old ≤ self.old.capacity }
+        // When it succeeds, and which error can come.
         ensures succeeds { slots self.old + additional ≤ self.old.capacity → IsOk result }
         ensures only { IfErr result (λ e. e ≡ Error.OutOfMemory) }
     {

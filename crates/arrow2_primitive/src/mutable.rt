@@ -224,13 +224,16 @@ impl<T: NativeType> MutablePrimitiveArray<T> {
     /// `Overflow` exactly where the length and `additional` pass `usize::MAX` together, else `OutOfMemory` alone. After
     /// both the array holds the items that it held.
     pub fn reserve(&mut self, additional: usize) -> Result<()>
+        // The array stays, and `additional` more items fit.
         ensures items { self.new.items ≡ self.old.items }
         ensures data_type { self.new.data_type ≡ self.old.data_type }
         ensures ok { OnOk result (length self.old.items + additional ≤ self.new.capacity) }
+        // When each error comes, and when none does.
         ensures overflow { IsErrOf result Error.Overflow ↔
             (2 ^ 64 ≤ length self.old.items + additional) }
         ensures only { IfErr result (λ e. (e ≡ Error.Overflow) ⊎ (e ≡ Error.OutOfMemory)) }
         ensures succeeds { length self.old.items + additional ≤ self.old.capacity → IsOk result }
+        // The capacity never falls.
         ensures capacity { self.old.capacity ≤ self.new.capacity }
     {
         self.validity.reserve(additional)?;

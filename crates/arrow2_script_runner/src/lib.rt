@@ -24,14 +24,18 @@ pub fn replay<R: Read, W: Write>(
     reader: &mut Watched<R>,
     writer: &mut Watched<W>,
 ) -> Result<(), ReplayFault>
+    // With `Ok` the replies to the whole script were written, and the reader is at its end.
     ensures ok { OnOk result (IfSome (R.remaining reader.old.inner) (λ script.
         Appends (W.contents writer.old.inner) (W.contents writer.new.inner) (text script))) }
     ensures end { OnOk result (IsAtEnd (R.remaining reader.new.inner)) }
+    // In any case a prefix of the replies was written, and nothing where no write failed.
     ensures begins { IfSome (R.remaining reader.old.inner) (λ script.
         (n : ℕ) × Appends (W.contents writer.old.inner) (W.contents writer.new.inner)
         (take n (text script))) }
     ensures untouched { IfErr result (λ e. e ≢ ReplayFault.Write → writer.new ≡ writer.old) }
+    // With `Ok` the writer was flushed after its last write.
     ensures flushed { OnOk result (writer.new.unflushed ≡ 0) }
+    // A fault comes exactly where a call failed.
     ensures read { IsErrOf result ReplayFault.Read ↔ reader.old.failed < reader.new.failed }
     ensures write { IsErrOf result ReplayFault.Write ↔ writer.old.failed < writer.new.failed }
 {

@@ -28,12 +28,15 @@ pub fn ternary<F: Fn(u64, u64, u64) -> u64>(
     requires callable { F.IsAlwaysCallable op }
     requires same_length2 { length' (items_of a1.now) ≡ length' (items_of a2.now) }
     requires same_length3 { length' (items_of a1.now) ≡ length' (items_of a3.now) }
+    // For every word function `f` that `op` computes.
     ensures kernel { (f : ℕ → ℕ → ℕ → ℕ) → IsTernary 64 (λ x. x) (F.post op) f →
         IfOk result (λ b.
         items_of b ≡ ternary_kernel 64 f (items_of a1.now) (items_of a2.now) (items_of a3.now)) }
+    // For every table `t` by which `op` acts on each bit.
     ensures table { (t : ℕ) → ActsTernary 64 (λ x. x) (F.post op) t →
         IfOk result (λ b.
         items_of b ≡ each t (items_of a1.now ∷ items_of a2.now ∷ items_of a3.now ∷ [])) }
+    // It is stored in canonical bytes, and the only error is `OutOfMemory`.
     ensures len { IfOk result (λ b. length' (items_of b) ≡ length' (items_of a1.now)) }
     ensures storage { IfOk result (λ b. IsPacked b) }
     ensures only { IfErr result (λ e. e ≡ Error.OutOfMemory) }
@@ -77,14 +80,17 @@ pub fn quaternary<F: Fn(u64, u64, u64, u64) -> u64>(
     requires same_length2 { length' (items_of a1.now) ≡ length' (items_of a2.now) }
     requires same_length3 { length' (items_of a1.now) ≡ length' (items_of a3.now) }
     requires same_length4 { length' (items_of a1.now) ≡ length' (items_of a4.now) }
+    // For every word function `f` that `op` computes.
     ensures kernel { (f : ℕ → ℕ → ℕ → ℕ → ℕ) → IsQuaternary 64 (λ x. x) (F.post op) f →
         IfOk result (λ b.
         items_of b ≡ quaternary_kernel 64 f (items_of a1.now) (items_of a2.now)
         (items_of a3.now) (items_of a4.now)) }
+    // For every table `t` by which `op` acts on each bit.
     ensures table { (t : ℕ) → ActsQuaternary 64 (λ x. x) (F.post op) t →
         IfOk result (λ b.
         items_of b ≡ each t (items_of a1.now ∷ items_of a2.now ∷ items_of a3.now
         ∷ items_of a4.now ∷ [])) }
+    // It is stored in canonical bytes, and the only error is `OutOfMemory`.
     ensures len { IfOk result (λ b. length' (items_of b) ≡ length' (items_of a1.now)) }
     ensures storage { IfOk result (λ b. IsPacked b) }
     ensures only { IfErr result (λ e. e ≡ Error.OutOfMemory) }
@@ -153,8 +159,10 @@ pub fn quaternary_table(
     requires same_length2 { length' (items_of a1.now) ≡ length' (items_of a2.now) }
     requires same_length3 { length' (items_of a1.now) ≡ length' (items_of a3.now) }
     requires same_length4 { length' (items_of a1.now) ≡ length' (items_of a4.now) }
+    // The outputs of the table, item by item.
     ensures items { IfOk result (λ b. items_of b
         ≡ each t (items_of a1.now ∷ items_of a2.now ∷ items_of a3.now ∷ items_of a4.now ∷ [])) }
+    // It is stored in canonical bytes, and the only error is `OutOfMemory`.
     ensures len { IfOk result (λ b. length' (items_of b) ≡ length' (items_of a1.now)) }
     ensures storage { IfOk result (λ b. IsPacked b) }
     ensures only { IfErr result (λ e. e ≡ Error.OutOfMemory) }

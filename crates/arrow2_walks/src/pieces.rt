@@ -89,12 +89,15 @@ impl Pieces {
     pub fn cut(&mut self, p: usize, i: usize) -> Result<()>
         requires below { p < length self.old.pieces }
         requires inside { i ≤ length (piece_at self.old.pieces p).items }
+        // The pieces with this one cut in two, and the reads of both slices.
         ensures ok { OnOk result (self.new.pieces ≡ cut_at self.old.pieces p i) }
         ensures reads { OnOk result (let old = piece_at self.old.pieces p in
             self.new.reads ≡ self.old.reads + cut_reads old.offset (length old.items) i) }
+        // In any case the items in all stay, and the bound on reads holds.
         ensures joined { joined self.new.pieces ≡ joined self.old.pieces }
         ensures bound { let n = length (joined self.old.pieces) in
             8 * self.new.reads ≤ 2 * (n * lg n) + 30 * (length self.new.pieces - 1) }
+        // A cut that is refused changes and counts nothing.
         ensures err { OnErr result (self.new ≡ self.old) }
         ensures only { IfErr result (λ e. e ≡ Error.OutOfMemory) }
     {
@@ -107,14 +110,17 @@ impl Pieces {
 fn cut_in_two(bitmaps: &mut Vec<Bitmap>, p: usize, i: usize, reads: &mut Reads) -> Result<()>
     requires below { p < length bitmaps.old.items }
     requires inside { i ≤ length (piece_at (map piece_of bitmaps.old.items) p).items }
+    // The pieces with this one cut in two, and the reads of both slices.
     ensures ok { OnOk result (map piece_of bitmaps.new.items
         ≡ cut_at (map piece_of bitmaps.old.items) p i) }
     ensures reads { OnOk result (let old = piece_at (map piece_of bitmaps.old.items) p in
         reads.new ≡ reads.old + cut_reads old.offset (length old.items) i) }
+    // In any case the items in all stay, and the budget of reads holds.
     ensures joined { joined (map piece_of bitmaps.new.items)
         ≡ joined (map piece_of bitmaps.old.items) }
     ensures paid { IsWithinBudget (map piece_of bitmaps.old.items) reads.old →
         IsWithinBudget (map piece_of bitmaps.new.items) reads.new }
+    // A cut that is refused changes and counts nothing.
     ensures err { OnErr result (bitmaps.new.items ≡ bitmaps.old.items) }
     ensures uncounted { OnErr result (reads.new ≡ reads.old) }
     ensures only { IfErr result (λ e. e ≡ Error.OutOfMemory) }
