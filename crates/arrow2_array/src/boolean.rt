@@ -32,7 +32,8 @@ use std::marker::Model;
 /// Contracts see its values and its validity; `boolean_items` is the list of its items. Slices and clones share the
 /// bytes of both.
 ///
-/// Differs from arrow2, whose array has a logical type too: `Boolean`, or an extension of it.
+/// Differs from arrow2, whose array has a logical type too: `Boolean`, or an extension of it. An array is not `Send`,
+/// and there is no trait `Array`.
 ///
 /// # Examples
 ///
@@ -207,7 +208,8 @@ impl BooleanArray {
         self.validity.bitmap()
     }
 
-    /// Returns the items' validity: their number, and the bitmap. arrow2 has no such call.
+    /// Returns the [`Validity`]: the array's length and an optional bitmap. Its calls need no branch on whether there
+    /// is a bitmap. arrow2 has no such call.
     pub fn optional_validity(&self) -> &Validity
         ensures value { result.now ≡ self.now.validity }
         ensures items { valid_items result.now ≡ map is_some (boolean_items self.now) }

@@ -20,7 +20,7 @@ use std::marker::Model;
 /// Contracts see its items and its capacity.
 ///
 /// Differs from arrow2: its validity is always there, and [`MutableBooleanArray::freeze`] leaves it out where no item
-/// is null.
+/// is null. Before `freeze` no call reads or sets an item, but for [`MutableBooleanArray::pop`].
 #[derive(Drop)]
 pub struct MutableBooleanArray {
     values: MutableBitmap,

@@ -38,7 +38,8 @@ use std::slice::Iter;
 /// Contracts see its logical type, its values and its validity; `primitive_items` is the list of its items. Slices and
 /// clones share all three.
 ///
-/// Differs from arrow2: the logical type is shared by an `Rc`, so that a clone does not allocate.
+/// Differs from arrow2: the logical type is shared by an `Rc`, so that a clone does not allocate. An array is not
+/// `Send`, there is no trait `Array`, and `for item in array.iter()` stands for `for item in &array`.
 #[derive(Drop)]
 pub struct PrimitiveArray<T: NativeType> {
     data_type: Rc<DataType>,
@@ -58,6 +59,8 @@ impl<T: NativeType> Model for PrimitiveArray<T> {
 
     ghost Value = { PrimitiveParts T };
 
+    // How a proof tells two of these values apart: by std's codes, and by that of `DataType`, a type that holds itself.
+    // `the_row` has what the kit generates for a type, and `Prim.hlevel` finds the code.
     ghost coded = { Prim.hlevel (codes, logical_type.the_row.coded) };
 
     ghost view = { λ a. record { data_type = a.data_type.value; values = a.values; validity = a.validity } };
@@ -72,9 +75,9 @@ impl<T: NativeType> PrimitiveArray<T> {
     ///
     /// # Errors
     ///
-    /// `InvalidArgumentError` exactly if the validity has another length than the values, or else the physical type of
-    /// `data_type` is not that of `T`; or `OutOfMemory` if the message cannot be allocated. Otherwise the only error is
-    /// `OutOfMemory`. After an error the arguments are dropped.
+    /// Invalid input: `InvalidArgumentError`, or `OutOfMemory` if its message cannot be allocated. The length of the
+    /// validity is checked first, then the physical type of `data_type`. Valid input: `OutOfMemory` alone. After an
+    /// error the arguments are dropped.
     pub fn try_new(
         data_type: DataType,
         values: Buffer<T>,
@@ -82,6 +85,7 @@ impl<T: NativeType> PrimitiveArray<T> {
     ) -> Result<PrimitiveArray<T>>
         ensures ok { IfOk result (λ a. (a.data_type ≡ data_type) × (a.values ≡ values)
             × (a.validity ≡ record { len = length (buffer_items values); bitmap = validity })) }
+        // `ForSome o (λ v. P)`: if `o` is `Some` of a value v, P of v.
         ensures accepted { OnOk result ((physical data_type ≡ Primitive T.PRIMITIVE)
             × ForSome validity (λ v. length (items_of v) ≡ length (buffer_items values))) }
         ensures unequal { ForSome validity (λ v. ¬ (length (items_of v) ≡ length (buffer_items values)) →
@@ -224,8 +228,6 @@ impl<T: NativeType> PrimitiveArray<T> {
     }
 
     /// Returns item `index`, or `None` where it is null. Requires that it is below the length.
-    ///
-    /// arrow2 returns what stands in the values.
     pub fn get(&self, index: usize) -> Option<T>
         requires below { index < length (primitive_items self.now) }
         ensures { result ≡ slice_index_or (primitive_items self.now) index None }
@@ -268,7 +270,8 @@ impl<T: NativeType> PrimitiveArray<T> {
         self.validity.bitmap()
     }
 
-    /// Returns the items' validity: their number, and the bitmap.
+    /// Returns the [`Validity`]: the array's length and an optional bitmap. Its calls need no branch on whether there
+    /// is a bitmap.
     pub fn optional_validity(&self) -> &Validity
         ensures value { result.now ≡ self.now.validity }
         ensures items { valid_items result.now ≡ map is_some (primitive_items self.now) }
@@ -338,18 +341,20 @@ impl<T: NativeType> PrimitiveArray<T> {
         PrimitiveArray::new(data_type, values, validity)
     }
 
-    /// Returns an array that grows, on the right, if nobody else shares the values or the bitmap, nothing of the values
-    /// is sliced off, and the bitmap's items begin at bit 0. Otherwise returns the array as it was, on the left. It is
-    /// proved that the left side is the array as it was, and that the right side has its items and its logical type and
-    /// comes only if nothing of the values is sliced off. It is not proved that the right side comes whenever nobody
-    /// else shares the storage.
+    /// Returns `Right` of an array that grows, without a copy, if the values and the bitmap have no other owner, the
+    /// values are not sliced, and the bitmap begins at bit 0; else `Left` of the array as it was. Where there is no
+    /// bitmap it makes one.
+    ///
+    /// Proved: `Left` has the whole array, `Right` its items and its logical type, and `Right` comes only if the values
+    /// are not sliced. Not proved: that `Right` comes whenever it can.
     ///
     /// Differs from arrow2, whose array that grows needs no bitmap where no item is null.
     ///
     /// # Errors
     ///
-    /// `OutOfMemory` alone. In the code it comes only if the array has no bitmap, or the bitmap is shared or begins at
-    /// a bit other than 0; no clause states that. The array is then dropped.
+    /// `OutOfMemory` alone. The array is then dropped. In the code it comes only if the values have no other owner and
+    /// are not sliced, and there is no bitmap, or one that is shared or begins at a bit other than 0. No clause states
+    /// that.
     pub fn into_mut(self) -> Result<Either<PrimitiveArray<T>, MutablePrimitiveArray<T>>>
         ensures ok { IfOk result (λ r. MatchEither r (λ a. a ≡ self)
             (λ m. (m.items ≡ primitive_items self) × (m.data_type ≡ self.data_type))) }

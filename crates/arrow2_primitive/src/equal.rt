@@ -22,8 +22,8 @@ impl<T: NativeType> PartialEq for PrimitiveArray<T> {
     ghost laws = { and_per (on_per (λ a. a.data_type) types_per)
         (on_per primitive_items (lists_per (options_per T.laws))) };
 
-    /// Where the values' own equality is equality, this is equality of the lists of items, beside that of the logical
-    /// types.
+    /// If `T::eq` decides equality, `==` is true if and only if the logical types are equal and the lists of items are
+    /// identical.
     fn eq(&self, other: &PrimitiveArray<T>) -> bool
         ensures items { result ≡ (⟦<DataType as PartialEq>⟧.eq self.now.data_type other.now.data_type
             && pointwise (option_eq T.eq) (primitive_items self.now) (primitive_items other.now)) }

@@ -10,8 +10,8 @@ use arrow2_validity::fmt::write_separator;
 use std::fmt;
 use std::fmt::Debug;
 
-/// The logical type, and behind it the items in brackets, `None` where one is null. The formatter's options change
-/// nothing.
+/// The logical type, and after it the items in brackets, `None` where one is null: `Int32[1, None, -3]`. Formatter
+/// flags are ignored.
 ///
 /// Differs from arrow2, which prints dates, times, durations and decimals by their logical type, where this prints the
 /// numbers that they are stored as.

@@ -106,7 +106,7 @@ impl<'a, T: NativeType> ExactSizeIterator for PrimitiveIter<'a, T> {
 }
 
 /// An iterator over the values of an array that are not null, in their order: contracts see the list of those still to
-/// come.
+/// come. Its size hint is that of std's trait, `(0, None)`.
 #[derive(Drop)]
 pub struct NonNullValuesIter<'a, T: NativeType> {
     items: PrimitiveIter<'a, T>,

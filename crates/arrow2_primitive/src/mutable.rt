@@ -29,7 +29,7 @@ use std::rc::Rc;
 /// Contracts see its logical type, its items, and how many fit before it allocates.
 ///
 /// Differs from arrow2: its validity is always there, and [`MutablePrimitiveArray::freeze`] leaves it out where no item
-/// is null.
+/// is null. Before `freeze` no call reads or sets an item, but for [`MutablePrimitiveArray::pop`].
 #[derive(Drop)]
 pub struct MutablePrimitiveArray<T: NativeType> {
     data_type: Rc<DataType>,
@@ -48,6 +48,8 @@ impl<T: NativeType> Model for MutablePrimitiveArray<T> {
 
     ghost Value = { GrowingPrimitive T };
 
+    // How a proof tells two of these values apart: by std's codes, and by that of `DataType`, a type that holds itself.
+    // `the_row` has what the kit generates for a type, and `Prim.hlevel` finds the code.
     ghost coded = { Prim.hlevel (codes, logical_type.the_row.coded) };
 
     ghost view = { λ a. record {
@@ -132,7 +134,7 @@ impl<T: NativeType> MutablePrimitiveArray<T> {
     ///
     /// # Errors
     ///
-    /// `Overflow`, only after `usize::MAX` items and one more, or `OutOfMemory`.
+    /// `Overflow`, only if the iterator yields more than `usize::MAX` items, or `OutOfMemory`.
     pub fn try_from_iter<I: IntoIterator<Item = Option<T>>>(
         alloc: Global,
         iter: I,

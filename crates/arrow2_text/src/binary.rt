@@ -36,7 +36,8 @@ use std::rc::Rc;
 /// Contracts see its logical type, its offsets, its bytes and its validity; `binary_items` is the list of its items,
 /// each the list of its bytes. Slices and clones share all four.
 ///
-/// Differs from arrow2: the logical type is shared by an `Rc`, so that a clone does not allocate.
+/// Differs from arrow2: the logical type is shared by an `Rc`, so that a clone does not allocate. An array is not
+/// `Send`, there is no trait `Array`, and `for item in array.iter()` stands for `for item in &array`.
 #[derive(Drop)]
 pub struct BinaryArray<O: Offset> {
     slots: Slots<O>,
@@ -51,6 +52,7 @@ impl<O: Offset> Model for BinaryArray<O> {
 
     ghost Value = { BinaryParts };
 
+    // How a proof tells two of these values apart: by std's codes, and by that of `DataType`, a type that holds itself.
     ghost coded = { Prim.hlevel (codes, logical_type.the_row.coded) };
 
     ghost view = { λ a. a.slots };
@@ -277,7 +279,8 @@ impl<O: Offset> BinaryArray<O> {
         self.optional_validity().bitmap()
     }
 
-    /// Returns the items' validity: their number, and the bitmap.
+    /// Returns the [`Validity`]: the array's length and an optional bitmap. Its calls need no branch on whether there
+    /// is a bitmap.
     pub fn optional_validity(&self) -> &Validity
         ensures value { result.now ≡ self.now.validity }
         ensures len { length (valid_items result.now) ≡ length (binary_items self.now) }
@@ -327,17 +330,19 @@ impl<O: Offset> BinaryArray<O> {
         BinaryArray::new(data_type, offsets, values, validity)
     }
 
-    /// Returns an array that grows, on the right, if nobody else shares a part of the storage, nothing is sliced off,
-    /// and the bitmap's items begin at bit 0. Otherwise returns the array as it was, on the left. It is proved that the
-    /// left side is the array as it was, and that the right side has its items and its logical type. It is not proved
-    /// when the right side comes.
+    /// Returns `Right` of an array that grows, without a copy, if offsets, bytes and bitmap have no other owner,
+    /// offsets and bytes are not sliced, the offsets begin at 0 and end after the last byte, and the bitmap begins at
+    /// bit 0; else `Left` of the array as it was. Where there is no bitmap it makes one.
+    ///
+    /// Proved: `Left` has the whole array, `Right` its items and its logical type. Not proved: when `Right` comes.
     ///
     /// Differs from arrow2, whose array that grows needs no bitmap where no item is null.
     ///
     /// # Errors
     ///
-    /// `OutOfMemory` alone. In the code it comes only if the array has no bitmap, a part of the array is shared or
-    /// sliced, or the bitmap begins at a bit other than 0; no clause states that. The array is then dropped.
+    /// `OutOfMemory` alone. The array is then dropped. In the code it comes only if the offsets have no other owner and
+    /// are not sliced, and there is no bitmap, the bytes are shared or sliced, or the bitmap is shared or begins at a
+    /// bit other than 0. No clause states that.
     pub fn into_mut(self) -> Result<Either<BinaryArray<O>, MutableBinaryArray<O>>>
         ensures ok { IfOk result (λ r. MatchEither r (λ a. a ≡ self)
             (λ m. (m.items ≡ binary_items self) × (m.data_type ≡ self.data_type))) }

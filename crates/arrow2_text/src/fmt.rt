@@ -12,8 +12,8 @@ use arrow2_index::offset::Offset;
 use arrow2_validity::fmt::write_separator;
 use std::fmt;
 
-/// The items in brackets behind the name of the type: each the list of its bytes, or `None`. The formatter's options
-/// change nothing.
+/// The items in brackets after the name of the type, each the list of its bytes, or `None`:
+/// `BinaryArray[[1, 2], None, []]`. Formatter flags are ignored.
 impl<O: Offset> fmt::Debug for BinaryArray<O> {
     ghost debug_output = { λ a. Some (binary_head O.IS_LARGE) ++? debug_list (item_output bytes_output) (binary_items a) };
 
@@ -23,8 +23,8 @@ impl<O: Offset> fmt::Debug for BinaryArray<O> {
     }
 }
 
-/// The items in brackets behind the name of the type: each the text itself, or `None`. The formatter's options change
-/// nothing.
+/// The items in brackets after the name of the type, each the text itself, or `None`: `Utf8Array[é, None, abc]`. With
+/// offsets of 64 bits the names are `LargeBinaryArray` and `LargeUtf8Array`. Formatter flags are ignored.
 impl<O: Offset> fmt::Debug for Utf8Array<O> {
     ghost debug_output = { λ a. Some (text_head O.IS_LARGE) ++? debug_list (item_output (λ text. Some text)) (binary_items a) };
 

@@ -26,7 +26,7 @@ use std::rc::Rc;
 /// it allocates.
 ///
 /// Differs from arrow2: its validity is always there, and [`MutableBinaryArray::freeze`] leaves it out where no item is
-/// null.
+/// null. Before `freeze` no call reads or sets an item, but for [`MutableBinaryArray::pop`].
 #[derive(Drop)]
 pub struct MutableBinaryArray<O: Offset> {
     slots: Growing<O>,
@@ -42,6 +42,7 @@ impl<O: Offset> Model for MutableBinaryArray<O> {
 
     ghost Value = { GrowingBinary };
 
+    // How a proof tells two of these values apart: by std's codes, and by that of `DataType`, a type that holds itself.
     ghost coded = { Prim.hlevel (codes, logical_type.the_row.coded) };
 
     ghost view = { λ a. growing_binary a.slots };

@@ -28,7 +28,7 @@ use std::rc::Rc;
 /// it allocates.
 ///
 /// Differs from arrow2: its validity is always there, and [`MutableUtf8Array::freeze`] leaves it out where no item is
-/// null.
+/// null. Before `freeze` no call reads or sets an item, but for [`MutableUtf8Array::pop`].
 #[derive(Drop)]
 pub struct MutableUtf8Array<O: Offset> {
     slots: Growing<O>,
@@ -45,6 +45,7 @@ impl<O: Offset> Model for MutableUtf8Array<O> {
 
     ghost Value = { GrowingBinary };
 
+    // How a proof tells two of these values apart: by std's codes, and by that of `DataType`, a type that holds itself.
     ghost coded = { Prim.hlevel (codes, logical_type.the_row.coded) };
 
     ghost view = { λ a. growing_binary a.slots };
