@@ -17,7 +17,9 @@ use std::marker::Model;
 
 /// An array of booleans that grows.
 ///
-/// Contracts see its items and its capacity.
+/// Contracts see its items and its capacity. A call that appends has one clause, the record `AppendsItems` of
+/// `specs/Growth.antt`: the items after `Ok` and after an error, when each error comes, and that it succeeds within the
+/// capacity.
 ///
 /// Differs from arrow2: its validity is always there, and [`MutableBooleanArray::freeze`] leaves it out where no item
 /// is null. Before `freeze` no call reads or sets an item, but for [`MutableBooleanArray::pop`].

@@ -26,7 +26,9 @@ use std::rc::Rc;
 
 /// An array of native values that grows.
 ///
-/// Contracts see its logical type, its items, and how many fit before it allocates.
+/// Contracts see its logical type, its items, and how many fit before it allocates. A call that appends has one clause,
+/// the record `AppendsItems` of `specs/Growth.antt`: the items after `Ok` and after an error, when each error comes,
+/// and that it succeeds within the capacity.
 ///
 /// Differs from arrow2: its validity is always there, and [`MutablePrimitiveArray::freeze`] leaves it out where no item
 /// is null. Before `freeze` no call reads or sets an item, but for [`MutablePrimitiveArray::pop`].

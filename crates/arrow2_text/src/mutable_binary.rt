@@ -23,7 +23,8 @@ use std::rc::Rc;
 /// An array of byte strings that grows.
 ///
 /// Contracts see its logical type, its items, how many bytes their slots have, and how many items and bytes fit before
-/// it allocates.
+/// it allocates. A call that appends has one clause, the record `AppendsBinary` of `specs/Growth.antt`: the items after
+/// `Ok` and after an error, when each error comes, and that it succeeds within both capacities.
 ///
 /// Differs from arrow2: its validity is always there, and [`MutableBinaryArray::freeze`] leaves it out where no item is
 /// null. Before `freeze` no call reads or sets an item, but for [`MutableBinaryArray::pop`].

@@ -25,7 +25,8 @@ use std::rc::Rc;
 /// An array of texts that grows.
 ///
 /// Contracts see its logical type, its items, how many bytes their slots have, and how many items and bytes fit before
-/// it allocates.
+/// it allocates. A call that appends has one clause, the record `AppendsBinary` of `specs/Growth.antt`: the items after
+/// `Ok` and after an error, when each error comes, and that it succeeds within both capacities.
 ///
 /// Differs from arrow2: its validity is always there, and [`MutableUtf8Array::freeze`] leaves it out where no item is
 /// null. Before `freeze` no call reads or sets an item, but for [`MutableUtf8Array::pop`].
