@@ -5,7 +5,7 @@ use Rattle.arrow2_types.specs.declared.error.Error.TheVariants.{Overflow, OutOfM
 use Rattle.arrow2_array.specs.Items.{GrowingBoolean}
 
 -- growth by these items, all of them or none
-pub record AppendsItems {T : Type 0} (r : Result T Error) (old new : GrowingBoolean) (more : List (Option Bool)) : Type 0 where
+pub record AppendsBooleans {T : Type 0} (r : Result T Error) (old new : GrowingBoolean) (more : List (Option Bool)) : Type 0 where
   -- they come after the others
   pub ok : OnOk r (new.items ≡ old.items ++ more)
   -- an error leaves the items

@@ -5,7 +5,7 @@ ghost use Rattle.arrow2_model.specs.Parts.{part};
 ghost use Rattle.arrow2_model.specs.Storage.{items_of};
 ghost use Rattle.arrow2_growth.specs.Growth.{Appends};
 ghost use Rattle.arrow2_bitmap.specs.Packed.{IsPacked};
-ghost use Rattle.arrow2_array.specs.Growth.{AppendsItems};
+ghost use Rattle.arrow2_array.specs.Growth.{AppendsBooleans};
 ghost use Rattle.arrow2_array.specs.Items.{boolean_items, nulls};
 
 use crate::boolean::BooleanArray;
@@ -17,7 +17,7 @@ use std::marker::Model;
 
 /// An array of booleans that grows.
 ///
-/// Contracts see its items and its capacity. A call that appends has one clause, the record `AppendsItems` of
+/// Contracts see its items and its capacity. A call that appends has one clause, the record `AppendsBooleans` of
 /// `specs/Growth.antt`: the items after `Ok` and after an error, when each error comes, and that it succeeds within the
 /// capacity.
 ///
@@ -124,7 +124,7 @@ impl MutableBooleanArray {
     /// `Overflow` exactly where the length is `usize::MAX`, else `OutOfMemory` alone. After both the array holds the
     /// items that it held.
     pub fn push(&mut self, item: Option<bool>) -> Result<()>
-        ensures { AppendsItems result self.old self.new (item ∷ []) }
+        ensures { AppendsBooleans result self.old self.new (item ∷ []) }
     {
         self.reserve(1)?;
         self.validity.push(item.is_some())?;
@@ -139,7 +139,7 @@ impl MutableBooleanArray {
     /// `Overflow` exactly where the length is `usize::MAX`, else `OutOfMemory` alone. After both the array holds the
     /// items that it held.
     pub fn push_null(&mut self) -> Result<()>
-        ensures { AppendsItems result self.old self.new (None ∷ []) }
+        ensures { AppendsBooleans result self.old self.new (None ∷ []) }
     {
         self.push(None)
     }
@@ -151,7 +151,7 @@ impl MutableBooleanArray {
     /// `Overflow` exactly where the new length would pass `usize::MAX`, else `OutOfMemory` alone. After both the array
     /// holds the items that it held.
     pub fn extend_constant(&mut self, additional: usize, item: Option<bool>) -> Result<()>
-        ensures { AppendsItems result self.old self.new (replicate additional item) }
+        ensures { AppendsBooleans result self.old self.new (replicate additional item) }
     {
         self.reserve(additional)?;
         self.validity.extend_constant(additional, item.is_some())?;
@@ -174,7 +174,7 @@ impl MutableBooleanArray {
         len: usize,
     ) -> Result<()>
         requires inside { start + len ≤ length (boolean_items array.now) }
-        ensures { AppendsItems result self.old self.new (part (boolean_items array.now) start len) }
+        ensures { AppendsBooleans result self.old self.new (part (boolean_items array.now) start len) }
     {
         self.reserve(len)?;
         array
