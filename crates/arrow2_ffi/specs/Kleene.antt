@@ -4,8 +4,8 @@ use Rattle.arrow2_model.specs.Bits.{bits}
 use Rattle.arrow2_model.specs.Parts.{part}
 use Rattle.arrow2_model.specs.Tables.{answer, each}
 use Rattle.arrow2_walks.specs.Zipped.{zipped}
-use Rattle.arrow2_array.specs.Kleene.{by_items}
-use Rattle.arrow2_ffi.specs.Validities.{CoversItems, valid_items, validity_of}
+use Rattle.arrow2_array.specs.Kleene.{by_items, kleene_and, kleene_or}
+use Rattle.arrow2_ffi.specs.Validities.{CoversItems, given_validity, valid_items, validity_of}
 use Rattle.arrow2_ffi.specs.Ranges.{IsInside, Holds, AreInside, inputs_of}
 use Rattle.arrow2_ffi.specs.Writes.{Stores, Writes}
 use Rattle.arrow2_ffi.specs.declared.kleene.Nullable.{Nullable}
@@ -89,3 +89,27 @@ pub record StoresOptionalKleene (f : Option Bool → Option Bool → Option Bool
 -- the code of a call that stores the results of f for n items of both inputs in `values` and `validity`
 abbrev pub WritesOptionalKleene : (code : ℕ) → (Option Bool → Option Bool → Option Bool) → (t known n : ℕ) → (left right : OptionalInput) → (values new_values validity new_validity : List ℕ) → Type 0
 WritesOptionalKleene code f t known n left right values new_values validity new_validity = Writes code (IsWholeInside n left × IsWholeInside n right) (Holds values n × Holds validity n) (StoresOptionalKleene f t known n left right new_values new_validity) ((new_values ≡ values) × (new_validity ≡ validity))
+
+-- the code of a call that stores `and` by Kleene's logic of n items of both inputs: its values are those of table 8, its
+-- validity is that of table 53060
+abbrev pub WritesKleeneAnd : (code n : ℕ) → (left right : Input) → (values new_values validity new_validity : List ℕ) → Type 0
+WritesKleeneAnd code n left right values new_values validity new_validity = WritesKleene code kleene_and 8 53060 n left right values new_values validity new_validity
+
+-- the same of `or`, by tables 14 and 64648
+abbrev pub WritesKleeneOr : (code n : ℕ) → (left right : Input) → (values new_values validity new_validity : List ℕ) → Type 0
+WritesKleeneOr code n left right values new_values validity new_validity = WritesKleene code kleene_or 14 64648 n left right values new_values validity new_validity
+
+-- the same two where a validity may be missing
+abbrev pub WritesOptionalKleeneAnd : (code n : ℕ) → (left right : OptionalInput) → (values new_values validity new_validity : List ℕ) → Type 0
+WritesOptionalKleeneAnd code n left right values new_values validity new_validity = WritesOptionalKleene code kleene_and 8 53060 n left right values new_values validity new_validity
+
+abbrev pub WritesOptionalKleeneOr : (code n : ℕ) → (left right : OptionalInput) → (values new_values validity new_validity : List ℕ) → Type 0
+WritesOptionalKleeneOr code n left right values new_values validity new_validity = WritesOptionalKleene code kleene_or 14 64648 n left right values new_values validity new_validity
+
+-- the input of values and validity, each with its first bit
+abbrev pub input : (values : List ℕ) (offset : ℕ) (validity : List ℕ) (validity_offset : ℕ) → Input
+input values offset validity validity_offset = record { values = (values, offset); validity = (validity, validity_offset) }
+
+-- the same with a validity or none
+abbrev pub optional_input : (values : List ℕ) (offset : ℕ) (validity : List ℕ) (validity_offset : ℕ) (all_valid : Bool) → OptionalInput
+optional_input values offset validity validity_offset all_valid = record { values = (values, offset); validity = given_validity all_valid validity validity_offset }

@@ -14,6 +14,7 @@ use arrow2_kernels::lane_assigned::assign_unary;
 /// those that the bits need.
 #[unsafe(no_mangle)]
 pub extern "C" fn arrow2_unary_assign_table(bytes: &mut [u8], length: usize, table: u16) -> u32
+    // A table of one input is below 2 ^ 2.
     ensures { WritesTableInPlace result 4 table length [] bytes.old bytes.new }
 {
     if table >= 4 {
@@ -39,6 +40,7 @@ pub extern "C" fn arrow2_binary_assign_table(
     length: usize,
     table: u16,
 ) -> u32
+    // A table of two inputs is below 2 ^ 4.
     ensures { WritesTableInPlace result 16 table length
         ((second.now, second_offset) ∷ []) bytes.old bytes.new }
 {
@@ -67,6 +69,7 @@ pub extern "C" fn arrow2_ternary_assign_table(
     length: usize,
     table: u16,
 ) -> u32
+    // A table of three inputs is below 2 ^ 8.
     ensures { WritesTableInPlace result 256 table length
         ((second.now, second_offset) ∷ (third.now, third_offset) ∷ []) bytes.old bytes.new }
 {
@@ -98,6 +101,7 @@ pub extern "C" fn arrow2_quaternary_assign_table(
     length: usize,
     table: u16,
 ) -> u32
+    // A table of four inputs is below 2 ^ 16, which a `u16` always is.
     ensures { WritesTableInPlace result 65536 table length
         ((second.now, second_offset) ∷ (third.now, third_offset)
         ∷ (fourth.now, fourth_offset) ∷ []) bytes.old bytes.new }

@@ -4,8 +4,8 @@
 //! exactly the bytes that hold them, and their padding bits become 0. A value is the operator applied to the two
 //! values, also where the result is null.
 ghost use Rattle.std.specs.Prelude.{Bool, Option};
-ghost use Rattle.arrow2_array.specs.Kleene.{kleene_and, kleene_or, Spells};
-ghost use Rattle.arrow2_ffi.specs.Kleene.{WritesKleene, input_of};
+ghost use Rattle.arrow2_array.specs.Kleene.{Spells};
+ghost use Rattle.arrow2_ffi.specs.Kleene.{WritesKleene, WritesKleeneAnd, WritesKleeneOr, input, input_of};
 
 use crate::codes::{ARROW2_LENGTH, ARROW2_OK, ARROW2_RANGE};
 use crate::ranges::{Bits, are_both_inside, hold};
@@ -37,15 +37,9 @@ pub extern "C" fn arrow2_and_kleene(
     values: &mut [u8],
     validity: &mut [u8],
 ) -> u32
-    ensures { WritesKleene result kleene_and 8 53060 length
-        (record {
-          values = (left.now, left_offset);
-          validity = (left_validity.now, left_validity_offset);
-        })
-        (record {
-          values = (right.now, right_offset);
-          validity = (right_validity.now, right_validity_offset);
-        })
+    ensures { WritesKleeneAnd result length
+        (input left.now left_offset left_validity.now left_validity_offset)
+        (input right.now right_offset right_validity.now right_validity_offset)
         values.old values.new validity.old validity.new }
 {
     let left = Nullable {
@@ -78,15 +72,9 @@ pub extern "C" fn arrow2_or_kleene(
     values: &mut [u8],
     validity: &mut [u8],
 ) -> u32
-    ensures { WritesKleene result kleene_or 14 64648 length
-        (record {
-          values = (left.now, left_offset);
-          validity = (left_validity.now, left_validity_offset);
-        })
-        (record {
-          values = (right.now, right_offset);
-          validity = (right_validity.now, right_validity_offset);
-        })
+    ensures { WritesKleeneOr result length
+        (input left.now left_offset left_validity.now left_validity_offset)
+        (input right.now right_offset right_validity.now right_validity_offset)
         values.old values.new validity.old validity.new }
 {
     let left = Nullable {

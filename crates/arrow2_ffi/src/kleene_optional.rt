@@ -3,10 +3,9 @@
 //! A validity that is missing costs no memory, and nothing is read in its stead.
 ghost use Rattle.std.specs.Prelude.{Bool, Option, [], ◌∷◌, ◌↔◌, IsTrue};
 ghost use Rattle.arrow2_model.specs.Tables.{each};
-ghost use Rattle.arrow2_array.specs.Kleene.{kleene_and, kleene_or, Spells};
-ghost use Rattle.arrow2_ffi.specs.Kleene.{IsBeside, IsWholeInside, WritesOptionalKleene, first_valid, first_values, optional_of};
+ghost use Rattle.arrow2_array.specs.Kleene.{Spells};
+ghost use Rattle.arrow2_ffi.specs.Kleene.{IsBeside, IsWholeInside, WritesOptionalKleene, WritesOptionalKleeneAnd, WritesOptionalKleeneOr, first_valid, first_values, optional_input, optional_of};
 ghost use Rattle.arrow2_ffi.specs.Ranges.{Holds};
-ghost use Rattle.arrow2_ffi.specs.Validities.{given_validity};
 ghost use Rattle.arrow2_ffi.specs.Writes.{Stores};
 
 use crate::codes::{ARROW2_LENGTH, ARROW2_OK, ARROW2_RANGE};
@@ -48,15 +47,9 @@ pub extern "C" fn arrow2_and_kleene_optional(
     values: &mut [u8],
     validity: &mut [u8],
 ) -> u32
-    ensures { WritesOptionalKleene result kleene_and 8 53060 length
-        (record {
-          values = (left.now, left_offset);
-          validity = given_validity left_all_valid left_validity.now left_validity_offset;
-        })
-        (record {
-          values = (right.now, right_offset);
-          validity = given_validity right_all_valid right_validity.now right_validity_offset;
-        })
+    ensures { WritesOptionalKleeneAnd result length
+        (optional_input left.now left_offset left_validity.now left_validity_offset left_all_valid)
+        (optional_input right.now right_offset right_validity.now right_validity_offset right_all_valid)
         values.old values.new validity.old validity.new }
 {
     let left = Side {
@@ -90,15 +83,9 @@ pub extern "C" fn arrow2_or_kleene_optional(
     values: &mut [u8],
     validity: &mut [u8],
 ) -> u32
-    ensures { WritesOptionalKleene result kleene_or 14 64648 length
-        (record {
-          values = (left.now, left_offset);
-          validity = given_validity left_all_valid left_validity.now left_validity_offset;
-        })
-        (record {
-          values = (right.now, right_offset);
-          validity = given_validity right_all_valid right_validity.now right_validity_offset;
-        })
+    ensures { WritesOptionalKleeneOr result length
+        (optional_input left.now left_offset left_validity.now left_validity_offset left_all_valid)
+        (optional_input right.now right_offset right_validity.now right_validity_offset right_all_valid)
         values.old values.new validity.old validity.new }
 {
     let left = Side {

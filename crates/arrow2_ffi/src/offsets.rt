@@ -1,10 +1,9 @@
 //! Offsets of 32 and of 64 bits: where the value of each slot begins. There is one offset more than slots, none is
 //! negative, and none is below the one before it.
-ghost use Rattle.std.specs.Prelude.{◌≡◌, ◌≢◌, ◌+◌, ◌-◌, ◌<◌, ◌↔◌, ◌⊎◌, pos, map, length};
-ghost use Rattle.arrow2_offset.specs.Offsets.{AreOffsets, last_offset, lengths_of, offsets_list};
-ghost use Rattle.arrow2_model.specs.Parts.{part};
+ghost use Rattle.std.specs.Prelude.{◌≡◌, ◌≢◌, ◌+◌, ◌<◌, ◌↔◌, ◌⊎◌, pos, map, length};
+ghost use Rattle.arrow2_offset.specs.Offsets.{AreOffsets, last_offset, offsets_list};
 ghost use Rattle.arrow2_offset.specs.Refused.{first_broken};
-ghost use Rattle.arrow2_ffi.specs.OffsetWrites.{WritesFromOffsets, WritesFromOffsetsOr};
+ghost use Rattle.arrow2_ffi.specs.OffsetWrites.{WritesLengths, WritesRebased};
 ghost use Rattle.arrow2_ffi.specs.Rules.{rule_code};
 
 use crate::codes::{ARROW2_LENGTH, ARROW2_OK, ARROW2_OVERFLOW, ARROW2_RANGE};
@@ -29,8 +28,7 @@ pub extern "C" fn arrow2_offsets32_check(offsets: &[i32]) -> u32
 /// of items of `out` is not that of `offsets` minus 1.
 #[unsafe(no_mangle)]
 pub extern "C" fn arrow2_offsets32_lengths(offsets: &[i32], out: &mut [usize]) -> u32
-    ensures { WritesFromOffsets offsets.now result (length offsets.now ≢ length out.old + 1)
-        (out.new ≡ lengths_of offsets.now) (out.new ≡ out.old) }
+    ensures { WritesLengths offsets.now (length out.old) result out.old out.new }
 {
     lengths(offsets, out)
 }
@@ -43,8 +41,7 @@ pub extern "C" fn arrow2_offsets32_lengths(offsets: &[i32], out: &mut [usize]) -
 #[unsafe(no_mangle)]
 pub extern "C" fn arrow2_offsets32_lengths_unchecked(offsets: &[i32], out: &mut [usize]) -> u32
     requires are { AreOffsets offsets.now }
-    ensures { WritesFromOffsets offsets.now result (length offsets.now ≢ length out.old + 1)
-        (out.new ≡ lengths_of offsets.now) (out.new ≡ out.old) }
+    ensures { WritesLengths offsets.now (length out.old) result out.old out.new }
 {
     lengths_unchecked(offsets, out)
 }
@@ -76,11 +73,7 @@ pub extern "C" fn arrow2_offsets32_from_lengths(
 /// no item, else `ARROW2_RANGE` exactly where `from` plus the number of items of `out` is above that of `offsets`.
 #[unsafe(no_mangle)]
 pub extern "C" fn arrow2_offsets32_rebase(offsets: &[i32], from: usize, out: &mut [i32]) -> u32
-    ensures { WritesFromOffsetsOr ARROW2_RANGE offsets.now result (length out.old ≡ 0)
-        (length offsets.now < from + length out.old)
-        (out.new ≡ map pos
-        (offsets_list 0 (part (lengths_of offsets.now) from (length out.old - 1))))
-        (out.new ≡ out.old) }
+    ensures { WritesRebased offsets.now from (length out.old) result out.new (out.new ≡ out.old) }
 {
     rebase(offsets, from, out)
 }
@@ -98,11 +91,7 @@ pub extern "C" fn arrow2_offsets32_rebase_unchecked(
     out: &mut [i32],
 ) -> u32
     requires are { AreOffsets offsets.now }
-    ensures { WritesFromOffsetsOr ARROW2_RANGE offsets.now result (length out.old ≡ 0)
-        (length offsets.now < from + length out.old)
-        (out.new ≡ map pos
-        (offsets_list 0 (part (lengths_of offsets.now) from (length out.old - 1))))
-        (out.new ≡ out.old) }
+    ensures { WritesRebased offsets.now from (length out.old) result out.new (out.new ≡ out.old) }
 {
     rebase_unchecked(offsets, from, out)
 }
@@ -126,8 +115,7 @@ pub extern "C" fn arrow2_offsets64_check(offsets: &[i64]) -> u32
 /// of items of `out` is not that of `offsets` minus 1.
 #[unsafe(no_mangle)]
 pub extern "C" fn arrow2_offsets64_lengths(offsets: &[i64], out: &mut [usize]) -> u32
-    ensures { WritesFromOffsets offsets.now result (length offsets.now ≢ length out.old + 1)
-        (out.new ≡ lengths_of offsets.now) (out.new ≡ out.old) }
+    ensures { WritesLengths offsets.now (length out.old) result out.old out.new }
 {
     lengths(offsets, out)
 }
@@ -140,8 +128,7 @@ pub extern "C" fn arrow2_offsets64_lengths(offsets: &[i64], out: &mut [usize]) -
 #[unsafe(no_mangle)]
 pub extern "C" fn arrow2_offsets64_lengths_unchecked(offsets: &[i64], out: &mut [usize]) -> u32
     requires are { AreOffsets offsets.now }
-    ensures { WritesFromOffsets offsets.now result (length offsets.now ≢ length out.old + 1)
-        (out.new ≡ lengths_of offsets.now) (out.new ≡ out.old) }
+    ensures { WritesLengths offsets.now (length out.old) result out.old out.new }
 {
     lengths_unchecked(offsets, out)
 }
@@ -173,11 +160,7 @@ pub extern "C" fn arrow2_offsets64_from_lengths(
 /// no item, else `ARROW2_RANGE` exactly where `from` plus the number of items of `out` is above that of `offsets`.
 #[unsafe(no_mangle)]
 pub extern "C" fn arrow2_offsets64_rebase(offsets: &[i64], from: usize, out: &mut [i64]) -> u32
-    ensures { WritesFromOffsetsOr ARROW2_RANGE offsets.now result (length out.old ≡ 0)
-        (length offsets.now < from + length out.old)
-        (out.new ≡ map pos
-        (offsets_list 0 (part (lengths_of offsets.now) from (length out.old - 1))))
-        (out.new ≡ out.old) }
+    ensures { WritesRebased offsets.now from (length out.old) result out.new (out.new ≡ out.old) }
 {
     rebase(offsets, from, out)
 }
@@ -195,11 +178,7 @@ pub extern "C" fn arrow2_offsets64_rebase_unchecked(
     out: &mut [i64],
 ) -> u32
     requires are { AreOffsets offsets.now }
-    ensures { WritesFromOffsetsOr ARROW2_RANGE offsets.now result (length out.old ≡ 0)
-        (length offsets.now < from + length out.old)
-        (out.new ≡ map pos
-        (offsets_list 0 (part (lengths_of offsets.now) from (length out.old - 1))))
-        (out.new ≡ out.old) }
+    ensures { WritesRebased offsets.now from (length out.old) result out.new (out.new ≡ out.old) }
 {
     rebase_unchecked(offsets, from, out)
 }

@@ -1,11 +1,10 @@
 //! The runs of set bits, each by its first index and its length.
-ghost use Rattle.std.specs.Prelude.{◌≡◌, ◌≤◌, take, length as length'};
-ghost use Rattle.std.specs.List.{zip};
+ghost use Rattle.std.specs.Prelude.{◌≡◌, ◌≤◌, length as length'};
 ghost use Rattle.arrow2_model.specs.Bits.{bits};
 ghost use Rattle.arrow2_model.specs.Parts.{part};
-ghost use Rattle.arrow2_walks.specs.Runs.{runs_from};
 ghost use Rattle.arrow2_ffi.specs.Ranges.{IsInside, HasBits, first_bits};
-ghost use Rattle.arrow2_ffi.specs.Writes.{Resumes, Writes};
+ghost use Rattle.arrow2_ffi.specs.RunWrites.{WritesRuns};
+ghost use Rattle.arrow2_ffi.specs.Writes.{Writes};
 
 use crate::codes::{ARROW2_LENGTH, ARROW2_OK, ARROW2_RANGE};
 use crate::ranges::{Bits, are_inside};
@@ -30,10 +29,8 @@ pub extern "C" fn arrow2_runs(
 ) -> u32
     ensures { Writes result (IsInside bytes.now offset length × (at.old ≤ length))
         (length' starts.old ≡ length' lengths.old)
-        (Resumes (zip (take count.new starts.new) (take count.new lengths.new))
-        (runs_from (part (bits bytes.now) offset length) at.old)
-        (runs_from (part (bits bytes.now) offset length) at.new)
-        count.new (length' starts.old) at.old at.new length)
+        (WritesRuns (part (bits bytes.now) offset length) count.new starts.old starts.new lengths.new
+        at.old at.new length)
         ((starts.new ≡ starts.old) × (lengths.new ≡ lengths.old)
         × (at.new ≡ at.old) × (count.new ≡ count.old)) }
 {
@@ -63,10 +60,8 @@ fn write_runs(
     requires inside { HasBits bits end }
     requires within { at ≤ end }
     requires alike { length' starts.old ≡ length' lengths.old }
-    ensures { Resumes (zip (take result.0 starts.new) (take result.0 lengths.new))
-        (runs_from (first_bits bits.entry end) at)
-        (runs_from (first_bits bits.entry end) result.1)
-        result.0 (length' starts.old) at result.1 end }
+    ensures { WritesRuns (first_bits bits.entry end) result.0 starts.old starts.new lengths.new
+        at result.1 end }
 {
     let Bits(bytes, offset) = bits;
     let mut cursor = BitCursor::at(at);

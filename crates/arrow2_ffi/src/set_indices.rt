@@ -4,9 +4,9 @@ ghost use Rattle.std.specs.List.{All};
 ghost use Rattle.arrow2_model.specs.Bits.{bits, unnum};
 ghost use Rattle.arrow2_model.specs.Parts.{part};
 ghost use Rattle.arrow2_chunk.specs.Ones.{ones};
-ghost use Rattle.arrow2_ffi.specs.SetIndices.{ones_from};
+ghost use Rattle.arrow2_ffi.specs.SetIndices.{WritesSetIndices};
 ghost use Rattle.arrow2_ffi.specs.Ranges.{IsInside, HasBits, first_bits};
-ghost use Rattle.arrow2_ffi.specs.Writes.{Resumes, WritesWhere};
+ghost use Rattle.arrow2_ffi.specs.Writes.{WritesWhere};
 
 use crate::codes::{ARROW2_OK, ARROW2_RANGE};
 use crate::ranges::{Bits, are_inside};
@@ -29,10 +29,8 @@ pub extern "C" fn arrow2_set_indices(
     count: &mut usize,
 ) -> u32
     ensures { WritesWhere ARROW2_RANGE result (IsInside bytes.now offset length × (at.old ≤ length))
-        (Resumes (take count.new indices.new)
-        (ones_from (part (bits bytes.now) offset length) at.old)
-        (ones_from (part (bits bytes.now) offset length) at.new)
-        count.new (length' indices.old) at.old at.new length)
+        (WritesSetIndices (part (bits bytes.now) offset length) count.new indices.old indices.new
+        at.old at.new length)
         ((indices.new ≡ indices.old) × (at.new ≡ at.old) × (count.new ≡ count.old)) }
 {
     let items = Bits(bytes, offset);
@@ -50,10 +48,8 @@ pub extern "C" fn arrow2_set_indices(
 fn write_indices(bits: Bits<'_>, end: usize, at: usize, indices: &mut [usize]) -> (usize, usize)
     requires inside { HasBits bits end }
     requires within { at ≤ end }
-    ensures { Resumes (take result.0 indices.new)
-        (ones_from (first_bits bits.entry end) at)
-        (ones_from (first_bits bits.entry end) result.1)
-        result.0 (length' indices.old) at result.1 end }
+    ensures { WritesSetIndices (first_bits bits.entry end) result.0 indices.old indices.new
+        at result.1 end }
 {
     let Bits(bytes, offset) = bits;
     let mut count = 0;

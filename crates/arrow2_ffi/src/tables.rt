@@ -23,6 +23,7 @@ pub extern "C" fn arrow2_unary_table(
     table: u16,
     out: &mut [u8],
 ) -> u32
+    // A table of one input is below 2 ^ 2.
     ensures { WritesTable result 4 table length ((bytes.now, offset) ∷ []) out.old out.new }
 {
     let first = Bits(bytes, offset);
@@ -51,6 +52,7 @@ pub extern "C" fn arrow2_binary_table(
     table: u16,
     out: &mut [u8],
 ) -> u32
+    // A table of two inputs is below 2 ^ 4.
     ensures { WritesTable result 16 table length
         ((first.now, first_offset) ∷ (second.now, second_offset) ∷ []) out.old out.new }
 {
@@ -83,6 +85,7 @@ pub extern "C" fn arrow2_ternary_table(
     table: u16,
     out: &mut [u8],
 ) -> u32
+    // A table of three inputs is below 2 ^ 8.
     ensures { WritesTable result 256 table length
         ((first.now, first_offset) ∷ (second.now, second_offset)
         ∷ (third.now, third_offset) ∷ []) out.old out.new }
@@ -119,6 +122,7 @@ pub extern "C" fn arrow2_quaternary_table(
     table: u16,
     out: &mut [u8],
 ) -> u32
+    // A table of four inputs is below 2 ^ 16, which a `u16` always is.
     ensures { WritesTable result 65536 table length
         ((first.now, first_offset) ∷ (second.now, second_offset)
         ∷ (third.now, third_offset) ∷ (fourth.now, fourth_offset) ∷ []) out.old out.new }
