@@ -1,9 +1,12 @@
 -- Bitmaps that are stored with nothing else.
-use Rattle.std.specs.Prelude.{◌≡◌, length}
+use Rattle.std.specs.Prelude.{◌≡◌, List, Bool, length}
 use Rattle.arrow2_model.specs.Canonical.{canonical_bytes}
 use Rattle.arrow2_model.specs.Storage.{BitmapStorage, items_of}
 
--- its bytes are the canonical ones of its items, which begin at bit 0: no byte is spare, and no bit after the last item
--- is set
+-- items in their canonical bytes, from bit 0 on: no byte is spare, and no bit after the last item is set
+abbrev pub packed_storage : List Bool → BitmapStorage
+packed_storage items = record { bytes = canonical_bytes items; offset = 0; len = length items }
+
+-- a bitmap is stored so
 abbrev pub IsPacked : BitmapStorage → Type 0
-IsPacked b = b ≡ record { bytes = canonical_bytes (items_of b); offset = 0; len = length (items_of b) }
+IsPacked b = b ≡ packed_storage (items_of b)

@@ -6,12 +6,11 @@ ghost use Rattle.std.specs.Cmp.{partial_equiv_from_equiv, bool_eq_equiv, on_equi
 ghost use Rattle.std.specs.Cmp.Lexicographic.{pointwise, lists_equiv};
 ghost use Rattle.std.specs.List.{slice_get, range_with_len};
 ghost use Rattle.std.specs.Simd.Lanes.{zip2};
-ghost use Rattle.std.specs.Iterator.{IsFinite};
+ghost use Rattle.std.specs.Iterator.{IsFiniteIterable};
 ghost use Rattle.std.specs.Iterator.Runs.{WholeRun};
 ghost use Rattle.either.specs.Either.{MatchEither};
 ghost use Rattle.arrow2_model.specs.Bits.{bits};
 ghost use Rattle.arrow2_model.specs.Parts.{part, falses};
-ghost use Rattle.arrow2_model.specs.Canonical.{canonical_bytes};
 ghost use Rattle.arrow2_model.specs.Shown.{shown};
 ghost use Rattle.arrow2_model.specs.Touched.{slice_reads};
 ghost use Rattle.arrow2_model.specs.Words.{spill};
@@ -20,7 +19,7 @@ ghost use Rattle.arrow2_types.specs.Refusals.{IsInvalidArgument};
 ghost use Rattle.arrow2_types.specs.declared.error.Error.TheVariants.{OutOfMemory};
 ghost use Rattle.arrow2_bitmap.specs.Predicates.{ReturnsBelow, ReturnsOnEach, ReturnsOnPairs, IsResultAt, IsPairResultAt, IsCallableWithEach, IsCallableWithPairs};
 ghost use Rattle.arrow2_bitmap.specs.Collected.{GivesTooMany};
-ghost use Rattle.arrow2_bitmap.specs.Packed.{IsPacked};
+ghost use Rattle.arrow2_bitmap.specs.Packed.{IsPacked, packed_storage};
 ghost use Rattle.arrow2_bitmap.specs.Refused.{too_long};
 ghost use Rattle.std.specs.declared.alloc.Global.{Global};
 
@@ -202,11 +201,7 @@ impl Bitmap {
     /// `OutOfMemory` alone.
     pub fn from_bools(alloc: Global, items: &[bool]) -> Result<Bitmap>
         ensures items { IfOk result (λ b. items_of b ≡ items.now) }
-        ensures storage { IfOk result (λ b. b ≡ record {
-          bytes = canonical_bytes items.now;
-          offset = 0;
-          len = length items.now;
-        }) }
+        ensures storage { IfOk result (λ b. b ≡ packed_storage items.now) }
         ensures only { IfErr result (λ e. e ≡ Error.OutOfMemory) }
     {
         Bitmap::try_from(MutableBitmap::from_bools(alloc, items)?)
@@ -220,12 +215,13 @@ impl Bitmap {
     ///
     /// `Overflow`, only after `usize::MAX` items and one more, or `OutOfMemory`.
     pub fn try_from_iter<I: IntoIterator<Item = bool>>(alloc: Global, iter: I) -> Result<Bitmap>
-        requires { (it : I.IntoIter) → I.into_iter_gives iter it →
-            I.IntoIter.can_next it × IsFinite (I.IntoIter.remaining it) }
+        requires { IsFiniteIterable I.into_iter_gives I.IntoIter.can_next I.IntoIter.remaining iter }
+        // All items of a run of the iterator.
         ensures items { IfOk result (λ b. (it : I.IntoIter) × I.into_iter_gives iter it
             × WholeRun I.IntoIter.next_gives it (λ p. items_of b ≡ p.items)) }
         ensures storage { IfOk result (λ b. IsPacked b) }
         ensures fits { IfOk result (λ b. length (items_of b) < 2 ^ 64) }
+        // It comes only where a run may have too many.
         ensures overflow { IsErrOf result Error.Overflow →
             (it : I.IntoIter) × I.into_iter_gives iter it × GivesTooMany I.IntoIter.next_gives it }
         ensures only { IfErr result (λ e. (e ≡ Error.Overflow) ⊎ (e ≡ Error.OutOfMemory)) }
@@ -657,11 +653,7 @@ impl TryFrom<MutableBitmap> for Bitmap {
     type Error = Error;
 
     ghost try_from_gives = { λ m r. MatchResult r (λ b. (items_of b ≡ m.items)
-        × (b ≡ record {
-          bytes = canonical_bytes m.items;
-          offset = 0;
-          len = length m.items;
-        })) (λ e. e ≡ OutOfMemory) };
+        × (b ≡ packed_storage m.items)) (λ e. e ≡ OutOfMemory) };
 
     fn try_from(bitmap: MutableBitmap) -> Result<Bitmap> {
         let (bytes, length) = bitmap.into_parts();

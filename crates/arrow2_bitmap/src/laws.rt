@@ -1,6 +1,7 @@
 //! Laws of the bytes of bitmaps that grow. Each function is its law and nothing else.
 ghost use Rattle.std.specs.Prelude.{◌≡◌, ◌↔◌, length};
 ghost use Rattle.arrow2_model.specs.Canonical.{canonical_bytes};
+ghost use Rattle.arrow2_bitmap.specs.Packed.{packed_storage};
 ghost use Rattle.arrow2_model.specs.Storage.{BitmapStorage, GrowingBitmap, items_of};
 
 /// Two bitmaps that grow, of one length, are equal exactly if their bytes are.
@@ -15,13 +16,8 @@ pub fn bytes_tell_growing_bitmaps_apart()
 #[tactic(auto, using(crate::proofs::Bytes::canonical))]
 pub fn equal_items_freeze_to_equal_bytes()
     ensures items { (m : GrowingBitmap) (a : BitmapStorage) →
-        a ≡ record {
-          bytes = canonical_bytes m.items;
-          offset = 0;
-          len = length m.items;
-        } → items_of a ≡ m.items }
+        a ≡ packed_storage m.items → items_of a ≡ m.items }
     ensures equal { (m n : GrowingBitmap) (a b : BitmapStorage) →
-        a ≡ record { bytes = canonical_bytes m.items; offset = 0; len = length m.items } →
-        b ≡ record { bytes = canonical_bytes n.items; offset = 0; len = length n.items } →
+        a ≡ packed_storage m.items → b ≡ packed_storage n.items →
         (m.items ≡ n.items) ↔ (a ≡ b) }
 {}

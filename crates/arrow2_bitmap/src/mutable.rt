@@ -1,6 +1,6 @@
 //! A bitmap that grows.
 ghost use Rattle.std.specs.Prelude.{◌≡◌, ◌+◌, ◌-◌, ◌*◌, ◌/◌, ◌<◌, ◌≤◌, ◌^◌, ◌↔◌, ◌⊎◌, [], ◌∷◌, ◌++◌, false, length, length as length', take, slice_index_or, slice_set, OnOk, IsOk, IfOk, IfErr, IsErrOf, IsTrue, IfNone, IfSome, IsNone, MatchOption, Some, codes, vec_len, vec_capacity, min, Bool, true, replicate};
-ghost use Rattle.std.specs.Iterator.{IsFinite};
+ghost use Rattle.std.specs.Iterator.{IsFiniteIterable};
 ghost use Rattle.std.specs.Iterator.Runs.{WholeRun};
 ghost use Rattle.std.specs.Bool.{beq};
 ghost use Rattle.std.specs.Ordering.{on};
@@ -9,6 +9,7 @@ ghost use Rattle.std.specs.Cmp.Lexicographic.{pointwise, lists_equiv};
 ghost use Rattle.arrow2_model.specs.Bits.{bits};
 ghost use Rattle.arrow2_model.specs.Parts.{falses, part};
 ghost use Rattle.arrow2_model.specs.Canonical.{canonical_bytes};
+ghost use Rattle.arrow2_bitmap.specs.Packed.{packed_storage};
 ghost use Rattle.arrow2_model.specs.Shown.{shown};
 ghost use Rattle.arrow2_model.specs.Storage.{GrowingBitmap, items_of};
 ghost use Rattle.arrow2_model.specs.Tables.{each};
@@ -157,11 +158,12 @@ impl MutableBitmap {
         alloc: Global,
         iter: I,
     ) -> Result<MutableBitmap>
-        requires { (it : I.IntoIter) → I.into_iter_gives iter it →
-            I.IntoIter.can_next it × IsFinite (I.IntoIter.remaining it) }
+        requires { IsFiniteIterable I.into_iter_gives I.IntoIter.can_next I.IntoIter.remaining iter }
+        // All items of a run of the iterator.
         ensures items { IfOk result (λ m. (it : I.IntoIter) × I.into_iter_gives iter it
             × WholeRun I.IntoIter.next_gives it (λ p. m.items ≡ p.items)) }
         ensures fits { IfOk result (λ m. length m.items < 2 ^ 64) }
+        // It comes only where a run may have too many.
         ensures overflow { IsErrOf result Error.Overflow →
             (it : I.IntoIter) × I.into_iter_gives iter it × GivesTooMany I.IntoIter.next_gives it }
         ensures only { IfErr result (λ e. (e ≡ Error.Overflow) ⊎ (e ≡ Error.OutOfMemory)) }
@@ -287,11 +289,7 @@ impl MutableBitmap {
         ensures none { IfOk result (λ validity. IsNone validity ↔ (falses self.items ≡ 0)) }
         ensures items { IfOk result (λ validity. IfSome validity (λ b. items_of b ≡ self.items)) }
         ensures storage { IfOk result (λ validity.
-            IfSome validity (λ b. b ≡ record {
-              bytes = canonical_bytes self.items;
-              offset = 0;
-              len = length self.items;
-            })) }
+            IfSome validity (λ b. b ≡ packed_storage self.items)) }
         ensures only { IfErr result (λ e. e ≡ Error.OutOfMemory) }
         ensures succeeds { falses self.items ≡ 0 → IsOk result }
     {

@@ -4,7 +4,7 @@ ghost use Rattle.std.specs.Bool.{OnTrue, OnFalse};
 ghost use Rattle.std.specs.Borrow.{sem};
 ghost use Rattle.std.specs.Fmt.{debug_list};
 ghost use Rattle.std.specs.Fn.{FnOnceReturnsAtMut, FnOnceTakesAtMut};
-ghost use Rattle.std.specs.Iterator.{IsFinite};
+ghost use Rattle.std.specs.Iterator.{IsFiniteIterable};
 ghost use Rattle.std.specs.Iterator.Adapters.{IterYieldsInOrder};
 ghost use Rattle.std.specs.Iterator.Runs.{WholeRun};
 ghost use Rattle.std.specs.Ordering.{on};
@@ -292,8 +292,8 @@ impl<T: Drop> Buffer<T> {
     ///
     /// `OutOfMemory` where the allocation of the items or of their reference count fails.
     pub fn try_from_iter<I: IntoIterator<Item = T>>(alloc: Global, iter: I) -> Result<Self>
-        requires { (it : I.IntoIter) → I.into_iter_gives iter it →
-            I.IntoIter.can_next it × IsFinite (I.IntoIter.remaining it) }
+        requires { IsFiniteIterable I.into_iter_gives I.IntoIter.can_next I.IntoIter.remaining iter }
+        // All items of a run of the iterator.
         ensures items { IfOk result (λ b. (it : I.IntoIter) × I.into_iter_gives iter it
             × WholeRun I.IntoIter.next_gives it (λ p. b ≡ whole_buffer p.items)) }
         ensures only { IfErr result (λ e. e ≡ OutOfMemory) }

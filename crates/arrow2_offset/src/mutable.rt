@@ -1,6 +1,6 @@
 //! Offsets that grow.
 ghost use Rattle.std.specs.Prelude.{◌≡◌, ◌+◌, ◌-◌, ◌<◌, ◌≤◌, ◌^◌, ◌≤ℤ◌, ◌↔◌, ◌⊎◌, [], ◌∷◌, length, length as count_of, map, sum, take, pos, replicate, slice_index_or, unsigned_abs, OnOk, IsOk, IfOk, IfErr, IsErrOf, IsTrue, MatchOption, MatchResult, vec_capacity};
-ghost use Rattle.std.specs.Iterator.{IsFinite};
+ghost use Rattle.std.specs.Iterator.{IsFinite, IsFiniteIterable};
 ghost use Rattle.std.specs.Iterator.Runs.{WholeRun};
 ghost use Rattle.std.specs.Ordering.{on};
 ghost use Rattle.std.specs.Prelude.{nat_eq};
@@ -121,11 +121,12 @@ impl<O: Offset> Offsets<O> {
     ///
     /// `Overflow` only where the sum of the lengths that came passes `O::MAX`, else `OutOfMemory` alone.
     pub fn try_from_iter<I: IntoIterator<Item = usize>>(alloc: Global, iter: I) -> Result<Self>
-        requires { (it : I.IntoIter) → I.into_iter_gives iter it →
-            I.IntoIter.can_next it × IsFinite (I.IntoIter.remaining it) }
+        requires { IsFiniteIterable I.into_iter_gives I.IntoIter.can_next I.IntoIter.remaining iter }
+        // All items of a run of the iterator.
         ensures ok { IfOk result (λ o. (it : I.IntoIter) × I.into_iter_gives iter it
             × WholeRun I.IntoIter.next_gives it (λ p. (o.start ≡ 0) × (o.lengths ≡ p.items))) }
         ensures fits { IfOk result (λ o. last_of_growing o ≤ O.MAX) }
+        // It comes only where a run may have too many.
         ensures overflow { IsErrOf result Error.Overflow →
             (it : I.IntoIter) × I.into_iter_gives iter it
             × GivesPast O.MAX 0 I.IntoIter.next_gives it }

@@ -1,7 +1,7 @@
 //! An array of native values that grows.
 ghost use Rattle.std.specs.Prelude.{◌≡◌, ◌+◌, ◌<◌, ◌≤◌, ◌^◌, ◌↔◌, ◌⊎◌, ◌++◌, [], ◌∷◌, None, Some, length, map, replicate, IfOk, IfErr, IfSome, IsErrOf, IsOk, IfNone, MatchOption, OnOk, IsNone, IsTrue, count_by, Some};
 ghost use Rattle.std.specs.Option.{is_none};
-ghost use Rattle.std.specs.Iterator.{IsFinite};
+ghost use Rattle.std.specs.Iterator.{IsFinite, IsFiniteIterable};
 ghost use Rattle.std.specs.Iterator.Runs.{WholeRun};
 ghost use Rattle.arrow2_datatypes.specs.Types.{of_primitive, physical};
 ghost use Rattle.arrow2_datatypes.specs.declared.physical_type.PhysicalType.TheVariants.{Primitive};
@@ -141,11 +141,12 @@ impl<T: NativeType> MutablePrimitiveArray<T> {
         alloc: Global,
         iter: I,
     ) -> Result<MutablePrimitiveArray<T>>
-        requires { (it : I.IntoIter) → I.into_iter_gives iter it →
-            I.IntoIter.can_next it × IsFinite (I.IntoIter.remaining it) }
+        requires { IsFiniteIterable I.into_iter_gives I.IntoIter.can_next I.IntoIter.remaining iter }
+        // All items of a run of the iterator.
         ensures items { IfOk result (λ a. (it : I.IntoIter) × I.into_iter_gives iter it
             × WholeRun I.IntoIter.next_gives it (λ p. a.items ≡ p.items)) }
         ensures data_type { IfOk result (λ a. a.data_type ≡ of_primitive T.PRIMITIVE) }
+        // It comes only where a run may have too many.
         ensures overflow { IsErrOf result Error.Overflow →
             (it : I.IntoIter) × I.into_iter_gives iter it × GivesTooManyItems I.IntoIter.next_gives it }
         ensures only { IfErr result (λ e. (e ≡ Error.Overflow) ⊎ (e ≡ Error.OutOfMemory)) }
