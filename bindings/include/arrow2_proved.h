@@ -1,21 +1,26 @@
 /* Calls on bits, offsets, texts and indices in the caller's memory, as Apache Arrow arrays have them. The library is
- * written in Rattle, a language whose programs are proved. The contract of each call is proved (docs/BINDINGS.md); this
- * header is written by hand.
+ * written in Rattle, a language whose programs are proved. The contract of each call is proved (docs/BINDINGS.md, which
+ * the package has too); this header is written by hand.
  *
  * Rules for every call:
- * - A slice is a pointer followed by its number of items. If the number is 0 the pointer may be NULL, else it must not
- *   be.
- * - While a call runs, others may read memory that it reads, and nobody may write it. Memory that the call writes
- *   nobody else may read or write. No slice or single value that the call writes overlaps another one.
+ * - A slice is a pointer followed by its number of items. NULL with the number 0 is safe. With any other number the
+ *   pointer must lead to that many items, and be aligned for their type.
+ * - A pointer to a single value (`zeros`, `equal`, `value`, `at`, `count`, `index`, `slot`) must not be NULL.
+ * - NULL never means that a validity is missing. Where one may be missing, the call has an argument that states it:
+ *   `all_valid`, `left_all_valid`, `right_all_valid`.
+ * - An output must not overlap any other argument, input or output. Inputs may overlap each other.
+ * - While a call runs, others may read the memory that it reads, and nobody may write it. The memory that it writes
+ *   nobody else may read or write.
  * - Bit i of bytes is bit i % 8 of byte i / 8, the lowest first. Offsets and lengths of bits are in bits, and may be
  *   any numbers. Those of other slices are in items.
  * - The `length` bits from bit `offset` on are inside `bytes` if offset + length <= 8 * bytes_count. The sum is
  *   computed without overflow, and this holds for length 0 too. Bit `index` is inside if index < 8 * bytes_count.
- * - `out` of a call that writes bits has (length + 7) / 8 bytes, no more and no fewer. The bits are written from bit 0
- *   on, and padding bits become 0.
- * - The result is one of the codes below. With any code but ARROW2_OK nothing was written, except that a check writes
- *   the index or slot of the first fault.
- * - Nothing is kept between calls, no call allocates, and calls may run on several threads at once. */
+ * - An output of bits is exactly (length + 7) / 8 bytes. The bits are written from bit 0 on, and padding bits become 0.
+ *   The same holds in place, for `bytes` of the *_assign_table calls.
+ * - The result is one of the codes below. On any error nothing is written, except `*index` or `*slot` of a check, with
+ *   the codes that its comment names. No check writes them with ARROW2_OK.
+ * - Nothing is kept between calls, no call allocates, and calls may run on several threads at once. Nothing is made
+ *   that has to be freed. */
 #ifndef ARROW2_PROVED_H
 #define ARROW2_PROVED_H
 
@@ -36,19 +41,21 @@ extern "C" {
 
 /* The call succeeded. */
 #define ARROW2_OK 0u
-/* An index or a range is not inside, or a table has bits past its last output. */
+/* An index or a range is not inside, or a truth-table number is too large: above 3, 15 or 255 for one, two or three
+ * inputs. */
 #define ARROW2_RANGE 1u
-/* A slice has more or fewer items than the call needs. */
+/* An output slice is not exactly the required size (bits: (length + 7) / 8), two paired slices differ, or `out` of a
+ * rebase call has no item. */
 #define ARROW2_LENGTH 2u
 /* A number is above the greatest offset: 2147483647 of 32 bits, 9223372036854775807 of 64 bits. */
 #define ARROW2_OVERFLOW 3u
 /* An allocation failed. No call of this version returns it. */
 #define ARROW2_MEMORY 4u
-/* Numbers that should be offsets: there is none. */
+/* The offsets slice has 0 items; at least 1 is needed. */
 #define ARROW2_SPEC_EMPTY 5u
-/* Numbers that should be offsets: the first is negative. */
+/* The first offset is negative. */
 #define ARROW2_SPEC_NEGATIVE 6u
-/* Numbers that should be offsets: the first is not negative, and some number is below the one before it. */
+/* The first offset is not negative, and some offset is below the one before it. */
 #define ARROW2_SPEC_FALLING 7u
 /* The number of nulls is not the declared one. */
 #define ARROW2_NULLS 8u
@@ -115,6 +122,7 @@ uint32_t arrow2_quaternary_table(const uint8_t *first, size_t first_count, size_
                                  size_t length, uint16_t table, uint8_t *out, size_t out_count);
 
 /* The same in place: the first input is the first `length` bits of `bytes`, and the outputs are written over it.
+ * Padding bits become 0, whatever they were.
  * ARROW2_RANGE: the table is above the same bound, or an input after the first is not inside its bytes.
  * Else ARROW2_LENGTH: `bytes_count` is not (length + 7) / 8. */
 
@@ -135,9 +143,9 @@ uint32_t arrow2_quaternary_assign_table(uint8_t *bytes, size_t bytes_count, cons
 /* ---- Kleene's logic
  *
  * Values with their validity: an item is null where its validity bit is not set. Of both sides `length` items are read.
- * `values` and `validity` get the result, each as `out` above. A value is the operator applied to the two values, also
- * where the result is null. ARROW2_RANGE: bits of any of the four are not inside. Else ARROW2_LENGTH: `values` or
- * `validity` has another length. */
+ * `values` and `validity` get the result. Each is exactly (length + 7) / 8 bytes, and both are always written. A value
+ * is the operator applied to the two values, also where the result is null. ARROW2_RANGE: bits of any of the four are
+ * not inside. Else ARROW2_LENGTH: `values` or `validity` has another length. */
 
 /* Whether both are true: false where one of them is false, and null where that is not known. */
 uint32_t arrow2_and_kleene(const uint8_t *left, size_t left_count, size_t left_offset, const uint8_t *left_validity,
@@ -187,7 +195,8 @@ uint32_t arrow2_unpack(const uint8_t *bytes, size_t bytes_count, size_t offset, 
  * bits from bit `starts[k]` of the range on. The call stops when the slices are full or no run is left. It writes to
  * `*count` how many runs it has written, and to `*at` where the next call goes on. If `*count < starts_count`, all runs
  * are done, and `*at` equals `length`. The items of `starts` and `lengths` from `*count` on may have been written too.
- * A loop over all runs needs slices of at least one item: with none `*count` is 0, and `*at` may stay.
+ * For all runs, call again until `*count` is below `starts_count`, which must be at least 1: with 0 `*count` is 0, and
+ * `*at` may stay.
  * ARROW2_RANGE: the range is not inside the bytes, or `*at` is above `length`. Else ARROW2_LENGTH: `starts_count` is
  * not `lengths_count`. */
 uint32_t arrow2_runs(const uint8_t *bytes, size_t bytes_count, size_t offset, size_t length, size_t *at, size_t *starts,
@@ -197,8 +206,8 @@ uint32_t arrow2_runs(const uint8_t *bytes, size_t bytes_count, size_t offset, si
  * The search begins at bit `*at` of the range: set `*at` to 0 before the first call. Bit `indices[k]` of the range is
  * set, and the indices rise. The call stops when `indices` is full or no set bit is left. It writes to `*count` how
  * many indices it has written, and to `*at` where the next call goes on. If `*count < indices_count`, all set bits are
- * done, and `*at` equals `length`. The items of `indices` from `*count` on may have been written too. A loop over all
- * set bits needs a slice of at least one item.
+ * done, and `*at` equals `length`. The items of `indices` from `*count` on may have been written too. For all set bits,
+ * call again until `*count` is below `indices_count`, which must be at least 1.
  * ARROW2_RANGE: the range is not inside the bytes, or `*at` is above `length`. */
 uint32_t arrow2_set_indices(const uint8_t *bytes, size_t bytes_count, size_t offset, size_t length, size_t *at,
                             size_t *indices, size_t indices_count, size_t *count);
@@ -258,12 +267,13 @@ uint32_t arrow2_offsets_narrow(const int64_t *offsets, size_t offsets_count, int
 /* ---- Checks of arrays that somebody else made
  *
  * Each returns ARROW2_OK exactly where its condition holds, else the code of the first rule that is broken, in the
- * order in which its codes are named. `*index` and `*slot` are written with the codes that name them, and with no
- * other. */
+ * order in which its codes are named. `*index` is written with ARROW2_SPEC_FALLING and ARROW2_PAST, as a position in
+ * `offsets`, and with ARROW2_UTF8, as a slot. `*slot` is written with ARROW2_INDEX. With any other code, ARROW2_OK too,
+ * neither is written. */
 
-/* Whether the `length` bits from bit `offset` on are inside, and `null_count` of them not set; with -1 the count is not
- * checked.
- * ARROW2_RANGE: they are not inside. ARROW2_NULLS: `null_count` is neither -1 nor their number. */
+/* Whether the `length` bits from bit `offset` on are inside `bytes`, and exactly `null_count` of them are 0; with -1
+ * the count is not checked. It does not accept a missing validity: NULL, 0 bytes and a length above 0 are ARROW2_RANGE.
+ * ARROW2_RANGE: they are not inside. ARROW2_NULLS: `null_count` is neither -1 nor the number of bits that are 0. */
 uint32_t arrow2_validity_check(const uint8_t *bytes, size_t bytes_count, size_t offset, size_t length,
                                int64_t null_count);
 
@@ -276,7 +286,7 @@ uint32_t arrow2_values_check(size_t bytes, size_t width, size_t offset, size_t l
 /* Whether the numbers are offsets, and none is above `items`. ARROW2_SPEC_EMPTY, ARROW2_SPEC_NEGATIVE,
  * ARROW2_SPEC_FALLING: they are no offsets. ARROW2_PAST: the last one is above `items`.
  * `*index` is a position in `offsets`: with ARROW2_SPEC_FALLING that of the first number below the one before it, with
- * ARROW2_PAST that of the first number above `items`. With any other code it is not written. */
+ * ARROW2_PAST that of the first number above `items`. */
 uint32_t arrow2_offsets32_check_inside(const int32_t *offsets, size_t offsets_count, size_t items, size_t *index);
 uint32_t arrow2_offsets64_check_inside(const int64_t *offsets, size_t offsets_count, size_t items, size_t *index);
 
