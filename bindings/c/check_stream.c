@@ -13,17 +13,15 @@
 #include <ogr_api.h>
 #endif
 
-/* Returns how many of `rows` items of a checked column, from item `from` on, are null. */
-static size_t nulls_of(const struct ArrowSchema *schema, const struct ArrowArray *column, size_t from, size_t rows) {
+/* Returns how many of the rows of a checked column are null, by the bits of its buffer 0. */
+static size_t nulls_of(const struct ArrowSchema *schema, struct arrow2_bits validity, size_t rows) {
     size_t nulls = 0;
     if (strcmp(schema->format, "n") == 0) {
         return rows;
     }
     if (strncmp(schema->format, "+u", 2) == 0) {
-        return 0; /* A union has no validity. */
+        return 0; /* A union has no validity: its buffer 0 is the types. */
     }
-    struct arrow2_bits validity = arrow2_bits_of(column, 0);
-    validity.offset += from;
     uint32_t code = arrow2_bits_null_count(validity, rows, &nulls);
     if (code != ARROW2_OK) {
         printf("nulls of a checked column: %s\n", arrow2_code_text(code));
@@ -32,13 +30,13 @@ static size_t nulls_of(const struct ArrowSchema *schema, const struct ArrowArray
     return nulls;
 }
 
-static void print_column(const struct ArrowSchema *schema, const struct ArrowArray *column, size_t from, size_t rows) {
+static void print_column(const struct ArrowSchema *schema, struct arrow2_bits validity, size_t rows) {
     printf("%-12s %-8s %6zu %6zu\n", schema->name ? schema->name : "", schema->format, rows,
-           nulls_of(schema, column, from, rows));
+           nulls_of(schema, validity, rows));
 }
 
 /* Prints the columns of a batch, or the batch itself where it is no struct, or why it is refused. Returns whether it is
- * right. Row i of a struct is item `batch->offset + i` of each column. */
+ * right. */
 static bool print_batch(const struct ArrowSchema *schema, const struct ArrowArray *batch) {
     struct arrow2_where where;
     uint32_t code = arrow2_array_check(schema, batch, &where);
@@ -48,11 +46,11 @@ static bool print_batch(const struct ArrowSchema *schema, const struct ArrowArra
     }
     printf("%-12s %-8s %6s %6s\n", "column", "format", "rows", "nulls");
     if (strcmp(schema->format, "+s") != 0) {
-        print_column(schema, batch, 0, (size_t)batch->length);
+        print_column(schema, arrow2_bits_of(batch, 0), (size_t)batch->length);
         return true;
     }
     for (int64_t i = 0; i < batch->n_children; i++) {
-        print_column(schema->children[i], batch->children[i], (size_t)batch->offset, (size_t)batch->length);
+        print_column(schema->children[i], arrow2_bits_of_column(batch, i, 0), (size_t)batch->length);
     }
     return true;
 }
@@ -74,7 +72,7 @@ static int check_stream(struct ArrowArrayStream *stream) {
             break;
         }
         wrong += !print_batch(&schema, &batch);
-        batch.release(&batch);
+        batch.release(&batch); /* also after a refusal */
     }
     schema.release(&schema);
     return wrong;

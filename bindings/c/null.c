@@ -1,5 +1,5 @@
 /* Calls each function of the library with a null pointer for each slice of no item, which arrow2_proved.h allows, and
- * the forms of arrow2_c_data.h over bits with and without bytes. */
+ * those of arrow2_c_data.h over bits with and without bytes. */
 #include "arrow2_c_data.h"
 
 #include <stdio.h>
@@ -142,6 +142,35 @@ static void forms(void) {
     EXPECT(ARROW2_OK, arrow2_bits_not(none, 0, NULL, 0));
 }
 
+/* AND of two validities, each of which is there or missing. */
+static void validities(void) {
+    const uint8_t bytes[] = {0x6c, 0x03}, other_bytes[] = {0xc0, 0x0f};
+    struct arrow2_bits none = {NULL, 0, 0}, false_count = {NULL, 100, 7};
+    struct arrow2_bits left = {bytes, 2, 1}, right = {other_bytes, 2, 3};
+    uint8_t out[2] = {0xaa, 0xaa};
+    EXPECT(ARROW2_RANGE, arrow2_bits_and_validity(left, right, 16, out, 2));
+    EXPECT(ARROW2_RANGE, arrow2_bits_and_validity(left, none, 16, out, 2));
+    EXPECT(ARROW2_RANGE, arrow2_bits_and_validity(none, right, 14, NULL, 0));
+    EXPECT(ARROW2_LENGTH, arrow2_bits_and_validity(left, right, 9, out, 1));
+    EXPECT(ARROW2_LENGTH, arrow2_bits_and_validity(left, none, 9, out, 1));
+    EXPECT(ARROW2_LENGTH, arrow2_bits_and_validity(none, right, 9, NULL, 2));
+    EXPECT(ARROW2_LENGTH, arrow2_bits_and_validity(none, none, 9, out, 1));
+    EXPECT(ARROW2_LENGTH, arrow2_bits_and_validity(none, none, 8, out, 2));
+    EXPECT(ARROW2_LENGTH, arrow2_bits_and_validity(none, none, 0, out, 1));
+    EXPECT(ARROW2_LENGTH, arrow2_bits_and_validity(none, none, 9, NULL, 2));
+    EXPECT(ARROW2_LENGTH, arrow2_bits_and_validity(none, none, SIZE_MAX, out, 0));
+    EXPECT_BYTES(0xaa, 0xaa, ARROW2_OK);
+    EXPECT_BYTES(0xb0, 0x01, arrow2_bits_and_validity(left, right, 9, out, 2));
+    EXPECT_BYTES(0xb6, 0x01, arrow2_bits_and_validity(left, none, 9, out, 2));
+    EXPECT_BYTES(0xf8, 0x01, arrow2_bits_and_validity(false_count, right, 9, out, 2));
+    EXPECT_BYTES(0xff, 0x01, arrow2_bits_and_validity(none, false_count, 9, out, 2));
+    EXPECT_BYTES(0xff, 0xff, arrow2_bits_and_validity(none, none, 16, out, 2));
+    EXPECT_BYTES(0x7f, 0xff, arrow2_bits_and_validity(none, none, 7, out, 1));
+    EXPECT(ARROW2_OK, arrow2_bits_and_validity(left, right, 0, NULL, 0));
+    EXPECT(ARROW2_OK, arrow2_bits_and_validity(left, none, 0, NULL, 5));
+    EXPECT(ARROW2_OK, arrow2_bits_and_validity(none, none, 0, NULL, 0));
+}
+
 /* Null pointers with a count: the count is not used. */
 static void forms_with_counts(void) {
     const uint8_t bytes[] = {0x6c, 0x03};
@@ -203,6 +232,39 @@ static void buffers(void) {
                                              validity));
 }
 
+/* Whether bits begin at this bit of these bytes. */
+static void expect_bits(const char *what, struct arrow2_bits bits, const uint8_t *bytes, size_t len, size_t offset) {
+    bool right = bits.bytes == bytes && bits.bytes_len == len && bits.offset == offset;
+    expect(what, right ? ARROW2_OK : ARROW2_RANGE, ARROW2_OK);
+}
+
+/* Columns of a batch: both offsets are added, and where there is no buffer or no column there are no bits. */
+static void columns(void) {
+    const uint8_t valid[] = {0xff}, bytes[] = {0x6c, 0x03};
+    const void *some[] = {valid, bytes}, *of_batch[] = {valid};
+    struct ArrowSchema boolean = {"b", "", NULL, 0, 0, NULL, NULL, release_schema, NULL}, no_values = boolean;
+    no_values.format = "n";
+    struct ArrowSchema *fields[] = {&boolean, &no_values};
+    struct ArrowSchema schema = {"+s", "", NULL, 0, 2, fields, NULL, release_schema, NULL};
+    struct ArrowArray flags = {6, 0, 2, 2, 0, some, NULL, NULL, release_array, NULL};
+    struct ArrowArray nulls = {6, 6, 2, 0, 0, NULL, NULL, NULL, release_array, NULL};
+    struct ArrowArray *children[] = {&flags, &nulls};
+    struct ArrowArray batch = {3, 0, 3, 1, 2, of_batch, children, NULL, release_array, NULL};
+    EXPECT(ARROW2_OK, arrow2_array_check(&schema, &batch, NULL));
+    expect_bits("a column's validity", arrow2_bits_of_column(&batch, 0, 0), valid, 1, 5);
+    expect_bits("a column's values", arrow2_bits_of_column(&batch, 0, 1), bytes, 1, 5);
+    expect_bits("the batch's own validity", arrow2_bits_of(&batch, 0), valid, 1, 3);
+    expect_none("buffer 2 of two", arrow2_bits_of_column(&batch, 0, 2));
+    expect_none("a null column", arrow2_bits_of_column(&batch, 1, 0));
+    expect_none("column 2 of two", arrow2_bits_of_column(&batch, 2, 0));
+    expect_none("column -1", arrow2_bits_of_column(&batch, -1, 0));
+    flags.length = 11;
+    some[0] = NULL;
+    EXPECT(ARROW2_OK, arrow2_array_check(&schema, &batch, NULL));
+    expect_none("a column with no validity", arrow2_bits_of_column(&batch, 0, 0));
+    expect_bits("a longer column's values", arrow2_bits_of_column(&batch, 0, 1), bytes, 2, 5);
+}
+
 /* All nine pairs of false, true and null, where true stands under a null, with and without their validities. */
 static void kleene_forms(void) {
     const uint8_t lefts[] = {0x6c, 0x03}, rights[] = {0xc0, 0x0f}, of_rights[] = {0xf0, 0x03};
@@ -225,8 +287,10 @@ int main(void) {
     offsets();
     checks();
     forms();
+    validities();
     forms_with_counts();
     buffers();
+    columns();
     kleene_forms();
     printf("%d passed, %d failed\n", passed, failed);
     return failed != 0;

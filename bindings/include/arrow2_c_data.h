@@ -1,7 +1,8 @@
-/* Bits with fewer arguments, and checks of whole arrays of the Arrow C data interface. Header-only.
+/* Bits with fewer arguments, and checks of whole arrays of the Arrow C data interface: inline functions on top of the
+ * library, which you still link.
  *
  * Every test of bits, offsets, texts and indices is a call of the library, whose result is proved (arrow2_proved.h).
- * The walk over the tree of an array is written by hand here (docs/BINDINGS.md).
+ * The walk over the tree of an array is written by hand here (docs/BINDINGS.md, which the package has too).
  *
  * The interface does not state the number of bytes of a buffer. `arrow2_array_check` trusts that each buffer has the
  * bytes that format, length, offset and last offset require. `arrow2_array_check_sized` is given the number of bytes of
@@ -70,15 +71,18 @@ struct ArrowArrayStream {
 
 /* ---- Bits
  *
- * Bits are `bytes`, the number of these bytes, `bytes_len`, and the bit at which the bits begin, `offset`.
+ * Bits are `bytes`, the number of these bytes, `bytes_len`, and the bit at which the bits begin, `offset`. For a raw
+ * bitmap fill them by hand. arrow2_bits_of and arrow2_bits_of_column fill them from an array that was checked.
  *
- * Each form below is one call of arrow2_proved.h, and returns the codes of that call. No memory that a form writes may
- * overlap memory that it reads. If a pointer to bytes is NULL, the form hands the call NULL and a count of 0, and uses
- * neither `bytes_len` nor `out_count`. Where bytes are needed, the call then returns ARROW2_RANGE for an input, and
- * ARROW2_LENGTH for an output.
- *
- * Of a validity, `bytes == NULL` means that there is no validity bitmap: no item is null. Only arrow2_bits_null_count
- * and the validity arguments of arrow2_bits_and_kleene and arrow2_bits_or_kleene accept this. */
+ * Rules, next to those of arrow2_proved.h:
+ * - A function that returns a code makes at most one call of the library, and returns the code of that call.
+ * - A pointer to bytes that is NULL has 0 bytes, whatever `bytes_len` or `out_count` is. Where bytes are needed, the
+ *   result is ARROW2_RANGE for an input, and ARROW2_LENGTH for an output.
+ * - The exception is a validity: there NULL means that there is no validity bitmap, so no item is null. The functions
+ *   that accept this are arrow2_bits_null_count, arrow2_bits_and_validity, and for their validity arguments
+ *   arrow2_bits_and_kleene and arrow2_bits_or_kleene.
+ * - `nulls` and `equal` must not be NULL.
+ * - An output must not overlap any other argument, input or output. */
 
 struct arrow2_bits {
     const uint8_t *bytes;
@@ -89,10 +93,11 @@ struct arrow2_bits {
 /* The number of items of a slice: 0 where its pointer is NULL. */
 static inline size_t arrow2_c_count(const void *pointer, size_t count) { return pointer ? count : 0; }
 
+/* The number of bytes that hold so many bits, (bits + 7) / 8 without overflow: what `out_count` must be. */
 static inline size_t arrow2_bytes_for(size_t bits) { return bits / 8 + (bits % 8 != 0); }
 
-/* Writes to `*nulls` how many of `length` items are null by a validity, and returns the code of arrow2_count_zeros.
- * Without a validity bitmap it writes 0 and returns ARROW2_OK. */
+/* Writes to `*nulls` how many of `length` items are null by a validity: arrow2_count_zeros. Without a validity bitmap
+ * it makes no call, writes 0 and returns ARROW2_OK. */
 static inline uint32_t arrow2_bits_null_count(struct arrow2_bits validity, size_t length, size_t *nulls) {
     if (!validity.bytes) {
         *nulls = 0;
@@ -109,8 +114,8 @@ static inline uint32_t arrow2_bits_equal(struct arrow2_bits left, struct arrow2_
                              arrow2_c_count(right.bytes, right.bytes_len), right.offset, length, equal);
 }
 
-/* Writes the outputs of a table of two inputs over `out`, which has (length + 7) / 8 bytes: arrow2_binary_table. It
- * does not accept a missing validity. `out` must not overlap an input. */
+/* Writes the outputs of a table of two inputs over `out`, which has arrow2_bytes_for(length) bytes:
+ * arrow2_binary_table. It does not accept a missing validity. */
 static inline uint32_t arrow2_bits_table(struct arrow2_bits left, struct arrow2_bits right, size_t length,
                                          uint16_t table, uint8_t *out, size_t out_count) {
     return arrow2_binary_table(left.bytes, arrow2_c_count(left.bytes, left.bytes_len), left.offset, right.bytes,
@@ -136,15 +141,39 @@ static inline uint32_t arrow2_bits_xor(struct arrow2_bits left, struct arrow2_bi
     return arrow2_bits_table(left, right, length, 6, out, out_count);
 }
 
-/* Writes NOT of the `length` bits over `out`, which has (length + 7) / 8 bytes: arrow2_unary_table. It does not accept
- * a missing validity. `out` must not overlap the input. */
+/* Writes NOT of the `length` bits over `out`, which has arrow2_bytes_for(length) bytes: arrow2_unary_table. It does not
+ * accept a missing validity. */
 static inline uint32_t arrow2_bits_not(struct arrow2_bits bits, size_t length, uint8_t *out, size_t out_count) {
     return arrow2_unary_table(bits.bytes, arrow2_c_count(bits.bytes, bits.bytes_len), bits.offset, length, 1, out,
                               arrow2_c_count(out, out_count));
 }
 
+/* Writes over `out` which of `length` items are valid by both validities, either of which may be missing. `out` has
+ * arrow2_bytes_for(length) bytes, and padding bits become 0, also where both are missing.
+ * ARROW2_RANGE: the bits of a validity that is there are not inside. Else ARROW2_LENGTH: `out` has another length. */
+static inline uint32_t arrow2_bits_and_validity(struct arrow2_bits left, struct arrow2_bits right, size_t length,
+                                                uint8_t *out, size_t out_count) {
+    struct arrow2_bits one = left.bytes ? left : right;
+    size_t count = arrow2_c_count(out, out_count);
+    if (left.bytes && right.bytes) {
+        return arrow2_bits_and(left, right, length, out, count);
+    }
+    if (one.bytes) {
+        return arrow2_copy_bits(one.bytes, one.bytes_len, one.offset, length, out, count);
+    }
+    if (count != arrow2_bytes_for(length)) {
+        return ARROW2_LENGTH;
+    }
+    if (count == 0) {
+        return ARROW2_OK;
+    }
+    memset(out, 0, count);
+    return arrow2_unary_assign_table(out, count, length, 1); /* NOT of zeros */
+}
+
 /* Kleene's AND of two boolean columns: arrow2_and_kleene_optional. Either column may have no validity bitmap. `values`
- * and `validity` get the result. Each has (length + 7) / 8 bytes, and neither overlaps the other or an input. */
+ * and `validity` get the result. Each has arrow2_bytes_for(length) bytes. Both are always written, also where neither
+ * column has a validity, so neither may be NULL unless `length` is 0. */
 static inline uint32_t arrow2_bits_and_kleene(struct arrow2_bits left, struct arrow2_bits left_validity,
                                               struct arrow2_bits right, struct arrow2_bits right_validity,
                                               size_t length, uint8_t *values, uint8_t *validity) {
@@ -175,7 +204,7 @@ static inline uint32_t arrow2_bits_or_kleene(struct arrow2_bits left, struct arr
  * each of its items is null. If `index` is negative or not below `n_buffers`, or the buffer is NULL, the result has
  * `bytes` NULL, `bytes_len` 0 and `offset` 0.
  *
- * Only the array's own offset is applied: for the rows of a struct, add the struct's offset to that of the result. */
+ * Only the array's own offset is applied. For a column of a batch call arrow2_bits_of_column. */
 static inline struct arrow2_bits arrow2_bits_of(const struct ArrowArray *array, int index) {
     struct arrow2_bits bits = {NULL, 0, 0};
     if (index < 0 || index >= array->n_buffers || !array->buffers[index]) {
@@ -184,6 +213,22 @@ static inline struct arrow2_bits arrow2_bits_of(const struct ArrowArray *array, 
     bits.bytes = (const uint8_t *)array->buffers[index];
     bits.bytes_len = arrow2_bytes_for((size_t)array->offset + (size_t)array->length);
     bits.offset = (size_t)array->offset;
+    return bits;
+}
+
+/* The bits of buffer `index` of column `column` of a batch that was checked, from row 0 of the batch on. A batch is a
+ * struct: its row i is item `batch->offset + i` of each column, so the batch's offset is added to the column's own. The
+ * same serves for the children of a sparse union. If there is no such column or buffer, the result is as of
+ * arrow2_bits_of, which as a validity means that no item is null.
+ *
+ * The validity of the struct itself is not applied. It is arrow2_bits_of(batch, 0). */
+static inline struct arrow2_bits arrow2_bits_of_column(const struct ArrowArray *batch, int64_t column, int index) {
+    struct arrow2_bits bits = {NULL, 0, 0};
+    if (column < 0 || column >= batch->n_children) {
+        return bits;
+    }
+    bits = arrow2_bits_of(batch->children[column], index);
+    bits.offset += bits.bytes ? (size_t)batch->offset : 0;
     return bits;
 }
 
@@ -879,10 +924,17 @@ static inline uint32_t arrow2_c_check_root(const struct ArrowSchema *schema, con
 }
 
 /* Checks whether an array follows the Arrow format and its schema. Returns ARROW2_OK if it does, else the code of the
- * first rule that is broken. docs/BINDINGS.md has the order of the rules, and what is not tested.
+ * first rule that is broken. docs/BINDINGS.md has the order of the rules, what is not tested, and where the check is
+ * stricter than Arrow: the bytes of a null slot of a text must be UTF-8 too.
  *
  * The codes are those above, and of arrow2_proved.h ARROW2_RANGE (a buffer is too short), ARROW2_NULLS,
  * ARROW2_SPEC_NEGATIVE, ARROW2_SPEC_FALLING, ARROW2_PAST, ARROW2_UTF8 and ARROW2_INDEX.
+ *
+ * Schema and array stay the caller's, whatever the code is: nothing in them is changed, kept or released. Call their
+ * `release` as without a check, also after a refusal.
+ *
+ * With ARROW2_OK offsets and indices that are read are aligned. Plain values may not be: read an int64 column through
+ * `int64_t *` only where its pointer is a multiple of 8, else by memcpy.
  *
  * If the code is not ARROW2_OK and `where` is not NULL, `*where` is written; else it stays as it was. Each buffer is
  * read to the length that format, length, offset and last offset require. */
@@ -904,10 +956,10 @@ static inline uint32_t arrow2_array_check_sized(const struct ArrowSchema *schema
 /* Returns the text of a code. */
 static inline const char *arrow2_code_text(uint32_t code) {
     static const char *const of_library[] = {
-        "right", "a range is not inside", "a slice has another length", "a number is above the greatest offset",
-        "out of memory", "there is no offset", "the first offset is negative", "an offset falls",
-        "the nulls are not as many as declared", "an offset is past its items", "a text is not UTF-8",
-        "an index is past its dictionary"};
+        "right", "a range ends outside its buffer, or a table number is too large", "a slice has another length",
+        "a number is above the greatest offset", "out of memory", "there is no offset", "the first offset is negative",
+        "an offset falls", "the nulls are not as many as declared", "an offset is past its items",
+        "a text is not UTF-8", "an index is past its dictionary"};
     static const char *const of_tree[] = {
         "a pointer is null", "it was released", "a number is negative", "the format is not known",
         "another number of buffers", "another number of children", "a child is too short",
