@@ -6,19 +6,21 @@ use core::fmt;
 /// Why a call refused. Nothing was written.
 #[derive(Clone, Copy, Debug, PartialEq, Eq)]
 pub enum Refusal {
-    /// An index or a range is not inside, or a table has bits past its last output.
+    /// An index or a range is not inside, or a truth-table number is too large: above 3, 15 or 255 for one, two or
+    /// three inputs.
     Range,
-    /// A slice has more or fewer items than the call needs.
+    /// An output slice is not exactly the required size (of bits [`crate::bytes_for`] bytes), two paired slices
+    /// differ, or the output of a rebase call is empty.
     Length,
     /// A number is above the greatest offset: `i32::MAX` or `i64::MAX`.
     Overflow,
     /// An allocation failed. No call of this version returns it.
     Memory,
-    /// Of numbers that should be offsets there is none.
+    /// The offsets slice has 0 items; at least 1 is needed.
     NoOffset,
-    /// The first of numbers that should be offsets is negative.
+    /// The first offset is negative.
     NegativeOffset,
-    /// The first of numbers that should be offsets is not negative, and some number is below the one before it.
+    /// The first offset is not negative, and some offset is below the one before it.
     FallingOffsets,
     /// The number of nulls is not the declared one.
     Nulls,
@@ -35,7 +37,8 @@ pub enum Refusal {
 pub struct RefusalAt {
     /// Why.
     pub refusal: Refusal,
-    /// The index of the offset, or the slot; 0 where the refusal has none.
+    /// With [`Refusal::FallingOffsets`] and [`Refusal::PastOffset`] the position of the offset; with
+    /// [`Refusal::NotUtf8`] and [`Refusal::Index`] the slot; else 0.
     pub at: usize,
 }
 

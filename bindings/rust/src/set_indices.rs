@@ -7,7 +7,7 @@ use crate::sys;
 /// Finds the set bits among `length` bits, which are counted from `bits.offset`. The search begins at bit `at`: set it
 /// to 0 before the first call. Writes their indices, rising, until `indices` is full or no set bit is left. Returns how
 /// many it wrote, and moves `at` to where the next call goes on. If it wrote fewer than fit, all set bits are done, and
-/// `at` is `length`.
+/// `at` is `length`. For all set bits, call again until then; `indices` must have at least one item.
 ///
 /// # Errors
 ///

@@ -178,6 +178,9 @@ fn of_slot(refused: RefusalAt) -> Fault {
 /// its children in order, then those of its dictionary. Without sizes, the buffers are read to the length that format,
 /// length, offset and last offset require.
 ///
+/// It is stricter than Arrow: the bytes of a null slot of a text must be UTF-8 too, and offsets and indices that are
+/// read must be aligned. `docs/BINDINGS.md` has the order of the rules, and what is not tested.
+///
 /// # Errors
 ///
 /// The first rule that is broken, and where.

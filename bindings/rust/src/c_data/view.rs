@@ -73,7 +73,8 @@ impl<'a> View<'a> {
     /// Which items are not null, from [`Bits::offset`] on; `None` where there is no validity bitmap. Then no item is
     /// null, except in a null array, where each is.
     ///
-    /// Only the array's own offset is applied: row `i` of a struct is item `offset() + i` of each child.
+    /// Only the array's own offset is applied: row `i` of a struct is item `offset() + i` of each child. Nor is the
+    /// validity of a struct applied to its children, and null entries of a dictionary are not seen.
     #[must_use]
     pub fn validity(&self) -> Option<Bits<'a>> {
         if self.layout().has_validity() { self.bits(0) } else { None }
@@ -108,7 +109,7 @@ impl<'a> View<'a> {
     }
 
     /// The bytes of texts and byte strings up to the last offset, or those of values of a fixed width, from the first
-    /// item on.
+    /// item on. They need not be aligned for the type of the values: the check does not test it.
     #[must_use]
     pub fn bytes(&self) -> Option<&'a [u8]> {
         let layout = self.layout();
