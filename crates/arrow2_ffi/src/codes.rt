@@ -4,10 +4,10 @@
 /// The call succeeded.
 pub const ARROW2_OK: u32 = 0;
 
-/// An index or a range is not inside, or a table has bits past its last output.
+/// An index or a range is not inside, or the number of a truth table is too large.
 pub const ARROW2_RANGE: u32 = 1;
 
-/// A slice has more or fewer items than the call needs.
+/// An output slice does not have exactly the items that the call needs, or two paired slices differ in length.
 pub const ARROW2_LENGTH: u32 = 2;
 
 /// A number is above the greatest offset: 2147483647 of 32 bits, 9223372036854775807 of 64 bits.
@@ -16,13 +16,13 @@ pub const ARROW2_OVERFLOW: u32 = 3;
 /// An allocation failed. No call allocates, so none returns it.
 pub const ARROW2_MEMORY: u32 = 4;
 
-/// Of numbers that should be offsets there is none.
+/// The slice of offsets is empty: at least one is needed.
 pub const ARROW2_SPEC_EMPTY: u32 = 5;
 
-/// The first of numbers that should be offsets is negative.
+/// The first offset is negative.
 pub const ARROW2_SPEC_NEGATIVE: u32 = 6;
 
-/// The first of numbers that should be offsets is not negative, and some number is below the one before it.
+/// The first offset is not negative, and some offset is below the one before it.
 pub const ARROW2_SPEC_FALLING: u32 = 7;
 
 /// The number of nulls is not the declared one.
