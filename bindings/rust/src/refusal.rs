@@ -53,7 +53,7 @@ impl core::error::Error for RefusalAt {}
 impl fmt::Display for Refusal {
     fn fmt(&self, f: &mut fmt::Formatter<'_>) -> fmt::Result {
         f.write_str(match self {
-            Refusal::Range => "an index, a range or a table is not inside",
+            Refusal::Range => "an index or a range is not inside, or a truth-table number is too large",
             Refusal::Length => "a slice has another length than the call needs",
             Refusal::Overflow => "a number is above the greatest offset",
             Refusal::Memory => "out of memory",
