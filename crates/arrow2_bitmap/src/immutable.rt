@@ -213,7 +213,7 @@ impl Bitmap {
     ///
     /// # Errors
     ///
-    /// `Overflow`, only after `usize::MAX` items and one more, or `OutOfMemory`.
+    /// `Overflow`, only if the iterator may yield more than `usize::MAX` items, or `OutOfMemory`.
     pub fn try_from_iter<I: IntoIterator<Item = bool>>(alloc: Global, iter: I) -> Result<Bitmap>
         requires { IsFiniteIterable I.into_iter_gives I.IntoIter.can_next I.IntoIter.remaining iter }
         // All items of a run of the iterator.

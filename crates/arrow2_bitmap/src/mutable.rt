@@ -153,7 +153,7 @@ impl MutableBitmap {
     ///
     /// # Errors
     ///
-    /// `Overflow`, only after `usize::MAX` items and one more, or `OutOfMemory`.
+    /// `Overflow`, only if the iterator may yield more than `usize::MAX` items, or `OutOfMemory`.
     pub fn try_from_iter<I: IntoIterator<Item = bool>>(
         alloc: Global,
         iter: I,

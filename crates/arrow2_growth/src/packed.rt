@@ -17,7 +17,7 @@ use std::simd::prelude::*;
 ///
 /// # Errors
 ///
-/// `Overflow` only after `usize::MAX` items and one more, else `OutOfMemory` alone.
+/// `Overflow` only if the iterator may yield more than `usize::MAX` items, else `OutOfMemory` alone.
 pub fn collected<I: Iterator<Item = bool> + Drop>(
     alloc: Global,
     items: I,
