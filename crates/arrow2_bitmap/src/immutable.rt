@@ -380,7 +380,8 @@ impl Bitmap {
     }
 
     /// Returns the bytes that hold its items, the bit of the first byte at which the items begin, and the number of
-    /// items. The bit is below 8.
+    /// items. The bit is below 8. A bitmap with no item that does not begin at a whole byte gives the byte in which it
+    /// begins.
     pub fn as_slice(&self) -> (&[u8], usize, usize)
         ensures bytes { result.0.now ≡ part self.now.bytes (self.now.offset / 8)
             ((self.now.offset % 8 + self.now.len + 7) / 8) }
