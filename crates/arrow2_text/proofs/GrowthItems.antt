@@ -8,10 +8,9 @@ use Rattle.arrow2_walks.specs.Zipped.{slot, zipped}
 use Rattle.arrow2_walks.proofs.Zipped.{length-zipped, append-zipped, nulls-zipped, push-zipped}
 use Rattle.arrow2_model.specs.Parts.{falses}
 use Rattle.arrow2_model.specs.Storage.{BitmapStorage, items_of}
-use Rattle.arrow2_model.proofs.Parts.{length-part}
 use Rattle.arrow2_validity.specs.OptionalValidity.{items_or_true}
 use Rattle.arrow2_validity.proofs.ValidItems.{items-none, items-some}
-use Rattle.arrow2_text.proofs.SlotLists.{all-true, growing}
+use Rattle.arrow2_text.proofs.SlotLists.{all-true}
 use Rattle.arrow2_validity.proofs.Slots.{known-zipped}
 use Rattle.arrow2_text.specs.Growth.{AppendsBinary, AppendsSlots, GrowingBinary, GrowingSlots, PopsBinary, PopsSlot, growing_binary}
 
@@ -47,8 +46,6 @@ module _ {T : Type 0} (max : ℕ) (old new : GrowingSlots) (values : List (List 
         capacity = a.capacity;
         byte_capacity = a.byte_capacity;
       }
-
-pub ruleset extending = (growing, length-part)
 
 -- what a builder's validity becomes
 pub known-validity : (n : ℕ) (vs : List Bool) (r : Option BitmapStorage) → n ≡ length vs → (IsNone r ↔ (falses vs ≡ 0)) → IfSome r (λ b. items_of b ≡ vs) → items_or_true n r ≡ vs

@@ -1,6 +1,8 @@
 pub mod Collected
 pub mod GrowingTexts
 pub mod GrowthItems
+pub mod LastSlot
+pub mod RoomForSlots
 pub mod SlotItems
 pub mod SlotLists
 pub mod TextItems

@@ -1,5 +1,5 @@
 -- What growth of arrays of byte strings and of texts says.
-use Rattle.std.specs.Prelude.{◌≡◌, ℕ, ◌+◌, ◌<◌, ◌≤◌, ◌^◌, ◌↔◌, ◌⊎◌, List, [], ◌∷◌, ◌++◌, Bool, false, Option, None, length, map, sum, option_map, MatchOption, IfNone, IfSome, Result, OnOk, OnErr, IsOk, IfErr, IfOk, IsErrOf}
+use Rattle.std.specs.Prelude.{◌≡◌, ℕ, ◌+◌, ◌<◌, ◌≤◌, ◌^◌, ◌↔◌, ◌⊎◌, List, [], ◌∷◌, ◌++◌, Bool, false, Option, None, length, map, sum, slice_index_or, option_map, MatchOption, IfNone, IfSome, Result, OnOk, OnErr, IsOk, IfErr, IfOk, IsErrOf}
 use Rattle.std.specs.Option.{option_copied, option_map_or}
 use Rattle.std.specs.Iterator.{Yields}
 use Rattle.std.specs.Borrow.{Bor}
@@ -83,6 +83,45 @@ pub record AppendsSlots {T : Type 0} (greatest : ℕ) (r : Result T Error) (old 
   pub capacity : old.capacity ≤ new.capacity
   pub byte_capacity : old.byte_capacity ≤ new.byte_capacity
 
+-- room for more slots and bytes, where the last offset may reach the greatest one and not pass it: the slots stay
+pub record ReservesSlots {T : Type 0} (greatest : ℕ) (r : Result T Error) (old new : GrowingSlots) (count size : ℕ) : Type 0 where
+  -- the validity has an item for each of them
+  pub same : length old.valid ≡ length old.values
+  pub values : new.values ≡ old.values
+  pub valid : new.valid ≡ old.valid
+  pub bytes : new.bytes ≡ old.bytes
+  pub data_type : new.data_type ≡ old.data_type
+  -- the last offset does not pass the greatest one
+  pub fits : old.bytes ≤ greatest
+  pub ok : OnOk r (length old.valid + count ≤ new.capacity)
+  pub ok_bytes : OnOk r (old.bytes + size ≤ new.byte_capacity)
+  -- it overflows exactly where it would, or there would be more slots than a usize counts
+  pub overflow : IsErrOf r Overflow ↔ ((greatest < old.bytes + size) ⊎ (2 ^ 64 ≤ length old.valid + count))
+  -- the only other error is refused memory
+  pub only : IfErr r (λ e. (e ≡ Overflow) ⊎ (e ≡ OutOfMemory))
+  -- within both capacities it does not allocate
+  pub succeeds : length old.valid + count ≤ old.capacity → old.bytes + size ≤ old.byte_capacity → old.bytes + size ≤ greatest → IsOk r
+  -- no capacity falls
+  pub capacity : old.capacity ≤ new.capacity
+  pub byte_capacity : old.byte_capacity ≤ new.byte_capacity
+
+-- so many more slots and bytes are within both capacities, a usize counts them, and the last offset does not pass the
+-- greatest one
+pub record HasRoomFor (greatest : ℕ) (held : GrowingSlots) (count size : ℕ) : Type 0 where
+  pub slots : length held.valid + count ≤ held.capacity
+  pub bytes : held.bytes + size ≤ held.byte_capacity
+  pub counted : length held.valid + count < 2 ^ 64
+  pub fits : held.bytes + size ≤ greatest
+
+-- these slots stand behind the others, and no capacity falls
+pub record GrownBySlots (old new : GrowingSlots) (more : List (List ℕ)) (more_valid : List Bool) (size : ℕ) : Type 0 where
+  pub values : new.values ≡ old.values ++ more
+  pub valid : new.valid ≡ old.valid ++ more_valid
+  pub bytes : new.bytes ≡ old.bytes + size
+  pub data_type : new.data_type ≡ old.data_type
+  pub capacity : old.capacity ≤ new.capacity
+  pub byte_capacity : old.byte_capacity ≤ new.byte_capacity
+
 -- taking the last item off: where it is not null its bytes are returned, as a value of their own
 pub record PopsBinary {V : Type 0} (bytes_of : V → List ℕ) (r : Result (Option (Option V)) Error) (old new : GrowingBinary) : Type 0 where
   -- it stood behind those that are left
@@ -122,6 +161,17 @@ pub record PopsSlot {V : Type 0} (bytes_of : V → List ℕ) (r : Result (Option
   -- the only error is refused memory, and a null takes none
   pub only : IfErr r (λ e. e ≡ OutOfMemory)
   pub succeeds : (front : List Bool) → old.valid ≡ front ++ false ∷ [] → IsOk r
+
+-- the last slot is gone, and its bytes
+pub record LosesLastSlot (old new : GrowingSlots) : Type 0 where
+  pub same : length old.valid ≡ length old.values
+  pub values : old.values ≡ new.values ++ slice_index_or old.values (length new.values) [] ∷ []
+  pub valid : old.valid ≡ new.valid ++ slice_index_or old.valid (length new.values) false ∷ []
+  pub same_left : length new.valid ≡ length new.values
+  pub bytes : old.bytes ≡ new.bytes + length (slice_index_or old.values (length new.values) [])
+  pub data_type : new.data_type ≡ old.data_type
+  pub capacity : new.capacity ≡ old.capacity
+  pub byte_capacity : new.byte_capacity ≡ old.byte_capacity
 
 -- the items of an iterator, each by its bytes
 abbrev pub items_by_bytes : List (Option (Bor (List ℕ))) → List (Option (List ℕ))

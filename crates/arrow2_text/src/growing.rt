@@ -1,14 +1,14 @@
 //! Bytes between offsets beside their validity, as they grow.
-ghost use Rattle.std.specs.Prelude.{◌≡◌, ◌+◌, ◌<◌, ◌≤◌, ◌^◌, ◌↔◌, ◌⊎◌, [], ◌∷◌, false, length, sum, count_by, option_map, IfErr, IfOk, IsErrOf, IsNone, IsOk, OnOk};
+ghost use Rattle.std.specs.Prelude.{◌≡◌, ◌+◌, ◌<◌, ◌≤◌, ◌^◌, ◌↔◌, ◌⊎◌, [], ◌∷◌, false, length, sum, count_by, option_map, slice_index_or, IfErr, IfOk, IsErrOf, IsNone, IsOk, OnOk};
 ghost use Rattle.arrow2_model.specs.Buffers.{buffer_items};
 ghost use Rattle.std.specs.Option.{is_none};
 ghost use Rattle.arrow2_walks.specs.Zipped.{slot, zipped};
 ghost use Rattle.arrow2_model.specs.Parts.{part};
-ghost use Rattle.arrow2_offset.specs.Offsets.{lengths_of};
+ghost use Rattle.arrow2_offset.specs.Offsets.{lengths_of, offset_at, start_of};
 ghost use Rattle.arrow2_validity.specs.OptionalValidity.{valid_items};
 ghost use Rattle.arrow2_text.specs.Binary.{binary_items, binary_values};
 ghost use Rattle.arrow2_offset.specs.Nested.{cut};
-ghost use Rattle.arrow2_text.specs.Growth.{AppendsSlots, PopsSlot};
+ghost use Rattle.arrow2_text.specs.Growth.{AppendsSlots, GrownBySlots, HasRoomFor, LosesLastSlot, PopsSlot, ReservesSlots};
 
 use crate::slots::Slots;
 use arrow2_bitmap::MutableBitmap;
@@ -179,22 +179,7 @@ impl<O: Offset> Growing<O> {
 
     /// Reserves capacity for more slots and bytes. Returns an error first where the last offset would pass `O::MAX`.
     fn reserve_below(&mut self, slots: usize, bytes: usize) -> Result<()>
-        ensures data_type { self.new.data_type ≡ self.old.data_type }
-        ensures same { length self.old.valid ≡ length self.old.values }
-        ensures values { self.new.values ≡ self.old.values }
-        ensures valid { self.new.valid ≡ self.old.valid }
-        ensures bytes { self.new.bytes ≡ self.old.bytes }
-        ensures ok { OnOk result (length self.old.valid + slots ≤ self.new.capacity) }
-        ensures ok_bytes { OnOk result (self.old.bytes + bytes ≤ self.new.byte_capacity) }
-        ensures ok_fits { OnOk result (self.old.bytes + bytes ≤ O.MAX) }
-        ensures fits { self.old.bytes ≤ O.MAX }
-        ensures overflow { IsErrOf result Error.Overflow ↔
-            ((O.MAX < self.old.bytes + bytes) ⊎ (2 ^ 64 ≤ length self.old.valid + slots)) }
-        ensures only { IfErr result (λ e. (e ≡ Error.Overflow) ⊎ (e ≡ Error.OutOfMemory)) }
-        ensures succeeds { length self.old.valid + slots ≤ self.old.capacity →
-            self.old.bytes + bytes ≤ self.old.byte_capacity → self.old.bytes + bytes ≤ O.MAX → IsOk result }
-        ensures capacity { self.old.capacity ≤ self.new.capacity }
-        ensures byte_capacity { self.old.byte_capacity ≤ self.new.byte_capacity }
+        ensures { ReservesSlots O.MAX result self.old self.new slots bytes }
     {
         // The length is read for the type's invariant: the validity has an item for each slot.
         let _ = self.len();
@@ -209,31 +194,63 @@ impl<O: Offset> Growing<O> {
         ensures { AppendsSlots O.MAX result self.old self.new (value.now ∷ []) (valid ∷ []) (length value.now) }
     {
         self.reserve_below(1, value.len())?;
-        self.values.extend_from_slice(value)?;
-        self.offsets.try_push_usize(value.len())?;
-        self.validity.push(valid)?;
+        self.push_within(value, valid);
         Ok(())
     }
 
+    /// Appends a slot. Requires that it is within both capacities, and that the last offset does not pass `O::MAX`.
+    fn push_within(&mut self, value: &[u8], valid: bool)
+        requires { HasRoomFor O.MAX self.old 1 (length value.now) }
+        ensures { GrownBySlots self.old self.new (value.now ∷ []) (valid ∷ []) (length value.now) }
+    {
+        // None of them allocates, so none returns an error.
+        self.values.extend_from_slice(value).unwrap();
+        self.offsets.try_push_usize(value.len()).unwrap();
+        self.validity.push(valid).unwrap();
+    }
+
     /// Appends `len` slots of others from slot `start` on. Requires that they are inside.
-    #[tactic(auto, using(crate::proofs::GrowthItems::extending))]
     pub(crate) fn extend(&mut self, slots: &Slots<O>, start: usize, len: usize) -> Result<()>
         requires inside { start + len ≤ length (binary_items slots.now) }
         ensures { AppendsSlots O.MAX result self.old self.new (part (binary_values slots.now) start len)
             (part (valid_items slots.now.validity) start len)
             (sum (part (lengths_of (buffer_items slots.now.offsets)) start len)) }
     {
+        // The length is read for what the slots keep: the validity has an item for each.
+        let _ = slots.len();
+        let bytes = slots.bytes_of(start, len);
+        self.reserve_below(len, bytes.len())?;
+        self.extend_within(slots, bytes, start, len);
+        Ok(())
+    }
+
+    /// Appends `len` slots of others from slot `start` on, whose bytes these are. Requires that they are inside, that
+    /// they are within both capacities, and that the last offset does not pass `O::MAX`.
+    fn extend_within(&mut self, slots: &Slots<O>, bytes: &[u8], start: usize, len: usize)
+        requires inside { start + len ≤ length (binary_items slots.now) }
+        requires bytes { bytes.now ≡ part (buffer_items slots.now.values)
+            (offset_at (start_of (buffer_items slots.now.offsets)) (lengths_of (buffer_items slots.now.offsets)) start)
+            (sum (part (lengths_of (buffer_items slots.now.offsets)) start len)) }
+        requires size { length bytes.now ≡ sum (part (lengths_of (buffer_items slots.now.offsets)) start len) }
+        requires room { HasRoomFor O.MAX self.old len (length bytes.now) }
+        ensures { GrownBySlots self.old self.new (part (binary_values slots.now) start len)
+            (part (valid_items slots.now.validity) start len)
+            (sum (part (lengths_of (buffer_items slots.now.offsets)) start len)) }
+    {
         // The lengths are read for what the types keep: there is one offset more than slots, and the validity has an
         // item for each.
         let _ = slots.len();
-        let bytes = slots.bytes_of(start, len);
         let offsets = slots.offsets();
         let _ = offsets.len();
-        self.reserve_below(len, bytes.len())?;
-        self.values.extend_from_slice(bytes)?;
-        self.offsets.try_extend_from_slice(offsets, start, len)?;
-        slots.validity().append_to(start, len, &mut self.validity)?;
-        Ok(())
+        // None of them allocates, so none returns an error.
+        self.values.extend_from_slice(bytes).unwrap();
+        self.offsets
+            .try_extend_from_slice(offsets, start, len)
+            .unwrap();
+        slots
+            .validity()
+            .append_to(start, len, &mut self.validity)
+            .unwrap();
     }
 
     /// Takes the last slot off and returns a copy of its bytes, or `None` of them where it is null, or `None` where
@@ -244,14 +261,33 @@ impl<O: Offset> Growing<O> {
         let Some(last) = self.len().checked_sub(1) else {
             return Ok(None);
         };
-        let (start, end) = self.offsets.start_end(last);
-        let valid = self.validity.get(last);
+        let item = self.copy_of(last)?;
+        self.drop_last();
+        Ok(Some(item))
+    }
+
+    /// Returns a copy of the bytes of slot `index`, or `None` where it is null. Requires that it is below the length.
+    fn copy_of(&self, index: usize) -> Result<Option<Vec<u8>>>
+        requires below { index < length self.now.valid }
+        ensures ok { IfOk result (λ item. option_map (λ value. value.items) item
+            ≡ slot (slice_index_or self.now.values index []) (slice_index_or self.now.valid index false)) }
+        ensures only { IfErr result (λ e. e ≡ Error.OutOfMemory) }
+        ensures succeeds { slice_index_or self.now.valid index false ≡ false → IsOk result }
+    {
+        let (start, end) = self.offsets.start_end(index);
         let bytes = &self.values.as_slice()[start..end];
-        let item = copied(*self.values.allocator(), bytes, valid)?;
+        copied(*self.values.allocator(), bytes, self.validity.get(index))
+    }
+
+    /// Takes the last slot off. Requires that there is one.
+    fn drop_last(&mut self)
+        requires { 0 < length self.old.valid }
+        ensures { LosesLastSlot self.old self.new }
+    {
+        let (start, _) = self.offsets.start_end(self.len() - 1);
         self.values.truncate(start);
         let _ = self.offsets.pop();
         let _ = self.validity.pop();
-        Ok(Some(item))
     }
 
     /// Returns the slots, with no bitmap where none is null.

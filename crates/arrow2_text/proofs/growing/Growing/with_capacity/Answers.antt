@@ -1,6 +1,11 @@
-use Rattle.std.proofs.Common.{ap, length, arith}
+use Rattle.std.proofs.Common.{ap, length, sum, sym, ◌∙◌, arith}
 use Rattle.arrow2_offset.specs.Nested.{cut}
 use Rattle.arrow2_text.proofs.growing.Growing.with_capacity.Goals as goal
+
+pub invariant_of-result : goal.invariant_of-result
+invariant_of-result g c =
+    let lengths = c.in_ok-offsets.ensures.ok.1 in
+    (c.in_ok-offsets.ensures.ok.0, ap sum lengths ∙ sym (ap length c.in_ok-values.ensures.items), ap length c.in_ok-validity.ensures.ok ∙ sym (ap length lengths))
 
 pub returns-clause-ok : goal.returns-clause-ok
 returns-clause-ok g c =
