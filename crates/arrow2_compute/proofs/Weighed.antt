@@ -1,8 +1,10 @@
 -- How many bytes a kernel takes of an array of byte strings: no more than there are in all.
 use Rattle.std.proofs.Common.{◌≡◌, ℕ, zero, suc, ◌+◌, ◌<◌, ◌≤◌, List, [], ◌∷◌, Bool, true, false, length, get_or, map, take, sum, ap, ◌∙◌, arith}
+use Rattle.std.specs.Prelude.{OnOk, Result, Ok, Err}
 use Rattle.std.specs.List.{flat_map, sum_by}
 use Rattle.std.proofs.lemmas.List.{map_more, take-map}
 use Rattle.std.proofs.lemmas.List.Sums.{sum_by-cons, sum_by-append, sum_by_push, sum_by-take-le}
+use Rattle.arrow2_types.specs.declared.error.Error.{Error}
 use Rattle.arrow2_walks.specs.Selected.{selected, chosen}
 use Rattle.arrow2_walks.proofs.Selected.{selections}
 
@@ -46,5 +48,10 @@ chosen-fits weight (suc n) (false ∷ ms) (x ∷ xs) (y ∷ ys) =
     let a = sum_by-cons weight y (chosen (take n ms) (take n xs) (take n ys)) in
     let b = sum_by-cons weight y (chosen ms xs ys) in
     let c = chosen-fits weight n ms xs ys in omega (arith, a, b, c)
+
+-- a fact of each result is one of that which succeeded
+pub of-ok : {T : Type 0} (r : Result T Error) (P : Type 0) → P → OnOk r P
+of-ok (Ok u) P h = h
+of-ok (Err e) P h = tt
 
 pub ruleset weighed = (sum_by_push, sum-first, selections)

@@ -1,5 +1,5 @@
 //! Arrays one behind the other.
-ghost use Rattle.std.specs.Prelude.{◌≡◌, ◌+◌, ◌<◌, ◌≤◌, ◌^◌, ◌⊎◌, ◌++◌, length, sum_by, IfOk, IfErr, IsErrOf};
+ghost use Rattle.std.specs.Prelude.{◌≡◌, ◌+◌, ◌<◌, ◌≤◌, ◌^◌, ◌⊎◌, ◌++◌, length, sum_by, IfOk, IfErr, IsErrOf, OnOk};
 ghost use Rattle.std.specs.List.{flat_map};
 ghost use Rattle.arrow2_array.specs.Items.{boolean_items};
 ghost use Rattle.arrow2_compute.specs.Sizes.{slot_bytes};
@@ -47,8 +47,8 @@ pub fn concatenate<T: NativeType>(
 ///
 /// # Errors
 ///
-/// `Overflow`, only if the slots of all arrays, those under nulls too, have more than `O::MAX` bytes in all, or a
-/// `usize` cannot count the items; or `OutOfMemory`.
+/// `Overflow` exactly if the slots of all arrays, those under nulls too, have more than `O::MAX` bytes in all, or a
+/// `usize` cannot count the items, and memory was not refused before; else `OutOfMemory` alone.
 #[tactic(auto, using(crate::proofs::Filtered::joining))]
 pub fn concatenate_binary<A: Binary>(first: &A, others: &[&A]) -> Result<A>
     ensures items { IfOk result (λ a. binary_items (A.parts a) ≡ binary_items (A.parts first.now)
@@ -59,6 +59,10 @@ pub fn concatenate_binary<A: Binary>(first: &A, others: &[&A]) -> Result<A>
         + sum_by (λ array. slot_bytes (A.parts array.now)) others.now)
         ⊎ (2 ^ 64 ≤ length (binary_items (A.parts first.now)
         ++ flat_map (λ array. binary_items (A.parts array.now)) others.now)) }
+    ensures fits { OnOk result ((slot_bytes (A.parts first.now)
+        + sum_by (λ array. slot_bytes (A.parts array.now)) others.now ≤ A.GREATEST)
+        × (length (binary_items (A.parts first.now)
+        ++ flat_map (λ array. binary_items (A.parts array.now)) others.now) < 2 ^ 64)) }
     ensures only { IfErr result (λ e. (e ≡ Error.Overflow) ⊎ (e ≡ Error.OutOfMemory)) }
 {
     let mut joined = first.like()?;

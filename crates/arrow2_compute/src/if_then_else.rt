@@ -1,5 +1,5 @@
 //! Items of one array or of another.
-ghost use Rattle.std.specs.Prelude.{◌≡◌, ◌<◌, ◌⊎◌, [], ◌∷◌, None, length, slice_index_or, sum_by, if◌then◌else◌, IfOk, IfErr, IsErrOf};
+ghost use Rattle.std.specs.Prelude.{◌≡◌, ◌<◌, ◌≤◌, ◌⊎◌, [], ◌∷◌, None, length, slice_index_or, sum_by, if◌then◌else◌, IfOk, IfErr, IsErrOf, OnOk};
 ghost use Rattle.arrow2_array.specs.Items.{boolean_items};
 ghost use Rattle.arrow2_model.specs.Storage.{items_of};
 ghost use Rattle.arrow2_compute.specs.Sizes.{item_bytes};
@@ -56,7 +56,8 @@ pub fn if_then_else<T: NativeType>(
 ///
 /// # Errors
 ///
-/// `Overflow`, only if the chosen items have more than `O::MAX` bytes in all, or `OutOfMemory`.
+/// `Overflow` exactly if the chosen items have more than `O::MAX` bytes in all and memory was not refused before; else
+/// `OutOfMemory` alone.
 #[tactic(auto, using(crate::proofs::Weighed::weighed))]
 pub fn if_then_else_binary<A: Binary>(mask: &Bitmap, lhs: &A, rhs: &A) -> Result<A>
     requires left { length (items_of mask.now) ≡ length (binary_items (A.parts lhs.now)) }
@@ -66,6 +67,8 @@ pub fn if_then_else_binary<A: Binary>(mask: &Bitmap, lhs: &A, rhs: &A) -> Result
     ensures data_type { IfOk result (λ a. (A.parts a).data_type ≡ (A.parts lhs.now).data_type) }
     ensures overflow { IsErrOf result Error.Overflow → A.GREATEST < sum_by item_bytes
         (chosen (items_of mask.now) (binary_items (A.parts lhs.now)) (binary_items (A.parts rhs.now))) }
+    ensures fits { OnOk result (sum_by item_bytes (chosen (items_of mask.now)
+        (binary_items (A.parts lhs.now)) (binary_items (A.parts rhs.now))) ≤ A.GREATEST) }
     ensures only { IfErr result (λ e. (e ≡ Error.Overflow) ⊎ (e ≡ Error.OutOfMemory)) }
 {
     let mut items = lhs.like()?;

@@ -1,5 +1,5 @@
 //! The items at given places.
-ghost use Rattle.std.specs.Prelude.{◌≡◌, ◌<◌, ◌⊎◌, All, None, false, length, map, slice_index_or, sum_by, IfOk, IfErr, IsErrOf};
+ghost use Rattle.std.specs.Prelude.{◌≡◌, ◌<◌, ◌≤◌, ◌⊎◌, All, None, false, length, map, slice_index_or, sum_by, IfOk, IfErr, IsErrOf, OnOk};
 ghost use Rattle.std.specs.List.{AllZip};
 ghost use Rattle.arrow2_array.specs.Items.{boolean_items};
 ghost use Rattle.arrow2_compute.specs.Taken.{IsInBoundsOrNull, IsItemAt, item_at};
@@ -137,7 +137,8 @@ fn item_at<T: NativeType, I: Index>(array: &PrimitiveArray<T>, index: Option<I>)
 ///
 /// # Errors
 ///
-/// `Overflow`, only if the items that are taken have more than `O::MAX` bytes in all, or `OutOfMemory`.
+/// `Overflow` exactly if the items that are taken have more than `O::MAX` bytes in all and memory was not refused before;
+/// else `OutOfMemory` alone.
 #[tactic(auto, using(crate::proofs::Weighed::weighed))]
 pub fn take_binary<A: Binary>(array: &A, indices: &[usize]) -> Result<A>
     requires inside { All (λ index. index < length (binary_items (A.parts array.now))) indices.now }
@@ -146,6 +147,8 @@ pub fn take_binary<A: Binary>(array: &A, indices: &[usize]) -> Result<A>
     ensures data_type { IfOk result (λ a. (A.parts a).data_type ≡ (A.parts array.now).data_type) }
     ensures overflow { IsErrOf result Error.Overflow → A.GREATEST < sum_by item_bytes
         (map (λ index. slice_index_or (binary_items (A.parts array.now)) index None) indices.now) }
+    ensures fits { OnOk result (sum_by item_bytes
+        (map (λ index. slice_index_or (binary_items (A.parts array.now)) index None) indices.now) ≤ A.GREATEST) }
     ensures only { IfErr result (λ e. (e ≡ Error.Overflow) ⊎ (e ≡ Error.OutOfMemory)) }
 {
     let mut taken = array.like()?;

@@ -1,4 +1,4 @@
-use Rattle.std.proofs.Common.{Bor, ◌≡◌, ◌∙◌, ◌+◌, ◌++◌, length, get_or, take, append_assoc, ap, subst, arith}
+use Rattle.std.proofs.Common.{Bor, ◌≡◌, ◌∙◌, ◌+◌, ◌<◌, ◌≤◌, ◌^◌, ◌++◌, length, get_or, take, append_assoc, ap, subst, arith}
 use Rattle.std.specs.Prelude.{IfOk, sum_by}
 use Rattle.std.specs.List.{flat_map}
 use Rattle.std.proofs.lemmas.Grind.{common_steps}
@@ -9,6 +9,7 @@ use Rattle.arrow2_offset.specs.Offsets.{lengths_of}
 use Rattle.arrow2_text.specs.Binary.{binary_items}
 use Rattle.arrow2_compute.specs.Sizes.{slot_bytes}
 use Rattle.arrow2_compute.proofs.Filtered.{flat_map-more, length-first, part-whole}
+use Rattle.arrow2_compute.proofs.Weighed.{of-ok}
 use Rattle.arrow2_compute.proofs.concatenate.concatenate_binary.Goals as goal
 
 pub loop-array-preserved : goal.loop-array-preserved
@@ -49,3 +50,16 @@ returns-clause-items g c =
     let items = λ (array : Bor _). binary_items (g.A.Binary.parts array.now) in
     let all = c.loop-array.invariant.items ∙ ap (λ arrays. binary_items (g.A.Binary.parts c.args.first.now) ++ flat_map items arrays) (take_all c.loop-array.array-index c.args.others.now c.loop-array-test.false) in
     subst (λ z. IfOk c.freeze.result (λ a. binary_items (g.A.Binary.parts a) ≡ z)) all c.freeze.ensures.items
+
+pub returns-clause-fits : goal.returns-clause-fits
+returns-clause-fits g c =
+    let first = g.A.Binary.parts c.args.first.now in
+    let others = c.args.others.now in
+    let items = λ (array : Bor _). binary_items (g.A.Binary.parts array.now) in
+    let size = λ (array : Bor _). slot_bytes (g.A.Binary.parts array.now) in
+    let last = c.loop-array.invariant in
+    let whole = take_all c.loop-array.array-index others c.loop-array-test.false in
+    let bytes = last.bytes ∙ ap (λ arrays. slot_bytes first + sum_by size arrays) whole in
+    let count = ap length (last.items ∙ ap (λ arrays. binary_items first ++ flat_map items arrays) whole) in
+    of-ok c.freeze.result ((slot_bytes first + sum_by size others ≤ g.A.Binary.GREATEST) × (length (binary_items first ++ flat_map items others) < 2 ^ 64))
+    (omega (arith, bytes, last.fits), omega (arith, count, last.counted))

@@ -1,6 +1,7 @@
-use Rattle.std.proofs.Common.{◌+◌, ◌<◌, ◌^◌, None, false, get_or, length, take, ap, ◌∙◌, arith}
+use Rattle.std.proofs.Common.{◌≡◌, ◌+◌, ◌<◌, ◌≤◌, ◌^◌, None, false, get_or, length, take, ap, ◌∙◌, arith}
 use Rattle.std.specs.Prelude.{sum_by, if◌then◌else◌}
 use Rattle.std.proofs.lemmas.Grind.{common_steps}
+use Rattle.std.proofs.lemmas.List.{take_all}
 use Rattle.std.proofs.lemmas.List.Sums.{sum_by_push}
 use Rattle.arrow2_model.specs.Storage.{items_of}
 use Rattle.arrow2_text.specs.Binary.{binary_items}
@@ -8,7 +9,7 @@ use Rattle.arrow2_walks.specs.Selected.{chosen}
 use Rattle.arrow2_walks.proofs.Selected.{chosen-more}
 use Rattle.arrow2_compute.specs.Sizes.{item_bytes}
 use Rattle.arrow2_compute.proofs.Filtered.{length-chosen}
-use Rattle.arrow2_compute.proofs.Weighed.{chosen-fits}
+use Rattle.arrow2_compute.proofs.Weighed.{chosen-fits, of-ok}
 use Rattle.arrow2_compute.proofs.if_then_else.if_then_else_binary.Goals as goal
 
 -- what overflows is no more than all items
@@ -27,3 +28,15 @@ returns-in_err-push_either-clause-overflow g c =
     let most = chosen-fits item_bytes (place + 1) ms xs ys in
     let bytes = c.loop-place.invariant.bytes ∙ ap (sum_by item_bytes) c.loop-place.invariant.items in
     grind (arith, common_steps, counted, more, push, most, bytes)
+
+pub returns-clause-fits : goal.returns-clause-fits
+returns-clause-fits g c =
+    let ms = items_of c.args.mask.now in
+    let xs = binary_items (g.A.Binary.parts c.args.lhs.now) in
+    let ys = binary_items (g.A.Binary.parts c.args.rhs.now) in
+    let place = c.loop-place.place in
+    let count = c.len-place-end.ensures.items in
+    let all : chosen (take place ms) (take place xs) (take place ys) ≡ chosen ms xs ys =
+    rw (take_all place ms (omega (arith, count, c.loop-place-test.false)), take_all place xs (omega (arith, count, c.loop-place-test.false, c.requires.left)), take_all place ys (omega (arith, count, c.loop-place-test.false, c.requires.right))) in
+    let bytes = c.loop-place.invariant.bytes ∙ ap (sum_by item_bytes) (c.loop-place.invariant.items ∙ all) in
+    of-ok c.freeze.result (sum_by item_bytes (chosen ms xs ys) ≤ g.A.Binary.GREATEST) (omega (arith, bytes, c.loop-place.invariant.fits))

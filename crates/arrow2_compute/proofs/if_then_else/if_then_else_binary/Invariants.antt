@@ -1,4 +1,4 @@
-use Rattle.std.proofs.Common.{◌≡◌, take}
+use Rattle.std.proofs.Common.{◌≡◌, ◌≤◌, take}
 use Rattle.std.specs.Prelude.{sum_by}
 use Rattle.arrow2_model.specs.Storage.{items_of}
 use Rattle.arrow2_text.specs.Binary.{binary_items}
@@ -10,5 +10,6 @@ abbrev pub invariant-loop-place : goal.invariant-loop-place
 invariant-loop-place g l = record {
   items : (g.A.Binary.growing l.items).items ≡ chosen (take l.place (items_of l.mask)) (take l.place (binary_items (g.A.Binary.parts l.lhs))) (take l.place (binary_items (g.A.Binary.parts l.rhs)));
   bytes : (g.A.Binary.growing l.items).bytes ≡ sum_by item_bytes (g.A.Binary.growing l.items).items;
+  fits : (g.A.Binary.growing l.items).bytes ≤ g.A.Binary.GREATEST;
   data_type : (g.A.Binary.growing l.items).data_type ≡ (g.A.Binary.parts l.lhs).data_type;
 }

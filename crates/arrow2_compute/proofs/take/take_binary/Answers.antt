@@ -1,10 +1,10 @@
-use Rattle.std.proofs.Common.{◌≡◌, ℕ, ◌+◌, ◌<◌, ◌^◌, None, length, map, take, ap, subst, ◌∙◌, arith}
+use Rattle.std.proofs.Common.{◌≡◌, ℕ, ◌+◌, ◌<◌, ◌≤◌, ◌^◌, None, length, map, take, ap, subst, ◌∙◌, arith}
 use Rattle.std.specs.Prelude.{IfOk, slice_index_or, sum_by}
 use Rattle.std.proofs.lemmas.Grind.{common_steps}
 use Rattle.std.proofs.lemmas.List.{take_all, length-map, length-take}
 use Rattle.arrow2_text.specs.Binary.{binary_items}
 use Rattle.arrow2_compute.specs.Sizes.{item_bytes}
-use Rattle.arrow2_compute.proofs.Weighed.{taken-fits}
+use Rattle.arrow2_compute.proofs.Weighed.{of-ok, taken-fits}
 use Rattle.arrow2_compute.proofs.take.take_binary.Goals as goal
 
 -- what overflows is no more than all items
@@ -25,3 +25,10 @@ returns-clause-items g c =
     let items = λ (index : ℕ). slice_index_or (binary_items (g.A.Binary.parts c.args.array.now)) index None in
     let all = c.loop-index.invariant.items ∙ ap (map items) (take_all c.loop-index.index-index c.args.indices.now c.loop-index-test.false) in
     subst (λ z. IfOk c.freeze.result (λ a. binary_items (g.A.Binary.parts a) ≡ z)) all c.freeze.ensures.items
+
+pub returns-clause-fits : goal.returns-clause-fits
+returns-clause-fits g c =
+    let items = λ (index : ℕ). slice_index_or (binary_items (g.A.Binary.parts c.args.array.now)) index None in
+    let all = c.loop-index.invariant.items ∙ ap (map items) (take_all c.loop-index.index-index c.args.indices.now c.loop-index-test.false) in
+    let bytes = c.loop-index.invariant.bytes ∙ ap (sum_by item_bytes) all in
+    of-ok c.freeze.result (sum_by item_bytes (map items c.args.indices.now) ≤ g.A.Binary.GREATEST) (omega (arith, bytes, c.loop-index.invariant.fits))
