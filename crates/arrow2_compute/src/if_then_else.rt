@@ -60,11 +60,14 @@ pub fn if_then_else<T: NativeType>(
 /// `OutOfMemory` alone.
 #[tactic(auto, using(crate::proofs::Weighed::weighed))]
 pub fn if_then_else_binary<A: Binary>(mask: &Bitmap, lhs: &A, rhs: &A) -> Result<A>
+    // The mask has an item for each slot of both arrays.
     requires left { length (items_of mask.now) ≡ length (binary_items (A.parts lhs.now)) }
     requires right { length (items_of mask.now) ≡ length (binary_items (A.parts rhs.now)) }
+    // The chosen items, and the logical type of `lhs`.
     ensures items { IfOk result (λ a. binary_items (A.parts a) ≡ chosen (items_of mask.now)
         (binary_items (A.parts lhs.now)) (binary_items (A.parts rhs.now))) }
     ensures data_type { IfOk result (λ a. (A.parts a).data_type ≡ (A.parts lhs.now).data_type) }
+    // Whether their bytes fit the greatest offset, and which errors come.
     ensures overflow { IsErrOf result Error.Overflow → A.GREATEST < sum_by item_bytes
         (chosen (items_of mask.now) (binary_items (A.parts lhs.now)) (binary_items (A.parts rhs.now))) }
     ensures fits { OnOk result (sum_by item_bytes (chosen (items_of mask.now)

@@ -75,10 +75,12 @@ impl<O: Offset> BinaryArray<O> {
         values: Buffer<u8>,
         validity: Option<Bitmap>,
     ) -> Result<BinaryArray<O>>
+        // With `Ok` the array is these parts, and they fit.
         ensures ok { IfOk result (λ a. a ≡ binary_of data_type offsets values validity) }
         ensures accepted { OnOk result ((last_of (buffer_items offsets) ≤ length (buffer_items values))
             × HasBitPerSlot (buffer_items offsets) validity
             × (physical data_type ≡ binary_layout O.IS_LARGE)) }
+        // Each message comes for the first fault, in this order.
         ensures past { length (buffer_items values) < last_of (buffer_items offsets) →
             IfErr result (λ e. IsInvalidArgument e past_the_values) }
         ensures unequal { last_of (buffer_items offsets) ≤ length (buffer_items values) →
@@ -89,6 +91,7 @@ impl<O: Offset> BinaryArray<O> {
             HasBitPerSlot (buffer_items offsets) validity →
             ¬ (physical data_type ≡ binary_layout O.IS_LARGE) →
             IfErr result (λ e. IsInvalidArgument e other_binary_layout) }
+        // Parts that fit are refused by running out of memory alone.
         ensures only { last_of (buffer_items offsets) ≤ length (buffer_items values) →
             HasBitPerSlot (buffer_items offsets) validity →
             physical data_type ≡ binary_layout O.IS_LARGE → IfErr result (λ e. e ≡ Error.OutOfMemory) }

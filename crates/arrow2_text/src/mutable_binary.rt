@@ -1,6 +1,6 @@
 //! An array of byte strings that grows.
 ghost use Rattle.std.specs.Prelude.{◌≡◌, ◌+◌, ◌<◌, ◌≤◌, ◌^◌, ◌↔◌, ◌⊎◌, [], ◌∷◌, None, length, sum, count_by, map, if◌then◌else◌, IfErr, IfOk, IsErrOf, IsNone, IsOk, IsTrue, OnOk};
-ghost use Rattle.std.specs.Iterator.{IsFinite};
+ghost use Rattle.std.specs.Iterator.{IsFinite, IsFiniteIterable};
 ghost use Rattle.std.specs.Iterator.Runs.{WholeRun};
 ghost use Rattle.std.specs.Option.{is_none, option_copied, option_map_or};
 ghost use Rattle.arrow2_model.specs.Buffers.{buffer_items};
@@ -130,11 +130,12 @@ impl<O: Offset> MutableBinaryArray<O> {
         alloc: Global,
         iter: I,
     ) -> Result<MutableBinaryArray<O>>
-        requires { (it : I.IntoIter) → I.into_iter_gives iter it →
-            I.IntoIter.can_next it × IsFinite (I.IntoIter.remaining it) }
+        requires { IsFiniteIterable I.into_iter_gives I.IntoIter.can_next I.IntoIter.remaining iter }
+        // All items of a run of the iterator.
         ensures items { IfOk result (λ a. (it : I.IntoIter) × I.into_iter_gives iter it
             × WholeRun I.IntoIter.next_gives it (λ p. a.items ≡ items_by_bytes p.items)) }
         ensures data_type { IfOk result (λ a. a.data_type ≡ default_binary O.IS_LARGE) }
+        // It comes only where a run may have too many.
         ensures overflow { IsErrOf result Error.Overflow →
             (it : I.IntoIter) × I.into_iter_gives iter it × GivesPastOffset O.MAX I.IntoIter.next_gives it }
         ensures only { IfErr result (λ e. (e ≡ Error.Overflow) ⊎ (e ≡ Error.OutOfMemory)) }
@@ -199,16 +200,20 @@ impl<O: Offset> MutableBinaryArray<O> {
     /// `Overflow` exactly where the length and `additional` pass `usize::MAX` together, else `OutOfMemory` alone. After
     /// both the array holds the items that it held.
     pub fn reserve(&mut self, additional: usize, bytes: usize) -> Result<()>
+        // The array stays.
         ensures items { self.new.items ≡ self.old.items }
         ensures bytes { self.new.bytes ≡ self.old.bytes }
         ensures data_type { self.new.data_type ≡ self.old.data_type }
+        // With `Ok` `additional` more items and `bytes` more bytes fit.
         ensures ok { OnOk result (length self.old.items + additional ≤ self.new.capacity) }
         ensures ok_bytes { OnOk result (self.old.bytes + bytes ≤ self.new.byte_capacity) }
+        // When each error comes, and when none does.
         ensures overflow { IsErrOf result Error.Overflow ↔
             (2 ^ 64 ≤ length self.old.items + additional) }
         ensures only { IfErr result (λ e. (e ≡ Error.Overflow) ⊎ (e ≡ Error.OutOfMemory)) }
         ensures succeeds { length self.old.items + additional ≤ self.old.capacity →
             self.old.bytes + bytes ≤ self.old.byte_capacity → IsOk result }
+        // Neither capacity falls.
         ensures capacity { self.old.capacity ≤ self.new.capacity }
         ensures byte_capacity { self.old.byte_capacity ≤ self.new.byte_capacity }
     {

@@ -83,10 +83,12 @@ impl<O: Offset> Utf8Array<O> {
         values: Buffer<u8>,
         validity: Option<Bitmap>,
     ) -> Result<Utf8Array<O>>
+        // With `Ok` the array is these parts, and they fit.
         ensures ok { IfOk result (λ a. a ≡ binary_of data_type offsets values validity) }
         ensures accepted { OnOk result (AreTexts (buffer_items offsets) (buffer_items values)
             × HasBitPerSlot (buffer_items offsets) validity
             × (physical data_type ≡ text_layout O.IS_LARGE)) }
+        // Each message comes for the first fault, in this order.
         ensures past { length (buffer_items values) < last_of (buffer_items offsets) →
             IfErr result (λ e. IsInvalidArgument e past_the_values) }
         ensures broken { last_of (buffer_items offsets) ≤ length (buffer_items values) →
@@ -100,6 +102,7 @@ impl<O: Offset> Utf8Array<O> {
             HasBitPerSlot (buffer_items offsets) validity →
             ¬ (physical data_type ≡ text_layout O.IS_LARGE) →
             IfErr result (λ e. IsInvalidArgument e other_text_layout) }
+        // Parts that fit are refused by running out of memory alone.
         ensures only { AreTexts (buffer_items offsets) (buffer_items values) →
             HasBitPerSlot (buffer_items offsets) validity →
             physical data_type ≡ text_layout O.IS_LARGE → IfErr result (λ e. e ≡ Error.OutOfMemory) }
