@@ -82,15 +82,19 @@ pub(crate) fn validity_by(
     right: &Bitmap,
     right_validity: &Validity,
 ) -> Result<Validity>
+    // All four have one length.
     requires same_length { length' (items_of left.now) ≡ length' (items_of right.now) }
     requires left_length { length' (valid_items left_validity.now) ≡ length' (items_of left.now) }
     requires right_length { length' (valid_items right_validity.now) ≡ length' (items_of right.now) }
+    // Which results are not null.
     ensures items { IfOk result (λ v. valid_items v
         ≡ each (known_table operator) (items_of left.now ∷ valid_items left_validity.now
         ∷ items_of right.now ∷ valid_items right_validity.now ∷ [])) }
     ensures len { IfOk result (λ v. length' (valid_items v) ≡ length' (items_of left.now)) }
+    // It has no bitmap exactly where neither input has one.
     ensures bitmap { IfOk result (λ v. IsNone v.bitmap
         ↔ (IsNone left_validity.now.bitmap × IsNone right_validity.now.bitmap)) }
+    // The only error is `OutOfMemory`.
     ensures only { IfErr result (λ e. e ≡ Error.OutOfMemory) }
 {
     let t = operator.known();

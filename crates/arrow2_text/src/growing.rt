@@ -114,11 +114,14 @@ impl<O: Offset> Growing<O> {
         values: Vec<u8>,
         validity: MutableBitmap,
     ) -> Growing<O>
+        // The offsets begin at 0 and cut all values into a slot for each item of the validity.
         requires start { offsets.start ≡ 0 }
         requires whole { sum offsets.lengths ≡ length values.items }
         requires same_length { length validity.items ≡ length offsets.lengths }
+        // The slots, and which are not null.
         ensures values { result.values ≡ cut values.items offsets.lengths }
         ensures valid { result.valid ≡ validity.items }
+        // The logical type, and the number of bytes.
         ensures data_type { result.data_type ≡ data_type.value }
         ensures bytes { result.bytes ≡ length values.items }
     {
@@ -155,17 +158,21 @@ impl<O: Offset> Growing<O> {
 
     /// Reserves capacity for more slots and bytes.
     pub(crate) fn reserve(&mut self, slots: usize, bytes: usize) -> Result<()>
+        // The array stays.
         ensures data_type { self.new.data_type ≡ self.old.data_type }
         ensures same { length self.old.valid ≡ length self.old.values }
         ensures values { self.new.values ≡ self.old.values }
         ensures valid { self.new.valid ≡ self.old.valid }
         ensures bytes { self.new.bytes ≡ self.old.bytes }
+        // With `Ok` `slots` more slots and `bytes` more bytes fit.
         ensures ok { OnOk result (length self.old.valid + slots ≤ self.new.capacity) }
         ensures ok_bytes { OnOk result (self.old.bytes + bytes ≤ self.new.byte_capacity) }
+        // When each error comes, and when none does.
         ensures overflow { IsErrOf result Error.Overflow ↔ (2 ^ 64 ≤ length self.old.valid + slots) }
         ensures only { IfErr result (λ e. (e ≡ Error.Overflow) ⊎ (e ≡ Error.OutOfMemory)) }
         ensures succeeds { length self.old.valid + slots ≤ self.old.capacity →
             self.old.bytes + bytes ≤ self.old.byte_capacity → IsOk result }
+        // Neither capacity falls.
         ensures capacity { self.old.capacity ≤ self.new.capacity }
         ensures byte_capacity { self.old.byte_capacity ≤ self.new.byte_capacity }
     {
