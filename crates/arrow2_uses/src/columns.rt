@@ -1,215 +1,106 @@
-//! A column of one's own: values with their validity, and a builder that survives a failed allocation.
-ghost use Rattle.std.specs.Prelude.{◌≡◌, ◌+◌, ◌^◌, ◌<◌, ◌≤◌, ◌++◌, ◌⊎◌, [], ◌∷◌, All, None, length as length', map, count_by, slice_index_or, if◌then◌else◌, IfOk, IfErr, IsErrOf, OnOk, OnErr};
-ghost use Rattle.std.specs.Option.{is_none};
+//! Columns of numbers: built, filled, selected, taken, joined, and two that grow as one.
+ghost use Rattle.std.specs.Prelude.{◌≡◌, ◌<◌, ◌++◌, ◌⊎◌, [], ◌∷◌, All, None, Some, pos, length, map, slice_index_or, option_map, unwrap_or, IfOk, IfErr, OnOk, OnErr};
 ghost use Rattle.std.specs.List.{flat_map};
-ghost use Rattle.arrow2.specs.Buffers.{buffer_items};
-ghost use Rattle.arrow2.specs.Parts.{part};
+ghost use Rattle.std.specs.Option.{option_copied};
+ghost use Rattle.std.specs.Ordering.{partial_gt};
+ghost use Rattle.arrow2.specs.Aggregates.{sum_of_non_null};
+ghost use Rattle.arrow2.specs.Binary.{binary_items};
+ghost use Rattle.arrow2.specs.Masks.{is_true};
+ghost use Rattle.arrow2.specs.Primitive.{primitive_items};
+ghost use Rattle.arrow2.specs.Selected.{selected};
 ghost use Rattle.arrow2.specs.Storage.{items_of};
-ghost use Rattle.arrow2.specs.Selected.{selected, chosen};
-ghost use Rattle.arrow2.specs.Zipped.{zipped};
 
-use arrow2::bitmap::{Bitmap, MutableBitmap};
-use arrow2::buffer::Buffer;
+use arrow2::array::{MutablePrimitiveArray, MutableUtf8Array, PrimitiveArray, Utf8Array};
+use arrow2::bitmap::Bitmap;
+use arrow2::compute::aggregate::sum;
+use arrow2::compute::comparison::gt_scalar;
+use arrow2::compute::filter::{filter, filter_by_array};
+use arrow2::compute::take::take;
 use arrow2::error::{Error, Result};
 use arrow2::types::NativeType;
 use std::alloc::Global;
-use std::convert::TryFrom;
-use std::marker::Model;
 
-/// Values, each of which may be null: contracts see the list of its items.
-#[derive(Drop)]
-pub struct Column<T: NativeType> {
-    values: Buffer<T>,
-    validity: Bitmap,
+/// Returns three prices, the second of which is not known.
+///
+/// # Errors
+///
+/// `Overflow`, or `OutOfMemory`.
+pub fn prices(alloc: Global) -> Result<PrimitiveArray<i64>>
+    ensures ok { IfOk result (λ a.
+        primitive_items a ≡ Some (pos 30) ∷ None ∷ Some (pos 50) ∷ []) }
+    ensures only { IfErr result (λ e. (e ≡ Error.Overflow) ⊎ (e ≡ Error.OutOfMemory)) }
+{
+    let mut prices = MutablePrimitiveArray::<i64>::new(alloc)?;
+    prices.push(Some(30))?;
+    prices.push(None)?;
+    prices.push(Some(50))?;
+    prices.freeze()
 }
 
-impl<T: NativeType> Model for Column<T> {
-    ghost use Rattle.std.specs.Prelude.{◌≡◌, List, Option, length};
-    ghost use Rattle.arrow2.specs.Buffers.{buffer_items};
-    ghost use Rattle.arrow2.specs.Storage.{items_of};
-    ghost use Rattle.arrow2.specs.Zipped.{zipped};
-
-    ghost Value = { List (Option T) };
-
-    ghost view = { λ c. zipped (buffer_items c.values) (items_of c.validity) };
-
-    ghost invariant = { λ c. length (items_of c.validity) ≡ length (buffer_items c.values) };
+/// Returns the column with `value` in place of each null.
+///
+/// # Errors
+///
+/// `Overflow` or `OutOfMemory`.
+pub fn filled<T: NativeType>(column: &PrimitiveArray<T>, value: T) -> Result<PrimitiveArray<T>>
+    ensures ok { IfOk result (λ c. primitive_items c
+        ≡ map (λ item. Some (unwrap_or item value)) (primitive_items column.now)) }
+    ensures only { IfErr result (λ e. (e ≡ Error.Overflow) ⊎ (e ≡ Error.OutOfMemory)) }
+{
+    let mut filled = MutablePrimitiveArray::like(column)?;
+    filled.reserve(column.len())?;
+    for item in column.iter() {
+        filled.push(Some(item.unwrap_or(value)))?;
+    }
+    filled.freeze()
 }
 
-#[tactic(auto, using(arrow2::proofs::Columns::columns))]
-impl<T: NativeType> Column<T> {
-    /// Returns the column of these values, null where the validity is false. Requires one bit for each value.
-    pub fn new(values: Buffer<T>, validity: Bitmap) -> Column<T>
-        requires same_length { length' (items_of validity) ≡ length' (buffer_items values) }
-        ensures { result ≡ zipped (buffer_items values) (items_of validity) }
-    {
-        Column { values, validity }
-    }
-
-    /// Returns the number of items.
-    pub fn len(&self) -> usize
-        ensures { result ≡ length' self.now }
-    {
-        self.values.len()
-    }
-
-    /// Returns the number of nulls.
-    pub fn null_count(&self) -> usize
-        ensures { result ≡ count_by is_none self.now }
-    {
-        self.validity.unset_bits()
-    }
-
-    /// Returns item `index`, `None` where it is null. Requires that it is below the length.
-    pub fn get(&self, index: usize) -> Option<T>
-        requires below { index < length' self.now }
-        ensures { result ≡ slice_index_or self.now index None }
-    {
-        let value = self.values.as_slice()[index];
-        self.validity.get_bit(index).then_some(value)
-    }
-
-    /// Keeps `length` items from item `offset` on. Requires that they are inside.
-    pub fn slice(&mut self, offset: usize, length: usize)
-        requires inside { offset + length ≤ length' self.old }
-        ensures { self.new ≡ part self.old offset length }
-    {
-        self.values.slice(offset, length);
-        self.validity.slice(offset, length);
-    }
-
-    /// Returns the items at these indices. Requires that each is below the length.
-    ///
-    /// # Errors
-    ///
-    /// `Overflow`, only where the length would pass `usize::MAX`, or `OutOfMemory`.
-    pub fn take(&self, places: &[usize]) -> Result<Column<T>>
-        requires inside { All (λ place. place < length' self.now) places.now }
-        ensures ok { IfOk result (λ c.
-            c ≡ map (λ place. slice_index_or self.now place None) places.now) }
-        ensures overflow { IsErrOf result Error.Overflow → 2 ^ 64 ≤ length' places.now }
-        ensures only { IfErr result (λ e. (e ≡ Error.Overflow) ⊎ (e ≡ Error.OutOfMemory)) }
-    {
-        let mut taken = ColumnBuilder::new(self.validity.allocator());
-        for place in places {
-            taken.push(self.get(*place))?;
-        }
-        taken.finish()
-    }
-
-    /// Returns the items at whose index the mask is true. Requires that it has one item for each of the column's.
-    ///
-    /// # Errors
-    ///
-    /// `Overflow` or `OutOfMemory`.
-    #[tactic(auto, using(arrow2::proofs::Columns::columns, arrow2::proofs::Columns::selections))]
-    pub fn filter(&self, mask: &Bitmap) -> Result<Column<T>>
-        requires same_length { length' (items_of mask.now) ≡ length' self.now }
-        ensures ok { IfOk result (λ c. c ≡ selected self.now (items_of mask.now)) }
-        ensures only { IfErr result (λ e. (e ≡ Error.Overflow) ⊎ (e ≡ Error.OutOfMemory)) }
-    {
-        let mut kept = ColumnBuilder::new(self.validity.allocator());
-        for place in 0..self.len() {
-            kept.push_if(mask.get_bit(place), self.get(place))?;
-        }
-        kept.finish()
-    }
+/// Returns the sum of the items that a mask selects. Requires that column and mask have one length.
+///
+/// # Errors
+///
+/// `OutOfMemory` alone.
+pub fn selected_sum(column: &PrimitiveArray<i64>, mask: &Bitmap) -> Result<i128>
+    requires same_length { length (items_of mask.now) ≡ length (primitive_items column.now) }
+    ensures ok { IfOk result (λ total.
+        total ≡ sum_of_non_null (λ x. x) (selected (primitive_items column.now) (items_of mask.now))) }
+    ensures only { IfErr result (λ e. e ≡ Error.OutOfMemory) }
+{
+    let selected = filter(column, mask)?;
+    Ok(sum(&selected))
 }
 
-/// A column that grows: contracts see the list of its items.
-#[derive(Drop)]
-pub struct ColumnBuilder<T: NativeType> {
-    values: Vec<T>,
-    validity: MutableBitmap,
+/// Returns the items above a bound. A null is not above it.
+///
+/// # Errors
+///
+/// `OutOfMemory` alone.
+pub fn above<T: NativeType + PartialOrd>(
+    column: &PrimitiveArray<T>,
+    bound: T,
+) -> Result<PrimitiveArray<T>>
+    ensures ok { IfOk result (λ c. primitive_items c ≡ selected (primitive_items column.now)
+        (map is_true (map (option_map (λ value. partial_gt T.PartialOrd.partial_cmp value bound))
+        (primitive_items column.now)))) }
+    ensures only { IfErr result (λ e. e ≡ Error.OutOfMemory) }
+{
+    let is_above = gt_scalar(column, bound)?;
+    filter_by_array(column, &is_above)
 }
 
-impl<T: NativeType> Model for ColumnBuilder<T> {
-    ghost use Rattle.std.specs.Prelude.{◌≡◌, List, Option, length};
-    ghost use Rattle.arrow2.specs.Zipped.{zipped};
-
-    ghost Value = { List (Option T) };
-
-    ghost view = { λ c. zipped c.values.items c.validity.items };
-
-    ghost invariant = { λ c. length c.validity.items ≡ length c.values.items };
-}
-
-#[tactic(auto, using(arrow2::proofs::Columns::columns))]
-impl<T: NativeType> ColumnBuilder<T> {
-    /// Returns a column without items.
-    pub fn new(alloc: Global) -> ColumnBuilder<T>
-        ensures { result ≡ [] }
-    {
-        ColumnBuilder {
-            values: Vec::new(alloc),
-            validity: MutableBitmap::new(alloc),
-        }
-    }
-
-    /// Appends an item. After an error the items are as they were.
-    ///
-    /// # Errors
-    ///
-    /// `Overflow`, only where the length would pass `usize::MAX`, or `OutOfMemory`.
-    pub fn push(&mut self, item: Option<T>) -> Result<()>
-        ensures ok { OnOk result (self.new ≡ self.old ++ item ∷ []) }
-        ensures err { OnErr result (self.new ≡ self.old) }
-        ensures overflow { IsErrOf result Error.Overflow → 2 ^ 64 ≤ length' self.old + 1 }
-        ensures only { IfErr result (λ e. (e ≡ Error.Overflow) ⊎ (e ≡ Error.OutOfMemory)) }
-    {
-        self.values.reserve(1)?;
-        self.validity.push(item.is_some())?;
-        self.values.push_reserved(item.unwrap_or(T::default()));
-        Ok(())
-    }
-
-    /// Appends an item where it is to be kept.
-    fn push_if(&mut self, keep: bool, item: Option<T>) -> Result<()>
-        ensures ok { OnOk result (self.new ≡ self.old ++ (if keep then item ∷ [] else [])) }
-        ensures overflow { IsErrOf result Error.Overflow → 2 ^ 64 ≤ length' self.old + 1 }
-        ensures only { IfErr result (λ e. (e ≡ Error.Overflow) ⊎ (e ≡ Error.OutOfMemory)) }
-    {
-        if keep {
-            self.push(item)?;
-        }
-        Ok(())
-    }
-
-    /// Appends the items of a column. After an error the items are as they were.
-    ///
-    /// # Errors
-    ///
-    /// `Overflow`, only where the length would pass `usize::MAX`, or `OutOfMemory`.
-    pub fn extend(&mut self, column: &Column<T>) -> Result<()>
-        ensures ok { OnOk result (self.new ≡ self.old ++ column.now) }
-        ensures err { OnErr result (self.new ≡ self.old) }
-        ensures overflow { IsErrOf result Error.Overflow →
-            2 ^ 64 ≤ length' self.old + length' column.now }
-        ensures only { IfErr result (λ e. (e ≡ Error.Overflow) ⊎ (e ≡ Error.OutOfMemory)) }
-    {
-        let count = self.values.len();
-        self.values.extend_from_slice(column.values.as_slice())?;
-        let extended = self.validity.extend_from_bitmap(&column.validity);
-        if extended.is_err() {
-            self.values.truncate(count);
-        }
-        extended
-    }
-
-    /// Returns the column of the items.
-    ///
-    /// # Errors
-    ///
-    /// `OutOfMemory` alone.
-    pub fn finish(self) -> Result<Column<T>>
-        ensures ok { IfOk result (λ c. c ≡ self) }
-        ensures only { IfErr result (λ e. e ≡ Error.OutOfMemory) }
-    {
-        let ColumnBuilder { values, validity } = self;
-        let values = Buffer::try_from(values)?;
-        let validity = Bitmap::try_from(validity)?;
-        Ok(Column { values, validity })
-    }
+/// Returns the sum of the items at these indices. Requires that each is below the length.
+///
+/// # Errors
+///
+/// `OutOfMemory` alone.
+pub fn sum_at(column: &PrimitiveArray<i64>, indices: &[usize]) -> Result<i128>
+    requires inside { All (λ index. index < length (primitive_items column.now)) indices.now }
+    ensures ok { IfOk result (λ total. total ≡ sum_of_non_null (λ x. x)
+        (map (λ index. slice_index_or (primitive_items column.now) index None) indices.now)) }
+    ensures only { IfErr result (λ e. e ≡ Error.OutOfMemory) }
+{
+    let taken = take(column, indices)?;
+    Ok(sum(&taken))
 }
 
 /// Returns the items of these columns, one after the other.
@@ -217,42 +108,59 @@ impl<T: NativeType> ColumnBuilder<T> {
 /// # Errors
 ///
 /// `Overflow` or `OutOfMemory`.
-pub fn concat<T: NativeType>(alloc: Global, columns: &[Column<T>]) -> Result<Column<T>>
-    ensures ok { IfOk result (λ c. c ≡ flat_map (λ column. column) columns.now) }
+pub fn concat<T: NativeType>(
+    alloc: Global,
+    columns: &[PrimitiveArray<T>],
+) -> Result<PrimitiveArray<T>>
+    ensures ok { IfOk result (λ c. primitive_items c
+        ≡ flat_map (λ column. primitive_items column) columns.now) }
     ensures only { IfErr result (λ e. (e ≡ Error.Overflow) ⊎ (e ≡ Error.OutOfMemory)) }
 {
-    let mut joined = ColumnBuilder::new(alloc);
+    let mut joined = MutablePrimitiveArray::new(alloc)?;
     for column in columns {
-        joined.extend(column)?;
+        joined.extend_from_array(column, 0, column.len())?;
     }
-    joined.finish()
+    Ok(joined.freeze()?)
 }
 
-/// Returns, item by item, that of the first column where the mask is true, and that of the other elsewhere. Requires
-/// that all have one length.
+/// Appends a row to two columns, which grow as one: after an error both hold the items that they held.
 ///
 /// # Errors
 ///
 /// `Overflow` or `OutOfMemory`.
-#[tactic(auto, using(arrow2::proofs::Columns::selections))]
-pub fn if_then_else<T: NativeType>(
-    mask: &Bitmap,
-    lhs: &Column<T>,
-    rhs: &Column<T>,
-) -> Result<Column<T>>
-    requires left { length' (items_of mask.now) ≡ length' lhs.now }
-    requires right { length' (items_of mask.now) ≡ length' rhs.now }
-    ensures ok { IfOk result (λ c. c ≡ chosen (items_of mask.now) lhs.now rhs.now) }
+pub fn push_row(
+    names: &mut MutableUtf8Array<i32>,
+    prices: &mut MutablePrimitiveArray<i64>,
+    name: Option<&str>,
+    price: Option<i64>,
+) -> Result<()>
+    ensures names { OnOk result (names.new.items ≡ names.old.items ++ option_copied name.entry ∷ []) }
+    ensures prices { OnOk result (prices.new.items ≡ prices.old.items ++ price ∷ []) }
+    ensures err { OnErr result ((names.new.items ≡ names.old.items) × (prices.new.items ≡ prices.old.items)) }
     ensures only { IfErr result (λ e. (e ≡ Error.Overflow) ⊎ (e ≡ Error.OutOfMemory)) }
 {
-    let mut items = ColumnBuilder::new(mask.allocator());
-    for place in 0..mask.len() {
-        let item = if mask.get_bit(place) {
-            lhs.get(place)
-        } else {
-            rhs.get(place)
-        };
-        items.push(item)?;
-    }
-    items.finish()
+    prices.reserve(1)?;
+    names.push(name)?;
+    prices.push(price)
+}
+
+/// Appends all rows of two other columns. After an error both hold the items that they held.
+///
+/// # Errors
+///
+/// `Overflow` or `OutOfMemory`.
+pub fn append_rows(
+    names: &mut MutableUtf8Array<i32>,
+    prices: &mut MutablePrimitiveArray<i64>,
+    more_names: &Utf8Array<i32>,
+    more_prices: &PrimitiveArray<i64>,
+) -> Result<()>
+    ensures names { OnOk result (names.new.items ≡ names.old.items ++ binary_items more_names.now) }
+    ensures prices { OnOk result (prices.new.items ≡ prices.old.items ++ primitive_items more_prices.now) }
+    ensures err { OnErr result ((names.new.items ≡ names.old.items) × (prices.new.items ≡ prices.old.items)) }
+    ensures only { IfErr result (λ e. (e ≡ Error.Overflow) ⊎ (e ≡ Error.OutOfMemory)) }
+{
+    prices.reserve(more_prices.len())?;
+    names.extend_from_array(more_names, 0, more_names.len())?;
+    prices.extend_from_array(more_prices, 0, more_prices.len())
 }

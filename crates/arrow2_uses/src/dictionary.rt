@@ -1,0 +1,114 @@
+//! A column of one's own: texts that repeat, each stored once, by two of arrow2's arrays.
+ghost use Rattle.std.specs.Prelude.{◌≡◌, ◌+◌, ◌<◌, ◌≤◌, ◌⊎◌, All, None, pos, length as length', map, slice_index_or, IfOk, IfErr};
+ghost use Rattle.std.specs.Option.{option_copied};
+ghost use Rattle.arrow2.specs.Binary.{binary_items};
+ghost use Rattle.arrow2.specs.Parts.{part};
+ghost use Rattle.arrow2.specs.Primitive.{primitive_items};
+ghost use Rattle.arrow2.specs.Selected.{selected};
+ghost use Rattle.arrow2.specs.Storage.{items_of};
+ghost use Rattle.arrow2.specs.Taken.{IsInBoundsOrNull, item_at};
+
+use arrow2::array::{MutableUtf8Array, PrimitiveArray, Utf8Array};
+use arrow2::bitmap::Bitmap;
+use arrow2::compute::filter::filter;
+use arrow2::error::{Error, Result};
+use std::marker::Model;
+
+/// Texts that repeat, each stored once: contracts see the list of the items, each `None` or the bytes of its text.
+#[derive(Drop)]
+pub struct Dictionary {
+    keys: PrimitiveArray<u32>,
+    texts: Utf8Array<i32>,
+}
+
+impl Model for Dictionary {
+    ghost use Rattle.std.specs.Prelude.{ℕ, List, Option, All, pos, length, map};
+    ghost use Rattle.arrow2.specs.Binary.{binary_items};
+    ghost use Rattle.arrow2.specs.Primitive.{primitive_items};
+    ghost use Rattle.arrow2.specs.Taken.{IsInBoundsOrNull, item_at};
+
+    ghost Value = { List (Option (List ℕ)) };
+
+    ghost view = { λ d. map (item_at (λ key. pos key) (binary_items d.texts)) (primitive_items d.keys) };
+
+    ghost invariant = { λ d. All (IsInBoundsOrNull (λ key. pos key) (length (binary_items d.texts)))
+        (primitive_items d.keys) };
+}
+
+#[tactic(auto, using(crate::proofs::Dictionaries::dictionaries))]
+impl Dictionary {
+    /// Returns the column of the texts at these keys, null where the key is. Requires that each key that is not null is
+    /// below the number of texts.
+    pub fn new(keys: PrimitiveArray<u32>, texts: Utf8Array<i32>) -> Dictionary
+        requires inside { All (IsInBoundsOrNull (λ key. pos key) (length' (binary_items texts)))
+            (primitive_items keys) }
+        ensures { result ≡ map (item_at (λ key. pos key) (binary_items texts)) (primitive_items keys) }
+    {
+        Dictionary { keys, texts }
+    }
+
+    /// Returns the number of items.
+    pub fn len(&self) -> usize
+        ensures { result ≡ length' self.now }
+    {
+        self.keys.len()
+    }
+
+    /// Returns item `index`, `None` where it is null. Requires that it is below the length.
+    pub fn get(&self, index: usize) -> Option<&str>
+        requires below { index < length' self.now }
+        ensures { option_copied result ≡ slice_index_or self.now index None }
+    {
+        text_at(&self.texts, self.keys.get(index))
+    }
+
+    /// Keeps `length` items from item `offset` on. Requires that they are inside.
+    pub fn slice(&mut self, offset: usize, length: usize)
+        requires inside { offset + length ≤ length' self.old }
+        ensures { self.new ≡ part self.old offset length }
+    {
+        self.keys.slice(offset, length);
+    }
+
+    /// Returns the items at whose index the mask is true. Requires that it has one item for each of the column's.
+    ///
+    /// # Errors
+    ///
+    /// `OutOfMemory` alone.
+    pub fn filter(&self, mask: &Bitmap) -> Result<Dictionary>
+        requires same_length { length' (items_of mask.now) ≡ length' self.now }
+        ensures ok { IfOk result (λ d. d ≡ selected self.now (items_of mask.now)) }
+        ensures only { IfErr result (λ e. e ≡ Error.OutOfMemory) }
+    {
+        let keys = filter(&self.keys, mask)?;
+        let texts = self.texts.clone()?;
+        Ok(Dictionary { keys, texts })
+    }
+
+    /// Returns the items as a column of texts.
+    ///
+    /// # Errors
+    ///
+    /// `Overflow` or `OutOfMemory`.
+    pub fn decode(&self) -> Result<Utf8Array<i32>>
+        ensures ok { IfOk result (λ t. binary_items t ≡ self.now) }
+        ensures only { IfErr result (λ e. (e ≡ Error.Overflow) ⊎ (e ≡ Error.OutOfMemory)) }
+    {
+        let mut decoded = MutableUtf8Array::new(self.texts.values().allocator())?;
+        for index in 0..self.len() {
+            decoded.push(self.get(index))?;
+        }
+        Ok(decoded.freeze()?)
+    }
+}
+
+/// Returns the text at a key, `None` where the key is null. Requires that it is below the number of texts.
+fn text_at(texts: &Utf8Array<i32>, key: Option<u32>) -> Option<&str>
+    requires inside { IsInBoundsOrNull (λ key. pos key) (length' (binary_items texts.now)) key }
+    ensures { option_copied result ≡ item_at (λ key. pos key) (binary_items texts.now) key }
+{
+    match key {
+        Some(key) => texts.get(key as usize),
+        None => None,
+    }
+}
