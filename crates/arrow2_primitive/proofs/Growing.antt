@@ -1,9 +1,9 @@
 -- Arrays that grow: values and validity, by as many items each.
-use Rattle.std.proofs.Common.{◌≡◌, ℕ, zero, suc, ◌+◌, ◌-◌, List, [], ◌∷◌, ◌++◌, Bool, true, false, length, take, drop, replicate, map, refl, ap, sym, ◌∙◌, arith}
+use Rattle.std.proofs.Common.{◌≡◌, ℕ, zero, suc, ◌+◌, ◌-◌, ◌<◌, List, [], ◌∷◌, ◌++◌, Bool, true, false, length, take, get_or, replicate, map, refl, ap, sym, ◌∙◌, arith}
 use Rattle.std.specs.Prelude.{Option, Some, None, ◌↔◌, is_some, unwrap_or, IsNone, IfSome}
 use Rattle.std.specs.Bool.{then_some}
 use Rattle.std.proofs.Math.Nat.{min-le_left, min-le_right, le-min}
-use Rattle.std.proofs.lemmas.List.{length-map, length-replicate, length-append, take_all}
+use Rattle.std.proofs.lemmas.List.{length-map, length-replicate, length-append, length-take, map-append, take_all, take_more}
 use Rattle.arrow2_model.specs.Buffers.{BufferStorage, buffer_items}
 use Rattle.arrow2_model.specs.Parts.{part, falses}
 use Rattle.arrow2_model.specs.Storage.{BitmapStorage, items_of}
@@ -61,5 +61,24 @@ module _ {X : Type 0} where
   unfolding items_or_true
   frozen xs vs b None e is none items = rw is (ap (zipped xs) (ap (λ n. replicate n true) (sym e) ∙ sym (falses-none vs (none.0 refl))))
   frozen xs vs b (Some w) e is none items = rw (is, items) refl
+
+  -- one item more, by its value and whether it is there
+  pub values-more : (items : List (Option X)) (xs : List X) (k : ℕ) (item e : Option X) (d x : X) → k < length items → length xs ≡ k → item ≡ get_or items k e → x ≡ unwrap_or item d
+      → zipped xs (map is_some (take k items)) ≡ take k items → zipped (xs ++ x ∷ []) (map is_some (take (k + 1) items)) ≡ take (k + 1) items
+  values-more items xs k item e d x less size is-item is-x done =
+      let vs = map is_some (take k items) in
+      let n : length vs ≡ length xs = omega (arith, length-map (take k items) is_some, length-take k items, size, less) in
+      let more : take (k + 1) items ≡ take k items ++ item ∷ [] = take_more items k e less ∙ ap (λ o. take k items ++ o ∷ []) (sym is-item) in
+      ap (λ l. zipped (xs ++ x ∷ []) (map is_some l)) more
+      ∙ (ap (zipped (xs ++ x ∷ [])) (map-append is_some (take k items) (item ∷ []))
+      ∙ (push-zipped xs vs x (is_some item) n ∙ (ap (λ l. l ++ slot x (is_some item) ∷ []) done
+      ∙ (ap (λ y. take k items ++ slot y (is_some item) ∷ []) is-x ∙ (ap (λ o. take k items ++ o ∷ []) (slot-option item d) ∙ sym more)))))
+
+  -- an array of items, by their values and which of them are there
+  pub beside : (items : List (Option X)) (xs : List X) (b : BufferStorage X) (vs : List Bool) (bitmap : Option BitmapStorage) → zipped xs (map is_some items) ≡ items → length xs ≡ length items → buffer_items b ≡ xs → vs ≡ map is_some items
+      → (IsNone bitmap ↔ (falses vs ≡ 0)) → IfSome bitmap (λ w. items_of w ≡ vs) → zipped (buffer_items b) (items_or_true (length (buffer_items b)) bitmap) ≡ items
+  beside items xs b vs bitmap is size held there none some =
+      let n = length-map items is_some in
+      frozen xs vs b bitmap (omega (arith, n, size, ap length there)) held none some ∙ (ap (zipped xs) there ∙ is)
 
 pub ruleset growing = (arrays, min-le_left, min-le_right, le-min, length-map, length-replicate, length-part, append-true, append-constant, append-part, part-between)

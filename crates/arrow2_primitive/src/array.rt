@@ -183,9 +183,11 @@ impl<T: NativeType> PrimitiveArray<T> {
         ensures packed { IfOk result (λ a. IfSome a.validity.bitmap (λ b. IsPacked b)) }
         ensures only { IfErr result (λ e. e ≡ Error.OutOfMemory) }
     {
-        let mut array = MutablePrimitiveArray::with_capacity(alloc, items.len())?;
-        array.extend_from_options(items)?;
-        array.freeze()
+        let data_type = native_type::<T>(alloc)?;
+        let values = Buffer::try_from(values_of(alloc, items)?)?;
+        let valid = Bitmap::from_slice_with(alloc, items, |item| item.is_some())?;
+        let validity = valid.make_mut()?.into_validity()?;
+        Ok(PrimitiveArray::new(data_type, values, validity))
     }
 
     /// Returns the logical type.
@@ -408,6 +410,21 @@ impl<T: NativeType> Clone for PrimitiveArray<T> {
             validity: self.validity.clone()?,
         })
     }
+}
+
+/// Returns the value of each item, and one that is not specified in place of a null.
+fn values_of<T: NativeType>(
+    alloc: Global,
+    items: &[Option<T>],
+) -> std::result::Result<Vec<T>, AllocError>
+    ensures items { IfOk result (λ v. zipped v.items (map is_some items.now) ≡ items.now) }
+    ensures len { IfOk result (λ v. length v.items ≡ length items.now) }
+{
+    let mut values = Vec::with_capacity(alloc, items.len())?;
+    for item in items {
+        values.push_reserved(item.unwrap_or(T::default()));
+    }
+    Ok(values)
 }
 
 /// Returns the logical type that belongs to `T`.
