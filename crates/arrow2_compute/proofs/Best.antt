@@ -1,52 +1,63 @@
--- The least and the greatest of the items that are not null: one item more.
-use Rattle.std.proofs.Common.{◌≡◌, ℕ, ◌+◌, ◌<◌, List, [], ◌∷◌, ◌++◌, Bool, true, false, length, take, get_or, refl, ap, sym, subst, ◌∙◌, All}
-use Rattle.std.specs.Prelude.{Option, Some, None, Contains, IsTrue}
+-- What is kept of a list, item by item; and that it is the least or the greatest.
+use Rattle.std.proofs.Common.{◌≡◌, ℕ, ◌-◌, List, [], ◌∷◌, ◌++◌, Bool, true, false, length, take, replicate, refl, ap, sym, subst, ◌∙◌, append_assoc, inl, inr, All}
+use Rattle.std.specs.Prelude.{◌⊎◌, Option, Some, None, Contains, IsTrue, MatchOption}
+use Rattle.std.specs.Option.{option_map_or}
 use Rattle.std.specs.Cmp.{IsTotalOrder}
 use Rattle.std.specs.Ordering.{is_le, is_ge, is_lt, is_gt, ord_min, ord_max, ordering_reverse}
 use Rattle.std.specs.declared.cmp.Ordering.{Ordering}
 use Rattle.std.specs.declared.cmp.Ordering.TheVariants.{Less, Equal, Greater}
 use Rattle.std.proofs.lemmas.Cmp.{upto, tied_itself}
-use Rattle.std.proofs.lemmas.List.{take_more}
 use Rattle.std.proofs.lemmas.List.Elements.{All-push, All-weaker, All-nil, Contains-append_left, Contains-push}
-use Rattle.arrow2_walks.specs.Selected.{non_null_values}
-use Rattle.arrow2_walks.proofs.Selected.{non_null_values-append}
-use Rattle.arrow2_compute.specs.Aggregates.{IsExtremum}
+use Rattle.arrow2_walks.specs.Selected.{selected}
+use Rattle.arrow2_compute.specs.Aggregates.{best_from}
+use Rattle.arrow2_compute.proofs.Selecting.{word-kept, last-kept}
 
 append-nil : {X : Type 0} (xs : List X) → xs ++ [] ≡ xs
 append-nil [] = refl
 append-nil (x ∷ xs) = ap (λ l. x ∷ l) (append-nil xs)
 
-module _ {X : Type 0} (R : X → X → Type 0) where
-  same-list : (items more : List (Option X)) (list : List X) (best : Option X) → non_null_values more ≡ list → non_null_values items ≡ list → IsExtremum R items best → IsExtremum R more best
-  same-list items more list None e f h = e ∙ (sym f ∙ h)
-  same-list items more list (Some x) e f h =
-      let same : non_null_values items ≡ non_null_values more = f ∙ sym e in
-      subst (λ (l : List X). Contains l x × All (R x) l) same h
+module _ {X : Type 0} (f : X → X → X) where
+  -- of two lists one behind the other
+  pub best-append : (best : Option X) (xs ys : List X) → best_from f best (xs ++ ys) ≡ best_from f (best_from f best xs) ys
+  best-append best [] ys = refl
+  best-append best (x ∷ xs) ys = best-append (Some (option_map_or (λ other. f other x) best x)) xs ys
 
-  -- an item that is null
-  pub best-null : (items : List (Option X)) (best : Option X) → IsExtremum R items best → IsExtremum R (items ++ None ∷ []) best
-  best-null items best h = same-list items (items ++ None ∷ []) (non_null_values items) best (non_null_values-append items (None ∷ []) ∙ append-nil (non_null_values items)) refl h
+  -- after a word of the validity
+  pub word-best : (best next : Option X) (xs block others : List X) (ms m ns : List Bool) (all : Option X) → xs ≡ block ++ others → ms ≡ m ++ ns → length block ≡ length m
+      → next ≡ best_from f best (selected block m) → best_from f best (selected xs ms) ≡ all → best_from f next (selected others ns) ≡ all
+  word-best best next xs block others ms m ns all is-xs is-ms size is done =
+      let split = word-kept [] (selected block m) xs block others ms m ns (selected xs ms) is-xs is-ms size refl refl in
+      ap (λ b. best_from f b (selected others ns)) is ∙ (sym (best-append best (selected block m) (selected others ns)) ∙ (ap (best_from f best) split ∙ done))
 
-module _ {X : Type 0} (R : X → X → Type 0) (itself : (x : X) → R x x) where
-  -- the first one
-  pub best-first : (items : List (Option X)) (x : X) → IsExtremum R items None → IsExtremum R (items ++ Some x ∷ []) (Some x)
-  best-first items x h =
-      let all : non_null_values (items ++ Some x ∷ []) ≡ x ∷ [] = non_null_values-append items (Some x ∷ []) ∙ ap (λ l. l ++ x ∷ []) h in
-      subst (λ (l : List X). Contains l x × All (R x) l) (sym all) (Contains-push [] x, All-push (R x) [] x (All-nil (R x)) (itself x))
+  -- after the last one
+  pub last-best : (best next : Option X) (xs block : List X) (ms m last : List Bool) (n : ℕ) (all : Option X) → take n block ≡ xs → take n m ≡ ms → last ≡ take n m ++ replicate (64 - n) false
+      → next ≡ best_from f best (selected block last) → best_from f best (selected xs ms) ≡ all → next ≡ all
+  last-best best next xs block ms m last n all is-xs is-ms is-last is done =
+      let whole = last-kept [] (selected block last) xs block ms m last n (selected xs ms) is-xs is-ms is-last refl refl in
+      is ∙ (ap (best_from f best) whole ∙ done)
 
-module _ {X : Type 0} (R : X → X → Type 0) (itself : (x : X) → R x x) (chain : (x y z : X) → R x y → R y z → R x z) where
-  -- one that is no better
-  pub best-kept : (items : List (Option X)) (best x : X) → R best x → IsExtremum R items (Some best) → IsExtremum R (items ++ Some x ∷ []) (Some best)
-  best-kept items best x r h =
-      let all : non_null_values (items ++ Some x ∷ []) ≡ non_null_values items ++ x ∷ [] = non_null_values-append items (Some x ∷ []) in
-      subst (λ (l : List X). Contains l best × All (R best) l) (sym all) (Contains-append_left (non_null_values items) (x ∷ []) best h.0, All-push (R best) (non_null_values items) x h.1 r)
+pub ruleset best = (best-append)
 
-  -- one that is better
-  pub best-replaced : (items : List (Option X)) (best x : X) → R x best → IsExtremum R items (Some best) → IsExtremum R (items ++ Some x ∷ []) (Some x)
-  best-replaced items best x r h =
-      let all : non_null_values (items ++ Some x ∷ []) ≡ non_null_values items ++ x ∷ [] = non_null_values-append items (Some x ∷ []) in
-      let kept = All-weaker (R best) (R x) (λ y s. chain x best y r s) (non_null_values items) h.1 in
-      subst (λ (l : List X). Contains l x × All (R x) l) (sym all) (Contains-push (non_null_values items) x, All-push (R x) (non_null_values items) x kept (itself x))
+module _ {X : Type 0} (R : X → X → Type 0) (itself : (x : X) → R x x) (chain : (x y z : X) → R x y → R y z → R x z) (f : X → X → X)
+    (picks : (x y : X) → ((f x y ≡ x) × R x y) ⊎ ((f x y ≡ y) × R y x)) where
+  -- one of the list, to which each of it compares so; and none where there is none
+  abbrev IsBest : List X → Option X → Type 0
+  IsBest xs best = MatchOption best (xs ≡ []) (λ x. Contains xs x × All (R x) xs)
+
+  one-more : (xs : List X) (best : Option X) (x : X) → IsBest xs best → IsBest (xs ++ x ∷ []) (Some (option_map_or (λ other. f other x) best x))
+  one-more xs None x h = subst (λ (l : List X). IsBest (l ++ x ∷ []) (Some x)) (sym h) (Contains-push [] x, All-push (R x) [] x (All-nil (R x)) (itself x))
+  one-more xs (Some best) x h = elim (picks best x) [
+    | inl w ↦ subst (λ (r : X). IsBest (xs ++ x ∷ []) (Some r)) (sym w.0) (Contains-append_left xs (x ∷ []) best h.0, All-push (R best) xs x h.1 w.1)
+    | inr w ↦ subst (λ (r : X). IsBest (xs ++ x ∷ []) (Some r)) (sym w.0) (Contains-push xs x, All-push (R x) xs x (All-weaker (R best) (R x) (λ y s. chain x best y w.1 s) xs h.1) (itself x))
+  ]
+
+  more : (xs ys : List X) (best : Option X) → IsBest xs best → IsBest (xs ++ ys) (best_from f best ys)
+  more xs [] best h = subst (λ (l : List X). IsBest l best) (sym (append-nil xs)) h
+  more xs (y ∷ ys) best h = subst (λ (l : List X). IsBest l (best_from f best (y ∷ ys))) (append_assoc xs (y ∷ []) ys) (more (xs ++ y ∷ []) ys (Some (option_map_or (λ other. f other y) best y)) (one-more xs best y h))
+
+  -- what is kept of a list
+  pub best-of_all : (xs : List X) (best : Option X) → best ≡ best_from f None xs → IsBest xs best
+  best-of_all xs best is = subst (λ (o : Option X). IsBest xs o) (sym is) (more [] xs None refl)
 
 le-not_gt : (o : Ordering) → is_le o ≡ true → is_gt o ≡ false
 le-not_gt Less e = refl
@@ -74,7 +85,7 @@ not_lt-le Equal e = refl
 not_lt-le Greater e = refl
 
 module _ {X : Type 0} {cmp : X → X → Ordering} (order : IsTotalOrder cmp) where
-  pub le-itself : (x : X) → IsTrue (is_le (cmp x x))
+  le-itself : (x : X) → IsTrue (is_le (cmp x x))
   le-itself x = ap is_le (tied_itself order x)
 
   le-chain : (x y z : X) → IsTrue (is_le (cmp x y)) → IsTrue (is_le (cmp y z)) → IsTrue (is_le (cmp x z))
@@ -83,68 +94,20 @@ module _ {X : Type 0} {cmp : X → X → Ordering} (order : IsTotalOrder cmp) wh
   turned : (x y : X) → is_ge (cmp x y) ≡ is_le (cmp y x)
   turned x y = ge-turned (cmp x y) ∙ ap is_le (sym (order.antisymm y x))
 
-  pub ge-itself : (x : X) → IsTrue (is_ge (cmp x x))
-  ge-itself x = turned x x ∙ le-itself x
-
   ge-chain : (x y z : X) → IsTrue (is_ge (cmp x y)) → IsTrue (is_ge (cmp y z)) → IsTrue (is_ge (cmp x z))
   ge-chain x y z a b = turned x z ∙ le-chain z y x (sym (turned y z) ∙ b) (sym (turned x y) ∙ a)
 
-  by-test : (items : List (Option X)) (best x : X) (b : Bool) → is_lt (cmp x best) ≡ b
-      → IsExtremum (λ x y. IsTrue (is_le (cmp x y))) items (Some best)
-      → IsExtremum (λ x y. IsTrue (is_le (cmp x y))) (items ++ Some x ∷ []) (Some (ord_min cmp best x))
-  by-test items best x true e h = rw e (best-replaced (λ x y. IsTrue (is_le (cmp x y))) le-itself le-chain items best x (lt-le (cmp x best) e) h)
-  by-test items best x false e h = rw e (best-kept (λ x y. IsTrue (is_le (cmp x y))) le-itself le-chain items best x (ap is_le (order.antisymm best x) ∙ not_lt-le (cmp x best) e) h)
+  -- the lesser of two is the one that is at most the other
+  lesser-by : (x y : X) (b : Bool) → is_lt (cmp y x) ≡ b → ((ord_min cmp x y ≡ x) × IsTrue (is_le (cmp x y))) ⊎ ((ord_min cmp x y ≡ y) × IsTrue (is_le (cmp y x)))
+  lesser-by x y true e = inr (rw e refl, lt-le (cmp y x) e)
+  lesser-by x y false e = inl (rw e refl, ap is_le (order.antisymm x y) ∙ not_lt-le (cmp y x) e)
 
-  -- the lesser of two is the least of the items before and of the one more
-  pub least-more : (items : List (Option X)) (best x : X)
-      → IsExtremum (λ x y. IsTrue (is_le (cmp x y))) items (Some best)
-      → IsExtremum (λ x y. IsTrue (is_le (cmp x y))) (items ++ Some x ∷ []) (Some (ord_min cmp best x))
-  least-more items best x h = by-test items best x (is_lt (cmp x best)) refl h
+  greater-by : (x y : X) (b : Bool) → is_lt (cmp y x) ≡ b → ((ord_max cmp x y ≡ x) × IsTrue (is_ge (cmp x y))) ⊎ ((ord_max cmp x y ≡ y) × IsTrue (is_ge (cmp y x)))
+  greater-by x y true e = inl (rw e refl, turned x y ∙ lt-le (cmp y x) e)
+  greater-by x y false e = inr (rw e refl, turned y x ∙ (ap is_le (order.antisymm x y) ∙ not_lt-le (cmp y x) e))
 
-  by-other_test : (items : List (Option X)) (best x : X) (b : Bool) → is_lt (cmp x best) ≡ b
-      → IsExtremum (λ x y. IsTrue (is_ge (cmp x y))) items (Some best)
-      → IsExtremum (λ x y. IsTrue (is_ge (cmp x y))) (items ++ Some x ∷ []) (Some (ord_max cmp best x))
-  by-other_test items best x true e h = rw e (best-kept (λ x y. IsTrue (is_ge (cmp x y))) ge-itself ge-chain items best x (turned best x ∙ lt-le (cmp x best) e) h)
-  by-other_test items best x false e h = rw e (best-replaced (λ x y. IsTrue (is_ge (cmp x y))) ge-itself ge-chain items best x (turned x best ∙ (ap is_le (order.antisymm best x) ∙ not_lt-le (cmp x best) e)) h)
+  pub least-of_all : (xs : List X) (best : Option X) → best ≡ best_from (ord_min cmp) None xs → MatchOption best (xs ≡ []) (λ x. Contains xs x × All (λ y. IsTrue (is_le (cmp x y))) xs)
+  least-of_all = best-of_all (λ x y. IsTrue (is_le (cmp x y))) le-itself le-chain (ord_min cmp) (λ x y. lesser-by x y (is_lt (cmp y x)) refl)
 
-  -- and the greater of two the greatest
-  pub greatest-more : (items : List (Option X)) (best x : X)
-      → IsExtremum (λ x y. IsTrue (is_ge (cmp x y))) items (Some best)
-      → IsExtremum (λ x y. IsTrue (is_ge (cmp x y))) (items ++ Some x ∷ []) (Some (ord_max cmp best x))
-  greatest-more items best x h = by-other_test items best x (is_lt (cmp x best)) refl h
-
-  -- of items that may be null
-  pub least-of : (items : List (Option X)) (best item : Option X) (least x m : X) → best ≡ Some least → item ≡ Some x → m ≡ ord_min cmp least x
-      → IsExtremum (λ x y. IsTrue (is_le (cmp x y))) items best → IsExtremum (λ x y. IsTrue (is_le (cmp x y))) (items ++ item ∷ []) (Some m)
-  least-of items best item least x m e f k h =
-      let start = subst (λ (o : Option X). IsExtremum (λ x y. IsTrue (is_le (cmp x y))) items o) e h in
-      let done = least-more items least x start in
-      subst (λ (o : Option X). IsExtremum (λ x y. IsTrue (is_le (cmp x y))) (items ++ o ∷ []) (Some m)) (sym f)
-      (subst (λ (r : X). IsExtremum (λ x y. IsTrue (is_le (cmp x y))) (items ++ Some x ∷ []) (Some r)) (sym k) done)
-
-  pub greatest-of : (items : List (Option X)) (best item : Option X) (greatest x m : X) → best ≡ Some greatest → item ≡ Some x → m ≡ ord_max cmp greatest x
-      → IsExtremum (λ x y. IsTrue (is_ge (cmp x y))) items best → IsExtremum (λ x y. IsTrue (is_ge (cmp x y))) (items ++ item ∷ []) (Some m)
-  greatest-of items best item greatest x m e f k h =
-      let start = subst (λ (o : Option X). IsExtremum (λ x y. IsTrue (is_ge (cmp x y))) items o) e h in
-      let done = greatest-more items greatest x start in
-      subst (λ (o : Option X). IsExtremum (λ x y. IsTrue (is_ge (cmp x y))) (items ++ o ∷ []) (Some m)) (sym f)
-      (subst (λ (r : X). IsExtremum (λ x y. IsTrue (is_ge (cmp x y))) (items ++ Some x ∷ []) (Some r)) (sym k) done)
-
-module _ {X : Type 0} (R : X → X → Type 0) where
-  -- an item more that is null
-  pub null-of : (items : List (Option X)) (best item : Option X) (x : X) → best ≡ Some x → item ≡ None → IsExtremum R items best → IsExtremum R (items ++ item ∷ []) (Some x)
-  null-of items best item x e f h =
-      let start = subst (λ (o : Option X). IsExtremum R items o) e h in
-      subst (λ (o : Option X). IsExtremum R (items ++ o ∷ []) (Some x)) (sym f) (best-null R items (Some x) start)
-
-  -- an item more where each was null
-  pub first-of : (items : List (Option X)) (best item : Option X) → ((x : X) → R x x) → best ≡ None → IsExtremum R items best → IsExtremum R (items ++ item ∷ []) item
-  first-of items best None itself e h = best-null R items None (subst (λ (o : Option X). IsExtremum R items o) e h)
-  first-of items best (Some x) itself e h = best-first R itself items x (subst (λ (o : Option X). IsExtremum R items o) e h)
-
-  -- an item more of a list
-  pub one-more : (items : List (Option X)) (k : ℕ) (item result : Option X) → k < length items → item ≡ get_or items k None
-      → IsExtremum R (take k items ++ item ∷ []) result → IsExtremum R (take (k + 1) items) result
-  one-more items k item result less is h =
-      let more : take k items ++ item ∷ [] ≡ take (k + 1) items = ap (λ o. take k items ++ o ∷ []) is ∙ sym (take_more items k None less) in
-      subst (λ (l : List (Option X)). IsExtremum R l result) more h
+  pub greatest-of_all : (xs : List X) (best : Option X) → best ≡ best_from (ord_max cmp) None xs → MatchOption best (xs ≡ []) (λ x. Contains xs x × All (λ y. IsTrue (is_ge (cmp x y))) xs)
+  greatest-of_all = best-of_all (λ x y. IsTrue (is_ge (cmp x y))) (λ x. turned x x ∙ le-itself x) ge-chain (ord_max cmp) (λ x y. greater-by x y (is_lt (cmp y x)) refl)

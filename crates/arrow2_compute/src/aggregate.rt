@@ -1,9 +1,16 @@
 //! What is made of all items of an array.
-ghost use Rattle.std.specs.Prelude.{◌≡◌, ◌<◌, ◌+◌, ◌-◌, ◌*◌, ◌^◌, ◌≤ℤ◌, ◌+ℤ◌, [], ◌∷◌, ◌++◌, List, Option, ℤ, length, pos, negsuc, IsTrue};
-ghost use Rattle.std.specs.Ordering.{is_le, is_ge};
-ghost use Rattle.arrow2_compute.specs.Aggregates.{sum_of_non_null, IsExtremum};
+ghost use Rattle.std.specs.Prelude.{◌≡◌, ◌<◌, ◌≤◌, ◌+◌, ◌-◌, ◌*◌, ◌^◌, ◌≤ℤ◌, ◌+ℤ◌, [], ◌∷◌, None, ℤ, length, pos, negsuc, IsTrue};
+ghost use Rattle.std.specs.Option.{option_map_or};
+ghost use Rattle.std.specs.Ordering.{is_le, is_ge, ord_min, ord_max};
+ghost use Rattle.arrow2_compute.specs.Aggregates.{best_from, sum_of_non_null, IsExtremum};
+ghost use Rattle.arrow2_model.specs.Bits.{unnum};
+ghost use Rattle.arrow2_model.specs.Storage.{items_of};
 ghost use Rattle.arrow2_primitive.specs.Primitive.{primitive_items};
+ghost use Rattle.arrow2_walks.specs.Selected.{non_null_values, selected};
 
+use arrow2_bitmap::Bitmap;
+use arrow2_chunk::bit_chunk::BitChunk;
+use arrow2_chunk::bit_chunk_iter::BitChunkOnes;
 use arrow2_primitive::PrimitiveArray;
 use arrow2_types::native::NativeType;
 
@@ -149,17 +156,45 @@ fn with_item<T: WholeNumber>(total: i128, item: Option<T>, count: usize) -> i128
     }
 }
 
+/// Which of two values is kept.
+trait Choice<T> {
+    // The one that is kept.
+    ghost kept: { T → T → T };
+
+    /// Returns the one that is kept.
+    fn of_two(first: T, second: T) -> T
+        ensures { result ≡ kept first second };
+}
+
+/// Keeps the lesser value.
+struct Lesser;
+
+impl<T: NativeType + Ord> Choice<T> for Lesser {
+    ghost kept = { ord_min T.Ord.cmp };
+
+    fn of_two(first: T, second: T) -> T {
+        first.min(second)
+    }
+}
+
+/// Keeps the greater value.
+struct Greater;
+
+impl<T: NativeType + Ord> Choice<T> for Greater {
+    ghost kept = { ord_max T.Ord.cmp };
+
+    fn of_two(first: T, second: T) -> T {
+        first.max(second)
+    }
+}
+
 /// Returns the least of the items that are not null, or `None` where there is none. Does not allocate.
 ///
 /// Stands for arrow2's `min_primitive`, which takes floats too.
 pub fn min<T: NativeType + Ord>(array: &PrimitiveArray<T>) -> Option<T>
     ensures { IsExtremum (λ x y. IsTrue (is_le (T.Ord.cmp x y))) (primitive_items array.now) result }
 {
-    let mut least = None;
-    for index in 0..array.len() {
-        least = lesser(least, array.get(index));
-    }
-    least
+    best_item::<T, Lesser>(array)
 }
 
 /// Returns the greatest of the items that are not null, or `None` where there is none. Does not allocate.
@@ -168,33 +203,76 @@ pub fn min<T: NativeType + Ord>(array: &PrimitiveArray<T>) -> Option<T>
 pub fn max<T: NativeType + Ord>(array: &PrimitiveArray<T>) -> Option<T>
     ensures { IsExtremum (λ x y. IsTrue (is_ge (T.Ord.cmp x y))) (primitive_items array.now) result }
 {
-    let mut greatest = None;
-    for index in 0..array.len() {
-        greatest = greater(greatest, array.get(index));
-    }
-    greatest
+    best_item::<T, Greater>(array)
 }
 
-/// Returns the lesser of the least so far and an item, where they are there.
-fn lesser<T: NativeType + Ord>(least: Option<T>, item: Option<T>) -> Option<T>
-    ensures { (items : List (Option T)) → IsExtremum (λ x y. IsTrue (is_le (T.Ord.cmp x y))) items least →
-        IsExtremum (λ x y. IsTrue (is_le (T.Ord.cmp x y))) (items ++ item ∷ []) result }
+/// Returns what is kept of the items that are not null, or `None` where there is none.
+fn best_item<T: NativeType, C: Choice<T>>(array: &PrimitiveArray<T>) -> Option<T>
+    ensures { result ≡ best_from C.kept None (non_null_values (primitive_items array.now)) }
 {
-    match (least, item) {
-        (Some(least), Some(value)) => Some(least.min(value)),
-        (Some(least), None) => Some(least),
-        (None, item) => item,
+    let values = array.values().as_slice();
+    match array.optional_validity().bitmap() {
+        Some(validity) => best_valid::<T, C>(values, validity),
+        None => best_of::<T, C>(None, values),
     }
 }
 
-/// Returns the greater of the greatest so far and an item, where they are there.
-fn greater<T: NativeType + Ord>(greatest: Option<T>, item: Option<T>) -> Option<T>
-    ensures { (items : List (Option T)) → IsExtremum (λ x y. IsTrue (is_ge (T.Ord.cmp x y))) items greatest →
-        IsExtremum (λ x y. IsTrue (is_ge (T.Ord.cmp x y))) (items ++ item ∷ []) result }
+/// Returns what is kept of the values that are valid, word by word of the validity. Requires that both have one length.
+fn best_valid<T: NativeType, C: Choice<T>>(values: &[T], validity: &Bitmap) -> Option<T>
+    requires same_length { length (items_of validity.now) ≡ length values.now }
+    ensures { result ≡ best_from C.kept None (selected values.entry.now (items_of validity.now)) }
 {
-    match (greatest, item) {
-        (Some(greatest), Some(value)) => Some(greatest.max(value)),
-        (Some(greatest), None) => Some(greatest),
-        (None, item) => item,
+    let mut values = values;
+    let mut best = None;
+    let mut words = validity.chunks::<u64>();
+    while let Some(word) = words.next() {
+        let (block, rest) = values.split_at(64);
+        best = best_of_word::<T, C>(best, block, word);
+        values = rest;
+    }
+    let last = BitChunk::masked(words.remainder(), words.remainder_len());
+    best_of_word::<T, C>(best, values, last)
+}
+
+/// Returns what is kept of `best` and of those of at most 64 values at whose index the bit of the word is set.
+#[tactic(auto, using(crate::proofs::Best::best, crate::proofs::Selecting::selecting))]
+fn best_of_word<T: NativeType, C: Choice<T>>(best: Option<T>, values: &[T], word: u64) -> Option<T>
+    requires few { length values.now ≤ 64 }
+    ensures { result ≡ best_from C.kept best (selected values.now (unnum 64 word)) }
+{
+    if word == u64::MAX {
+        return best_of::<T, C>(best, values);
+    }
+    let mut best = best;
+    for place in BitChunkOnes::new(word) {
+        if let Some(value) = values.get(place) {
+            best = Some(better::<T, C>(best, *value));
+        }
+    }
+    best
+}
+
+/// Returns what is kept of `best` and of these values.
+#[tactic(auto, using(crate::proofs::Best::best))]
+fn best_of<T: NativeType, C: Choice<T>>(best: Option<T>, values: &[T]) -> Option<T>
+    ensures { result ≡ best_from C.kept best values.now }
+{
+    let Some((first, others)) = values.split_first() else {
+        return best;
+    };
+    let mut best = better::<T, C>(best, *first);
+    for value in others {
+        best = C::of_two(best, *value);
+    }
+    Some(best)
+}
+
+/// Returns what is kept of `best`, where it is there, and of a value.
+fn better<T: NativeType, C: Choice<T>>(best: Option<T>, value: T) -> T
+    ensures { result ≡ option_map_or (λ other. C.kept other value) best value }
+{
+    match best {
+        Some(other) => C::of_two(other, value),
+        None => value,
     }
 }

@@ -1,12 +1,7 @@
-use Rattle.std.proofs.Common.{take, arith}
-use Rattle.std.specs.Prelude.{IsTrue}
-use Rattle.std.specs.Ordering.{is_ge}
 use Rattle.arrow2_primitive.specs.Primitive.{primitive_items}
-use Rattle.arrow2_compute.proofs.Best.{one-more}
+use Rattle.arrow2_walks.specs.Selected.{non_null_values}
+use Rattle.arrow2_compute.proofs.Best.{greatest-of_all}
 use Rattle.arrow2_compute.proofs.aggregate.max.Goals as goal
 
-pub loop-index-preserved : goal.loop-index-preserved
-loop-index-preserved g c =
-    let items = primitive_items c.args.array.now in
-    let index = c.loop-index.index in
-    one-more (λ x y. IsTrue (is_ge (g.T.Ord.cmp x y))) items index c.get.result c.greater-greatest.result (omega (arith, c.len-index-end.ensures.items)) c.get.ensures (c.greater-greatest.ensures (take index items) c.loop-index.invariant)
+pub returns : goal.returns
+returns g c = greatest-of_all g.met.T.Ord.total (non_null_values (primitive_items c.args.array.now)) c.best_item.result c.best_item.ensures

@@ -1,0 +1,13 @@
+use Rattle.std.proofs.Common.{◌≡◌, ◌∙◌, ap, rules}
+use Rattle.std.specs.List.{flat_map}
+use Rattle.arrow2_model.specs.Bits.{unnum}
+use Rattle.arrow2_model.specs.Parts.{part}
+use Rattle.arrow2_chunk.specs.Ones.{ones}
+use Rattle.arrow2_compute.specs.Aggregates.{best_from}
+use Rattle.arrow2_compute.proofs.Selecting.{cut-ones}
+use Rattle.arrow2_compute.proofs.aggregate.best_of_word.Goals as goal
+
+pub loop-place-init : goal.loop-place-init
+loop-place-init g c =
+    let places : c.into_iter-place-iterator.result ≡ ones (unnum 64 c.args.word) = search rules in
+    ap (λ l. best_from g.C.Choice.kept c.args.best (flat_map (λ place. part c.args.values.now place 1) l)) places ∙ ap (best_from g.C.Choice.kept c.args.best) (cut-ones c.args.values.now (unnum 64 c.args.word))

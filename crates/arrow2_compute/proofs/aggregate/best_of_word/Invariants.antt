@@ -1,0 +1,10 @@
+use Rattle.std.proofs.Common.{◌≡◌}
+use Rattle.std.specs.List.{flat_map}
+use Rattle.arrow2_model.specs.Bits.{unnum}
+use Rattle.arrow2_model.specs.Parts.{part}
+use Rattle.arrow2_walks.specs.Selected.{selected}
+use Rattle.arrow2_compute.specs.Aggregates.{best_from}
+use Rattle.arrow2_compute.proofs.aggregate.best_of_word.Given as goal
+
+abbrev pub invariant-loop-place : goal.invariant-loop-place
+invariant-loop-place g l = best_from g.C.Choice.kept l.best (flat_map (λ place. part l.values place 1) l.place-iterator) ≡ best_from g.C.Choice.kept l.fn.best (selected l.values (unnum 64 l.word))
