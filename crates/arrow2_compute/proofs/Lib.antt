@@ -8,3 +8,4 @@ pub mod Converted
 pub mod Weighed
 mod Gathered
 mod Selecting
+mod Chosen

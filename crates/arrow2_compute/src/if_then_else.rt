@@ -6,14 +6,20 @@ ghost use Rattle.arrow2_compute.specs.Sizes.{item_bytes};
 ghost use Rattle.arrow2_primitive.specs.Primitive.{primitive_items};
 ghost use Rattle.arrow2_text.specs.Binary.{binary_items};
 ghost use Rattle.arrow2_text.specs.Growth.{AppendsBinary};
+ghost use Rattle.arrow2_validity.specs.OptionalValidity.{valid_items};
 ghost use Rattle.arrow2_walks.specs.Selected.{chosen};
 
 use crate::binary::Binary;
-use arrow2_array::{BooleanArray, MutableBooleanArray};
+use arrow2_array::BooleanArray;
 use arrow2_bitmap::Bitmap;
-use arrow2_primitive::{MutablePrimitiveArray, PrimitiveArray};
+use arrow2_bitmap::bitmap_ops::{and, binary_table, or};
+use arrow2_buffer::Buffer;
+use arrow2_primitive::PrimitiveArray;
 use arrow2_types::error::{Error, Result};
 use arrow2_types::native::NativeType;
+use arrow2_validity::Validity;
+use std::alloc::AllocError;
+use std::convert::TryFrom;
 
 /// Returns, place by place, the item of `lhs` where the mask is true, and that of `rhs` elsewhere, with the logical
 /// type of `lhs`. Requires that all three have one length.
@@ -23,7 +29,6 @@ use arrow2_types::native::NativeType;
 /// # Errors
 ///
 /// `OutOfMemory` alone.
-#[tactic(auto, using(arrow2_walks::proofs::Selected::selections))]
 pub fn if_then_else<T: NativeType>(
     mask: &Bitmap,
     lhs: &PrimitiveArray<T>,
@@ -36,17 +41,78 @@ pub fn if_then_else<T: NativeType>(
     ensures data_type { IfOk result (λ a. a.data_type ≡ lhs.now.data_type) }
     ensures only { IfErr result (λ e. e ≡ Error.OutOfMemory) }
 {
-    let mut items = MutablePrimitiveArray::like(lhs)?;
-    items.reserve(mask.len())?;
+    let data_type = lhs.data_type().clone()?;
+    let values = chosen_values(mask, lhs.values().as_slice(), rhs.values().as_slice())?;
+    let values = Buffer::try_from(values)?;
+    let validity = chosen_validity(mask, lhs.optional_validity(), rhs.optional_validity())?;
+    Ok(PrimitiveArray::new(data_type, values, validity.into_bitmap()))
+}
+
+/// Returns, index by index, the value of `lhs` where the mask is true, and that of `rhs` elsewhere. Requires that all
+/// three have one length.
+fn chosen_values<T: NativeType>(
+    mask: &Bitmap,
+    lhs: &[T],
+    rhs: &[T],
+) -> std::result::Result<Vec<T>, AllocError>
+    requires left { length (items_of mask.now) ≡ length lhs.now }
+    requires right { length (items_of mask.now) ≡ length rhs.now }
+    ensures { IfOk result (λ v. v.items ≡ chosen (items_of mask.now) lhs.now rhs.now) }
+{
+    let mut values = Vec::with_capacity(mask.allocator(), mask.len())?;
     for place in 0..mask.len() {
-        let item = if mask.get_bit(place) {
-            lhs.get(place)
-        } else {
-            rhs.get(place)
-        };
-        items.push(item)?;
+        let (left, right) = (lhs[place], rhs[place]);
+        values.push_reserved(either(mask.get_bit(place), left, right));
     }
-    items.freeze()
+    Ok(values)
+}
+
+/// Returns the first value where `is_left`, else the second.
+fn either<T: NativeType>(is_left: bool, left: T, right: T) -> T
+    ensures { result ≡ if is_left then left else right }
+{
+    if is_left { left } else { right }
+}
+
+/// Returns, index by index, whether the item of `lhs` is not null where the mask is true, and that of `rhs` elsewhere,
+/// with no bitmap exactly where neither has one. Requires that all three have one length.
+fn chosen_validity(mask: &Bitmap, lhs: &Validity, rhs: &Validity) -> Result<Validity>
+    requires left { length (items_of mask.now) ≡ length (valid_items lhs.now) }
+    requires right { length (items_of mask.now) ≡ length (valid_items rhs.now) }
+    ensures items { IfOk result (λ v. valid_items v
+        ≡ chosen (items_of mask.now) (valid_items lhs.now) (valid_items rhs.now)) }
+    ensures len { IfOk result (λ v. v.len ≡ length (items_of mask.now)) }
+    ensures only { IfErr result (λ e. e ≡ Error.OutOfMemory) }
+{
+    match (lhs.bitmap(), rhs.bitmap()) {
+        (Some(left), Some(right)) => Ok(by_bits(chosen_bits(mask, left, right)?)),
+        (Some(left), None) => Ok(by_bits(binary_table(mask, left, 0b1101)?)),
+        (None, Some(right)) => Ok(by_bits(or(mask, right)?)),
+        (None, None) => Ok(Validity::all_valid(mask.len())),
+    }
+}
+
+/// Returns the validity that these bits are.
+fn by_bits(bits: Bitmap) -> Validity
+    ensures items { valid_items result ≡ items_of bits }
+    ensures len { result.len ≡ length (items_of bits) }
+{
+    Validity::new(bits.len(), Some(bits))
+}
+
+/// Returns, index by index, the item of `lhs` where the mask is true, and that of `rhs` elsewhere, by truth tables.
+/// Requires that all three have one length.
+fn chosen_bits(mask: &Bitmap, lhs: &Bitmap, rhs: &Bitmap) -> Result<Bitmap>
+    requires left { length (items_of mask.now) ≡ length (items_of lhs.now) }
+    requires right { length (items_of mask.now) ≡ length (items_of rhs.now) }
+    ensures items { IfOk result (λ b.
+        items_of b ≡ chosen (items_of mask.now) (items_of lhs.now) (items_of rhs.now)) }
+    ensures len { IfOk result (λ b. length (items_of b) ≡ length (items_of mask.now)) }
+    ensures only { IfErr result (λ e. e ≡ Error.OutOfMemory) }
+{
+    let left = and(mask, lhs)?;
+    let right = binary_table(mask, rhs, 0b0100)?;
+    or(&left, &right)
 }
 
 /// Returns, index by index, the byte string or text of `lhs` where the mask is true, and that of `rhs` elsewhere, with
@@ -112,7 +178,6 @@ fn push_either<A: Binary>(
 /// # Errors
 ///
 /// `OutOfMemory` alone.
-#[tactic(auto, using(arrow2_walks::proofs::Selected::selections))]
 pub fn if_then_else_boolean(
     mask: &Bitmap,
     lhs: &BooleanArray,
@@ -124,14 +189,7 @@ pub fn if_then_else_boolean(
         ≡ chosen (items_of mask.now) (boolean_items lhs.now) (boolean_items rhs.now)) }
     ensures only { IfErr result (λ e. e ≡ Error.OutOfMemory) }
 {
-    let mut items = MutableBooleanArray::with_capacity(mask.allocator(), mask.len())?;
-    for place in 0..mask.len() {
-        let item = if mask.get_bit(place) {
-            lhs.get(place)
-        } else {
-            rhs.get(place)
-        };
-        items.push(item)?;
-    }
-    items.freeze()
+    let values = chosen_bits(mask, lhs.values(), rhs.values())?;
+    let validity = chosen_validity(mask, lhs.optional_validity(), rhs.optional_validity())?;
+    Ok(BooleanArray::from_parts(values, validity))
 }

@@ -1,16 +1,31 @@
-use Rattle.std.proofs.Common.{◌+◌, ◌<◌, ◌^◌, length, take, ap, arith}
-use Rattle.std.proofs.lemmas.Result.{err_from_is_err_and}
-use Rattle.arrow2_model.specs.Storage.{items_of}
+use Rattle.std.proofs.Common.{◌≡◌, ◌∙◌, length, ap, arith}
 use Rattle.arrow2_array.specs.Items.{boolean_items}
-use Rattle.arrow2_compute.proofs.Filtered.{length-chosen, only-memory}
+use Rattle.arrow2_model.specs.Storage.{items_of}
+use Rattle.arrow2_validity.specs.OptionalValidity.{valid_items}
+use Rattle.arrow2_walks.specs.Selected.{chosen}
+use Rattle.arrow2_walks.specs.Zipped.{zipped}
+use Rattle.arrow2_compute.proofs.Chosen.{chosen-zipped, length-all_chosen}
 use Rattle.arrow2_compute.proofs.if_then_else.if_then_else_boolean.Goals as goal
 
--- no more was pushed than the mask has, which a usize counts
-pub returns-in_err-push-clause-only : goal.returns-in_err-push-clause-only
-returns-in_err-push-clause-only c =
-    let place = c.loop-place.place in
-    let few = length-chosen place (items_of c.args.mask.now) (take place (boolean_items c.args.lhs.now)) (take place (boolean_items c.args.rhs.now)) in
-    let counted : length c.loop-place.items.items + 1 < 2 ^ 64 = omega (arith, few, ap length c.loop-place.invariant.items, c.loop-place-test.true, c.len-place-end.ensures.items) in
-    let memory = only-memory c.push.result (length c.loop-place.items.items + 1) c.push.ensures.overflow c.push.ensures.only counted in
-    let residual = err_from_is_err_and c.from_residual-in_err-push.result c.from_residual-in_err-push.ensures.1 in
-    rw (residual.1, residual.2) (rw c.in_err-push.was at memory)
+pub from_parts-requires : goal.from_parts-requires
+from_parts-requires c =
+    let ms = items_of c.args.mask.now in
+    let vs = valid_items c.optional_validity.result.now in
+    let ws = valid_items c.optional_validity-2.result.now in
+    let n = length-all_chosen ms vs ws (omega (arith, c.optional_validity.ensures.len, c.requires.left)) (omega (arith, c.optional_validity-2.ensures.len, c.requires.right)) in
+    record { same_length = omega (arith, n, ap length c.in_ok-validity.ensures.items, c.in_ok-values.ensures.len) }
+
+pub returns-clause-items : goal.returns-clause-items
+returns-clause-items c =
+    let ms = items_of c.args.mask.now in
+    let xs = items_of c.values.result.now in
+    let ys = items_of c.values-2.result.now in
+    let vs = valid_items c.optional_validity.result.now in
+    let ws = valid_items c.optional_validity-2.result.now in
+    let left : zipped xs vs ≡ boolean_items c.args.lhs.now = ap (λ b. zipped (items_of b) vs) c.values.ensures.value ∙ c.optional_validity.ensures.zipped in
+    let right : zipped ys ws ≡ boolean_items c.args.rhs.now = ap (λ b. zipped (items_of b) ws) c.values-2.ensures.value ∙ c.optional_validity-2.ensures.zipped in
+    let apart = chosen-zipped ms xs ys vs ws (omega (arith, c.values.ensures.len, c.optional_validity.ensures.len)) (omega (arith, c.values-2.ensures.len, c.optional_validity-2.ensures.len)) in
+    ap boolean_items c.from_parts.ensures
+    ∙ (ap (zipped (items_of c.in_ok-values.values)) c.in_ok-validity.ensures.items
+    ∙ (ap (λ l. zipped l (chosen ms vs ws)) c.in_ok-values.ensures.items
+    ∙ (apart ∙ (ap (λ l. chosen ms l (zipped ys ws)) left ∙ ap (chosen ms (boolean_items c.args.lhs.now)) right))))

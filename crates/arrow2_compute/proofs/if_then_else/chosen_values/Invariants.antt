@@ -1,0 +1,12 @@
+use Rattle.std.proofs.Common.{◌≡◌, ◌≤◌, length, take}
+use Rattle.std.specs.Prelude.{vec_len, vec_capacity}
+use Rattle.arrow2_model.specs.Storage.{items_of}
+use Rattle.arrow2_walks.specs.Selected.{chosen}
+use Rattle.arrow2_compute.proofs.if_then_else.chosen_values.Given as goal
+
+abbrev pub invariant-loop-place : goal.invariant-loop-place
+invariant-loop-place g l = record {
+  values : l.values.items ≡ chosen (take l.place (items_of l.mask)) (take l.place l.lhs) (take l.place l.rhs);
+  len : vec_len l.values ≡ l.place;
+  room : length (items_of l.mask) ≤ vec_capacity l.values;
+}
