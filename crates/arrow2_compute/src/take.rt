@@ -1,5 +1,5 @@
 //! The items at given places.
-ghost use Rattle.std.specs.Prelude.{◌≡◌, ◌<◌, ◌≤◌, ◌⊎◌, All, None, false, length, map, slice_index_or, sum_by, IfOk, IfErr, IsErrOf, OnOk};
+ghost use Rattle.std.specs.Prelude.{◌≡◌, ◌<◌, ◌≤◌, ◌⊎◌, All, None, false, is_some, length, map, slice_index_or, sum_by, IfOk, IfErr, IsErrOf, OnOk};
 ghost use Rattle.std.specs.List.{AllZip};
 ghost use Rattle.arrow2_array.specs.Items.{boolean_items};
 ghost use Rattle.arrow2_compute.specs.Taken.{IsInBoundsOrNull, IsItemAt, item_at};
@@ -9,13 +9,14 @@ ghost use Rattle.arrow2_model.specs.Storage.{items_of};
 ghost use Rattle.arrow2_primitive.specs.Primitive.{primitive_items};
 ghost use Rattle.arrow2_text.specs.Binary.{binary_items};
 ghost use Rattle.arrow2_validity.specs.OptionalValidity.{valid_items};
+ghost use Rattle.arrow2_walks.specs.Zipped.{zipped};
 
 use crate::binary::Binary;
 use arrow2_array::BooleanArray;
 use arrow2_bitmap::Bitmap;
 use arrow2_buffer::Buffer;
 use arrow2_index::index::Index;
-use arrow2_primitive::{MutablePrimitiveArray, PrimitiveArray};
+use arrow2_primitive::PrimitiveArray;
 use arrow2_types::error::{Error, Result};
 use arrow2_types::native::NativeType;
 use arrow2_validity::Validity;
@@ -112,12 +113,53 @@ pub fn take_by_array<T: NativeType, I: Index>(
     ensures data_type { IfOk result (λ a. a.data_type ≡ array.now.data_type) }
     ensures only { IfErr result (λ e. e ≡ Error.OutOfMemory) }
 {
-    let mut taken = MutablePrimitiveArray::like(array)?;
-    taken.reserve(indices.len())?;
+    let data_type = array.data_type().clone()?;
+    let values = Buffer::try_from(values_by_array(array, indices)?)?;
+    let validity = bits_by_array(array, indices)?.make_mut()?.into_validity()?;
+    Ok(PrimitiveArray::new(data_type, values, validity))
+}
+
+/// Returns the values of the items at the indices of an array, and one that is not specified in place of a null.
+/// Requires that each index that is not null is below the length.
+fn values_by_array<T: NativeType, I: Index>(
+    array: &PrimitiveArray<T>,
+    indices: &PrimitiveArray<I>,
+) -> std::result::Result<Vec<T>, AllocError>
+    requires inside { All (IsInBoundsOrNull I.value (length (primitive_items array.now))) (primitive_items indices.now) }
+    ensures items { IfOk result (λ v. zipped v.items
+        (map is_some (map (item_at I.value (primitive_items array.now)) (primitive_items indices.now)))
+        ≡ map (item_at I.value (primitive_items array.now)) (primitive_items indices.now)) }
+    ensures len { IfOk result (λ v. length v.items ≡ length (primitive_items indices.now)) }
+{
+    let mut taken = Vec::with_capacity(array.values().allocator(), indices.len())?;
     for place in 0..indices.len() {
-        taken.push(item_at(array, indices.get(place)))?;
+        let item = item_at(array, indices.get(place));
+        taken.push_reserved(item.unwrap_or(T::default()));
     }
-    taken.freeze()
+    Ok(taken)
+}
+
+/// Returns whether the items at the indices of an array are not null. Requires that each index that is not null is
+/// below the length.
+fn bits_by_array<T: NativeType, I: Index>(
+    array: &PrimitiveArray<T>,
+    indices: &PrimitiveArray<I>,
+) -> Result<Bitmap>
+    requires inside { All (IsInBoundsOrNull I.value (length (primitive_items array.now))) (primitive_items indices.now) }
+    ensures items { IfOk result (λ b. items_of b
+        ≡ map is_some (map (item_at I.value (primitive_items array.now)) (primitive_items indices.now))) }
+    ensures only { IfErr result (λ e. e ≡ Error.OutOfMemory) }
+{
+    Bitmap::try_from_fn(
+        array.values().allocator(),
+        indices.len(),
+        |place|
+            requires below { place < length (primitive_items indices.now) }
+            requires inside { All (IsInBoundsOrNull I.value (length (primitive_items array.now))) (primitive_items indices.now) }
+            ensures { result ≡ is_some (item_at I.value (primitive_items array.entry.now)
+                (slice_index_or (primitive_items indices.entry.now) place None)) }
+        { item_at(array, indices.get(place)).is_some() },
+    )
 }
 
 /// Returns the item at an index, null where the index is. Requires that it is below the length.
