@@ -5,6 +5,7 @@ ghost use Rattle.arrow2.specs.Items.{boolean_items};
 ghost use Rattle.arrow2.specs.Primitive.{primitive_items};
 ghost use Rattle.arrow2.specs.Storage.{items_of};
 
+use super::checks::{has, holds, lists, ok, reads, says};
 use arrow2::array::{
     BooleanArray, MutableBooleanArray, MutablePrimitiveArray, MutableUtf8Array, PrimitiveArray,
     Utf8Array,
@@ -20,7 +21,7 @@ use arrow2::compute::if_then_else::{if_then_else_binary, if_then_else_boolean};
 use arrow2::compute::take::{take_binary, take_boolean, take_by_array};
 use arrow2::datatypes;
 use arrow2::error::Result;
-use std::alloc::Global;
+use std::alloc::{AllocError, Global};
 use std::convert::TryFrom;
 use std::process::Abort;
 use std::rc::Rc;
@@ -43,9 +44,9 @@ fn listed(rt: &impl Abort, alloc: Global, len: usize, salt: usize, nulls: usize)
 {
     let mut items = Vec::new(alloc);
     for place in 0..len {
-        items.push(item_at(place, salt, nulls)).expect(rt, "memory");
+        ok(rt, items.push(item_at(place, salt, nulls)));
     }
-    assert!(rt; items.len() == len);
+    holds(rt, items.len() == len);
     items
 }
 
@@ -58,21 +59,24 @@ fn array_of(
 ) -> PrimitiveArray<i64>
     ensures { length (primitive_items result) ≡ length items.now }
 {
-    let array = MutablePrimitiveArray::<i64>::new(alloc);
-    let mut array = array.expect(rt, "memory");
-    array.extend_constant(skipped, Some(7)).expect(rt, "memory");
-    array.extend_from_options(items).expect(rt, "memory");
-    let array = array.freeze().expect(rt, "memory");
-    assert!(rt; skipped <= array.len() && array.len() - skipped == items.len());
-    let array = array.sliced(skipped / 2, items.len() + (skipped - skipped / 2));
-    array.sliced(skipped - skipped / 2, items.len())
+    let mut array = ok(rt, MutablePrimitiveArray::<i64>::new(alloc));
+    ok(rt, array.extend_constant(skipped, Some(7)));
+    ok(rt, array.extend_from_options(items));
+    last_items(rt, ok(rt, array.freeze()), skipped, items.len())
 }
 
-/// Checks that a boolean array has these items.
-fn says(rt: &impl Abort, alloc: Global, made: Result<BooleanArray>, items: &[Option<bool>]) {
-    let array = made.expect(rt, "memory");
-    let own: Vec<Option<bool>> = array.iter().collect(alloc).expect(rt, "memory");
-    assert!(rt; own.as_slice() == items);
+/// Returns the `len` items after `skipped` others, which must be all: a slice of a slice.
+fn last_items(
+    rt: &impl Abort,
+    array: PrimitiveArray<i64>,
+    skipped: usize,
+    len: usize,
+) -> PrimitiveArray<i64>
+    ensures { length (primitive_items result) ≡ len }
+{
+    assert!(rt; skipped <= array.len() && array.len() - skipped == len);
+    let array = array.sliced(skipped / 2, len + (skipped - skipped / 2));
+    array.sliced(skipped - skipped / 2, len)
 }
 
 /// Returns the results of a test on the items of two lists, index by index.
@@ -91,7 +95,7 @@ fn told<F: Fn(i64, i64) -> bool>(
             (Some(left), Some(right)) => Some(test(*left, *right)),
             _ => None,
         };
-        items.push(item).expect(rt, "memory");
+        ok(rt, items.push(item));
     }
     items
 }
@@ -99,19 +103,27 @@ fn told<F: Fn(i64, i64) -> bool>(
 /// Checks the six comparisons of two lists of one length.
 fn comparisons_agree(rt: &impl Abort, alloc: Global, left: &[Option<i64>], right: &[Option<i64>]) {
     let (a, b) = (array_of(rt, alloc, left, 5), array_of(rt, alloc, right, 66));
-    assert!(rt; a.len() == b.len());
+    are_compared(rt, alloc, (&a, left), (&b, right));
+}
+
+/// An array of numbers, and the list that it is to be.
+type Of<'a, 'b> = (&'a PrimitiveArray<i64>, &'b [Option<i64>]);
+
+/// Checks the six comparisons of two arrays.
+fn are_compared(rt: &impl Abort, alloc: Global, (a, left): Of, (b, right): Of) {
+    holds(rt, a.len() == b.len());
     let list = told(rt, alloc, left, right, |x, y| x == y);
-    says(rt, alloc, eq(&a, &b), list.as_slice());
+    says(rt, alloc, eq(a, b), list.as_slice());
     let list = told(rt, alloc, left, right, |x, y| x != y);
-    says(rt, alloc, neq(&a, &b), list.as_slice());
+    says(rt, alloc, neq(a, b), list.as_slice());
     let list = told(rt, alloc, left, right, |x, y| x < y);
-    says(rt, alloc, lt(&a, &b), list.as_slice());
+    says(rt, alloc, lt(a, b), list.as_slice());
     let list = told(rt, alloc, left, right, |x, y| x <= y);
-    says(rt, alloc, lt_eq(&a, &b), list.as_slice());
+    says(rt, alloc, lt_eq(a, b), list.as_slice());
     let list = told(rt, alloc, left, right, |x, y| x > y);
-    says(rt, alloc, gt(&a, &b), list.as_slice());
+    says(rt, alloc, gt(a, b), list.as_slice());
     let list = told(rt, alloc, left, right, |x, y| x >= y);
-    says(rt, alloc, gt_eq(&a, &b), list.as_slice());
+    says(rt, alloc, gt_eq(a, b), list.as_slice());
 }
 
 #[test]
@@ -129,16 +141,40 @@ fn comparisons_of_arrays_agree_with_lists(rt: HostRuntime) {
 /// Checks which items of a list are null.
 fn nulls_agree(rt: &impl Abort, alloc: Global, items: &[Option<i64>]) {
     let array = array_of(rt, alloc, items, 3);
+    says(
+        rt,
+        alloc,
+        is_null(&array),
+        nulls_of(rt, alloc, items, true).as_slice(),
+    );
+    says(
+        rt,
+        alloc,
+        is_not_null(&array),
+        nulls_of(rt, alloc, items, false).as_slice(),
+    );
+    holds(
+        rt,
+        min(&array) == items.iter().filter_map(|item| *item).min(),
+    );
+    holds(
+        rt,
+        max(&array) == items.iter().filter_map(|item| *item).max(),
+    );
+}
+
+/// Returns for each item `null` where it is null, and else the other boolean.
+fn nulls_of(
+    rt: &impl Abort,
+    alloc: Global,
+    items: &[Option<i64>],
+    null: bool,
+) -> Vec<Option<bool>> {
     let mut nulls = Vec::new(alloc);
-    let mut others = Vec::new(alloc);
     for item in items {
-        nulls.push(Some(item.is_none())).expect(rt, "memory");
-        others.push(Some(item.is_some())).expect(rt, "memory");
+        ok(rt, nulls.push(Some(item.is_none() == null)));
     }
-    says(rt, alloc, is_null(&array), nulls.as_slice());
-    says(rt, alloc, is_not_null(&array), others.as_slice());
-    assert!(rt; min(&array) == items.iter().filter_map(|item| *item).min());
-    assert!(rt; max(&array) == items.iter().filter_map(|item| *item).max());
+    nulls
 }
 
 #[test]
@@ -152,21 +188,14 @@ fn nulls_and_the_least_and_greatest_items_are_those_of_lists(rt: HostRuntime) {
     }
 }
 
-/// Checks that an array has these items.
-fn has(rt: &impl Abort, alloc: Global, made: Result<PrimitiveArray<i64>>, items: &[Option<i64>]) {
-    let array = made.expect(rt, "memory");
-    let own: Vec<Option<i64>> = array.iter().collect(alloc).expect(rt, "memory");
-    assert!(rt; own.as_slice() == items);
-}
-
 #[test]
 fn a_null_index_gives_a_null(rt: HostRuntime) {
     let alloc = rt.alloc();
     let array = array_of(&rt, alloc, &[Some(4), None, Some(6)], 2);
-    let mut indices = MutablePrimitiveArray::<u8>::new(alloc).expect(&rt, "memory");
     let places = [Some(2), None, Some(0), Some(1), Some(2)];
-    indices.extend_from_options(&places).expect(&rt, "memory");
-    let taken = take_by_array(&array, &indices.freeze().expect(&rt, "memory"));
+    let mut indices = ok(&rt, MutablePrimitiveArray::<u8>::new(alloc));
+    ok(&rt, indices.extend_from_options(&places));
+    let taken = take_by_array(&array, &ok(&rt, indices.freeze()));
     has(&rt, alloc, taken, &[Some(6), None, Some(4), None, Some(6)]);
 }
 
@@ -175,28 +204,35 @@ fn a_null_in_a_mask_drops_the_item(rt: HostRuntime) {
     let alloc = rt.alloc();
     let array = array_of(&rt, alloc, &[Some(4), None, Some(6), Some(8)], 2);
     let (yes, no) = (Some(true), Some(false));
-    let mask = BooleanArray::from_options(alloc, &[yes, yes, None, no]);
-    let kept = filter_by_array(&array, &mask.expect(&rt, "memory"));
-    has(&rt, alloc, kept, &[Some(4), None]);
-    let mask = BooleanArray::from_options(alloc, &[no, yes, yes, no]);
-    let kept = filter_by_array(&array, &mask.expect(&rt, "memory"));
-    has(&rt, alloc, kept, &[None, Some(6)]);
+    let mask = ok(
+        &rt,
+        BooleanArray::from_options(alloc, &[yes, yes, None, no]),
+    );
+    has(&rt, alloc, filter_by_array(&array, &mask), &[Some(4), None]);
+    let mask = ok(&rt, BooleanArray::from_options(alloc, &[no, yes, yes, no]));
+    has(&rt, alloc, filter_by_array(&array, &mask), &[None, Some(6)]);
+}
+
+/// Returns how many numbers were cast, or in which words they were refused.
+fn told_of(
+    alloc: Global,
+    cast: Result<PrimitiveArray<u8>>,
+) -> std::result::Result<String, AllocError> {
+    match cast {
+        Ok(array) => format!(in alloc; "{} items", array.len()),
+        Err(error) => format!(in alloc; "{error}"),
+    }
 }
 
 /// Checks that numbers are cast to these, or refused in these words.
 fn is_cast(rt: &impl Abort, alloc: Global, from: &[Option<i64>], to: &[Option<u8>], text: &str) {
     let array = array_of(rt, alloc, from, 1);
-    let data_type = Rc::new(alloc, datatypes::DataType::UInt8).expect(rt, "memory");
-    let copy = data_type.clone().expect(rt, "memory");
-    let cast = primitive_to_primitive::<i64, u8>(&array, data_type);
-    let cast = cast.expect(rt, "memory");
-    let own: Vec<Option<u8>> = cast.iter().collect(alloc).expect(rt, "memory");
-    assert!(rt; own.as_slice() == to);
-    let told = match try_primitive_to_primitive::<i64, u8>(&array, copy) {
-        Ok(same) => format!(in alloc; "{} items", same.len()),
-        Err(error) => format!(in alloc; "{error}"),
-    };
-    assert!(rt; told.expect(rt, "memory").as_str() == text);
+    let data_type = ok(rt, Rc::new(alloc, datatypes::DataType::UInt8));
+    let copy = ok(rt, data_type.clone());
+    let cast = ok(rt, primitive_to_primitive::<i64, u8>(&array, data_type));
+    lists(rt, cast.iter().collect(alloc), to);
+    let cast = try_primitive_to_primitive::<i64, u8>(&array, copy);
+    reads(rt, told_of(alloc, cast), text);
 }
 
 #[test]
@@ -222,12 +258,11 @@ fn numbers_are_cast_where_they_fit(rt: HostRuntime) {
 #[test]
 fn a_sum_of_the_greatest_numbers_is_exact(rt: HostRuntime) {
     let alloc = rt.alloc();
-    let mut items = MutablePrimitiveArray::<u64>::new(alloc).expect(&rt, "memory");
-    items
-        .extend_from_options(&[Some(u64::MAX), None, Some(u64::MAX)])
-        .expect(&rt, "memory");
-    let array = items.freeze().expect(&rt, "memory");
-    assert!(rt; sum(&array) == 36_893_488_147_419_103_230);
+    let mut items = ok(&rt, MutablePrimitiveArray::<u64>::new(alloc));
+    let greatest = [Some(u64::MAX), None, Some(u64::MAX)];
+    ok(&rt, items.extend_from_options(&greatest));
+    let array = ok(&rt, items.freeze());
+    holds(&rt, sum(&array) == 36_893_488_147_419_103_230);
 }
 
 /// Returns whether a mask is true at the indices below `len`.
@@ -236,11 +271,9 @@ fn flags_of(rt: &impl Abort, alloc: Global, len: usize) -> Vec<bool>
 {
     let mut flags = Vec::new(alloc);
     for index in 0..len {
-        flags
-            .push(index % 5 < 2 || index % 7 == 3)
-            .expect(rt, "memory");
+        ok(rt, flags.push(index % 5 < 2 || index % 7 == 3));
     }
-    assert!(rt; flags.len() == len);
+    holds(rt, flags.len() == len);
     flags
 }
 
@@ -249,13 +282,19 @@ fn mask_of(rt: &impl Abort, alloc: Global, flags: &[bool]) -> Bitmap
     ensures { length (items_of result) ≡ length flags.now }
 {
     let mut mask = MutableBitmap::new(alloc);
-    mask.extend_constant(3, true).expect(rt, "memory");
+    ok(rt, mask.extend_constant(3, true));
     for flag in flags {
-        mask.push(*flag).expect(rt, "memory");
+        ok(rt, mask.push(*flag));
     }
-    let mask = Bitmap::try_from(mask).expect(rt, "memory");
-    assert!(rt; 3 <= mask.len() && mask.len() - 3 == flags.len());
-    mask.sliced(3, flags.len())
+    last_bits(rt, ok(rt, Bitmap::try_from(mask)), flags.len())
+}
+
+/// Returns the `len` bits after three others, which must be all.
+fn last_bits(rt: &impl Abort, mask: Bitmap, len: usize) -> Bitmap
+    ensures { length (items_of result) ≡ len }
+{
+    assert!(rt; 3 <= mask.len() && mask.len() - 3 == len);
+    mask.sliced(3, len)
 }
 
 /// Returns the items of a list where the flags are true.
@@ -263,7 +302,7 @@ fn kept<T: Copy>(rt: &impl Abort, alloc: Global, flags: &[bool], items: &[T]) ->
     let mut kept = Vec::new(alloc);
     for (flag, item) in flags.iter().zip(items) {
         if *flag {
-            kept.push(*item).expect(rt, "memory");
+            ok(rt, kept.push(*item));
         }
     }
     kept
@@ -279,17 +318,15 @@ fn either<T: Copy>(
 ) -> Vec<T> {
     let mut items = Vec::new(alloc);
     for (flag, (left, right)) in flags.iter().zip(left.iter().zip(right)) {
-        items
-            .push(if *flag { *left } else { *right })
-            .expect(rt, "memory");
+        ok(rt, items.push(if *flag { *left } else { *right }));
     }
     items
 }
 
 /// Returns the items of two lists, one after the other.
 fn joined<T: Copy>(rt: &impl Abort, alloc: Global, left: &[T], right: &[T]) -> Vec<T> {
-    let mut items = left.to_vec(alloc).expect(rt, "memory");
-    items.extend_from_slice(right).expect(rt, "memory");
+    let mut items = ok(rt, left.to_vec(alloc));
+    ok(rt, items.extend_from_slice(right));
     items
 }
 
@@ -311,9 +348,9 @@ fn texts_listed(
         } else {
             Some(text)
         };
-        items.push(item).expect(rt, "memory");
+        ok(rt, items.push(item));
     }
-    assert!(rt; items.len() == len);
+    holds(rt, items.len() == len);
     items
 }
 
@@ -321,49 +358,72 @@ fn texts_listed(
 fn texts(rt: &impl Abort, alloc: Global, items: &[Option<&str>]) -> Utf8Array<i32>
     ensures { length (binary_items result) ≡ length items.now }
 {
-    let mut array = MutableUtf8Array::<i32>::new(alloc).expect(rt, "memory");
-    array.push(Some("before")).expect(rt, "memory");
-    array.push(None).expect(rt, "memory");
+    let mut array = ok(rt, MutableUtf8Array::<i32>::new(alloc));
+    ok(rt, array.push(Some("before")));
+    ok(rt, array.push(None));
     for item in items {
-        array.push(*item).expect(rt, "memory");
+        ok(rt, array.push(*item));
     }
-    let mut array = array.freeze().expect(rt, "memory");
-    assert!(rt; 2 <= array.len() && array.len() - 2 == items.len());
-    array.slice(1, items.len() + 1);
-    assert!(rt; 1 <= array.len() && array.len() - 1 == items.len());
-    array.slice(1, items.len());
+    last_texts(rt, ok(rt, array.freeze()), items.len())
+}
+
+/// Returns the `len` texts after two others, which must be all: a slice of a slice.
+fn last_texts(rt: &impl Abort, mut array: Utf8Array<i32>, len: usize) -> Utf8Array<i32>
+    ensures { length (binary_items result) ≡ len }
+{
+    assert!(rt; 2 <= array.len() && array.len() - 2 == len);
+    array.slice(1, len + 1);
+    assert!(rt; 1 <= array.len() && array.len() - 1 == len);
+    array.slice(1, len);
     array
 }
 
+/// Checks that an array was made, of these texts.
+fn has_texts(rt: &impl Abort, call: Result<Utf8Array<i32>>, items: &[Option<&str>]) {
+    are_texts(rt, &ok(rt, call), items);
+}
+
 /// Checks that an array has these texts.
-fn reads(rt: &impl Abort, made: Result<Utf8Array<i32>>, items: &[Option<&str>]) {
-    let array = made.expect(rt, "memory");
-    assert!(rt; array.len() == items.len());
+fn are_texts(rt: &impl Abort, array: &Utf8Array<i32>, items: &[Option<&str>]) {
+    holds(rt, array.len() == items.len());
     for (index, item) in items.iter().enumerate() {
         assert!(rt; index < array.len() && array.get(index) == *item);
     }
 }
 
-/// Checks the kernels of texts at a length.
-fn text_kernels_agree(rt: &impl Abort, alloc: Global, len: usize, nulls: usize, others: usize) {
-    let (left, right) = (
-        texts_listed(rt, alloc, len, nulls),
-        texts_listed(rt, alloc, len, others),
-    );
-    let (left, right) = (left.as_slice(), right.as_slice());
-    let flags = flags_of(rt, alloc, len);
-    let flags = flags.as_slice();
+/// Checks the kernels of texts on two lists of one length.
+fn text_kernels_agree(
+    rt: &impl Abort,
+    alloc: Global,
+    flags: &[bool],
+    left: &[Option<&str>],
+    right: &[Option<&str>],
+)
+    requires left { length flags.now ≡ length left.now }
+    requires right { length flags.now ≡ length right.now }
+{
     let (a, b) = (texts(rt, alloc, left), texts(rt, alloc, right));
     let mask = mask_of(rt, alloc, flags);
-    reads(
-        rt,
-        filter_binary(&a, &mask),
-        kept(rt, alloc, flags, left).as_slice(),
-    );
+    let list = kept(rt, alloc, flags, left);
+    has_texts(rt, filter_binary(&a, &mask), list.as_slice());
     let list = either(rt, alloc, flags, left, right);
-    reads(rt, if_then_else_binary(&mask, &a, &b), list.as_slice());
+    has_texts(rt, if_then_else_binary(&mask, &a, &b), list.as_slice());
     let list = joined(rt, alloc, left, right);
-    reads(rt, concatenate_binary(&a, &[&b]), list.as_slice());
+    has_texts(rt, concatenate_binary(&a, &[&b]), list.as_slice());
+}
+
+/// Checks the kernels of texts at a length.
+fn text_kernels_agree_at(rt: &impl Abort, alloc: Global, len: usize, nulls: usize, others: usize) {
+    let left = texts_listed(rt, alloc, len, nulls);
+    let right = texts_listed(rt, alloc, len, others);
+    let flags = flags_of(rt, alloc, len);
+    text_kernels_agree(
+        rt,
+        alloc,
+        flags.as_slice(),
+        left.as_slice(),
+        right.as_slice(),
+    );
 }
 
 #[test]
@@ -371,12 +431,12 @@ fn kernels_of_texts_agree_with_lists(rt: HostRuntime) {
     let alloc = rt.alloc();
     for len in LENGTHS {
         for (nulls, others) in [(0, 0), (3, 0), (0, 4), (2, 3)] {
-            text_kernels_agree(&rt, alloc, len, nulls, others);
+            text_kernels_agree_at(&rt, alloc, len, nulls, others);
         }
     }
     let some = texts(&rt, alloc, &[Some("a"), None, Some(""), Some("dé")]);
     let taken = take_binary(&some, &[3, 3, 1]);
-    reads(&rt, taken, &[Some("dé"), Some("dé"), None]);
+    has_texts(&rt, taken, &[Some("dé"), Some("dé"), None]);
 }
 
 /// Returns the booleans at the indices below `len`, null at each index that `nulls` divides.
@@ -390,9 +450,9 @@ fn booleans_listed(rt: &impl Abort, alloc: Global, len: usize, nulls: usize) -> 
         } else {
             Some(index % 3 == 1)
         };
-        items.push(item).expect(rt, "memory");
+        ok(rt, items.push(item));
     }
-    assert!(rt; items.len() == len);
+    holds(rt, items.len() == len);
     items
 }
 
@@ -401,26 +461,34 @@ fn booleans(rt: &impl Abort, alloc: Global, items: &[Option<bool>]) -> BooleanAr
     ensures { length (boolean_items result) ≡ length items.now }
 {
     let mut array = MutableBooleanArray::new(alloc);
-    array.extend_constant(7, Some(true)).expect(rt, "memory");
+    ok(rt, array.extend_constant(7, Some(true)));
     for item in items {
-        array.push(*item).expect(rt, "memory");
+        ok(rt, array.push(*item));
     }
-    let mut array = array.freeze().expect(rt, "memory");
-    assert!(rt; 7 <= array.len() && array.len() - 7 == items.len());
-    array.slice(5, items.len() + 2);
-    array.slice(2, items.len());
+    last_booleans(rt, ok(rt, array.freeze()), items.len())
+}
+
+/// Returns the `len` booleans after seven others, which must be all: a slice of a slice.
+fn last_booleans(rt: &impl Abort, mut array: BooleanArray, len: usize) -> BooleanArray
+    ensures { length (boolean_items result) ≡ len }
+{
+    assert!(rt; 7 <= array.len() && array.len() - 7 == len);
+    array.slice(5, len + 2);
+    array.slice(2, len);
     array
 }
 
-/// Checks the kernels of booleans at a length.
-fn boolean_kernels_agree(rt: &impl Abort, alloc: Global, len: usize, nulls: usize, others: usize) {
-    let (left, right) = (
-        booleans_listed(rt, alloc, len, nulls),
-        booleans_listed(rt, alloc, len, others),
-    );
-    let (left, right) = (left.as_slice(), right.as_slice());
-    let flags = flags_of(rt, alloc, len);
-    let flags = flags.as_slice();
+/// Checks the kernels of booleans on two lists of one length.
+fn boolean_kernels_agree(
+    rt: &impl Abort,
+    alloc: Global,
+    flags: &[bool],
+    left: &[Option<bool>],
+    right: &[Option<bool>],
+)
+    requires left { length flags.now ≡ length left.now }
+    requires right { length flags.now ≡ length right.now }
+{
     let (a, b) = (booleans(rt, alloc, left), booleans(rt, alloc, right));
     let mask = mask_of(rt, alloc, flags);
     let list = kept(rt, alloc, flags, left);
@@ -436,12 +504,32 @@ fn boolean_kernels_agree(rt: &impl Abort, alloc: Global, len: usize, nulls: usiz
     says(rt, alloc, concatenate_boolean(&a, &[&b]), list.as_slice());
 }
 
+/// Checks the kernels of booleans at a length.
+fn boolean_kernels_agree_at(
+    rt: &impl Abort,
+    alloc: Global,
+    len: usize,
+    nulls: usize,
+    others: usize,
+) {
+    let left = booleans_listed(rt, alloc, len, nulls);
+    let right = booleans_listed(rt, alloc, len, others);
+    let flags = flags_of(rt, alloc, len);
+    boolean_kernels_agree(
+        rt,
+        alloc,
+        flags.as_slice(),
+        left.as_slice(),
+        right.as_slice(),
+    );
+}
+
 #[test]
 fn kernels_of_booleans_agree_with_lists(rt: HostRuntime) {
     let alloc = rt.alloc();
     for len in LENGTHS {
         for (nulls, others) in [(0, 0), (3, 0), (0, 4), (2, 3)] {
-            boolean_kernels_agree(&rt, alloc, len, nulls, others);
+            boolean_kernels_agree_at(&rt, alloc, len, nulls, others);
         }
     }
     let some = booleans(&rt, alloc, &[Some(true), None, Some(false)]);

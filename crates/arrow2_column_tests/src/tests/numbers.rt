@@ -3,7 +3,8 @@ ghost use Rattle.std.specs.Prelude.{◌≡◌, length};
 ghost use Rattle.arrow2.specs.Primitive.{primitive_items};
 ghost use Rattle.arrow2.specs.Storage.{items_of};
 
-use arrow2::array::{BooleanArray, MutablePrimitiveArray, PrimitiveArray};
+use super::checks::{compares, has, holds, lists, ok, prints, reads, says, shows};
+use arrow2::array::{MutablePrimitiveArray, PrimitiveArray};
 use arrow2::bitmap::Bitmap;
 use arrow2::buffer::Buffer;
 use arrow2::compute::aggregate::sum;
@@ -17,8 +18,7 @@ use arrow2::compute::take::take;
 use arrow2::datatypes;
 use arrow2::error::Result;
 use either::Either;
-use std::alloc::Global;
-use std::fmt::Debug;
+use std::alloc::{AllocError, Global};
 use std::process::Abort;
 
 /// Returns the item at an index of the lists that the kernels are tried on: every third is null.
@@ -38,13 +38,18 @@ fn is_kept(place: usize) -> bool {
 fn array_of(rt: &impl Abort, alloc: Global, len: usize) -> PrimitiveArray<i64>
     ensures { length (primitive_items result) ≡ len }
 {
-    let items = MutablePrimitiveArray::<i64>::new(alloc);
-    let mut items = items.expect(rt, "memory");
-    items.extend_constant(3, None).expect(rt, "memory");
+    let mut items = ok(rt, MutablePrimitiveArray::<i64>::new(alloc));
+    ok(rt, items.extend_constant(3, None));
     for place in 0..len {
-        items.push(item_at(place)).expect(rt, "memory");
+        ok(rt, items.push(item_at(place)));
     }
-    let mut array = items.freeze().expect(rt, "memory");
+    last_items(rt, ok(rt, items.freeze()), len)
+}
+
+/// Returns the `len` items after three others, which must be all: a slice of a slice.
+fn last_items(rt: &impl Abort, mut array: PrimitiveArray<i64>, len: usize) -> PrimitiveArray<i64>
+    ensures { length (primitive_items result) ≡ len }
+{
     assert!(rt; 3 <= array.len() && array.len() - 3 == len);
     array.slice(1, len + 2);
     assert!(rt; 2 <= array.len() && array.len() - 2 == len);
@@ -58,7 +63,7 @@ fn mask_of(rt: &impl Abort, alloc: Global, len: usize) -> Bitmap
 {
     let whole = len.checked_add(3).expect(rt, "few items");
     let mask = Bitmap::try_from_fn(alloc, whole, |place| place >= 3 && is_kept(place - 3));
-    mask.expect(rt, "memory").sliced(3, len)
+    ok(rt, mask).sliced(3, len)
 }
 
 /// Returns the items that a test of their indices keeps.
@@ -66,32 +71,21 @@ fn listed(rt: &impl Abort, alloc: Global, len: usize, only_kept: bool) -> Vec<Op
     let mut items = Vec::new(alloc);
     for place in 0..len {
         if !only_kept || is_kept(place) {
-            items.push(item_at(place)).expect(rt, "memory");
+            ok(rt, items.push(item_at(place)));
         }
     }
     items
-}
-
-/// Checks that an array has these items.
-fn has(rt: &impl Abort, alloc: Global, array: Result<PrimitiveArray<i64>>, items: &[Option<i64>]) {
-    let array = array.expect(rt, "memory");
-    let own: Vec<Option<i64>> = array.iter().collect(alloc).expect(rt, "memory");
-    assert!(rt; own.as_slice() == items);
 }
 
 /// Checks the kernels at a length.
 fn kernels_agree(rt: &impl Abort, alloc: Global, len: usize) {
     let array = array_of(rt, alloc, len);
     let mask = mask_of(rt, alloc, len);
-    let all = listed(rt, alloc, len, false);
     let kept = listed(rt, alloc, len, true);
     has(rt, alloc, filter(&array, &mask), kept.as_slice());
-    has(
-        rt,
-        alloc,
-        if_then_else(&mask, &array, &array),
-        all.as_slice(),
-    );
+    let all = listed(rt, alloc, len, false);
+    let chosen = if_then_else(&mask, &array, &array);
+    has(rt, alloc, chosen, all.as_slice());
     has(rt, alloc, concatenate(&array, &[]), all.as_slice());
 }
 
@@ -108,27 +102,25 @@ fn kernels_agree_with_lists_at_many_lengths(rt: HostRuntime) {
 fn a_sum_leaves_nulls_out(rt: HostRuntime) {
     let alloc = rt.alloc();
     let array = array_of(&rt, alloc, 4);
-    assert!(rt; sum(&array) == -295);
+    holds(&rt, sum(&array) == -295);
 }
 
 /// Checks that an array is refused in these words.
-fn refuses(rt: &impl Abort, alloc: Global, made: Result<PrimitiveArray<i64>>, text: &str) {
-    let error = made.err().expect(rt, "it is refused");
-    let own = format!(in alloc; "{error}");
-    assert!(rt; own.expect(rt, "memory").as_str() == text);
+fn refuses(rt: &impl Abort, alloc: Global, call: Result<PrimitiveArray<i64>>, text: &str) {
+    let error = call.err().expect(rt, "it is refused");
+    reads(rt, format!(in alloc; "{error}"), text);
 }
 
 #[test]
 fn arrays_are_refused_by_what_is_wrong(rt: HostRuntime) {
     let alloc = rt.alloc();
-    let values = Buffer::<i64>::new(alloc).expect(&rt, "memory");
-    let copy = values.clone().expect(&rt, "memory");
+    let values = ok(&rt, Buffer::<i64>::new(alloc));
+    let copy = ok(&rt, values.clone());
     let validity = mask_of(&rt, alloc, 2);
-    let int64 = datatypes::DataType::Int64;
     refuses(
         &rt,
         alloc,
-        PrimitiveArray::try_new(int64, values, Some(validity)),
+        PrimitiveArray::try_new(datatypes::DataType::Int64, values, Some(validity)),
         "Invalid argument error: The length of the validity (2) must equal the length of the values (0)",
     );
     refuses(
@@ -143,17 +135,10 @@ fn arrays_are_refused_by_what_is_wrong(rt: HostRuntime) {
 fn items_come_from_both_ends(rt: HostRuntime) {
     let alloc = rt.alloc();
     let array = array_of(&rt, alloc, 5);
-    let back: Vec<Option<i64>> = array.iter().rev().collect(alloc).expect(&rt, "memory");
-    assert!(rt; back.as_slice() == [None, Some(-97), Some(-98), None, Some(-100)].as_slice());
+    let items = [None, Some(-97), Some(-98), None, Some(-100)];
+    lists(&rt, array.iter().rev().collect(alloc), &items);
     let taken = take(&array, &[4, 0, 1]);
     has(&rt, alloc, taken, [None, Some(-100), None].as_slice());
-}
-
-/// Checks that a comparison has these results.
-fn answers(rt: &impl Abort, alloc: Global, made: Result<BooleanArray>, items: &[Option<bool>]) {
-    let array = made.expect(rt, "memory");
-    let own: Vec<Option<bool>> = array.iter().collect(alloc).expect(rt, "memory");
-    assert!(rt; own.as_slice() == items);
 }
 
 #[test]
@@ -161,50 +146,62 @@ fn comparisons_are_null_where_an_item_is(rt: HostRuntime) {
     let alloc = rt.alloc();
     let array = array_of(&rt, alloc, 4);
     let (yes, no) = (Some(true), Some(false));
-    answers(&rt, alloc, eq_scalar(&array, -98), &[no, None, yes, no]);
-    answers(&rt, alloc, neq_scalar(&array, -98), &[yes, None, no, yes]);
-    answers(&rt, alloc, lt_scalar(&array, -98), &[yes, None, no, no]);
-    answers(&rt, alloc, lt_eq_scalar(&array, -98), &[yes, None, yes, no]);
-    answers(&rt, alloc, gt_scalar(&array, -98), &[no, None, no, yes]);
-    answers(&rt, alloc, gt_eq_scalar(&array, -98), &[no, None, yes, yes]);
+    says(&rt, alloc, eq_scalar(&array, -98), &[no, None, yes, no]);
+    says(&rt, alloc, neq_scalar(&array, -98), &[yes, None, no, yes]);
+    says(&rt, alloc, lt_scalar(&array, -98), &[yes, None, no, no]);
+    says(&rt, alloc, lt_eq_scalar(&array, -98), &[yes, None, yes, no]);
+    says(&rt, alloc, gt_scalar(&array, -98), &[no, None, no, yes]);
+    says(&rt, alloc, gt_eq_scalar(&array, -98), &[no, None, yes, yes]);
 }
 
 /// Returns the array that the calls of a builder make: two values, a null, a value, and a value twice.
 fn built(rt: &impl Abort, alloc: Global) -> PrimitiveArray<u8> {
-    let items = MutablePrimitiveArray::<u8>::new(alloc);
-    let mut items = items.expect(rt, "memory");
-    items.reserve(6).expect(rt, "memory");
-    items.extend_from_slice(&[1, 2]).expect(rt, "memory");
-    items
-        .extend_from_options(&[None, Some(3)])
-        .expect(rt, "memory");
-    items.push_null().expect(rt, "memory");
-    assert!(rt; items.pop() == Some(None));
-    items.extend_constant(2, Some(4)).expect(rt, "memory");
-    items.shrink_to_fit().expect(rt, "memory");
-    assert!(rt; items.len() == 6 && !items.is_empty());
-    items.freeze().expect(rt, "memory")
+    let mut items = ok(rt, MutablePrimitiveArray::<u8>::new(alloc));
+    ok(rt, items.reserve(6));
+    ok(rt, items.extend_from_slice(&[1, 2]));
+    ok(rt, items.extend_from_options(&[None, Some(3)]));
+    ok(rt, items.push_null());
+    holds(rt, items.pop() == Some(None));
+    ok(rt, items.extend_constant(2, Some(4)));
+    ok(rt, items.shrink_to_fit());
+    holds(rt, items.len() == 6);
+    holds(rt, !items.is_empty());
+    ok(rt, items.freeze())
+}
+
+/// Checks the items of that array, and which of them are null.
+fn is_built(rt: &impl Abort, alloc: Global, array: &PrimitiveArray<u8>) {
+    let items = [Some(1), Some(2), None, Some(3), Some(4), Some(4)];
+    lists(rt, array.iter().collect(alloc), &items);
+    holds(rt, array.len() == 6);
+    holds(rt, array.null_count() == 1);
+    holds(rt, array.is_null(2));
+    holds(rt, array.is_valid(3));
+    holds(rt, array.value(3) == 3);
+}
+
+/// Checks two values of that array from the fourth on, without a validity.
+fn is_part(rt: &impl Abort, part: PrimitiveArray<u8>) {
+    holds(rt, part.values_iter().len() == 2);
+    holds(rt, part.validity().is_none());
+    let (_, values, validity) = part.into_inner();
+    holds(rt, values.offset() == 3);
+    holds(rt, validity.is_none());
 }
 
 #[test]
 fn each_call_of_a_builder_is_made(rt: HostRuntime) {
     let alloc = rt.alloc();
     let array = built(&rt, alloc);
-    let copy = array.clone().expect(&rt, "memory");
-    let items: Vec<Option<u8>> = copy.iter().collect(alloc).expect(&rt, "memory");
-    let expected = [Some(1), Some(2), None, Some(3), Some(4), Some(4)];
-    assert!(rt; items.as_slice() == expected.as_slice());
-    assert!(rt; array.len() == 6 && array.null_count() == 1);
-    assert!(rt; array.is_null(2) && array.is_valid(3) && array.value(3) == 3);
-    let part = array.sliced(3, 2).with_validity(None);
-    assert!(rt; part.values_iter().len() == 2 && part.validity().is_none());
-    let (_, values, validity) = part.into_inner();
-    assert!(rt; values.offset() == 3 && validity.is_none());
+    is_built(&rt, alloc, &ok(&rt, array.clone()));
+    is_built(&rt, alloc, &array);
+    assert!(rt; array.len() == 6);
+    is_part(&rt, array.sliced(3, 2).with_validity(None));
 }
 
 /// Returns the array of these items of 32 bits.
 fn small(rt: &impl Abort, alloc: Global, items: &[Option<i32>]) -> PrimitiveArray<i32> {
-    PrimitiveArray::from_options(alloc, items).expect(rt, "memory")
+    ok(rt, PrimitiveArray::from_options(alloc, items))
 }
 
 /// Returns the `len` items from item `offset` on, which must be inside.
@@ -218,70 +215,73 @@ fn part(
     array.sliced(offset, len)
 }
 
-/// Checks that an array prints as this.
-fn prints<T: Debug>(rt: &impl Abort, alloc: Global, value: &T, text: &str) {
-    let own = format!(in alloc; "{value:?}");
-    assert!(rt; own.expect(rt, "memory").as_str() == text);
-}
-
 #[test]
 fn arrays_print_their_logical_type_and_their_items(rt: HostRuntime) {
     let alloc = rt.alloc();
     let array = small(&rt, alloc, &[Some(1), None, Some(-3)]);
     prints(&rt, alloc, &array, "Int32[1, None, -3]");
     prints(&rt, alloc, &part(&rt, array, 3, 0), "Int32[]");
-    let values = PrimitiveArray::from_slice(alloc, &[i128::MAX]);
-    let values = values.expect(&rt, "memory");
-    prints(
+    let text = "Decimal(32, 32)[170141183460469231731687303715884105727]";
+    shows(
         &rt,
         alloc,
-        &values,
-        "Decimal(32, 32)[170141183460469231731687303715884105727]",
+        PrimitiveArray::from_slice(alloc, &[i128::MAX]),
+        text,
     );
 }
 
-/// Checks whether two arrays are equal, both ways.
-fn compares(
-    rt: &impl Abort,
-    array: &PrimitiveArray<i32>,
-    other: &PrimitiveArray<i32>,
-    equal: bool,
-) {
-    assert!(rt; (array == other) == equal && (other == array) == equal);
+/// Checks that an array is equal to one of the same items, which has other values where they are null.
+fn is_masked(rt: &impl Abort, array: &PrimitiveArray<i32>, values: &PrimitiveArray<i32>) {
+    let (_, _, validity) = ok(rt, array.clone()).into_inner();
+    let values = ok(rt, values.values().clone());
+    let masked = PrimitiveArray::try_new(datatypes::DataType::Int32, values, validity);
+    compares(rt, array, &ok(rt, masked), true);
+}
+
+/// Checks that an array is equal to its numbers, and not to the dates of these.
+fn is_no_dates(rt: &impl Abort, array: &PrimitiveArray<i32>, numbers: PrimitiveArray<i32>) {
+    compares(rt, array, &numbers, true);
+    let (_, numbers, _) = numbers.into_inner();
+    let dates = PrimitiveArray::try_new(datatypes::DataType::Date32, numbers, None);
+    compares(rt, array, &ok(rt, dates), false);
 }
 
 #[test]
 fn what_stands_under_nulls_is_not_compared(rt: HostRuntime) {
     let alloc = rt.alloc();
     let array = small(&rt, alloc, &[Some(1), None, Some(3)]);
-    let values = PrimitiveArray::from_slice(alloc, &[1, 2, 3]);
-    let values = values.expect(&rt, "memory");
+    let values = ok(&rt, PrimitiveArray::from_slice(alloc, &[1, 2, 3]));
     compares(&rt, &array, &values, false);
-    let (_, _, validity) = array.clone().expect(&rt, "memory").into_inner();
-    let masked = values.values().clone().expect(&rt, "memory");
-    let masked = PrimitiveArray::try_new(datatypes::DataType::Int32, masked, validity);
-    compares(&rt, &array, &masked.expect(&rt, "memory"), true);
+    is_masked(&rt, &array, &values);
     compares(&rt, &values, &small(&rt, alloc, &[Some(1), Some(2)]), false);
     let numbers = small(&rt, alloc, &[Some(1), Some(2), Some(3)]);
-    compares(&rt, &values, &numbers, true);
-    let (_, numbers, _) = numbers.into_inner();
-    let dates = PrimitiveArray::try_new(datatypes::DataType::Date32, numbers, None);
-    compares(&rt, &values, &dates.expect(&rt, "memory"), false);
+    is_no_dates(&rt, &values, numbers);
 }
 
 /// Checks that an array becomes one that grows exactly where `owned`, and that it then takes another item.
 fn thaws(rt: &impl Abort, alloc: Global, array: PrimitiveArray<i32>, owned: bool, text: &str) {
-    match array.into_mut().expect(rt, "memory") {
-        Either::Left(array) => {
-            assert!(rt; !owned);
-            prints(rt, alloc, &array, text);
-        }
-        Either::Right(mut items) => {
-            assert!(rt; owned);
-            items.push(None).expect(rt, "memory");
-            prints(rt, alloc, &items.freeze().expect(rt, "memory"), text);
-        }
+    let thawed = ok(rt, array.into_mut());
+    holds(rt, thawed.is_right() == owned);
+    match thawed {
+        Either::Left(array) => prints(rt, alloc, &array, text),
+        Either::Right(items) => grows(rt, alloc, items, text),
     }
+}
+
+/// Checks how an array prints after another item.
+fn grows(rt: &impl Abort, alloc: Global, mut items: MutablePrimitiveArray<i32>, text: &str) {
+    ok(rt, items.push(None));
+    shows(rt, alloc, items.freeze(), text);
+}
+
+/// Checks that an array stays as it is where another one holds its validity.
+fn stays(rt: &impl Abort, alloc: Global, array: PrimitiveArray<i32>, text: &str) {
+    let (_, values, validity) = array.into_inner();
+    let validity = validity.expect(rt, "a null");
+    let copy = ok(rt, validity.clone());
+    let array = PrimitiveArray::try_new(datatypes::DataType::Int32, values, Some(validity));
+    thaws(rt, alloc, ok(rt, array), false, text);
+    holds(rt, copy.len() == 3);
 }
 
 #[test]
@@ -295,28 +295,42 @@ fn an_array_of_its_own_grows_again(rt: HostRuntime) {
     let array = part(&rt, small(&rt, alloc, &items), 1, 2);
     thaws(&rt, alloc, array, false, "Int32[None, 3]");
     let array = small(&rt, alloc, &items);
-    let shared = array.clone().expect(&rt, "memory");
+    let shared = ok(&rt, array.clone());
     thaws(&rt, alloc, array, false, "Int32[1, None, 3]");
-    let (_, values, validity) = shared.into_inner();
-    let validity = validity.expect(&rt, "a null");
-    let copy = validity.clone().expect(&rt, "memory");
-    let array = PrimitiveArray::try_new(datatypes::DataType::Int32, values, Some(validity));
-    let array = array.expect(&rt, "memory");
-    thaws(&rt, alloc, array, false, "Int32[1, None, 3]");
-    assert!(rt; copy.len() == 3);
+    stays(&rt, alloc, shared, "Int32[1, None, 3]");
+}
+
+/// Checks that an array that grows was made, with as many items as its capacity is for at least, and returns it frozen.
+fn frozen(
+    rt: &impl Abort,
+    call: Result<MutablePrimitiveArray<i64>>,
+    len: usize,
+) -> PrimitiveArray<i64> {
+    let items = ok(rt, call);
+    holds(rt, items.len() == len);
+    holds(rt, items.capacity() >= len);
+    ok(rt, items.freeze())
+}
+
+/// Checks how many values were collected, and that these come first.
+fn begins(
+    rt: &impl Abort,
+    call: std::result::Result<Vec<i64>, AllocError>,
+    len: usize,
+    first: &[i64],
+) {
+    let values = ok(rt, call);
+    holds(rt, values.len() == len);
+    holds(rt, values.as_slice().starts_with(first));
 }
 
 #[test]
 fn arrays_are_made_of_iterators(rt: HostRuntime) {
     let alloc = rt.alloc();
-    let items = MutablePrimitiveArray::try_from_iter(alloc, array_of(&rt, alloc, 300).iter());
-    let items = items.expect(&rt, "memory");
-    assert!(rt; items.len() == 300 && items.capacity() >= 300);
-    let array = items.freeze().expect(&rt, "memory");
-    assert!(rt; array == array_of(&rt, alloc, 300));
-    let values: Vec<i64> = array
-        .non_null_values_iter()
-        .collect(alloc)
-        .expect(&rt, "memory");
-    assert!(rt; values.len() == 200 && values.as_slice()[..3] == [-100, -98, -97]);
+    let source = array_of(&rt, alloc, 300);
+    let items = MutablePrimitiveArray::try_from_iter(alloc, source.iter());
+    let array = frozen(&rt, items, 300);
+    holds(&rt, array == source);
+    let values = array.non_null_values_iter().collect(alloc);
+    begins(&rt, values, 200, &[-100, -98, -97]);
 }

@@ -1,4 +1,5 @@
 //! Arrays of texts and of byte strings.
+use super::checks::{compares, holds, ok, prints, shows};
 use arrow2::array::{BinaryArray, MutableBinaryArray, MutableUtf8Array, Utf8Array};
 use arrow2::buffer::Buffer;
 use arrow2::datatypes;
@@ -7,28 +8,28 @@ use arrow2::offset::{Offset, OffsetsBuffer};
 use either::Either;
 use std::alloc::Global;
 use std::convert::TryFrom;
-use std::fmt::Debug;
 use std::process::Abort;
 
 /// Returns the array of two texts with a null between them.
 fn texts_of<O: Offset>(rt: &impl Abort, alloc: Global) -> Utf8Array<O> {
-    let texts = MutableUtf8Array::<O>::new(alloc);
-    let mut texts = texts.expect(rt, "memory");
-    texts.push(Some("é")).expect(rt, "memory");
-    texts.push(None).expect(rt, "memory");
-    texts.push(Some("abc")).expect(rt, "memory");
-    texts.freeze().expect(rt, "memory")
+    let mut texts = ok(rt, MutableUtf8Array::<O>::new(alloc));
+    ok(rt, texts.push(Some("é")));
+    ok(rt, texts.push(None));
+    ok(rt, texts.push(Some("abc")));
+    ok(rt, texts.freeze())
 }
 
 /// Checks the texts, whole and in part.
 fn texts_are_read<O: Offset>(rt: &impl Abort, alloc: Global) {
     let mut texts = texts_of::<O>(rt, alloc);
-    assert!(rt; texts.len() == 3);
-    assert!(rt; texts.null_count() == 1 && texts.is_null(1));
-    assert!(rt; texts.value(0) == "é");
+    holds(rt, texts.len() == 3);
+    holds(rt, texts.null_count() == 1);
+    holds(rt, texts.is_null(1));
+    holds(rt, texts.value(0) == "é");
     texts.slice(1, 2);
-    assert!(rt; texts.len() == 2);
-    assert!(rt; texts.get(0).is_none() && texts.value(1) == "abc");
+    holds(rt, texts.len() == 2);
+    holds(rt, texts.get(0).is_none());
+    holds(rt, texts.value(1) == "abc");
 }
 
 #[test]
@@ -44,16 +45,16 @@ fn array_of(
     bytes: &[u8],
     offsets: &[i32],
 ) -> Result<Utf8Array<i32>> {
-    let bytes = bytes.to_vec(alloc).expect(rt, "memory");
-    let offsets = offsets.to_vec(alloc).expect(rt, "memory");
-    let values = Buffer::try_from(bytes).expect(rt, "memory");
-    let offsets = OffsetsBuffer::try_from(offsets).expect(rt, "offsets");
+    let bytes = ok(rt, bytes.to_vec(alloc));
+    let values = ok(rt, Buffer::try_from(bytes));
+    let offsets = ok(rt, offsets.to_vec(alloc));
+    let offsets = ok(rt, OffsetsBuffer::try_from(offsets));
     Utf8Array::try_new(Utf8Array::<i32>::default_data_type(), offsets, values, None)
 }
 
 /// Checks whether bytes between offsets are texts.
 fn is_taken(rt: &impl Abort, alloc: Global, bytes: &[u8], offsets: &[i32], taken: bool) {
-    assert!(rt; array_of(rt, alloc, bytes, offsets).is_ok() == taken);
+    holds(rt, array_of(rt, alloc, bytes, offsets).is_ok() == taken);
 }
 
 #[test]
@@ -68,25 +69,19 @@ fn texts_that_begin_inside_a_character_are_refused(rt: HostRuntime) {
 
 /// Returns the array of a byte string and a null.
 fn bytes_of(rt: &impl Abort, alloc: Global) -> BinaryArray<i64> {
-    let bytes = MutableBinaryArray::<i64>::new(alloc);
-    let mut bytes = bytes.expect(rt, "memory");
-    bytes.push(Some(&[0xff, 0])).expect(rt, "memory");
-    bytes.push_null().expect(rt, "memory");
-    bytes.freeze().expect(rt, "memory")
+    let mut bytes = ok(rt, MutableBinaryArray::<i64>::new(alloc));
+    ok(rt, bytes.push(Some(&[0xff, 0])));
+    ok(rt, bytes.push_null());
+    ok(rt, bytes.freeze())
 }
 
 #[test]
 fn byte_strings_are_read(rt: HostRuntime) {
     let bytes = bytes_of(&rt, rt.alloc());
-    assert!(rt; bytes.len() == 2);
-    assert!(rt; bytes.value(0) == [0xff, 0].as_slice());
-    assert!(rt; bytes.is_null(1) && bytes.iter().len() == 2);
-}
-
-/// Checks that an array prints as this.
-fn prints<T: Debug>(rt: &impl Abort, alloc: Global, value: &T, text: &str) {
-    let own = format!(in alloc; "{value:?}");
-    assert!(rt; own.expect(rt, "memory").as_str() == text);
+    holds(&rt, bytes.len() == 2);
+    holds(&rt, bytes.value(0) == [0xff, 0].as_slice());
+    holds(&rt, bytes.is_null(1));
+    holds(&rt, bytes.iter().len() == 2);
 }
 
 #[test]
@@ -94,23 +89,13 @@ fn arrays_print_their_name_and_their_items(rt: HostRuntime) {
     let alloc = rt.alloc();
     let bytes = [Some([1, 2].as_slice()), None, Some([].as_slice())];
     let narrow = BinaryArray::<i32>::from_options(alloc, &bytes);
-    let narrow = narrow.expect(&rt, "memory");
-    prints(&rt, alloc, &narrow, "BinaryArray[[1, 2], None, []]");
-    let wide = BinaryArray::<i64>::from_options(alloc, &bytes);
-    let wide = wide.expect(&rt, "memory").sliced(1, 1);
-    prints(&rt, alloc, &wide, "LargeBinaryArray[None]");
-    prints(
-        &rt,
-        alloc,
-        &texts_of::<i32>(&rt, alloc),
-        "Utf8Array[é, None, abc]",
-    );
-    prints(
-        &rt,
-        alloc,
-        &texts_of::<i64>(&rt, alloc),
-        "LargeUtf8Array[é, None, abc]",
-    );
+    shows(&rt, alloc, narrow, "BinaryArray[[1, 2], None, []]");
+    let wide = ok(&rt, BinaryArray::<i64>::from_options(alloc, &bytes));
+    prints(&rt, alloc, &wide.sliced(1, 1), "LargeBinaryArray[None]");
+    let narrow = texts_of::<i32>(&rt, alloc);
+    prints(&rt, alloc, &narrow, "Utf8Array[é, None, abc]");
+    let wide = texts_of::<i64>(&rt, alloc);
+    prints(&rt, alloc, &wide, "LargeUtf8Array[é, None, abc]");
 }
 
 /// Returns the first `len` texts, which must be there.
@@ -119,9 +104,13 @@ fn first(rt: &impl Abort, array: Utf8Array<i32>, len: usize) -> Utf8Array<i32> {
     array.sliced(0, len)
 }
 
-/// Checks whether two arrays are equal, both ways.
-fn compares(rt: &impl Abort, array: &Utf8Array<i32>, other: &Utf8Array<i32>, equal: bool) {
-    assert!(rt; (array == other) == equal && (other == array) == equal);
+/// Checks that an array is equal to one of the same texts, which has another one where they are null.
+fn is_masked(rt: &impl Abort, alloc: Global, array: &Utf8Array<i32>, other: Utf8Array<i32>) {
+    compares(rt, array, &other, false);
+    let (_, _, _, validity) = texts_of::<i32>(rt, alloc).into_inner();
+    let (_, offsets, values, _) = other.into_inner();
+    let masked = Utf8Array::try_new(datatypes::DataType::Utf8, offsets, values, validity);
+    compares(rt, array, &ok(rt, masked), true);
 }
 
 #[test]
@@ -129,34 +118,29 @@ fn what_stands_under_nulls_is_not_compared(rt: HostRuntime) {
     let alloc = rt.alloc();
     let texts = texts_of::<i32>(&rt, alloc);
     let other = Utf8Array::<i32>::from_slice(alloc, &["é", "b", "abc"]);
-    let other = other.expect(&rt, "memory");
-    compares(&rt, &texts, &other, false);
-    let (_, _, _, validity) = texts_of::<i32>(&rt, alloc).into_inner();
-    let (_, offsets, values, _) = other.into_inner();
-    let masked = Utf8Array::try_new(datatypes::DataType::Utf8, offsets, values, validity);
-    compares(&rt, &texts, &masked.expect(&rt, "texts"), true);
+    is_masked(&rt, alloc, &texts, ok(&rt, other));
     let short = Utf8Array::<i32>::from_options(alloc, &[Some("é"), None]);
-    let short = short.expect(&rt, "memory");
+    let short = ok(&rt, short);
     compares(&rt, &texts, &short, false);
     compares(&rt, &first(&rt, texts, 2), &short, true);
 }
 
 /// Checks that an array becomes one that grows exactly where `owned`, and that an item is then taken off and put back.
 fn thaws(rt: &impl Abort, alloc: Global, array: Utf8Array<i32>, owned: bool, text: &str) {
-    match array.into_mut().expect(rt, "memory") {
-        Either::Left(array) => {
-            assert!(rt; !owned);
-            prints(rt, alloc, &array, text);
-        }
-        Either::Right(mut items) => {
-            assert!(rt; owned);
-            let item = items.pop().expect(rt, "memory").expect(rt, "an item");
-            items.push(None).expect(rt, "memory");
-            let item = item.as_ref().map(|item| item.as_str());
-            items.push(item).expect(rt, "memory");
-            prints(rt, alloc, &items.freeze().expect(rt, "memory"), text);
-        }
+    let thawed = ok(rt, array.into_mut());
+    holds(rt, thawed.is_right() == owned);
+    match thawed {
+        Either::Left(array) => prints(rt, alloc, &array, text),
+        Either::Right(items) => grows(rt, alloc, items, text),
     }
+}
+
+/// Checks how an array prints after its last item was taken off, and put back after a null.
+fn grows(rt: &impl Abort, alloc: Global, mut items: MutableUtf8Array<i32>, text: &str) {
+    let item = ok(rt, items.pop()).expect(rt, "an item");
+    ok(rt, items.push(None));
+    ok(rt, items.push(item.as_ref().map(|item| item.as_str())));
+    shows(rt, alloc, items.freeze(), text);
 }
 
 #[test]
@@ -164,15 +148,39 @@ fn an_array_of_its_own_grows_again(rt: HostRuntime) {
     let alloc = rt.alloc();
     let array = texts_of::<i32>(&rt, alloc);
     thaws(&rt, alloc, array, true, "Utf8Array[é, None, None, abc]");
-    let array = Utf8Array::<i32>::from_slice(alloc, &["é", "b"]);
-    let array = array.expect(&rt, "memory");
+    let array = ok(&rt, Utf8Array::<i32>::from_slice(alloc, &["é", "b"]));
     thaws(&rt, alloc, array, true, "Utf8Array[é, None, b]");
     let array = first(&rt, texts_of::<i32>(&rt, alloc), 2);
     thaws(&rt, alloc, array, false, "Utf8Array[é, None]");
     let array = texts_of::<i32>(&rt, alloc);
-    let shared = array.clone().expect(&rt, "memory");
+    let shared = ok(&rt, array.clone());
     thaws(&rt, alloc, array, false, "Utf8Array[é, None, abc]");
     thaws(&rt, alloc, shared, true, "Utf8Array[é, None, None, abc]");
+}
+
+/// Checks that texts that grow were made, equal to these where they are frozen.
+fn copies(rt: &impl Abort, call: Result<MutableUtf8Array<i64>>, texts: &Utf8Array<i64>) {
+    holds(rt, ok(rt, ok(rt, call).freeze()) == *texts);
+}
+
+/// Takes the last item off, which must be there.
+fn popped(rt: &impl Abort, items: &mut MutableBinaryArray<i64>) -> Option<Vec<u8>> {
+    ok(rt, items.pop()).expect(rt, "an item")
+}
+
+/// Checks that byte strings that grow were made, which end in a null and these bytes, after one item, which is `first`.
+fn ends(
+    rt: &impl Abort,
+    call: Result<MutableBinaryArray<i64>>,
+    first: &BinaryArray<i64>,
+    bytes: &[u8],
+) {
+    let mut items = ok(rt, call);
+    let last = popped(rt, &mut items);
+    holds(rt, last.expect(rt, "no null").as_slice() == bytes);
+    holds(rt, popped(rt, &mut items).is_none());
+    holds(rt, items.len() == 1);
+    holds(rt, ok(rt, items.freeze()) == *first);
 }
 
 #[test]
@@ -180,15 +188,9 @@ fn arrays_are_made_of_iterators(rt: HostRuntime) {
     let alloc = rt.alloc();
     let texts = texts_of::<i64>(&rt, alloc);
     let copy = MutableUtf8Array::<i64>::try_from_iter(alloc, texts.iter());
-    let copy = copy.expect(&rt, "memory").freeze();
-    assert!(rt; copy.expect(&rt, "memory") == texts);
-    let bytes = texts.into_binary().expect(&rt, "memory");
+    copies(&rt, copy, &texts);
+    let bytes = ok(&rt, texts.into_binary());
     let copy = MutableBinaryArray::<i64>::try_from_iter(alloc, bytes.iter());
-    let mut copy = copy.expect(&rt, "memory");
-    let last = copy.pop().expect(&rt, "memory").expect(&rt, "an item");
-    assert!(rt; last.expect(&rt, "no null").as_slice() == "abc".as_bytes());
-    let null = copy.pop().expect(&rt, "memory").expect(&rt, "an item");
-    assert!(rt; null.is_none() && copy.len() == 1);
-    let left = BinaryArray::<i64>::from_options(alloc, &[Some("é".as_bytes())]);
-    assert!(rt; copy.freeze().expect(&rt, "memory") == left.expect(&rt, "memory"));
+    let first = BinaryArray::<i64>::from_options(alloc, &[Some("é".as_bytes())]);
+    ends(&rt, copy, &ok(&rt, first), "abc".as_bytes());
 }
