@@ -5,7 +5,7 @@ ghost use Rattle.arrow2.specs.Items.{boolean_items};
 ghost use Rattle.arrow2.specs.Primitive.{primitive_items};
 ghost use Rattle.arrow2.specs.Storage.{items_of};
 
-use super::checks::{has, holds, lists, ok, reads, says};
+use super::checks::{assert_array, assert_booleans, assert_list, assert_text, assert_that, ok};
 use arrow2::array::{
     BooleanArray, MutableBooleanArray, MutablePrimitiveArray, MutableUtf8Array, PrimitiveArray,
     Utf8Array,
@@ -46,7 +46,7 @@ fn listed(rt: &impl Abort, alloc: Global, len: usize, salt: usize, nulls: usize)
     for place in 0..len {
         ok(rt, items.push(item_at(place, salt, nulls)));
     }
-    holds(rt, items.len() == len);
+    assert_that(rt, items.len() == len);
     items
 }
 
@@ -80,7 +80,7 @@ fn last_items(
 }
 
 /// Returns the results of a test on the items of two lists, index by index.
-fn told<F: Fn(i64, i64) -> bool>(
+fn results<F: Fn(i64, i64) -> bool>(
     rt: &impl Abort,
     alloc: Global,
     left: &[Option<i64>],
@@ -111,19 +111,19 @@ type Of<'a, 'b> = (&'a PrimitiveArray<i64>, &'b [Option<i64>]);
 
 /// Checks the six comparisons of two arrays.
 fn are_compared(rt: &impl Abort, alloc: Global, (a, left): Of, (b, right): Of) {
-    holds(rt, a.len() == b.len());
-    let list = told(rt, alloc, left, right, |x, y| x == y);
-    says(rt, alloc, eq(a, b), list.as_slice());
-    let list = told(rt, alloc, left, right, |x, y| x != y);
-    says(rt, alloc, neq(a, b), list.as_slice());
-    let list = told(rt, alloc, left, right, |x, y| x < y);
-    says(rt, alloc, lt(a, b), list.as_slice());
-    let list = told(rt, alloc, left, right, |x, y| x <= y);
-    says(rt, alloc, lt_eq(a, b), list.as_slice());
-    let list = told(rt, alloc, left, right, |x, y| x > y);
-    says(rt, alloc, gt(a, b), list.as_slice());
-    let list = told(rt, alloc, left, right, |x, y| x >= y);
-    says(rt, alloc, gt_eq(a, b), list.as_slice());
+    assert_that(rt, a.len() == b.len());
+    let list = results(rt, alloc, left, right, |x, y| x == y);
+    assert_booleans(rt, alloc, eq(a, b), list.as_slice());
+    let list = results(rt, alloc, left, right, |x, y| x != y);
+    assert_booleans(rt, alloc, neq(a, b), list.as_slice());
+    let list = results(rt, alloc, left, right, |x, y| x < y);
+    assert_booleans(rt, alloc, lt(a, b), list.as_slice());
+    let list = results(rt, alloc, left, right, |x, y| x <= y);
+    assert_booleans(rt, alloc, lt_eq(a, b), list.as_slice());
+    let list = results(rt, alloc, left, right, |x, y| x > y);
+    assert_booleans(rt, alloc, gt(a, b), list.as_slice());
+    let list = results(rt, alloc, left, right, |x, y| x >= y);
+    assert_booleans(rt, alloc, gt_eq(a, b), list.as_slice());
 }
 
 #[test]
@@ -141,23 +141,23 @@ fn comparisons_of_arrays_agree_with_lists(rt: HostRuntime) {
 /// Checks which items of a list are null.
 fn nulls_agree(rt: &impl Abort, alloc: Global, items: &[Option<i64>]) {
     let array = array_of(rt, alloc, items, 3);
-    says(
+    assert_booleans(
         rt,
         alloc,
         is_null(&array),
         nulls_of(rt, alloc, items, true).as_slice(),
     );
-    says(
+    assert_booleans(
         rt,
         alloc,
         is_not_null(&array),
         nulls_of(rt, alloc, items, false).as_slice(),
     );
-    holds(
+    assert_that(
         rt,
         min(&array) == items.iter().filter_map(|item| *item).min(),
     );
-    holds(
+    assert_that(
         rt,
         max(&array) == items.iter().filter_map(|item| *item).max(),
     );
@@ -196,7 +196,7 @@ fn a_null_index_gives_a_null(rt: HostRuntime) {
     let mut indices = ok(&rt, MutablePrimitiveArray::<u8>::new(alloc));
     ok(&rt, indices.extend_from_options(&places));
     let taken = take_by_array(&array, &ok(&rt, indices.freeze()));
-    has(&rt, alloc, taken, &[Some(6), None, Some(4), None, Some(6)]);
+    assert_array(&rt, alloc, taken, &[Some(6), None, Some(4), None, Some(6)]);
 }
 
 #[test]
@@ -208,9 +208,9 @@ fn a_null_in_a_mask_drops_the_item(rt: HostRuntime) {
         &rt,
         BooleanArray::from_options(alloc, &[yes, yes, None, no]),
     );
-    has(&rt, alloc, filter_by_array(&array, &mask), &[Some(4), None]);
+    assert_array(&rt, alloc, filter_by_array(&array, &mask), &[Some(4), None]);
     let mask = ok(&rt, BooleanArray::from_options(alloc, &[no, yes, yes, no]));
-    has(&rt, alloc, filter_by_array(&array, &mask), &[None, Some(6)]);
+    assert_array(&rt, alloc, filter_by_array(&array, &mask), &[None, Some(6)]);
 }
 
 /// Returns how many numbers were cast, or in which words they were refused.
@@ -230,9 +230,9 @@ fn is_cast(rt: &impl Abort, alloc: Global, from: &[Option<i64>], to: &[Option<u8
     let data_type = ok(rt, Rc::new(alloc, datatypes::DataType::UInt8));
     let copy = ok(rt, data_type.clone());
     let cast = ok(rt, primitive_to_primitive::<i64, u8>(&array, data_type));
-    lists(rt, cast.iter().collect(alloc), to);
+    assert_list(rt, cast.iter().collect(alloc), to);
     let cast = try_primitive_to_primitive::<i64, u8>(&array, copy);
-    reads(rt, told_of(alloc, cast), text);
+    assert_text(rt, told_of(alloc, cast), text);
 }
 
 #[test]
@@ -262,7 +262,7 @@ fn a_sum_of_the_greatest_numbers_is_exact(rt: HostRuntime) {
     let greatest = [Some(u64::MAX), None, Some(u64::MAX)];
     ok(&rt, items.extend_from_options(&greatest));
     let array = ok(&rt, items.freeze());
-    holds(&rt, sum(&array) == 36_893_488_147_419_103_230);
+    assert_that(&rt, sum(&array) == 36_893_488_147_419_103_230);
 }
 
 /// Returns whether a mask is true at the indices below `len`.
@@ -273,7 +273,7 @@ fn flags_of(rt: &impl Abort, alloc: Global, len: usize) -> Vec<bool>
     for index in 0..len {
         ok(rt, flags.push(index % 5 < 2 || index % 7 == 3));
     }
-    holds(rt, flags.len() == len);
+    assert_that(rt, flags.len() == len);
     flags
 }
 
@@ -350,7 +350,7 @@ fn texts_listed(
         };
         ok(rt, items.push(item));
     }
-    holds(rt, items.len() == len);
+    assert_that(rt, items.len() == len);
     items
 }
 
@@ -385,7 +385,7 @@ fn has_texts(rt: &impl Abort, call: Result<Utf8Array<i32>>, items: &[Option<&str
 
 /// Checks that an array has these texts.
 fn are_texts(rt: &impl Abort, array: &Utf8Array<i32>, items: &[Option<&str>]) {
-    holds(rt, array.len() == items.len());
+    assert_that(rt, array.len() == items.len());
     for (index, item) in items.iter().enumerate() {
         assert!(rt; index < array.len() && array.get(index) == *item);
     }
@@ -452,7 +452,7 @@ fn booleans_listed(rt: &impl Abort, alloc: Global, len: usize, nulls: usize) -> 
         };
         ok(rt, items.push(item));
     }
-    holds(rt, items.len() == len);
+    assert_that(rt, items.len() == len);
     items
 }
 
@@ -492,16 +492,16 @@ fn boolean_kernels_agree(
     let (a, b) = (booleans(rt, alloc, left), booleans(rt, alloc, right));
     let mask = mask_of(rt, alloc, flags);
     let list = kept(rt, alloc, flags, left);
-    says(rt, alloc, filter_boolean(&a, &mask), list.as_slice());
+    assert_booleans(rt, alloc, filter_boolean(&a, &mask), list.as_slice());
     let list = either(rt, alloc, flags, left, right);
-    says(
+    assert_booleans(
         rt,
         alloc,
         if_then_else_boolean(&mask, &a, &b),
         list.as_slice(),
     );
     let list = joined(rt, alloc, left, right);
-    says(rt, alloc, concatenate_boolean(&a, &[&b]), list.as_slice());
+    assert_booleans(rt, alloc, concatenate_boolean(&a, &[&b]), list.as_slice());
 }
 
 /// Checks the kernels of booleans at a length.
@@ -534,5 +534,5 @@ fn kernels_of_booleans_agree_with_lists(rt: HostRuntime) {
     }
     let some = booleans(&rt, alloc, &[Some(true), None, Some(false)]);
     let taken = take_boolean(&some, &[2, 0, 1]);
-    says(&rt, alloc, taken, &[Some(false), Some(true), None]);
+    assert_booleans(&rt, alloc, taken, &[Some(false), Some(true), None]);
 }

@@ -3,7 +3,10 @@ ghost use Rattle.std.specs.Prelude.{◌≡◌, length};
 ghost use Rattle.arrow2.specs.Primitive.{primitive_items};
 ghost use Rattle.arrow2.specs.Storage.{items_of};
 
-use super::checks::{compares, has, holds, lists, ok, prints, reads, says, shows};
+use super::checks::{
+    assert_array, assert_booleans, assert_compares, assert_list, assert_made, assert_prints,
+    assert_text, assert_that, ok,
+};
 use arrow2::array::{MutablePrimitiveArray, PrimitiveArray};
 use arrow2::bitmap::Bitmap;
 use arrow2::buffer::Buffer;
@@ -82,11 +85,11 @@ fn kernels_agree(rt: &impl Abort, alloc: Global, len: usize) {
     let array = array_of(rt, alloc, len);
     let mask = mask_of(rt, alloc, len);
     let kept = listed(rt, alloc, len, true);
-    has(rt, alloc, filter(&array, &mask), kept.as_slice());
+    assert_array(rt, alloc, filter(&array, &mask), kept.as_slice());
     let all = listed(rt, alloc, len, false);
     let chosen = if_then_else(&mask, &array, &array);
-    has(rt, alloc, chosen, all.as_slice());
-    has(rt, alloc, concatenate(&array, &[]), all.as_slice());
+    assert_array(rt, alloc, chosen, all.as_slice());
+    assert_array(rt, alloc, concatenate(&array, &[]), all.as_slice());
 }
 
 #[test]
@@ -102,13 +105,13 @@ fn kernels_agree_with_lists_at_many_lengths(rt: HostRuntime) {
 fn a_sum_leaves_nulls_out(rt: HostRuntime) {
     let alloc = rt.alloc();
     let array = array_of(&rt, alloc, 4);
-    holds(&rt, sum(&array) == -295);
+    assert_that(&rt, sum(&array) == -295);
 }
 
 /// Checks that an array is refused in these words.
 fn refuses(rt: &impl Abort, alloc: Global, call: Result<PrimitiveArray<i64>>, text: &str) {
     let error = call.err().expect(rt, "it is refused");
-    reads(rt, format!(in alloc; "{error}"), text);
+    assert_text(rt, format!(in alloc; "{error}"), text);
 }
 
 #[test]
@@ -136,9 +139,9 @@ fn items_come_from_both_ends(rt: HostRuntime) {
     let alloc = rt.alloc();
     let array = array_of(&rt, alloc, 5);
     let items = [None, Some(-97), Some(-98), None, Some(-100)];
-    lists(&rt, array.iter().rev().collect(alloc), &items);
+    assert_list(&rt, array.iter().rev().collect(alloc), &items);
     let taken = take(&array, &[4, 0, 1]);
-    has(&rt, alloc, taken, [None, Some(-100), None].as_slice());
+    assert_array(&rt, alloc, taken, [None, Some(-100), None].as_slice());
 }
 
 #[test]
@@ -146,12 +149,12 @@ fn comparisons_are_null_where_an_item_is(rt: HostRuntime) {
     let alloc = rt.alloc();
     let array = array_of(&rt, alloc, 4);
     let (yes, no) = (Some(true), Some(false));
-    says(&rt, alloc, eq_scalar(&array, -98), &[no, None, yes, no]);
-    says(&rt, alloc, neq_scalar(&array, -98), &[yes, None, no, yes]);
-    says(&rt, alloc, lt_scalar(&array, -98), &[yes, None, no, no]);
-    says(&rt, alloc, lt_eq_scalar(&array, -98), &[yes, None, yes, no]);
-    says(&rt, alloc, gt_scalar(&array, -98), &[no, None, no, yes]);
-    says(&rt, alloc, gt_eq_scalar(&array, -98), &[no, None, yes, yes]);
+    assert_booleans(&rt, alloc, eq_scalar(&array, -98), &[no, None, yes, no]);
+    assert_booleans(&rt, alloc, neq_scalar(&array, -98), &[yes, None, no, yes]);
+    assert_booleans(&rt, alloc, lt_scalar(&array, -98), &[yes, None, no, no]);
+    assert_booleans(&rt, alloc, lt_eq_scalar(&array, -98), &[yes, None, yes, no]);
+    assert_booleans(&rt, alloc, gt_scalar(&array, -98), &[no, None, no, yes]);
+    assert_booleans(&rt, alloc, gt_eq_scalar(&array, -98), &[no, None, yes, yes]);
 }
 
 /// Returns the array that the calls of a builder make: two values, a null, a value, and a value twice.
@@ -161,32 +164,32 @@ fn built(rt: &impl Abort, alloc: Global) -> PrimitiveArray<u8> {
     ok(rt, items.extend_from_slice(&[1, 2]));
     ok(rt, items.extend_from_options(&[None, Some(3)]));
     ok(rt, items.push_null());
-    holds(rt, items.pop() == Some(None));
+    assert_that(rt, items.pop() == Some(None));
     ok(rt, items.extend_constant(2, Some(4)));
     ok(rt, items.shrink_to_fit());
-    holds(rt, items.len() == 6);
-    holds(rt, !items.is_empty());
+    assert_that(rt, items.len() == 6);
+    assert_that(rt, !items.is_empty());
     ok(rt, items.freeze())
 }
 
 /// Checks the items of that array, and which of them are null.
 fn is_built(rt: &impl Abort, alloc: Global, array: &PrimitiveArray<u8>) {
     let items = [Some(1), Some(2), None, Some(3), Some(4), Some(4)];
-    lists(rt, array.iter().collect(alloc), &items);
-    holds(rt, array.len() == 6);
-    holds(rt, array.null_count() == 1);
-    holds(rt, array.is_null(2));
-    holds(rt, array.is_valid(3));
-    holds(rt, array.value(3) == 3);
+    assert_list(rt, array.iter().collect(alloc), &items);
+    assert_that(rt, array.len() == 6);
+    assert_that(rt, array.null_count() == 1);
+    assert_that(rt, array.is_null(2));
+    assert_that(rt, array.is_valid(3));
+    assert_that(rt, array.value(3) == 3);
 }
 
 /// Checks two values of that array from the fourth on, without a validity.
 fn is_part(rt: &impl Abort, part: PrimitiveArray<u8>) {
-    holds(rt, part.values_iter().len() == 2);
-    holds(rt, part.validity().is_none());
+    assert_that(rt, part.values_iter().len() == 2);
+    assert_that(rt, part.validity().is_none());
     let (_, values, validity) = part.into_inner();
-    holds(rt, values.offset() == 3);
-    holds(rt, validity.is_none());
+    assert_that(rt, values.offset() == 3);
+    assert_that(rt, validity.is_none());
 }
 
 #[test]
@@ -219,10 +222,10 @@ fn part(
 fn arrays_print_their_logical_type_and_their_items(rt: HostRuntime) {
     let alloc = rt.alloc();
     let array = small(&rt, alloc, &[Some(1), None, Some(-3)]);
-    prints(&rt, alloc, &array, "Int32[1, None, -3]");
-    prints(&rt, alloc, &part(&rt, array, 3, 0), "Int32[]");
+    assert_prints(&rt, alloc, &array, "Int32[1, None, -3]");
+    assert_prints(&rt, alloc, &part(&rt, array, 3, 0), "Int32[]");
     let text = "Decimal(32, 32)[170141183460469231731687303715884105727]";
-    shows(
+    assert_made(
         &rt,
         alloc,
         PrimitiveArray::from_slice(alloc, &[i128::MAX]),
@@ -235,15 +238,15 @@ fn is_masked(rt: &impl Abort, array: &PrimitiveArray<i32>, values: &PrimitiveArr
     let (_, _, validity) = ok(rt, array.clone()).into_inner();
     let values = ok(rt, values.values().clone());
     let masked = PrimitiveArray::try_new(datatypes::DataType::Int32, values, validity);
-    compares(rt, array, &ok(rt, masked), true);
+    assert_compares(rt, array, &ok(rt, masked), true);
 }
 
 /// Checks that an array is equal to its numbers, and not to the dates of these.
 fn is_no_dates(rt: &impl Abort, array: &PrimitiveArray<i32>, numbers: PrimitiveArray<i32>) {
-    compares(rt, array, &numbers, true);
+    assert_compares(rt, array, &numbers, true);
     let (_, numbers, _) = numbers.into_inner();
     let dates = PrimitiveArray::try_new(datatypes::DataType::Date32, numbers, None);
-    compares(rt, array, &ok(rt, dates), false);
+    assert_compares(rt, array, &ok(rt, dates), false);
 }
 
 #[test]
@@ -251,9 +254,9 @@ fn what_stands_under_nulls_is_not_compared(rt: HostRuntime) {
     let alloc = rt.alloc();
     let array = small(&rt, alloc, &[Some(1), None, Some(3)]);
     let values = ok(&rt, PrimitiveArray::from_slice(alloc, &[1, 2, 3]));
-    compares(&rt, &array, &values, false);
+    assert_compares(&rt, &array, &values, false);
     is_masked(&rt, &array, &values);
-    compares(&rt, &values, &small(&rt, alloc, &[Some(1), Some(2)]), false);
+    assert_compares(&rt, &values, &small(&rt, alloc, &[Some(1), Some(2)]), false);
     let numbers = small(&rt, alloc, &[Some(1), Some(2), Some(3)]);
     is_no_dates(&rt, &values, numbers);
 }
@@ -261,9 +264,9 @@ fn what_stands_under_nulls_is_not_compared(rt: HostRuntime) {
 /// Checks that an array becomes one that grows exactly where `owned`, and that it then takes another item.
 fn thaws(rt: &impl Abort, alloc: Global, array: PrimitiveArray<i32>, owned: bool, text: &str) {
     let thawed = ok(rt, array.into_mut());
-    holds(rt, thawed.is_right() == owned);
+    assert_that(rt, thawed.is_right() == owned);
     match thawed {
-        Either::Left(array) => prints(rt, alloc, &array, text),
+        Either::Left(array) => assert_prints(rt, alloc, &array, text),
         Either::Right(items) => grows(rt, alloc, items, text),
     }
 }
@@ -271,7 +274,7 @@ fn thaws(rt: &impl Abort, alloc: Global, array: PrimitiveArray<i32>, owned: bool
 /// Checks how an array prints after another item.
 fn grows(rt: &impl Abort, alloc: Global, mut items: MutablePrimitiveArray<i32>, text: &str) {
     ok(rt, items.push(None));
-    shows(rt, alloc, items.freeze(), text);
+    assert_made(rt, alloc, items.freeze(), text);
 }
 
 /// Checks that an array stays as it is where another one holds its validity.
@@ -281,7 +284,7 @@ fn stays(rt: &impl Abort, alloc: Global, array: PrimitiveArray<i32>, text: &str)
     let copy = ok(rt, validity.clone());
     let array = PrimitiveArray::try_new(datatypes::DataType::Int32, values, Some(validity));
     thaws(rt, alloc, ok(rt, array), false, text);
-    holds(rt, copy.len() == 3);
+    assert_that(rt, copy.len() == 3);
 }
 
 #[test]
@@ -307,8 +310,8 @@ fn frozen(
     len: usize,
 ) -> PrimitiveArray<i64> {
     let items = ok(rt, call);
-    holds(rt, items.len() == len);
-    holds(rt, items.capacity() >= len);
+    assert_that(rt, items.len() == len);
+    assert_that(rt, items.capacity() >= len);
     ok(rt, items.freeze())
 }
 
@@ -320,8 +323,8 @@ fn begins(
     first: &[i64],
 ) {
     let values = ok(rt, call);
-    holds(rt, values.len() == len);
-    holds(rt, values.as_slice().starts_with(first));
+    assert_that(rt, values.len() == len);
+    assert_that(rt, values.as_slice().starts_with(first));
 }
 
 #[test]
@@ -330,7 +333,7 @@ fn arrays_are_made_of_iterators(rt: HostRuntime) {
     let source = array_of(&rt, alloc, 300);
     let items = MutablePrimitiveArray::try_from_iter(alloc, source.iter());
     let array = frozen(&rt, items, 300);
-    holds(&rt, array == source);
+    assert_that(&rt, array == source);
     let values = array.non_null_values_iter().collect(alloc);
     begins(&rt, values, 200, &[-100, -98, -97]);
 }

@@ -1,5 +1,5 @@
 //! Arrays of texts and of byte strings.
-use super::checks::{compares, holds, ok, prints, shows};
+use super::checks::{assert_compares, assert_made, assert_prints, assert_that, ok};
 use arrow2::array::{BinaryArray, MutableBinaryArray, MutableUtf8Array, Utf8Array};
 use arrow2::buffer::Buffer;
 use arrow2::datatypes;
@@ -22,14 +22,14 @@ fn texts_of<O: Offset>(rt: &impl Abort, alloc: Global) -> Utf8Array<O> {
 /// Checks the texts, whole and in part.
 fn texts_are_read<O: Offset>(rt: &impl Abort, alloc: Global) {
     let mut texts = texts_of::<O>(rt, alloc);
-    holds(rt, texts.len() == 3);
-    holds(rt, texts.null_count() == 1);
-    holds(rt, texts.is_null(1));
-    holds(rt, texts.value(0) == "é");
+    assert_that(rt, texts.len() == 3);
+    assert_that(rt, texts.null_count() == 1);
+    assert_that(rt, texts.is_null(1));
+    assert_that(rt, texts.value(0) == "é");
     texts.slice(1, 2);
-    holds(rt, texts.len() == 2);
-    holds(rt, texts.get(0).is_none());
-    holds(rt, texts.value(1) == "abc");
+    assert_that(rt, texts.len() == 2);
+    assert_that(rt, texts.get(0).is_none());
+    assert_that(rt, texts.value(1) == "abc");
 }
 
 #[test]
@@ -54,7 +54,7 @@ fn array_of(
 
 /// Checks whether bytes between offsets are texts.
 fn is_taken(rt: &impl Abort, alloc: Global, bytes: &[u8], offsets: &[i32], taken: bool) {
-    holds(rt, array_of(rt, alloc, bytes, offsets).is_ok() == taken);
+    assert_that(rt, array_of(rt, alloc, bytes, offsets).is_ok() == taken);
 }
 
 #[test]
@@ -78,10 +78,10 @@ fn bytes_of(rt: &impl Abort, alloc: Global) -> BinaryArray<i64> {
 #[test]
 fn byte_strings_are_read(rt: HostRuntime) {
     let bytes = bytes_of(&rt, rt.alloc());
-    holds(&rt, bytes.len() == 2);
-    holds(&rt, bytes.value(0) == [0xff, 0].as_slice());
-    holds(&rt, bytes.is_null(1));
-    holds(&rt, bytes.iter().len() == 2);
+    assert_that(&rt, bytes.len() == 2);
+    assert_that(&rt, bytes.value(0) == [0xff, 0].as_slice());
+    assert_that(&rt, bytes.is_null(1));
+    assert_that(&rt, bytes.iter().len() == 2);
 }
 
 #[test]
@@ -89,13 +89,13 @@ fn arrays_print_their_name_and_their_items(rt: HostRuntime) {
     let alloc = rt.alloc();
     let bytes = [Some([1, 2].as_slice()), None, Some([].as_slice())];
     let narrow = BinaryArray::<i32>::from_options(alloc, &bytes);
-    shows(&rt, alloc, narrow, "BinaryArray[[1, 2], None, []]");
+    assert_made(&rt, alloc, narrow, "BinaryArray[[1, 2], None, []]");
     let wide = ok(&rt, BinaryArray::<i64>::from_options(alloc, &bytes));
-    prints(&rt, alloc, &wide.sliced(1, 1), "LargeBinaryArray[None]");
+    assert_prints(&rt, alloc, &wide.sliced(1, 1), "LargeBinaryArray[None]");
     let narrow = texts_of::<i32>(&rt, alloc);
-    prints(&rt, alloc, &narrow, "Utf8Array[é, None, abc]");
+    assert_prints(&rt, alloc, &narrow, "Utf8Array[é, None, abc]");
     let wide = texts_of::<i64>(&rt, alloc);
-    prints(&rt, alloc, &wide, "LargeUtf8Array[é, None, abc]");
+    assert_prints(&rt, alloc, &wide, "LargeUtf8Array[é, None, abc]");
 }
 
 /// Returns the first `len` texts, which must be there.
@@ -106,11 +106,11 @@ fn first(rt: &impl Abort, array: Utf8Array<i32>, len: usize) -> Utf8Array<i32> {
 
 /// Checks that an array is equal to one of the same texts, which has another one where they are null.
 fn is_masked(rt: &impl Abort, alloc: Global, array: &Utf8Array<i32>, other: Utf8Array<i32>) {
-    compares(rt, array, &other, false);
+    assert_compares(rt, array, &other, false);
     let (_, _, _, validity) = texts_of::<i32>(rt, alloc).into_inner();
     let (_, offsets, values, _) = other.into_inner();
     let masked = Utf8Array::try_new(datatypes::DataType::Utf8, offsets, values, validity);
-    compares(rt, array, &ok(rt, masked), true);
+    assert_compares(rt, array, &ok(rt, masked), true);
 }
 
 #[test]
@@ -121,16 +121,16 @@ fn what_stands_under_nulls_is_not_compared(rt: HostRuntime) {
     is_masked(&rt, alloc, &texts, ok(&rt, other));
     let short = Utf8Array::<i32>::from_options(alloc, &[Some("é"), None]);
     let short = ok(&rt, short);
-    compares(&rt, &texts, &short, false);
-    compares(&rt, &first(&rt, texts, 2), &short, true);
+    assert_compares(&rt, &texts, &short, false);
+    assert_compares(&rt, &first(&rt, texts, 2), &short, true);
 }
 
 /// Checks that an array becomes one that grows exactly where `owned`, and that an item is then taken off and put back.
 fn thaws(rt: &impl Abort, alloc: Global, array: Utf8Array<i32>, owned: bool, text: &str) {
     let thawed = ok(rt, array.into_mut());
-    holds(rt, thawed.is_right() == owned);
+    assert_that(rt, thawed.is_right() == owned);
     match thawed {
-        Either::Left(array) => prints(rt, alloc, &array, text),
+        Either::Left(array) => assert_prints(rt, alloc, &array, text),
         Either::Right(items) => grows(rt, alloc, items, text),
     }
 }
@@ -140,7 +140,7 @@ fn grows(rt: &impl Abort, alloc: Global, mut items: MutableUtf8Array<i32>, text:
     let item = ok(rt, items.pop()).expect(rt, "an item");
     ok(rt, items.push(None));
     ok(rt, items.push(item.as_ref().map(|item| item.as_str())));
-    shows(rt, alloc, items.freeze(), text);
+    assert_made(rt, alloc, items.freeze(), text);
 }
 
 #[test]
@@ -160,7 +160,7 @@ fn an_array_of_its_own_grows_again(rt: HostRuntime) {
 
 /// Checks that texts that grow were made, equal to these where they are frozen.
 fn copies(rt: &impl Abort, call: Result<MutableUtf8Array<i64>>, texts: &Utf8Array<i64>) {
-    holds(rt, ok(rt, ok(rt, call).freeze()) == *texts);
+    assert_that(rt, ok(rt, ok(rt, call).freeze()) == *texts);
 }
 
 /// Takes the last item off, which must be there.
@@ -177,10 +177,10 @@ fn ends(
 ) {
     let mut items = ok(rt, call);
     let last = popped(rt, &mut items);
-    holds(rt, last.expect(rt, "no null").as_slice() == bytes);
-    holds(rt, popped(rt, &mut items).is_none());
-    holds(rt, items.len() == 1);
-    holds(rt, ok(rt, items.freeze()) == *first);
+    assert_that(rt, last.expect(rt, "no null").as_slice() == bytes);
+    assert_that(rt, popped(rt, &mut items).is_none());
+    assert_that(rt, items.len() == 1);
+    assert_that(rt, ok(rt, items.freeze()) == *first);
 }
 
 #[test]
