@@ -61,14 +61,15 @@ impl<O: Offset> Model for BinaryArray<O> {
 }
 
 impl<O: Offset> BinaryArray<O> {
-    /// Returns the array of the bytes between the offsets, each null where the validity is false. Without a validity
-    /// none is null.
+    /// Returns the array of its parts: slot i is the bytes from offset i to offset i + 1, and null where bit i of the
+    /// validity is unset. Without a validity no slot is null.
     ///
     /// # Errors
     ///
-    /// `InvalidArgumentError` exactly if the last offset is past the values, or else if the validity has another length
-    /// than there are slots, or else if the physical type of `data_type` is not `Binary`, or `LargeBinary` where `O`
-    /// has 64 bits; or `OutOfMemory`. What was handed in is then dropped.
+    /// `InvalidArgumentError`, or `OutOfMemory` if its message cannot be allocated, exactly if the last offset is past
+    /// the values, or else if the validity has another length than there are slots, or else if the physical type of
+    /// `data_type` is not `Binary`, or `LargeBinary` where `O` has 64 bits. Of parts that fit, `OutOfMemory` alone. The
+    /// parts are then dropped.
     pub fn try_new(
         data_type: DataType,
         offsets: OffsetsBuffer<O>,
@@ -103,10 +104,10 @@ impl<O: Offset> BinaryArray<O> {
         })
     }
 
-    /// Returns the array of the bytes between the offsets, each null where the validity is false. Without a validity
-    /// none is null. Requires that the physical type of `data_type` is `Binary`, or `LargeBinary` where `O` has 64
-    /// bits, that the last offset is not past the values, and that the validity has a bit for each slot. Does not
-    /// allocate.
+    /// Returns the array of its parts: slot i is the bytes from offset i to offset i + 1, and null where bit i of the
+    /// validity is unset. Without a validity no slot is null. Requires that the physical type of `data_type` is
+    /// `Binary`, or `LargeBinary` where `O` has 64 bits, that the last offset is not past the values, and that the
+    /// validity has a bit for each slot. Does not allocate.
     pub fn new(
         data_type: Rc<DataType>,
         offsets: OffsetsBuffer<O>,
@@ -343,9 +344,12 @@ impl<O: Offset> BinaryArray<O> {
     ///
     /// # Errors
     ///
-    /// `OutOfMemory` alone. The array is then dropped. In the code it comes only if the offsets have no other owner and
-    /// are not sliced, and there is no bitmap, the bytes are shared or sliced, or the bitmap is shared or begins at a
-    /// bit other than 0. No clause states that.
+    /// `OutOfMemory` alone. The array is then dropped. No clause states when it comes. In the code it comes only if the
+    /// offsets have no other owner and are not sliced, and one of these holds:
+    ///
+    /// - there is no bitmap;
+    /// - the bytes are shared or sliced;
+    /// - the bitmap is shared, or begins at a bit other than 0.
     pub fn into_mut(self) -> Result<Either<BinaryArray<O>, MutableBinaryArray<O>>>
         ensures ok { IfOk result (λ r. MatchEither r (λ a. a ≡ self)
             (λ m. (m.items ≡ binary_items self) × (m.data_type ≡ self.data_type))) }
@@ -369,8 +373,8 @@ impl<O: Offset> BinaryArray<O> {
     }
 }
 
-/// Shares the logical type, the offsets, the bytes and the validity. Does not allocate: it is refused only where a
-/// count of owners is full.
+/// Shares the logical type, the offsets, the bytes and the validity. Does not allocate: it returns `AllocError` only if
+/// the count of an `Rc` would overflow.
 impl<O: Offset> Clone for BinaryArray<O> {
     ghost is_clone = { λ a copy. copy ≡ a };
 

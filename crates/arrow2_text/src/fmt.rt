@@ -1,4 +1,4 @@
-//! The texts of arrays.
+//! `Debug` output of arrays.
 ghost use Rattle.std.specs.Prelude.{◌≡◌, Some, if◌then◌else◌, codes};
 ghost use Rattle.std.specs.Fmt.{DisplaysOnOk, ◌++?◌, debug_list};
 ghost use Rattle.std.specs.Option.{option_copied};

@@ -248,7 +248,7 @@ impl<O: Offset> MutableBinaryArray<O> {
         self.slots.push(&[], false)
     }
 
-    /// Appends the `len` items of an array from item `start` on, with what stands under nulls. Requires that they are
+    /// Appends the `len` items of an array from item `start` on, with the bytes of null slots. Requires that they are
     /// inside. Within both capacities it does not allocate.
     ///
     /// arrow2 has it in `growable`.
@@ -268,7 +268,7 @@ impl<O: Offset> MutableBinaryArray<O> {
             (sum (part (lengths_of (buffer_items array.now.offsets)) start len)) }
     {
         let slots = array.slots();
-        // The length is read for what the type keeps: the validity has an item for each slot.
+        // For the proof alone: reading the length brings the type's invariant, that the validity has an item for each slot.
         let _ = slots.len();
         self.slots.extend(slots, start, len)
     }

@@ -261,7 +261,7 @@ impl<O: Offset> MutableUtf8Array<O> {
         self.slots.push(text.as_bytes(), valid)
     }
 
-    /// Appends the `len` items of an array from item `start` on, with what stands under nulls. Requires that they are
+    /// Appends the `len` items of an array from item `start` on, with the bytes of null slots. Requires that they are
     /// inside. Within both capacities it does not allocate.
     ///
     /// arrow2 has it in `growable`.
@@ -281,7 +281,7 @@ impl<O: Offset> MutableUtf8Array<O> {
             (sum (part (lengths_of (buffer_items array.now.offsets)) start len)) }
     {
         let slots = array.slots();
-        // The length is read for what the type keeps: the validity has an item for each slot.
+        // For the proof alone: reading the length brings the type's invariant, that the validity has an item for each slot.
         let _ = slots.len();
         self.slots.extend(slots, start, len)
     }
@@ -299,7 +299,7 @@ impl<O: Offset> MutableUtf8Array<O> {
         ensures only { IfErr result (λ e. e ≡ Error.OutOfMemory) }
     {
         let slots = self.slots.freeze()?;
-        // The bytes are read for what the type keeps: the last offset is not past them.
+        // For the proof alone: reading the bytes brings the type's invariant, that the last offset is not past them.
         let _ = slots.values();
         Ok(Utf8Array::of_slots(slots))
     }

@@ -22,7 +22,7 @@ use arrow2_utf8::{BrokenTexts, try_check_utf8};
 use arrow2_validity::Validity;
 use std::alloc::Global;
 
-/// Returns the error of an invalid argument in these words, or that of refused memory, where they find none.
+/// Returns `InvalidArgumentError` with this message, or `OutOfMemory` if the message cannot be allocated.
 pub(crate) fn refusal(alloc: Global, words: &str) -> Error
     ensures { IsInvalidArgument result words.now }
 {

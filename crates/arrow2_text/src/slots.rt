@@ -140,7 +140,7 @@ impl<O: Offset> Slots<O> {
         ensures item { IsTrue (is_some (slice_index_or (binary_items self.now) index None)) →
             slice_index_or (binary_items self.now) index None ≡ Some result.now }
     {
-        // The validity is read for what the type keeps: it has an item for each slot.
+        // For the proof alone: reading the validity brings the type's invariant, that it has an item for each slot.
         let _ = &self.validity;
         self.bytes_at(index)
     }
@@ -224,8 +224,8 @@ impl<O: Offset> Slots<O> {
         true
     }
 
-    /// Returns the slots as they grow, over the same storage, on the right, where nobody else shares it and nothing is
-    /// sliced off; else the slots as they were, on the left.
+    /// Returns `Right` with slots that grow over the same storage, if nobody else shares it and nothing is sliced off;
+    /// else `Left` with the slots as they were. Allocates a bitmap where there is none.
     pub(crate) fn into_mut(self) -> Result<Either<Slots<O>, Growing<O>>>
         ensures ok { IfOk result (λ r. MatchEither r (λ s. s ≡ self) (λ g.
             (g.values ≡ binary_values self) × (g.valid ≡ valid_items self.validity)
@@ -297,7 +297,7 @@ fn thawed<O: Offset>(
     ensures only { IfErr result (λ e. e ≡ Error.OutOfMemory) }
 {
     let alloc = values.allocator();
-    // The length is read for what the type keeps: the bytes are inside the storage.
+    // For the proof alone: reading the length brings the type's invariant, that the bytes are inside the storage.
     let _ = values.len();
     let values = match values.into_mut() {
         Either::Left(values) => {

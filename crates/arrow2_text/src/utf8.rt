@@ -68,15 +68,15 @@ impl<O: Offset> Model for Utf8Array<O> {
 }
 
 impl<O: Offset> Utf8Array<O> {
-    /// Returns the array of the bytes between the offsets, each null where the validity is false. Without a validity
-    /// none is null.
+    /// Returns the array of its parts: slot i is the text from offset i to offset i + 1, and null where bit i of the
+    /// validity is unset. Without a validity no slot is null.
     ///
     /// # Errors
     ///
-    /// `InvalidArgumentError` exactly if the last offset is past the values, or else if a slot is not UTF-8, also under
-    /// a null or where it begins inside a character, or else if the validity has another length than there are slots,
-    /// or else if the physical type of `data_type` is not `Utf8`, or `LargeUtf8` where `O` has 64 bits; or
-    /// `OutOfMemory`. What was handed in is then dropped.
+    /// `InvalidArgumentError`, or `OutOfMemory` if its message cannot be allocated, exactly if the last offset is past
+    /// the values, or else if a slot is not UTF-8, also under a null or where it begins inside a character, or else if
+    /// the validity has another length than there are slots, or else if the physical type of `data_type` is not `Utf8`,
+    /// or `LargeUtf8` where `O` has 64 bits. Of parts that fit, `OutOfMemory` alone. The parts are then dropped.
     pub fn try_new(
         data_type: DataType,
         offsets: OffsetsBuffer<O>,
@@ -114,9 +114,10 @@ impl<O: Offset> Utf8Array<O> {
         })
     }
 
-    /// Returns the array of the bytes between the offsets, each null where the validity is false. Without a validity
-    /// none is null. Requires that the physical type of `data_type` is `Utf8`, or `LargeUtf8` where `O` has 64 bits,
-    /// that each slot is within the values and UTF-8, and that the validity has a bit for each slot. Does not allocate.
+    /// Returns the array of its parts: slot i is the text from offset i to offset i + 1, and null where bit i of the
+    /// validity is unset. Without a validity no slot is null. Requires that the physical type of `data_type` is `Utf8`,
+    /// or `LargeUtf8` where `O` has 64 bits, that each slot is within the values and UTF-8, and that the validity has a
+    /// bit for each slot. Does not allocate.
     pub fn new(
         data_type: Rc<DataType>,
         offsets: OffsetsBuffer<O>,
@@ -323,7 +324,7 @@ impl<O: Offset> Utf8Array<O> {
         ensures storage { self.new ≡ sliced_binary self.old offset len }
     {
         self.slots.slice(offset, len);
-        // The bytes are read for what the type keeps: the last offset is not past them.
+        // For the proof alone: reading the bytes brings the type's invariant, that the last offset is not past them.
         let _ = self.slots.values();
     }
 
@@ -349,7 +350,8 @@ impl<O: Offset> Utf8Array<O> {
         Utf8Array::new(data_type, offsets, values, validity)
     }
 
-    /// Returns the byte strings of the same slots, over the same storage, of their own logical type.
+    /// Returns a `BinaryArray` of the same slots over the same storage. Its logical type is `Binary`, or `LargeBinary`
+    /// where `O` has 64 bits.
     ///
     /// # Errors
     ///
@@ -362,8 +364,8 @@ impl<O: Offset> Utf8Array<O> {
         to_byte_strings(self.slots.clone()?)
     }
 
-    /// Returns the byte strings of the same slots, over the same storage, of their own logical type. arrow2 has
-    /// [`Utf8Array::to_binary`] alone.
+    /// Returns a `BinaryArray` of the same slots over the same storage. Its logical type is `Binary`, or `LargeBinary`
+    /// where `O` has 64 bits. arrow2 has [`Utf8Array::to_binary`] alone.
     ///
     /// # Errors
     ///
@@ -385,9 +387,12 @@ impl<O: Offset> Utf8Array<O> {
     ///
     /// # Errors
     ///
-    /// `OutOfMemory` alone. The array is then dropped. In the code it comes only if the offsets have no other owner and
-    /// are not sliced, and there is no bitmap, the bytes are shared or sliced, or the bitmap is shared or begins at a
-    /// bit other than 0. No clause states that.
+    /// `OutOfMemory` alone. The array is then dropped. No clause states when it comes. In the code it comes only if the
+    /// offsets have no other owner and are not sliced, and one of these holds:
+    ///
+    /// - there is no bitmap;
+    /// - the bytes are shared or sliced;
+    /// - the bitmap is shared, or begins at a bit other than 0.
     pub fn into_mut(self) -> Result<Either<Utf8Array<O>, MutableUtf8Array<O>>>
         ensures ok { IfOk result (λ r. MatchEither r (λ a. a ≡ self)
             (λ m. (m.items ≡ binary_items self) × (m.data_type ≡ self.data_type))) }
@@ -412,8 +417,8 @@ impl<O: Offset> Utf8Array<O> {
     }
 }
 
-/// Shares the logical type, the offsets, the bytes and the validity. Does not allocate: it is refused only where a
-/// count of owners is full.
+/// Shares the logical type, the offsets, the bytes and the validity. Does not allocate: it returns `AllocError` only if
+/// the count of an `Rc` would overflow.
 impl<O: Offset> Clone for Utf8Array<O> {
     ghost is_clone = { λ a copy. copy ≡ a };
 
@@ -424,7 +429,7 @@ impl<O: Offset> Clone for Utf8Array<O> {
     }
 }
 
-/// Returns the byte strings of these slots, of their own logical type.
+/// Returns a `BinaryArray` of these slots, whose logical type is `Binary` or `LargeBinary`.
 fn to_byte_strings<O: Offset>(slots: Slots<O>) -> Result<BinaryArray<O>>
     ensures ok { IfOk result (λ a. a ≡ record slots { data_type = default_binary O.IS_LARGE }) }
     ensures only { IfErr result (λ e. e ≡ Error.OutOfMemory) }
