@@ -268,7 +268,7 @@ impl<O: Offset> MutableBinaryArray<O> {
             (sum (part (lengths_of (buffer_items array.now.offsets)) start len)) }
     {
         let slots = array.slots();
-        // For the proof alone: reading the length brings the type's invariant, that the validity has an item for each slot.
+        // For the proof alone: reading the length brings the invariant that the validity has an item for each slot.
         let _ = slots.len();
         self.slots.extend(slots, start, len)
     }

@@ -281,7 +281,7 @@ impl<O: Offset> MutableUtf8Array<O> {
             (sum (part (lengths_of (buffer_items array.now.offsets)) start len)) }
     {
         let slots = array.slots();
-        // For the proof alone: reading the length brings the type's invariant, that the validity has an item for each slot.
+        // For the proof alone: reading the length brings the invariant that the validity has an item for each slot.
         let _ = slots.len();
         self.slots.extend(slots, start, len)
     }
@@ -299,7 +299,7 @@ impl<O: Offset> MutableUtf8Array<O> {
         ensures only { IfErr result (λ e. e ≡ Error.OutOfMemory) }
     {
         let slots = self.slots.freeze()?;
-        // For the proof alone: reading the bytes brings the type's invariant, that the last offset is not past them.
+        // For the proof alone: reading the bytes brings the invariant that the last offset is not past them.
         let _ = slots.values();
         Ok(Utf8Array::of_slots(slots))
     }

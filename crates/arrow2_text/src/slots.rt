@@ -140,7 +140,7 @@ impl<O: Offset> Slots<O> {
         ensures item { IsTrue (is_some (slice_index_or (binary_items self.now) index None)) →
             slice_index_or (binary_items self.now) index None ≡ Some result.now }
     {
-        // For the proof alone: reading the validity brings the type's invariant, that it has an item for each slot.
+        // For the proof alone: reading the validity brings the invariant that it has an item for each slot.
         let _ = &self.validity;
         self.bytes_at(index)
     }
@@ -297,7 +297,7 @@ fn thawed<O: Offset>(
     ensures only { IfErr result (λ e. e ≡ Error.OutOfMemory) }
 {
     let alloc = values.allocator();
-    // For the proof alone: reading the length brings the type's invariant, that the bytes are inside the storage.
+    // For the proof alone: reading the length brings the invariant that the bytes are inside the storage.
     let _ = values.len();
     let values = match values.into_mut() {
         Either::Left(values) => {

@@ -324,7 +324,7 @@ impl<O: Offset> Utf8Array<O> {
         ensures storage { self.new ≡ sliced_binary self.old offset len }
     {
         self.slots.slice(offset, len);
-        // For the proof alone: reading the bytes brings the type's invariant, that the last offset is not past them.
+        // For the proof alone: reading the bytes brings the invariant that the last offset is not past them.
         let _ = self.slots.values();
     }
 
