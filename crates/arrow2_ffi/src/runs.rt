@@ -27,6 +27,8 @@ pub extern "C" fn arrow2_runs(
     lengths: &mut [usize],
     count: &mut usize,
 ) -> u32
+    // The first `count` of `starts` and `lengths`, then the runs from `at.new` on, are the runs from `at.old` on; where
+    // the slices are not full, `at.new` is `length`.
     ensures { Writes result (IsInside bytes.now offset length × (at.old ≤ length))
         (length' starts.old ≡ length' lengths.old)
         (WritesRuns (part (bits bytes.now) offset length) count.new starts.old starts.new lengths.new

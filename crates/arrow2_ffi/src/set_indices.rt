@@ -28,6 +28,8 @@ pub extern "C" fn arrow2_set_indices(
     indices: &mut [usize],
     count: &mut usize,
 ) -> u32
+    // The first `count` of `indices`, then those from `at.new` on, are the indices of set bits from `at.old` on; where
+    // `indices` is not full, `at.new` is `length`.
     ensures { WritesWhere ARROW2_RANGE result (IsInside bytes.now offset length × (at.old ≤ length))
         (WritesSetIndices (part (bits bytes.now) offset length) count.new indices.old indices.new
         at.old at.new length)
