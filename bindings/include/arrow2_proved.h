@@ -2,19 +2,23 @@
  * written in Rattle, a language whose programs are proved. The contract of each call is proved (docs/BINDINGS.md, which
  * the package has too); this header is written by hand.
  *
- * Rules for every call:
+ * Rules for every call. It tests its numbers and returns a code; only the four `_unchecked` calls do not test their
+ * offsets. Breaking a rule about pointers, alignment, overlap, bools or threads is undefined behaviour.
  * - A slice is a pointer followed by its number of items. NULL with the number 0 is safe. With any other number the
  *   pointer must lead to that many items, and be aligned for their type.
  * - A pointer to a single value (`zeros`, `equal`, `value`, `at`, `count`, `index`, `slot`) must not be NULL.
  * - NULL never means that a validity is missing. Where one may be missing, the call has an argument that states it:
- *   `all_valid`, `left_all_valid`, `right_all_valid`.
+ *   `all_valid`, `left_all_valid`, `right_all_valid`. Without a validity bitmap pass NULL, 0, 0, true for pointer,
+ *   count, offset and this argument. Every other call needs the bitmap.
  * - An output must not overlap any other argument, input or output. Inputs may overlap each other.
- * - While a call runs, others may read the memory that it reads, and nobody may write it. The memory that it writes
- *   nobody else may read or write.
+ * - A `bool`, also one of a slice, is 0 or 1.
+ * - Other threads may read the memory that a call reads. Until the call returns, no other thread may write that memory,
+ *   and none may read or write the memory that the call writes.
  * - Bit i of bytes is bit i % 8 of byte i / 8, the lowest first. Offsets and lengths of bits are in bits, and may be
  *   any numbers. Those of other slices are in items.
- * - The `length` bits from bit `offset` on are inside `bytes` if offset + length <= 8 * bytes_count. The sum is
- *   computed without overflow, and this holds for length 0 too. Bit `index` is inside if index < 8 * bytes_count.
+ * - The `length` bits from bit `offset` on are inside `bytes` if offset + length <= 8 * bytes_count. This is computed
+ *   as if in unlimited integers, so a huge offset gives ARROW2_RANGE and never wraps. It is tested for length 0 too:
+ *   offset 5, length 0 in 0 bytes is ARROW2_RANGE. Bit `index` is inside if index < 8 * bytes_count.
  * - An output of bits is exactly (length + 7) / 8 bytes. The bits are written from bit 0 on, and padding bits become 0.
  *   The same holds in place, for `bytes` of the *_assign_table calls.
  * - The result is one of the codes below. On any error nothing is written, except `*index` or `*slot` of a check, with
@@ -44,8 +48,8 @@ extern "C" {
 /* An index or a range is not inside, or a truth-table number is too large: above 3, 15 or 255 for one, two or three
  * inputs. */
 #define ARROW2_RANGE 1u
-/* An output slice is not exactly the required size (bits: (length + 7) / 8), two paired slices differ, or `out` of a
- * rebase call has no item. */
+/* An output slice is not exactly the required size (bits: (length + 7) / 8), `starts_count` differs from
+ * `lengths_count`, the two slices of a widen or narrow call differ in length, or `out` of a rebase call has no item. */
 #define ARROW2_LENGTH 2u
 /* A number is above the greatest offset: 2147483647 of 32 bits, 9223372036854775807 of 64 bits. */
 #define ARROW2_OVERFLOW 3u
@@ -246,7 +250,8 @@ uint32_t arrow2_offsets64_from_lengths(size_t start, const size_t *lengths, size
                                        size_t out_count);
 
 /* Writes out[i] = offsets[from + i] - offsets[from] for each item of `out`.
- * ARROW2_LENGTH: `out_count` is 0. Else ARROW2_RANGE: from + out_count > offsets_count, without overflow. */
+ * ARROW2_LENGTH: `out_count` is 0. Else ARROW2_RANGE: from + out_count > offsets_count, computed as if in unlimited
+ * integers. */
 uint32_t arrow2_offsets32_rebase(const int32_t *offsets, size_t offsets_count, size_t from, int32_t *out,
                                  size_t out_count);
 uint32_t arrow2_offsets64_rebase(const int64_t *offsets, size_t offsets_count, size_t from, int64_t *out,
@@ -273,13 +278,14 @@ uint32_t arrow2_offsets_narrow(const int64_t *offsets, size_t offsets_count, int
 
 /* Whether the `length` bits from bit `offset` on are inside `bytes`, and exactly `null_count` of them are 0; with -1
  * the count is not checked. It does not accept a missing validity: NULL, 0 bytes and a length above 0 are ARROW2_RANGE.
+ * Where there is no validity bitmap make no call: `null_count` is right if it is 0 or -1.
  * ARROW2_RANGE: they are not inside. ARROW2_NULLS: `null_count` is neither -1 nor the number of bits that are 0. */
 uint32_t arrow2_validity_check(const uint8_t *bytes, size_t bytes_count, size_t offset, size_t length,
                                int64_t null_count);
 
 /* `bytes` is a number of bytes. The first returns ARROW2_OK if offset + length <= 8 * bytes, the second if
- * (offset + length) * width <= bytes; else ARROW2_RANGE. All is computed without overflow. Values of width 0 always
- * fit. */
+ * (offset + length) * width <= bytes; else ARROW2_RANGE. All is computed as if in unlimited integers, and tested for
+ * length 0 too. Values of width 0 always fit. */
 uint32_t arrow2_bits_check(size_t bytes, size_t offset, size_t length);
 uint32_t arrow2_values_check(size_t bytes, size_t width, size_t offset, size_t length);
 

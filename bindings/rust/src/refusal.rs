@@ -9,8 +9,8 @@ pub enum Refusal {
     /// An index or a range is not inside, or a truth-table number is too large: above 3, 15 or 255 for one, two or
     /// three inputs.
     Range,
-    /// An output slice is not exactly the required size (of bits [`crate::bytes_for`] bytes), two paired slices
-    /// differ, or the output of a rebase call is empty.
+    /// An output slice is not exactly the required size (of bits [`crate::bytes_for`] bytes), the two slices of runs or
+    /// of a widen or narrow call differ in length, or the output of a rebase call is empty.
     Length,
     /// A number is above the greatest offset: `i32::MAX` or `i64::MAX`.
     Overflow,
