@@ -27,9 +27,10 @@ static uint32_t valid_in_both(const struct ArrowArray *batch, uint8_t *both) {
 
 /* Writes Kleene's AND of the first two columns, which are booleans. Both outputs are as long as `both` above. */
 static uint32_t and_of_columns(const struct ArrowArray *batch, uint8_t *values, uint8_t *validity) {
+    size_t rows = (size_t)batch->length, count = arrow2_bytes_for(rows);
     struct arrow2_bits left = arrow2_bits_of_column(batch, 0, 1), left_validity = arrow2_bits_of_column(batch, 0, 0);
     struct arrow2_bits right = arrow2_bits_of_column(batch, 1, 1), right_validity = arrow2_bits_of_column(batch, 1, 0);
-    return arrow2_bits_and_kleene(left, left_validity, right, right_validity, (size_t)batch->length, values, validity);
+    return arrow2_bits_and_kleene(left, left_validity, right, right_validity, rows, values, count, validity, count);
 }
 
 /* Checks texts in a file's buffers. */

@@ -184,17 +184,21 @@ static void forms_with_counts(void) {
     EXPECT(ARROW2_RANGE, arrow2_bits_or(some, false_count, 9, out, 2));
     EXPECT(ARROW2_RANGE, arrow2_bits_xor(false_count, some, 9, out, 2));
     EXPECT(ARROW2_RANGE, arrow2_bits_not(false_count, 9, out, 2));
-    EXPECT(ARROW2_RANGE, arrow2_bits_and_kleene(false_count, none, some, some, 9, out, other));
-    EXPECT(ARROW2_RANGE, arrow2_bits_or_kleene(some, some, false_count, none, 9, out, other));
+    EXPECT(ARROW2_RANGE, arrow2_bits_and_kleene(false_count, none, some, some, 9, out, 2, other, 2));
+    EXPECT(ARROW2_RANGE, arrow2_bits_or_kleene(some, some, false_count, none, 9, out, 2, other, 2));
     EXPECT(ARROW2_LENGTH, arrow2_bits_and(some, some, 9, NULL, 2));
     EXPECT(ARROW2_LENGTH, arrow2_bits_or(some, some, 9, NULL, 2));
     EXPECT(ARROW2_LENGTH, arrow2_bits_xor(some, some, 9, NULL, 2));
     EXPECT(ARROW2_LENGTH, arrow2_bits_not(some, 9, NULL, 2));
-    EXPECT(ARROW2_LENGTH, arrow2_bits_and_kleene(some, some, some, none, 9, NULL, other));
-    EXPECT(ARROW2_LENGTH, arrow2_bits_or_kleene(some, some, some, some, 9, out, NULL));
+    EXPECT(ARROW2_LENGTH, arrow2_bits_and_kleene(some, some, some, none, 9, NULL, 2, other, 2));
+    EXPECT(ARROW2_LENGTH, arrow2_bits_or_kleene(some, some, some, some, 9, out, 2, NULL, 2));
+    EXPECT(ARROW2_LENGTH, arrow2_bits_and_kleene(some, some, some, some, 9, out, 1, other, 2));
+    EXPECT(ARROW2_LENGTH, arrow2_bits_and_kleene(some, none, some, none, 8, out, 1, other, 2));
+    EXPECT(ARROW2_LENGTH, arrow2_bits_or_kleene(some, none, some, some, 9, out, 2, other, 1));
+    EXPECT(ARROW2_LENGTH, arrow2_bits_or_kleene(some, some, some, some, 8, out, 2, other, 1));
     EXPECT_BYTES(0xaa, 0xaa, ARROW2_OK);
     expect("what they wrote", equal && other[0] == 0xaa && other[1] == 0xaa ? ARROW2_OK : ARROW2_RANGE, ARROW2_OK);
-    EXPECT(ARROW2_OK, arrow2_bits_and_kleene(some, false_count, some, false_count, 9, out, other));
+    EXPECT(ARROW2_OK, arrow2_bits_and_kleene(some, false_count, some, false_count, 9, out, 2, other, 2));
 }
 
 static void release_schema(struct ArrowSchema *schema) { schema->release = NULL; }
@@ -228,8 +232,8 @@ static void buffers(void) {
     expect("the values", right ? ARROW2_OK : ARROW2_RANGE, ARROW2_OK);
     EXPECT(ARROW2_OK, arrow2_array_check(&schema, &empty, NULL));
     EXPECT(ARROW2_OK, arrow2_bits_and_kleene(arrow2_bits_of(&empty, 1), arrow2_bits_of(&empty, 0),
-                                             arrow2_bits_of(&empty, 1), arrow2_bits_of(&empty, 0), 0, values,
-                                             validity));
+                                             arrow2_bits_of(&empty, 1), arrow2_bits_of(&empty, 0), 0, values, 0,
+                                             validity, 0));
 }
 
 /* Whether bits begin at this bit of these bytes. */
@@ -271,13 +275,13 @@ static void kleene_forms(void) {
     struct arrow2_bits none = {NULL, 0, 0}, left = {lefts, 2, 1}, left_validity = {lefts, 2, 2};
     struct arrow2_bits right = {rights, 2, 3}, right_validity = {of_rights, 2, 4};
     uint8_t values[2], out[2];
-    EXPECT_BYTES(0x5f, 0x00, arrow2_bits_and_kleene(left, left_validity, right, right_validity, 9, values, out));
-    EXPECT_BYTES(0xbb, 0x00, arrow2_bits_or_kleene(left, left_validity, right, right_validity, 9, values, out));
-    EXPECT_BYTES(0xdf, 0x00, arrow2_bits_and_kleene(left, left_validity, right, none, 9, values, out));
-    EXPECT_BYTES(0xbf, 0x01, arrow2_bits_or_kleene(left, none, right, right_validity, 9, values, out));
-    EXPECT_BYTES(0xff, 0x01, arrow2_bits_and_kleene(left, none, right, none, 9, values, out));
-    EXPECT(ARROW2_OK, arrow2_bits_and_kleene(none, none, none, none, 0, NULL, NULL));
-    EXPECT(ARROW2_OK, arrow2_bits_or_kleene(none, none, none, none, 0, NULL, NULL));
+    EXPECT_BYTES(0x5f, 0x00, arrow2_bits_and_kleene(left, left_validity, right, right_validity, 9, values, 2, out, 2));
+    EXPECT_BYTES(0xbb, 0x00, arrow2_bits_or_kleene(left, left_validity, right, right_validity, 9, values, 2, out, 2));
+    EXPECT_BYTES(0xdf, 0x00, arrow2_bits_and_kleene(left, left_validity, right, none, 9, values, 2, out, 2));
+    EXPECT_BYTES(0xbf, 0x01, arrow2_bits_or_kleene(left, none, right, right_validity, 9, values, 2, out, 2));
+    EXPECT_BYTES(0xff, 0x01, arrow2_bits_and_kleene(left, none, right, none, 9, values, 2, out, 2));
+    EXPECT(ARROW2_OK, arrow2_bits_and_kleene(none, none, none, none, 0, NULL, 0, NULL, 5));
+    EXPECT(ARROW2_OK, arrow2_bits_or_kleene(none, none, none, none, 0, NULL, 0, NULL, 0));
 }
 
 int main(void) {

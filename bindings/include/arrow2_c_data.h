@@ -76,8 +76,8 @@ struct ArrowArrayStream {
  *
  * Rules, next to those of arrow2_proved.h:
  * - A function that returns a code makes at most one call of the library, and returns the code of that call.
- * - A pointer to bytes that is NULL has 0 bytes, whatever `bytes_len` or `out_count` is. Where bytes are needed, the
- *   result is ARROW2_RANGE for an input, and ARROW2_LENGTH for an output.
+ * - A pointer to bytes that is NULL has 0 bytes, whatever `bytes_len`, `out_count`, `values_count` or `validity_count`
+ *   is. Where bytes are needed, the result is ARROW2_RANGE for an input, and ARROW2_LENGTH for an output.
  * - The exception is a validity: there NULL means that there is no validity bitmap, so no item is null. The functions
  *   that accept this are arrow2_bits_null_count, arrow2_bits_and_validity, and for their validity arguments
  *   arrow2_bits_and_kleene and arrow2_bits_or_kleene.
@@ -172,31 +172,33 @@ static inline uint32_t arrow2_bits_and_validity(struct arrow2_bits left, struct 
 }
 
 /* Kleene's AND of two boolean columns: arrow2_and_kleene_optional. Either column may have no validity bitmap. `values`
- * and `validity` get the result. Each has arrow2_bytes_for(length) bytes. Both are always written, also where neither
- * column has a validity, so neither may be NULL unless `length` is 0. */
+ * and `validity` get the result. Each has arrow2_bytes_for(length) bytes, which are `values_count` and
+ * `validity_count`. Both are always written, also where neither column has a validity, so neither may be NULL unless
+ * `length` is 0.
+ * ARROW2_RANGE: bits that are there are not inside. Else ARROW2_LENGTH: `values` or `validity` has another length. */
 static inline uint32_t arrow2_bits_and_kleene(struct arrow2_bits left, struct arrow2_bits left_validity,
                                               struct arrow2_bits right, struct arrow2_bits right_validity,
-                                              size_t length, uint8_t *values, uint8_t *validity) {
-    size_t count = arrow2_bytes_for(length);
+                                              size_t length, uint8_t *values, size_t values_count, uint8_t *validity,
+                                              size_t validity_count) {
     return arrow2_and_kleene_optional(
         left.bytes, arrow2_c_count(left.bytes, left.bytes_len), left.offset, left_validity.bytes,
         arrow2_c_count(left_validity.bytes, left_validity.bytes_len), left_validity.offset, !left_validity.bytes,
         right.bytes, arrow2_c_count(right.bytes, right.bytes_len), right.offset, right_validity.bytes,
         arrow2_c_count(right_validity.bytes, right_validity.bytes_len), right_validity.offset, !right_validity.bytes,
-        length, values, arrow2_c_count(values, count), validity, arrow2_c_count(validity, count));
+        length, values, arrow2_c_count(values, values_count), validity, arrow2_c_count(validity, validity_count));
 }
 
 /* Kleene's OR of two boolean columns: arrow2_or_kleene_optional. Arguments as of arrow2_bits_and_kleene. */
 static inline uint32_t arrow2_bits_or_kleene(struct arrow2_bits left, struct arrow2_bits left_validity,
                                              struct arrow2_bits right, struct arrow2_bits right_validity, size_t length,
-                                             uint8_t *values, uint8_t *validity) {
-    size_t count = arrow2_bytes_for(length);
+                                             uint8_t *values, size_t values_count, uint8_t *validity,
+                                             size_t validity_count) {
     return arrow2_or_kleene_optional(
         left.bytes, arrow2_c_count(left.bytes, left.bytes_len), left.offset, left_validity.bytes,
         arrow2_c_count(left_validity.bytes, left_validity.bytes_len), left_validity.offset, !left_validity.bytes,
         right.bytes, arrow2_c_count(right.bytes, right.bytes_len), right.offset, right_validity.bytes,
         arrow2_c_count(right_validity.bytes, right_validity.bytes_len), right_validity.offset, !right_validity.bytes,
-        length, values, arrow2_c_count(values, count), validity, arrow2_c_count(validity, count));
+        length, values, arrow2_c_count(values, values_count), validity, arrow2_c_count(validity, validity_count));
 }
 
 /* The bits of buffer `index` of an array that was checked, from the array's own offset on. Buffer 0 is the validity,
