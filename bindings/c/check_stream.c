@@ -74,7 +74,9 @@ static int check_stream(struct ArrowArrayStream *stream) {
         wrong += !print_batch(&schema, &batch);
         batch.release(&batch); /* also after a refusal */
     }
-    schema.release(&schema);
+    if (schema.release) {
+        schema.release(&schema);
+    }
     return wrong;
 }
 

@@ -203,8 +203,9 @@ static inline uint32_t arrow2_bits_or_kleene(struct arrow2_bits left, struct arr
 
 /* The bits of buffer `index` of an array that was checked, from the array's own offset on. Buffer 0 is the validity,
  * except in a union, where it is the types. Buffer 1 of a boolean array is its values. A null array has no buffer, and
- * each of its items is null. If `index` is negative or not below `n_buffers`, or the buffer is NULL, the result has
- * `bytes` NULL, `bytes_len` 0 and `offset` 0.
+ * each of its items is null. So test the format before you take a validity, as `columns.c` of the examples does. If
+ * `index` is negative or not below `n_buffers`, or the buffer is NULL, the result has `bytes` NULL, `bytes_len` 0 and
+ * `offset` 0.
  *
  * Only the array's own offset is applied. For a column of a batch call arrow2_bits_of_column. */
 static inline struct arrow2_bits arrow2_bits_of(const struct ArrowArray *array, int index) {
@@ -932,8 +933,9 @@ static inline uint32_t arrow2_c_check_root(const struct ArrowSchema *schema, con
  * The codes are those above, and of arrow2_proved.h ARROW2_RANGE (a buffer is too short), ARROW2_NULLS,
  * ARROW2_SPEC_NEGATIVE, ARROW2_SPEC_FALLING, ARROW2_PAST, ARROW2_UTF8 and ARROW2_INDEX.
  *
- * Schema and array stay the caller's, whatever the code is: nothing in them is changed, kept or released. Call their
- * `release` as without a check, also after a refusal.
+ * Schema and array stay the caller's, whatever the code is: nothing in them is changed, kept or released. The caller
+ * releases both, also after a refusal: `if (array.release) array.release(&array);`, since with ARROW2_C_RELEASED one
+ * `release` is NULL.
  *
  * With ARROW2_OK offsets and indices that are read are aligned. Plain values may not be: read an int64 column through
  * `int64_t *` only where its pointer is a multiple of 8, else by memcpy.
