@@ -390,6 +390,9 @@ static void hostile_empties(void) {
         made->sizes[1] = 0;
         expect("no item, and indices that are not read", made, ARROW2_OK, "", -1);
     }
+    struct tree *behind = add(add(tree("i", 0, 5, 0), NULL, 0), NULL, 0);
+    expect_sized("no item behind five, and no buffer", behind, ARROW2_RANGE, "", -1);
+    expect_at("no item behind five, and no buffer", "without sizes", behind, NULL, 0, ARROW2_OK, "", -1);
     struct tree *either = adopt(add(add(tree("+ud:0", 0, 0, 0), "", 0), "", 0), items(1));
     either->buffers[0] = either->buffers[1] = odd;
     expect("no item, and a union that is not read", either, ARROW2_OK, "", -1);
@@ -469,6 +472,9 @@ static void hostile_children(void) {
     const int32_t none[] = {0, 0};
     struct tree *map = adopt(add(add(tree("+m", 1, 0, 0), NULL, 0), none, sizeof none), items(3));
     expect("a map of no entries", map, ARROW2_C_CHILDREN, "", -1);
+    struct tree *bytes = items(3);
+    bytes->array.length = ((int64_t)1 << 56) + 1;
+    expect("2^56 bytes and one", bytes, ARROW2_RANGE, "", -1);
     struct tree *more = adopt(add(tree("+s", 3, 0, 0), NULL, 0), items(3));
     more->array.n_children = more->schema.n_children = INT64_MAX;
     expect_at("2^63 children", "without sizes", more, NULL, 0, ARROW2_C_TOO_LARGE, "", -1);

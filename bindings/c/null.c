@@ -220,6 +220,7 @@ static void buffers(void) {
     struct arrow2_where where;
     uint8_t values[1], validity[1];
     EXPECT(ARROW2_OK, arrow2_array_check(&schema, &nulls, NULL));
+    EXPECT(ARROW2_OK, arrow2_array_check_sized(&schema, &nulls, NULL, 5, NULL));
     expect_none("a null array", arrow2_bits_of(&nulls, 0));
     schema.format = "b";
     EXPECT(ARROW2_OK, arrow2_array_check(&schema, &three, NULL));

@@ -253,11 +253,11 @@ static inline struct arrow2_bits arrow2_bits_of_column(const struct ArrowArray *
 #define ARROW2_C_CHILDREN 37u
 /* A child has fewer items than its parent needs. */
 #define ARROW2_C_SHORT_CHILD 38u
-/* Only one of schema and array has a dictionary, or the format of the indices is not that of a whole number. */
+/* Only one of schema and array has a dictionary, or the format of the indices is not that of an integer. */
 #define ARROW2_C_DICTIONARY 39u
 /* A slot of a union has a type that the format does not name. */
 #define ARROW2_C_TYPE 40u
-/* A slot of a dense union points outside its child, or before an earlier slot's item. */
+/* A slot of a dense union points outside its child, or before the item of an earlier slot of the same type. */
 #define ARROW2_C_UNION_OFFSET 41u
 /* The tree is deeper than ARROW2_C_MAX_DEPTH, or has more arrays than ARROW2_C_MAX_ARRAYS. */
 #define ARROW2_C_TOO_LARGE 42u
@@ -315,7 +315,7 @@ struct arrow2_c_layout {
 
 struct arrow2_c_tree {
     struct arrow2_where *where;
-    const size_t *sizes; /* or null, where no size is known */
+    const size_t *sizes; /* NULL for arrow2_array_check alone, where no size is known */
     size_t sizes_count;
     size_t next_size;
     size_t arrays;
@@ -751,7 +751,7 @@ static inline void arrow2_c_read_types(const char *at, int64_t child_of[128]) {
 }
 
 /* Whether each slot of a union has a type of the format, and with offsets points into its child, at no item before that
- * of an earlier slot. */
+ * of an earlier slot of the same type. */
 static inline uint32_t arrow2_c_check_union(struct arrow2_c_buffer types, const struct arrow2_c_buffer *offsets,
                                             const char *named, const struct ArrowArray *array, int64_t *slot) {
     int64_t child_of[128];
@@ -941,7 +941,8 @@ static inline uint32_t arrow2_c_check_root(const struct ArrowSchema *schema, con
  * `int64_t *` only where its pointer is a multiple of 8, else by memcpy.
  *
  * If the code is not ARROW2_OK and `where` is not NULL, `*where` is written; else it stays as it was. Each buffer is
- * read to the length that format, length, offset and last offset require. */
+ * read to the length that format, length, offset and last offset require. It is taken to have 2^56 bytes: what would
+ * need more is refused, with ARROW2_PAST for an offset into binary or utf8 bytes, else with ARROW2_RANGE. */
 static inline uint32_t arrow2_array_check(const struct ArrowSchema *schema, const struct ArrowArray *array,
                                           struct arrow2_where *where) {
     return arrow2_c_check_root(schema, array, NULL, 0, where);
@@ -949,7 +950,17 @@ static inline uint32_t arrow2_array_check(const struct ArrowSchema *schema, cons
 
 /* The same with the number of bytes of each buffer of the tree, outside of which nothing is read. The order of the
  * sizes is depth first: those of an array's buffers, then those of its children in order, then those of its dictionary.
- * A buffer that is NULL takes a size too. If `sizes` is NULL there are no sizes, whatever `sizes_count` is.
+ * A buffer that is NULL takes a size too, as a rule 0.
+ *
+ * - Values, and types and offsets of a union, need the bytes of offset + length items, also where `length` is 0 and
+ *   where the buffer is NULL. An int32 array of length 0 and offset 5 needs 20 bytes of values: with NULL and the size
+ *   0 the code is ARROW2_RANGE, where arrow2_array_check returns ARROW2_OK.
+ * - A validity needs the bytes of offset + length bits. If it is NULL its size is not used.
+ * - Offsets of binary, utf8, lists and maps need the bytes of offset + length + 1 offsets, and the bytes of binary and
+ *   utf8 those up to the last offset. If `length` is 0 neither size is used.
+ *
+ * NULL `sizes` is an empty list, whatever `sizes_count` is: any tree that has a buffer is refused, with ARROW2_C_SIZES
+ * unless an earlier rule is broken. To check without sizes call arrow2_array_check.
  * ARROW2_C_SIZES: there are more or fewer sizes than buffers. */
 static inline uint32_t arrow2_array_check_sized(const struct ArrowSchema *schema, const struct ArrowArray *array,
                                                 const size_t *sizes, size_t sizes_count, struct arrow2_where *where) {
@@ -968,7 +979,7 @@ static inline const char *arrow2_code_text(uint32_t code) {
         "a pointer is null", "it was released", "a number is negative", "the format is not known",
         "another number of buffers", "another number of children", "a child is too short",
         "the dictionary does not fit", "a union has a type that its format does not name",
-        "a union points outside its child", "the tree is too large", "numbers are not aligned",
+        "an offset of a union is outside its child, or falls", "the tree is too large", "numbers are not aligned",
         "another number of sizes"};
     if (code < sizeof of_library / sizeof of_library[0]) {
         return of_library[code];

@@ -39,11 +39,11 @@ pub enum Broken {
     Children,
     /// A child has fewer items than its parent needs.
     ShortChild,
-    /// Only one of schema and array has a dictionary, or the format of the indices is not that of a whole number.
+    /// Only one of schema and array has a dictionary, or the format of the indices is not that of an integer.
     Dictionary,
     /// A slot of a union has a type that the format does not name.
     Type,
-    /// A slot of a dense union points outside its child, or before an earlier slot's item.
+    /// A slot of a dense union points outside its child, or before the item of an earlier slot of the same type.
     UnionOffset,
     /// The tree is deeper than [`MAX_DEPTH`], or has more arrays than [`MAX_ARRAYS`].
     TooLarge,
@@ -175,8 +175,12 @@ fn of_slot(refused: RefusalAt) -> Fault {
 }
 
 /// Whether an array is one of a schema, by the sizes in bytes of the tree's buffers: those of an array, then those of
-/// its children in order, then those of its dictionary. Without sizes, the buffers are read to the length that format,
-/// length, offset and last offset require.
+/// its children in order, then those of its dictionary. A buffer that is null takes a size too. `Some` of no size is an
+/// empty list: any tree that has a buffer is refused, with [`Broken::Sizes`] unless an earlier rule is broken.
+///
+/// With `None` the buffers are read to the length that format, length, offset and last offset require. Each is taken to
+/// have 2^56 bytes: what would need more is refused, with [`Refusal::PastOffset`] for an offset into binary or utf8
+/// bytes, else with [`Refusal::Range`].
 ///
 /// It is stricter than Arrow: the bytes of a null slot of a text must be UTF-8 too, and offsets and indices that are
 /// read must be aligned. `docs/BINDINGS.md` has the order of the rules, and what is not tested.
@@ -547,7 +551,7 @@ impl Tree<'_> {
     }
 
     /// Whether each slot of a union has a type of the format and, if it is dense, points into its child, at no item
-    /// before that of an earlier slot.
+    /// before that of an earlier slot of the same type.
     unsafe fn check_union(&self, node: Node, layout: &Layout<'_>) -> Result<(), Fault> {
         // SAFETY: the caller's.
         unsafe {
