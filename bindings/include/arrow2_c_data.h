@@ -78,9 +78,10 @@ struct ArrowArrayStream {
  * - A function that returns a code makes at most one call of the library, and returns the code of that call.
  * - A pointer to bytes that is NULL has 0 bytes, whatever `bytes_len`, `out_count`, `values_count` or `validity_count`
  *   is. Where bytes are needed, the result is ARROW2_RANGE for an input, and ARROW2_LENGTH for an output.
- * - The exception is a validity: there NULL means that there is no validity bitmap, so no item is null. The functions
- *   that accept this are arrow2_bits_null_count, arrow2_bits_and_validity, and for their validity arguments
- *   arrow2_bits_and_kleene and arrow2_bits_or_kleene.
+ * - The exception is a validity: there NULL means that there is no validity bitmap, so no item is null. It is
+ *   `(struct arrow2_bits){NULL, 0, 0}`, in C++ `arrow2_bits{nullptr, 0, 0}`. The functions that accept this are
+ *   arrow2_bits_null_count, arrow2_bits_and_validity, and for their validity arguments arrow2_bits_and_kleene and
+ *   arrow2_bits_or_kleene.
  * - `nulls` and `equal` must not be NULL.
  * - An output must not overlap any other argument, input or output. */
 
@@ -93,7 +94,8 @@ struct arrow2_bits {
 /* The number of items of a slice: 0 where its pointer is NULL. */
 static inline size_t arrow2_c_count(const void *pointer, size_t count) { return pointer ? count : 0; }
 
-/* The number of bytes that hold so many bits, (bits + 7) / 8 without overflow: what `out_count` must be. */
+/* The number of bytes that hold so many bits, which `out_count` must be: (bits + 7) / 8, computed as if in unlimited
+ * integers. */
 static inline size_t arrow2_bytes_for(size_t bits) { return bits / 8 + (bits % 8 != 0); }
 
 /* Writes to `*nulls` how many of `length` items are null by a validity: arrow2_count_zeros. Without a validity bitmap

@@ -2,7 +2,7 @@
  * written in Rattle, a language whose programs are proved. The contract of each call is proved (docs/BINDINGS.md, which
  * the package has too); this header is written by hand.
  *
- * Rules for every call. It tests its numbers and returns a code; only the four `_unchecked` calls do not test their
+ * Rules for every call. A call tests its numbers and returns a code; only the four `_unchecked` calls do not test their
  * offsets. Breaking a rule about pointers, alignment, overlap, bools or threads is undefined behaviour.
  * - A slice is a pointer followed by its number of items. NULL with the number 0 is safe. With any other number the
  *   pointer must lead to that many items, and be aligned for their type.
