@@ -566,7 +566,7 @@ static void hostile_roots(void) {
     report("no array", "", check(&some->schema, NULL, NULL, 0, &where) == ARROW2_C_NULL, 0, &where);
     report("no schema", "", check(NULL, &some->array, NULL, 0, &where) == ARROW2_C_NULL, 0, &where);
     report("texts of codes", "",
-           strcmp(arrow2_code_text(ARROW2_INDEX), "an index is past its dictionary") == 0 &&
+           strcmp(arrow2_code_text(ARROW2_INDEX), "an index is outside its dictionary") == 0 &&
                strcmp(arrow2_code_text(ARROW2_C_NULL), "a pointer is null") == 0 &&
                strcmp(arrow2_code_text(ARROW2_C_SIZES), "another number of sizes") == 0 &&
                strcmp(arrow2_code_text(12), arrow2_code_text(45)) == 0,

@@ -976,7 +976,7 @@ static inline const char *arrow2_code_text(uint32_t code) {
         "right", "a range ends outside its buffer, or a table number is too large", "a slice has another length",
         "a number is above the greatest offset", "out of memory", "there is no offset", "the first offset is negative",
         "an offset falls", "the nulls are not as many as declared", "an offset is past its items",
-        "a text is not UTF-8", "an index is past its dictionary"};
+        "a text is not UTF-8", "an index is outside its dictionary"};
     static const char *const of_tree[] = {
         "a pointer is null", "it was released", "a number is negative", "the format is not known",
         "another number of buffers", "another number of children", "a child is too short",

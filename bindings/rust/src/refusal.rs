@@ -63,7 +63,7 @@ impl fmt::Display for Refusal {
             Refusal::Nulls => "the nulls are not as many as declared",
             Refusal::PastOffset => "an offset is past its items",
             Refusal::NotUtf8 => "a text is not UTF-8",
-            Refusal::Index => "an index is past its dictionary",
+            Refusal::Index => "an index is outside its dictionary",
         })
     }
 }

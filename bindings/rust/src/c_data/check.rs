@@ -101,7 +101,7 @@ impl fmt::Display for Broken {
             Broken::ShortChild => "a child is too short",
             Broken::Dictionary => "the dictionary does not fit",
             Broken::Type => "a union has a type that its format does not name",
-            Broken::UnionOffset => "a union points outside its child",
+            Broken::UnionOffset => "an offset of a union is outside its child, or falls",
             Broken::TooLarge => "the tree is too large",
             Broken::Unaligned => "numbers are not aligned",
             Broken::Sizes => "another number of sizes",
