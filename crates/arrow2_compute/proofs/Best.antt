@@ -17,7 +17,7 @@ append-nil [] = refl
 append-nil (x ∷ xs) = ap (λ l. x ∷ l) (append-nil xs)
 
 module _ {X : Type 0} (f : X → X → X) where
-  -- of two lists one behind the other
+  -- of two lists one after the other
   pub best-append : (best : Option X) (xs ys : List X) → best_from f best (xs ++ ys) ≡ best_from f (best_from f best xs) ys
   best-append best [] ys = refl
   best-append best (x ∷ xs) ys = best-append (Some (option_map_or (λ other. f other x) best x)) xs ys

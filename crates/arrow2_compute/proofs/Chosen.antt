@@ -1,4 +1,4 @@
--- Items of one list or of another: of values beside their validity, of bits by truth tables, and one item more.
+-- Items of one list or of another: of values with their validity, of bits by truth tables, and one item more.
 use Rattle.std.proofs.Common.{◌≡◌, ℕ, zero, suc, ◌+◌, ◌<◌, List, [], ◌∷◌, ◌++◌, Bool, true, false, length, take, get_or, replicate, refl, ap, sym, ◌∙◌, arith}
 use Rattle.std.specs.Prelude.{if◌then◌else◌}
 use Rattle.std.proofs.lemmas.List.{get_or-replicate, length-replicate}
@@ -24,7 +24,7 @@ module _ {X : Type 0} where
   at-chosen (m ∷ ms) (x ∷ xs) (y ∷ ys) zero d e f h = refl
   at-chosen (m ∷ ms) (x ∷ xs) (y ∷ ys) (suc k) d e f h = at-chosen ms xs ys k d (omega (arith, e)) (omega (arith, f)) (omega (arith, h))
 
-  -- of values beside their validity
+  -- of values with their validity
   pub chosen-zipped : (ms : List Bool) (xs ys : List X) (vs ws : List Bool) → length vs ≡ length xs → length ws ≡ length ys → zipped (chosen ms xs ys) (chosen ms vs ws) ≡ chosen ms (zipped xs vs) (zipped ys ws)
   chosen-zipped [] xs ys vs ws e f = refl
   chosen-zipped (m ∷ ms) [] ys vs ws e f = refl

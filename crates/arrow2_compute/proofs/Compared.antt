@@ -1,4 +1,4 @@
--- What is said of each value, beside the validity.
+-- What a test returns for each value, with the validity.
 use Rattle.std.proofs.Common.{◌≡◌, List, [], ◌∷◌, Bool, true, false, map, refl, ap}
 use Rattle.std.specs.Prelude.{Some, None, option_map}
 use Rattle.arrow2_walks.specs.Zipped.{zipped}

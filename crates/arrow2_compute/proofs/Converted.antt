@@ -29,7 +29,7 @@ module _ {X Y : Type 0} (R : X → Y → Type 0) where
   pub zip-more : (xs : List X) (ys : List Y) (k : ℕ) (d : X) (y : Y) → k < length xs → AllZip R (take k xs) ys → R (get_or xs k d) y → AllZip R (take (k + 1) xs) (ys ++ y ∷ [])
   zip-more xs ys k d y less h r = rw add-one (zip-next xs ys k d y less h r)
 
--- the item of first ones at a place fits
+-- the item of the first ones at an index fits
 fits-at : {X : Type 0} (value : X → ℤ) (fits : ℤ → Type 0) (items : List (Option X)) (n k : ℕ) → k < n → k < length items
     → All (Fits value fits) (take n items) → Fits value fits (get_or items k None)
 fits-at {X = X} value fits items n k less inside h =

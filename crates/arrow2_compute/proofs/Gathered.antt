@@ -1,4 +1,4 @@
--- Items at places, by their values and their validity apart.
+-- Items at indices, by their values and their validity apart.
 use Rattle.std.proofs.Common.{◌≡◌, ℕ, zero, suc, ◌<◌, List, [], ◌∷◌, Bool, true, false, length, map, get_or, replicate, refl, ap, sym, ◌∙◌, arith, All}
 use Rattle.std.specs.Prelude.{Option, Some, None}
 use Rattle.std.specs.List.{AllZip, range_with_len}
@@ -13,7 +13,7 @@ use Rattle.arrow2_walks.proofs.Zipped.{at-zipped}
 use Rattle.arrow2_compute.specs.Taken.{IsItemAt}
 
 module _ {X : Type 0} where
-  -- what stands at the places and what is valid there are the items there
+  -- what stands at the indices and what is valid there are the items there
   pub taken-zipped : (xs : List X) (vs : List Bool) (places : List ℕ) (ys : List X) → length vs ≡ length xs
       → All (λ place. place < length xs) places → AllZip (IsItemAt xs) places ys
       → zipped ys (map (λ place. get_or vs place false) places) ≡ map (λ place. get_or (zipped xs vs) place None) places
@@ -32,7 +32,7 @@ module _ {X : Type 0} where
   any-default (x ∷ xs) zero d e h = refl
   any-default (x ∷ xs) (suc k) d e h = any-default xs k d e (omega (arith, h))
 
-  -- what is read at places stands there
+  -- what is read at indices stands there
   pub stand-there : (xs : List X) (d : X) (places : List ℕ) → All (λ place. place < length xs) places → AllZip (IsItemAt xs) places (map (λ place. get_or xs place d) places)
   stand-there xs d [] inside = tt
   stand-there xs d (place ∷ places) inside =

@@ -40,6 +40,6 @@ both-there (true ∷ xs) (false ∷ vs) = ap (λ l. false ∷ l) (both-there xs 
 both-there (false ∷ xs) (true ∷ vs) = ap (λ l. false ∷ l) (both-there xs vs)
 both-there (false ∷ xs) (false ∷ vs) = ap (λ l. false ∷ l) (both-there xs vs)
 
--- of values beside a bitmap
+-- of values with a bitmap
 pub masked : (xs vs : List Bool) → length xs ≡ length vs → each 8 (xs ∷ vs ∷ []) ≡ map is_true (zipped xs vs)
 masked xs vs e = each-and xs vs e ∙ both-there xs vs

@@ -1,4 +1,4 @@
--- What is made of two arrays place by place, beside what is valid in both.
+-- What is made of two arrays index by index, with what is valid in both.
 use Rattle.std.proofs.Common.{◌≡◌, ℕ, ◌<◌, List, [], ◌∷◌, Bool, true, false, length, get_or, refl, ap, sym, ◌∙◌, arith}
 use Rattle.std.specs.Prelude.{◌&&◌, Some, None}
 use Rattle.std.specs.Simd.Lanes.{zip2}
@@ -39,7 +39,7 @@ each-and vs ws e =
     let also : k < length ws = omega (arith, short, e) in
     get_or-zip2 ◌&&◌ vs ws k false false false short also ∙ and-answer (get_or vs k false) (get_or ws k false)))
 
--- the bits that a test of both items gave at each place
+-- the bits that a test of both items gave at each index
 pub tested-pairs : {X Y : Type 0} (xs : List X) (ys : List Y) (items : List Bool) (says : X → Y → Bool → Type 0) (test : X → Y → Bool)
     → length xs ≡ length ys → length items ≡ length xs
     → ((k : ℕ) → k < length xs → IsTestedAt xs ys says k (get_or items k false))

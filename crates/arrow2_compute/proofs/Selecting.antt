@@ -1,4 +1,4 @@
--- What a mask selects word by word, and by the places of the bits that are set.
+-- What a mask selects word by word, and by the indices of the bits that are set.
 use Rattle.std.proofs.Common.{◌≡◌, ℕ, zero, suc, ◌+◌, ◌-◌, ◌<◌, ◌≤◌, ◌^◌, List, [], ◌∷◌, ◌++◌, Bool, true, false, cond, length, take, drop, get_or, replicate, refl, ap, sym, subst, ◌∙◌, append_assoc, arith, add-one}
 use Rattle.std.specs.Prelude.{Option, Some, None, unwrap_or}
 use Rattle.std.proofs.lemmas.List.{length-append}
@@ -19,7 +19,7 @@ unfolding unnum
 all-true = refl
 
 module _ {X : Type 0} where
-  -- of two lists one behind the other
+  -- of two lists one after the other
   pub selected-append : (xs ys : List X) (ms ns : List Bool) → length xs ≡ length ms → selected (xs ++ ys) (ms ++ ns) ≡ selected xs ms ++ selected ys ns
   selected-append [] ys [] ns e = refl
   selected-append [] ys (m ∷ ms) ns e = absurd (omega (arith, e))
@@ -32,7 +32,7 @@ module _ {X : Type 0} where
   none-selected (x ∷ xs) zero = refl
   none-selected (x ∷ xs) (suc n) = none-selected xs n
 
-  -- of values beside their validity
+  -- of values with their validity
   pub selected-zipped : (xs : List X) (vs ms : List Bool) → length vs ≡ length xs → selected (zipped xs vs) ms ≡ zipped (selected xs ms) (selected vs ms)
   selected-zipped [] [] ms e = refl
   selected-zipped [] (v ∷ vs) ms e = absurd (omega (arith, e))
@@ -89,12 +89,12 @@ module _ {X : Type 0} where
       ∙ (ap (λ l. cond m (part xs k 1) [] ++ l) (others ∙ ap (λ l. selected l ms) (drop-more xs k))
       ∙ sym (selected-first (drop k xs) m ms)))
 
-  -- what the places of the true items cut out
+  -- what the indices of the true items cut out
   pub cut-ones : (xs : List X) (ms : List Bool) → flat_map (λ j. part xs j 1) (ones ms) ≡ selected xs ms
   unfolding ones
   cut-ones xs ms = cut-from xs (λ i. get_or ms i false) 0 ms (λ i l. ap (λ j. get_or ms j false) (omega arith))
 
--- the places of true items are below the length
+-- the indices of true items are below the length
 pub ones-inside : (ms : List Bool) → All (λ place. place < length ms) (ones ms)
 unfolding ones
 ones-inside ms = All-filter (λ k. get_or ms k false) (λ place. place < length ms) (range_with_len 0 (length ms))
@@ -111,7 +111,7 @@ module _ {X : Type 0} where
   one-at (x ∷ xs) zero d h = refl
   one-at (x ∷ xs) (suc k) d h = one-at xs k d (omega (arith, h))
 
-  -- what a word of the mask selects stands behind the others
+  -- what a word of the mask selects comes after the others
   pub word-kept : (kept grown xs block others : List X) (ms m ns : List Bool) (all : List X) → xs ≡ block ++ others → ms ≡ m ++ ns → length block ≡ length m
       → grown ≡ kept ++ selected block m → kept ++ selected xs ms ≡ all → grown ++ selected others ns ≡ all
   word-kept kept grown xs block others ms m ns all is-xs is-ms size more done =
@@ -151,7 +151,7 @@ selected-true (suc n) [] = refl
 selected-true (suc n) (true ∷ ms) = ap (λ l. true ∷ l) (selected-true n ms)
 selected-true (suc n) (false ∷ ms) = selected-true n ms
 
--- the places of set bits of a word
+-- the indices of set bits of a word
 pub places-inside : (w : ℕ) (places : List ℕ) → places ≡ ones (unnum 64 w) → All (λ place. place < 64) places
 places-inside w places is = rw is (subst (λ n. All (λ place. place < n) (ones (unnum 64 w))) (length-unnum 64 w) (ones-inside (unnum 64 w)))
 

@@ -25,7 +25,7 @@ module _ {Y : Type 0} (f : Y → List ℕ) where
   pub sum-first : (left rest : List Y) (y : Y) → left ≡ y ∷ rest → sum (flat_map f left) ≡ sum (f y) + sum (flat_map f rest)
   sum-first left rest y first = ap (λ l. sum (flat_map f l)) first ∙ sum_by-append (λ x. x) (f y) (flat_map f rest)
 
--- what is taken at first places and at one more weighs no more than all
+-- what is taken at the first indices and at one more weighs no more than all
 pub taken-fits : {I X : Type 0} (weight : X → ℕ) (f : I → X) (xs : List I) (k : ℕ) (d : I) → k < length xs
     → sum_by weight (map f (take k xs)) + weight (f (get_or xs k d)) ≤ sum_by weight (map f xs)
 taken-fits weight f xs k d less =
@@ -34,7 +34,7 @@ taken-fits weight f xs k d less =
     let e = sum_by_push weight (map f (take k xs)) (f (get_or xs k d)) in
     omega (arith, a, b, e)
 
--- and what is chosen at first places
+-- and what is chosen at the first indices
 pub chosen-fits : {X : Type 0} (weight : X → ℕ) (n : ℕ) (ms : List Bool) (xs ys : List X) → sum_by weight (chosen (take n ms) (take n xs) (take n ys)) ≤ sum_by weight (chosen ms xs ys)
 chosen-fits weight zero ms xs ys = omega arith
 chosen-fits weight (suc n) [] xs ys = omega arith

@@ -13,7 +13,7 @@ sum_of_non_null value (Some x ∷ items) = value x +ℤ sum_of_non_null value it
 abbrev pub IsExtremum : {X : Type 0} → (X → X → Type 0) → List (Option X) → Option X → Type 0
 IsExtremum R items result = MatchOption result (non_null_values items ≡ []) (λ x. Contains (non_null_values items) x × All (R x) (non_null_values items))
 
--- what is kept of a value, where it is there, and of each of a list in its order: `kept` tells which of two is
+-- what is kept of a value, where it is there, and of each of a list in its order: `kept` is the one of two that is
 abbrev pub best_from : {X : Type 0} → (X → X → X) → Option X → List X → Option X
 best_from kept best [] = best
 best_from kept best (x ∷ xs) = best_from kept (Some (option_map_or (λ other. kept other x) best x)) xs

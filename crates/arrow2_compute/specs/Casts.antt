@@ -1,5 +1,5 @@
--- Numbers of one type as those of another: `value` and `other` are the whole numbers that items stand for, and `fits` says
--- which of them the other type has.
+-- Numbers of one type as those of another: `value` and `other` are the whole numbers that items stand for, and `fits`
+-- states which of them the other type has.
 use Rattle.std.specs.Prelude.{◌≡◌, ℕ, ℤ, List, ◌++◌, Option, Some, None, IsNone, All, take, slice_index_or, codes, decimal}
 use Rattle.num_traits.specs.Laws.{Checks}
 
@@ -19,7 +19,7 @@ abbrev pub Fits : {X : Type 0} → (X → ℤ) → (ℤ → Type 0) → Option X
 Fits value fits None = Unit {0}
 Fits value fits (Some x) = fits (value x)
 
--- the item at this place is the first whose number does not fit
+-- the item at this index is the first whose number does not fit
 pub record IsFirstMisfit {X : Type 0} (value : X → ℤ) (fits : ℤ → Type 0) (items : List (Option X)) (index : ℕ) : Type 0 where
   pub others : All (Fits value fits) (take index items)
   pub this : ¬ (Fits value fits (slice_index_or items index None))

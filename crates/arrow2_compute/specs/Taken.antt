@@ -1,7 +1,7 @@
--- Items at places that may be null.
+-- Items at indices that may be null.
 use Rattle.std.specs.Prelude.{◌≡◌, ◌≤ℤ◌, ◌<ℤ◌, ℕ, ℤ, pos, List, Option, Some, None, slice_index_or, unsigned_abs}
 
--- an index is null, or a place below n: `value` is the whole number that it stands for
+-- an index is null, or an index below n: `value` is the whole number that it stands for
 abbrev pub IsInBoundsOrNull : {I : Type 0} → (I → ℤ) → ℕ → Option I → Type 0
 IsInBoundsOrNull value n None = Unit {0}
 IsInBoundsOrNull value n (Some index) = (pos 0 ≤ℤ value index) × (value index <ℤ pos n)

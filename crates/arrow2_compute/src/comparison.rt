@@ -14,8 +14,8 @@ use arrow2_primitive::PrimitiveArray;
 use arrow2_types::error::{Error, Result};
 use arrow2_types::native::NativeType;
 
-/// Returns, item by item, what a test says of the value, and null where the item is null. Requires that the test may be
-/// called at each value, also under a null.
+/// Returns, item by item, what a test returns for the value, and null where the item is null. Requires that the test
+/// may be called at each value, also under a null.
 ///
 /// # Errors
 ///
@@ -126,8 +126,8 @@ pub fn gt_eq_scalar<T: NativeType + PartialOrd>(
     tested(array, |value| *value >= scalar)
 }
 
-/// Returns, place by place, what a test says of the values of both, and null where an item of either is null. Requires
-/// that both have one length, and that the test may be called at any two values.
+/// Returns, index by index, what a test returns for the values of both, and null where an item of either is null.
+/// Requires that both have one length, and that the test may be called at any two values.
 ///
 /// # Errors
 ///
@@ -161,7 +161,7 @@ fn tested_both<T: NativeType, F: Fn(T, T) -> bool>(
     Ok(BooleanArray::from_parts(tested, validity))
 }
 
-/// Returns, place by place, whether the item of `lhs` equals that of `rhs`, and null where either is null. Requires
+/// Returns, index by index, whether the item of `lhs` equals that of `rhs`, and null where either is null. Requires
 /// that both have one length.
 ///
 /// # Errors
@@ -176,7 +176,7 @@ pub fn eq<T: NativeType>(lhs: &PrimitiveArray<T>, rhs: &PrimitiveArray<T>) -> Re
     tested_both(lhs, rhs, |left, right| left == right)
 }
 
-/// Returns, place by place, whether the item of `lhs` differs from that of `rhs`, and null where either is null.
+/// Returns, index by index, whether the item of `lhs` differs from that of `rhs`, and null where either is null.
 /// Requires that both have one length.
 ///
 /// # Errors
@@ -191,7 +191,7 @@ pub fn neq<T: NativeType>(lhs: &PrimitiveArray<T>, rhs: &PrimitiveArray<T>) -> R
     tested_both(lhs, rhs, |left, right| left != right)
 }
 
-/// Returns, place by place, whether the item of `lhs` is below that of `rhs`, and null where either is null. Requires
+/// Returns, index by index, whether the item of `lhs` is below that of `rhs`, and null where either is null. Requires
 /// that both have one length.
 ///
 /// # Errors
@@ -209,7 +209,7 @@ pub fn lt<T: NativeType + PartialOrd>(
     tested_both(lhs, rhs, |left, right| left < right)
 }
 
-/// Returns, place by place, whether the item of `lhs` is at most that of `rhs`, and null where either is null. Requires
+/// Returns, index by index, whether the item of `lhs` is at most that of `rhs`, and null where either is null. Requires
 /// that both have one length.
 ///
 /// # Errors
@@ -227,7 +227,7 @@ pub fn lt_eq<T: NativeType + PartialOrd>(
     tested_both(lhs, rhs, |left, right| left <= right)
 }
 
-/// Returns, place by place, whether the item of `lhs` is above that of `rhs`, and null where either is null. Requires
+/// Returns, index by index, whether the item of `lhs` is above that of `rhs`, and null where either is null. Requires
 /// that both have one length.
 ///
 /// # Errors
@@ -245,7 +245,7 @@ pub fn gt<T: NativeType + PartialOrd>(
     tested_both(lhs, rhs, |left, right| left > right)
 }
 
-/// Returns, place by place, whether the item of `lhs` is at least that of `rhs`, and null where either is null.
+/// Returns, index by index, whether the item of `lhs` is at least that of `rhs`, and null where either is null.
 /// Requires that both have one length.
 ///
 /// # Errors

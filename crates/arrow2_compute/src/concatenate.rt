@@ -1,4 +1,4 @@
-//! Arrays one behind the other.
+//! Arrays one after the other.
 ghost use Rattle.std.specs.Prelude.{◌≡◌, ◌+◌, ◌<◌, ◌≤◌, ◌^◌, ◌⊎◌, ◌++◌, length, sum_by, IfOk, IfErr, IsErrOf, OnOk};
 ghost use Rattle.std.specs.List.{flat_map};
 ghost use Rattle.arrow2_array.specs.Items.{boolean_items};
@@ -12,7 +12,7 @@ use arrow2_primitive::{MutablePrimitiveArray, PrimitiveArray};
 use arrow2_types::error::{Error, Result};
 use arrow2_types::native::NativeType;
 
-/// Returns the items of `first` and of these arrays, one behind the other, with the logical type of `first`.
+/// Returns the items of `first` and of these arrays, one after the other, with the logical type of `first`.
 ///
 /// Differs from arrow2: the first array is a parameter of its own, so there is at least one. Logical types are not
 /// compared.
@@ -40,7 +40,7 @@ pub fn concatenate<T: NativeType>(
     joined.freeze()
 }
 
-/// Returns the byte strings or texts of `first` and of these arrays, one behind the other, with the logical type of
+/// Returns the byte strings or texts of `first` and of these arrays, one after the other, with the logical type of
 /// `first`.
 ///
 /// In arrow2 it is `concatenate`.
@@ -73,7 +73,7 @@ pub fn concatenate_binary<A: Binary>(first: &A, others: &[&A]) -> Result<A>
     A::freeze(joined)
 }
 
-/// Returns the booleans of `first` and of these arrays, one behind the other.
+/// Returns the booleans of `first` and of these arrays, one after the other.
 ///
 /// In arrow2 it is `concatenate`.
 ///

@@ -21,7 +21,7 @@ use arrow2_validity::Validity;
 use std::alloc::AllocError;
 use std::convert::TryFrom;
 
-/// Returns, place by place, the item of `lhs` where the mask is true, and that of `rhs` elsewhere, with the logical
+/// Returns, index by index, the item of `lhs` where the mask is true, and that of `rhs` elsewhere, with the logical
 /// type of `lhs`. Requires that all three have one length.
 ///
 /// Differs from arrow2: the mask is a bitmap, in which no item is null.
@@ -170,7 +170,7 @@ fn push_either<A: Binary>(
     }
 }
 
-/// Returns, place by place, the boolean of `lhs` where the mask is true, and that of `rhs` elsewhere. Requires that all
+/// Returns, index by index, the boolean of `lhs` where the mask is true, and that of `rhs` elsewhere. Requires that all
 /// three have one length.
 ///
 /// In arrow2 it is `if_then_else`, whose mask is a boolean array.

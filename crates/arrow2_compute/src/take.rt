@@ -1,4 +1,4 @@
-//! The items at given places.
+//! The items at given indices.
 ghost use Rattle.std.specs.Prelude.{◌≡◌, ◌<◌, ◌≤◌, ◌⊎◌, All, None, false, is_some, length, map, slice_index_or, sum_by, IfOk, IfErr, IsErrOf, OnOk};
 ghost use Rattle.std.specs.List.{AllZip};
 ghost use Rattle.arrow2_array.specs.Items.{boolean_items};
@@ -179,8 +179,8 @@ fn item_at<T: NativeType, I: Index>(array: &PrimitiveArray<T>, index: Option<I>)
 ///
 /// # Errors
 ///
-/// `Overflow` exactly if the items that are taken have more than `O::MAX` bytes in all and memory was not refused before;
-/// else `OutOfMemory` alone.
+/// `Overflow` exactly if the items that are taken have more than `O::MAX` bytes in all and memory was not refused
+/// before; else `OutOfMemory` alone.
 #[tactic(auto, using(crate::proofs::Weighed::weighed))]
 pub fn take_binary<A: Binary>(array: &A, indices: &[usize]) -> Result<A>
     requires inside { All (λ index. index < length (binary_items (A.parts array.now))) indices.now }

@@ -16,7 +16,7 @@ use Rattle.arrow2_validity.specs.OptionalValidity.{items_or_true}
 use Rattle.arrow2_validity.proofs.Slots.{arrays, zipped-true}
 
 module _ {X : Type 0} where
-  -- values behind others, none of which is null
+  -- values after others, none of which is null
   pub append-true : (xs ys : List X) (vs : List Bool) → length vs ≡ length xs → zipped (xs ++ ys) (vs ++ replicate (length ys) true) ≡ zipped xs vs ++ map (λ x. Some x) ys
   append-true xs ys vs e = append-zipped xs ys vs (replicate (length ys) true) e ∙ ap (λ l. zipped xs vs ++ l) (zipped-true ys)
 
@@ -24,7 +24,7 @@ module _ {X : Type 0} where
   zipped-constant zero x v = refl
   zipped-constant (suc n) x v = ap (λ l. slot x v ∷ l) (zipped-constant n x v)
 
-  -- the same item behind others, n times
+  -- the same item after others, n times
   pub append-constant : (xs : List X) (vs : List Bool) (m n : ℕ) (item : Option X) (d : X) → length vs ≡ length xs → m ≡ length xs
       → zipped (take (m + n) xs ++ replicate (m + n - m) (unwrap_or item d)) (vs ++ replicate n (is_some item)) ≡ zipped xs vs ++ replicate n item
   append-constant xs vs m n item d e is =
@@ -33,7 +33,7 @@ module _ {X : Type 0} where
       rw (whole, size) (append-zipped xs (replicate n (unwrap_or item d)) vs (replicate n (is_some item)) e
       ∙ ap (λ l. zipped xs vs ++ l) (zipped-constant n (unwrap_or item d) (is_some item) ∙ ap (replicate n) (slot-option item d)))
 
-  -- a part of an array behind others
+  -- a part of an array after others
   pub append-part : (xs ys : List X) (vs ws : List Bool) (items : List (Option X)) (a n : ℕ) → length vs ≡ length xs → length ws ≡ length ys → zipped ys ws ≡ items
       → zipped (xs ++ part ys a n) (vs ++ part ws a n) ≡ zipped xs vs ++ part items a n
   append-part xs ys vs ws items a n e f is =

@@ -1,4 +1,4 @@
--- What growth of an array says.
+-- The contract of growth of an array.
 use Rattle.std.specs.Prelude.{◌≡◌, ◌+◌, ◌≤◌, ◌^◌, ◌↔◌, ◌⊎◌, ◌-◌, List, ◌++◌, Option, Some, length, Result, OnOk, OnErr, IsOk, IfErr, IsErrOf}
 use Rattle.std.specs.Iterator.{YieldsThen}
 use Rattle.arrow2_types.specs.declared.error.Error.{Error}
@@ -7,7 +7,7 @@ use Rattle.arrow2_primitive.specs.Primitive.{GrowingPrimitive}
 
 -- growth by these items, all of them or none
 pub record AppendsItems {T X : Type 0} (r : Result T Error) (old new : GrowingPrimitive X) (more : List (Option X)) : Type 0 where
-  -- they stand behind the others
+  -- they come after the others
   pub ok : OnOk r (new.items ≡ old.items ++ more)
   -- an error leaves the items
   pub err : OnErr r (new.items ≡ old.items)

@@ -50,7 +50,7 @@ impl<T: NativeType> Model for MutablePrimitiveArray<T> {
 
     ghost Value = { GrowingPrimitive T };
 
-    // How a proof tells two of these values apart: by std's codes, and by that of `DataType`, a type that holds itself.
+    // How a proof distinguishes two values: by std's codes, and by that of `DataType`, a type that holds itself.
     // `the_row` has what the kit generates for a type, and `Prim.hlevel` finds the code.
     ghost coded = { Prim.hlevel (codes, logical_type.the_row.coded) };
 

@@ -1,4 +1,4 @@
--- Slots between offsets beside their validity.
+-- Slots between offsets with their validity.
 use Rattle.std.proofs.Common.{◌≡◌, ℕ, ℤ, ◌+◌, ◌≤◌, List, [], ◌∷◌, ◌++◌, Bool, true, false, not, cond, get_or, length, sum, take, drop, replicate, refl, ap, sym, ◌∙◌, arith}
 use Rattle.std.proofs.Math.Nat.{min-le_left, min-le_right, le-min}
 use Rattle.std.proofs.lemmas.List.{length-append, length-drop, length-take, take_all, take_more, take-append-drop}
@@ -26,7 +26,7 @@ all-true (false ∷ vs) h =
     let b = sum_by-cons (λ v. cond (not v) 1 0) false vs in
     absurd (omega (arith, b, h))
 
--- slots of others behind them, by the bytes that these span
+-- slots of others after them, by the bytes that these span
 pub append-slots : {X : Type 0} (xs ys : List X) (start a k n : ℕ) (ns ms : List ℕ) → sum ns ≡ length xs → n ≡ sum (part ms a k) → cut (xs ++ part ys (start + sum (take a ms)) n) (ns ++ part ms a k) ≡ cut xs ns ++ part (cut (drop start ys) ms) a k
 append-slots xs ys start a k n ns ms e size =
     let few = length-take k (drop a ms) in
@@ -51,7 +51,7 @@ sum-parts ns k e =
     let split : ns ≡ take k ns ++ get_or ns k 0 ∷ [] = sym (take_all (k + 1) ns (omega (arith, e))) ∙ take_more ns k 0 (omega (arith, e)) in
     ap sum split ∙ sum-push (take k ns) (get_or ns k 0)
 
--- the last slot of those that have all bytes, behind the others
+-- the last slot of those that have all bytes, after the others
 pub pop-cut : {X : Type 0} (xs : List X) (ns : List ℕ) (k : ℕ) → k + 1 ≡ length ns → sum ns ≡ length xs → cut xs ns ≡ cut (take (sum (take k ns)) xs) (take k ns) ++ part xs (sum (take k ns)) (get_or ns k 0) ∷ []
 pop-cut xs ns k e whole =
     let s = sum (take k ns) in

@@ -1,4 +1,4 @@
--- What growth of arrays of byte strings and of texts says.
+-- The contracts of growth of arrays of byte strings and of texts.
 use Rattle.std.specs.Prelude.{◌≡◌, ℕ, ◌+◌, ◌<◌, ◌≤◌, ◌^◌, ◌↔◌, ◌⊎◌, List, [], ◌∷◌, ◌++◌, Bool, false, Option, None, length, map, sum, slice_index_or, option_map, MatchOption, IfNone, IfSome, Result, OnOk, OnErr, IsOk, IfErr, IfOk, IsErrOf}
 use Rattle.std.specs.Option.{option_copied, option_map_or}
 use Rattle.std.specs.Iterator.{Yields}
@@ -8,8 +8,8 @@ use Rattle.arrow2_types.specs.declared.error.Error.TheVariants.{Overflow, OutOfM
 use Rattle.arrow2_walks.specs.Zipped.{slot, zipped}
 use Rattle.arrow2_datatypes.specs.declared.DataType.{DataType}
 
--- an array that grows: its logical type, its items, how many bytes their slots have, under nulls too, and how many items
--- and how many bytes fit before it allocates
+-- an array that grows: its logical type, its items, how many bytes their slots have, under nulls too, and how many
+-- items and how many bytes fit before it allocates
 pub record GrowingBinary : Type 0 where
   pub data_type : DataType
   pub items : List (Option (List ℕ))
@@ -36,10 +36,10 @@ growing_binary s = record {
   byte_capacity = s.byte_capacity;
 }
 
--- growth by these items, whose slots have `bytes` bytes in all, all of them or none, where the last offset may reach the greatest
--- one and not pass it
+-- growth by these items, whose slots have `bytes` bytes in all, all of them or none, where the last offset may reach
+-- the greatest one and not pass it
 pub record AppendsBinary {T : Type 0} (greatest : ℕ) (r : Result T Error) (old new : GrowingBinary) (more : List (Option (List ℕ))) (bytes : ℕ) : Type 0 where
-  -- they stand behind the others
+  -- they come after the others
   pub ok : OnOk r (new.items ≡ old.items ++ more)
   pub ok_bytes : OnOk r (new.bytes ≡ old.bytes + bytes)
   -- an error leaves the items
@@ -47,7 +47,8 @@ pub record AppendsBinary {T : Type 0} (greatest : ℕ) (r : Result T Error) (old
   pub err_bytes : OnErr r (new.bytes ≡ old.bytes)
   -- the logical type stays
   pub data_type : new.data_type ≡ old.data_type
-  -- it overflows exactly where the last offset would pass the greatest one, or there would be more items than a usize counts
+  -- it overflows exactly where the last offset would pass the greatest one, or there would be more items than a usize
+  -- counts
   pub overflow : IsErrOf r Overflow ↔ ((greatest < old.bytes + bytes) ⊎ (2 ^ 64 ≤ length old.items + length more))
   -- the only other error is refused memory
   pub only : IfErr r (λ e. (e ≡ Overflow) ⊎ (e ≡ OutOfMemory))
@@ -61,7 +62,7 @@ pub record AppendsBinary {T : Type 0} (greatest : ℕ) (r : Result T Error) (old
 pub record AppendsSlots {T : Type 0} (greatest : ℕ) (r : Result T Error) (old new : GrowingSlots) (values : List (List ℕ)) (valid : List Bool) (bytes : ℕ) : Type 0 where
   -- the validity has an item for each of them
   pub same : length old.valid ≡ length old.values
-  -- they stand behind the others
+  -- they come after the others
   pub ok_values : OnOk r (new.values ≡ old.values ++ values)
   pub ok_valid : OnOk r (new.valid ≡ old.valid ++ valid)
   pub ok_bytes : OnOk r (new.bytes ≡ old.bytes + bytes)
@@ -105,7 +106,7 @@ pub record ReservesSlots {T : Type 0} (greatest : ℕ) (r : Result T Error) (old
   pub capacity : old.capacity ≤ new.capacity
   pub byte_capacity : old.byte_capacity ≤ new.byte_capacity
 
--- so many more slots and bytes are within both capacities, a usize counts them, and the last offset does not pass the
+-- the given slots and bytes more are within both capacities, a usize counts them, and the last offset does not pass the
 -- greatest one
 pub record HasRoomFor (greatest : ℕ) (held : GrowingSlots) (count size : ℕ) : Type 0 where
   pub slots : length held.valid + count ≤ held.capacity
@@ -113,7 +114,7 @@ pub record HasRoomFor (greatest : ℕ) (held : GrowingSlots) (count size : ℕ) 
   pub counted : length held.valid + count < 2 ^ 64
   pub fits : held.bytes + size ≤ greatest
 
--- these slots stand behind the others, and no capacity falls
+-- these slots come after the others, and no capacity falls
 pub record GrownBySlots (old new : GrowingSlots) (more : List (List ℕ)) (more_valid : List Bool) (size : ℕ) : Type 0 where
   pub values : new.values ≡ old.values ++ more
   pub valid : new.valid ≡ old.valid ++ more_valid
@@ -124,7 +125,7 @@ pub record GrownBySlots (old new : GrowingSlots) (more : List (List ℕ)) (more_
 
 -- taking the last item off: where it is not null its bytes are returned, as a value of their own
 pub record PopsBinary {V : Type 0} (bytes_of : V → List ℕ) (r : Result (Option (Option V)) Error) (old new : GrowingBinary) : Type 0 where
-  -- it stood behind those that are left
+  -- it came after those that are left
   pub last : IfOk r (λ o. MatchOption o (old.items ≡ []) (λ item. old.items ≡ new.items ++ option_map bytes_of item ∷ []))
   -- where there was none there is none left
   pub none : IfOk r (λ o. IfNone o (new.items ≡ []))
@@ -146,7 +147,7 @@ pub record PopsSlot {V : Type 0} (bytes_of : V → List ℕ) (r : Result (Option
   -- the validity has an item for each of them
   pub same : length old.valid ≡ length old.values
   pub same_left : length new.valid ≡ length new.values
-  -- it stood behind those that are left
+  -- it came after those that are left
   pub some : IfOk r (λ o. IfSome o (λ item. (value : List ℕ) × (valid : Bool) × (old.values ≡ new.values ++ value ∷ []) × (old.valid ≡ new.valid ++ valid ∷ []) × (old.bytes ≡ new.bytes + length value) × (option_map bytes_of item ≡ slot value valid)))
   -- where there was none there is none left
   pub none : IfOk r (λ o. IfNone o ((old.values ≡ []) × (new.values ≡ []) × (new.valid ≡ [])))

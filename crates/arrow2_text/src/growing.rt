@@ -1,4 +1,4 @@
-//! Bytes between offsets beside their validity, as they grow.
+//! Bytes between offsets with their validity, as they grow.
 ghost use Rattle.std.specs.Prelude.{◌≡◌, ◌+◌, ◌<◌, ◌≤◌, ◌^◌, ◌↔◌, ◌⊎◌, [], ◌∷◌, false, length, sum, count_by, option_map, slice_index_or, IfErr, IfOk, IsErrOf, IsNone, IsOk, OnOk};
 ghost use Rattle.arrow2_model.specs.Buffers.{buffer_items};
 ghost use Rattle.std.specs.Option.{is_none};
@@ -23,7 +23,7 @@ use std::convert::TryFrom;
 use std::marker::Model;
 use std::rc::Rc;
 
-/// Bytes between offsets beside their validity, as they grow, and a logical type.
+/// Bytes between offsets with their validity, as they grow, and a logical type.
 #[derive(Drop)]
 pub(crate) struct Growing<O: Offset> {
     data_type: Rc<DataType>,
@@ -106,7 +106,7 @@ impl<O: Offset> Growing<O> {
         Growing::with_capacity(data_type, alloc, capacity, byte_capacity)
     }
 
-    /// Returns the slots of these parts. Requires that the offsets begin at 0 and end behind the last byte, and that
+    /// Returns the slots of these parts. Requires that the offsets begin at 0 and end after the last byte, and that
     /// the validity has an item for each slot.
     pub(crate) fn of_parts(
         data_type: Rc<DataType>,

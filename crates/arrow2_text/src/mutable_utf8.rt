@@ -46,7 +46,7 @@ impl<O: Offset> Model for MutableUtf8Array<O> {
 
     ghost Value = { GrowingBinary };
 
-    // How a proof tells two of these values apart: by std's codes, and by that of `DataType`, a type that holds itself.
+    // How a proof distinguishes two values: by std's codes, and by that of `DataType`, a type that holds itself.
     ghost coded = { Prim.hlevel (codes, logical_type.the_row.coded) };
 
     ghost view = { λ a. growing_binary a.slots };

@@ -1,4 +1,4 @@
-//! Bytes between offsets beside their validity: what arrays of byte strings and of texts store.
+//! Bytes between offsets with their validity: what arrays of byte strings and of texts store.
 ghost use Rattle.std.specs.Prelude.{◌≡◌, ◌+◌, ◌<◌, ◌≤◌, [], None, Some, IfErr, IfOk, IsTrue, length, map, count_by, pos, slice_index_or, sum};
 ghost use Rattle.std.specs.Bool.{Decides};
 ghost use Rattle.std.specs.Option.{is_none, is_some, option_copied};
@@ -24,7 +24,7 @@ use std::convert::TryFrom;
 use std::marker::Model;
 use std::rc::Rc;
 
-/// Bytes between offsets beside their validity, and a logical type.
+/// Bytes between offsets with their validity, and a logical type.
 #[derive(Drop)]
 pub(crate) struct Slots<O: Offset> {
     data_type: Rc<DataType>,
@@ -154,7 +154,7 @@ impl<O: Offset> Slots<O> {
         &self.values.as_slice()[start..end]
     }
 
-    /// Returns the offset behind the first `index` slots. Requires that there are as many.
+    /// Returns the offset after the first `index` slots. Requires that `index` is at most the number of slots.
     fn place(&self, index: usize) -> usize
         requires inside { index ≤ length (lengths_of (buffer_items self.now.offsets)) }
         ensures { result ≡ offset_at (start_of (buffer_items self.now.offsets))
@@ -275,7 +275,7 @@ fn same_item(item: Option<&[u8]>, other: Option<&[u8]>) -> bool
 }
 
 /// Returns the slots of these parts as they grow, where nobody else shares the bytes and the bitmap, and none of the
-/// bytes is sliced off; else the slots. Requires that the offsets begin at 0 and end behind the last byte.
+/// bytes is sliced off; else the slots. Requires that the offsets begin at 0 and end after the last byte.
 fn thawed<O: Offset>(
     data_type: Rc<DataType>,
     offsets: Offsets<O>,

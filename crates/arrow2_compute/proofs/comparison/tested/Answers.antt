@@ -7,7 +7,7 @@ use Rattle.arrow2_walks.specs.Zipped.{zipped}
 use Rattle.arrow2_compute.proofs.Compared.{map-zipped}
 use Rattle.arrow2_compute.proofs.comparison.tested.Goals as goal
 
--- the answers for the values, beside the validity of the array
+-- the results for the values, with the validity of the array
 pub returns-clause-items : goal.returns-clause-items
 returns-clause-items g c answer told =
     let values = buffer_items c.args.array.now.values in

@@ -11,7 +11,7 @@ use Rattle.arrow2_walks.specs.Zipped.{zipped}
 use Rattle.arrow2_compute.proofs.Paired.{both-zipped, each-and, tested-pairs}
 use Rattle.arrow2_compute.proofs.comparison.tested_both.Goals as goal
 
--- what was said of the values, beside what is valid in both
+-- what was returned for the values, with what is valid in both
 pub returns-clause-items : goal.returns-clause-items
 returns-clause-items g c answer told =
     let xs = buffer_items c.args.lhs.now.values in
