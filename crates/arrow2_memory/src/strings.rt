@@ -199,7 +199,10 @@ enum Growth {
 }
 
 /// Arrays that grow, by another array of type `A` too.
-trait Grows<A> {
+trait Grows<A>: Drop {
+    /// One without items.
+    fn empty(alloc: Global) -> Result<Self>;
+
     /// Changes the array so.
     fn grow(&mut self, growth: Growth, other: &A) -> Row<()>;
 
@@ -208,6 +211,10 @@ trait Grows<A> {
 }
 
 impl Grows<Utf8Array<i32>> for MutableUtf8Array<i32> {
+    fn empty(alloc: Global) -> Result<Self> {
+        MutableUtf8Array::new(alloc)
+    }
+
     fn grow(&mut self, growth: Growth, other: &Utf8Array<i32>) -> Row<()> {
         match growth {
             Growth::Push => ("MutableUtf8Array::push", self.push(Some(TEXT))),
@@ -227,6 +234,10 @@ impl Grows<Utf8Array<i32>> for MutableUtf8Array<i32> {
 }
 
 impl Grows<BinaryArray<i32>> for MutableBinaryArray<i32> {
+    fn empty(alloc: Global) -> Result<Self> {
+        MutableBinaryArray::new(alloc)
+    }
+
     fn grow(&mut self, growth: Growth, other: &BinaryArray<i32>) -> Row<()> {
         match growth {
             Growth::Push => ("MutableBinaryArray::push", self.push(Some(TEXT.as_bytes()))),
@@ -262,38 +273,38 @@ fn grown<R: Print + Eprint, A, B: Grows<A>>(rt: &R, growth: Growth, array: &mut 
     show(rt, call, &array.count());
 }
 
-/// The array of texts that is changed: without items, or where one is taken off with those of another.
-fn texts_to(
-    alloc: Global,
-    growth: Growth,
-    other: &Utf8Array<i32>,
-) -> Result<MutableUtf8Array<i32>> {
-    let array = MutableUtf8Array::new(alloc);
-    let mut array = array.or(MutableUtf8Array::new(alloc))?;
+/// The array that is changed: without items, or where one is taken off with those of another.
+fn started<A, B: Grows<A>>(alloc: Global, growth: Growth, other: &A) -> Result<B> {
+    let mut array = B::empty(alloc).or(B::empty(alloc))?;
     if matches!(growth, Growth::Pop) {
-        let extended = array.extend_from_array(other, 0, other.len());
-        if extended.is_err() {
-            array.extend_from_array(other, 0, other.len())?;
-        }
+        fill(&mut array, other)?;
     }
     Ok(array)
 }
 
-/// The array of byte strings that is changed.
-fn strings_to(
-    alloc: Global,
-    growth: Growth,
-    other: &BinaryArray<i32>,
-) -> Result<MutableBinaryArray<i32>> {
-    let array = MutableBinaryArray::new(alloc);
-    let mut array = array.or(MutableBinaryArray::new(alloc))?;
-    if matches!(growth, Growth::Pop) {
-        let extended = array.extend_from_array(other, 0, other.len());
-        if extended.is_err() {
-            array.extend_from_array(other, 0, other.len())?;
-        }
+/// Appends another array, once more where that was refused.
+fn fill<A, B: Grows<A>>(array: &mut B, other: &A) -> Result<()> {
+    let (_, filled) = array.grow(Growth::ExtendFromArray, other);
+    if filled.is_ok() {
+        return filled;
     }
-    Ok(array)
+    let (_, again) = array.grow(Growth::ExtendFromArray, other);
+    again
+}
+
+/// Makes each change of arrays of a type.
+fn each_grown<R: Print + Eprint, A, B: Grows<A>>(rt: &R, alloc: Global, other: &A) -> Result<()> {
+    for growth in [
+        Growth::Push,
+        Growth::PushNull,
+        Growth::ExtendFromArray,
+        Growth::Reserve,
+        Growth::Pop,
+    ] {
+        let mut array: B = started(alloc, growth, other)?;
+        grown(rt, growth, &mut array, other);
+    }
+    Ok(())
 }
 
 /// Makes each of these calls.
@@ -302,21 +313,7 @@ pub(crate) fn all<R: Print + Eprint>(rt: &R, alloc: Global) -> Result<()> {
     made(rt, &given_strings(alloc), &given_strings(alloc));
     made(rt, &growing(alloc), &growing(alloc));
     let texts = texts(alloc).or(texts(alloc))?;
+    each_grown::<_, _, MutableUtf8Array<i32>>(rt, alloc, &texts)?;
     let strings = strings(alloc).or(strings(alloc))?;
-    for growth in [
-        Growth::Push,
-        Growth::PushNull,
-        Growth::ExtendFromArray,
-        Growth::Reserve,
-        Growth::Pop,
-    ] {
-        grown(rt, growth, &mut texts_to(alloc, growth, &texts)?, &texts);
-        grown(
-            rt,
-            growth,
-            &mut strings_to(alloc, growth, &strings)?,
-            &strings,
-        );
-    }
-    Ok(())
+    each_grown::<_, _, MutableBinaryArray<i32>>(rt, alloc, &strings)
 }
