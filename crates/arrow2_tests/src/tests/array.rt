@@ -3,7 +3,7 @@ ghost use Rattle.std.specs.Prelude.{◌≡◌, length};
 ghost use Rattle.arrow2_model.specs.Storage.{items_of};
 ghost use Rattle.arrow2_array.specs.Items.{boolean_items};
 
-use super::checks::{gives, refuses, shows};
+use super::checks::{gives, holds, ok, refuses, shows};
 use arrow2_array::{BooleanArray, MutableBooleanArray};
 use arrow2_bitmap::Bitmap;
 use arrow2_types::error::Result;
@@ -14,7 +14,7 @@ use std::process::Abort;
 fn bitmap_of(rt: &impl Abort, alloc: Global, byte: u8) -> Bitmap
     ensures { length (items_of result) ≡ 1000 }
 {
-    Bitmap::from_u8_slice(alloc, &[byte; 125], 1000).expect(rt, "no memory")
+    ok(rt, Bitmap::from_u8_slice(alloc, &[byte; 125], 1000))
 }
 
 /// The array of a thousand values that are valid where the bits of `validity` are set.
@@ -23,7 +23,7 @@ fn array_of(rt: &impl Abort, alloc: Global, values: u8, validity: u8) -> Boolean
 {
     let values = bitmap_of(rt, alloc, values);
     let validity = bitmap_of(rt, alloc, validity);
-    BooleanArray::try_new(values, Some(validity)).expect(rt, "equal lengths")
+    ok(rt, BooleanArray::try_new(values, Some(validity)))
 }
 
 #[test]
@@ -31,11 +31,15 @@ fn arrays_are_read_and_shown(rt: HostRuntime) {
     let alloc = rt.alloc();
     let mut array = array_of(&rt, alloc, 0b10101010, 0b11001100);
     array.slice(1, 4);
-    let copy = array.clone().expect(&rt, "no memory");
+    let copy = ok(&rt, array.clone());
     let items = [None, Some(false), Some(true), None];
     gives(&rt, alloc, (&copy).into_iter(), &items);
-    assert!(rt; copy.get(0).is_none() && copy.get(2) == Some(true) && copy.iter().len() == 4);
-    assert!(rt; copy == array && !copy.is_empty() && copy.null_count() == 2);
+    holds(&rt, copy.get(0).is_none());
+    holds(&rt, copy.get(2) == Some(true));
+    holds(&rt, copy.iter().len() == 4);
+    holds(&rt, copy == array);
+    holds(&rt, !copy.is_empty());
+    holds(&rt, copy.null_count() == 2);
     shows(&rt, alloc, &array, "BooleanArray[None, false, true, None]");
     array.slice(0, 0);
     shows(&rt, alloc, &array, "BooleanArray[]");
@@ -44,18 +48,15 @@ fn arrays_are_read_and_shown(rt: HostRuntime) {
 #[test]
 fn a_long_array_is_shown_whole(rt: HostRuntime) {
     let alloc = rt.alloc();
-    let front = "true, None, "
-        .repeat(alloc, 499)
-        .expect(&rt, "no memory for a text");
-    let text = format!(in alloc; "BooleanArray[{front}true, None]");
-    let text = text.expect(&rt, "no memory for a text");
+    let front = ok(&rt, "true, None, ".repeat(alloc, 499));
+    let text = ok(&rt, format!(in alloc; "BooleanArray[{front}true, None]"));
     let array = array_of(&rt, alloc, 0b11111111, 0b01010101);
     shows(&rt, alloc, &array, text.as_str());
 }
 
 /// Returns a bitmap of `length` unset bits.
 fn falses(rt: &impl Abort, alloc: Global, length: usize) -> Bitmap {
-    Bitmap::new_zeroed(alloc, length).expect(rt, "no memory")
+    ok(rt, Bitmap::new_zeroed(alloc, length))
 }
 
 #[test]
@@ -71,8 +72,11 @@ fn a_validity_of_another_length_is_refused(rt: HostRuntime) {
 fn both_parts_are_taken_and_put_together(rt: HostRuntime) {
     let alloc = rt.alloc();
     let array = array_of(&rt, alloc, 0b10101010, 0b11001100);
-    assert!(rt; array.is_null(0) && array.is_valid(2) && array.value(1) && !array.value(0));
-    assert!(rt; array.optional_validity().null_count() == 500);
+    holds(&rt, array.is_null(0));
+    holds(&rt, array.is_valid(2));
+    holds(&rt, array.value(1));
+    holds(&rt, !array.value(0));
+    holds(&rt, array.optional_validity().null_count() == 500);
     let (values, validity) = array.into_inner();
     let array = BooleanArray::new(values, validity);
     let array = array.with_validity(None).sliced(1, 2);
@@ -81,13 +85,13 @@ fn both_parts_are_taken_and_put_together(rt: HostRuntime) {
 
 /// The call made an array with the text.
 fn made(rt: &impl Abort, alloc: Global, made: Result<BooleanArray>, text: &str) {
-    let array = made.expect(rt, "no memory");
+    let array = ok(rt, made);
     shows(rt, alloc, &array, text);
 }
 
 /// The call was not refused.
 fn grew(rt: &impl Abort, growth: Result<()>) {
-    assert!(rt; growth.is_ok());
+    holds(rt, growth.is_ok());
 }
 
 #[test]
@@ -103,7 +107,9 @@ fn arrays_are_made_of_options_and_grow(rt: HostRuntime) {
     grew(&rt, array.push_null());
     grew(&rt, array.extend_constant(2, Some(true)));
     grew(&rt, array.extend_from_array(&other, 1, 3));
-    assert!(rt; array.len() == 7 && array.pop() == Some(Some(true)) && !array.is_empty());
+    holds(&rt, array.len() == 7);
+    holds(&rt, array.pop() == Some(Some(true)));
+    holds(&rt, !array.is_empty());
     let text = "BooleanArray[false, None, true, true, None, false]";
     made(&rt, alloc, array.freeze(), text);
 }

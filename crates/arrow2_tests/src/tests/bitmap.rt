@@ -2,7 +2,7 @@
 ghost use Rattle.std.specs.Prelude.{◌≡◌, IfOk, length as count};
 ghost use Rattle.arrow2_model.specs.Storage.{items_of};
 
-use super::checks::{bytes_of, gives, has, makes, refuses, shows, stores};
+use super::checks::{bytes_of, gives, has, holds, makes, ok, refuses, shows, stores};
 use arrow2_bitmap::bitmap_ops::unary;
 use arrow2_bitmap::iterator::IntoIter;
 use arrow2_bitmap::{Bitmap, MutableBitmap};
@@ -15,12 +15,12 @@ use std::process::Abort;
 fn bitmap_of(rt: &impl Abort, alloc: Global, bytes: &[u8], length: usize) -> Bitmap
     ensures len { count (items_of result) ≡ length }
 {
-    Bitmap::try_new(bytes_of(rt, alloc, bytes), length).expect(rt, "no memory")
+    ok(rt, Bitmap::try_new(bytes_of(rt, alloc, bytes), length))
 }
 
 /// The bitmap without its last item, which was true.
 fn popped(rt: &impl Abort, made: Result<MutableBitmap>) -> Result<MutableBitmap> {
-    let mut bitmap = made.expect(rt, "no memory");
+    let mut bitmap = ok(rt, made);
     assert_eq!(rt; bitmap.pop(), Some(true));
     Ok(bitmap)
 }
@@ -37,9 +37,12 @@ fn is_stored(
     gives(rt, alloc, bitmap.iter(), items);
     let (storage, start, length) = bitmap.as_slice();
     has(rt, storage, bytes);
-    assert!(rt; start == offset && length == items.len() && bitmap.len() == length);
+    holds(rt, start == offset);
+    holds(rt, length == items.len());
+    holds(rt, bitmap.len() == length);
     let falses = items.iter().filter(|item| !**item).count();
-    assert!(rt; bitmap.unset_bits() == falses && bitmap.null_count() == falses);
+    holds(rt, bitmap.unset_bits() == falses);
+    holds(rt, bitmap.null_count() == falses);
     shows(rt, alloc, bitmap, text);
 }
 
@@ -50,7 +53,7 @@ fn bitmaps_are_parts_of_their_bytes(rt: HostRuntime) {
     let whole = bitmap_of(&rt, alloc, &bytes, 5);
     let items = [true, false, true, true, false];
     is_stored(&rt, alloc, &whole, &items, (&bytes, 0), "[0b___01101]");
-    let mut part = whole.clone().expect(&rt, "no memory");
+    let mut part = ok(&rt, whole.clone());
     part.slice(1, 4);
     is_stored(&rt, alloc, &part, &items[1..], (&bytes, 1), "[0b___0110_]");
     let three = bitmap_of(&rt, alloc, &[255], 3);
@@ -64,11 +67,11 @@ fn a_moved_slice_shows_the_bytes_that_it_touches(rt: HostRuntime) {
     let alloc = rt.alloc();
     let bytes = [0, 0, 0, 0b00010101];
     let copied = Bitmap::from_u8_slice(alloc, &bytes, 27);
-    let moved = copied.expect(&rt, "no memory").sliced(22, 5);
+    let moved = ok(&rt, copied).sliced(22, 5);
     let items = [false, false, true, false, true];
     let text = "[0b00______, 0b_____101]";
     is_stored(&rt, alloc, &moved, &items, (&bytes[2..], 6), text);
-    let copy = moved.clone().expect(&rt, "no memory");
+    let copy = ok(&rt, moved.clone());
     stores(&rt, copy.make_mut(), &[20]);
     let (storage, offset, length, unset_bits) = moved.into_inner();
     has(&rt, storage.as_slice(), &bytes);
@@ -101,7 +104,7 @@ fn bytes_that_grow_are_canonical(rt: HostRuntime) {
     stores(&rt, MutableBitmap::from_len_set(alloc, 3), &[7]);
     let three = MutableBitmap::from_len_set(alloc, 3);
     stores(&rt, popped(&rt, three), &[3]);
-    let zeros = MutableBitmap::from_len_zeroed(alloc, 3).expect(&rt, "no memory");
+    let zeros = ok(&rt, MutableBitmap::from_len_zeroed(alloc, 3));
     stores(&rt, Ok(!zeros), &[7]);
 }
 
@@ -112,7 +115,7 @@ fn only_a_bitmap_that_is_whole_and_not_shared_is_changed_in_place(rt: HostRuntim
     let right = unshared.right().expect(&rt, "it is not shared");
     stores(&rt, Ok(right), &[7]);
     let shared = bitmap_of(&rt, alloc, &[0b10], 2);
-    let other = shared.clone().expect(&rt, "no memory");
+    let other = ok(&rt, shared.clone());
     let (shared, moved) = (shared.into_mut(), other.sliced(1, 1).into_mut());
     has(&rt, &[shared.is_left(), moved.is_left()], &[true, true]);
 }
@@ -132,8 +135,9 @@ fn items_are_read_and_written(rt: HostRuntime) {
     let falses = [moved.null_count_range(1, 2), moved.null_count_range(4, 0)];
     has(&rt, &falses, &[1, 0]);
     is_left(&rt, alloc, moved, &items);
-    let mut room = MutableBitmap::with_capacity(alloc, 100).expect(&rt, "no memory");
-    assert!(rt; room.is_empty() && room.capacity() >= 100);
+    let mut room = ok(&rt, MutableBitmap::with_capacity(alloc, 100));
+    holds(&rt, room.is_empty());
+    holds(&rt, room.capacity() >= 100);
     room.clear();
     shows(&rt, alloc, &room, "[]");
 }
@@ -146,7 +150,7 @@ fn an_iterator_is_taken_from_both_ends(rt: HostRuntime) {
     has(&rt, &[items.size_hint()], &[(4, Some(4))]);
     let text = "IntoIter { values: [0b__101101], index: 1, end: 5 }";
     shows(&rt, alloc, &items, text);
-    let left = items.clone().expect(&rt, "no memory");
+    let left = ok(&rt, items.clone());
     gives(&rt, alloc, left, &[false, true, true, false]);
     let mut items = bitmap_of(&rt, alloc, &[0b00101101], 6).into_iter();
     let ended = [
@@ -174,8 +178,9 @@ fn collect_taken(alloc: Global, bitmap: Bitmap) -> Result<Bitmap>
 
 /// A bitmap of 130 items was made, each fifth one true.
 fn has_fifths(rt: &impl Abort, made: Result<Bitmap>) -> Bitmap {
-    let bitmap = made.expect(rt, "no memory");
-    assert!(rt; bitmap.len() == 130 && bitmap.unset_bits() == 104);
+    let bitmap = ok(rt, made);
+    holds(rt, bitmap.len() == 130);
+    holds(rt, bitmap.unset_bits() == 104);
     bitmap
 }
 
@@ -187,5 +192,5 @@ fn items_are_collected_in_order(rt: HostRuntime) {
     let again = collect_again(alloc, &frozen).and_then(Bitmap::try_from);
     let again = has_fifths(&rt, again);
     let taken = has_fifths(&rt, collect_taken(alloc, frozen));
-    assert!(rt; again == taken);
+    holds(&rt, again == taken);
 }

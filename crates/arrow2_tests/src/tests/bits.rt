@@ -1,7 +1,7 @@
 //! Worked examples of bits and of iterators by words, and their printed texts.
 ghost use Rattle.std.specs.Prelude.{◌≡◌, ◌+◌, ◌*◌, ◌<◌, ◌≤◌, length as count};
 
-use super::checks::{gives, has, shows};
+use super::checks::{gives, has, holds, ok, shows};
 use arrow2_bits::chunk_iterator::{BitChunkIterExact, BitChunks};
 use arrow2_bits::chunks_exact::BitChunksExact;
 use arrow2_bits::iterator::BitmapIter;
@@ -57,9 +57,8 @@ fn many_bits_are_printed_whole(rt: HostRuntime) {
     let alloc = rt.alloc();
     for (bytes, length) in [(9, 72), (200, 1600)] {
         let front = "0b10000001, ".repeat(alloc, bytes - 1);
-        let front = front.expect(&rt, "no memory for a text");
-        let text = format!(in alloc; "[{front}0b10000001]");
-        let text = text.expect(&rt, "no memory for a text");
+        let front = ok(&rt, front);
+        let text = ok(&rt, format!(in alloc; "[{front}0b10000001]"));
         let bits = Bits::new(&[0b10000001; 200], 0, length);
         shows(&rt, alloc, &bits, text.as_str());
     }
@@ -85,7 +84,7 @@ fn bits_are_walked_from_both_ends(rt: HostRuntime) {
     has(&rt, &[bits.next(), bits.next_back()], &[Some(false); 2]);
     let text = "BitmapIter { bytes: [91], offset: 0, index: 3, end: 5 }";
     shows(&rt, alloc, &bits, text);
-    let left = bits.clone().expect(&rt, "no memory");
+    let left = ok(&rt, bits.clone());
     has(&rt, &[left.len()], &[2]);
     gives(&rt, alloc, left, &[true, true]);
     let mut bits = BitmapIter::new(&[0b01011011], 0, 6);
@@ -105,9 +104,11 @@ fn has_words<B: BitChunk, I: BitChunkIterExact<B>>(
     rest: B,
     items: &[bool],
 ) {
-    assert!(rt; walk.remainder() == rest && walk.remainder_len() == items.len());
+    holds(rt, walk.remainder() == rest);
+    holds(rt, walk.remainder_len() == items.len());
     gives(rt, alloc, walk.remainder_iter(), items);
-    assert!(rt; walk.next() == word && walk.next().is_none());
+    holds(rt, walk.next() == word);
+    holds(rt, walk.next().is_none());
 }
 
 #[test]

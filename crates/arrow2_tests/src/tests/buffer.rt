@@ -3,7 +3,7 @@ ghost use Rattle.std.specs.Prelude.{◌≡◌, length, replicate, IfOk};
 ghost use Rattle.std.specs.Bool.{OnTrue, OnFalse};
 ghost use Rattle.arrow2_model.specs.Buffers.{buffer_items, whole_buffer};
 
-use super::checks::{has, shows};
+use super::checks::{has, holds, ok, shows};
 use arrow2_buffer::bytes::Bytes;
 use arrow2_buffer::laws::written_items_are_the_items;
 use arrow2_buffer::{Buffer, IntoIter};
@@ -16,8 +16,8 @@ use std::process::Abort;
 fn buffer_of(rt: &impl Abort, alloc: Global, items: &[u32]) -> Buffer<u32>
     ensures { result ≡ whole_buffer items.now }
 {
-    let items = items.to_vec(alloc).expect(rt, "no memory");
-    Buffer::try_from(items).expect(rt, "no memory")
+    let items = ok(rt, items.to_vec(alloc));
+    ok(rt, Buffer::try_from(items))
 }
 
 /// Every item, set to `value`.
@@ -40,7 +40,7 @@ fn overwrite(buffer: &mut Buffer<u32>, value: u32) -> bool
 fn a_slice_shares_its_storage(rt: HostRuntime) {
     let alloc = rt.alloc();
     let whole = buffer_of(&rt, alloc, &[1, 2, 3]);
-    let mut part = whole.clone().expect(&rt, "no memory");
+    let mut part = ok(&rt, whole.clone());
     part.slice(1, 1);
     has(&rt, whole.as_slice(), &[1, 2, 3]);
     has(&rt, part.as_slice(), &[2]);
@@ -63,8 +63,9 @@ fn an_unshared_whole_gives_its_vector(rt: HostRuntime) {
     let part = part.left().expect(&rt, "it is sliced");
     has(&rt, part.as_slice(), &[2, 3]);
     let whole = buffer_of(&rt, alloc, &[1, 2, 3]);
-    let shared = whole.clone().expect(&rt, "no memory");
-    assert!(rt; whole.into_mut().is_left() && shared.into_mut().is_right());
+    let shared = ok(&rt, whole.clone());
+    holds(&rt, whole.into_mut().is_left());
+    holds(&rt, shared.into_mut().is_right());
 }
 
 #[test]
@@ -73,11 +74,12 @@ fn only_an_unshared_buffer_is_written(rt: HostRuntime) {
     let mut part = buffer_of(&rt, alloc, &[1, 2, 3]).sliced(1, 2);
     part.get_mut_slice().expect(&rt, "it is not shared")[0] = 9;
     has(&rt, part.as_slice(), &[9, 3]);
-    let shared = part.clone().expect(&rt, "no memory");
-    assert!(rt; part.get_mut_slice().is_none() && !overwrite(&mut part, 7));
+    let shared = ok(&rt, part.clone());
+    holds(&rt, part.get_mut_slice().is_none());
+    holds(&rt, !overwrite(&mut part, 7));
     has(&rt, shared.as_slice(), &[9, 3]);
     drop(shared);
-    assert!(rt; overwrite(&mut part, 7));
+    holds(&rt, overwrite(&mut part, 7));
     let (storage, _, _) = part.into_inner();
     has(&rt, storage.as_slice(), &[1, 7, 7]);
     written_items_are_the_items::<u32>();
@@ -92,7 +94,7 @@ fn collected(alloc: Global, walk: IntoIter<u32>) -> Result<Buffer<u32>>
 
 /// Checks that the call made a buffer of these items.
 fn has_items(rt: &impl Abort, made: Result<Buffer<u32>>, items: &[u32]) {
-    has(rt, made.expect(rt, "no memory").as_slice(), items);
+    has(rt, ok(rt, made).as_slice(), items);
 }
 
 #[test]
@@ -103,7 +105,7 @@ fn a_walk_gives_each_item_once(rt: HostRuntime) {
     has(&rt, &[walk.size_hint()], &[(2, Some(2))]);
     let text = "IntoIter { values: [1, 2, 3, 4], index: 1, end: 3 }";
     shows(&rt, alloc, &walk, text);
-    let copy = walk.clone().expect(&rt, "no memory");
+    let copy = ok(&rt, walk.clone());
     has_items(&rt, collected(alloc, copy), &[2, 3]);
     has(&rt, &[walk.nth(usize::MAX), walk.next_back()], &[None; 2]);
     let mut walk = buffer_of(&rt, alloc, &[1, 2, 3]).into_iter();
@@ -121,18 +123,18 @@ fn is_cloned<B: TryFrom<Vec<u32>, Error = Error> + Clone + PartialEq>(
     rt: &impl Abort,
     items: Vec<u32>,
 ) -> B {
-    let made = B::try_from(items).expect(rt, "no memory");
-    assert!(rt; made.clone().expect(rt, "no memory") == made);
+    let made = ok(rt, B::try_from(items));
+    holds(rt, ok(rt, made.clone()) == made);
     made
 }
 
 #[test]
 fn buffers_are_made_and_taken_apart(rt: HostRuntime) {
     let alloc = rt.alloc();
-    let empty: Buffer<u32> = Buffer::new(alloc).expect(&rt, "no memory");
-    assert!(rt; empty.is_empty());
-    let items = [1, 2, 3].to_vec(alloc).expect(&rt, "no memory");
+    let empty: Buffer<u32> = ok(&rt, Buffer::new(alloc));
+    holds(&rt, empty.is_empty());
+    let items = ok(&rt, [1, 2, 3].to_vec(alloc));
     let buffer: Buffer<u32> = is_cloned(&rt, items);
-    let backward = Vec::from_iter(alloc, buffer.into_iter().rev()).expect(&rt, "no memory");
+    let backward = ok(&rt, Vec::from_iter(alloc, buffer.into_iter().rev()));
     has(&rt, Bytes::from(backward).into_vec().as_slice(), &[3, 2, 1]);
 }

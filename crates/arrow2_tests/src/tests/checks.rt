@@ -1,5 +1,5 @@
 //! Checks that many tests need, each proved once.
-ghost use Rattle.std.specs.Prelude.{◌≡◌};
+ghost use Rattle.std.specs.Prelude.{◌≡◌, Ok, IsTrue};
 ghost use Rattle.std.specs.Iterator.{IsFinite};
 ghost use Rattle.arrow2_model.specs.Storage.{items_of};
 
@@ -12,15 +12,29 @@ use std::convert::AsSlice;
 use std::fmt::{Debug, Display};
 use std::process::Abort;
 
+/// Checks a fact.
+pub(super) fn holds(rt: &impl Abort, fact: bool)
+    ensures { IsTrue fact }
+{
+    assert!(rt; fact);
+}
+
+/// Returns the value of a call that succeeded.
+pub(super) fn ok<T, E: Debug>(rt: &impl Abort, call: std::result::Result<T, E>) -> T
+    ensures { call ≡ Ok result }
+{
+    call.expect(rt, "no memory")
+}
+
 /// A value prints as the text.
 pub(super) fn prints(rt: &impl Abort, alloc: Global, value: &impl Display, text: &str) {
-    let printed = value.to_string(alloc).expect(rt, "no memory for a text");
+    let printed = ok(rt, value.to_string(alloc));
     assert_eq!(rt; printed.as_str(), text);
 }
 
 /// A value prints as the text where it is debugged.
 pub(super) fn shows(rt: &impl Abort, alloc: Global, value: &impl Debug, text: &str) {
-    let shown = format!(in alloc; "{value:?}").expect(rt, "no memory for a text");
+    let shown = ok(rt, format!(in alloc; "{value:?}"));
     assert_eq!(rt; shown.as_str(), text);
 }
 
@@ -33,15 +47,15 @@ pub(super) fn has<T: PartialEq + Debug>(rt: &impl Abort, items: &[T], wanted: &[
 pub(super) fn bitmap_from(rt: &impl Abort, alloc: Global, items: &[bool]) -> Bitmap
     ensures { items_of result ≡ items.now }
 {
-    Bitmap::from_bools(alloc, items).expect(rt, "no memory")
+    ok(rt, Bitmap::from_bools(alloc, items))
 }
 
 /// The bitmap, to be changed.
 pub(super) fn thawed(rt: &impl Abort, bitmap: &Bitmap) -> MutableBitmap
     ensures { result.items ≡ items_of bitmap.now }
 {
-    let copy = bitmap.clone().expect(rt, "no memory");
-    copy.make_mut().expect(rt, "no memory")
+    let copy = ok(rt, bitmap.clone());
+    ok(rt, copy.make_mut())
 }
 
 /// An iterator gives the items in this order, and no others.
@@ -54,18 +68,18 @@ pub(super) fn gives<T: PartialEq + Debug + Drop, I: Iterator<Item = T>>(
     requires next { I.can_next items }
     requires finite { IsFinite (I.remaining items) }
 {
-    let given: Vec<T> = items.collect(alloc).expect(rt, "no memory for the items");
+    let given: Vec<T> = ok(rt, items.collect(alloc));
     assert_eq!(rt; given.as_slice(), wanted);
 }
 
 /// The call made a bitmap of these items.
 pub(super) fn makes(rt: &impl Abort, alloc: Global, made: Result<Bitmap>, items: &[bool]) {
-    gives(rt, alloc, made.expect(rt, "no memory").iter(), items);
+    gives(rt, alloc, ok(rt, made).iter(), items);
 }
 
 /// The call made a bitmap that grows, of these bytes.
 pub(super) fn stores(rt: &impl Abort, made: Result<MutableBitmap>, bytes: &[u8]) {
-    has(rt, made.expect(rt, "no memory").as_slice(), bytes);
+    has(rt, ok(rt, made).as_slice(), bytes);
 }
 
 /// The call refused with the text.
@@ -76,14 +90,14 @@ pub(super) fn refuses<T: Drop>(rt: &impl Abort, alloc: Global, made: Result<T>, 
 
 /// The call returned `Overflow`.
 pub(super) fn overflows<T: Drop>(rt: &impl Abort, answer: Result<T>) {
-    assert!(rt; matches!(answer, Err(Error::Overflow)));
+    holds(rt, matches!(answer, Err(Error::Overflow)));
 }
 
 /// The bytes, in memory of their own.
 pub(super) fn bytes_of(rt: &impl Abort, alloc: Global, bytes: &[u8]) -> Vec<u8>
     ensures { result.items ≡ bytes.now }
 {
-    bytes.to_vec(alloc).expect(rt, "no memory")
+    ok(rt, bytes.to_vec(alloc))
 }
 
 /// A native value has the name and the bytes in both orders, and is read back from them.
@@ -95,11 +109,13 @@ pub(super) fn has_bytes<T: NativeType>(
     big: &[u8],
 ) {
     let (le, be) = (value.to_le_bytes(), value.to_be_bytes());
-    assert!(rt; T::PRIMITIVE == name && T::SIZE == little.len());
+    holds(rt, T::PRIMITIVE == name);
+    holds(rt, T::SIZE == little.len());
     has(rt, le.as_slice(), little);
     has(rt, be.as_slice(), big);
-    assert!(rt; T::from_le_bytes(le) == value && T::from_be_bytes(be) == value);
-    assert!(rt; T::from_le_slice(le.as_slice()) == value);
-    assert!(rt; T::from_be_slice(be.as_slice()) == value);
-    assert!(rt; T::from_le_bytes(T::bytes_of_slice(little)) == value);
+    holds(rt, T::from_le_bytes(le) == value);
+    holds(rt, T::from_be_bytes(be) == value);
+    holds(rt, T::from_le_slice(le.as_slice()) == value);
+    holds(rt, T::from_be_slice(be.as_slice()) == value);
+    holds(rt, T::from_le_bytes(T::bytes_of_slice(little)) == value);
 }

@@ -2,6 +2,7 @@
 ghost use Rattle.std.specs.Prelude.{◌≡◌, ◌+◌, ◌<◌, ◌≤◌, ◌^◌};
 ghost use Rattle.arrow2_model.specs.Touched.{slice_reads, cut_reads};
 
+use super::checks::{holds, ok};
 use arrow2_bitmap::Bitmap;
 use arrow2_bits::{Reads, Stored, count_zeros_counted, recount};
 use arrow2_walks::pieces::Pieces;
@@ -25,11 +26,11 @@ fn read_by_slice(
     requires inside { start + count ≤ length }
     ensures { result ≡ slice_reads offset length start count }
 {
-    let zeros = Bitmap::new_zeroed(alloc, offset + length).expect(rt, "no memory");
+    let zeros = ok(rt, Bitmap::new_zeroed(alloc, offset + length));
     let mut bitmap = zeros.sliced(offset, length);
     let mut reads = Reads::new();
     bitmap.slice_counted(start, count, &mut reads);
-    assert!(rt; bitmap.unset_bits() == count);
+    holds(rt, bitmap.unset_bits() == count);
     reads
 }
 
@@ -76,8 +77,8 @@ fn have_read(pieces: &Pieces, bytes: u64)
 #[tactic(auto, using(crate::proofs::ReadRows::cuts))]
 #[test]
 fn cuts_read_what_they_count(rt: HostRuntime) {
-    let zeros = Bitmap::new_zeroed(rt.alloc(), 1600).expect(&rt, "no memory");
-    let mut pieces = Pieces::new(rt.alloc(), zeros).expect(&rt, "no memory");
+    let zeros = ok(&rt, Bitmap::new_zeroed(rt.alloc(), 1600));
+    let mut pieces = ok(&rt, Pieces::new(rt.alloc(), zeros));
     cut(&rt, &mut pieces, 0, 1600, 800);
     have_read(&pieces, 200);
     cut(&rt, &mut pieces, 0, 800, 400);
@@ -85,19 +86,22 @@ fn cuts_read_what_they_count(rt: HostRuntime) {
     cut(&rt, &mut pieces, 2, 800, 1);
     have_read(&pieces, 302);
     for (p, length) in [(0, 400), (1, 400), (2, 1), (3, 799)] {
-        assert!(rt; pieces.len() == 4 && pieces.get(p).unset_bits() == length);
+        holds(&rt, pieces.len() == 4);
+        holds(&rt, pieces.get(p).unset_bits() == length);
     }
 }
 
 #[test]
 fn bits_are_counted_through_stored_bytes(rt: HostRuntime) {
     let mut stored = Stored::new(&[0xf0, 0xff, 0x0f, 0xff], Reads::new());
-    assert!(rt; count_zeros_counted(&mut stored, 0, 32) == 8);
-    assert!(rt; count_zeros_counted(&mut stored, 3, 5) == 1);
-    assert!(rt; recount(&mut stored, 0, 32, 8, 2, 28) == 6);
-    assert!(rt; recount(&mut stored, 0, 32, 8, 20, 4) == 4);
+    holds(&rt, count_zeros_counted(&mut stored, 0, 32) == 8);
+    holds(&rt, count_zeros_counted(&mut stored, 3, 5) == 1);
+    holds(&rt, recount(&mut stored, 0, 32, 8, 2, 28) == 6);
+    holds(&rt, recount(&mut stored, 0, 32, 8, 20, 4) == 4);
     let [first, last] = stored.fetch::<2>(2);
-    assert!(rt; stored.len() == 4 && first == 0x0f && last == 0xff);
+    holds(&rt, stored.len() == 4);
+    holds(&rt, first == 0x0f);
+    holds(&rt, last == 0xff);
 }
 
 #[tactic(auto, using(crate::proofs::ReadRows::counts))]
@@ -108,9 +112,9 @@ fn counts_fetch_each_byte_once(rt: HostRuntime) {
         *byte = i as u8;
     }
     let mut stored = Stored::new(&bytes, Reads::new());
-    assert!(rt; count_zeros_counted(&mut stored, 0, 320) == 220);
+    holds(&rt, count_zeros_counted(&mut stored, 0, 320) == 220);
     is_read(stored.into_reads(), 40);
     let mut stored = Stored::new(&bytes, Reads::new());
-    assert!(rt; count_zeros_counted(&mut stored, 3, 300) == 207);
+    holds(&rt, count_zeros_counted(&mut stored, 3, 300) == 207);
     is_read(stored.into_reads(), 38);
 }

@@ -1,21 +1,22 @@
 //! Worked examples of the type tables, of extensions and of filtered schemas, and derived texts.
-use super::checks::{has, shows};
+use super::checks::{has, holds, ok, shows};
 use arrow2_datatypes::{
     DataType, Field, IntegerType, IntervalUnit, Metadata, PhysicalType, PrimitiveType, Schema,
     TimeUnit, UnionMode, get_extension,
 };
 use std::alloc::Global;
+use std::fmt::Debug;
 use std::hash::{DefaultHasher, Hash, Hasher};
 use std::process::Abort;
 
 /// A text, where memory is ample.
 fn text(rt: &impl Abort, alloc: Global, text: &str) -> String {
-    String::from_str(alloc, text).expect(rt, "no memory for a text")
+    ok(rt, String::from_str(alloc, text))
 }
 
 /// An extension of the name, with no text of its own.
 fn extension(rt: &impl Abort, alloc: Global, name: &str, inner: DataType) -> DataType {
-    let inner = Box::new(alloc, inner).expect(rt, "no memory for a type");
+    let inner = ok(rt, Box::new(alloc, inner));
     DataType::Extension(text(rt, alloc, name), inner, None)
 }
 
@@ -27,17 +28,17 @@ fn field(rt: &impl Abort, alloc: Global, name: &str) -> Field {
 /// A text more under a name.
 fn annotate(rt: &impl Abort, alloc: Global, metadata: &mut Metadata, name: &str, value: &str) {
     let inserted: Result<_, _> = metadata.insert(text(rt, alloc, name), text(rt, alloc, value));
-    assert!(rt; inserted.is_ok());
+    holds(rt, inserted.is_ok());
 }
 
 /// Two values are equal.
 fn is_equal<T: PartialEq>(rt: &impl Abort, value: &T, wanted: &T) {
-    assert!(rt; *value == *wanted);
+    holds(rt, *value == *wanted);
 }
 
 /// A copy of the value is equal to it.
 fn is_copied<T: PartialEq + Clone + Drop>(rt: &impl Abort, value: &T) {
-    let copy = value.clone().expect(rt, "no memory for a copy");
+    let copy = ok(rt, value.clone());
     is_equal(rt, &copy, value);
 }
 
@@ -48,10 +49,15 @@ fn hash(data_type: &DataType) -> u64 {
     state.finish()
 }
 
+/// A type is this one.
+fn is_type(rt: &impl Abort, data_type: DataType, wanted: DataType) {
+    is_equal(rt, &data_type, &wanted);
+}
+
 /// A type is laid out as a primitive one.
 fn is_primitive(rt: &impl Abort, data_type: DataType, primitive: PrimitiveType) {
     let physical = data_type.to_physical_type();
-    assert!(rt; physical.eq_primitive(primitive));
+    holds(rt, physical.eq_primitive(primitive));
     is_equal(rt, &physical, &PhysicalType::Primitive(primitive));
 }
 
@@ -68,7 +74,7 @@ fn extensions_are_what_they_extend(rt: HostRuntime) {
 
 #[test]
 fn types_are_laid_out_by_the_table(rt: HostRuntime) {
-    let values = Box::new(rt.alloc(), DataType::Utf8).expect(&rt, "no memory for a type");
+    let values = ok(&rt, Box::new(rt.alloc(), DataType::Utf8));
     let dictionary = DataType::Dictionary(IntegerType::UInt8, values, false);
     let physical = PhysicalType::Dictionary(IntegerType::UInt8);
     is_equal(&rt, &dictionary.to_physical_type(), &physical);
@@ -77,25 +83,33 @@ fn types_are_laid_out_by_the_table(rt: HostRuntime) {
     let time = DataType::Time32(TimeUnit::Second);
     is_primitive(&rt, time, PrimitiveType::Int32);
     let decimal = DataType::from(PrimitiveType::Int128);
-    is_equal(&rt, &decimal, &DataType::Decimal(32, 32));
+    is_type(&rt, decimal, DataType::Decimal(32, 32));
+    let decimal = DataType::from(PrimitiveType::Int128);
     is_primitive(&rt, decimal, PrimitiveType::Int128);
-    is_equal(&rt, &DataType::from(IntegerType::UInt16), &DataType::UInt16);
-    is_equal(&rt, &UnionMode::sparse(true).is_sparse(), &true);
-    is_equal(&rt, &UnionMode::sparse(false).is_dense(), &true);
+    is_type(&rt, DataType::from(IntegerType::UInt16), DataType::UInt16);
+    holds(&rt, UnionMode::sparse(true).is_sparse());
+    holds(&rt, UnionMode::sparse(false).is_dense());
+}
+
+/// An optional text is this.
+fn reads(rt: &impl Abort, text: &Option<String>, wanted: Option<&str>) {
+    match (text, wanted) {
+        (Some(text), Some(wanted)) => holds(rt, text.as_str() == wanted),
+        (text, wanted) => holds(rt, text.is_none() && wanted.is_none()),
+    }
 }
 
 /// The metadata names the extension, with the text.
-fn names(rt: &impl Abort, metadata: &Metadata, wanted: Option<(&str, Option<&str>)>) {
-    let given = get_extension(metadata).expect(rt, "no memory for an extension");
-    let (Some((name, text)), Some((wanted, wanted_text))) = (&given, wanted) else {
-        assert!(rt; given.is_none() && wanted.is_none());
-        return;
-    };
-    assert_eq!(rt; name.as_str(), wanted);
-    match (text, wanted_text) {
-        (Some(text), Some(wanted)) => assert_eq!(rt; text.as_str(), wanted),
-        (text, wanted) => assert!(rt; text.is_none() && wanted.is_none()),
-    }
+fn names(rt: &impl Abort, metadata: &Metadata, name: &str, text: Option<&str>) {
+    let given = ok(rt, get_extension(metadata));
+    let (given, given_text) = given.expect(rt, "an extension");
+    holds(rt, given.as_str() == name);
+    reads(rt, &given_text, text);
+}
+
+/// The metadata names no extension.
+fn names_none(rt: &impl Abort, metadata: &Metadata) {
+    holds(rt, ok(rt, get_extension(metadata)).is_none());
 }
 
 /// Metadata of one text under a name.
@@ -109,17 +123,17 @@ fn annotated(rt: &impl Abort, alloc: Global, name: &str, value: &str) -> Metadat
 fn metadata_names_an_extension(rt: HostRuntime) {
     let alloc = rt.alloc();
     let (name, value) = ("ARROW:extension:name", "ARROW:extension:metadata");
-    names(&rt, &Metadata::new(alloc), None);
-    names(&rt, &annotated(&rt, alloc, name, "a"), Some(("a", None)));
+    names_none(&rt, &Metadata::new(alloc));
+    names(&rt, &annotated(&rt, alloc, name, "a"), "a", None);
     let mut metadata = annotated(&rt, alloc, value, "b");
-    names(&rt, &metadata, None);
+    names_none(&rt, &metadata);
     annotate(&rt, alloc, &mut metadata, name, "a");
-    names(&rt, &metadata, Some(("a", Some("b"))));
+    names(&rt, &metadata, "a", Some("b"));
 }
 
 /// A schema has fields of these names.
 fn has_fields(rt: &impl Abort, schema: &Schema, wanted: &[&str]) {
-    assert!(rt; schema.fields.len() == wanted.len());
+    holds(rt, schema.fields.len() == wanted.len());
     for (field, name) in schema.fields.iter().zip(wanted) {
         assert_eq!(rt; field.name.as_str(), *name);
     }
@@ -128,7 +142,7 @@ fn has_fields(rt: &impl Abort, schema: &Schema, wanted: &[&str]) {
 /// A schema of three fields, with metadata.
 fn three_fields(rt: &impl Abort, alloc: Global) -> Schema {
     let (a, b) = (field(rt, alloc, "a"), field(rt, alloc, "b"));
-    let fields = vec![in alloc; a, b, field(rt, alloc, "c")].expect(rt, "no memory for fields");
+    let fields = ok(rt, vec![in alloc; a, b, field(rt, alloc, "c")]);
     Schema::from_fields(alloc, fields).with_metadata(annotated(rt, alloc, "k", "v"))
 }
 
@@ -150,10 +164,15 @@ fn a_copy_of_a_field_is_equal_and_hashes_alike(rt: HostRuntime) {
     let one = field(&rt, alloc, "a").with_metadata(annotated(&rt, alloc, "k", "v"));
     is_copied(&rt, &one);
     is_equal(&rt, one.data_type(), &DataType::UInt8);
-    let list = DataType::List(Box::new(alloc, one).expect(&rt, "no memory for a type"));
+    let list = DataType::List(ok(&rt, Box::new(alloc, one)));
     is_copied(&rt, &list);
-    let copy = list.clone().expect(&rt, "no memory for a type");
+    let copy = ok(&rt, list.clone());
     has(&rt, &[hash(&copy)], &[hash(&list)]);
+}
+
+/// A value that ends here prints as the text where it is debugged.
+fn is_shown<T: Debug + Drop>(rt: &impl Abort, alloc: Global, value: T, text: &str) {
+    shows(rt, alloc, &value, text);
 }
 
 #[test]
@@ -163,11 +182,11 @@ fn derived_texts_name_the_parts(rt: HostRuntime) {
     shows(&rt, alloc, &dictionary, "Dictionary(Int8)");
     shows(&rt, alloc, &UnionMode::Dense, "Dense");
     let time = DataType::Timestamp(TimeUnit::Second, None);
-    shows(&rt, alloc, &time, "Timestamp(Second, None)");
+    is_shown(&rt, alloc, time, "Timestamp(Second, None)");
     let interval = DataType::Interval(IntervalUnit::YearMonth);
-    shows(&rt, alloc, &interval, "Interval(YearMonth)");
+    is_shown(&rt, alloc, interval, "Interval(YearMonth)");
     let text = "Field { name: \"a\", data_type: UInt8, is_nullable: false, metadata: {} }";
-    shows(&rt, alloc, &field(&rt, alloc, "a"), text);
+    is_shown(&rt, alloc, field(&rt, alloc, "a"), text);
     let schema = Schema::from_fields(alloc, Vec::new(alloc));
-    shows(&rt, alloc, &schema, "Schema { fields: [], metadata: {} }");
+    is_shown(&rt, alloc, schema, "Schema { fields: [], metadata: {} }");
 }

@@ -1,7 +1,7 @@
 //! Growth by many items at once.
 ghost use Rattle.std.specs.Prelude.{◌+◌, ◌*◌, ◌≤◌, length as count};
 
-use super::checks::{bytes_of, gives, has, overflows, shows, stores};
+use super::checks::{bytes_of, gives, has, holds, ok, overflows, shows, stores};
 use arrow2_bitmap::{Bitmap, MutableBitmap};
 use arrow2_walks::SlicesIterator;
 use std::alloc::Global;
@@ -10,7 +10,7 @@ use std::process::Abort;
 
 /// The bitmap of the items.
 fn grown_from(rt: &impl Abort, alloc: Global, items: &[bool]) -> MutableBitmap {
-    MutableBitmap::from_bools(alloc, items).expect(rt, "no memory")
+    ok(rt, MutableBitmap::from_bools(alloc, items))
 }
 
 /// Appends bits of the bytes from bit `offset` on to the items.
@@ -26,7 +26,7 @@ fn extended(
 {
     let mut grown = grown_from(rt, alloc, items);
     let done = grown.extend_from_slice(bytes, offset, length);
-    assert!(rt; done.is_ok());
+    holds(rt, done.is_ok());
     grown
 }
 
@@ -38,8 +38,9 @@ fn has_runs(
     [length, falses]: [usize; 2],
     runs: &[(usize, usize)],
 ) {
-    let frozen = Bitmap::try_from(grown).expect(rt, "no memory");
-    assert!(rt; frozen.len() == length && frozen.unset_bits() == falses);
+    let frozen = ok(rt, Bitmap::try_from(grown));
+    holds(rt, frozen.len() == length);
+    holds(rt, frozen.unset_bits() == falses);
     gives(rt, alloc, SlicesIterator::new(&frozen), runs);
 }
 
@@ -60,8 +61,8 @@ fn bits_and_words_are_appended_within_a_byte(rt: HostRuntime) {
 #[test]
 fn a_value_is_appended_behind_spare_bits(rt: HostRuntime) {
     let mut grown = MutableBitmap::from_vec(bytes_of(&rt, rt.alloc(), &[85, 255, 255]), 12);
-    grown.extend_constant(4, false).expect(&rt, "no memory");
-    let frozen = Bitmap::try_from(grown).expect(&rt, "no memory");
+    ok(&rt, grown.extend_constant(4, false));
+    let frozen = ok(&rt, Bitmap::try_from(grown));
     let (storage, offset, length) = frozen.as_slice();
     has(&rt, storage, &[85, 15]);
     has(&rt, &[offset, length], &[0, 16]);
@@ -70,10 +71,10 @@ fn a_value_is_appended_behind_spare_bits(rt: HostRuntime) {
 #[test]
 fn room_is_made_and_given_back(rt: HostRuntime) {
     let mut grown = grown_from(&rt, rt.alloc(), &[true; 3]);
-    grown.reserve(1000).expect(&rt, "no memory");
-    assert!(rt; grown.capacity() >= 1003);
-    grown.shrink_to_fit().expect(&rt, "refused");
-    assert!(rt; grown.capacity() < 1003);
+    ok(&rt, grown.reserve(1000));
+    holds(&rt, grown.capacity() >= 1003);
+    ok(&rt, grown.shrink_to_fit());
+    holds(&rt, grown.capacity() < 1003);
     overflows(&rt, grown.reserve(usize::MAX - 2));
     overflows(&rt, grown.extend_constant(usize::MAX, true));
     stores(&rt, Ok(grown), &[7]);
@@ -82,9 +83,9 @@ fn room_is_made_and_given_back(rt: HostRuntime) {
 /// Checks whether the items have a validity: where one of them is false.
 fn has_validity(rt: &impl Abort, alloc: Global, items: &[bool], is_there: bool) {
     let validity = grown_from(rt, alloc, items).into_validity();
-    match validity.expect(rt, "no memory") {
+    match ok(rt, validity) {
         Some(validity) => gives(rt, alloc, validity.iter(), items),
-        None => assert!(rt; !is_there),
+        None => holds(rt, !is_there),
     }
 }
 

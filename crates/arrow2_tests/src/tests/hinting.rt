@@ -2,7 +2,7 @@
 ghost use Rattle.std.specs.Prelude.{◌+◌};
 ghost use Rattle.std.specs.Iterator.{at_most};
 
-use super::checks::{has, makes, stores};
+use super::checks::{has, makes, ok, stores};
 use super::offset;
 use arrow2_bitmap::{Bitmap, MutableBitmap};
 use arrow2_buffer::Buffer;
@@ -52,7 +52,7 @@ fn numbers(left: u64, (hint, falls): (usize, usize)) -> Hinting {
 
 /// The call made a buffer of these items.
 fn has_items(rt: &impl Abort, made: Result<Buffer<bool>>, items: &[bool]) {
-    has(rt, made.expect(rt, "no memory").as_slice(), items);
+    has(rt, ok(rt, made).as_slice(), items);
 }
 
 /// Under such a size hint, three true items are collected.

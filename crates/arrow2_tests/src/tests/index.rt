@@ -1,7 +1,7 @@
 //! Worked examples of whole numbers, and each call once.
 ghost use Rattle.std.specs.Prelude.{◌≤◌};
 
-use super::checks::has;
+use super::checks::{has, ok};
 use arrow2_index::index::{Index, IndexRange};
 use arrow2_index::offset::Offset;
 use std::alloc::Global;
@@ -12,7 +12,7 @@ fn numbers<I: Index>(rt: &impl Abort, alloc: Global, start: usize, end: usize) -
     requires { start ≤ end }
 {
     let range = I::range(start, end).expect(rt, "the range fits");
-    range.collect(alloc).expect(rt, "no memory")
+    ok(rt, range.collect(alloc))
 }
 
 #[test]

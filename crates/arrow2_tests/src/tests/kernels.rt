@@ -4,7 +4,7 @@ ghost use Rattle.arrow2_model.specs.Kernels.{unary_kernel, binary_kernel};
 ghost use Rattle.arrow2_model.specs.Storage.{items_of};
 ghost use Rattle.arrow2_model.specs.Tables.{each};
 
-use super::checks::{bitmap_from, makes, stores, thawed};
+use super::checks::{bitmap_from, holds, makes, ok, stores, thawed};
 use arrow2_bitmap::assign_ops::{binary_assign, unary_assign};
 use arrow2_bitmap::bitmap_ops::{binary, unary};
 use arrow2_bitmap::{Bitmap, MutableBitmap};
@@ -47,8 +47,10 @@ fn flip(bitmap: &mut MutableBitmap)
 
 /// A kernel of every zero word is true everywhere, and of every other word false: of these bits it is true.
 fn is_zero(rt: &impl Abort, alloc: Global, bytes: &[u8], length: usize) {
-    assert!(rt; length <= 64 && bytes.len() <= 8 && length <= 8 * bytes.len());
-    let bitmap = Bitmap::from_u8_slice(alloc, bytes, length).expect(rt, "no memory");
+    holds(rt, length <= 64);
+    holds(rt, bytes.len() <= 8);
+    holds(rt, length <= 8 * bytes.len());
+    let bitmap = ok(rt, Bitmap::from_u8_slice(alloc, bytes, length));
     let made = unary(&bitmap, |x| if x == 0 { u64::MAX } else { 0 });
     makes(rt, alloc, made, &[true; 64][..length]);
 }
@@ -63,7 +65,7 @@ fn spare_bits_and_words_behind_reach_no_function(rt: HostRuntime) {
 
 /// Returns a bitmap of `length` unset bits.
 fn falses(rt: &impl Abort, alloc: Global, length: usize) -> MutableBitmap {
-    MutableBitmap::from_len_zeroed(alloc, length).expect(rt, "no memory")
+    ok(rt, MutableBitmap::from_len_zeroed(alloc, length))
 }
 
 #[test]

@@ -1,5 +1,5 @@
 //! Calls that take memory, at a million items, where no command of a script makes them.
-use super::checks::has;
+use super::checks::{has, holds, ok};
 use arrow2_bitmap::bitmap_ops::{binary, unary};
 use arrow2_bitmap::{Bitmap, MutableBitmap};
 use arrow2_buffer::Buffer;
@@ -15,8 +15,9 @@ const MILLION: usize = 1_000_000;
 
 /// The call made a million items, `falses` of which are false.
 fn counts(rt: &impl Abort, made: Result<Bitmap>, falses: usize) {
-    let bitmap = made.expect(rt, "no memory");
-    assert!(rt; bitmap.len() == MILLION && bitmap.unset_bits() == falses);
+    let bitmap = ok(rt, made);
+    holds(rt, bitmap.len() == MILLION);
+    holds(rt, bitmap.unset_bits() == falses);
 }
 
 /// A million items, each third one false.
@@ -26,7 +27,7 @@ fn thirds(alloc: Global) -> Result<Bitmap> {
 
 /// A million false items of which bitmaps are packed.
 fn is_packed(rt: &impl Abort, alloc: Global) {
-    let list = vec![in alloc; false; MILLION].expect(rt, "no memory");
+    let list = ok(rt, vec![in alloc; false; MILLION]);
     counts(rt, Bitmap::from_bools(alloc, list.as_slice()), MILLION);
     let grown = MutableBitmap::from_bools(alloc, list.as_slice());
     counts(rt, grown.and_then(Bitmap::try_from), MILLION);
@@ -44,19 +45,19 @@ fn bitmaps_are_packed_and_collected(rt: HostRuntime) {
 
 #[test]
 fn kernels_make_bitmaps(rt: HostRuntime) {
-    let bitmap = thirds(rt.alloc()).expect(&rt, "no memory");
+    let bitmap = ok(&rt, thirds(rt.alloc()));
     counts(&rt, unary(&bitmap, |x| !x), 666666);
     counts(&rt, binary(&bitmap, &bitmap, |x, y| x ^ y), MILLION);
 }
 
 /// The call made a million items.
 fn has_million(rt: &impl Abort, made: Result<Buffer<usize>>) {
-    assert!(rt; made.expect(rt, "no memory").len() == MILLION);
+    holds(rt, ok(rt, made).len() == MILLION);
 }
 
 /// The call made offsets that end there.
 fn ends_at(rt: &impl Abort, made: Result<Offsets<i64>>, last: i64) {
-    has(rt, &[*made.expect(rt, "no memory").last()], &[last]);
+    has(rt, &[*ok(rt, made).last()], &[last]);
 }
 
 #[test]
@@ -70,23 +71,25 @@ fn buffers_and_offsets_are_collected(rt: HostRuntime) {
 /// Each item of a bitmap is cut off by itself.
 fn cut_apart(rt: &impl Abort, pieces: &mut Pieces, cuts: usize) {
     for p in 0..cuts {
-        assert!(rt; p < pieces.len() && pieces.get(p).len() > 0);
-        pieces.cut(p, 1).expect(rt, "no memory");
+        holds(rt, p < pieces.len());
+        holds(rt, pieces.get(p).len() > 0);
+        ok(rt, pieces.cut(p, 1));
     }
 }
 
 /// The pieces have one item each.
 fn are_single(rt: &impl Abort, pieces: &Pieces, count: usize) {
-    assert!(rt; pieces.len() == count);
+    holds(rt, pieces.len() == count);
     for p in 0..count {
-        assert!(rt; pieces.len() == count && pieces.get(p).len() == 1);
+        holds(rt, pieces.len() == count);
+        holds(rt, pieces.get(p).len() == 1);
     }
 }
 
 #[test]
 fn a_bitmap_is_cut_two_thousand_times(rt: HostRuntime) {
-    let zeros = Bitmap::new_zeroed(rt.alloc(), 2001).expect(&rt, "no memory");
-    let mut pieces = Pieces::new(rt.alloc(), zeros).expect(&rt, "no memory");
+    let zeros = ok(&rt, Bitmap::new_zeroed(rt.alloc(), 2001));
+    let mut pieces = ok(&rt, Pieces::new(rt.alloc(), zeros));
     cut_apart(&rt, &mut pieces, 2000);
     are_single(&rt, &pieces, 2001);
 }

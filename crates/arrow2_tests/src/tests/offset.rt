@@ -1,5 +1,5 @@
 //! Offsets as their callers see them: worked examples, texts of refusals, and calls that no command of a script makes.
-use super::checks::{gives, has, overflows, refuses};
+use super::checks::{gives, has, holds, ok, overflows, refuses};
 use arrow2_buffer::Buffer;
 use arrow2_index::offset::Offset;
 use arrow2_offset::{Offsets, OffsetsBuffer};
@@ -10,35 +10,39 @@ use std::process::Abort;
 
 /// Offsets that begin at 0.
 fn grown<O: Offset>(rt: &impl Abort, alloc: Global, lengths: &[usize]) -> Offsets<O> {
-    Offsets::try_from_lengths(alloc, lengths.iter().copied()).expect(rt, "no memory")
+    ok(
+        rt,
+        Offsets::try_from_lengths(alloc, lengths.iter().copied()),
+    )
 }
 
 /// Offsets with these items.
 fn of(rt: &impl Abort, alloc: Global, items: &[i32]) -> Offsets<i32> {
-    let items = items.to_vec(alloc).expect(rt, "no memory");
-    Offsets::try_from(items).expect(rt, "no memory")
+    let items = ok(rt, items.to_vec(alloc));
+    ok(rt, Offsets::try_from(items))
 }
 
 /// The same, shared.
 fn shared(rt: &impl Abort, alloc: Global, items: &[i32]) -> OffsetsBuffer<i32> {
-    OffsetsBuffer::try_from(of(rt, alloc, items)).expect(rt, "no memory")
+    ok(rt, OffsetsBuffer::try_from(of(rt, alloc, items)))
 }
 
 /// The call made these offsets.
 pub(super) fn makes<O: Offset>(rt: &impl Abort, made: Result<Offsets<O>>, items: &[O]) {
-    let vector = made.expect(rt, "no memory").into_inner();
+    let vector = ok(rt, made).into_inner();
     has(rt, vector.as_slice(), items);
 }
 
 /// The call made these shared offsets.
 fn shares<O: Offset>(rt: &impl Abort, made: Result<OffsetsBuffer<O>>, items: &[O]) {
-    has(rt, made.expect(rt, "no memory").as_slice(), items);
+    has(rt, ok(rt, made).as_slice(), items);
 }
 
 #[test]
 fn growing_offsets_are_read(rt: HostRuntime) {
     let offsets = grown::<i32>(&rt, rt.alloc(), &[3, 4, 1, 2]);
-    assert!(rt; offsets.len() == 5 && offsets.len_proxy() == 4);
+    holds(&rt, offsets.len() == 5);
+    holds(&rt, offsets.len_proxy() == 4);
     has(&rt, &[*offsets.last(), offsets[1]], &[10, 3]);
     has(&rt, &[offsets.start_end(1)], &[(3, 7)]);
 }
@@ -46,34 +50,48 @@ fn growing_offsets_are_read(rt: HostRuntime) {
 /// Shared offsets have these lengths.
 fn gives_lengths(rt: &impl Abort, alloc: Global, offsets: &OffsetsBuffer<i32>, lengths: &[usize]) {
     gives(rt, alloc, offsets.lengths(), lengths);
-    assert!(rt; offsets.lengths().len() == lengths.len());
+    holds(rt, offsets.lengths().len() == lengths.len());
+}
+
+/// Offsets of three lengths are read.
+fn is_read(rt: &impl Abort, alloc: Global, whole: &OffsetsBuffer<i32>) {
+    holds(rt, whole.len() == 4);
+    gives_lengths(rt, alloc, whole, &[3, 0, 4]);
+    has(rt, &[*whole.first(), *whole.last(), whole[1]], &[5, 12, 8]);
+    has(rt, &[whole.range()], &[7]);
+    has(rt, &[whole.start_end(1)], &[(8, 8)]);
+}
+
+/// The lengths of these offsets come from both ends.
+fn ends_in(rt: &impl Abort, offsets: &OffsetsBuffer<i32>, ends: &[Option<usize>]) {
+    let mut lengths = ok(rt, offsets.lengths().clone());
+    has(rt, &[lengths.next_back(), lengths.next()], ends);
+}
+
+/// Offsets are made of the buffer of others, and taken apart.
+fn is_taken_apart(rt: &impl Abort, offsets: OffsetsBuffer<i32>, items: &[i32]) {
+    let buffer = ok(rt, offsets.buffer().clone());
+    shares(rt, OffsetsBuffer::try_from(buffer), items);
+    has(rt, offsets.into_inner().as_slice(), items);
 }
 
 #[test]
 fn shared_offsets_are_read_and_sliced(rt: HostRuntime) {
     let alloc = rt.alloc();
     let mut whole = shared(&rt, alloc, &[5, 8, 8, 12]);
-    assert!(rt; whole.len() == 4);
-    gives_lengths(&rt, alloc, &whole, &[3, 0, 4]);
-    has(&rt, &[*whole.first(), *whole.last(), whole[1]], &[5, 12, 8]);
-    has(&rt, &[whole.range()], &[7]);
-    has(&rt, &[whole.start_end(1)], &[(8, 8)]);
+    is_read(&rt, alloc, &whole);
+    holds(&rt, whole.len() == 4);
     whole.slice(1, 3);
-    let mut lengths = whole.lengths().clone().expect(&rt, "no memory");
-    let ends = [lengths.next_back(), lengths.next()];
-    has(&rt, &ends, &[Some(4), Some(0)]);
+    ends_in(&rt, &whole, &[Some(4), Some(0)]);
     gives_lengths(&rt, alloc, &whole.sliced(0, 2), &[0]);
-    let offsets = shared(&rt, alloc, &[5, 8]);
-    let buffer = offsets.buffer().clone().expect(&rt, "no memory");
-    shares(&rt, OffsetsBuffer::try_from(buffer), &[5, 8]);
-    has(&rt, offsets.into_inner().as_slice(), &[5, 8]);
+    is_taken_apart(&rt, shared(&rt, alloc, &[5, 8]), &[5, 8]);
 }
 
 /// The offsets that could not be taken back are these.
 fn stays(rt: &impl Abort, given: Either<OffsetsBuffer<i32>, Offsets<i32>>, items: &[i32]) {
     let left = given.left().expect(rt, "it is sliced or shared");
     has(rt, left.as_slice(), items);
-    assert!(rt; left.len_proxy() + 1 == items.len());
+    holds(rt, left.len_proxy() + 1 == items.len());
 }
 
 /// The offsets that were taken back are these.
@@ -86,11 +104,11 @@ fn is_taken(rt: &impl Abort, given: Either<OffsetsBuffer<i32>, Offsets<i32>>, it
 fn shared_offsets_are_taken_back_where_nothing_is_sliced_off(rt: HostRuntime) {
     let alloc = rt.alloc();
     let mut part = shared(&rt, alloc, &[5, 8, 8, 12]);
-    assert!(rt; part.len() == 4);
+    holds(&rt, part.len() == 4);
     part.slice(1, 2);
     stays(&rt, part.into_mut(), &[8, 8]);
     let whole = shared(&rt, alloc, &[5, 8, 8, 12]);
-    let other = whole.clone().expect(&rt, "no memory");
+    let other = ok(&rt, whole.clone());
     stays(&rt, whole.into_mut(), &[5, 8, 8, 12]);
     is_taken(&rt, other.into_mut(), &[5, 8, 8, 12]);
 }
@@ -98,7 +116,8 @@ fn shared_offsets_are_taken_back_where_nothing_is_sliced_off(rt: HostRuntime) {
 /// Offsets grow by the lengths of others, growing, to these.
 fn grow_by_others(rt: &impl Abort, mut own: Offsets<i32>, other: &Offsets<i32>, wanted: &[i32]) {
     let answer = own.try_extend_from_self(other);
-    assert!(rt; answer.is_ok() && own != *other);
+    holds(rt, answer.is_ok());
+    holds(rt, own != *other);
     has(rt, own.as_slice(), wanted);
 }
 
@@ -110,9 +129,10 @@ fn grow_by_a_part(
     (start, length): (usize, usize),
     wanted: &[i32],
 ) {
-    assert!(rt; other.len() > length && start < other.len() - length);
+    holds(rt, other.len() > length);
+    holds(rt, start < other.len() - length);
     let answer = own.try_extend_from_slice(&other, start, length);
-    assert!(rt; answer.is_ok());
+    holds(rt, answer.is_ok());
     has(rt, own.as_slice(), wanted);
 }
 
@@ -132,8 +152,21 @@ fn growth_by_others_and_by_empty_slots(rt: HostRuntime) {
     let mut offsets = of(&rt, alloc, &[0, 3]);
     overflows(&rt, offsets.extend_constant(usize::MAX));
     has(&rt, offsets.as_slice(), &[0, 3]);
-    offsets.extend_constant(2).expect(&rt, "no memory");
+    ok(&rt, offsets.extend_constant(2));
     has(&rt, offsets.as_slice(), &[0, 3, 3, 3]);
+}
+
+/// Offsets that hold one length of the greatest number less 1 grow by 1, and then by 0 alone.
+fn ends_at_its_greatest(rt: &impl Abort, mut large: Offsets<i64>) {
+    let answers = [
+        large.try_push(1).is_ok(),
+        large.try_push(1).is_ok(),
+        large.try_push(0).is_ok(),
+    ];
+    has(rt, &answers, &[true, false, true]);
+    overflows(rt, large.try_push(1));
+    let greatest = 9223372036854775807;
+    makes(rt, Ok(large), &[0, greatest - 1, greatest, greatest]);
 }
 
 #[test]
@@ -142,28 +175,19 @@ fn large_offsets_end_at_their_greatest(rt: HostRuntime) {
     let mut large = grown::<i64>(&rt, alloc, &[]);
     overflows(&rt, large.try_push_usize(9223372036854775808));
     has(&rt, large.as_slice(), &[0]);
-    let mut large = grown::<i64>(&rt, alloc, &[9223372036854775806]);
-    let answers = [
-        large.try_push(1).is_ok(),
-        large.try_push(1).is_ok(),
-        large.try_push(0).is_ok(),
-    ];
-    has(&rt, &answers, &[true, false, true]);
-    overflows(&rt, large.try_push(1));
-    let greatest = 9223372036854775807;
-    makes(&rt, Ok(large), &[0, greatest - 1, greatest, greatest]);
+    ends_at_its_greatest(&rt, grown::<i64>(&rt, alloc, &[9223372036854775806]));
     overflows(&rt, Offsets::<i32>::new_zeroed(alloc, usize::MAX));
     overflows(&rt, Offsets::<i64>::with_capacity(alloc, usize::MAX));
 }
 
 /// The numbers are refused with the text, growing and shared.
 fn is_refused(rt: &impl Abort, alloc: Global, items: &[i32], text: &str) {
-    let vector = items.to_vec(alloc).expect(rt, "no memory");
+    let vector = ok(rt, items.to_vec(alloc));
     refuses(rt, alloc, Offsets::try_from(vector), text);
-    let vector = items.to_vec(alloc).expect(rt, "no memory");
+    let vector = ok(rt, items.to_vec(alloc));
     refuses(rt, alloc, OffsetsBuffer::try_from(vector), text);
-    let vector = items.to_vec(alloc).expect(rt, "no memory");
-    let buffer = Buffer::try_from(vector).expect(rt, "no memory");
+    let vector = ok(rt, items.to_vec(alloc));
+    let buffer = ok(rt, Buffer::try_from(vector));
     refuses(rt, alloc, OffsetsBuffer::try_from(buffer), text);
 }
 
@@ -178,11 +202,11 @@ fn what_is_no_offsets_is_refused_by_the_first_rule(rt: HostRuntime) {
 
 /// Offsets have these items in the greater width, and are themselves again in the smaller one; shared ones too.
 fn widens(rt: &impl Abort, alloc: Global, narrow: &[i32], wide: &[i64]) {
-    let widened = Offsets::<i64>::try_from(of(rt, alloc, narrow)).expect(rt, "no memory");
+    let widened = ok(rt, Offsets::<i64>::try_from(of(rt, alloc, narrow)));
     has(rt, widened.as_slice(), wide);
     makes(rt, Offsets::<i32>::try_from(widened), narrow);
     let widened = OffsetsBuffer::<i64>::try_from(&shared(rt, alloc, narrow));
-    let widened = widened.expect(rt, "no memory");
+    let widened = ok(rt, widened);
     has(rt, widened.as_slice(), wide);
     shares(rt, OffsetsBuffer::<i32>::try_from(&widened), narrow);
 }
@@ -195,6 +219,6 @@ fn offsets_widen_and_narrow(rt: HostRuntime) {
     let large = grown::<i64>(&rt, alloc, &[2147483648]);
     overflows(&rt, Offsets::<i32>::try_from(large));
     let large = OffsetsBuffer::try_from(grown::<i64>(&rt, alloc, &[2147483648]));
-    let large = large.expect(&rt, "no memory");
+    let large = ok(&rt, large);
     overflows(&rt, OffsetsBuffer::<i32>::try_from(&large));
 }

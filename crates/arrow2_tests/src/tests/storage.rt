@@ -3,7 +3,7 @@
 ghost use Rattle.std.specs.Prelude.{◌≡◌, ◌<◌, length};
 ghost use Rattle.arrow2_model.specs.Storage.{items_of};
 
-use super::checks::thawed;
+use super::checks::{holds, ok, thawed};
 use super::lists::{self, Given};
 use arrow2_array::BooleanArray;
 use arrow2_bitmap::assign_ops::{binary_assign, unary_assign};
@@ -23,43 +23,50 @@ use std::slice;
 /// A bitmap, and the list that it is to act as.
 type Of<'a, 'b> = (&'a Bitmap, &'b [bool]);
 
+/// Checks that a bitmap has these items.
+fn has_items(rt: &impl Abort, bitmap: &Bitmap, list: &[bool]) {
+    holds(rt, bitmap.len() == list.len());
+    holds(rt, bitmap.iter().eq(list.iter().copied()));
+}
+
 /// Checks that the call made a bitmap of these items.
-fn makes(rt: &impl Abort, made: Result<Bitmap>, list: &Given) {
-    let (Ok(bitmap), Ok(list)) = (made, list) else {
-        panic!(rt; "no memory");
-    };
-    assert!(rt; bitmap.len() == list.len() && bitmap.iter().eq(list.iter().copied()));
+fn makes(rt: &impl Abort, made: Result<Bitmap>, list: Given) {
+    has_items(rt, &ok(rt, made), ok(rt, list).as_slice());
 }
 
 /// Checks that the bitmap that was changed has these items.
-fn becomes(rt: &impl Abort, changed: MutableBitmap, list: &Given) {
+fn becomes(rt: &impl Abort, changed: MutableBitmap, list: Given) {
     makes(rt, Bitmap::try_from(changed), list);
 }
 
 /// Iterates over the items from both ends.
 fn is_walked(rt: &impl Abort, (bitmap, list): Of) {
-    assert!(rt; bitmap.iter().rev().eq(list.iter().rev().copied()));
+    holds(rt, bitmap.iter().rev().eq(list.iter().rev().copied()));
     let (mut inwards, mut items) = (bitmap.iter(), list.iter().copied());
     for _ in 0..list.len() {
-        assert!(rt; inwards.next() == items.next());
-        assert!(rt; inwards.next_back() == items.next_back());
+        holds(rt, inwards.next() == items.next());
+        holds(rt, inwards.next_back() == items.next_back());
     }
 }
 
 /// Skips to each index, and to the one after the last.
 fn is_skipped(rt: &impl Abort, (bitmap, list): Of) {
     for i in 0..list.len() + 1 {
-        assert!(rt; bitmap.iter().nth(i) == list.get(i).copied());
-        assert!(rt; bitmap.iter().nth_back(i) == list.iter().rev().copied().nth(i));
+        holds(rt, bitmap.iter().nth(i) == list.get(i).copied());
+        holds(
+            rt,
+            bitmap.iter().nth_back(i) == list.iter().rev().copied().nth(i),
+        );
     }
 }
 
 /// Counts the false items of each part from item `start` on.
 fn is_counted_from(rt: &impl Abort, (bitmap, list): Of, start: usize) {
-    assert!(rt; bitmap.len() == list.len() && start <= list.len());
+    holds(rt, bitmap.len() == list.len());
+    holds(rt, start <= list.len());
     let mut falses = 0usize;
     for length in 0..list.len() - start + 1 {
-        assert!(rt; bitmap.null_count_range(start, length) == falses);
+        holds(rt, bitmap.null_count_range(start, length) == falses);
         falses = falses.wrapping_add(usize::from(!lists::at(list, start + length)));
     }
 }
@@ -72,29 +79,30 @@ fn has_words<T: BitChunk>(rt: &impl Abort, (bitmap, list): Of) {
     for word in words {
         has_bits(rt, word, &mut items);
     }
-    assert!(rt; rest.eq(items));
+    holds(rt, rest.eq(items));
 }
 
 /// Checks that the word holds the next items.
 fn has_bits<T: BitChunk>(rt: &impl Abort, word: T, items: &mut Copied<slice::Iter<'_, bool>>) {
     for i in 0..T::WIDTH {
-        assert!(rt; items.next() == Some(word.bit(i)));
+        holds(rt, items.next() == Some(word.bit(i)));
     }
 }
 
 /// Applies functions of one and of two words of this width in place.
 fn changes_by_words<T: BitChunk>(rt: &impl Abort, left: Of, right: Of) {
     let alloc = left.0.allocator();
-    assert!(rt; left.0.len() == right.0.len() && T::WIDTH > 0);
+    holds(rt, left.0.len() == right.0.len());
+    holds(rt, T::WIDTH > 0);
     let mut changed = thawed(rt, left.0);
     unary_assign(&mut changed, |x: T| x.up(1));
-    becomes(rt, changed, &lists::mixed(alloc, &[&[], left.1], T::WIDTH));
+    becomes(rt, changed, lists::mixed(alloc, &[&[], left.1], T::WIDTH));
     let mut changed = thawed(rt, left.0);
     binary_assign(&mut changed, right.0, |x: T, y: T| x.bit_xor(y.up(1)));
     becomes(
         rt,
         changed,
-        &lists::mixed(alloc, &[left.1, right.1], T::WIDTH),
+        lists::mixed(alloc, &[left.1, right.1], T::WIDTH),
     );
 }
 
@@ -114,15 +122,17 @@ fn goes_by_each_width(rt: &impl Abort, left: Of, right: Of) {
 fn goes_by_words(rt: &impl Abort, inputs: [&Bitmap; 4], lists: [&[bool]; 4]) {
     let [a, b, c, d] = inputs;
     let alloc = a.allocator();
-    assert!(rt; a.len() == b.len() && a.len() == c.len() && a.len() == d.len());
+    holds(rt, a.len() == b.len());
+    holds(rt, a.len() == c.len());
+    holds(rt, a.len() == d.len());
     let made = unary(a, |x| x << 1);
-    makes(rt, made, &lists::mixed(alloc, &[&[], lists[0]], 64));
+    makes(rt, made, lists::mixed(alloc, &[&[], lists[0]], 64));
     let made = binary(a, b, |x, y| x ^ y << 1);
-    makes(rt, made, &lists::mixed(alloc, &lists[..2], 64));
+    makes(rt, made, lists::mixed(alloc, &lists[..2], 64));
     let made = ternary(a, b, c, |x, y, z| x ^ y << 1 ^ z << 2);
-    makes(rt, made, &lists::mixed(alloc, &lists[..3], 64));
+    makes(rt, made, lists::mixed(alloc, &lists[..3], 64));
     let made = quaternary(a, b, c, d, |x, y, z, v| x ^ y << 1 ^ z << 2 ^ v << 3);
-    makes(rt, made, &lists::mixed(alloc, &lists, 64));
+    makes(rt, made, lists::mixed(alloc, &lists, 64));
 }
 
 /// The results of an operator: a new bitmap, and two that were changed in place.
@@ -130,15 +140,21 @@ type Combined = (Result<Bitmap>, MutableBitmap, MutableBitmap);
 
 /// Checks that all of them have these items.
 fn combines(rt: &impl Abort, (made, taken, changed): Combined, list: Given) {
-    makes(rt, made, &list);
-    becomes(rt, taken, &list);
-    becomes(rt, changed, &list);
+    let list = ok(rt, list);
+    has_items(rt, &ok(rt, made), list.as_slice());
+    is_frozen(rt, taken, list.as_slice());
+    is_frozen(rt, changed, list.as_slice());
+}
+
+/// Checks that a bitmap has these items where it is frozen.
+fn is_frozen(rt: &impl Abort, bitmap: MutableBitmap, list: &[bool]) {
+    has_items(rt, &ok(rt, Bitmap::try_from(bitmap)), list);
 }
 
 /// Applies the operators, in new memory and in place.
 fn goes_by_operators(rt: &impl Abort, (left, list): Of, (right, others): Of) {
     let alloc = left.allocator();
-    assert!(rt; left.len() == right.len());
+    holds(rt, left.len() == right.len());
     let mut changed = thawed(rt, left);
     changed &= right;
     let combined = (left & right, thawed(rt, left) & right, changed);
@@ -151,9 +167,9 @@ fn goes_by_operators(rt: &impl Abort, (left, list): Of, (right, others): Of) {
     changed ^= right;
     let combined = (left ^ right, thawed(rt, left) ^ right, changed);
     combines(rt, combined, lists::looked_up(alloc, 0b0110, list, others));
-    let turned = lists::looked_up(alloc, 0b0101, list, others);
-    makes(rt, !left, &turned);
-    becomes(rt, !thawed(rt, left), &turned);
+    makes(rt, !left, lists::looked_up(alloc, 0b0101, list, others));
+    let turned = !thawed(rt, left);
+    becomes(rt, turned, lists::looked_up(alloc, 0b0101, list, others));
 }
 
 /// Appends the bytes of the list at each bit index.
@@ -161,40 +177,49 @@ fn is_appended(rt: &impl Abort, (bitmap, list): Of) {
     let alloc = bitmap.allocator();
     let (bytes, offset, length) = bitmap.as_slice();
     for count in 0..16usize {
-        let own = lists::thirds(alloc, count).expect(rt, "no memory");
-        let grown = MutableBitmap::from_bools(alloc, own.as_slice());
-        let mut grown = grown.expect(rt, "no memory");
-        let extended = grown.extend_from_slice(bytes, offset, length);
-        assert!(rt; extended.is_ok());
-        becomes(rt, grown, &lists::joined(own, list));
+        let own = ok(rt, lists::thirds(alloc, count));
+        let mut grown = ok(rt, MutableBitmap::from_bools(alloc, own.as_slice()));
+        ok(rt, grown.extend_from_slice(bytes, offset, length));
+        becomes(rt, grown, lists::joined(own, list));
     }
 }
 
 /// Collects the items, and makes a validity where one of them is false.
 fn is_collected(rt: &impl Abort, (bitmap, list): Of) {
     let alloc = bitmap.allocator();
-    let items = list.to_vec(alloc);
-    let taken = bitmap.clone().expect(rt, "no memory");
-    makes(rt, Bitmap::try_from_iter(alloc, taken), &items);
+    let taken = ok(rt, bitmap.clone());
+    has_items(rt, &ok(rt, Bitmap::try_from_iter(alloc, taken)), list);
     let grown = MutableBitmap::try_from_iter(alloc, bitmap);
-    makes(rt, grown.and_then(Bitmap::try_from), &items);
-    assert!(rt; SlicesIterator::new(bitmap).slots() == lists::trues(list));
-    match thawed(rt, bitmap).into_validity().expect(rt, "no memory") {
-        Some(validity) => makes(rt, Ok(validity), &items),
-        None => assert!(rt; lists::trues(list) == list.len()),
+    is_frozen(rt, ok(rt, grown), list);
+    holds(
+        rt,
+        SlicesIterator::new(bitmap).slots() == lists::trues(list),
+    );
+    match ok(rt, thawed(rt, bitmap).into_validity()) {
+        Some(validity) => has_items(rt, &validity, list),
+        None => holds(rt, lists::trues(list) == list.len()),
     }
+}
+
+/// Checks that an iterator over values with their validity gives these items.
+fn zip_tells_nulls(rt: &impl Abort, validity: &Bitmap, list: &[bool], items: &[Option<bool>]) {
+    holds(rt, validity.len() == list.len());
+    let zip = ZipValidity::new_with_validity(list.iter().copied(), Some(validity));
+    holds(rt, zip.eq(items.iter().copied()));
+}
+
+/// Checks that an array of values with their validity has these items.
+fn array_tells_nulls(rt: &impl Abort, validity: &Bitmap, values: &Bitmap, items: &[Option<bool>]) {
+    let validity = ok(rt, validity.clone());
+    let array = BooleanArray::try_new(ok(rt, values.clone()), Some(validity));
+    holds(rt, ok(rt, array).iter().eq(items.iter().copied()));
 }
 
 /// Checks that values are null where the validity is false, in an iterator with it and in an array.
 fn tells_nulls(rt: &impl Abort, (validity, valid): Of, (values, list): Of) {
-    let items = lists::nulled(values.allocator(), list, valid).expect(rt, "no memory");
-    assert!(rt; validity.len() == list.len());
-    let zip = ZipValidity::new_with_validity(list.iter().copied(), Some(validity));
-    assert!(rt; zip.eq(items.iter().copied()));
-    let validity = validity.clone().expect(rt, "no memory");
-    let values = values.clone().expect(rt, "no memory");
-    let array = BooleanArray::try_new(values, Some(validity)).expect(rt, "equal lengths");
-    assert!(rt; array.iter().eq(items.iter().copied()));
+    let items = ok(rt, lists::nulled(values.allocator(), list, valid));
+    zip_tells_nulls(rt, validity, list, items.as_slice());
+    array_tells_nulls(rt, validity, values, items.as_slice());
 }
 
 /// Makes the calls on one bitmap.
@@ -226,21 +251,21 @@ fn stored(
 ) -> Bitmap
     requires { offset < 16 }
 {
-    let bytes = lists::stored(alloc, list, offset, spare, behind).expect(rt, "no memory");
-    let whole = Bitmap::try_new(bytes, offset + list.len()).expect(rt, "no memory");
+    let bytes = ok(rt, lists::stored(alloc, list, offset, spare, behind));
+    let whole = ok(rt, Bitmap::try_new(bytes, offset + list.len()));
     whole.sliced(offset, list.len())
 }
 
 /// Returns a list of this length without a pattern.
 fn scattered(rt: &impl Abort, alloc: Global, seed: u64, length: usize) -> Vec<bool> {
-    lists::scattered(alloc, seed, length).expect(rt, "no memory")
+    ok(rt, lists::scattered(alloc, seed, length))
 }
 
 /// Stores the list at each bit offset, with padding bits all false and all true, and with 0 to 2 spare bytes.
 fn in_each_storage(rt: &impl Abort, alloc: Global, list: &[bool]) {
     let others = scattered(rt, alloc, 3, list.len());
     let others = others.as_slice();
-    let other = Bitmap::from_bools(alloc, others).expect(rt, "no memory");
+    let other = ok(rt, Bitmap::from_bools(alloc, others));
     for case in 0..48usize {
         let (offset, spare, behind) = (case % 8, case / 8 % 2 == 1, case / 16);
         let bitmap = stored(rt, alloc, list, offset, spare, behind);
@@ -276,7 +301,7 @@ fn at_each_offset(rt: &impl Abort, alloc: Global, length: usize) {
 
 /// Stores a list that was made in each storage.
 fn is_stored(rt: &impl Abort, alloc: Global, list: Given) {
-    let list = list.expect(rt, "no memory");
+    let list = ok(rt, list);
     in_each_storage(rt, alloc, list.as_slice());
 }
 

@@ -1,4 +1,5 @@
 //! Texts between offsets that are written out, and how the test of them refuses.
+use super::checks::{holds, ok};
 use arrow2_offset::{BrokenRule, OffsetsBuffer};
 use arrow2_utf8::{
     BrokenTextArray, BrokenTexts, text_at, try_check_offsets_and_utf8, try_check_offsets_bounds,
@@ -9,7 +10,7 @@ use std::process::Abort;
 
 /// The check of numbers and bytes returns this.
 fn is_told(rt: &impl Abort, offsets: &[i32], values: &[u8], answer: Result<(), BrokenTextArray>) {
-    assert!(rt; try_check_offsets_and_utf8(offsets, values) == answer);
+    holds(rt, try_check_offsets_and_utf8(offsets, values) == answer);
 }
 
 #[test]
@@ -64,20 +65,20 @@ fn the_first_fault_is_told(rt: HostRuntime) {
 
 /// A test returns this.
 fn answers(rt: &impl Abort, told: Result<(), BrokenTexts>, answer: Result<(), BrokenTexts>) {
-    assert!(rt; told == answer);
+    holds(rt, told == answer);
 }
 
 /// The values are texts, and this is that of slot 1.
 fn is_text(rt: &impl Abort, offsets: &OffsetsBuffer<i64>, values: &[u8], text: &str) {
     let is_checked = 1 < offsets.len_proxy() && try_check_utf8(offsets, values).is_ok();
     let is_read = is_checked && text_at(offsets, values, 1) == text;
-    assert!(rt; is_read);
+    holds(rt, is_read);
 }
 
 #[test]
 fn wide_offsets_are_told_and_read(rt: HostRuntime) {
-    let numbers = vec![in rt.alloc(); 1i64, 3, 6].expect(&rt, "no memory");
-    let offsets = OffsetsBuffer::try_from(numbers).expect(&rt, "they are offsets");
+    let numbers = ok(&rt, vec![in rt.alloc(); 1i64, 3, 6]);
+    let offsets = ok(&rt, OffsetsBuffer::try_from(numbers));
     let values = "a\u{e9}\u{20ac}".as_bytes();
     answers(&rt, try_check_utf8(&offsets, values), Ok(()));
     answers(

@@ -1,5 +1,5 @@
 //! Known bytes of native values, and the texts of errors.
-use super::checks::{bytes_of, has_bytes, prints, shows};
+use super::checks::{bytes_of, has_bytes, holds, ok, prints, shows};
 use arrow2_types::error::Error;
 use arrow2_types::native::NativeType;
 use arrow2_types::primitive::PrimitiveType as Type;
@@ -12,7 +12,7 @@ fn is_its_digits<T: NativeType>(rt: &impl Abort, value: T, name: Type, digits: &
     for (byte, digit) in big.iter_mut().zip(digits.iter().rev()) {
         *byte = *digit;
     }
-    assert!(rt; digits.len() <= 16);
+    holds(rt, digits.len() <= 16);
     has_bytes(rt, value, name, digits, &big[..digits.len()]);
 }
 
@@ -35,8 +35,8 @@ fn numbers_are_their_digits(rt: HostRuntime) {
 #[test]
 fn errors_print_their_texts(rt: HostRuntime) {
     let alloc = rt.alloc();
-    let texts = || "b".to_string(alloc).expect(&rt, "no memory");
-    let message = "a".to_string(alloc).expect(&rt, "no memory");
+    let texts = || ok(&rt, "b".to_string(alloc));
+    let message = ok(&rt, "a".to_string(alloc));
     let rows = [
         (Error::NotYetImplemented(texts()), "Not yet implemented: b"),
         (
@@ -76,7 +76,7 @@ fn errors_of_others_keep_their_texts(rt: HostRuntime) {
 #[test]
 fn derived_texts_name_the_variant(rt: HostRuntime) {
     let alloc = rt.alloc();
-    let text = "x".to_string(alloc).expect(&rt, "no memory");
+    let text = ok(&rt, "x".to_string(alloc));
     let error = Error::InvalidArgumentError(text);
     shows(&rt, alloc, &Error::Overflow, "Overflow");
     shows(&rt, alloc, &error, "InvalidArgumentError(\"x\")");

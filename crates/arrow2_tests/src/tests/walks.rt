@@ -1,7 +1,7 @@
 //! Runs of set bits, and values with their validity.
 ghost use Rattle.std.specs.Prelude.{◌≡◌, length};
 
-use super::checks::{bitmap_from, gives, has, shows};
+use super::checks::{bitmap_from, gives, has, holds, ok, shows};
 use arrow2::bitmap::Bitmap;
 use arrow2::bitmap::utils::{BitmapIter, SlicesIterator, ZipValidity, ZipValidityIter};
 use arrow2::laws;
@@ -12,9 +12,9 @@ use std::slice::Iter;
 
 /// The bitmap of `len` bits of the bytes, from bit `offset` on.
 fn bitmap_of(rt: &impl Abort, alloc: Global, bytes: &[u8], offset: usize, len: usize) -> Bitmap {
-    let bytes = bytes.to_vec(alloc).expect(rt, "no memory");
+    let bytes = ok(rt, bytes.to_vec(alloc));
     let whole = offset.checked_add(len).expect(rt, "few bits");
-    let bitmap = Bitmap::try_new(bytes, whole).expect(rt, "no memory");
+    let bitmap = ok(rt, Bitmap::try_new(bytes, whole));
     bitmap.sliced(offset, len)
 }
 
@@ -29,7 +29,7 @@ fn bits_have_runs(
 ) {
     let bitmap = bitmap_of(rt, alloc, bytes, offset, len);
     let items = SlicesIterator::new(&bitmap);
-    assert!(rt; items.slots() == slots);
+    holds(rt, items.slots() == slots);
     gives(rt, alloc, items, runs);
 }
 
@@ -60,9 +60,10 @@ fn values_come(
     required: bool,
 ) {
     let validity = bitmap_from(rt, alloc, validity);
-    assert!(rt; validity.len() == 3);
+    holds(rt, validity.len() == 3);
     let zip = ZipValidity::new_with_validity(VALUES[..3].iter().copied(), Some(&validity));
-    assert!(rt; matches!(&zip, ZipValidity::Required(_)) == required && zip.len() == 3);
+    holds(rt, matches!(&zip, ZipValidity::Required(_)) == required);
+    holds(rt, zip.len() == 3);
     has(rt, &[zip.size_hint()], &[(3, Some(3))]);
     gives(rt, alloc, zip, items);
 }
@@ -75,7 +76,7 @@ fn values_come_beside_their_validity(rt: HostRuntime) {
     let items = [Some(1), Some(2), Some(3)];
     values_come(&rt, alloc, &[true; 3], &items, true);
     let validity = bitmap_from(&rt, alloc, &[true; 3]);
-    assert!(rt; validity.len() == 3);
+    holds(&rt, validity.len() == 3);
     let mut zip = ZipValidity::new_with_validity(VALUES[..3].iter().copied(), Some(&validity));
     let given = [zip.next(), zip.nth(usize::MAX), zip.next(), zip.next_back()];
     has(&rt, &given, &[Some(Some(1)), None, None, None]);
@@ -85,7 +86,7 @@ fn values_come_beside_their_validity(rt: HostRuntime) {
 fn derived_texts_name_the_parts(rt: HostRuntime) {
     let alloc = rt.alloc();
     let validity = bitmap_from(&rt, alloc, &[true, false]);
-    assert!(rt; validity.len() == 2);
+    holds(&rt, validity.len() == 2);
     let runs = SlicesIterator::new(&validity);
     let text =
         "SlicesIterator { bytes: [1], offset: 0, end: 2, cursor: BitCursor { index: 0, word: 0, buffered: 0 }, slots: 1 }";
@@ -105,9 +106,9 @@ fn derived_texts_name_the_parts(rt: HostRuntime) {
 fn a_zip_is_iterated_from_both_ends(rt: HostRuntime) {
     let alloc = rt.alloc();
     let validity = bitmap_from(&rt, alloc, &[true, false, true, true]);
-    assert!(rt; validity.len() == 4);
+    holds(&rt, validity.len() == 4);
     let zip = ZipValidityIter::new(VALUES.iter().copied(), validity.iter());
-    let mut zip = zip.clone().expect(&rt, "no memory");
+    let mut zip = ok(&rt, zip.clone());
     let given = [zip.nth(1), zip.next_back(), zip.next()];
     has(&rt, &given, &[Some(None), Some(Some(4)), Some(Some(3))]);
     has(&rt, &[zip.next()], &[None]);
