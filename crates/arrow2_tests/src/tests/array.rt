@@ -3,7 +3,7 @@ ghost use Rattle.std.specs.Prelude.{◌≡◌, length};
 ghost use Rattle.arrow2_model.specs.Storage.{items_of};
 ghost use Rattle.arrow2_array.specs.Items.{boolean_items};
 
-use super::checks::{gives, holds, ok, refuses, shows};
+use super::checks::{assert_that, gives, ok, refuses, shows};
 use arrow2_array::{BooleanArray, MutableBooleanArray};
 use arrow2_bitmap::Bitmap;
 use arrow2_types::error::Result;
@@ -34,12 +34,12 @@ fn arrays_are_read_and_shown(rt: HostRuntime) {
     let copy = ok(&rt, array.clone());
     let items = [None, Some(false), Some(true), None];
     gives(&rt, alloc, (&copy).into_iter(), &items);
-    holds(&rt, copy.get(0).is_none());
-    holds(&rt, copy.get(2) == Some(true));
-    holds(&rt, copy.iter().len() == 4);
-    holds(&rt, copy == array);
-    holds(&rt, !copy.is_empty());
-    holds(&rt, copy.null_count() == 2);
+    assert_that(&rt, copy.get(0).is_none());
+    assert_that(&rt, copy.get(2) == Some(true));
+    assert_that(&rt, copy.iter().len() == 4);
+    assert_that(&rt, copy == array);
+    assert_that(&rt, !copy.is_empty());
+    assert_that(&rt, copy.null_count() == 2);
     shows(&rt, alloc, &array, "BooleanArray[None, false, true, None]");
     array.slice(0, 0);
     shows(&rt, alloc, &array, "BooleanArray[]");
@@ -72,11 +72,11 @@ fn a_validity_of_another_length_is_refused(rt: HostRuntime) {
 fn both_parts_are_taken_and_put_together(rt: HostRuntime) {
     let alloc = rt.alloc();
     let array = array_of(&rt, alloc, 0b10101010, 0b11001100);
-    holds(&rt, array.is_null(0));
-    holds(&rt, array.is_valid(2));
-    holds(&rt, array.value(1));
-    holds(&rt, !array.value(0));
-    holds(&rt, array.optional_validity().null_count() == 500);
+    assert_that(&rt, array.is_null(0));
+    assert_that(&rt, array.is_valid(2));
+    assert_that(&rt, array.value(1));
+    assert_that(&rt, !array.value(0));
+    assert_that(&rt, array.optional_validity().null_count() == 500);
     let (values, validity) = array.into_inner();
     let array = BooleanArray::new(values, validity);
     let array = array.with_validity(None).sliced(1, 2);
@@ -91,7 +91,7 @@ fn made(rt: &impl Abort, alloc: Global, made: Result<BooleanArray>, text: &str) 
 
 /// The call was not refused.
 fn grew(rt: &impl Abort, growth: Result<()>) {
-    holds(rt, growth.is_ok());
+    assert_that(rt, growth.is_ok());
 }
 
 #[test]
@@ -107,9 +107,9 @@ fn arrays_are_made_of_options_and_grow(rt: HostRuntime) {
     grew(&rt, array.push_null());
     grew(&rt, array.extend_constant(2, Some(true)));
     grew(&rt, array.extend_from_array(&other, 1, 3));
-    holds(&rt, array.len() == 7);
-    holds(&rt, array.pop() == Some(Some(true)));
-    holds(&rt, !array.is_empty());
+    assert_that(&rt, array.len() == 7);
+    assert_that(&rt, array.pop() == Some(Some(true)));
+    assert_that(&rt, !array.is_empty());
     let text = "BooleanArray[false, None, true, true, None, false]";
     made(&rt, alloc, array.freeze(), text);
 }

@@ -2,7 +2,7 @@
 ghost use Rattle.std.specs.Prelude.{◌≡◌, IfOk, length as count};
 ghost use Rattle.arrow2_model.specs.Storage.{items_of};
 
-use super::checks::{bytes_of, gives, has, holds, makes, ok, refuses, shows, stores};
+use super::checks::{assert_that, bytes_of, gives, has, makes, ok, refuses, shows, stores};
 use arrow2_bitmap::bitmap_ops::unary;
 use arrow2_bitmap::iterator::IntoIter;
 use arrow2_bitmap::{Bitmap, MutableBitmap};
@@ -37,12 +37,12 @@ fn is_stored(
     gives(rt, alloc, bitmap.iter(), items);
     let (storage, start, length) = bitmap.as_slice();
     has(rt, storage, bytes);
-    holds(rt, start == offset);
-    holds(rt, length == items.len());
-    holds(rt, bitmap.len() == length);
+    assert_that(rt, start == offset);
+    assert_that(rt, length == items.len());
+    assert_that(rt, bitmap.len() == length);
     let falses = items.iter().filter(|item| !**item).count();
-    holds(rt, bitmap.unset_bits() == falses);
-    holds(rt, bitmap.null_count() == falses);
+    assert_that(rt, bitmap.unset_bits() == falses);
+    assert_that(rt, bitmap.null_count() == falses);
     shows(rt, alloc, bitmap, text);
 }
 
@@ -136,8 +136,8 @@ fn items_are_read_and_written(rt: HostRuntime) {
     has(&rt, &falses, &[1, 0]);
     is_left(&rt, alloc, moved, &items);
     let mut room = ok(&rt, MutableBitmap::with_capacity(alloc, 100));
-    holds(&rt, room.is_empty());
-    holds(&rt, room.capacity() >= 100);
+    assert_that(&rt, room.is_empty());
+    assert_that(&rt, room.capacity() >= 100);
     room.clear();
     shows(&rt, alloc, &room, "[]");
 }
@@ -179,8 +179,8 @@ fn collect_taken(alloc: Global, bitmap: Bitmap) -> Result<Bitmap>
 /// A bitmap of 130 items was made, each fifth one true.
 fn has_fifths(rt: &impl Abort, made: Result<Bitmap>) -> Bitmap {
     let bitmap = ok(rt, made);
-    holds(rt, bitmap.len() == 130);
-    holds(rt, bitmap.unset_bits() == 104);
+    assert_that(rt, bitmap.len() == 130);
+    assert_that(rt, bitmap.unset_bits() == 104);
     bitmap
 }
 
@@ -192,5 +192,5 @@ fn items_are_collected_in_order(rt: HostRuntime) {
     let again = collect_again(alloc, &frozen).and_then(Bitmap::try_from);
     let again = has_fifths(&rt, again);
     let taken = has_fifths(&rt, collect_taken(alloc, frozen));
-    holds(&rt, again == taken);
+    assert_that(&rt, again == taken);
 }

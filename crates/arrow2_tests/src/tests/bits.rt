@@ -1,7 +1,7 @@
 //! Worked examples of bits and of iterators by words, and their printed texts.
 ghost use Rattle.std.specs.Prelude.{◌≡◌, ◌+◌, ◌*◌, ◌<◌, ◌≤◌, length as count};
 
-use super::checks::{gives, has, holds, ok, shows};
+use super::checks::{assert_that, gives, has, ok, shows};
 use arrow2_bits::chunk_iterator::{BitChunkIterExact, BitChunks};
 use arrow2_bits::chunks_exact::BitChunksExact;
 use arrow2_bits::iterator::BitmapIter;
@@ -104,11 +104,11 @@ fn has_words<B: BitChunk, I: BitChunkIterExact<B>>(
     rest: B,
     items: &[bool],
 ) {
-    holds(rt, walk.remainder() == rest);
-    holds(rt, walk.remainder_len() == items.len());
+    assert_that(rt, walk.remainder() == rest);
+    assert_that(rt, walk.remainder_len() == items.len());
     gives(rt, alloc, walk.remainder_iter(), items);
-    holds(rt, walk.next() == word);
-    holds(rt, walk.next().is_none());
+    assert_that(rt, walk.next() == word);
+    assert_that(rt, walk.next().is_none());
 }
 
 #[test]

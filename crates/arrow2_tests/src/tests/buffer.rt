@@ -3,7 +3,7 @@ ghost use Rattle.std.specs.Prelude.{◌≡◌, length, replicate, IfOk};
 ghost use Rattle.std.specs.Bool.{OnTrue, OnFalse};
 ghost use Rattle.arrow2_model.specs.Buffers.{buffer_items, whole_buffer};
 
-use super::checks::{has, holds, ok, shows};
+use super::checks::{assert_that, has, ok, shows};
 use arrow2_buffer::bytes::Bytes;
 use arrow2_buffer::laws::written_items_are_the_items;
 use arrow2_buffer::{Buffer, IntoIter};
@@ -64,8 +64,8 @@ fn an_unshared_whole_gives_its_vector(rt: HostRuntime) {
     has(&rt, part.as_slice(), &[2, 3]);
     let whole = buffer_of(&rt, alloc, &[1, 2, 3]);
     let shared = ok(&rt, whole.clone());
-    holds(&rt, whole.into_mut().is_left());
-    holds(&rt, shared.into_mut().is_right());
+    assert_that(&rt, whole.into_mut().is_left());
+    assert_that(&rt, shared.into_mut().is_right());
 }
 
 #[test]
@@ -75,11 +75,11 @@ fn only_an_unshared_buffer_is_written(rt: HostRuntime) {
     part.get_mut_slice().expect(&rt, "it is not shared")[0] = 9;
     has(&rt, part.as_slice(), &[9, 3]);
     let shared = ok(&rt, part.clone());
-    holds(&rt, part.get_mut_slice().is_none());
-    holds(&rt, !overwrite(&mut part, 7));
+    assert_that(&rt, part.get_mut_slice().is_none());
+    assert_that(&rt, !overwrite(&mut part, 7));
     has(&rt, shared.as_slice(), &[9, 3]);
     drop(shared);
-    holds(&rt, overwrite(&mut part, 7));
+    assert_that(&rt, overwrite(&mut part, 7));
     let (storage, _, _) = part.into_inner();
     has(&rt, storage.as_slice(), &[1, 7, 7]);
     written_items_are_the_items::<u32>();
@@ -124,7 +124,7 @@ fn is_cloned<B: TryFrom<Vec<u32>, Error = Error> + Clone + PartialEq>(
     items: Vec<u32>,
 ) -> B {
     let made = ok(rt, B::try_from(items));
-    holds(rt, ok(rt, made.clone()) == made);
+    assert_that(rt, ok(rt, made.clone()) == made);
     made
 }
 
@@ -132,7 +132,7 @@ fn is_cloned<B: TryFrom<Vec<u32>, Error = Error> + Clone + PartialEq>(
 fn buffers_are_made_and_taken_apart(rt: HostRuntime) {
     let alloc = rt.alloc();
     let empty: Buffer<u32> = ok(&rt, Buffer::new(alloc));
-    holds(&rt, empty.is_empty());
+    assert_that(&rt, empty.is_empty());
     let items = ok(&rt, [1, 2, 3].to_vec(alloc));
     let buffer: Buffer<u32> = is_cloned(&rt, items);
     let backward = ok(&rt, Vec::from_iter(alloc, buffer.into_iter().rev()));

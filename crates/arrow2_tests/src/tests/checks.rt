@@ -13,7 +13,7 @@ use std::fmt::{Debug, Display};
 use std::process::Abort;
 
 /// Checks a fact.
-pub(super) fn holds(rt: &impl Abort, fact: bool)
+pub(super) fn assert_that(rt: &impl Abort, fact: bool)
     ensures { IsTrue fact }
 {
     assert!(rt; fact);
@@ -90,7 +90,7 @@ pub(super) fn refuses<T: Drop>(rt: &impl Abort, alloc: Global, made: Result<T>, 
 
 /// The call returned `Overflow`.
 pub(super) fn overflows<T: Drop>(rt: &impl Abort, answer: Result<T>) {
-    holds(rt, matches!(answer, Err(Error::Overflow)));
+    assert_that(rt, matches!(answer, Err(Error::Overflow)));
 }
 
 /// The bytes, in memory of their own.
@@ -109,13 +109,13 @@ pub(super) fn has_bytes<T: NativeType>(
     big: &[u8],
 ) {
     let (le, be) = (value.to_le_bytes(), value.to_be_bytes());
-    holds(rt, T::PRIMITIVE == name);
-    holds(rt, T::SIZE == little.len());
+    assert_that(rt, T::PRIMITIVE == name);
+    assert_that(rt, T::SIZE == little.len());
     has(rt, le.as_slice(), little);
     has(rt, be.as_slice(), big);
-    holds(rt, T::from_le_bytes(le) == value);
-    holds(rt, T::from_be_bytes(be) == value);
-    holds(rt, T::from_le_slice(le.as_slice()) == value);
-    holds(rt, T::from_be_slice(be.as_slice()) == value);
-    holds(rt, T::from_le_bytes(T::bytes_of_slice(little)) == value);
+    assert_that(rt, T::from_le_bytes(le) == value);
+    assert_that(rt, T::from_be_bytes(be) == value);
+    assert_that(rt, T::from_le_slice(le.as_slice()) == value);
+    assert_that(rt, T::from_be_slice(be.as_slice()) == value);
+    assert_that(rt, T::from_le_bytes(T::bytes_of_slice(little)) == value);
 }

@@ -3,7 +3,7 @@ ghost use Rattle.std.specs.Prelude.{◌≡◌, length, replicate};
 ghost use Rattle.std.specs.Bool.{OnTrue};
 ghost use Rattle.arrow2_bits.specs.ChunksMut.{past};
 
-use super::checks::{has, holds, shows};
+use super::checks::{assert_that, has, shows};
 use arrow2_bits::chunks_exact_mut::BitChunksExactMut;
 use std::process::Abort;
 
@@ -43,8 +43,8 @@ fn writes_next_chunks(rt: &impl Abort, first: &[u8], second: &[u8], after: &[u8]
     let chunk = walk.next_chunk().expect(rt, "a second chunk");
     has(rt, chunk, &[3, 4]);
     write(chunk, second);
-    holds(rt, walk.next_chunk().is_none());
-    holds(rt, walk.remainder_len() == 3);
+    assert_that(rt, walk.next_chunk().is_none());
+    assert_that(rt, walk.remainder_len() == 3);
     has(rt, walk.remainder(), &[5]);
     has(rt, &bytes, after);
 }
@@ -53,9 +53,9 @@ fn writes_next_chunks(rt: &impl Abort, first: &[u8], second: &[u8], after: &[u8]
 fn changes_next(rt: &impl Abort, first: &[u8], second: &[u8], after: &[u8]) {
     let mut bytes = [1, 2, 3, 4, 5];
     let mut walk = walk_of(&mut bytes);
-    holds(rt, walk.change_next(|chunk| write(chunk, first)));
-    holds(rt, walk.change_next(|chunk| write(chunk, second)));
-    holds(rt, !clear_next(&mut walk));
+    assert_that(rt, walk.change_next(|chunk| write(chunk, first)));
+    assert_that(rt, walk.change_next(|chunk| write(chunk, second)));
+    assert_that(rt, !clear_next(&mut walk));
     has(rt, &bytes, after);
 }
 
@@ -63,12 +63,12 @@ fn changes_next(rt: &impl Abort, first: &[u8], second: &[u8], after: &[u8]) {
 fn writes_walked(rt: &impl Abort, first: &[u8], second: &[u8], after: &[u8]) {
     let mut bytes = [1, 2, 3, 4, 5];
     let mut walk = walk_of(&mut bytes);
-    holds(rt, matches!(walk.size_hint(), (2, Some(2))));
+    assert_that(rt, matches!(walk.size_hint(), (2, Some(2))));
     write(walk.next().expect(rt, "a first chunk"), first);
     let chunk = walk.next().expect(rt, "a second chunk");
     has(rt, chunk, &[3, 4]);
     write(chunk, second);
-    holds(rt, walk.next().is_none());
+    assert_that(rt, walk.next().is_none());
     has(rt, walk.remainder(), &[5]);
     has(rt, &bytes, after);
 }
@@ -89,7 +89,7 @@ fn chunks_are_lent_to_be_written(rt: HostRuntime) {
 fn a_walk_shows_its_bytes_and_its_place(rt: HostRuntime) {
     let mut bytes = [1, 2, 3, 4, 5];
     let mut walk = walk_of(&mut bytes);
-    holds(&rt, clear_next(&mut walk));
+    assert_that(&rt, clear_next(&mut walk));
     walk.remainder().fill(9);
     let text =
         "BitChunksExactMut { bytes: [0, 0, 3, 4], at: 2, size: 2, remainder: [9], remainder_len: 3, marker: PhantomData<_> }";

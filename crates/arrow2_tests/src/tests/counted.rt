@@ -2,7 +2,7 @@
 ghost use Rattle.std.specs.Prelude.{◌≡◌, ◌+◌, ◌<◌, ◌≤◌, ◌^◌};
 ghost use Rattle.arrow2_model.specs.Touched.{slice_reads, cut_reads};
 
-use super::checks::{holds, ok};
+use super::checks::{assert_that, ok};
 use arrow2_bitmap::Bitmap;
 use arrow2_bits::{Reads, Stored, count_zeros_counted, recount};
 use arrow2_walks::pieces::Pieces;
@@ -30,7 +30,7 @@ fn read_by_slice(
     let mut bitmap = zeros.sliced(offset, length);
     let mut reads = Reads::new();
     bitmap.slice_counted(start, count, &mut reads);
-    holds(rt, bitmap.unset_bits() == count);
+    assert_that(rt, bitmap.unset_bits() == count);
     reads
 }
 
@@ -86,22 +86,22 @@ fn cuts_read_what_they_count(rt: HostRuntime) {
     cut(&rt, &mut pieces, 2, 800, 1);
     have_read(&pieces, 302);
     for (p, length) in [(0, 400), (1, 400), (2, 1), (3, 799)] {
-        holds(&rt, pieces.len() == 4);
-        holds(&rt, pieces.get(p).unset_bits() == length);
+        assert_that(&rt, pieces.len() == 4);
+        assert_that(&rt, pieces.get(p).unset_bits() == length);
     }
 }
 
 #[test]
 fn bits_are_counted_through_stored_bytes(rt: HostRuntime) {
     let mut stored = Stored::new(&[0xf0, 0xff, 0x0f, 0xff], Reads::new());
-    holds(&rt, count_zeros_counted(&mut stored, 0, 32) == 8);
-    holds(&rt, count_zeros_counted(&mut stored, 3, 5) == 1);
-    holds(&rt, recount(&mut stored, 0, 32, 8, 2, 28) == 6);
-    holds(&rt, recount(&mut stored, 0, 32, 8, 20, 4) == 4);
+    assert_that(&rt, count_zeros_counted(&mut stored, 0, 32) == 8);
+    assert_that(&rt, count_zeros_counted(&mut stored, 3, 5) == 1);
+    assert_that(&rt, recount(&mut stored, 0, 32, 8, 2, 28) == 6);
+    assert_that(&rt, recount(&mut stored, 0, 32, 8, 20, 4) == 4);
     let [first, last] = stored.fetch::<2>(2);
-    holds(&rt, stored.len() == 4);
-    holds(&rt, first == 0x0f);
-    holds(&rt, last == 0xff);
+    assert_that(&rt, stored.len() == 4);
+    assert_that(&rt, first == 0x0f);
+    assert_that(&rt, last == 0xff);
 }
 
 #[tactic(auto, using(crate::proofs::ReadRows::counts))]
@@ -112,9 +112,9 @@ fn counts_fetch_each_byte_once(rt: HostRuntime) {
         *byte = i as u8;
     }
     let mut stored = Stored::new(&bytes, Reads::new());
-    holds(&rt, count_zeros_counted(&mut stored, 0, 320) == 220);
+    assert_that(&rt, count_zeros_counted(&mut stored, 0, 320) == 220);
     is_read(stored.into_reads(), 40);
     let mut stored = Stored::new(&bytes, Reads::new());
-    holds(&rt, count_zeros_counted(&mut stored, 3, 300) == 207);
+    assert_that(&rt, count_zeros_counted(&mut stored, 3, 300) == 207);
     is_read(stored.into_reads(), 38);
 }

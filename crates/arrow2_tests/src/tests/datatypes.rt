@@ -1,5 +1,5 @@
 //! Worked examples of the type tables, of extensions and of filtered schemas, and derived texts.
-use super::checks::{has, holds, ok, shows};
+use super::checks::{assert_that, has, ok, shows};
 use arrow2_datatypes::{
     DataType, Field, IntegerType, IntervalUnit, Metadata, PhysicalType, PrimitiveType, Schema,
     TimeUnit, UnionMode, get_extension,
@@ -28,12 +28,12 @@ fn field(rt: &impl Abort, alloc: Global, name: &str) -> Field {
 /// A text more under a name.
 fn annotate(rt: &impl Abort, alloc: Global, metadata: &mut Metadata, name: &str, value: &str) {
     let inserted: Result<_, _> = metadata.insert(text(rt, alloc, name), text(rt, alloc, value));
-    holds(rt, inserted.is_ok());
+    assert_that(rt, inserted.is_ok());
 }
 
 /// Two values are equal.
 fn is_equal<T: PartialEq>(rt: &impl Abort, value: &T, wanted: &T) {
-    holds(rt, *value == *wanted);
+    assert_that(rt, *value == *wanted);
 }
 
 /// A copy of the value is equal to it.
@@ -57,7 +57,7 @@ fn is_type(rt: &impl Abort, data_type: DataType, wanted: DataType) {
 /// A type is laid out as a primitive one.
 fn is_primitive(rt: &impl Abort, data_type: DataType, primitive: PrimitiveType) {
     let physical = data_type.to_physical_type();
-    holds(rt, physical.eq_primitive(primitive));
+    assert_that(rt, physical.eq_primitive(primitive));
     is_equal(rt, &physical, &PhysicalType::Primitive(primitive));
 }
 
@@ -87,15 +87,15 @@ fn types_are_laid_out_by_the_table(rt: HostRuntime) {
     let decimal = DataType::from(PrimitiveType::Int128);
     is_primitive(&rt, decimal, PrimitiveType::Int128);
     is_type(&rt, DataType::from(IntegerType::UInt16), DataType::UInt16);
-    holds(&rt, UnionMode::sparse(true).is_sparse());
-    holds(&rt, UnionMode::sparse(false).is_dense());
+    assert_that(&rt, UnionMode::sparse(true).is_sparse());
+    assert_that(&rt, UnionMode::sparse(false).is_dense());
 }
 
 /// An optional text is this.
 fn reads(rt: &impl Abort, text: &Option<String>, wanted: Option<&str>) {
     match (text, wanted) {
-        (Some(text), Some(wanted)) => holds(rt, text.as_str() == wanted),
-        (text, wanted) => holds(rt, text.is_none() && wanted.is_none()),
+        (Some(text), Some(wanted)) => assert_that(rt, text.as_str() == wanted),
+        (text, wanted) => assert_that(rt, text.is_none() && wanted.is_none()),
     }
 }
 
@@ -103,13 +103,13 @@ fn reads(rt: &impl Abort, text: &Option<String>, wanted: Option<&str>) {
 fn names(rt: &impl Abort, metadata: &Metadata, name: &str, text: Option<&str>) {
     let given = ok(rt, get_extension(metadata));
     let (given, given_text) = given.expect(rt, "an extension");
-    holds(rt, given.as_str() == name);
+    assert_that(rt, given.as_str() == name);
     reads(rt, &given_text, text);
 }
 
 /// The metadata names no extension.
 fn names_none(rt: &impl Abort, metadata: &Metadata) {
-    holds(rt, ok(rt, get_extension(metadata)).is_none());
+    assert_that(rt, ok(rt, get_extension(metadata)).is_none());
 }
 
 /// Metadata of one text under a name.
@@ -133,7 +133,7 @@ fn metadata_names_an_extension(rt: HostRuntime) {
 
 /// A schema has fields of these names.
 fn has_fields(rt: &impl Abort, schema: &Schema, wanted: &[&str]) {
-    holds(rt, schema.fields.len() == wanted.len());
+    assert_that(rt, schema.fields.len() == wanted.len());
     for (field, name) in schema.fields.iter().zip(wanted) {
         assert_eq!(rt; field.name.as_str(), *name);
     }

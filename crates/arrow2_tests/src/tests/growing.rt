@@ -1,7 +1,7 @@
 //! Growth by many items at once.
 ghost use Rattle.std.specs.Prelude.{◌+◌, ◌*◌, ◌≤◌, length as count};
 
-use super::checks::{bytes_of, gives, has, holds, ok, overflows, shows, stores};
+use super::checks::{assert_that, bytes_of, gives, has, ok, overflows, shows, stores};
 use arrow2_bitmap::{Bitmap, MutableBitmap};
 use arrow2_walks::SlicesIterator;
 use std::alloc::Global;
@@ -26,7 +26,7 @@ fn extended(
 {
     let mut grown = grown_from(rt, alloc, items);
     let done = grown.extend_from_slice(bytes, offset, length);
-    holds(rt, done.is_ok());
+    assert_that(rt, done.is_ok());
     grown
 }
 
@@ -39,8 +39,8 @@ fn has_runs(
     runs: &[(usize, usize)],
 ) {
     let frozen = ok(rt, Bitmap::try_from(grown));
-    holds(rt, frozen.len() == length);
-    holds(rt, frozen.unset_bits() == falses);
+    assert_that(rt, frozen.len() == length);
+    assert_that(rt, frozen.unset_bits() == falses);
     gives(rt, alloc, SlicesIterator::new(&frozen), runs);
 }
 
@@ -72,9 +72,9 @@ fn a_value_is_appended_behind_spare_bits(rt: HostRuntime) {
 fn room_is_made_and_given_back(rt: HostRuntime) {
     let mut grown = grown_from(&rt, rt.alloc(), &[true; 3]);
     ok(&rt, grown.reserve(1000));
-    holds(&rt, grown.capacity() >= 1003);
+    assert_that(&rt, grown.capacity() >= 1003);
     ok(&rt, grown.shrink_to_fit());
-    holds(&rt, grown.capacity() < 1003);
+    assert_that(&rt, grown.capacity() < 1003);
     overflows(&rt, grown.reserve(usize::MAX - 2));
     overflows(&rt, grown.extend_constant(usize::MAX, true));
     stores(&rt, Ok(grown), &[7]);
@@ -85,7 +85,7 @@ fn has_validity(rt: &impl Abort, alloc: Global, items: &[bool], is_there: bool) 
     let validity = grown_from(rt, alloc, items).into_validity();
     match ok(rt, validity) {
         Some(validity) => gives(rt, alloc, validity.iter(), items),
-        None => holds(rt, !is_there),
+        None => assert_that(rt, !is_there),
     }
 }
 

@@ -4,7 +4,7 @@ ghost use Rattle.arrow2_model.specs.Kernels.{unary_kernel, binary_kernel};
 ghost use Rattle.arrow2_model.specs.Storage.{items_of};
 ghost use Rattle.arrow2_model.specs.Tables.{each};
 
-use super::checks::{bitmap_from, holds, makes, ok, stores, thawed};
+use super::checks::{assert_that, bitmap_from, makes, ok, stores, thawed};
 use arrow2_bitmap::assign_ops::{binary_assign, unary_assign};
 use arrow2_bitmap::bitmap_ops::{binary, unary};
 use arrow2_bitmap::{Bitmap, MutableBitmap};
@@ -47,9 +47,9 @@ fn flip(bitmap: &mut MutableBitmap)
 
 /// A kernel of every zero word is true everywhere, and of every other word false: of these bits it is true.
 fn is_zero(rt: &impl Abort, alloc: Global, bytes: &[u8], length: usize) {
-    holds(rt, length <= 64);
-    holds(rt, bytes.len() <= 8);
-    holds(rt, length <= 8 * bytes.len());
+    assert_that(rt, length <= 64);
+    assert_that(rt, bytes.len() <= 8);
+    assert_that(rt, length <= 8 * bytes.len());
     let bitmap = ok(rt, Bitmap::from_u8_slice(alloc, bytes, length));
     let made = unary(&bitmap, |x| if x == 0 { u64::MAX } else { 0 });
     makes(rt, alloc, made, &[true; 64][..length]);

@@ -1,5 +1,5 @@
 //! Calls that take memory, at a million items, where no command of a script makes them.
-use super::checks::{has, holds, ok};
+use super::checks::{assert_that, has, ok};
 use arrow2_bitmap::bitmap_ops::{binary, unary};
 use arrow2_bitmap::{Bitmap, MutableBitmap};
 use arrow2_buffer::Buffer;
@@ -16,8 +16,8 @@ const MILLION: usize = 1_000_000;
 /// The call made a million items, `falses` of which are false.
 fn counts(rt: &impl Abort, made: Result<Bitmap>, falses: usize) {
     let bitmap = ok(rt, made);
-    holds(rt, bitmap.len() == MILLION);
-    holds(rt, bitmap.unset_bits() == falses);
+    assert_that(rt, bitmap.len() == MILLION);
+    assert_that(rt, bitmap.unset_bits() == falses);
 }
 
 /// A million items, each third one false.
@@ -52,7 +52,7 @@ fn kernels_make_bitmaps(rt: HostRuntime) {
 
 /// The call made a million items.
 fn has_million(rt: &impl Abort, made: Result<Buffer<usize>>) {
-    holds(rt, ok(rt, made).len() == MILLION);
+    assert_that(rt, ok(rt, made).len() == MILLION);
 }
 
 /// The call made offsets that end there.
@@ -71,18 +71,18 @@ fn buffers_and_offsets_are_collected(rt: HostRuntime) {
 /// Each item of a bitmap is cut off by itself.
 fn cut_apart(rt: &impl Abort, pieces: &mut Pieces, cuts: usize) {
     for p in 0..cuts {
-        holds(rt, p < pieces.len());
-        holds(rt, pieces.get(p).len() > 0);
+        assert_that(rt, p < pieces.len());
+        assert_that(rt, pieces.get(p).len() > 0);
         ok(rt, pieces.cut(p, 1));
     }
 }
 
 /// The pieces have one item each.
 fn are_single(rt: &impl Abort, pieces: &Pieces, count: usize) {
-    holds(rt, pieces.len() == count);
+    assert_that(rt, pieces.len() == count);
     for p in 0..count {
-        holds(rt, pieces.len() == count);
-        holds(rt, pieces.get(p).len() == 1);
+        assert_that(rt, pieces.len() == count);
+        assert_that(rt, pieces.get(p).len() == 1);
     }
 }
 

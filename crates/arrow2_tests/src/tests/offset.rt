@@ -1,5 +1,5 @@
 //! Offsets as their callers see them: worked examples, texts of refusals, and calls that no command of a script makes.
-use super::checks::{gives, has, holds, ok, overflows, refuses};
+use super::checks::{assert_that, gives, has, ok, overflows, refuses};
 use arrow2_buffer::Buffer;
 use arrow2_index::offset::Offset;
 use arrow2_offset::{Offsets, OffsetsBuffer};
@@ -41,8 +41,8 @@ fn shares<O: Offset>(rt: &impl Abort, made: Result<OffsetsBuffer<O>>, items: &[O
 #[test]
 fn growing_offsets_are_read(rt: HostRuntime) {
     let offsets = grown::<i32>(&rt, rt.alloc(), &[3, 4, 1, 2]);
-    holds(&rt, offsets.len() == 5);
-    holds(&rt, offsets.len_proxy() == 4);
+    assert_that(&rt, offsets.len() == 5);
+    assert_that(&rt, offsets.len_proxy() == 4);
     has(&rt, &[*offsets.last(), offsets[1]], &[10, 3]);
     has(&rt, &[offsets.start_end(1)], &[(3, 7)]);
 }
@@ -50,12 +50,12 @@ fn growing_offsets_are_read(rt: HostRuntime) {
 /// Shared offsets have these lengths.
 fn gives_lengths(rt: &impl Abort, alloc: Global, offsets: &OffsetsBuffer<i32>, lengths: &[usize]) {
     gives(rt, alloc, offsets.lengths(), lengths);
-    holds(rt, offsets.lengths().len() == lengths.len());
+    assert_that(rt, offsets.lengths().len() == lengths.len());
 }
 
 /// Offsets of three lengths are read.
 fn is_read(rt: &impl Abort, alloc: Global, whole: &OffsetsBuffer<i32>) {
-    holds(rt, whole.len() == 4);
+    assert_that(rt, whole.len() == 4);
     gives_lengths(rt, alloc, whole, &[3, 0, 4]);
     has(rt, &[*whole.first(), *whole.last(), whole[1]], &[5, 12, 8]);
     has(rt, &[whole.range()], &[7]);
@@ -80,7 +80,7 @@ fn shared_offsets_are_read_and_sliced(rt: HostRuntime) {
     let alloc = rt.alloc();
     let mut whole = shared(&rt, alloc, &[5, 8, 8, 12]);
     is_read(&rt, alloc, &whole);
-    holds(&rt, whole.len() == 4);
+    assert_that(&rt, whole.len() == 4);
     whole.slice(1, 3);
     ends_in(&rt, &whole, &[Some(4), Some(0)]);
     gives_lengths(&rt, alloc, &whole.sliced(0, 2), &[0]);
@@ -91,7 +91,7 @@ fn shared_offsets_are_read_and_sliced(rt: HostRuntime) {
 fn stays(rt: &impl Abort, given: Either<OffsetsBuffer<i32>, Offsets<i32>>, items: &[i32]) {
     let left = given.left().expect(rt, "it is sliced or shared");
     has(rt, left.as_slice(), items);
-    holds(rt, left.len_proxy() + 1 == items.len());
+    assert_that(rt, left.len_proxy() + 1 == items.len());
 }
 
 /// The offsets that were taken back are these.
@@ -104,7 +104,7 @@ fn is_taken(rt: &impl Abort, given: Either<OffsetsBuffer<i32>, Offsets<i32>>, it
 fn shared_offsets_are_taken_back_where_nothing_is_sliced_off(rt: HostRuntime) {
     let alloc = rt.alloc();
     let mut part = shared(&rt, alloc, &[5, 8, 8, 12]);
-    holds(&rt, part.len() == 4);
+    assert_that(&rt, part.len() == 4);
     part.slice(1, 2);
     stays(&rt, part.into_mut(), &[8, 8]);
     let whole = shared(&rt, alloc, &[5, 8, 8, 12]);
@@ -116,8 +116,8 @@ fn shared_offsets_are_taken_back_where_nothing_is_sliced_off(rt: HostRuntime) {
 /// Offsets grow by the lengths of others, growing, to these.
 fn grow_by_others(rt: &impl Abort, mut own: Offsets<i32>, other: &Offsets<i32>, wanted: &[i32]) {
     let answer = own.try_extend_from_self(other);
-    holds(rt, answer.is_ok());
-    holds(rt, own != *other);
+    assert_that(rt, answer.is_ok());
+    assert_that(rt, own != *other);
     has(rt, own.as_slice(), wanted);
 }
 
@@ -129,10 +129,10 @@ fn grow_by_a_part(
     (start, length): (usize, usize),
     wanted: &[i32],
 ) {
-    holds(rt, other.len() > length);
-    holds(rt, start < other.len() - length);
+    assert_that(rt, other.len() > length);
+    assert_that(rt, start < other.len() - length);
     let answer = own.try_extend_from_slice(&other, start, length);
-    holds(rt, answer.is_ok());
+    assert_that(rt, answer.is_ok());
     has(rt, own.as_slice(), wanted);
 }
 

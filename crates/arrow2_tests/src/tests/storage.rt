@@ -3,7 +3,7 @@
 ghost use Rattle.std.specs.Prelude.{◌≡◌, ◌<◌, length};
 ghost use Rattle.arrow2_model.specs.Storage.{items_of};
 
-use super::checks::{holds, ok, thawed};
+use super::checks::{assert_that, ok, thawed};
 use super::lists::{self, Given};
 use arrow2_array::BooleanArray;
 use arrow2_bitmap::assign_ops::{binary_assign, unary_assign};
@@ -25,8 +25,8 @@ type Of<'a, 'b> = (&'a Bitmap, &'b [bool]);
 
 /// Checks that a bitmap has these items.
 fn has_items(rt: &impl Abort, bitmap: &Bitmap, list: &[bool]) {
-    holds(rt, bitmap.len() == list.len());
-    holds(rt, bitmap.iter().eq(list.iter().copied()));
+    assert_that(rt, bitmap.len() == list.len());
+    assert_that(rt, bitmap.iter().eq(list.iter().copied()));
 }
 
 /// Checks that the call made a bitmap of these items.
@@ -41,19 +41,19 @@ fn becomes(rt: &impl Abort, changed: MutableBitmap, list: Given) {
 
 /// Iterates over the items from both ends.
 fn is_walked(rt: &impl Abort, (bitmap, list): Of) {
-    holds(rt, bitmap.iter().rev().eq(list.iter().rev().copied()));
+    assert_that(rt, bitmap.iter().rev().eq(list.iter().rev().copied()));
     let (mut inwards, mut items) = (bitmap.iter(), list.iter().copied());
     for _ in 0..list.len() {
-        holds(rt, inwards.next() == items.next());
-        holds(rt, inwards.next_back() == items.next_back());
+        assert_that(rt, inwards.next() == items.next());
+        assert_that(rt, inwards.next_back() == items.next_back());
     }
 }
 
 /// Skips to each index, and to the one after the last.
 fn is_skipped(rt: &impl Abort, (bitmap, list): Of) {
     for i in 0..list.len() + 1 {
-        holds(rt, bitmap.iter().nth(i) == list.get(i).copied());
-        holds(
+        assert_that(rt, bitmap.iter().nth(i) == list.get(i).copied());
+        assert_that(
             rt,
             bitmap.iter().nth_back(i) == list.iter().rev().copied().nth(i),
         );
@@ -62,11 +62,11 @@ fn is_skipped(rt: &impl Abort, (bitmap, list): Of) {
 
 /// Counts the false items of each part from item `start` on.
 fn is_counted_from(rt: &impl Abort, (bitmap, list): Of, start: usize) {
-    holds(rt, bitmap.len() == list.len());
-    holds(rt, start <= list.len());
+    assert_that(rt, bitmap.len() == list.len());
+    assert_that(rt, start <= list.len());
     let mut falses = 0usize;
     for length in 0..list.len() - start + 1 {
-        holds(rt, bitmap.null_count_range(start, length) == falses);
+        assert_that(rt, bitmap.null_count_range(start, length) == falses);
         falses = falses.wrapping_add(usize::from(!lists::at(list, start + length)));
     }
 }
@@ -79,21 +79,21 @@ fn has_words<T: BitChunk>(rt: &impl Abort, (bitmap, list): Of) {
     for word in words {
         has_bits(rt, word, &mut items);
     }
-    holds(rt, rest.eq(items));
+    assert_that(rt, rest.eq(items));
 }
 
 /// Checks that the word holds the next items.
 fn has_bits<T: BitChunk>(rt: &impl Abort, word: T, items: &mut Copied<slice::Iter<'_, bool>>) {
     for i in 0..T::WIDTH {
-        holds(rt, items.next() == Some(word.bit(i)));
+        assert_that(rt, items.next() == Some(word.bit(i)));
     }
 }
 
 /// Applies functions of one and of two words of this width in place.
 fn changes_by_words<T: BitChunk>(rt: &impl Abort, left: Of, right: Of) {
     let alloc = left.0.allocator();
-    holds(rt, left.0.len() == right.0.len());
-    holds(rt, T::WIDTH > 0);
+    assert_that(rt, left.0.len() == right.0.len());
+    assert_that(rt, T::WIDTH > 0);
     let mut changed = thawed(rt, left.0);
     unary_assign(&mut changed, |x: T| x.up(1));
     becomes(rt, changed, lists::mixed(alloc, &[&[], left.1], T::WIDTH));
@@ -122,9 +122,9 @@ fn goes_by_each_width(rt: &impl Abort, left: Of, right: Of) {
 fn goes_by_words(rt: &impl Abort, inputs: [&Bitmap; 4], lists: [&[bool]; 4]) {
     let [a, b, c, d] = inputs;
     let alloc = a.allocator();
-    holds(rt, a.len() == b.len());
-    holds(rt, a.len() == c.len());
-    holds(rt, a.len() == d.len());
+    assert_that(rt, a.len() == b.len());
+    assert_that(rt, a.len() == c.len());
+    assert_that(rt, a.len() == d.len());
     let made = unary(a, |x| x << 1);
     makes(rt, made, lists::mixed(alloc, &[&[], lists[0]], 64));
     let made = binary(a, b, |x, y| x ^ y << 1);
@@ -154,7 +154,7 @@ fn is_frozen(rt: &impl Abort, bitmap: MutableBitmap, list: &[bool]) {
 /// Applies the operators, in new memory and in place.
 fn goes_by_operators(rt: &impl Abort, (left, list): Of, (right, others): Of) {
     let alloc = left.allocator();
-    holds(rt, left.len() == right.len());
+    assert_that(rt, left.len() == right.len());
     let mut changed = thawed(rt, left);
     changed &= right;
     let combined = (left & right, thawed(rt, left) & right, changed);
@@ -191,28 +191,28 @@ fn is_collected(rt: &impl Abort, (bitmap, list): Of) {
     has_items(rt, &ok(rt, Bitmap::try_from_iter(alloc, taken)), list);
     let grown = MutableBitmap::try_from_iter(alloc, bitmap);
     is_frozen(rt, ok(rt, grown), list);
-    holds(
+    assert_that(
         rt,
         SlicesIterator::new(bitmap).slots() == lists::trues(list),
     );
     match ok(rt, thawed(rt, bitmap).into_validity()) {
         Some(validity) => has_items(rt, &validity, list),
-        None => holds(rt, lists::trues(list) == list.len()),
+        None => assert_that(rt, lists::trues(list) == list.len()),
     }
 }
 
 /// Checks that an iterator over values with their validity gives these items.
 fn zip_tells_nulls(rt: &impl Abort, validity: &Bitmap, list: &[bool], items: &[Option<bool>]) {
-    holds(rt, validity.len() == list.len());
+    assert_that(rt, validity.len() == list.len());
     let zip = ZipValidity::new_with_validity(list.iter().copied(), Some(validity));
-    holds(rt, zip.eq(items.iter().copied()));
+    assert_that(rt, zip.eq(items.iter().copied()));
 }
 
 /// Checks that an array of values with their validity has these items.
 fn array_tells_nulls(rt: &impl Abort, validity: &Bitmap, values: &Bitmap, items: &[Option<bool>]) {
     let validity = ok(rt, validity.clone());
     let array = BooleanArray::try_new(ok(rt, values.clone()), Some(validity));
-    holds(rt, ok(rt, array).iter().eq(items.iter().copied()));
+    assert_that(rt, ok(rt, array).iter().eq(items.iter().copied()));
 }
 
 /// Checks that values are null where the validity is false, in an iterator with it and in an array.

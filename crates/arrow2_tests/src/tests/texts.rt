@@ -1,5 +1,5 @@
 //! Texts between offsets that are written out, and how the test of them refuses.
-use super::checks::{holds, ok};
+use super::checks::{assert_that, ok};
 use arrow2_offset::{BrokenRule, OffsetsBuffer};
 use arrow2_utf8::{
     BrokenTextArray, BrokenTexts, text_at, try_check_offsets_and_utf8, try_check_offsets_bounds,
@@ -10,7 +10,7 @@ use std::process::Abort;
 
 /// The check of numbers and bytes returns this.
 fn is_told(rt: &impl Abort, offsets: &[i32], values: &[u8], answer: Result<(), BrokenTextArray>) {
-    holds(rt, try_check_offsets_and_utf8(offsets, values) == answer);
+    assert_that(rt, try_check_offsets_and_utf8(offsets, values) == answer);
 }
 
 #[test]
@@ -65,14 +65,14 @@ fn the_first_fault_is_told(rt: HostRuntime) {
 
 /// A test returns this.
 fn answers(rt: &impl Abort, told: Result<(), BrokenTexts>, answer: Result<(), BrokenTexts>) {
-    holds(rt, told == answer);
+    assert_that(rt, told == answer);
 }
 
 /// The values are texts, and this is that of slot 1.
 fn is_text(rt: &impl Abort, offsets: &OffsetsBuffer<i64>, values: &[u8], text: &str) {
     let is_checked = 1 < offsets.len_proxy() && try_check_utf8(offsets, values).is_ok();
     let is_read = is_checked && text_at(offsets, values, 1) == text;
-    holds(rt, is_read);
+    assert_that(rt, is_read);
 }
 
 #[test]

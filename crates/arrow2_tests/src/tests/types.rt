@@ -1,5 +1,5 @@
 //! Known bytes of native values, and the texts of errors.
-use super::checks::{bytes_of, has_bytes, holds, ok, prints, shows};
+use super::checks::{assert_that, bytes_of, has_bytes, ok, prints, shows};
 use arrow2_types::error::Error;
 use arrow2_types::native::NativeType;
 use arrow2_types::primitive::PrimitiveType as Type;
@@ -12,7 +12,7 @@ fn is_its_digits<T: NativeType>(rt: &impl Abort, value: T, name: Type, digits: &
     for (byte, digit) in big.iter_mut().zip(digits.iter().rev()) {
         *byte = *digit;
     }
-    holds(rt, digits.len() <= 16);
+    assert_that(rt, digits.len() <= 16);
     has_bytes(rt, value, name, digits, &big[..digits.len()]);
 }
 

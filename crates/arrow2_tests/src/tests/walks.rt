@@ -1,7 +1,7 @@
 //! Runs of set bits, and values with their validity.
 ghost use Rattle.std.specs.Prelude.{◌≡◌, length};
 
-use super::checks::{bitmap_from, gives, has, holds, ok, shows};
+use super::checks::{assert_that, bitmap_from, gives, has, ok, shows};
 use arrow2::bitmap::Bitmap;
 use arrow2::bitmap::utils::{BitmapIter, SlicesIterator, ZipValidity, ZipValidityIter};
 use arrow2::laws;
@@ -29,7 +29,7 @@ fn bits_have_runs(
 ) {
     let bitmap = bitmap_of(rt, alloc, bytes, offset, len);
     let items = SlicesIterator::new(&bitmap);
-    holds(rt, items.slots() == slots);
+    assert_that(rt, items.slots() == slots);
     gives(rt, alloc, items, runs);
 }
 
@@ -60,10 +60,10 @@ fn values_come(
     required: bool,
 ) {
     let validity = bitmap_from(rt, alloc, validity);
-    holds(rt, validity.len() == 3);
+    assert_that(rt, validity.len() == 3);
     let zip = ZipValidity::new_with_validity(VALUES[..3].iter().copied(), Some(&validity));
-    holds(rt, matches!(&zip, ZipValidity::Required(_)) == required);
-    holds(rt, zip.len() == 3);
+    assert_that(rt, matches!(&zip, ZipValidity::Required(_)) == required);
+    assert_that(rt, zip.len() == 3);
     has(rt, &[zip.size_hint()], &[(3, Some(3))]);
     gives(rt, alloc, zip, items);
 }
@@ -76,7 +76,7 @@ fn values_come_beside_their_validity(rt: HostRuntime) {
     let items = [Some(1), Some(2), Some(3)];
     values_come(&rt, alloc, &[true; 3], &items, true);
     let validity = bitmap_from(&rt, alloc, &[true; 3]);
-    holds(&rt, validity.len() == 3);
+    assert_that(&rt, validity.len() == 3);
     let mut zip = ZipValidity::new_with_validity(VALUES[..3].iter().copied(), Some(&validity));
     let given = [zip.next(), zip.nth(usize::MAX), zip.next(), zip.next_back()];
     has(&rt, &given, &[Some(Some(1)), None, None, None]);
@@ -86,7 +86,7 @@ fn values_come_beside_their_validity(rt: HostRuntime) {
 fn derived_texts_name_the_parts(rt: HostRuntime) {
     let alloc = rt.alloc();
     let validity = bitmap_from(&rt, alloc, &[true, false]);
-    holds(&rt, validity.len() == 2);
+    assert_that(&rt, validity.len() == 2);
     let runs = SlicesIterator::new(&validity);
     let text =
         "SlicesIterator { bytes: [1], offset: 0, end: 2, cursor: BitCursor { index: 0, word: 0, buffered: 0 }, slots: 1 }";
@@ -106,7 +106,7 @@ fn derived_texts_name_the_parts(rt: HostRuntime) {
 fn a_zip_is_iterated_from_both_ends(rt: HostRuntime) {
     let alloc = rt.alloc();
     let validity = bitmap_from(&rt, alloc, &[true, false, true, true]);
-    holds(&rt, validity.len() == 4);
+    assert_that(&rt, validity.len() == 4);
     let zip = ZipValidityIter::new(VALUES.iter().copied(), validity.iter());
     let mut zip = ok(&rt, zip.clone());
     let given = [zip.nth(1), zip.next_back(), zip.next()];
