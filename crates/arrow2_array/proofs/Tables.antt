@@ -7,7 +7,7 @@ use Rattle.arrow2_model.specs.Tables.{answer, each}
 use Rattle.arrow2_walks.specs.Zipped.{slot, zipped}
 use Rattle.arrow2_model.proofs.Kernels.{length-each, get_or-each, each_from}
 use Rattle.arrow2_walks.proofs.Zipped.{length-zipped, at-zipped}
-use Rattle.arrow2_array.specs.Kleene.{kleene_and, kleene_or, by_items, Spells, kleene, values_table, known_table, beside_table}
+use Rattle.arrow2_array.specs.Kleene.{kleene_and, kleene_or, by_items, TablesCompute, kleene, values_table, known_table, beside_table}
 use Rattle.arrow2_array.specs.declared.kleene.Operator.{Operator}
 use Rattle.arrow2_array.specs.declared.kleene.Operator.TheVariants.{And, Or}
 
@@ -73,7 +73,7 @@ or_behind false true false = refl
 or_behind false false true = refl
 or_behind false false false = refl
 
-pub and_spelled : Spells 8 53060 kleene_and
+pub and_spelled : TablesCompute 8 53060 kleene_and
 unfolding bit
 and_spelled true true true true = refl
 and_spelled true true true false = refl
@@ -92,7 +92,7 @@ and_spelled false false true false = refl
 and_spelled false false false true = refl
 and_spelled false false false false = refl
 
-pub or_spelled : Spells 14 64648 kleene_or
+pub or_spelled : TablesCompute 14 64648 kleene_or
 unfolding bit
 or_spelled true true true true = refl
 or_spelled true true true false = refl
@@ -113,7 +113,7 @@ or_spelled false false false false = refl
 
 -- ---- an operator's tables
 
-pub spelled : (o : Operator) → Spells (values_table o) (known_table o) (kleene o)
+pub spelled : (o : Operator) → TablesCompute (values_table o) (known_table o) (kleene o)
 spelled And = and_spelled
 spelled Or = or_spelled
 
@@ -173,7 +173,7 @@ get_or-by_items f (x ∷ xs) [] k e h = absurd (omega (arith, e))
 get_or-by_items f (x ∷ xs) (y ∷ ys) zero e h = refl
 get_or-by_items f (x ∷ xs) (y ∷ ys) (suc k) e h = get_or-by_items f xs ys k (omega (arith, e)) (omega (arith, h))
 
-pub by_tables : (v t : ℕ) (f : Option Bool → Option Bool → Option Bool) (xs ns ys ms : List Bool) → Spells v t f → length ns ≡ length xs → length ys ≡ length xs → length ms ≡ length xs
+pub by_tables : (v t : ℕ) (f : Option Bool → Option Bool → Option Bool) (xs ns ys ms : List Bool) → TablesCompute v t f → length ns ≡ length xs → length ys ≡ length xs → length ms ≡ length xs
     → zipped (each v (xs ∷ ys ∷ [])) (each t (xs ∷ ns ∷ ys ∷ ms ∷ [])) ≡ by_items f (zipped xs ns) (zipped ys ms)
 by_tables v t f xs ns ys ms spelled n y m =
     let values : List Bool = each v (xs ∷ ys ∷ []) in

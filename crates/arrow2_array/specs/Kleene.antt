@@ -30,8 +30,8 @@ by_items f (x ∷ xs) [] = []
 by_items f (x ∷ xs) (y ∷ ys) = f x y ∷ by_items f xs ys
 
 -- table t gives the value of f for two items, and table known whether there is one: of values a, b with validities n, m
-abbrev pub Spells : ℕ → ℕ → (Option Bool → Option Bool → Option Bool) → Type 0
-Spells t known f = (a n b m : Bool) → slot (answer t (a ∷ b ∷ [])) (answer known (a ∷ n ∷ b ∷ m ∷ [])) ≡ f (slot a n) (slot b m)
+abbrev pub TablesCompute : ℕ → ℕ → (Option Bool → Option Bool → Option Bool) → Type 0
+TablesCompute t known f = (a n b m : Bool) → slot (answer t (a ∷ b ∷ [])) (answer known (a ∷ n ∷ b ∷ m ∷ [])) ≡ f (slot a n) (slot b m)
 
 -- the result of an operator for two items
 abbrev pub kleene : Operator → Option Bool → Option Bool → Option Bool

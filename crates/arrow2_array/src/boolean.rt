@@ -11,9 +11,9 @@ ghost use Rattle.arrow2_model.specs.Storage.{items_of};
 ghost use Rattle.arrow2_model.specs.Tables.{each};
 ghost use Rattle.arrow2_bitmap.specs.Packed.{IsPacked};
 ghost use Rattle.arrow2_walks.specs.Zipped.{zipped};
-ghost use Rattle.arrow2_types.specs.Refusals.{IsInvalidArgument};
+ghost use Rattle.arrow2_types.specs.Refusals.{IsInvalidArgumentOrOutOfMemory};
 ghost use Rattle.arrow2_validity.specs.OptionalValidity.{valid_items};
-ghost use Rattle.arrow2_validity.specs.Refused.{unequal_lengths};
+ghost use Rattle.arrow2_validity.specs.Refused.{unequal_lengths_message};
 ghost use Rattle.arrow2_array.specs.Items.{boolean_items, sliced_boolean, nulls};
 ghost use Rattle.arrow2_array.specs.Kleene.{by_items, kleene, kleene_and, kleene_or, known_table, values_table};
 
@@ -84,8 +84,8 @@ impl BooleanArray {
             ≡ length' (items_of values)) }
         ensures refused { ForSome validity (λ v.
             IfErr result (λ e.
-            IsInvalidArgument e
-            (unequal_lengths (length' (items_of v)) (length' (items_of values))))) }
+            IsInvalidArgumentOrOutOfMemory e
+            (unequal_lengths_message (length' (items_of v)) (length' (items_of values))))) }
     {
         let validity = Validity::try_new(values.len(), validity)?;
         Ok(BooleanArray { values, validity })

@@ -3,5 +3,5 @@ use Rattle.std.specs.Prelude.{◌≡◌, ◌-◌, ◌^◌, List, Bool, Option, S
 use Rattle.std.specs.Iterator.{YieldsThen}
 
 -- 2 ^ 64 - 1 items came, and one more
-abbrev pub GivesTooMany : {S : Type 0} → (S → Option Bool → S → Type 0) → S → Type 0
-GivesTooMany {S} steps s = (xs : List Bool) × (x : Bool) × (t : S) × YieldsThen steps s xs (Some x) t × (length xs ≡ 2 ^ 64 - 1)
+abbrev pub MayYieldTooMany : {S : Type 0} → (S → Option Bool → S → Type 0) → S → Type 0
+MayYieldTooMany {S} steps s = (xs : List Bool) × (x : Bool) × (t : S) × YieldsThen steps s xs (Some x) t × (length xs ≡ 2 ^ 64 - 1)

@@ -1,9 +1,9 @@
 //! Bitmaps that grow, changed in place by word functions and truth tables, and their operators. None of these calls
 //! allocates.
 ghost use Rattle.std.specs.Prelude.{◌≡◌, ℕ, [], ◌∷◌, length};
-ghost use Rattle.arrow2_model.specs.Kernels.{unary_kernel, binary_kernel, IsUnary, IsBinary};
+ghost use Rattle.arrow2_model.specs.Kernels.{unary_kernel, binary_kernel, ComputesUnary, ComputesBinary};
 ghost use Rattle.arrow2_model.specs.Storage.{items_of};
-ghost use Rattle.arrow2_model.specs.Tables.{each, ActsUnary, ActsBinary};
+ghost use Rattle.arrow2_model.specs.Tables.{each, IsBitwiseUnary, IsBitwiseBinary};
 
 use crate::bitmap_ops::are_all;
 use crate::immutable::Bitmap;
@@ -22,10 +22,10 @@ use std::ops::{BitAnd, BitAndAssign, BitOr, BitOrAssign, BitXor, BitXorAssign, N
 pub fn unary_assign<T: BitChunk, F: Fn(T) -> T>(bitmap: &mut MutableBitmap, op: F)
     requires callable { F.IsAlwaysCallable op }
     // For every word function `f` that `op` computes.
-    ensures kernel { (f : ℕ → ℕ) → IsUnary T.BitChunk.WIDTH T.BitChunk.number (F.post op) f →
+    ensures kernel { (f : ℕ → ℕ) → ComputesUnary T.BitChunk.WIDTH T.BitChunk.number (F.post op) f →
         bitmap.new.items ≡ unary_kernel T.BitChunk.WIDTH f bitmap.old.items }
     // For every table `t` by which `op` acts on each bit.
-    ensures table { (t : ℕ) → ActsUnary T.BitChunk.WIDTH T.BitChunk.number (F.post op) t →
+    ensures table { (t : ℕ) → IsBitwiseUnary T.BitChunk.WIDTH T.BitChunk.number (F.post op) t →
         bitmap.new.items ≡ each t (bitmap.old.items ∷ []) }
     ensures len { length bitmap.new.items ≡ length bitmap.old.items }
     ensures capacity { bitmap.new.capacity ≡ bitmap.old.capacity }
@@ -43,10 +43,10 @@ pub fn binary_assign<T: BitChunk, F: Fn(T, T) -> T>(lhs: &mut MutableBitmap, rhs
     requires callable { F.IsAlwaysCallable op }
     requires same_length { length lhs.old.items ≡ length (items_of rhs.now) }
     // For every word function `f` that `op` computes.
-    ensures kernel { (f : ℕ → ℕ → ℕ) → IsBinary T.BitChunk.WIDTH T.BitChunk.number (F.post op) f →
+    ensures kernel { (f : ℕ → ℕ → ℕ) → ComputesBinary T.BitChunk.WIDTH T.BitChunk.number (F.post op) f →
         lhs.new.items ≡ binary_kernel T.BitChunk.WIDTH f lhs.old.items (items_of rhs.now) }
     // For every table `t` by which `op` acts on each bit.
-    ensures table { (t : ℕ) → ActsBinary T.BitChunk.WIDTH T.BitChunk.number (F.post op) t →
+    ensures table { (t : ℕ) → IsBitwiseBinary T.BitChunk.WIDTH T.BitChunk.number (F.post op) t →
         lhs.new.items ≡ each t (lhs.old.items ∷ items_of rhs.now ∷ []) }
     ensures len { length lhs.new.items ≡ length lhs.old.items }
     ensures capacity { lhs.new.capacity ≡ lhs.old.capacity }

@@ -1,11 +1,11 @@
 //! New bitmaps from word functions and truth tables, and the operators on shared bitmaps.
 ghost use Rattle.std.specs.Prelude.{◌≡◌, ℕ, List, Bool, [], ◌∷◌, length as length', replicate, IfOk, IfErr, IfSome, IsTrue, MatchResult, ◌⊎◌};
-ghost use Rattle.arrow2_model.specs.Kernels.{kernel, unary_kernel, binary_kernel, IsUnary, IsBinary};
+ghost use Rattle.arrow2_model.specs.Kernels.{kernel, unary_kernel, binary_kernel, ComputesUnary, ComputesBinary};
 ghost use Rattle.arrow2_model.specs.Storage.{items_of};
-ghost use Rattle.arrow2_model.specs.Tables.{each, ActsUnary, ActsBinary};
+ghost use Rattle.arrow2_model.specs.Tables.{each, IsBitwiseUnary, IsBitwiseBinary};
 ghost use Rattle.arrow2_types.specs.declared.error.Error.TheVariants.{OutOfMemory};
 ghost use Rattle.arrow2_bitmap.specs.Packed.{IsPacked};
-ghost use Rattle.arrow2_model.specs.Rows.{AreRowsOf, ActsOnRows, IsRowFunction};
+ghost use Rattle.arrow2_model.specs.Rows.{AreRowsOf, IsBitwiseOnRows, ComputesRows};
 
 use crate::immutable::Bitmap;
 use crate::mutable::MutableBitmap;
@@ -41,12 +41,12 @@ pub fn from_rows<S: WordRows<u64>, F: Fn(S::Row) -> u64>(
     requires length { S.length rows ≡ length }
     // For every word function `f` that `op` computes: the items are what `f` gives for the lists.
     ensures kernel { (f : List ℕ → ℕ) (lists : List (List Bool)) →
-        IsRowFunction 64 S.words (λ x. x) (F.post op) f →
+        ComputesRows 64 S.words (λ x. x) (F.post op) f →
         AreRowsOf 64 lists (S.row_at rows) length →
         IfOk result (λ b. items_of b ≡ kernel 64 f lists) }
     // For every table `t` by which `op` acts on each bit: the outputs of `t` for the lists.
     ensures table { (t : ℕ) (lists : List (List Bool)) →
-        ActsOnRows 64 S.words (λ x. x) (F.post op) t → AreRowsOf 64 lists (S.row_at rows) length →
+        IsBitwiseOnRows 64 S.words (λ x. x) (F.post op) t → AreRowsOf 64 lists (S.row_at rows) length →
         IfOk result (λ b. items_of b ≡ each t lists) }
     // It is stored in canonical bytes, and the only error is `OutOfMemory`.
     ensures len { IfOk result (λ b. length' (items_of b) ≡ length) }
@@ -69,10 +69,10 @@ pub fn from_rows<S: WordRows<u64>, F: Fn(S::Row) -> u64>(
 pub fn unary<F: Fn(u64) -> u64>(lhs: &Bitmap, op: F) -> Result<Bitmap>
     requires callable { F.IsAlwaysCallable op }
     // For every word function `f` that `op` computes.
-    ensures kernel { (f : ℕ → ℕ) → IsUnary 64 (λ x. x) (F.post op) f →
+    ensures kernel { (f : ℕ → ℕ) → ComputesUnary 64 (λ x. x) (F.post op) f →
         IfOk result (λ b. items_of b ≡ unary_kernel 64 f (items_of lhs.now)) }
     // For every table `t` by which `op` acts on each bit.
-    ensures table { (t : ℕ) → ActsUnary 64 (λ x. x) (F.post op) t →
+    ensures table { (t : ℕ) → IsBitwiseUnary 64 (λ x. x) (F.post op) t →
         IfOk result (λ b. items_of b ≡ each t (items_of lhs.now ∷ [])) }
     // It is stored in canonical bytes, and the only error is `OutOfMemory`.
     ensures len { IfOk result (λ b. length' (items_of b) ≡ length' (items_of lhs.now)) }
@@ -102,10 +102,10 @@ pub fn binary<F: Fn(u64, u64) -> u64>(lhs: &Bitmap, rhs: &Bitmap, op: F) -> Resu
     requires callable { F.IsAlwaysCallable op }
     requires same_length { length' (items_of lhs.now) ≡ length' (items_of rhs.now) }
     // For every word function `f` that `op` computes.
-    ensures kernel { (f : ℕ → ℕ → ℕ) → IsBinary 64 (λ x. x) (F.post op) f →
+    ensures kernel { (f : ℕ → ℕ → ℕ) → ComputesBinary 64 (λ x. x) (F.post op) f →
         IfOk result (λ b. items_of b ≡ binary_kernel 64 f (items_of lhs.now) (items_of rhs.now)) }
     // For every table `t` by which `op` acts on each bit.
-    ensures table { (t : ℕ) → ActsBinary 64 (λ x. x) (F.post op) t →
+    ensures table { (t : ℕ) → IsBitwiseBinary 64 (λ x. x) (F.post op) t →
         IfOk result (λ b. items_of b ≡ each t (items_of lhs.now ∷ items_of rhs.now ∷ [])) }
     // It is stored in canonical bytes, and the only error is `OutOfMemory`.
     ensures len { IfOk result (λ b. length' (items_of b) ≡ length' (items_of lhs.now)) }

@@ -1,6 +1,6 @@
 //! The test of a length against the bytes that are to hold it.
 ghost use Rattle.std.specs.Prelude.{◌≡◌, ◌*◌, ◌≤◌, ◌↔◌, IsOk, IfOk, IfErr, vec_len, string_bytes};
-ghost use Rattle.arrow2_types.specs.Refusals.{IsInvalidArgument};
+ghost use Rattle.arrow2_types.specs.Refusals.{IsInvalidArgumentOrOutOfMemory};
 ghost use Rattle.arrow2_bitmap.specs.Refused.{too_long};
 
 use arrow2_types::error::{Error, Result};
@@ -10,7 +10,7 @@ use std::alloc::{AllocError, Global};
 pub(crate) fn check_length(subject: &str, length: usize, bytes: &Vec<u8>) -> Result<()>
     ensures accepted { IsOk result ↔ (length ≤ 8 * vec_len bytes.now) }
     ensures refused { IfErr result (λ e.
-        IsInvalidArgument e (too_long subject.now length (vec_len bytes.now))) }
+        IsInvalidArgumentOrOutOfMemory e (too_long subject.now length (vec_len bytes.now))) }
 {
     if length > bytes.len().saturating_mul(8) {
         let text = refusal(*bytes.allocator(), subject, length, bytes.len())?;

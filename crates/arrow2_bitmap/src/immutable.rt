@@ -15,10 +15,10 @@ ghost use Rattle.arrow2_model.specs.Shown.{shown};
 ghost use Rattle.arrow2_model.specs.Touched.{slice_reads};
 ghost use Rattle.arrow2_model.specs.Words.{spill};
 ghost use Rattle.arrow2_model.specs.Storage.{BitmapStorage, items_of};
-ghost use Rattle.arrow2_types.specs.Refusals.{IsInvalidArgument};
+ghost use Rattle.arrow2_types.specs.Refusals.{IsInvalidArgumentOrOutOfMemory};
 ghost use Rattle.arrow2_types.specs.declared.error.Error.TheVariants.{OutOfMemory};
 ghost use Rattle.arrow2_bitmap.specs.Predicates.{ReturnsBelow, ReturnsOnEach, ReturnsOnPairs, IsResultAt, IsPairResultAt, IsCallableWithEach, IsCallableWithPairs};
-ghost use Rattle.arrow2_bitmap.specs.Collected.{GivesTooMany};
+ghost use Rattle.arrow2_bitmap.specs.Collected.{MayYieldTooMany};
 ghost use Rattle.arrow2_bitmap.specs.Packed.{IsPacked, packed_storage};
 ghost use Rattle.arrow2_bitmap.specs.Refused.{too_long};
 ghost use Rattle.std.specs.declared.alloc.Global.{Global};
@@ -108,7 +108,7 @@ impl Bitmap {
         ensures len { IfOk result (λ b. length' (items_of b) ≡ length) }
         ensures refused { 8 * vec_len bytes < length →
             IfErr result (λ e.
-            IsInvalidArgument e (too_long (codes "The offset + length") length (vec_len bytes))) }
+            IsInvalidArgumentOrOutOfMemory e (too_long (codes "The offset + length") length (vec_len bytes))) }
         ensures only { length ≤ 8 * vec_len bytes → IfErr result (λ e. e ≡ Error.OutOfMemory) }
     {
         check_length("The offset + length", length, &bytes)?;
@@ -223,7 +223,7 @@ impl Bitmap {
         ensures fits { IfOk result (λ b. length (items_of b) < 2 ^ 64) }
         // It comes only where a run may have too many.
         ensures overflow { IsErrOf result Error.Overflow →
-            (it : I.IntoIter) × I.into_iter_gives iter it × GivesTooMany I.IntoIter.next_gives it }
+            (it : I.IntoIter) × I.into_iter_gives iter it × MayYieldTooMany I.IntoIter.next_gives it }
         ensures only { IfErr result (λ e. (e ≡ Error.Overflow) ⊎ (e ≡ Error.OutOfMemory)) }
     {
         Bitmap::try_from(MutableBitmap::try_from_iter(alloc, iter)?)

@@ -13,9 +13,9 @@ ghost use Rattle.arrow2_bitmap.specs.Packed.{packed_storage};
 ghost use Rattle.arrow2_model.specs.Shown.{shown};
 ghost use Rattle.arrow2_model.specs.Storage.{GrowingBitmap, items_of};
 ghost use Rattle.arrow2_model.specs.Tables.{each};
-ghost use Rattle.arrow2_types.specs.Refusals.{IsInvalidArgument, error_of};
+ghost use Rattle.arrow2_types.specs.Refusals.{IsInvalidArgumentOrOutOfMemory, error_of};
 ghost use Rattle.arrow2_growth.specs.Growth.{Appends};
-ghost use Rattle.arrow2_bitmap.specs.Collected.{GivesTooMany};
+ghost use Rattle.arrow2_bitmap.specs.Collected.{MayYieldTooMany};
 ghost use Rattle.arrow2_bitmap.specs.Refused.{too_long};
 ghost use Rattle.std.specs.declared.alloc.Global.{Global};
 
@@ -84,7 +84,7 @@ impl MutableBitmap {
         ensures len { IfOk result (λ m. length' m.items ≡ length) }
         ensures capacity { IfOk result (λ m. m.capacity ≡ min (8 * vec_capacity bytes) (2 ^ 64 - 1)) }
         ensures refused { IfErr result (λ e.
-            IsInvalidArgument e (too_long (codes "The length") length (vec_len bytes))) }
+            IsInvalidArgumentOrOutOfMemory e (too_long (codes "The length") length (vec_len bytes))) }
     {
         check_length("The length", length, &bytes)?;
         Ok(MutableBitmap::from_vec(bytes, length))
@@ -165,7 +165,7 @@ impl MutableBitmap {
         ensures fits { IfOk result (λ m. length m.items < 2 ^ 64) }
         // It comes only where a run may have too many.
         ensures overflow { IsErrOf result Error.Overflow →
-            (it : I.IntoIter) × I.into_iter_gives iter it × GivesTooMany I.IntoIter.next_gives it }
+            (it : I.IntoIter) × I.into_iter_gives iter it × MayYieldTooMany I.IntoIter.next_gives it }
         ensures only { IfErr result (λ e. (e ≡ Error.Overflow) ⊎ (e ≡ Error.OutOfMemory)) }
     {
         let (bytes, length) = collected(alloc, iter.into_iter())?;

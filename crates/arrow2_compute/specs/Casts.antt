@@ -25,5 +25,5 @@ pub record IsFirstMisfit {X : Type 0} (value : X → ℤ) (fits : ℤ → Type 0
   pub this : ¬ (Fits value fits (slice_index_or items index None))
 
 -- the words that refuse it
-unfoldable pub not_fitting : ℕ → List ℕ
-not_fitting index = codes "item " ++ (decimal index ++ codes " does not fit the type")
+unfoldable pub not_fitting_message : ℕ → List ℕ
+not_fitting_message index = codes "item " ++ (decimal index ++ codes " does not fit the type")

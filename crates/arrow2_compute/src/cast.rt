@@ -1,10 +1,10 @@
 //! Numbers of one type as those of another.
 ghost use Rattle.std.specs.Prelude.{◌≡◌, ℕ, IfOk, IfErr, IsOk, MatchBool, OnOk, All};
 ghost use Rattle.std.specs.List.{AllZip};
-ghost use Rattle.arrow2_types.specs.Refusals.{IsInvalidArgument};
+ghost use Rattle.arrow2_types.specs.Refusals.{IsInvalidArgumentOrOutOfMemory};
 ghost use Rattle.arrow2_datatypes.specs.Types.{physical};
 ghost use Rattle.arrow2_datatypes.specs.declared.physical_type.PhysicalType.TheVariants.{Primitive};
-ghost use Rattle.arrow2_compute.specs.Casts.{IsCast, IsSameNumber, IsFirstMisfit, Fits, not_fitting};
+ghost use Rattle.arrow2_compute.specs.Casts.{IsCast, IsSameNumber, IsFirstMisfit, Fits, not_fitting_message};
 ghost use Rattle.arrow2_primitive.specs.Primitive.{primitive_items};
 
 use arrow2_datatypes::DataType;
@@ -61,7 +61,7 @@ pub fn try_primitive_to_primitive<I: NativeType + PrimInt, O: NativeType + PrimI
     ensures accepted { OnOk result (All (Fits I.value O.fits) (primitive_items array.now)) }
     ensures refused { IfErr result (λ e. (index : ℕ) →
         IsFirstMisfit I.value O.fits (primitive_items array.now) index →
-        IsInvalidArgument e (not_fitting index)) }
+        IsInvalidArgumentOrOutOfMemory e (not_fitting_message index)) }
     ensures only { All (Fits I.value O.fits) (primitive_items array.now) →
         IfErr result (λ e. e ≡ Error.OutOfMemory) }
 {
@@ -76,7 +76,7 @@ fn check_fits<I: NativeType + PrimInt, O: NativeType + PrimInt>(
     ensures accepted { OnOk result (All (Fits I.value O.fits) (primitive_items array.now)) }
     ensures refused { IfErr result (λ e. (index : ℕ) →
         IsFirstMisfit I.value O.fits (primitive_items array.now) index →
-        IsInvalidArgument e (not_fitting index)) }
+        IsInvalidArgumentOrOutOfMemory e (not_fitting_message index)) }
     ensures only { All (Fits I.value O.fits) (primitive_items array.now) → IsOk result }
 {
     for index in 0..array.len() {
@@ -108,9 +108,9 @@ fn cast_item<I: NativeType + PrimInt, O: NativeType + PrimInt>(item: Option<I>) 
 }
 
 /// Returns the error that names an item whose number the other type lacks.
-#[tactic(auto, unfolding(crate::specs::Casts::not_fitting))]
+#[tactic(auto, unfolding(crate::specs::Casts::not_fitting_message))]
 fn misfit(alloc: Global, index: usize) -> Error
-    ensures { IsInvalidArgument result (not_fitting index) }
+    ensures { IsInvalidArgumentOrOutOfMemory result (not_fitting_message index) }
 {
     match format!(in alloc; "item {index} does not fit the type") {
         Ok(text) => Error::InvalidArgumentError(text),

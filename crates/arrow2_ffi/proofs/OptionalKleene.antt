@@ -8,14 +8,14 @@ use Rattle.arrow2_model.proofs.Kernels.{each_from}
 use Rattle.arrow2_model.proofs.Walks.{length-part_bits}
 use Rattle.arrow2_array.proofs.Tables.{and_behind, and_beside, and_known, or_behind, or_beside, or_known}
 use Rattle.arrow2_ffi.specs.declared.ranges.Bits.{Bits}
-use Rattle.arrow2_ffi.specs.Kleene.{IsBeside}
+use Rattle.arrow2_ffi.specs.Kleene.{AgreesWhereOneIsValid}
 use Rattle.arrow2_ffi.specs.Ranges.{first_bits}
 use Rattle.arrow2_ffi.specs.Validities.{CoversItems, valid_items, validity_of}
 
-pub and_beside_table : IsBeside 207 53060
+pub and_beside_table : AgreesWhereOneIsValid 207 53060
 and_beside_table = record { second = and_beside; first = and_behind; both = and_known }
 
-pub or_beside_table : IsBeside 252 64648
+pub or_beside_table : AgreesWhereOneIsValid 252 64648
 or_beside_table = record { second = or_beside; first = or_behind; both = or_known }
 
 pub length-valid_items : (validity : Option Bits) (n : ℕ) → CoversItems (validity_of validity) n → length (valid_items (validity_of validity) n) ≡ n

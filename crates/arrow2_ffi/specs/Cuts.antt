@@ -2,7 +2,7 @@
 use Rattle.std.specs.Prelude.{◌≡◌, ◌≢◌, ℕ, ◌+◌, ◌-◌, ◌<◌, ◌≤◌, ◌↔◌, ℤ, pos, ◌<ℤ◌, ◌≤ℤ◌, List, length, slice_index_or}
 use Rattle.arrow2_offset.specs.Offsets.{AreOffsets, last_of}
 use Rattle.arrow2_offset.specs.Refused.{first_broken}
-use Rattle.arrow2_utf8.specs.Texts.{AreTexts, IsFirstBroken, slot_values}
+use Rattle.arrow2_utf8.specs.Texts.{AreTexts, IsFirstNonUtf8, slot_values}
 use Rattle.arrow2_ffi.specs.declared.codes.TheConstants.{ARROW2_OK, ARROW2_PAST, ARROW2_SPEC_FALLING, ARROW2_UTF8}
 use Rattle.arrow2_ffi.specs.Rules.{rule_code}
 
@@ -40,7 +40,7 @@ pub record ChecksTexts (code : ℕ) (xs : List ℤ) (values : List ℕ) (old new
   pub ok : (code ≡ ARROW2_OK) ↔ (AreOffsets xs × AreTexts xs values)
   -- with ARROW2_UTF8 the numbers are offsets, none is above the number of values, and `new` is the first slot whose
   -- values are not UTF-8
-  pub utf8 : code ≡ ARROW2_UTF8 → AreOffsets xs × (last_of xs ≤ length values) × IsFirstBroken (slot_values xs values) new
+  pub utf8 : code ≡ ARROW2_UTF8 → AreOffsets xs × (last_of xs ≤ length values) × IsFirstNonUtf8 (slot_values xs values) new
   -- any other code but ARROW2_OK is that of the check of the offsets alone
   pub other : code ≢ ARROW2_OK → code ≢ ARROW2_UTF8 → ChecksOffsets code xs (length values) old new
   -- with ARROW2_OK the index is not written

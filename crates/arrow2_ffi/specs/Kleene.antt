@@ -6,7 +6,7 @@ use Rattle.arrow2_model.specs.Tables.{answer, each}
 use Rattle.arrow2_walks.specs.Zipped.{zipped}
 use Rattle.arrow2_array.specs.Kleene.{by_items, kleene_and, kleene_or}
 use Rattle.arrow2_ffi.specs.Validities.{CoversItems, given_validity, valid_items, validity_of}
-use Rattle.arrow2_ffi.specs.Ranges.{IsInside, Holds, AreInside, inputs_of}
+use Rattle.arrow2_ffi.specs.Ranges.{IsInside, HasBytesForBits, AreInside, inputs_of}
 use Rattle.arrow2_ffi.specs.Writes.{Stores, Writes}
 use Rattle.arrow2_ffi.specs.declared.kleene.Nullable.{Nullable}
 use Rattle.arrow2_ffi.specs.declared.kleene_optional.Side.{Side}
@@ -44,7 +44,7 @@ pub record StoresKleene (f : Option Bool → Option Bool → Option Bool) (t kno
 
 -- the code of a call that stores the results of f for n items of both inputs in `values` and `validity`
 abbrev pub WritesKleene : (code : ℕ) → (Option Bool → Option Bool → Option Bool) → (t known n : ℕ) → (left right : Input) → (values new_values validity new_validity : List ℕ) → Type 0
-WritesKleene code f t known n left right values new_values validity new_validity = Writes code (AreInside n (parts_of left right)) (Holds values n × Holds validity n) (StoresKleene f t known n left right new_values new_validity) ((new_values ≡ values) × (new_validity ≡ validity))
+WritesKleene code f t known n left right values new_values validity new_validity = Writes code (AreInside n (parts_of left right)) (HasBytesForBits values n × HasBytesForBits validity n) (StoresKleene f t known n left right new_values new_validity) ((new_values ≡ values) × (new_validity ≡ validity))
 
 -- values, and their validity, which may be missing where no item is null
 pub record OptionalInput : Type 0 where
@@ -68,7 +68,7 @@ IsWholeInside n x = IsInside x.values.0 x.values.1 n × CoversItems x.validity n
 
 -- table `beside` of three inputs has the outputs of table `known` of four where one of the two items is not null. The
 -- inputs of `beside` are value and validity of the item that may be null, then the value of the other item
-pub record IsBeside (beside known : ℕ) : Type 0 where
+pub record AgreesWhereOneIsValid (beside known : ℕ) : Type 0 where
   -- where the second item is not null
   pub second : (a n b : Bool) → answer beside (a ∷ n ∷ b ∷ []) ≡ answer known (a ∷ n ∷ b ∷ true ∷ [])
   -- where the first item is not null
@@ -88,7 +88,7 @@ pub record StoresOptionalKleene (f : Option Bool → Option Bool → Option Bool
 
 -- the code of a call that stores the results of f for n items of both inputs in `values` and `validity`
 abbrev pub WritesOptionalKleene : (code : ℕ) → (Option Bool → Option Bool → Option Bool) → (t known n : ℕ) → (left right : OptionalInput) → (values new_values validity new_validity : List ℕ) → Type 0
-WritesOptionalKleene code f t known n left right values new_values validity new_validity = Writes code (IsWholeInside n left × IsWholeInside n right) (Holds values n × Holds validity n) (StoresOptionalKleene f t known n left right new_values new_validity) ((new_values ≡ values) × (new_validity ≡ validity))
+WritesOptionalKleene code f t known n left right values new_values validity new_validity = Writes code (IsWholeInside n left × IsWholeInside n right) (HasBytesForBits values n × HasBytesForBits validity n) (StoresOptionalKleene f t known n left right new_values new_validity) ((new_values ≡ values) × (new_validity ≡ validity))
 
 -- the code of a call that stores `and` by Kleene's logic of n items of both inputs: its values are those of table 8, its
 -- validity is that of table 53060

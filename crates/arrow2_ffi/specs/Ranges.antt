@@ -18,8 +18,8 @@ abbrev pub inputs_of : ℕ → List (List ℕ × ℕ) → List (List Bool)
 inputs_of n inputs = map (λ input. part (bits input.0) input.1 n) inputs
 
 -- the bytes are exactly those that n bits need
-abbrev pub Holds : List ℕ → ℕ → Type 0
-Holds bytes n = length bytes ≡ (n + 7) / 8
+abbrev pub HasBytesForBits : List ℕ → ℕ → Type 0
+HasBytesForBits bytes n = length bytes ≡ (n + 7) / 8
 
 -- the first n bits of the bits `b`, which are bytes and the bit at which they begin
 abbrev pub first_bits : Bits → ℕ → List Bool

@@ -3,7 +3,7 @@ use Rattle.std.specs.Prelude.{◌≡◌, ◌≢◌, ℕ, ◌<◌, ◌≤◌, ◌
 use Rattle.arrow2_model.specs.Bits.{bits}
 use Rattle.arrow2_model.specs.Canonical.{IsCanonical}
 use Rattle.arrow2_model.specs.Tables.{each}
-use Rattle.arrow2_ffi.specs.Ranges.{Holds, AreInside, inputs_of}
+use Rattle.arrow2_ffi.specs.Ranges.{HasBytesForBits, AreInside, inputs_of}
 use Rattle.arrow2_ffi.specs.declared.codes.TheConstants.{ARROW2_OK, ARROW2_RANGE, ARROW2_LENGTH}
 
 -- the code of a call that writes where its ranges are inside and its slices have the lengths that it needs
@@ -40,11 +40,11 @@ pub record Stores (bytes : List ℕ) (n : ℕ) (list : List Bool) : Type 0 where
 -- the code of a call that writes over `old` the outputs of table t for n bits of each input: with ARROW2_RANGE t is not
 -- below the bound or an input is not inside its bytes, with ARROW2_LENGTH `old` is not the bytes that n bits need
 abbrev pub WritesTable : (code bound t n : ℕ) → List (List ℕ × ℕ) → (old new : List ℕ) → Type 0
-WritesTable code bound t n inputs old new = Writes code ((t < bound) × AreInside n inputs) (Holds old n) (Stores new n (each t (inputs_of n inputs))) (new ≡ old)
+WritesTable code bound t n inputs old new = Writes code ((t < bound) × AreInside n inputs) (HasBytesForBits old n) (Stores new n (each t (inputs_of n inputs))) (new ≡ old)
 
 -- the code of such a call in place: its first input is the first n bits of `old`, and `inputs` are the others
 abbrev pub WritesTableInPlace : (code bound t n : ℕ) → List (List ℕ × ℕ) → (old new : List ℕ) → Type 0
-WritesTableInPlace code bound t n inputs old new = Writes code ((t < bound) × AreInside n inputs) (Holds old n) (Stores new n (each t (take n (bits old) ∷ inputs_of n inputs))) (new ≡ old)
+WritesTableInPlace code bound t n inputs old new = Writes code ((t < bound) × AreInside n inputs) (HasBytesForBits old n) (Stores new n (each t (take n (bits old) ∷ inputs_of n inputs))) (new ≡ old)
 
 -- of the items that were left before, the call wrote the first `count`, at most `room`; the others are left now
 pub record Resumes {X : Type 0} (written left_before left_now : List X) (count room before at end : ℕ) : Type 0 where

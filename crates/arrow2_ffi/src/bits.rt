@@ -3,7 +3,7 @@
 ghost use Rattle.std.specs.Prelude.{◌≡◌, ◌*◌, ◌<◌, ◌↔◌, IsTrue, false, length as length', slice_index_or, slice_set};
 ghost use Rattle.arrow2_model.specs.Bits.{bits};
 ghost use Rattle.arrow2_model.specs.Parts.{part, falses};
-ghost use Rattle.arrow2_ffi.specs.Ranges.{IsInside, Holds};
+ghost use Rattle.arrow2_ffi.specs.Ranges.{IsInside, HasBytesForBits};
 ghost use Rattle.arrow2_ffi.specs.Writes.{Stores, Writes, WritesWhere};
 
 use crate::codes::{ARROW2_LENGTH, ARROW2_OK, ARROW2_RANGE};
@@ -98,7 +98,7 @@ pub extern "C" fn arrow2_copy_bits(
     length: usize,
     out: &mut [u8],
 ) -> u32
-    ensures { Writes result (IsInside bytes.now offset length) (Holds out.old length)
+    ensures { Writes result (IsInside bytes.now offset length) (HasBytesForBits out.old length)
         (Stores out.new length (part (bits bytes.now) offset length)) (out.new ≡ out.old) }
 {
     let items = Bits(bytes, offset);

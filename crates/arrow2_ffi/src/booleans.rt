@@ -2,7 +2,7 @@
 ghost use Rattle.std.specs.Prelude.{◌≡◌, length};
 ghost use Rattle.arrow2_model.specs.Bits.{bits};
 ghost use Rattle.arrow2_model.specs.Parts.{part};
-ghost use Rattle.arrow2_ffi.specs.Ranges.{IsInside, HasBits, first_bits, Holds};
+ghost use Rattle.arrow2_ffi.specs.Ranges.{IsInside, HasBits, first_bits, HasBytesForBits};
 ghost use Rattle.arrow2_ffi.specs.Writes.{Stores, WritesWhere};
 
 use crate::bool_words::BoolWords;
@@ -17,7 +17,7 @@ use arrow2_kernels::assigned::assign_rows;
 /// `ARROW2_LENGTH` exactly where it has another length.
 #[unsafe(no_mangle)]
 pub extern "C" fn arrow2_pack(items: &[bool], out: &mut [u8]) -> u32
-    ensures { WritesWhere ARROW2_LENGTH result (Holds out.old (length items.now))
+    ensures { WritesWhere ARROW2_LENGTH result (HasBytesForBits out.old (length items.now))
         (Stores out.new (length items.now) items.now) (out.new ≡ out.old) }
 {
     if !hold(out, items.len()) {
@@ -45,7 +45,7 @@ pub extern "C" fn arrow2_unpack(bytes: &[u8], offset: usize, out: &mut [bool]) -
 
 /// Writes the booleans as bits, by words. Requires exactly the bytes that hold them.
 fn write_packed(items: &[bool], out: &mut [u8])
-    requires exact { Holds out.old (length items.now) }
+    requires exact { HasBytesForBits out.old (length items.now) }
     ensures { Stores out.new (length items.now) items.now }
 {
     assign_rows(

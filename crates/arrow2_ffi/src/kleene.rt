@@ -4,7 +4,7 @@
 //! exactly the bytes that hold them, and their padding bits become 0. A value is the operator applied to the two
 //! values, also where the result is null.
 ghost use Rattle.std.specs.Prelude.{Bool, Option};
-ghost use Rattle.arrow2_array.specs.Kleene.{Spells};
+ghost use Rattle.arrow2_array.specs.Kleene.{TablesCompute};
 ghost use Rattle.arrow2_ffi.specs.Kleene.{WritesKleene, WritesKleeneAnd, WritesKleeneOr, input, input_of};
 
 use crate::codes::{ARROW2_LENGTH, ARROW2_OK, ARROW2_RANGE};
@@ -96,7 +96,7 @@ fn write<const VALUES: u8, const KNOWN: u16>(
     values: &mut [u8],
     validity: &mut [u8],
 ) -> u32
-    ensures { (f : Option Bool → Option Bool → Option Bool) → Spells VALUES KNOWN f →
+    ensures { (f : Option Bool → Option Bool → Option Bool) → TablesCompute VALUES KNOWN f →
         WritesKleene result f VALUES KNOWN length (input_of left.entry) (input_of right.entry)
         values.old values.new validity.old validity.new }
 {

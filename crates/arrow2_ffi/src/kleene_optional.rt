@@ -3,9 +3,9 @@
 //! A validity that is missing costs no memory, and nothing is read in its stead.
 ghost use Rattle.std.specs.Prelude.{Bool, Option, [], ◌∷◌, ◌↔◌, IsTrue};
 ghost use Rattle.arrow2_model.specs.Tables.{each};
-ghost use Rattle.arrow2_array.specs.Kleene.{Spells};
-ghost use Rattle.arrow2_ffi.specs.Kleene.{IsBeside, IsWholeInside, WritesOptionalKleene, WritesOptionalKleeneAnd, WritesOptionalKleeneOr, first_valid, first_values, optional_input, optional_of};
-ghost use Rattle.arrow2_ffi.specs.Ranges.{Holds};
+ghost use Rattle.arrow2_array.specs.Kleene.{TablesCompute};
+ghost use Rattle.arrow2_ffi.specs.Kleene.{AgreesWhereOneIsValid, IsWholeInside, WritesOptionalKleene, WritesOptionalKleeneAnd, WritesOptionalKleeneOr, first_valid, first_values, optional_input, optional_of};
+ghost use Rattle.arrow2_ffi.specs.Ranges.{HasBytesForBits};
 ghost use Rattle.arrow2_ffi.specs.Writes.{Stores};
 
 use crate::codes::{ARROW2_LENGTH, ARROW2_OK, ARROW2_RANGE};
@@ -108,7 +108,7 @@ fn write<const VALUES: u8, const KNOWN: u16, const BESIDE: u8>(
     values: &mut [u8],
     validity: &mut [u8],
 ) -> u32
-    ensures { (f : Option Bool → Option Bool → Option Bool) → Spells VALUES KNOWN f → IsBeside BESIDE KNOWN →
+    ensures { (f : Option Bool → Option Bool → Option Bool) → TablesCompute VALUES KNOWN f → AgreesWhereOneIsValid BESIDE KNOWN →
         WritesOptionalKleene result f VALUES KNOWN length (optional_of left.entry)
         (optional_of right.entry) values.old values.new validity.old validity.new }
 {
@@ -138,10 +138,10 @@ fn write_known<const KNOWN: u16, const BESIDE: u8>(
     left: Side<'_>,
     right: Side<'_>,
 )
-    requires exact { Holds out.old length }
+    requires exact { HasBytesForBits out.old length }
     requires left { IsWholeInside length (optional_of left) }
     requires right { IsWholeInside length (optional_of right) }
-    ensures { IsBeside BESIDE KNOWN → Stores out.new length (each KNOWN
+    ensures { AgreesWhereOneIsValid BESIDE KNOWN → Stores out.new length (each KNOWN
         (first_values length (optional_of left.entry) ∷ first_valid length (optional_of left.entry)
         ∷ first_values length (optional_of right.entry) ∷ first_valid length (optional_of right.entry) ∷ [])) }
 {

@@ -1,6 +1,6 @@
 //! Bits that are named by their bytes and the first of them, and whether these and slices are as a call needs.
 ghost use Rattle.std.specs.Prelude.{◌≡◌, ◌*◌, ◌<◌, ◌↔◌, IsTrue, length};
-ghost use Rattle.arrow2_ffi.specs.Ranges.{HasBits, Holds};
+ghost use Rattle.arrow2_ffi.specs.Ranges.{HasBits, HasBytesForBits};
 
 use arrow2_bits::bytes_for;
 
@@ -24,7 +24,7 @@ pub(crate) fn are_both_inside(first: Bits<'_>, second: Bits<'_>, length: usize) 
 
 /// Returns whether the bytes are exactly those that `length` bits need.
 pub(crate) fn hold(bytes: &[u8], length: usize) -> bool
-    ensures { IsTrue result ↔ Holds bytes.now length }
+    ensures { IsTrue result ↔ HasBytesForBits bytes.now length }
 {
     bytes.len() == bytes_for(length)
 }

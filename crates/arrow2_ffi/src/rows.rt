@@ -3,9 +3,9 @@ ghost use Rattle.std.specs.Prelude.{◌≡◌, ◌*◌, ◌<◌, ◌≤◌, ℕ,
 ghost use Rattle.arrow2_model.specs.Bits.{bit, bits};
 ghost use Rattle.arrow2_model.specs.Canonical.{IsCanonical};
 ghost use Rattle.arrow2_model.specs.Kernels.{words_at};
-ghost use Rattle.arrow2_model.specs.Rows.{ActsBesideRows};
+ghost use Rattle.arrow2_model.specs.Rows.{IsBitwiseOnOwnRows};
 ghost use Rattle.arrow2_model.specs.Tables.{answer, each};
-ghost use Rattle.arrow2_ffi.specs.Ranges.{HasBits, first_bits, Holds};
+ghost use Rattle.arrow2_ffi.specs.Ranges.{HasBits, first_bits, HasBytesForBits};
 ghost use Rattle.arrow2_ffi.specs.Writes.{Stores};
 
 use crate::ranges::Bits;
@@ -38,10 +38,10 @@ fn assign_answers<S: WordRows<u64>, F: Fn(u64, S::Row) -> u64>(
     requires callable { F.IsAlwaysCallable op }
     requires alike { S.alike rows }
     requires length { S.length rows ≡ length }
-    requires exact { Holds bytes.old length }
+    requires exact { HasBytesForBits bytes.old length }
     ensures canonical { IsCanonical bytes.new length }
     ensures items { (t : ℕ) (lists : List (List Bool)) →
-        ActsBesideRows 64 S.words (λ x. x) (F.post op) t →
+        IsBitwiseOnOwnRows 64 S.words (λ x. x) (F.post op) t →
         ((j : ℕ) → S.row_at rows j ≡ words_at 64 lists j) →
         take length (bits bytes.new) ≡ each t (take length (bits bytes.old) ∷ lists) }
 {
@@ -73,7 +73,7 @@ pub(crate) fn write_two<const T: u8>(
     first: Bits<'_>,
     second: Bits<'_>,
 )
-    requires exact { Holds out.old length }
+    requires exact { HasBytesForBits out.old length }
     requires first { HasBits first length }
     requires second { HasBits second length }
     ensures { Stores out.new length
@@ -97,7 +97,7 @@ pub(crate) fn write_three<const T: u8>(
     second: Bits<'_>,
     third: Bits<'_>,
 )
-    requires exact { Holds out.old length }
+    requires exact { HasBytesForBits out.old length }
     requires first { HasBits first length }
     requires second { HasBits second length }
     requires third { HasBits third length }
@@ -126,7 +126,7 @@ pub(crate) fn write_four<const T: u16>(
     third: Bits<'_>,
     fourth: Bits<'_>,
 )
-    requires exact { Holds out.old length }
+    requires exact { HasBytesForBits out.old length }
     requires first { HasBits first length }
     requires second { HasBits second length }
     requires third { HasBits third length }
@@ -153,7 +153,7 @@ pub(crate) fn write_four<const T: u16>(
 #[inline(always)]
 pub(crate) fn copy(bits: Bits<'_>, length: usize, out: &mut [u8])
     requires inside { HasBits bits length }
-    requires exact { Holds out.old length }
+    requires exact { HasBytesForBits out.old length }
     ensures { Stores out.new length (first_bits bits.entry length) }
 {
     if bits.1 % 8 == 0 {
@@ -167,7 +167,7 @@ pub(crate) fn copy(bits: Bits<'_>, length: usize, out: &mut [u8])
 /// `out` has exactly the bytes that they need.
 fn copy_bytes(bytes: &[u8], length: usize, out: &mut [u8])
     requires inside { length ≤ 8 * length' bytes.now }
-    requires exact { Holds out.old length }
+    requires exact { HasBytesForBits out.old length }
     ensures { Stores out.new length (take length (bits bytes.now)) }
 {
     out.copy_from_slice(&bytes[..out.len()]);
@@ -177,7 +177,7 @@ fn copy_bytes(bytes: &[u8], length: usize, out: &mut [u8])
 /// Replaces the first `length` bits by the outputs of table `t` for them and those of the second input. Requires
 /// exactly the bytes that `length` bits need, and that those of the second input are inside.
 pub(crate) fn assign_two(bytes: &mut [u8], length: usize, second: Bits<'_>, t: u8)
-    requires exact { Holds bytes.old length }
+    requires exact { HasBytesForBits bytes.old length }
     requires second { HasBits second length }
     ensures { Stores bytes.new length
         (each t (take length (bits bytes.old) ∷ first_bits second.entry length ∷ [])) }
@@ -202,7 +202,7 @@ pub(crate) fn assign_three(
     third: Bits<'_>,
     t: u8,
 )
-    requires exact { Holds bytes.old length }
+    requires exact { HasBytesForBits bytes.old length }
     requires second { HasBits second length }
     requires third { HasBits third length }
     ensures { Stores bytes.new length (each t (take length (bits bytes.old)
@@ -227,7 +227,7 @@ pub(crate) fn assign_four(
     fourth: Bits<'_>,
     t: u16,
 )
-    requires exact { Holds bytes.old length }
+    requires exact { HasBytesForBits bytes.old length }
     requires second { HasBits second length }
     requires third { HasBits third length }
     requires fourth { HasBits fourth length }

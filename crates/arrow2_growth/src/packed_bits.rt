@@ -3,7 +3,7 @@ ghost use Rattle.std.specs.Prelude.{◌≡◌, ◌+◌, ◌-◌, ◌*◌, ◌/�
 ghost use Rattle.arrow2_model.specs.Bits.{bit, bits, unnum};
 ghost use Rattle.arrow2_model.specs.Canonical.{canonical_bytes, IsCanonical};
 ghost use Rattle.arrow2_model.specs.Kernels.{kernel, word, words_at};
-ghost use Rattle.arrow2_model.specs.Rows.{ActsBesideRows, IsOwnRowFunction};
+ghost use Rattle.arrow2_model.specs.Rows.{IsBitwiseOnOwnRows, ComputesOwnRows};
 ghost use Rattle.arrow2_model.specs.Tables.{each};
 ghost use Rattle.arrow2_growth.specs.Growth.{Appends, Pushes};
 ghost use Rattle.arrow2_types.specs.declared.refusal.Refusal.TheVariants as refusal;
@@ -306,12 +306,12 @@ impl PackedBits {
         requires length { S.length rows ≡ length' self.old.items }
         // For every word function `f` that `op` computes of its own word and a row.
         ensures kernel { (f : List ℕ → ℕ) (lists : List (List Bool)) →
-            IsOwnRowFunction T.BitChunk.WIDTH S.words T.BitChunk.number (F.post op) f →
+            ComputesOwnRows T.BitChunk.WIDTH S.words T.BitChunk.number (F.post op) f →
             ((j : ℕ) → S.row_at rows j ≡ words_at T.BitChunk.WIDTH lists j) →
             self.new.items ≡ kernel T.BitChunk.WIDTH f (self.old.items ∷ lists) }
         // For every table `t` by which `op` acts on each bit.
         ensures table { (t : ℕ) (lists : List (List Bool)) →
-            ActsBesideRows T.BitChunk.WIDTH S.words T.BitChunk.number (F.post op) t →
+            IsBitwiseOnOwnRows T.BitChunk.WIDTH S.words T.BitChunk.number (F.post op) t →
             ((j : ℕ) → S.row_at rows j ≡ words_at T.BitChunk.WIDTH lists j) →
             self.new.items ≡ each t (self.old.items ∷ lists) }
         // The number of items and the capacity stay.

@@ -3,7 +3,7 @@ ghost use Rattle.std.specs.Prelude.{◌≡◌, ◌+◌, ◌-◌, ◌*◌, ◌/�
 ghost use Rattle.arrow2_model.specs.Bits.{bit, bits};
 ghost use Rattle.arrow2_model.specs.Canonical.{IsCanonical};
 ghost use Rattle.arrow2_model.specs.Kernels.{word, joined};
-ghost use Rattle.arrow2_model.specs.Rows.{IsOwnRowFunction};
+ghost use Rattle.arrow2_model.specs.Rows.{ComputesOwnRows};
 
 use crate::rows::WordRows;
 use arrow2_chunk::bit_chunk::BitChunk;
@@ -24,7 +24,7 @@ pub fn assign_rows<T: BitChunk, S: WordRows<T>, F: Fn(T, S::Row) -> T>(
     requires exact { length' bytes.old ≡ (length + 7) / 8 }
     ensures canonical { IsCanonical bytes.new length }
     ensures items { (f : List ℕ → ℕ) →
-        IsOwnRowFunction T.BitChunk.WIDTH S.words T.BitChunk.number (F.post op) f →
+        ComputesOwnRows T.BitChunk.WIDTH S.words T.BitChunk.number (F.post op) f →
         take length (bits bytes.new) ≡ joined T.BitChunk.WIDTH (λ j.
         f (word T.BitChunk.WIDTH (take length (bits bytes.old)) j ∷ S.row_at rows j)) length }
 {

@@ -3,7 +3,7 @@ ghost use Rattle.std.specs.Prelude.{◌≡◌, ◌+◌, ◌/◌, ℕ, List, Bool
 ghost use Rattle.arrow2_model.specs.Bits.{bits};
 ghost use Rattle.arrow2_model.specs.Canonical.{IsCanonical};
 ghost use Rattle.arrow2_model.specs.Kernels.{joined};
-ghost use Rattle.arrow2_model.specs.Rows.{ActsOnRows, AreRowsOf, IsRowFunction};
+ghost use Rattle.arrow2_model.specs.Rows.{IsBitwiseOnRows, AreRowsOf, ComputesRows};
 ghost use Rattle.arrow2_model.specs.Tables.{each};
 
 use crate::assigned::assign_rows;
@@ -28,11 +28,11 @@ pub fn write_rows<S: WordRows<u64>, F: Fn(S::Row) -> u64>(
     // Padding bits are false.
     ensures canonical { IsCanonical bytes.new length }
     // For every word function `f` that `op` computes.
-    ensures items { (f : List ℕ → ℕ) → IsRowFunction 64 S.words (λ x. x) (F.post op) f →
+    ensures items { (f : List ℕ → ℕ) → ComputesRows 64 S.words (λ x. x) (F.post op) f →
         take length (bits bytes.new) ≡ joined 64 (λ j. f (S.row_at rows j)) length }
     // For every table `t` by which `op` acts on each bit.
     ensures table { (t : ℕ) (lists : List (List Bool)) →
-        ActsOnRows 64 S.words (λ x. x) (F.post op) t → AreRowsOf 64 lists (S.row_at rows) length →
+        IsBitwiseOnRows 64 S.words (λ x. x) (F.post op) t → AreRowsOf 64 lists (S.row_at rows) length →
         take length (bits bytes.new) ≡ each t lists }
 {
     assign_rows(bytes, length, rows, |_own: u64, row| op(row));
@@ -55,7 +55,7 @@ pub fn map_rows<S: WordRows<u64>, F: Fn(S::Row) -> u64>(
     requires alike { S.alike rows }
     requires length { S.length rows ≡ length }
     ensures canonical { IfOk result (λ v. IsCanonical v.items length) }
-    ensures items { (f : List ℕ → ℕ) → IsRowFunction 64 S.words (λ x. x) (F.post op) f →
+    ensures items { (f : List ℕ → ℕ) → ComputesRows 64 S.words (λ x. x) (F.post op) f →
         IfOk result (λ v. take length (bits v.items)
         ≡ joined 64 (λ j. f (S.row_at rows j)) length) }
 {

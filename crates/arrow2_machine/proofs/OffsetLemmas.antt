@@ -5,8 +5,8 @@ use Rattle.std.specs.Fmt.{decimal}
 use Rattle.std.specs.Iterator.{YieldsFirst, Yields}
 use Rattle.std.specs.Iterator.Runs.{WholeRun, YieldsRun}
 use Rattle.std.proofs.lemmas.List.Sums.{sum_by-append}
-use Rattle.arrow2.specs.Offsets.{GrowingOffsets, GrownBy, last_of_growing, lengths_of, lengths_behind}
-use Rattle.arrow2.specs.Collected.{GivesPast}
+use Rattle.arrow2.specs.Offsets.{GrowingOffsets, GrownBy, last_of_growing, lengths_of, gaps_after}
+use Rattle.arrow2.specs.Collected.{MayYieldPast}
 
 -- ---- lengths that an iterator over a list gave
 
@@ -26,7 +26,7 @@ all_given s P run =
     subst P items run.3
 
 -- lengths by which an offset passes the greatest one
-pub past_all : (max last : ℕ) (s : List ℕ) → GivesPast max last (YieldsFirst (λ l. l)) s → max < last + sum s
+pub past_all : (max last : ℕ) (s : List ℕ) → MayYieldPast max last (YieldsFirst (λ l. l)) s → max < last + sum s
 past_all max last s past =
     let all : s ≡ past.0 ++ past.1 = given s past.0 past.1 past.2 in
     omega (arith, past.3, ap sum all, sum_by-append (λ n. n) past.0 past.1)
@@ -55,7 +55,7 @@ grown_within max old new s grown within = omega (arith, grown_last old new s gro
 -- ---- one offset
 
 pub one_length : (x : ℤ) → lengths_of (x ∷ []) ≡ []
-unfolding lengths_of lengths_behind
+unfolding lengths_of gaps_after
 one_length x = refl
 
 -- ---- offsets as words

@@ -10,7 +10,7 @@ use Rattle.arrow2_model.specs.Bits.{bit, unnum, num}
 use Rattle.arrow2_model.specs.Parts.{part}
 use Rattle.arrow2_model.specs.Words.{words}
 use Rattle.arrow2_model.specs.Kernels.{word, words_at, common_length, kernel, AreWords}
-use Rattle.arrow2_model.specs.Tables.{answer, items_at, each, bits_at, Acts}
+use Rattle.arrow2_model.specs.Tables.{answer, items_at, each, bits_at, IsBitwise}
 use Rattle.arrow2_model.proofs.Bits.{length-unnum, get_or-unnum}
 use Rattle.arrow2_model.proofs.Numbers.{bit-num, num-part-lt}
 use Rattle.arrow2_model.proofs.Parts.{get_or-part}
@@ -83,14 +83,14 @@ are_words w (items ∷ lists) j zero = num-part-lt w items (w * j)
 are_words w (items ∷ lists) j (suc k) = are_words w lists j k
 
 -- the kernel of a function that acts bit by bit, by one table
-pub kernel-acts : (w t : ℕ) (f : List ℕ → ℕ) (lists : List (List Bool)) → 0 < w → Acts t w f → kernel w f lists ≡ each t lists
+pub kernel-acts : (w t : ℕ) (f : List ℕ → ℕ) (lists : List (List Bool)) → 0 < w → IsBitwise t w f → kernel w f lists ≡ each t lists
 unfolding kernel
 kernel-acts w t f lists p acts =
     same_joined w (λ j. f (words_at w lists j)) (λ j. table_word w t (words_at w lists j)) (common_length lists) p
     (λ j. table_answers w t (words_at w lists j) (f (words_at w lists j)) (λ i h. acts (words_at w lists j) i (are_words w lists j) h))
     ∙ kernel_of_table w t lists p
 
-pub same_kernels : (v w t : ℕ) (f g : List ℕ → ℕ) (lists : List (List Bool)) → 0 < v → 0 < w → Acts t v f → Acts t w g → kernel v f lists ≡ kernel w g lists
+pub same_kernels : (v w t : ℕ) (f g : List ℕ → ℕ) (lists : List (List Bool)) → 0 < v → 0 < w → IsBitwise t v f → IsBitwise t w g → kernel v f lists ≡ kernel w g lists
 same_kernels v w t f g lists p q a b = kernel-acts v t f lists p a ∙ sym (kernel-acts w t g lists q b)
 
 pub ruleset kernels = (length-kernel, word-item, kernel-acts, same_kernels)

@@ -46,14 +46,14 @@ abbrev pub AreWords : ℕ → List ℕ → Type 0
 AreWords w xs = (k : ℕ) → slice_index xs k < 2 ^ w
 
 -- for each word, or words, of w bits each result that a closure may give is that of the word function f
-abbrev pub IsUnary : {X : Type 0} → ℕ → (X → ℕ) → (X → X → Type 0) → (ℕ → ℕ) → Type 0
-IsUnary {X} w number gives f = (x r : X) → number x < 2 ^ w → gives x r → number r ≡ f (number x)
+abbrev pub ComputesUnary : {X : Type 0} → ℕ → (X → ℕ) → (X → X → Type 0) → (ℕ → ℕ) → Type 0
+ComputesUnary {X} w number gives f = (x r : X) → number x < 2 ^ w → gives x r → number r ≡ f (number x)
 
-abbrev pub IsBinary : {X : Type 0} → ℕ → (X → ℕ) → (X → X → X → Type 0) → (ℕ → ℕ → ℕ) → Type 0
-IsBinary {X} w number gives f = (x y r : X) → number x < 2 ^ w → number y < 2 ^ w → gives x y r → number r ≡ f (number x) (number y)
+abbrev pub ComputesBinary : {X : Type 0} → ℕ → (X → ℕ) → (X → X → X → Type 0) → (ℕ → ℕ → ℕ) → Type 0
+ComputesBinary {X} w number gives f = (x y r : X) → number x < 2 ^ w → number y < 2 ^ w → gives x y r → number r ≡ f (number x) (number y)
 
-abbrev pub IsTernary : {X : Type 0} → ℕ → (X → ℕ) → (X → X → X → X → Type 0) → (ℕ → ℕ → ℕ → ℕ) → Type 0
-IsTernary {X} w number gives f = (x y z r : X) → number x < 2 ^ w → number y < 2 ^ w → number z < 2 ^ w → gives x y z r → number r ≡ f (number x) (number y) (number z)
+abbrev pub ComputesTernary : {X : Type 0} → ℕ → (X → ℕ) → (X → X → X → X → Type 0) → (ℕ → ℕ → ℕ → ℕ) → Type 0
+ComputesTernary {X} w number gives f = (x y z r : X) → number x < 2 ^ w → number y < 2 ^ w → number z < 2 ^ w → gives x y z r → number r ≡ f (number x) (number y) (number z)
 
-abbrev pub IsQuaternary : {X : Type 0} → ℕ → (X → ℕ) → (X → X → X → X → X → Type 0) → (ℕ → ℕ → ℕ → ℕ → ℕ) → Type 0
-IsQuaternary {X} w number gives f = (x y z v r : X) → number x < 2 ^ w → number y < 2 ^ w → number z < 2 ^ w → number v < 2 ^ w → gives x y z v r → number r ≡ f (number x) (number y) (number z) (number v)
+abbrev pub ComputesQuaternary : {X : Type 0} → ℕ → (X → ℕ) → (X → X → X → X → X → Type 0) → (ℕ → ℕ → ℕ → ℕ → ℕ) → Type 0
+ComputesQuaternary {X} w number gives f = (x y z v r : X) → number x < 2 ^ w → number y < 2 ^ w → number z < 2 ^ w → number v < 2 ^ w → gives x y z v r → number r ≡ f (number x) (number y) (number z) (number v)

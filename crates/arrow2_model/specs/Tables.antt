@@ -21,19 +21,19 @@ abbrev pub bits_at : List ℕ → ℕ → List Bool
 bits_at xs i = map (λ x. bit x i) xs
 
 -- a word function that acts on each of the first w bits by table t
-abbrev pub Acts : ℕ → ℕ → (List ℕ → ℕ) → Type 0
-Acts t w f = (xs : List ℕ) (i : ℕ) → AreWords w xs → i < w → bit (f xs) i ≡ answer t (bits_at xs i)
+abbrev pub IsBitwise : ℕ → ℕ → (List ℕ → ℕ) → Type 0
+IsBitwise t w f = (xs : List ℕ) (i : ℕ) → AreWords w xs → i < w → bit (f xs) i ≡ answer t (bits_at xs i)
 
 -- each of the first w bits of a result that a word function may give is the output of table t for the same bit of each
 -- word
-abbrev pub ActsUnary : {X : Type 0} → ℕ → (X → ℕ) → (X → X → Type 0) → ℕ → Type 0
-ActsUnary {X} w number gives t = (x r : X) (i : ℕ) → number x < 2 ^ w → i < w → gives x r → bit (number r) i ≡ answer t (bit (number x) i ∷ [])
+abbrev pub IsBitwiseUnary : {X : Type 0} → ℕ → (X → ℕ) → (X → X → Type 0) → ℕ → Type 0
+IsBitwiseUnary {X} w number gives t = (x r : X) (i : ℕ) → number x < 2 ^ w → i < w → gives x r → bit (number r) i ≡ answer t (bit (number x) i ∷ [])
 
-abbrev pub ActsBinary : {X : Type 0} → ℕ → (X → ℕ) → (X → X → X → Type 0) → ℕ → Type 0
-ActsBinary {X} w number gives t = (x y r : X) (i : ℕ) → number x < 2 ^ w → number y < 2 ^ w → i < w → gives x y r → bit (number r) i ≡ answer t (bit (number x) i ∷ bit (number y) i ∷ [])
+abbrev pub IsBitwiseBinary : {X : Type 0} → ℕ → (X → ℕ) → (X → X → X → Type 0) → ℕ → Type 0
+IsBitwiseBinary {X} w number gives t = (x y r : X) (i : ℕ) → number x < 2 ^ w → number y < 2 ^ w → i < w → gives x y r → bit (number r) i ≡ answer t (bit (number x) i ∷ bit (number y) i ∷ [])
 
-abbrev pub ActsTernary : {X : Type 0} → ℕ → (X → ℕ) → (X → X → X → X → Type 0) → ℕ → Type 0
-ActsTernary {X} w number gives t = (x y z r : X) (i : ℕ) → number x < 2 ^ w → number y < 2 ^ w → number z < 2 ^ w → i < w → gives x y z r → bit (number r) i ≡ answer t (bit (number x) i ∷ bit (number y) i ∷ bit (number z) i ∷ [])
+abbrev pub IsBitwiseTernary : {X : Type 0} → ℕ → (X → ℕ) → (X → X → X → X → Type 0) → ℕ → Type 0
+IsBitwiseTernary {X} w number gives t = (x y z r : X) (i : ℕ) → number x < 2 ^ w → number y < 2 ^ w → number z < 2 ^ w → i < w → gives x y z r → bit (number r) i ≡ answer t (bit (number x) i ∷ bit (number y) i ∷ bit (number z) i ∷ [])
 
-abbrev pub ActsQuaternary : {X : Type 0} → ℕ → (X → ℕ) → (X → X → X → X → X → Type 0) → ℕ → Type 0
-ActsQuaternary {X} w number gives t = (x y z v r : X) (i : ℕ) → number x < 2 ^ w → number y < 2 ^ w → number z < 2 ^ w → number v < 2 ^ w → i < w → gives x y z v r → bit (number r) i ≡ answer t (bit (number x) i ∷ bit (number y) i ∷ bit (number z) i ∷ bit (number v) i ∷ [])
+abbrev pub IsBitwiseQuaternary : {X : Type 0} → ℕ → (X → ℕ) → (X → X → X → X → X → Type 0) → ℕ → Type 0
+IsBitwiseQuaternary {X} w number gives t = (x y z v r : X) (i : ℕ) → number x < 2 ^ w → number y < 2 ^ w → number z < 2 ^ w → number v < 2 ^ w → i < w → gives x y z v r → bit (number r) i ≡ answer t (bit (number x) i ∷ bit (number y) i ∷ bit (number z) i ∷ bit (number v) i ∷ [])

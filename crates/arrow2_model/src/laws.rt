@@ -10,7 +10,7 @@ ghost use Rattle.arrow2_model.specs.Storage.{BitmapStorage, items_of};
 ghost use Rattle.arrow2_model.specs.Words.{words, full_words, rest};
 ghost use Rattle.arrow2_model.specs.Kernels.{word, kernel};
 ghost use Rattle.arrow2_model.specs.Touched.{touched, slice_reads, cut_reads, lg, cut_budget, HoldsBit};
-ghost use Rattle.arrow2_model.specs.Tables.{each, Acts};
+ghost use Rattle.arrow2_model.specs.Tables.{each, IsBitwise};
 ghost use Rattle.arrow2_model.specs.Canonical.{canonical_bytes};
 ghost use Rattle.arrow2_model.specs.Shown.{shown, items_text};
 
@@ -132,7 +132,7 @@ pub fn kernels_go_by_the_words_of_a_list()
 /// A word function that acts on each bit by one table gives the output of that table item by item.
 #[tactic(auto, using(crate::proofs::Kernels::kernels))]
 pub fn a_function_bit_by_bit_is_its_table()
-    ensures { (w t : ℕ) (f : List ℕ → ℕ) (lists : List (List Bool)) → 0 < w → Acts t w f →
+    ensures { (w t : ℕ) (f : List ℕ → ℕ) (lists : List (List Bool)) → 0 < w → IsBitwise t w f →
         kernel w f lists ≡ each t lists }
 {}
 
@@ -140,7 +140,7 @@ pub fn a_function_bit_by_bit_is_its_table()
 #[tactic(auto, using(crate::proofs::Kernels::kernels))]
 pub fn a_table_is_the_same_at_each_width()
     ensures { (v w t : ℕ) (f g : List ℕ → ℕ) (lists : List (List Bool)) → 0 < v → 0 < w →
-        Acts t v f → Acts t w g → kernel v f lists ≡ kernel w g lists }
+        IsBitwise t v f → IsBitwise t w g → kernel v f lists ≡ kernel w g lists }
 {}
 
 /// Not of both is not of the one or not of the other.

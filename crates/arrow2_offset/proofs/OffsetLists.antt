@@ -8,7 +8,7 @@ use Rattle.std.proofs.lemmas.List.Sums.{sum_by-append, sum_by-cons}
 use Rattle.std.proofs.Math.Seq.{take-length}
 use Rattle.arrow2_model.specs.Parts.{part}
 use Rattle.arrow2_model.proofs.Parts.{part-map}
-use Rattle.arrow2_offset.specs.Offsets.{running_sums, offsets_list, offset_at, AreOffsets, start_of, lengths_behind, lengths_of, last_of}
+use Rattle.arrow2_offset.specs.Offsets.{running_sums, offsets_list, offset_at, AreOffsets, start_of, gaps_after, lengths_of, last_of}
 
 -- the item at the index after k
 pub get_or-next : {X : Type 0} (x : X) (xs : List X) (k : ℕ) (d : X) → get_or (x ∷ xs) (k + 1) d ≡ get_or xs k d
@@ -36,32 +36,32 @@ running_sums-append start (n ∷ ns) ms =
 
 -- ---- from the lengths to the list, and back
 
-lengths_behind-sums : (start : ℕ) (ns : List ℕ) → lengths_behind (pos start) (map pos (running_sums start ns)) ≡ ns
-unfolding running_sums lengths_behind
-lengths_behind-sums start [] = refl
-lengths_behind-sums start (n ∷ ns) =
+gaps_after-sums : (start : ℕ) (ns : List ℕ) → gaps_after (pos start) (map pos (running_sums start ns)) ≡ ns
+unfolding running_sums gaps_after
+gaps_after-sums start [] = refl
+gaps_after-sums start (n ∷ ns) =
     let e : int_gap (pos start) (pos (start + n)) ≡ n = omega arith in
-    rw (e, lengths_behind-sums (start + n) ns) refl
+    rw (e, gaps_after-sums (start + n) ns) refl
 
 pub lengths_of-list : (start : ℕ) (ns : List ℕ) → lengths_of (map pos (offsets_list start ns)) ≡ ns
 unfolding lengths_of
-lengths_of-list start ns = lengths_behind-sums start ns
+lengths_of-list start ns = gaps_after-sums start ns
 
 -- the item after another that is a natural number, and not below it
 stepped : (a : ℕ) (y : ℤ) → pos a ≤ℤ y → y ≡ pos (a + int_gap (pos a) y)
 stepped a (pos b) h = let e : b ≡ a + (b - a) = omega (arith, ints) in ap pos e
 stepped a (negsuc b) h = omega (arith, ints)
 
-behind_spelled : (a : ℕ) (xs : List ℤ) → ((k : ℕ) → k + 1 < length (pos a ∷ xs) → slice_index_or (pos a ∷ xs) k (pos 0) ≤ℤ slice_index_or (pos a ∷ xs) (k + 1) (pos 0)) → xs ≡ map pos (running_sums a (lengths_behind (pos a) xs))
-unfolding running_sums lengths_behind
+behind_spelled : (a : ℕ) (xs : List ℤ) → ((k : ℕ) → k + 1 < length (pos a ∷ xs) → slice_index_or (pos a ∷ xs) k (pos 0) ≤ℤ slice_index_or (pos a ∷ xs) (k + 1) (pos 0)) → xs ≡ map pos (running_sums a (gaps_after (pos a) xs))
+unfolding running_sums gaps_after
 behind_spelled a [] h = refl
 behind_spelled a (y ∷ ys) h =
     let n = int_gap (pos a) y in
     let e = stepped a y (h 0 (omega arith)) in
     let next : (k : ℕ) → k + 1 < length (y ∷ ys) → slice_index_or (y ∷ ys) k (pos 0) ≤ℤ slice_index_or (y ∷ ys) (k + 1) (pos 0) = λ k l. rw (← get_or-next (pos a) (y ∷ ys) k (pos 0), ← get_or-next (pos a) (y ∷ ys) (k + 1) (pos 0)) (h (k + 1) (omega arith)) in
-    let P : ℤ → Type 0 = λ z. ((k : ℕ) → k + 1 < length (z ∷ ys) → slice_index_or (z ∷ ys) k (pos 0) ≤ℤ slice_index_or (z ∷ ys) (k + 1) (pos 0)) → ys ≡ map pos (running_sums (a + n) (lengths_behind z ys)) in
-    let rest : ys ≡ map pos (running_sums (a + n) (lengths_behind y ys)) = (subst P (sym e) (behind_spelled (a + n) ys)) next in
-    let Q : ℤ → Type 0 = λ z. (z ∷ ys) ≡ pos (a + n) ∷ map pos (running_sums (a + n) (lengths_behind y ys)) in
+    let P : ℤ → Type 0 = λ z. ((k : ℕ) → k + 1 < length (z ∷ ys) → slice_index_or (z ∷ ys) k (pos 0) ≤ℤ slice_index_or (z ∷ ys) (k + 1) (pos 0)) → ys ≡ map pos (running_sums (a + n) (gaps_after z ys)) in
+    let rest : ys ≡ map pos (running_sums (a + n) (gaps_after y ys)) = (subst P (sym e) (behind_spelled (a + n) ys)) next in
+    let Q : ℤ → Type 0 = λ z. (z ∷ ys) ≡ pos (a + n) ∷ map pos (running_sums (a + n) (gaps_after y ys)) in
     subst Q (sym e) (ap (λ t. pos (a + n) ∷ t) rest)
 
 natural_is : (x : ℤ) → pos 0 ≤ℤ x → x ≡ pos (unsigned_abs x)
@@ -74,9 +74,9 @@ unfolding lengths_of
 spelled [] h = let no : ⊥ = omega (arith, h.some) in absurd no
 spelled (x ∷ xs) h =
     let e = natural_is x (h.natural 0 (omega arith)) in
-    let P : ℤ → Type 0 = λ z. ((k : ℕ) → k + 1 < length (z ∷ xs) → slice_index_or (z ∷ xs) k (pos 0) ≤ℤ slice_index_or (z ∷ xs) (k + 1) (pos 0)) → xs ≡ map pos (running_sums (unsigned_abs x) (lengths_behind z xs)) in
+    let P : ℤ → Type 0 = λ z. ((k : ℕ) → k + 1 < length (z ∷ xs) → slice_index_or (z ∷ xs) k (pos 0) ≤ℤ slice_index_or (z ∷ xs) (k + 1) (pos 0)) → xs ≡ map pos (running_sums (unsigned_abs x) (gaps_after z xs)) in
     let rest = (subst P (sym e) (behind_spelled (unsigned_abs x) xs)) h.rising in
-    let Q : ℤ → Type 0 = λ z. (z ∷ xs) ≡ pos (unsigned_abs x) ∷ map pos (running_sums (unsigned_abs x) (lengths_behind x xs)) in
+    let Q : ℤ → Type 0 = λ z. (z ∷ xs) ≡ pos (unsigned_abs x) ∷ map pos (running_sums (unsigned_abs x) (gaps_after x xs)) in
     subst Q (sym e) (ap (λ t. pos (unsigned_abs x) ∷ t) rest)
 
 natural_sums : (start : ℕ) (ns : List ℕ) (k : ℕ) → pos 0 ≤ℤ slice_index_or (map pos (offsets_list start ns)) k (pos 0)

@@ -3,7 +3,7 @@ use Rattle.std.proofs.Common.{◌≡◌, ℕ, ◌+◌, ◌-◌, ◌<◌, List, [
 use Rattle.std.specs.Prelude.{ℤ, pos, ◌≤ℤ◌, ◌-ℤ◌, unsigned_abs}
 use Rattle.std.specs.Int.{int_gap}
 use Rattle.std.proofs.lemmas.List.{length-drop, take_all, take_more}
-use Rattle.arrow2_offset.specs.Offsets.{AreOffsets, lengths_of, lengths_behind, last_of}
+use Rattle.arrow2_offset.specs.Offsets.{AreOffsets, lengths_of, gaps_after, last_of}
 use Rattle.arrow2_index.proofs.Ranges.{gap_pos}
 use Rattle.arrow2_offset.proofs.OffsetLists.{get_or-next}
 use Rattle.arrow2_offset.proofs.Growing.{cut, length_slots}
@@ -19,7 +19,7 @@ offsets_behind x y xs h = record {
 module _ {X : Type 0} (value : X → ℤ) where
   -- nothing is left where one offset is left
   pub no_length : (items : List X) → length items ≡ 1 → lengths_of (map value items) ≡ []
-  unfolding lengths_of lengths_behind
+  unfolding lengths_of gaps_after
   no_length [] e = refl
   no_length (x ∷ []) e = refl
   no_length (x ∷ y ∷ xs) e = let no : ⊥ = omega arith in absurd no
@@ -32,7 +32,7 @@ module _ {X : Type 0} (value : X → ℤ) where
 
   -- the first length, and those after it
   first_of : (items : List X) (a b : X) (n : ℕ) → AreOffsets (map value items) → 1 < length items → a ≡ get_or items 0 a → b ≡ get_or items 1 b → pos n ≡ value b -ℤ value a → AreOffsets (map value (drop 1 items)) × (lengths_of (map value items) ≡ n ∷ lengths_of (map value (drop 1 items)))
-  unfolding lengths_of lengths_behind
+  unfolding lengths_of gaps_after
   first_of [] a b n h l is-a is-b e = let no : ⊥ = omega arith in absurd no
   first_of (x ∷ []) a b n h l is-a is-b e = let no : ⊥ = omega arith in absurd no
   first_of (x ∷ y ∷ xs) a b n h l is-a is-b e =
@@ -40,7 +40,7 @@ module _ {X : Type 0} (value : X → ℤ) where
       let gap = gap_pos (value x) (value y) order in
       let same : pos n ≡ value y -ℤ value x = e ∙ (ap (λ z. value z -ℤ value a) is-b ∙ ap (λ z. value y -ℤ value z) is-a) in
       let is : int_gap (value x) (value y) ≡ n = ap unsigned_abs (gap ∙ sym same) in
-      (offsets_behind (value x) (value y) (map value xs) h, ap (λ k. k ∷ lengths_behind (value y) (map value xs)) is)
+      (offsets_behind (value x) (value y) (map value xs) h, ap (λ k. k ∷ gaps_after (value y) (map value xs)) is)
 
   pub first_length : (items behind : List X) (a b : X) (n : ℕ) → AreOffsets (map value items) → 1 < length items → a ≡ get_or items 0 a → b ≡ get_or items 1 b → pos n ≡ value b -ℤ value a → behind ≡ take (length items - 1) (drop 1 items) → AreOffsets (map value behind) × (lengths_of (map value items) ≡ n ∷ lengths_of (map value behind))
   first_length items behind a b n h l is-a is-b e is =

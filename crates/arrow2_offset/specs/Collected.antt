@@ -3,9 +3,9 @@ use Rattle.std.specs.Prelude.{ℕ, ◌+◌, ◌<◌, List, Option, length, sum}
 use Rattle.std.specs.Iterator.{Yields}
 
 -- lengths came by which the last offset passes the greatest one
-abbrev pub GivesPast : {S : Type 0} → ℕ → ℕ → (S → Option ℕ → S → Type 0) → S → Type 0
-GivesPast {S} max last steps s = (ns : List ℕ) × (t : S) × Yields steps s ns t × (max < last + sum ns)
+abbrev pub MayYieldPast : {S : Type 0} → ℕ → ℕ → (S → Option ℕ → S → Type 0) → S → Type 0
+MayYieldPast {S} max last steps s = (ns : List ℕ) × (t : S) × Yields steps s ns t × (max < last + sum ns)
 
 -- more lengths came than the capacity
-abbrev pub GivesMoreThan : {S : Type 0} → ℕ → (S → Option ℕ → S → Type 0) → S → Type 0
-GivesMoreThan {S} room steps s = (ns : List ℕ) × (t : S) × Yields steps s ns t × (room < length ns)
+abbrev pub MayYieldMoreThan : {S : Type 0} → ℕ → (S → Option ℕ → S → Type 0) → S → Type 0
+MayYieldMoreThan {S} room steps s = (ns : List ℕ) × (t : S) × Yields steps s ns t × (room < length ns)

@@ -3,7 +3,7 @@ use Rattle.std.specs.Prelude.{◌≡◌, ℕ, ◌+◌, ◌-◌, ◌<◌, ◌≤�
 use Rattle.std.specs.Iterator.Runs.{WholeRun}
 use Rattle.arrow2_types.specs.declared.refusal.Refusal.{Refusal}
 use Rattle.arrow2_types.specs.declared.refusal.Refusal.TheVariants.{Overflow, OutOfMemory}
-use Rattle.arrow2_offset.specs.Collected.{GivesMoreThan, GivesPast}
+use Rattle.arrow2_offset.specs.Collected.{MayYieldMoreThan, MayYieldPast}
 use Rattle.arrow2_offset.specs.Offsets.{GrowingOffsets, slots, last_of_growing, SameOffsets, GrownBy}
 
 -- growth by some lengths, all of them or none, where some number may reach the greatest one and not pass it. A failure
@@ -40,9 +40,9 @@ pub record GrowsByRun {S T E : Type 0} (greatest : ℕ) (told : Refusal → E) (
   -- the slots that were there are within the capacity
   pub held : slots old ≤ old.capacity
   -- it overflows only where lengths came by which the last offset passes the greatest one
-  pub overflow : IsErrOf r (told Overflow) → GivesPast greatest (last_of_growing old) steps lengths
+  pub overflow : IsErrOf r (told Overflow) → MayYieldPast greatest (last_of_growing old) steps lengths
   -- it is out of memory only where more lengths came than the capacity
-  pub room : IsErrOf r (told OutOfMemory) → GivesMoreThan (old.capacity - slots old) steps lengths
+  pub room : IsErrOf r (told OutOfMemory) → MayYieldMoreThan (old.capacity - slots old) steps lengths
   -- there is no other error
   pub only : IfErr r (λ e. (e ≡ told Overflow) ⊎ (e ≡ told OutOfMemory))
   -- the capacity never falls

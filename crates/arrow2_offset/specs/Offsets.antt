@@ -32,14 +32,14 @@ abbrev pub start_of : List ℤ → ℕ
 start_of xs = unsigned_abs (slice_index_or xs 0 (pos 0))
 
 -- how far each item is above the one before it, where the item before the first is x
-unfoldable pub lengths_behind : ℤ → List ℤ → List ℕ
-lengths_behind x [] = []
-lengths_behind x (y ∷ ys) = int_gap x y ∷ lengths_behind y ys
+unfoldable pub gaps_after : ℤ → List ℤ → List ℕ
+gaps_after x [] = []
+gaps_after x (y ∷ ys) = int_gap x y ∷ gaps_after y ys
 
 -- the lengths that a list of offsets spells: how far each item is above the one before it
 unfoldable pub lengths_of : List ℤ → List ℕ
 lengths_of [] = []
-lengths_of (x ∷ xs) = lengths_behind x xs
+lengths_of (x ∷ xs) = gaps_after x xs
 
 -- the last of a list of offsets
 abbrev pub last_of : List ℤ → ℕ

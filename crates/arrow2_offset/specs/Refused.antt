@@ -19,11 +19,11 @@ rule_words Negative = codes "offsets must be larger than 0"
 rule_words Falling = codes "offsets must be monotonically increasing"
 
 -- the words for a list that is not offsets: those of that rule
-abbrev pub why_not_offsets : List ℤ → List ℕ
-why_not_offsets xs = rule_words (first_broken xs)
+abbrev pub not_offsets_message : List ℤ → List ℕ
+not_offsets_message xs = rule_words (first_broken xs)
 
 -- the list does not follow the specification, in these words; or out of memory, where the allocation of the words fails
-abbrev pub IsOutOfSpec : Error → List ℕ → Type 0
-IsOutOfSpec (OutOfSpec text) words = string_bytes text ≡ words
-IsOutOfSpec OutOfMemory words = Unit {0}
-IsOutOfSpec _ words = ⊥
+abbrev pub IsOutOfSpecOrOutOfMemory : Error → List ℕ → Type 0
+IsOutOfSpecOrOutOfMemory (OutOfSpec text) words = string_bytes text ≡ words
+IsOutOfSpecOrOutOfMemory OutOfMemory words = Unit {0}
+IsOutOfSpecOrOutOfMemory _ words = ⊥

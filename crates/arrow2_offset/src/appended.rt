@@ -3,7 +3,7 @@ ghost use Rattle.std.specs.Prelude.{◌≡◌, ◌-◌, ◌<◌, ◌≤◌, leng
 ghost use Rattle.std.specs.Iterator.{IsFinite};
 ghost use Rattle.std.specs.Iterator.Runs.{WholeRun};
 ghost use Rattle.arrow2_offset.specs.Offsets.{AreOffsetsUpTo, last_of, lengths_of};
-ghost use Rattle.arrow2_offset.specs.Collected.{GivesMoreThan, GivesPast};
+ghost use Rattle.arrow2_offset.specs.Collected.{MayYieldMoreThan, MayYieldPast};
 ghost use Rattle.arrow2_offset.specs.Growth.{GrowsByRun};
 ghost use Rattle.arrow2_offset.specs.Lengthened.{LengthenedBy};
 ghost use Rattle.arrow2_offset.specs.Made.{made_of};
@@ -71,9 +71,9 @@ fn appended<O: Offset, I: Iterator<Item = usize> + Drop>(
         LengthenedBy p.items (map O.value offsets.items) (map O.value result.0.items))) }
     // An error comes only where the iterator may give too many lengths.
     ensures overflow { IsErrOf result.1 refusal.Overflow →
-        GivesPast O.MAX (last_of (map O.value offsets.items)) I.next_gives lengths }
+        MayYieldPast O.MAX (last_of (map O.value offsets.items)) I.next_gives lengths }
     ensures room { IsErrOf result.1 refusal.OutOfMemory →
-        GivesMoreThan (vec_capacity offsets - 1
+        MayYieldMoreThan (vec_capacity offsets - 1
         - length (lengths_of (map O.value offsets.items))) I.next_gives lengths }
     // The capacity never falls.
     ensures capacity { vec_capacity offsets ≤ vec_capacity result.0 }

@@ -1,7 +1,7 @@
 //! The test that a list is offsets.
 ghost use Rattle.std.specs.Prelude.{◌≡◌, ℕ, ◌+◌, ◌<◌, ◌≤ℤ◌, ◌↔◌, pos, length, map, slice_index_or, OnOk, IsOk, IfErr, IfSome, IfNone, IsNone, IsTrue};
 ghost use Rattle.arrow2_offset.specs.Offsets.{AreOffsets, AreOffsetsUpTo};
-ghost use Rattle.arrow2_offset.specs.Refused.{IsOutOfSpec, first_broken, rule_words, why_not_offsets};
+ghost use Rattle.arrow2_offset.specs.Refused.{IsOutOfSpecOrOutOfMemory, first_broken, rule_words, not_offsets_message};
 
 use arrow2_index::offset::Offset;
 use arrow2_types::error::{Error, Result};
@@ -45,7 +45,7 @@ pub(crate) fn try_check_offsets<O: Offset>(alloc: Global, offsets: &[O]) -> Resu
     ensures ok { OnOk result (AreOffsetsUpTo O.MAX (map O.value offsets.now)) }
     ensures accepted { AreOffsets (map O.value offsets.now) → IsOk result }
     ensures refused { IfErr result (λ e.
-        IsOutOfSpec e (why_not_offsets (map O.value offsets.now))) }
+        IsOutOfSpecOrOutOfMemory e (not_offsets_message (map O.value offsets.now))) }
 {
     match broken_rule(offsets) {
         None => Ok(()),
@@ -66,7 +66,7 @@ fn words_of(rule: BrokenRule) -> &'static str
 
 /// Returns the error with this text, or `OutOfMemory` where the allocation of the text fails.
 fn out_of_spec(alloc: Global, text: &str) -> Error
-    ensures { IsOutOfSpec result text.now }
+    ensures { IsOutOfSpecOrOutOfMemory result text.now }
 {
     match String::from_str(alloc, text) {
         Ok(text) => Error::OutOfSpec(text),

@@ -5,7 +5,7 @@ ghost use Rattle.std.specs.Cmp.{partial_equiv_from_equiv, int_eq_equiv, on_equiv
 ghost use Rattle.std.specs.Cmp.Lexicographic.{pointwise, lists_equiv};
 ghost use Rattle.either.specs.Either.{MatchEither};
 ghost use Rattle.arrow2_types.specs.declared.error.Error.TheVariants.{OutOfMemory};
-ghost use Rattle.arrow2_offset.specs.Refused.{IsOutOfSpec, why_not_offsets};
+ghost use Rattle.arrow2_offset.specs.Refused.{IsOutOfSpecOrOutOfMemory, not_offsets_message};
 ghost use Rattle.arrow2_model.specs.Parts.{part};
 ghost use Rattle.arrow2_model.specs.Buffers.{buffer_items, whole_buffer};
 ghost use Rattle.arrow2_offset.specs.Offsets.{AreOffsets, AreOffsetsUpTo, offset_at, offsets_of, offsets_list, start_of, lengths_of, last_of, numbers_of};
@@ -272,7 +272,7 @@ impl<O: Offset> TryFrom<Buffer<O>> for OffsetsBuffer<O> {
     ghost try_from_gives = { λ buffer r. MatchResult r (λ b. AreOffsets (buffer_items b)
         × (b ≡ numbers_of O.value buffer)) (λ e.
         (AreOffsets (map O.value (buffer_items buffer)) → ⊥)
-        × IsOutOfSpec e (why_not_offsets (map O.value (buffer_items buffer)))) };
+        × IsOutOfSpecOrOutOfMemory e (not_offsets_message (map O.value (buffer_items buffer)))) };
 
     fn try_from(buffer: Buffer<O>) -> Result<Self> {
         try_check_offsets(buffer.allocator(), buffer.as_slice())?;
@@ -291,7 +291,7 @@ impl<O: Offset> TryFrom<Vec<O>> for OffsetsBuffer<O> {
 
     ghost try_from_gives = { λ items r. MatchResult r (λ b. AreOffsets (buffer_items b)
         × (b ≡ whole_buffer (map O.value items.items))) (λ e.
-        IsOutOfSpec e (why_not_offsets (map O.value items.items))
+        IsOutOfSpecOrOutOfMemory e (not_offsets_message (map O.value items.items))
         × (AreOffsets (map O.value items.items) → e ≡ OutOfMemory)) };
 
     fn try_from(offsets: Vec<O>) -> Result<Self> {

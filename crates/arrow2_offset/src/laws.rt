@@ -45,7 +45,7 @@ pub fn lists_tell_starts_and_lengths_apart()
 /// If each of two lists holds the same offsets as the next one, the first and the last are the same list: so offsets of
 /// 32 bits, as offsets of 64 bits and back, are the same list.
 #[tactic(auto, using(crate::proofs::Listed::listed))]
-pub fn there_and_back_is_the_same_list()
+pub fn same_offsets_are_transitive()
     ensures { (narrow wide back : GrowingOffsets) → SameOffsets narrow wide →
         SameOffsets wide back → offsets_of back ≡ offsets_of narrow }
 {}

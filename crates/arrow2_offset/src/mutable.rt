@@ -9,10 +9,10 @@ ghost use Rattle.std.specs.Cmp.Lexicographic.{pointwise, lists_equiv};
 ghost use Rattle.arrow2_model.specs.Parts.{part};
 ghost use Rattle.arrow2_model.specs.Buffers.{buffer_items};
 ghost use Rattle.arrow2_offset.specs.Offsets.{AreOffsets, offset_at, AreOffsetsUpTo, offsets_of, last_of_growing, start_of, lengths_of, slots, SameOffsets, GrownBy};
-ghost use Rattle.arrow2_offset.specs.Collected.{GivesPast};
+ghost use Rattle.arrow2_offset.specs.Collected.{MayYieldPast};
 ghost use Rattle.arrow2_offset.specs.Growth.{Grows, GrowsUpTo, GrowsByRun};
 ghost use Rattle.arrow2_offset.specs.Made.{made_of};
-ghost use Rattle.arrow2_offset.specs.Refused.{IsOutOfSpec, why_not_offsets};
+ghost use Rattle.arrow2_offset.specs.Refused.{IsOutOfSpecOrOutOfMemory, not_offsets_message};
 ghost use Rattle.arrow2_types.specs.Refusals.{error_of};
 ghost use Rattle.arrow2_types.specs.declared.refusal.Refusal.TheVariants as refusal;
 
@@ -129,7 +129,7 @@ impl<O: Offset> Offsets<O> {
         // It comes only where a run may have too many.
         ensures overflow { IsErrOf result Error.Overflow →
             (it : I.IntoIter) × I.into_iter_gives iter it
-            × GivesPast O.MAX 0 I.IntoIter.next_gives it }
+            × MayYieldPast O.MAX 0 I.IntoIter.next_gives it }
         ensures only { IfErr result (λ e. (e ≡ Error.Overflow) ⊎ (e ≡ Error.OutOfMemory)) }
     {
         Offsets::try_from_lengths(alloc, iter.into_iter())
@@ -149,7 +149,7 @@ impl<O: Offset> Offsets<O> {
         ensures ok { IfOk result (λ o.
             WholeRun I.next_gives lengths (λ p. (o.start ≡ 0) × (o.lengths ≡ p.items))) }
         ensures fits { IfOk result (λ o. last_of_growing o ≤ O.MAX) }
-        ensures overflow { IsErrOf result Error.Overflow → GivesPast O.MAX 0 I.next_gives lengths }
+        ensures overflow { IsErrOf result Error.Overflow → MayYieldPast O.MAX 0 I.next_gives lengths }
         ensures only { IfErr result (λ e. (e ≡ Error.Overflow) ⊎ (e ≡ Error.OutOfMemory)) }
     {
         let mut offsets = Offsets::with_capacity(alloc, LEAST_CAPACITY)?;
@@ -490,7 +490,7 @@ impl<O: Offset> TryFrom<Vec<O>> for Offsets<O> {
     ghost try_from_gives = { λ items r. MatchResult r (λ o. AreOffsets (map O.value items.items)
         × (o ≡ made_of (map O.value items.items) (vec_capacity items))) (λ e.
         (AreOffsets (map O.value items.items) → ⊥)
-        × IsOutOfSpec e (why_not_offsets (map O.value items.items))) };
+        × IsOutOfSpecOrOutOfMemory e (not_offsets_message (map O.value items.items))) };
 
     fn try_from(offsets: Vec<O>) -> Result<Self> {
         try_check_offsets(*offsets.allocator(), offsets.as_slice())?;

@@ -23,5 +23,5 @@ pub record AppendsItems {T X : Type 0} (r : Result T Error) (old new : GrowingPr
   pub capacity : old.capacity ≤ new.capacity
 
 -- 2 ^ 64 - 1 items came, and one more
-abbrev pub GivesTooManyItems : {S X : Type 0} → (S → Option X → S → Type 0) → S → Type 0
-GivesTooManyItems {S} {X} steps s = (xs : List X) × (x : X) × (t : S) × YieldsThen steps s xs (Some x) t × (length xs ≡ 2 ^ 64 - 1)
+abbrev pub MayYieldTooManyItems : {S X : Type 0} → (S → Option X → S → Type 0) → S → Type 0
+MayYieldTooManyItems {S} {X} steps s = (xs : List X) × (x : X) × (t : S) × YieldsThen steps s xs (Some x) t × (length xs ≡ 2 ^ 64 - 1)

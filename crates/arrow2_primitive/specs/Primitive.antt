@@ -28,8 +28,8 @@ sliced_primitive a offset n = record {
 }
 
 -- the words that refuse a logical type whose layout is another one
-abbrev pub other_layout : List ℕ
-other_layout = codes "PrimitiveArray can only be initialized with a DataType whose physical type is Primitive"
+abbrev pub other_layout_message : List ℕ
+other_layout_message = codes "PrimitiveArray can only be initialized with a DataType whose physical type is Primitive"
 
 -- an array that grows: its logical type, its items, and how many fit before it allocates
 pub record GrowingPrimitive (X : Type 0) : Type 0 where

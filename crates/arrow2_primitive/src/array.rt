@@ -9,13 +9,13 @@ ghost use Rattle.arrow2_model.specs.Parts.{part};
 ghost use Rattle.arrow2_bitmap.specs.Packed.{IsPacked};
 ghost use Rattle.arrow2_walks.specs.Selected.{non_null_values};
 ghost use Rattle.arrow2_model.specs.Storage.{items_of};
-ghost use Rattle.arrow2_types.specs.Refusals.{IsInvalidArgument};
+ghost use Rattle.arrow2_types.specs.Refusals.{IsInvalidArgumentOrOutOfMemory};
 ghost use Rattle.arrow2_validity.specs.OptionalValidity.{valid_items};
-ghost use Rattle.arrow2_validity.specs.Refused.{unequal_lengths};
+ghost use Rattle.arrow2_validity.specs.Refused.{unequal_lengths_message};
 ghost use Rattle.arrow2_walks.specs.Zipped.{zipped};
 ghost use Rattle.arrow2_datatypes.specs.Types.{of_primitive, physical};
 ghost use Rattle.arrow2_datatypes.specs.declared.physical_type.PhysicalType.TheVariants.{Primitive};
-ghost use Rattle.arrow2_primitive.specs.Primitive.{PrimitiveParts, primitive_items, sliced_primitive, other_layout};
+ghost use Rattle.arrow2_primitive.specs.Primitive.{PrimitiveParts, primitive_items, sliced_primitive, other_layout_message};
 
 use crate::iterator::{NonNullValuesIter, PrimitiveIter};
 use crate::mutable::MutablePrimitiveArray;
@@ -90,11 +90,11 @@ impl<T: NativeType> PrimitiveArray<T> {
             × ForSome validity (λ v. length (items_of v) ≡ length (buffer_items values))) }
         ensures unequal { ForSome validity (λ v. ¬ (length (items_of v) ≡ length (buffer_items values)) →
             IfErr result (λ e.
-            IsInvalidArgument e
-            (unequal_lengths (length (items_of v)) (length (buffer_items values))))) }
+            IsInvalidArgumentOrOutOfMemory e
+            (unequal_lengths_message (length (items_of v)) (length (buffer_items values))))) }
         ensures layout { ForSome validity (λ v. length (items_of v) ≡ length (buffer_items values)) →
             ¬ (physical data_type ≡ Primitive T.PRIMITIVE) →
-            IfErr result (λ e. IsInvalidArgument e other_layout) }
+            IfErr result (λ e. IsInvalidArgumentOrOutOfMemory e other_layout_message) }
         ensures only { ForSome validity (λ v. length (items_of v) ≡ length (buffer_items values)) →
             physical data_type ≡ Primitive T.PRIMITIVE → IfErr result (λ e. e ≡ Error.OutOfMemory) }
     {
@@ -442,7 +442,7 @@ pub(crate) fn native_type<T: NativeType>(
 fn check_layout<T: NativeType>(alloc: Global, data_type: &DataType) -> Result<()>
     ensures ok { OnOk result (physical data_type.now ≡ Primitive T.PRIMITIVE) }
     ensures refused { ¬ (physical data_type.now ≡ Primitive T.PRIMITIVE) →
-        IfErr result (λ e. IsInvalidArgument e other_layout) }
+        IfErr result (λ e. IsInvalidArgumentOrOutOfMemory e other_layout_message) }
     ensures only { physical data_type.now ≡ Primitive T.PRIMITIVE → IsOk result }
 {
     if !data_type.to_physical_type().eq_primitive(T::PRIMITIVE) {

@@ -9,7 +9,7 @@ ghost use Rattle.arrow2_model.specs.Buffers.{buffer_items, whole_buffer};
 ghost use Rattle.arrow2_model.specs.Parts.{part};
 ghost use Rattle.arrow2_bitmap.specs.Packed.{IsPacked};
 ghost use Rattle.arrow2_walks.specs.Zipped.{zipped};
-ghost use Rattle.arrow2_primitive.specs.Growth.{AppendsItems, GivesTooManyItems};
+ghost use Rattle.arrow2_primitive.specs.Growth.{AppendsItems, MayYieldTooManyItems};
 ghost use Rattle.arrow2_primitive.specs.Primitive.{primitive_items, GrowingPrimitive};
 
 use crate::array::{PrimitiveArray, native_type};
@@ -148,7 +148,7 @@ impl<T: NativeType> MutablePrimitiveArray<T> {
         ensures data_type { IfOk result (λ a. a.data_type ≡ of_primitive T.PRIMITIVE) }
         // It comes only where a run may have too many.
         ensures overflow { IsErrOf result Error.Overflow →
-            (it : I.IntoIter) × I.into_iter_gives iter it × GivesTooManyItems I.IntoIter.next_gives it }
+            (it : I.IntoIter) × I.into_iter_gives iter it × MayYieldTooManyItems I.IntoIter.next_gives it }
         ensures only { IfErr result (λ e. (e ≡ Error.Overflow) ⊎ (e ≡ Error.OutOfMemory)) }
     {
         MutablePrimitiveArray::collected(alloc, iter.into_iter())
@@ -163,7 +163,7 @@ impl<T: NativeType> MutablePrimitiveArray<T> {
         requires ends { IsFinite (I.remaining items) }
         ensures items { IfOk result (λ a. WholeRun I.next_gives items (λ p. a.items ≡ p.items)) }
         ensures data_type { IfOk result (λ a. a.data_type ≡ of_primitive T.PRIMITIVE) }
-        ensures overflow { IsErrOf result Error.Overflow → GivesTooManyItems I.next_gives items }
+        ensures overflow { IsErrOf result Error.Overflow → MayYieldTooManyItems I.next_gives items }
         ensures only { IfErr result (λ e. (e ≡ Error.Overflow) ⊎ (e ≡ Error.OutOfMemory)) }
     {
         let mut array = MutablePrimitiveArray::new(alloc)?;

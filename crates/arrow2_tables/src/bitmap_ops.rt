@@ -1,8 +1,8 @@
 //! New bitmaps from three and four bitmaps: word functions, and truth tables.
 ghost use Rattle.std.specs.Prelude.{◌≡◌, ℕ, [], ◌∷◌, length as length', IfOk, IfErr};
-ghost use Rattle.arrow2_model.specs.Kernels.{ternary_kernel, quaternary_kernel, IsTernary, IsQuaternary};
+ghost use Rattle.arrow2_model.specs.Kernels.{ternary_kernel, quaternary_kernel, ComputesTernary, ComputesQuaternary};
 ghost use Rattle.arrow2_model.specs.Storage.{items_of};
-ghost use Rattle.arrow2_model.specs.Tables.{each, ActsTernary, ActsQuaternary};
+ghost use Rattle.arrow2_model.specs.Tables.{each, IsBitwiseTernary, IsBitwiseQuaternary};
 ghost use Rattle.arrow2_bitmap.specs.Packed.{IsPacked};
 
 use arrow2_bitmap::Bitmap;
@@ -29,11 +29,11 @@ pub fn ternary<F: Fn(u64, u64, u64) -> u64>(
     requires same_length2 { length' (items_of a1.now) ≡ length' (items_of a2.now) }
     requires same_length3 { length' (items_of a1.now) ≡ length' (items_of a3.now) }
     // For every word function `f` that `op` computes.
-    ensures kernel { (f : ℕ → ℕ → ℕ → ℕ) → IsTernary 64 (λ x. x) (F.post op) f →
+    ensures kernel { (f : ℕ → ℕ → ℕ → ℕ) → ComputesTernary 64 (λ x. x) (F.post op) f →
         IfOk result (λ b.
         items_of b ≡ ternary_kernel 64 f (items_of a1.now) (items_of a2.now) (items_of a3.now)) }
     // For every table `t` by which `op` acts on each bit.
-    ensures table { (t : ℕ) → ActsTernary 64 (λ x. x) (F.post op) t →
+    ensures table { (t : ℕ) → IsBitwiseTernary 64 (λ x. x) (F.post op) t →
         IfOk result (λ b.
         items_of b ≡ each t (items_of a1.now ∷ items_of a2.now ∷ items_of a3.now ∷ [])) }
     // It is stored in canonical bytes, and the only error is `OutOfMemory`.
@@ -81,12 +81,12 @@ pub fn quaternary<F: Fn(u64, u64, u64, u64) -> u64>(
     requires same_length3 { length' (items_of a1.now) ≡ length' (items_of a3.now) }
     requires same_length4 { length' (items_of a1.now) ≡ length' (items_of a4.now) }
     // For every word function `f` that `op` computes.
-    ensures kernel { (f : ℕ → ℕ → ℕ → ℕ → ℕ) → IsQuaternary 64 (λ x. x) (F.post op) f →
+    ensures kernel { (f : ℕ → ℕ → ℕ → ℕ → ℕ) → ComputesQuaternary 64 (λ x. x) (F.post op) f →
         IfOk result (λ b.
         items_of b ≡ quaternary_kernel 64 f (items_of a1.now) (items_of a2.now)
         (items_of a3.now) (items_of a4.now)) }
     // For every table `t` by which `op` acts on each bit.
-    ensures table { (t : ℕ) → ActsQuaternary 64 (λ x. x) (F.post op) t →
+    ensures table { (t : ℕ) → IsBitwiseQuaternary 64 (λ x. x) (F.post op) t →
         IfOk result (λ b.
         items_of b ≡ each t (items_of a1.now ∷ items_of a2.now ∷ items_of a3.now
         ∷ items_of a4.now ∷ [])) }

@@ -183,5 +183,5 @@ abbrev pub bytes_of_items : List (Option (List ℕ)) → ℕ
 bytes_of_items items = sum (map (λ item. option_map_or length item 0) items)
 
 -- items came whose bytes pass the greatest offset, or more items than a usize counts
-abbrev pub GivesPastOffset : {S : Type 0} → ℕ → (S → Option (Option (Bor (List ℕ))) → S → Type 0) → S → Type 0
-GivesPastOffset {S} greatest steps s = (xs : List (Option (Bor (List ℕ)))) × (t : S) × Yields steps s xs t × ((greatest < bytes_of_items (items_by_bytes xs)) ⊎ (2 ^ 64 ≤ length xs))
+abbrev pub MayYieldPastOffset : {S : Type 0} → ℕ → (S → Option (Option (Bor (List ℕ))) → S → Type 0) → S → Type 0
+MayYieldPastOffset {S} greatest steps s = (xs : List (Option (Bor (List ℕ)))) × (t : S) × Yields steps s xs t × ((greatest < bytes_of_items (items_by_bytes xs)) ⊎ (2 ^ 64 ≤ length xs))

@@ -2,16 +2,16 @@
 use Rattle.std.specs.Prelude.{ℕ, List, codes}
 
 -- where the last offset is past the values
-abbrev pub past_the_values : List ℕ
-past_the_values = codes "offsets must not exceed the values length"
+abbrev pub past_the_values_message : List ℕ
+past_the_values_message = codes "offsets must not exceed the values length"
 
 -- where the logical type of byte strings is laid out in another way
-abbrev pub other_binary_layout : List ℕ
-other_binary_layout = codes "BinaryArray can only be initialized with DataType::Binary or DataType::LargeBinary"
+abbrev pub other_binary_layout_message : List ℕ
+other_binary_layout_message = codes "BinaryArray can only be initialized with DataType::Binary or DataType::LargeBinary"
 
 -- where the logical type of texts is laid out in another way
-abbrev pub other_text_layout : List ℕ
-other_text_layout = codes "Utf8Array can only be initialized with DataType::Utf8 or DataType::LargeUtf8"
+abbrev pub other_text_layout_message : List ℕ
+other_text_layout_message = codes "Utf8Array can only be initialized with DataType::Utf8 or DataType::LargeUtf8"
 
 -- where a slot is not UTF-8
 abbrev pub not_utf8 : List ℕ

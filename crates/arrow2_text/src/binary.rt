@@ -5,15 +5,15 @@ ghost use Rattle.either.specs.Either.{MatchEither};
 ghost use Rattle.arrow2_model.specs.Buffers.{buffer_items};
 ghost use Rattle.arrow2_model.specs.Parts.{part};
 ghost use Rattle.arrow2_model.specs.Storage.{items_of};
-ghost use Rattle.arrow2_types.specs.Refusals.{IsInvalidArgument};
+ghost use Rattle.arrow2_types.specs.Refusals.{IsInvalidArgumentOrOutOfMemory};
 ghost use Rattle.arrow2_walks.specs.Zipped.{zipped};
 ghost use Rattle.arrow2_offset.specs.Offsets.{lengths_of, last_of};
 ghost use Rattle.arrow2_validity.specs.OptionalValidity.{valid_items};
-ghost use Rattle.arrow2_validity.specs.Refused.{unequal_lengths};
+ghost use Rattle.arrow2_validity.specs.Refused.{unequal_lengths_message};
 ghost use Rattle.arrow2_datatypes.specs.Types.{physical};
 ghost use Rattle.arrow2_text.specs.Binary.{HasBitPerSlot, binary_items, binary_layout, binary_of, binary_values, default_binary, sliced_binary};
 ghost use Rattle.arrow2_text.specs.Growth.{bytes_of_items, items_by_bytes};
-ghost use Rattle.arrow2_text.specs.Refused.{past_the_values, other_binary_layout};
+ghost use Rattle.arrow2_text.specs.Refused.{past_the_values_message, other_binary_layout_message};
 
 use crate::iterator::BinaryIter;
 use crate::mutable_binary::MutableBinaryArray;
@@ -83,15 +83,15 @@ impl<O: Offset> BinaryArray<O> {
             × (physical data_type ≡ binary_layout O.IS_LARGE)) }
         // Each message comes for the first fault, in this order.
         ensures past { length (buffer_items values) < last_of (buffer_items offsets) →
-            IfErr result (λ e. IsInvalidArgument e past_the_values) }
+            IfErr result (λ e. IsInvalidArgumentOrOutOfMemory e past_the_values_message) }
         ensures unequal { last_of (buffer_items offsets) ≤ length (buffer_items values) →
             ForSome validity (λ v. ¬ (length (items_of v) ≡ length (lengths_of (buffer_items offsets))) →
-            IfErr result (λ e. IsInvalidArgument e
-            (unequal_lengths (length (items_of v)) (length (lengths_of (buffer_items offsets)))))) }
+            IfErr result (λ e. IsInvalidArgumentOrOutOfMemory e
+            (unequal_lengths_message (length (items_of v)) (length (lengths_of (buffer_items offsets)))))) }
         ensures layout { last_of (buffer_items offsets) ≤ length (buffer_items values) →
             HasBitPerSlot (buffer_items offsets) validity →
             ¬ (physical data_type ≡ binary_layout O.IS_LARGE) →
-            IfErr result (λ e. IsInvalidArgument e other_binary_layout) }
+            IfErr result (λ e. IsInvalidArgumentOrOutOfMemory e other_binary_layout_message) }
         // Parts that fit are refused by running out of memory alone.
         ensures only { last_of (buffer_items offsets) ≤ length (buffer_items values) →
             HasBitPerSlot (buffer_items offsets) validity →

@@ -8,7 +8,7 @@ ghost use Rattle.arrow2_model.specs.Parts.{part};
 ghost use Rattle.arrow2_offset.specs.Offsets.{lengths_of};
 ghost use Rattle.arrow2_datatypes.specs.Types.{physical};
 ghost use Rattle.arrow2_text.specs.Binary.{binary_items, binary_layout, default_binary};
-ghost use Rattle.arrow2_text.specs.Growth.{AppendsBinary, GivesPastOffset, PopsBinary, growing_binary, items_by_bytes};
+ghost use Rattle.arrow2_text.specs.Growth.{AppendsBinary, MayYieldPastOffset, PopsBinary, growing_binary, items_by_bytes};
 
 use crate::binary::BinaryArray;
 use crate::growing::Growing;
@@ -137,7 +137,7 @@ impl<O: Offset> MutableBinaryArray<O> {
         ensures data_type { IfOk result (λ a. a.data_type ≡ default_binary O.IS_LARGE) }
         // It comes only where a run may have too many.
         ensures overflow { IsErrOf result Error.Overflow →
-            (it : I.IntoIter) × I.into_iter_gives iter it × GivesPastOffset O.MAX I.IntoIter.next_gives it }
+            (it : I.IntoIter) × I.into_iter_gives iter it × MayYieldPastOffset O.MAX I.IntoIter.next_gives it }
         ensures only { IfErr result (λ e. (e ≡ Error.Overflow) ⊎ (e ≡ Error.OutOfMemory)) }
     {
         MutableBinaryArray::collected(alloc, iter.into_iter())
@@ -153,7 +153,7 @@ impl<O: Offset> MutableBinaryArray<O> {
         ensures items { IfOk result (λ a.
             WholeRun I.next_gives items (λ p. a.items ≡ items_by_bytes p.items)) }
         ensures data_type { IfOk result (λ a. a.data_type ≡ default_binary O.IS_LARGE) }
-        ensures overflow { IsErrOf result Error.Overflow → GivesPastOffset O.MAX I.next_gives items }
+        ensures overflow { IsErrOf result Error.Overflow → MayYieldPastOffset O.MAX I.next_gives items }
         ensures only { IfErr result (λ e. (e ≡ Error.Overflow) ⊎ (e ≡ Error.OutOfMemory)) }
     {
         let mut array = MutableBinaryArray::new(alloc)?;

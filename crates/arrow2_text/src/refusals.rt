@@ -4,13 +4,13 @@ ghost use Rattle.std.specs.Option.{ForSome};
 ghost use Rattle.arrow2_model.specs.Buffers.{buffer_items};
 ghost use Rattle.arrow2_model.specs.Storage.{items_of};
 ghost use Rattle.arrow2_offset.specs.Offsets.{last_of, lengths_of};
-ghost use Rattle.arrow2_types.specs.Refusals.{IsInvalidArgument};
+ghost use Rattle.arrow2_types.specs.Refusals.{IsInvalidArgumentOrOutOfMemory};
 ghost use Rattle.arrow2_datatypes.specs.Types.{physical};
 ghost use Rattle.arrow2_utf8.specs.Texts.{AreTexts};
 ghost use Rattle.arrow2_validity.specs.OptionalValidity.{valid_items};
-ghost use Rattle.arrow2_validity.specs.Refused.{unequal_lengths};
+ghost use Rattle.arrow2_validity.specs.Refused.{unequal_lengths_message};
 ghost use Rattle.arrow2_text.specs.Binary.{HasBitPerSlot, binary_layout, default_binary, default_text, text_layout};
-ghost use Rattle.arrow2_text.specs.Refused.{not_utf8, other_binary_layout, other_text_layout, past_the_values};
+ghost use Rattle.arrow2_text.specs.Refused.{not_utf8, other_binary_layout_message, other_text_layout_message, past_the_values_message};
 
 use arrow2_bitmap::Bitmap;
 use arrow2_buffer::Buffer;
@@ -24,7 +24,7 @@ use std::alloc::Global;
 
 /// Returns `InvalidArgumentError` with this message, or `OutOfMemory` if the message cannot be allocated.
 pub(crate) fn refusal(alloc: Global, words: &str) -> Error
-    ensures { IsInvalidArgument result words.now }
+    ensures { IsInvalidArgumentOrOutOfMemory result words.now }
 {
     match String::from_str(alloc, words) {
         Ok(text) => Error::InvalidArgumentError(text),
@@ -39,7 +39,7 @@ pub(crate) fn check_bounds<O: Offset>(
     values: usize,
 ) -> Result<()>
     ensures accepted { IsOk result ↔ (last_of (buffer_items offsets.now) ≤ values) }
-    ensures refused { IfErr result (λ e. IsInvalidArgument e past_the_values) }
+    ensures refused { IfErr result (λ e. IsInvalidArgumentOrOutOfMemory e past_the_values_message) }
 {
     if offsets.last().to_usize() > values {
         return Err(refusal(alloc, "offsets must not exceed the values length"));
@@ -55,9 +55,9 @@ pub(crate) fn check_texts<O: Offset>(
 ) -> Result<()>
     ensures accepted { IsOk result ↔ AreTexts (buffer_items offsets.now) values.now }
     ensures past { length values.now < last_of (buffer_items offsets.now) →
-        IfErr result (λ e. IsInvalidArgument e past_the_values) }
+        IfErr result (λ e. IsInvalidArgumentOrOutOfMemory e past_the_values_message) }
     ensures broken { last_of (buffer_items offsets.now) ≤ length values.now →
-        IfErr result (λ e. IsInvalidArgument e not_utf8) }
+        IfErr result (λ e. IsInvalidArgumentOrOutOfMemory e not_utf8) }
 {
     match try_check_utf8(offsets, values) {
         Ok(()) => Ok(()),
@@ -74,7 +74,7 @@ pub(crate) fn check_texts<O: Offset>(
 /// Refuses a logical type that is not laid out as byte strings are.
 pub(crate) fn check_binary_layout<O: Offset>(alloc: Global, data_type: &DataType) -> Result<()>
     ensures accepted { IsOk result ↔ (physical data_type.now ≡ binary_layout O.IS_LARGE) }
-    ensures refused { IfErr result (λ e. IsInvalidArgument e other_binary_layout) }
+    ensures refused { IfErr result (λ e. IsInvalidArgumentOrOutOfMemory e other_binary_layout_message) }
 {
     if !is_binary(data_type.to_physical_type(), O::IS_LARGE) {
         return Err(refusal(
@@ -88,7 +88,7 @@ pub(crate) fn check_binary_layout<O: Offset>(alloc: Global, data_type: &DataType
 /// Refuses a logical type that is not laid out as texts are.
 pub(crate) fn check_text_layout<O: Offset>(alloc: Global, data_type: &DataType) -> Result<()>
     ensures accepted { IsOk result ↔ (physical data_type.now ≡ text_layout O.IS_LARGE) }
-    ensures refused { IfErr result (λ e. IsInvalidArgument e other_text_layout) }
+    ensures refused { IfErr result (λ e. IsInvalidArgumentOrOutOfMemory e other_text_layout_message) }
 {
     if !is_text(data_type.to_physical_type(), O::IS_LARGE) {
         return Err(refusal(
@@ -115,15 +115,15 @@ pub(crate) fn check_binary<O: Offset>(
         × HasBitPerSlot (buffer_items offsets.now) validity
         × (physical data_type.now ≡ binary_layout O.IS_LARGE)) }
     ensures past { length (buffer_items values.now) < last_of (buffer_items offsets.now) →
-        IfErr result (λ e. IsInvalidArgument e past_the_values) }
+        IfErr result (λ e. IsInvalidArgumentOrOutOfMemory e past_the_values_message) }
     ensures unequal { last_of (buffer_items offsets.now) ≤ length (buffer_items values.now) →
         ForSome validity (λ v. ¬ (length (items_of v) ≡ length (lengths_of (buffer_items offsets.now))) →
-        IfErr result (λ e. IsInvalidArgument e
-        (unequal_lengths (length (items_of v)) (length (lengths_of (buffer_items offsets.now)))))) }
+        IfErr result (λ e. IsInvalidArgumentOrOutOfMemory e
+        (unequal_lengths_message (length (items_of v)) (length (lengths_of (buffer_items offsets.now)))))) }
     ensures layout { last_of (buffer_items offsets.now) ≤ length (buffer_items values.now) →
         HasBitPerSlot (buffer_items offsets.now) validity →
         ¬ (physical data_type.now ≡ binary_layout O.IS_LARGE) →
-        IfErr result (λ e. IsInvalidArgument e other_binary_layout) }
+        IfErr result (λ e. IsInvalidArgumentOrOutOfMemory e other_binary_layout_message) }
     ensures only { last_of (buffer_items offsets.now) ≤ length (buffer_items values.now) →
         HasBitPerSlot (buffer_items offsets.now) validity →
         physical data_type.now ≡ binary_layout O.IS_LARGE → IfErr result (λ e. e ≡ Error.OutOfMemory) }
@@ -151,18 +151,18 @@ pub(crate) fn check_utf8<O: Offset>(
         × HasBitPerSlot (buffer_items offsets.now) validity
         × (physical data_type.now ≡ text_layout O.IS_LARGE)) }
     ensures past { length (buffer_items values.now) < last_of (buffer_items offsets.now) →
-        IfErr result (λ e. IsInvalidArgument e past_the_values) }
+        IfErr result (λ e. IsInvalidArgumentOrOutOfMemory e past_the_values_message) }
     ensures broken { last_of (buffer_items offsets.now) ≤ length (buffer_items values.now) →
         ¬ AreTexts (buffer_items offsets.now) (buffer_items values.now) →
-        IfErr result (λ e. IsInvalidArgument e not_utf8) }
+        IfErr result (λ e. IsInvalidArgumentOrOutOfMemory e not_utf8) }
     ensures unequal { AreTexts (buffer_items offsets.now) (buffer_items values.now) →
         ForSome validity (λ v. ¬ (length (items_of v) ≡ length (lengths_of (buffer_items offsets.now))) →
-        IfErr result (λ e. IsInvalidArgument e
-        (unequal_lengths (length (items_of v)) (length (lengths_of (buffer_items offsets.now)))))) }
+        IfErr result (λ e. IsInvalidArgumentOrOutOfMemory e
+        (unequal_lengths_message (length (items_of v)) (length (lengths_of (buffer_items offsets.now)))))) }
     ensures layout { AreTexts (buffer_items offsets.now) (buffer_items values.now) →
         HasBitPerSlot (buffer_items offsets.now) validity →
         ¬ (physical data_type.now ≡ text_layout O.IS_LARGE) →
-        IfErr result (λ e. IsInvalidArgument e other_text_layout) }
+        IfErr result (λ e. IsInvalidArgumentOrOutOfMemory e other_text_layout_message) }
     ensures only { AreTexts (buffer_items offsets.now) (buffer_items values.now) →
         HasBitPerSlot (buffer_items offsets.now) validity →
         physical data_type.now ≡ text_layout O.IS_LARGE → IfErr result (λ e. e ≡ Error.OutOfMemory) }

@@ -5,16 +5,16 @@ ghost use Rattle.either.specs.Either.{MatchEither};
 ghost use Rattle.arrow2_model.specs.Buffers.{buffer_items};
 ghost use Rattle.arrow2_model.specs.Parts.{part};
 ghost use Rattle.arrow2_model.specs.Storage.{items_of};
-ghost use Rattle.arrow2_types.specs.Refusals.{IsInvalidArgument};
+ghost use Rattle.arrow2_types.specs.Refusals.{IsInvalidArgumentOrOutOfMemory};
 ghost use Rattle.arrow2_walks.specs.Zipped.{zipped};
 ghost use Rattle.arrow2_offset.specs.Offsets.{lengths_of, last_of};
 ghost use Rattle.arrow2_validity.specs.OptionalValidity.{valid_items};
-ghost use Rattle.arrow2_validity.specs.Refused.{unequal_lengths};
+ghost use Rattle.arrow2_validity.specs.Refused.{unequal_lengths_message};
 ghost use Rattle.arrow2_datatypes.specs.Types.{physical};
 ghost use Rattle.arrow2_utf8.specs.Texts.{AreTexts};
 ghost use Rattle.arrow2_text.specs.Binary.{HasBitPerSlot, binary_items, binary_of, binary_values, default_binary, default_text, sliced_binary, text_layout};
 ghost use Rattle.arrow2_text.specs.Growth.{bytes_of_items, items_by_bytes};
-ghost use Rattle.arrow2_text.specs.Refused.{not_utf8, other_text_layout, past_the_values};
+ghost use Rattle.arrow2_text.specs.Refused.{not_utf8, other_text_layout_message, past_the_values_message};
 
 use crate::binary::BinaryArray;
 use crate::iterator::Utf8Iter;
@@ -90,18 +90,18 @@ impl<O: Offset> Utf8Array<O> {
             × (physical data_type ≡ text_layout O.IS_LARGE)) }
         // Each message comes for the first fault, in this order.
         ensures past { length (buffer_items values) < last_of (buffer_items offsets) →
-            IfErr result (λ e. IsInvalidArgument e past_the_values) }
+            IfErr result (λ e. IsInvalidArgumentOrOutOfMemory e past_the_values_message) }
         ensures broken { last_of (buffer_items offsets) ≤ length (buffer_items values) →
             ¬ AreTexts (buffer_items offsets) (buffer_items values) →
-            IfErr result (λ e. IsInvalidArgument e not_utf8) }
+            IfErr result (λ e. IsInvalidArgumentOrOutOfMemory e not_utf8) }
         ensures unequal { AreTexts (buffer_items offsets) (buffer_items values) →
             ForSome validity (λ v. ¬ (length (items_of v) ≡ length (lengths_of (buffer_items offsets))) →
-            IfErr result (λ e. IsInvalidArgument e
-            (unequal_lengths (length (items_of v)) (length (lengths_of (buffer_items offsets)))))) }
+            IfErr result (λ e. IsInvalidArgumentOrOutOfMemory e
+            (unequal_lengths_message (length (items_of v)) (length (lengths_of (buffer_items offsets)))))) }
         ensures layout { AreTexts (buffer_items offsets) (buffer_items values) →
             HasBitPerSlot (buffer_items offsets) validity →
             ¬ (physical data_type ≡ text_layout O.IS_LARGE) →
-            IfErr result (λ e. IsInvalidArgument e other_text_layout) }
+            IfErr result (λ e. IsInvalidArgumentOrOutOfMemory e other_text_layout_message) }
         // Parts that fit are refused by running out of memory alone.
         ensures only { AreTexts (buffer_items offsets) (buffer_items values) →
             HasBitPerSlot (buffer_items offsets) validity →

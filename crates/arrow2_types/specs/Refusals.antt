@@ -6,10 +6,10 @@ use Rattle.arrow2_types.specs.declared.refusal.Refusal.{Refusal}
 use Rattle.arrow2_types.specs.declared.refusal.Refusal.TheVariants as refusal
 
 -- an invalid argument, in these words; or out of memory, where the allocation of the words fails
-abbrev pub IsInvalidArgument : Error → List ℕ → Type 0
-IsInvalidArgument (InvalidArgumentError text) words = string_bytes text ≡ words
-IsInvalidArgument OutOfMemory words = Unit {0}
-IsInvalidArgument _ words = ⊥
+abbrev pub IsInvalidArgumentOrOutOfMemory : Error → List ℕ → Type 0
+IsInvalidArgumentOrOutOfMemory (InvalidArgumentError text) words = string_bytes text ≡ words
+IsInvalidArgumentOrOutOfMemory OutOfMemory words = Unit {0}
+IsInvalidArgumentOrOutOfMemory _ words = ⊥
 
 -- the error that a refused growth becomes
 abbrev pub error_of : Refusal → Error

@@ -18,7 +18,7 @@ pub record AreTexts (offsets : List ℤ) (values : List ℕ) : Type 0 where
   pub texts : All IsUtf8 (slot_values offsets values)
 
 -- list k of bytes is no UTF-8, and each one before it is
-pub record IsFirstBroken (texts : List (List ℕ)) (k : ℕ) : Type 0 where
+pub record IsFirstNonUtf8 (texts : List (List ℕ)) (k : ℕ) : Type 0 where
   pub inside : k < length texts
   pub before : All IsUtf8 (take k texts)
   pub broken : IsUtf8 (slice_index_or texts k []) → ⊥
@@ -26,7 +26,7 @@ pub record IsFirstBroken (texts : List (List ℕ)) (k : ℕ) : Type 0 where
 -- the fault of the values between offsets: the last offset is past them, or the first slot is not UTF-8
 abbrev pub ReportsBrokenTexts : List ℤ → List ℕ → BrokenTexts → Type 0
 ReportsBrokenTexts offsets values PastTheValues = length values < last_of offsets
-ReportsBrokenTexts offsets values (NotUtf8 k) = (last_of offsets ≤ length values) × IsFirstBroken (slot_values offsets values) k
+ReportsBrokenTexts offsets values (NotUtf8 k) = (last_of offsets ≤ length values) × IsFirstNonUtf8 (slot_values offsets values) k
 
 -- the same of numbers that may be no offsets, which is the first fault
 abbrev pub ReportsBrokenArray : List ℤ → List ℕ → BrokenTextArray → Type 0

@@ -3,7 +3,7 @@ ghost use Rattle.std.specs.Prelude.{◌≡◌, ℕ, ◌<◌, ◌≤◌, ◌↔�
 ghost use Rattle.std.specs.Str.{IsCharBoundary};
 ghost use Rattle.arrow2_model.specs.Buffers.{buffer_items};
 ghost use Rattle.arrow2_offset.specs.Offsets.{AreOffsets, offset_at, start_of, lengths_of, last_of};
-ghost use Rattle.arrow2_utf8.specs.Texts.{slot_values, AreTexts, IsFirstBroken, ReportsBrokenTexts, ReportsBrokenArray};
+ghost use Rattle.arrow2_utf8.specs.Texts.{slot_values, AreTexts, IsFirstNonUtf8, ReportsBrokenTexts, ReportsBrokenArray};
 
 use arrow2_index::offset::Offset;
 use arrow2_offset::{BrokenRule, OffsetsBuffer, broken_rule};
@@ -177,7 +177,7 @@ fn first_broken<O: Offset>(offsets: &[O], values: &[u8]) -> Option<usize>
     requires valid { AreOffsets (map O.value offsets.now) }
     requires inside { last_of (map O.value offsets.now) ≤ length values.now }
     ensures { MatchOption result (All IsUtf8 (slot_values (map O.value offsets.now) values.now))
-        (λ slot. IsFirstBroken (slot_values (map O.value offsets.now) values.now) slot) }
+        (λ slot. IsFirstNonUtf8 (slot_values (map O.value offsets.now) values.now) slot) }
 {
     for slot in 0..offsets.len() - 1 {
         if !is_text(slot_of(offsets, values, slot)) {

@@ -6,9 +6,9 @@ ghost use Rattle.arrow2_model.specs.Parts.{falses, part};
 ghost use Rattle.arrow2_model.specs.Storage.{items_of};
 ghost use Rattle.arrow2_model.specs.Tables.{each};
 ghost use Rattle.arrow2_growth.specs.Growth.{Appends};
-ghost use Rattle.arrow2_types.specs.Refusals.{IsInvalidArgument, error_of};
+ghost use Rattle.arrow2_types.specs.Refusals.{IsInvalidArgumentOrOutOfMemory, error_of};
 ghost use Rattle.arrow2_validity.specs.OptionalValidity.{OptionalValidity, valid_items, sliced_validity};
-ghost use Rattle.arrow2_validity.specs.Refused.{unequal_lengths};
+ghost use Rattle.arrow2_validity.specs.Refused.{unequal_lengths_message};
 
 use arrow2_bitmap::bitmap_ops::and;
 use arrow2_bitmap::{Bitmap, MutableBitmap};
@@ -71,7 +71,7 @@ impl Validity {
         ensures len { IfOk result (λ v. length (valid_items v) ≡ len) }
         ensures accepted { IsOk result ↔ ForSome bitmap (λ b. length (items_of b) ≡ len) }
         ensures refused { ForSome bitmap (λ b.
-            IfErr result (λ e. IsInvalidArgument e (unequal_lengths (length (items_of b)) len))) }
+            IfErr result (λ e. IsInvalidArgumentOrOutOfMemory e (unequal_lengths_message (length (items_of b)) len))) }
     {
         if let Some(bitmap) = &bitmap {
             check_same_length(len, bitmap)?;
@@ -240,7 +240,7 @@ fn append_part(bitmap: &Bitmap, start: usize, len: usize, grown: &mut MutableBit
 pub fn check_same_length(values: usize, validity: &Bitmap) -> Result<()>
     ensures accepted { IsOk result ↔ (length (items_of validity.now) ≡ values) }
     ensures refused { IfErr result (λ e.
-        IsInvalidArgument e (unequal_lengths (length (items_of validity.now)) values)) }
+        IsInvalidArgumentOrOutOfMemory e (unequal_lengths_message (length (items_of validity.now)) values)) }
 {
     if validity.len() != values {
         let text = refusal(validity.allocator(), validity.len(), values)?;
@@ -250,9 +250,9 @@ pub fn check_same_length(values: usize, validity: &Bitmap) -> Result<()>
 }
 
 /// Returns the text that refuses a validity of this length for this many values.
-#[tactic(auto, unfolding(crate::specs::Refused::unequal_lengths))]
+#[tactic(auto, unfolding(crate::specs::Refused::unequal_lengths_message))]
 fn refusal(alloc: Global, validity: usize, values: usize) -> std::result::Result<String, AllocError>
-    ensures { IfOk result (λ text. string_bytes text ≡ unequal_lengths validity values) }
+    ensures { IfOk result (λ text. string_bytes text ≡ unequal_lengths_message validity values) }
 {
     format!(in alloc;
         "The length of the validity ({validity}) must equal the length of the values ({values})"

@@ -2,9 +2,9 @@ use Rattle.std.proofs.Common.{◌<◌, ℕ, List, Option, None, length, get_or, 
 use Rattle.std.specs.Prelude.{All}
 use Rattle.std.proofs.lemmas.List.{take_all}
 use Rattle.std.proofs.lemmas.List.Elements.{All-more}
-use Rattle.arrow2_types.specs.Refusals.{IsInvalidArgument}
+use Rattle.arrow2_types.specs.Refusals.{IsInvalidArgumentOrOutOfMemory}
 use Rattle.arrow2_primitive.specs.Primitive.{primitive_items}
-use Rattle.arrow2_compute.specs.Casts.{Fits, not_fitting}
+use Rattle.arrow2_compute.specs.Casts.{Fits, not_fitting_message}
 use Rattle.arrow2_compute.proofs.Converted.{first-misfit}
 use Rattle.arrow2_compute.proofs.cast.check_fits.Goals as goal
 
@@ -26,7 +26,7 @@ returns-then-not-item_fits-clause-refused g c other first =
     let here : ¬ (P c.get.result) = c.if-not-item_fits.ensures in
     let this : ¬ (P (get_or items index None)) = subst (λ (o : Option _). ¬ (P o)) c.get.ensures here in
     let same = first-misfit g.I.Number.value g.O.Number.fits items index other less c.loop-index.invariant this first in
-    subst (λ (k : ℕ). IsInvalidArgument c.misfit.result (not_fitting k)) (sym same) c.misfit.ensures
+    subst (λ (k : ℕ). IsInvalidArgumentOrOutOfMemory c.misfit.result (not_fitting_message k)) (sym same) c.misfit.ensures
 
 pub returns-clause-accepted : goal.returns-clause-accepted
 returns-clause-accepted g c =

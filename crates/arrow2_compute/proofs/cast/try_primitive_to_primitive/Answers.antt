@@ -1,5 +1,5 @@
 use Rattle.arrow2_primitive.specs.Primitive.{primitive_items}
-use Rattle.arrow2_compute.specs.Casts.{not_fitting}
+use Rattle.arrow2_compute.specs.Casts.{not_fitting_message}
 use Rattle.arrow2_compute.proofs.Converted.{same-numbers, if-ok, if-err, out_of_memory}
 use Rattle.arrow2_compute.proofs.cast.try_primitive_to_primitive.Goals as goal
 
@@ -11,4 +11,4 @@ returns-clause-items g c =
 
 pub returns-clause-refused : goal.returns-clause-refused
 returns-clause-refused g c =
-    if-err c.primitive_to_primitive.result (λ e is index first. out_of_memory e (not_fitting index) is) c.primitive_to_primitive.ensures.only
+    if-err c.primitive_to_primitive.result (λ e is index first. out_of_memory e (not_fitting_message index) is) c.primitive_to_primitive.ensures.only

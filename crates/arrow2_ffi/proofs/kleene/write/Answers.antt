@@ -3,7 +3,7 @@ use Rattle.std.specs.Prelude.{Option}
 use Rattle.arrow2_model.specs.Tables.{each}
 use Rattle.arrow2_model.proofs.Walks.{length-part_bits}
 use Rattle.arrow2_walks.specs.Zipped.{zipped}
-use Rattle.arrow2_array.specs.Kleene.{by_items, Spells}
+use Rattle.arrow2_array.specs.Kleene.{by_items, TablesCompute}
 use Rattle.arrow2_array.proofs.Tables.{by_tables}
 use Rattle.arrow2_ffi.specs.declared.ranges.Bits.{Bits}
 use Rattle.arrow2_ffi.specs.Ranges.{HasBits, first_bits}
@@ -11,7 +11,7 @@ use Rattle.arrow2_ffi.proofs.WriteSteps.{wrote}
 use Rattle.arrow2_ffi.proofs.kleene.write.Goals as goal
 
 -- the outputs of the two tables are the items that f makes
-answered : (f : Option Bool → Option Bool → Option Bool) (t known n : ℕ) (left left_known right right_known : Bits) (values validity : List Bool) → Spells t known f → HasBits left n → HasBits left_known n → HasBits right n → HasBits right_known n
+answered : (f : Option Bool → Option Bool → Option Bool) (t known n : ℕ) (left left_known right right_known : Bits) (values validity : List Bool) → TablesCompute t known f → HasBits left n → HasBits left_known n → HasBits right n → HasBits right_known n
     → values ≡ each t (first_bits left n ∷ first_bits right n ∷ [])
     → validity ≡ each known (first_bits left n ∷ first_bits left_known n ∷ first_bits right n ∷ first_bits right_known n ∷ [])
     → zipped values validity ≡ by_items f (zipped (first_bits left n) (first_bits left_known n)) (zipped (first_bits right n) (first_bits right_known n))
