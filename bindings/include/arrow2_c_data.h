@@ -94,7 +94,7 @@ struct arrow2_bits {
 /* The number of items of a slice: 0 where its pointer is NULL. */
 static inline size_t arrow2_c_count(const void *pointer, size_t count) { return pointer ? count : 0; }
 
-/* The number of bytes that hold so many bits, which `out_count` must be: (bits + 7) / 8, computed as if in unlimited
+/* The number of bytes that hold `bits` bits, which `out_count` must be: (bits + 7) / 8, computed as if in unlimited
  * integers. */
 static inline size_t arrow2_bytes_for(size_t bits) { return bits / 8 + (bits % 8 != 0); }
 
