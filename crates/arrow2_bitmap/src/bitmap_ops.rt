@@ -1,6 +1,6 @@
 //! New bitmaps from word functions and truth tables, and the operators on shared bitmaps.
 ghost use Rattle.std.specs.Prelude.{◌≡◌, ℕ, List, Bool, [], ◌∷◌, length as length', replicate, IfOk, IfErr, IfSome, IsTrue, MatchResult, ◌⊎◌};
-ghost use Rattle.arrow2_model.specs.Kernels.{kernel, unary_kernel, binary_kernel, ComputesUnary, ComputesBinary};
+ghost use Rattle.arrow2_model.specs.Kernels.{joined, kernel, unary_kernel, binary_kernel, ComputesUnary, ComputesBinary};
 ghost use Rattle.arrow2_model.specs.Storage.{items_of};
 ghost use Rattle.arrow2_model.specs.Tables.{each, IsBitwiseUnary, IsBitwiseBinary};
 ghost use Rattle.arrow2_types.specs.declared.error.Error.TheVariants.{OutOfMemory};
@@ -39,7 +39,10 @@ pub fn from_rows<S: WordRows<u64>, F: Fn(S::Row) -> u64>(
     requires callable { F.IsAlwaysCallable op }
     requires alike { S.alike rows }
     requires length { S.length rows ≡ length }
-    // For every word function `f` that `op` computes: the items are what `f` gives for the lists.
+    // For every word function `f` that `op` computes: the items are the bits of its results, row after row. Where the rows
+    // are those of lists, they are what the kernel of `f` gives for the lists.
+    ensures items { (f : List ℕ → ℕ) → ComputesRows 64 S.words (λ x. x) (F.post op) f →
+        IfOk result (λ b. items_of b ≡ joined 64 (λ j. f (S.row_at rows j)) length) }
     ensures kernel { (f : List ℕ → ℕ) (lists : List (List Bool)) →
         ComputesRows 64 S.words (λ x. x) (F.post op) f →
         AreRowsOf 64 lists (S.row_at rows) length →

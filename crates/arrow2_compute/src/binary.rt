@@ -86,7 +86,7 @@ impl<O: Offset> Binary for BinaryArray<O> {
     ghost growing = { λ a. a };
 
     fn count(&self) -> usize {
-        // The last offset is read for what offsets keep: it is at most the greatest one.
+        // For the proof alone: reading the last offset brings the invariant that it is at most the greatest one.
         let _ = self.offsets().last();
         self.len()
     }
@@ -128,7 +128,7 @@ impl<O: Offset> Binary for Utf8Array<O> {
     ghost growing = { λ a. a };
 
     fn count(&self) -> usize {
-        // The last offset is read for what offsets keep: it is at most the greatest one.
+        // For the proof alone: reading the last offset brings the invariant that it is at most the greatest one.
         let _ = self.offsets().last();
         self.len()
     }

@@ -47,8 +47,8 @@ pub fn concatenate<T: NativeType>(
 ///
 /// # Errors
 ///
-/// `Overflow` exactly if the slots of all arrays, those under nulls too, have more than `O::MAX` bytes in all, or a
-/// `usize` cannot count the items, and memory was not refused before; else `OutOfMemory` alone.
+/// `Overflow`, only if the slots of all arrays, those under nulls too, have more than `O::MAX` bytes in all, or a
+/// `usize` cannot count the items; or `OutOfMemory`. `Ok` only if neither is so.
 #[tactic(auto, using(crate::proofs::Filtered::joining))]
 pub fn concatenate_binary<A: Binary>(first: &A, others: &[&A]) -> Result<A>
     ensures items { IfOk result (λ a. binary_items (A.parts a) ≡ binary_items (A.parts first.now)

@@ -122,8 +122,8 @@ fn chosen_bits(mask: &Bitmap, lhs: &Bitmap, rhs: &Bitmap) -> Result<Bitmap>
 ///
 /// # Errors
 ///
-/// `Overflow` exactly if the chosen items have more than `O::MAX` bytes in all and memory was not refused before; else
-/// `OutOfMemory` alone.
+/// `Overflow`, only if the chosen items have more than `O::MAX` bytes in all, or `OutOfMemory`. `Ok` only if they have
+/// at most as many.
 #[tactic(auto, using(crate::proofs::Weighed::weighed))]
 pub fn if_then_else_binary<A: Binary>(mask: &Bitmap, lhs: &A, rhs: &A) -> Result<A>
     // The mask has an item for each slot of both arrays.

@@ -179,8 +179,8 @@ fn item_at<T: NativeType, I: Index>(array: &PrimitiveArray<T>, index: Option<I>)
 ///
 /// # Errors
 ///
-/// `Overflow` exactly if the items that are taken have more than `O::MAX` bytes in all and memory was not refused
-/// before; else `OutOfMemory` alone.
+/// `Overflow`, only if the items that are taken have more than `O::MAX` bytes in all, or `OutOfMemory`. `Ok` only if
+/// they have at most as many.
 #[tactic(auto, using(crate::proofs::Weighed::weighed))]
 pub fn take_binary<A: Binary>(array: &A, indices: &[usize]) -> Result<A>
     requires inside { All (λ index. index < length (binary_items (A.parts array.now))) indices.now }

@@ -119,7 +119,7 @@ impl<O: Offset> Offsets<O> {
     ///
     /// # Errors
     ///
-    /// `Overflow` only where the sum of the lengths that came passes `O::MAX`, else `OutOfMemory` alone.
+    /// `Overflow` only where the iterator may give lengths whose sum passes `O::MAX`, else `OutOfMemory` alone.
     pub fn try_from_iter<I: IntoIterator<Item = usize>>(alloc: Global, iter: I) -> Result<Self>
         requires { IsFiniteIterable I.into_iter_gives I.IntoIter.can_next I.IntoIter.remaining iter }
         // All items of a run of the iterator.
@@ -139,7 +139,7 @@ impl<O: Offset> Offsets<O> {
     ///
     /// # Errors
     ///
-    /// `Overflow` only where the sum of the lengths that came passes `O::MAX`, else `OutOfMemory` alone.
+    /// `Overflow` only where the iterator may give lengths whose sum passes `O::MAX`, else `OutOfMemory` alone.
     pub fn try_from_lengths<I: Iterator<Item = usize> + Drop>(
         alloc: Global,
         lengths: I,
@@ -235,7 +235,7 @@ impl<O: Offset> Offsets<O> {
     ///
     /// # Errors
     ///
-    /// `Overflow` only where the last offset and the sum of the lengths that came pass `O::MAX`, else
+    /// `Overflow` only where the iterator may give lengths whose sum, added to the last offset, passes `O::MAX`, else
     /// `OutOfMemory` alone. After both the offsets are as they were.
     pub fn try_extend_from_lengths<I: Iterator<Item = usize> + Drop>(
         &mut self,

@@ -223,7 +223,7 @@ impl<O: Offset> Growing<O> {
             (part (valid_items slots.now.validity) start len)
             (sum (part (lengths_of (buffer_items slots.now.offsets)) start len)) }
     {
-        // The length is read for what the slots keep: the validity has an item for each.
+        // For the proof alone: reading the length brings the invariant that the validity has an item for each slot.
         let _ = slots.len();
         let bytes = slots.bytes_of(start, len);
         self.reserve_below(len, bytes.len())?;
@@ -244,8 +244,8 @@ impl<O: Offset> Growing<O> {
             (part (valid_items slots.now.validity) start len)
             (sum (part (lengths_of (buffer_items slots.now.offsets)) start len)) }
     {
-        // The lengths are read for what the types keep: there is one offset more than slots, and the validity has an
-        // item for each.
+        // For the proof alone: reading the lengths brings the invariants that there is one offset more than slots, and
+        // that the validity has an item for each.
         let _ = slots.len();
         let offsets = slots.offsets();
         let _ = offsets.len();

@@ -5,6 +5,10 @@ use Rattle.arrow2_model.proofs.RowKernels.{rows_kernel, rows_table, acts_rows}
 use Rattle.arrow2_bitmap.proofs.Packed.{packed_bytes}
 use Rattle.arrow2_bitmap.proofs.bitmap_ops.from_rows.Goals as goal
 
+pub returns-clause-items : goal.returns-clause-items
+returns-clause-items g c f is =
+    IfOk-weaker c.from_u8_vec.result _ _ (λ b e. e ∙ c.in_ok-bytes.ensures.items f is) c.from_u8_vec.ensures.items
+
 pub returns-clause-kernel : goal.returns-clause-kernel
 returns-clause-kernel g c f lists is are =
     IfOk-weaker c.from_u8_vec.result _ _ (λ b e. e ∙ (c.in_ok-bytes.ensures.items f is ∙ rows_kernel 64 c.args.length f lists (g.S.WordRows.row_at c.args.rows) (omega arith) are)) c.from_u8_vec.ensures.items
