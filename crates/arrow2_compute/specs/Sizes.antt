@@ -1,9 +1,11 @@
--- How many bytes items have.
-use Rattle.std.specs.Prelude.{ℕ, List, Option, length, sum}
+-- Items of arrays of byte strings and of texts, and how many bytes they have.
+use Rattle.std.specs.Prelude.{ℕ, ◌+◌, List, [], ◌∷◌, ◌++◌, Option, None, Result, flat_map, length, slice_index_or, sum, sum_by}
 use Rattle.std.specs.Option.{option_map_or}
 use Rattle.arrow2_model.specs.Buffers.{buffer_items}
 use Rattle.arrow2_offset.specs.Offsets.{lengths_of}
-use Rattle.arrow2_text.specs.Binary.{BinaryParts}
+use Rattle.arrow2_text.specs.Binary.{BinaryParts, binary_items}
+use Rattle.arrow2_text.specs.Growth.{AppendsBinary, GrowingBinary}
+use Rattle.arrow2_types.specs.declared.error.Error.{Error}
 
 -- how many bytes an item has: none where it is null
 abbrev pub item_bytes : Option (List ℕ) → ℕ
@@ -12,3 +14,19 @@ item_bytes item = option_map_or length item 0
 -- how many bytes the slots of an array have, under nulls too
 abbrev pub slot_bytes : BinaryParts → ℕ
 slot_bytes a = sum (lengths_of (buffer_items a.offsets))
+
+-- the item at an index
+abbrev pub binary_item : BinaryParts → ℕ → Option (List ℕ)
+binary_item a index = slice_index_or (binary_items a) index None
+
+-- the items of an array, and those of others after them
+abbrev pub joined_items : {X : Type 0} → (X → BinaryParts) → BinaryParts → List X → List (Option (List ℕ))
+joined_items parts first others = binary_items first ++ flat_map (λ array. binary_items (parts array)) others
+
+-- how many bytes the slots of all these arrays have, under nulls too
+abbrev pub joined_bytes : {X : Type 0} → (X → BinaryParts) → BinaryParts → List X → ℕ
+joined_bytes parts first others = slot_bytes first + sum_by (λ array. slot_bytes (parts array)) others
+
+-- growth by one item
+abbrev pub AppendsItem : {T : Type 0} → ℕ → Result T Error → (old new : GrowingBinary) → Option (List ℕ) → Type 0
+AppendsItem greatest r old new item = AppendsBinary greatest r old new (item ∷ []) (item_bytes item)

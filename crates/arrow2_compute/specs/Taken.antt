@@ -1,5 +1,5 @@
 -- Items at indices that may be null.
-use Rattle.std.specs.Prelude.{◌≡◌, ◌≤ℤ◌, ◌<ℤ◌, ℕ, ℤ, pos, List, Option, Some, None, slice_index_or, unsigned_abs}
+use Rattle.std.specs.Prelude.{◌≡◌, ◌≤ℤ◌, ◌<ℤ◌, ℕ, ℤ, pos, List, Option, Some, None, map, slice_index_or, unsigned_abs}
 
 -- an index is null, or an index below n: `value` is the whole number that it stands for
 abbrev pub IsInBoundsOrNull : {I : Type 0} → (I → ℤ) → ℕ → Option I → Type 0
@@ -10,6 +10,10 @@ IsInBoundsOrNull value n (Some index) = (pos 0 ≤ℤ value index) × (value ind
 abbrev pub item_at : {I X : Type 0} → (I → ℤ) → List (Option X) → Option I → Option X
 item_at value items None = None
 item_at value items (Some index) = slice_index_or items (unsigned_abs (value index)) None
+
+-- the items at indices, in their order
+abbrev pub items_at : {I X : Type 0} → (I → ℤ) → List (Option X) → List (Option I) → List (Option X)
+items_at value items indices = map (item_at value items) indices
 
 -- `x` is the item at `index`
 abbrev pub IsItemAt : {X : Type 0} → List X → ℕ → X → Type 0

@@ -1,10 +1,8 @@
 //! Arrays of byte strings and of texts, by what kernels need of them.
-ghost use Rattle.std.specs.Prelude.{◌≡◌, ◌+◌, ◌<◌, ◌≤◌, [], ◌∷◌, ℕ, None, length, sum, slice_index_or, IfOk, IfErr};
-ghost use Rattle.arrow2_compute.specs.Sizes.{item_bytes};
-ghost use Rattle.arrow2_model.specs.Buffers.{buffer_items};
+ghost use Rattle.std.specs.Prelude.{◌≡◌, ◌+◌, ◌<◌, ◌≤◌, [], ℕ, length, IfOk, IfErr};
+ghost use Rattle.arrow2_compute.specs.Sizes.{AppendsItem, binary_item, slot_bytes};
 ghost use Rattle.arrow2_model.specs.Parts.{part};
-ghost use Rattle.arrow2_offset.specs.Offsets.{lengths_of};
-ghost use Rattle.arrow2_text.specs.Binary.{BinaryParts, binary_items};
+ghost use Rattle.arrow2_text.specs.Binary.{BinaryParts, binary_items, slots_between, slots_size};
 ghost use Rattle.arrow2_text.specs.Growth.{AppendsBinary, GrowingBinary};
 
 use arrow2_index::offset::Offset;
@@ -28,8 +26,8 @@ pub trait Binary: Drop {
     /// Returns the number of items, nulls too.
     fn count(&self) -> usize
         ensures items { result ≡ length (binary_items (parts self.now)) }
-        ensures slots { result ≡ length (lengths_of (buffer_items (parts self.now).offsets)) }
-        ensures fits { sum (lengths_of (buffer_items (parts self.now).offsets)) ≤ GREATEST };
+        ensures slots { result ≡ slots_between (parts self.now).offsets }
+        ensures fits { slot_bytes (parts self.now) ≤ GREATEST };
 
     /// Returns an array without items, of the same logical type.
     ///
@@ -49,9 +47,8 @@ pub trait Binary: Drop {
     /// error is `OutOfMemory`. After an error it holds the items that it held.
     fn push_item(grown: &mut Self::Growing, array: &Self, index: usize) -> Result<()>
         requires below { index < length (binary_items (parts array.now)) }
-        ensures { AppendsBinary GREATEST result (growing grown.old) (growing grown.new)
-            (slice_index_or (binary_items (parts array.now)) index None ∷ [])
-            (item_bytes (slice_index_or (binary_items (parts array.now)) index None)) };
+        ensures { AppendsItem GREATEST result (growing grown.old) (growing grown.new)
+            (binary_item (parts array.now) index) };
 
     /// Appends the `len` items of an array from item `start` on, with the bytes under nulls. Requires that they are
     /// inside.
@@ -63,7 +60,7 @@ pub trait Binary: Drop {
         requires inside { start + len ≤ length (binary_items (parts array.now)) }
         ensures { AppendsBinary GREATEST result (growing grown.old) (growing grown.new)
             (part (binary_items (parts array.now)) start len)
-            (sum (part (lengths_of (buffer_items (parts array.now).offsets)) start len)) };
+            (slots_size (parts array.now).offsets start len) };
 
     /// Returns the array of the items.
     ///

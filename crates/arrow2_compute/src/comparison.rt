@@ -1,10 +1,10 @@
 //! Comparisons of items, null where an item is null.
-ghost use Rattle.std.specs.Prelude.{◌≡◌, ◌<◌, [], ◌∷◌, Bool, length, map, not, option_map, IfOk, IfErr};
+ghost use Rattle.std.specs.Prelude.{◌≡◌, ◌<◌, [], Bool, length, map, not, option_map, IfOk, IfErr};
 ghost use Rattle.std.specs.Ordering.{partial_lt, partial_le, partial_gt, partial_ge};
 ghost use Rattle.std.specs.Simd.Lanes.{zip2};
 ghost use Rattle.arrow2_array.specs.Items.{boolean_items};
 ghost use Rattle.arrow2_bitmap.specs.Predicates.{IsCallableWithEach, ReturnsOnEach};
-ghost use Rattle.arrow2_compute.specs.Pairs.{of_both, IsTestedAt};
+ghost use Rattle.arrow2_compute.specs.Pairs.{IsTestedAt, AlwaysReturns, of_both};
 ghost use Rattle.arrow2_model.specs.Buffers.{buffer_items};
 ghost use Rattle.arrow2_primitive.specs.Primitive.{primitive_items};
 
@@ -140,7 +140,7 @@ fn tested_both<T: NativeType, F: Fn(T, T) -> bool>(
     requires same_length { length (primitive_items lhs.now) ≡ length (primitive_items rhs.now) }
     requires callable { (left right : T) → F.pre test left right }
     ensures items { (answer : T → T → Bool) →
-        ((left right : T) (said : Bool) → F.post test left right said → said ≡ answer left right) →
+        AlwaysReturns (F.post test) answer →
         IfOk result (λ a. boolean_items a
         ≡ zip2 (of_both answer) (primitive_items lhs.now) (primitive_items rhs.now)) }
     ensures only { IfErr result (λ e. e ≡ Error.OutOfMemory) }

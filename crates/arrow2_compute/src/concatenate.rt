@@ -1,8 +1,8 @@
 //! Arrays one after the other.
-ghost use Rattle.std.specs.Prelude.{◌≡◌, ◌+◌, ◌<◌, ◌≤◌, ◌^◌, ◌⊎◌, ◌++◌, length, sum_by, IfOk, IfErr, IsErrOf, OnOk};
+ghost use Rattle.std.specs.Prelude.{◌≡◌, ◌+◌, ◌<◌, ◌≤◌, ◌^◌, ◌⊎◌, ◌++◌, length, IfOk, IfErr, IsErrOf, OnOk};
 ghost use Rattle.std.specs.List.{flat_map};
 ghost use Rattle.arrow2_array.specs.Items.{boolean_items};
-ghost use Rattle.arrow2_compute.specs.Sizes.{slot_bytes};
+ghost use Rattle.arrow2_compute.specs.Sizes.{joined_bytes, joined_items};
 ghost use Rattle.arrow2_primitive.specs.Primitive.{primitive_items};
 ghost use Rattle.arrow2_text.specs.Binary.{binary_items};
 
@@ -51,18 +51,15 @@ pub fn concatenate<T: NativeType>(
 /// `usize` cannot count the items; or `OutOfMemory`. `Ok` only if neither is so.
 #[tactic(auto, using(crate::proofs::Filtered::joining))]
 pub fn concatenate_binary<A: Binary>(first: &A, others: &[&A]) -> Result<A>
-    ensures items { IfOk result (λ a. binary_items (A.parts a) ≡ binary_items (A.parts first.now)
-        ++ flat_map (λ array. binary_items (A.parts array.now)) others.now) }
+    ensures items { IfOk result (λ a.
+        binary_items (A.parts a) ≡ joined_items (λ array. A.parts array.now) (A.parts first.now) others.now) }
     ensures data_type { IfOk result (λ a. (A.parts a).data_type ≡ (A.parts first.now).data_type) }
     ensures overflow { IsErrOf result Error.Overflow →
-        (A.GREATEST < slot_bytes (A.parts first.now)
-        + sum_by (λ array. slot_bytes (A.parts array.now)) others.now)
-        ⊎ (2 ^ 64 ≤ length (binary_items (A.parts first.now)
-        ++ flat_map (λ array. binary_items (A.parts array.now)) others.now)) }
-    ensures fits { OnOk result ((slot_bytes (A.parts first.now)
-        + sum_by (λ array. slot_bytes (A.parts array.now)) others.now ≤ A.GREATEST)
-        × (length (binary_items (A.parts first.now)
-        ++ flat_map (λ array. binary_items (A.parts array.now)) others.now) < 2 ^ 64)) }
+        (A.GREATEST < joined_bytes (λ array. A.parts array.now) (A.parts first.now) others.now)
+        ⊎ (2 ^ 64 ≤ length (joined_items (λ array. A.parts array.now) (A.parts first.now) others.now)) }
+    ensures fits { OnOk result
+        ((joined_bytes (λ array. A.parts array.now) (A.parts first.now) others.now ≤ A.GREATEST)
+        × (length (joined_items (λ array. A.parts array.now) (A.parts first.now) others.now) < 2 ^ 64)) }
     ensures only { IfErr result (λ e. (e ≡ Error.Overflow) ⊎ (e ≡ Error.OutOfMemory)) }
 {
     let mut joined = first.like()?;

@@ -1,11 +1,10 @@
 //! Items of one array or of another.
-ghost use Rattle.std.specs.Prelude.{◌≡◌, ◌<◌, ◌≤◌, ◌⊎◌, [], ◌∷◌, None, length, slice_index_or, sum_by, if◌then◌else◌, IfOk, IfErr, IsErrOf, OnOk};
+ghost use Rattle.std.specs.Prelude.{◌≡◌, ◌<◌, ◌≤◌, ◌⊎◌, [], None, length, sum_by, if◌then◌else◌, IfOk, IfErr, IsErrOf, OnOk};
 ghost use Rattle.arrow2_array.specs.Items.{boolean_items};
 ghost use Rattle.arrow2_model.specs.Storage.{items_of};
-ghost use Rattle.arrow2_compute.specs.Sizes.{item_bytes};
+ghost use Rattle.arrow2_compute.specs.Sizes.{AppendsItem, binary_item, item_bytes};
 ghost use Rattle.arrow2_primitive.specs.Primitive.{primitive_items};
 ghost use Rattle.arrow2_text.specs.Binary.{binary_items};
-ghost use Rattle.arrow2_text.specs.Growth.{AppendsBinary};
 ghost use Rattle.arrow2_validity.specs.OptionalValidity.{valid_items};
 ghost use Rattle.arrow2_walks.specs.Selected.{chosen};
 
@@ -157,11 +156,8 @@ fn push_either<A: Binary>(
 ) -> Result<()>
     requires left { place < length (binary_items (A.parts lhs.now)) }
     requires right { place < length (binary_items (A.parts rhs.now)) }
-    ensures { AppendsBinary A.GREATEST result (A.growing grown.old) (A.growing grown.new)
-        ((if is_left then slice_index_or (binary_items (A.parts lhs.now)) place None
-        else slice_index_or (binary_items (A.parts rhs.now)) place None) ∷ [])
-        (item_bytes (if is_left then slice_index_or (binary_items (A.parts lhs.now)) place None
-        else slice_index_or (binary_items (A.parts rhs.now)) place None)) }
+    ensures { AppendsItem A.GREATEST result (A.growing grown.old) (A.growing grown.new)
+        (if is_left then binary_item (A.parts lhs.now) place else binary_item (A.parts rhs.now) place) }
 {
     if is_left {
         A::push_item(grown, lhs, place)

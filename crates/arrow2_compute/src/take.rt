@@ -2,8 +2,8 @@
 ghost use Rattle.std.specs.Prelude.{◌≡◌, ◌<◌, ◌≤◌, ◌⊎◌, All, None, false, is_some, length, map, slice_index_or, sum_by, IfOk, IfErr, IsErrOf, OnOk};
 ghost use Rattle.std.specs.List.{AllZip};
 ghost use Rattle.arrow2_array.specs.Items.{boolean_items};
-ghost use Rattle.arrow2_compute.specs.Taken.{IsInBoundsOrNull, IsItemAt, item_at};
-ghost use Rattle.arrow2_compute.specs.Sizes.{item_bytes};
+ghost use Rattle.arrow2_compute.specs.Taken.{IsInBoundsOrNull, IsItemAt, item_at, items_at};
+ghost use Rattle.arrow2_compute.specs.Sizes.{binary_item, item_bytes};
 ghost use Rattle.arrow2_model.specs.Buffers.{buffer_items};
 ghost use Rattle.arrow2_model.specs.Storage.{items_of};
 ghost use Rattle.arrow2_primitive.specs.Primitive.{primitive_items};
@@ -109,7 +109,7 @@ pub fn take_by_array<T: NativeType, I: Index>(
 ) -> Result<PrimitiveArray<T>>
     requires inside { All (IsInBoundsOrNull I.value (length (primitive_items array.now))) (primitive_items indices.now) }
     ensures items { IfOk result (λ a. primitive_items a
-        ≡ map (item_at I.value (primitive_items array.now)) (primitive_items indices.now)) }
+        ≡ items_at I.value (primitive_items array.now) (primitive_items indices.now)) }
     ensures data_type { IfOk result (λ a. a.data_type ≡ array.now.data_type) }
     ensures only { IfErr result (λ e. e ≡ Error.OutOfMemory) }
 {
@@ -127,8 +127,8 @@ fn values_by_array<T: NativeType, I: Index>(
 ) -> std::result::Result<Vec<T>, AllocError>
     requires inside { All (IsInBoundsOrNull I.value (length (primitive_items array.now))) (primitive_items indices.now) }
     ensures items { IfOk result (λ v. zipped v.items
-        (map is_some (map (item_at I.value (primitive_items array.now)) (primitive_items indices.now)))
-        ≡ map (item_at I.value (primitive_items array.now)) (primitive_items indices.now)) }
+        (map is_some (items_at I.value (primitive_items array.now) (primitive_items indices.now)))
+        ≡ items_at I.value (primitive_items array.now) (primitive_items indices.now)) }
     ensures len { IfOk result (λ v. length v.items ≡ length (primitive_items indices.now)) }
 {
     let mut taken = Vec::with_capacity(array.values().allocator(), indices.len())?;
@@ -147,7 +147,7 @@ fn bits_by_array<T: NativeType, I: Index>(
 ) -> Result<Bitmap>
     requires inside { All (IsInBoundsOrNull I.value (length (primitive_items array.now))) (primitive_items indices.now) }
     ensures items { IfOk result (λ b. items_of b
-        ≡ map is_some (map (item_at I.value (primitive_items array.now)) (primitive_items indices.now))) }
+        ≡ map is_some (items_at I.value (primitive_items array.now) (primitive_items indices.now))) }
     ensures only { IfErr result (λ e. e ≡ Error.OutOfMemory) }
 {
     Bitmap::try_from_fn(
@@ -185,12 +185,12 @@ fn item_at<T: NativeType, I: Index>(array: &PrimitiveArray<T>, index: Option<I>)
 pub fn take_binary<A: Binary>(array: &A, indices: &[usize]) -> Result<A>
     requires inside { All (λ index. index < length (binary_items (A.parts array.now))) indices.now }
     ensures items { IfOk result (λ a. binary_items (A.parts a)
-        ≡ map (λ index. slice_index_or (binary_items (A.parts array.now)) index None) indices.now) }
+        ≡ map (λ index. binary_item (A.parts array.now) index) indices.now) }
     ensures data_type { IfOk result (λ a. (A.parts a).data_type ≡ (A.parts array.now).data_type) }
     ensures overflow { IsErrOf result Error.Overflow → A.GREATEST < sum_by item_bytes
-        (map (λ index. slice_index_or (binary_items (A.parts array.now)) index None) indices.now) }
+        (map (λ index. binary_item (A.parts array.now) index) indices.now) }
     ensures fits { OnOk result (sum_by item_bytes
-        (map (λ index. slice_index_or (binary_items (A.parts array.now)) index None) indices.now) ≤ A.GREATEST) }
+        (map (λ index. binary_item (A.parts array.now) index) indices.now) ≤ A.GREATEST) }
     ensures only { IfErr result (λ e. (e ≡ Error.Overflow) ⊎ (e ≡ Error.OutOfMemory)) }
 {
     let mut taken = array.like()?;

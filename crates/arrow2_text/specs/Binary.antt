@@ -1,10 +1,11 @@
 -- What contracts see of arrays of byte strings and of texts.
-use Rattle.std.specs.Prelude.{◌≡◌, ℕ, ◌+◌, Bool, ℤ, List, Option, length, if◌then◌else◌}
+use Rattle.std.specs.Prelude.{◌≡◌, ℕ, ◌+◌, Bool, ℤ, List, Option, length, sum, if◌then◌else◌}
 use Rattle.std.specs.Option.{ForSome}
 use Rattle.arrow2_model.specs.Buffers.{BufferStorage, buffer_items}
+use Rattle.arrow2_model.specs.Parts.{part}
 use Rattle.arrow2_model.specs.Storage.{BitmapStorage, items_of}
 use Rattle.arrow2_walks.specs.Zipped.{zipped}
-use Rattle.arrow2_offset.specs.Offsets.{lengths_of}
+use Rattle.arrow2_offset.specs.Offsets.{lengths_of, offset_at, start_of}
 use Rattle.arrow2_utf8.specs.Texts.{slot_values}
 use Rattle.arrow2_validity.specs.OptionalValidity.{OptionalValidity, valid_items, sliced_validity}
 use Rattle.arrow2_datatypes.specs.declared.DataType.{DataType, Binary, LargeBinary, Utf8, LargeUtf8}
@@ -26,9 +27,21 @@ binary_values a = slot_values (buffer_items a.offsets) (buffer_items a.values)
 abbrev pub binary_items : BinaryParts → List (Option (List ℕ))
 binary_items a = zipped (binary_values a) (valid_items a.validity)
 
+-- how many slots there are between the offsets of a buffer
+abbrev pub slots_between : BufferStorage ℤ → ℕ
+slots_between offsets = length (lengths_of (buffer_items offsets))
+
+-- the offset after the first `index` slots
+abbrev pub slot_offset : BufferStorage ℤ → ℕ → ℕ
+slot_offset offsets index = offset_at (start_of (buffer_items offsets)) (lengths_of (buffer_items offsets)) index
+
+-- how many bytes the `len` slots from slot `start` on have
+abbrev pub slots_size : BufferStorage ℤ → ℕ → ℕ → ℕ
+slots_size offsets start len = sum (part (lengths_of (buffer_items offsets)) start len)
+
 -- a validity bitmap, where there is one, has a bit for each slot
-abbrev pub HasBitPerSlot : List ℤ → Option BitmapStorage → Type 0
-HasBitPerSlot offsets validity = ForSome validity (λ v. length (items_of v) ≡ length (lengths_of offsets))
+abbrev pub HasBitPerSlot : BufferStorage ℤ → Option BitmapStorage → Type 0
+HasBitPerSlot offsets validity = ForSome validity (λ v. length (items_of v) ≡ slots_between offsets)
 
 -- an array of these parts
 abbrev pub binary_of : DataType → BufferStorage ℤ → BufferStorage ℕ → Option BitmapStorage → BinaryParts
@@ -36,7 +49,7 @@ binary_of data_type offsets values validity = record {
   data_type = data_type;
   offsets = offsets;
   values = values;
-  validity = record { len = length (lengths_of (buffer_items offsets)); bitmap = validity };
+  validity = record { len = slots_between offsets; bitmap = validity };
 }
 
 -- the n slots from slot `start` on, by one offset more, over the same storage

@@ -1,19 +1,17 @@
 //! An array of byte strings, each of which may be null.
-ghost use Rattle.std.specs.Prelude.{◌≡◌, ◌+◌, ◌<◌, ◌≤◌, ◌↔◌, ◌⊎◌, [], None, Some, true, length, map, count_by, replicate, slice_index_or, sum, IsErrOf, IsNone, IfErr, IfOk, IsTrue, MatchOption, OnOk, option_map};
-ghost use Rattle.std.specs.Option.{ForSome, is_none, is_some, option_copied};
+ghost use Rattle.std.specs.Prelude.{◌≡◌, ◌+◌, ◌<◌, ◌≤◌, ◌↔◌, ◌⊎◌, [], None, Some, true, length, map, count_by, replicate, slice_index_or, sum, IsErrOf, IsNone, IfErr, IfOk, IsTrue, MatchOption, option_map};
+ghost use Rattle.std.specs.Option.{is_none, is_some, option_copied};
 ghost use Rattle.either.specs.Either.{MatchEither};
 ghost use Rattle.arrow2_model.specs.Buffers.{buffer_items};
 ghost use Rattle.arrow2_model.specs.Parts.{part};
 ghost use Rattle.arrow2_model.specs.Storage.{items_of};
-ghost use Rattle.arrow2_types.specs.Refusals.{IsInvalidArgumentOrOutOfMemory};
 ghost use Rattle.arrow2_walks.specs.Zipped.{zipped};
-ghost use Rattle.arrow2_offset.specs.Offsets.{lengths_of, last_of};
+ghost use Rattle.arrow2_offset.specs.Offsets.{last_of};
 ghost use Rattle.arrow2_validity.specs.OptionalValidity.{valid_items};
-ghost use Rattle.arrow2_validity.specs.Refused.{unequal_lengths_message};
 ghost use Rattle.arrow2_datatypes.specs.Types.{physical};
-ghost use Rattle.arrow2_text.specs.Binary.{HasBitPerSlot, binary_items, binary_layout, binary_of, binary_values, default_binary, sliced_binary};
+ghost use Rattle.arrow2_text.specs.Binary.{HasBitPerSlot, binary_items, binary_layout, binary_of, binary_values, default_binary, sliced_binary, slots_between};
 ghost use Rattle.arrow2_text.specs.Growth.{bytes_of_items, items_by_bytes};
-ghost use Rattle.arrow2_text.specs.Refused.{past_the_values_message, other_binary_layout_message};
+ghost use Rattle.arrow2_text.specs.Refused.{FailsOnlyWith, RefusesParts, other_binary_layout_message, past_the_values_message};
 
 use crate::iterator::BinaryIter;
 use crate::mutable_binary::MutableBinaryArray;
@@ -76,26 +74,13 @@ impl<O: Offset> BinaryArray<O> {
         values: Buffer<u8>,
         validity: Option<Bitmap>,
     ) -> Result<BinaryArray<O>>
-        // With `Ok` the array is these parts, and they fit.
         ensures ok { IfOk result (λ a. a ≡ binary_of data_type offsets values validity) }
-        ensures accepted { OnOk result ((last_of (buffer_items offsets) ≤ length (buffer_items values))
-            × HasBitPerSlot (buffer_items offsets) validity
-            × (physical data_type ≡ binary_layout O.IS_LARGE)) }
-        // Each message comes for the first fault, in this order.
+        // The last offset is checked first.
         ensures past { length (buffer_items values) < last_of (buffer_items offsets) →
-            IfErr result (λ e. IsInvalidArgumentOrOutOfMemory e past_the_values_message) }
-        ensures unequal { last_of (buffer_items offsets) ≤ length (buffer_items values) →
-            ForSome validity (λ v. ¬ (length (items_of v) ≡ length (lengths_of (buffer_items offsets))) →
-            IfErr result (λ e. IsInvalidArgumentOrOutOfMemory e
-            (unequal_lengths_message (length (items_of v)) (length (lengths_of (buffer_items offsets)))))) }
-        ensures layout { last_of (buffer_items offsets) ≤ length (buffer_items values) →
-            HasBitPerSlot (buffer_items offsets) validity →
-            ¬ (physical data_type ≡ binary_layout O.IS_LARGE) →
-            IfErr result (λ e. IsInvalidArgumentOrOutOfMemory e other_binary_layout_message) }
-        // Parts that fit are refused by running out of memory alone.
-        ensures only { last_of (buffer_items offsets) ≤ length (buffer_items values) →
-            HasBitPerSlot (buffer_items offsets) validity →
-            physical data_type ≡ binary_layout O.IS_LARGE → IfErr result (λ e. e ≡ Error.OutOfMemory) }
+            FailsOnlyWith result past_the_values_message }
+        ensures refusals { RefusesParts result offsets validity
+            (last_of (buffer_items offsets) ≤ length (buffer_items values))
+            (physical data_type ≡ binary_layout O.IS_LARGE) other_binary_layout_message }
     {
         let validity = check_binary(&data_type, &offsets, &values, validity)?;
         let data_type = Rc::new(values.allocator(), data_type)?;
@@ -116,7 +101,7 @@ impl<O: Offset> BinaryArray<O> {
     ) -> BinaryArray<O>
         requires layout { physical data_type.value ≡ binary_layout O.IS_LARGE }
         requires inside { last_of (buffer_items offsets) ≤ length (buffer_items values) }
-        requires same_length { HasBitPerSlot (buffer_items offsets) validity }
+        requires same_length { HasBitPerSlot offsets validity }
         ensures { result ≡ binary_of data_type.value offsets values validity }
     {
         let validity = Validity::new(offsets.len_proxy(), validity);
@@ -200,7 +185,7 @@ impl<O: Offset> BinaryArray<O> {
     /// Returns the offsets: where the bytes of each slot begin, and where the last ones end.
     pub fn offsets(&self) -> &OffsetsBuffer<O>
         ensures value { result.now ≡ self.now.offsets }
-        ensures slots { length (lengths_of (buffer_items result.now)) ≡ length (binary_items self.now) }
+        ensures slots { slots_between result.now ≡ length (binary_items self.now) }
     {
         self.slots.offsets()
     }
@@ -217,7 +202,7 @@ impl<O: Offset> BinaryArray<O> {
     pub fn len(&self) -> usize
         ensures items { result ≡ length (binary_items self.now) }
         ensures values { result ≡ length (binary_values self.now) }
-        ensures slots { result ≡ length (lengths_of (buffer_items self.now.offsets)) }
+        ensures slots { result ≡ slots_between self.now.offsets }
         ensures validity { result ≡ length (valid_items self.now.validity) }
     {
         self.slots.len()
@@ -327,7 +312,7 @@ impl<O: Offset> BinaryArray<O> {
     /// Returns the array of the same slots with another validity. Requires that it has a bit for each slot. Does not
     /// allocate.
     pub fn with_validity(self, validity: Option<Bitmap>) -> BinaryArray<O>
-        requires same_length { HasBitPerSlot (buffer_items self.offsets) validity }
+        requires same_length { HasBitPerSlot self.offsets validity }
         ensures { result ≡ binary_of self.data_type self.offsets self.values validity }
     {
         let (data_type, offsets, values, _) = self.slots.into_parts();

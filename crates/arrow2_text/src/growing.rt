@@ -4,9 +4,8 @@ ghost use Rattle.arrow2_model.specs.Buffers.{buffer_items};
 ghost use Rattle.std.specs.Option.{is_none};
 ghost use Rattle.arrow2_walks.specs.Zipped.{slot, zipped};
 ghost use Rattle.arrow2_model.specs.Parts.{part};
-ghost use Rattle.arrow2_offset.specs.Offsets.{lengths_of, offset_at, start_of};
 ghost use Rattle.arrow2_validity.specs.OptionalValidity.{valid_items};
-ghost use Rattle.arrow2_text.specs.Binary.{binary_items, binary_values};
+ghost use Rattle.arrow2_text.specs.Binary.{binary_items, binary_values, slot_offset, slots_size};
 ghost use Rattle.arrow2_offset.specs.Nested.{cut};
 ghost use Rattle.arrow2_text.specs.Growth.{AppendsSlots, GrownBySlots, HasRoomFor, LosesLastSlot, PopsSlot, ReservesSlots};
 
@@ -221,7 +220,7 @@ impl<O: Offset> Growing<O> {
         requires inside { start + len ≤ length (binary_items slots.now) }
         ensures { AppendsSlots O.MAX result self.old self.new (part (binary_values slots.now) start len)
             (part (valid_items slots.now.validity) start len)
-            (sum (part (lengths_of (buffer_items slots.now.offsets)) start len)) }
+            (slots_size slots.now.offsets start len) }
     {
         // For the proof alone: reading the length brings the invariant that the validity has an item for each slot.
         let _ = slots.len();
@@ -236,13 +235,13 @@ impl<O: Offset> Growing<O> {
     fn extend_within(&mut self, slots: &Slots<O>, bytes: &[u8], start: usize, len: usize)
         requires inside { start + len ≤ length (binary_items slots.now) }
         requires bytes { bytes.now ≡ part (buffer_items slots.now.values)
-            (offset_at (start_of (buffer_items slots.now.offsets)) (lengths_of (buffer_items slots.now.offsets)) start)
-            (sum (part (lengths_of (buffer_items slots.now.offsets)) start len)) }
-        requires size { length bytes.now ≡ sum (part (lengths_of (buffer_items slots.now.offsets)) start len) }
+            (slot_offset slots.now.offsets start)
+            (slots_size slots.now.offsets start len) }
+        requires size { length bytes.now ≡ slots_size slots.now.offsets start len }
         requires room { HasRoomFor O.MAX self.old len (length bytes.now) }
         ensures { GrownBySlots self.old self.new (part (binary_values slots.now) start len)
             (part (valid_items slots.now.validity) start len)
-            (sum (part (lengths_of (buffer_items slots.now.offsets)) start len)) }
+            (slots_size slots.now.offsets start len) }
     {
         // For the proof alone: reading the lengths brings the invariants that there is one offset more than slots, and
         // that the validity has an item for each.

@@ -1,13 +1,11 @@
 //! An array of byte strings that grows.
-ghost use Rattle.std.specs.Prelude.{◌≡◌, ◌+◌, ◌<◌, ◌≤◌, ◌^◌, ◌↔◌, ◌⊎◌, [], ◌∷◌, None, length, sum, count_by, map, if◌then◌else◌, IfErr, IfOk, IsErrOf, IsNone, IsOk, IsTrue, OnOk};
+ghost use Rattle.std.specs.Prelude.{◌≡◌, ◌+◌, ◌<◌, ◌≤◌, ◌^◌, ◌↔◌, ◌⊎◌, [], ◌∷◌, None, length, count_by, IfErr, IfOk, IsErrOf, IsNone, IsOk, IsTrue, OnOk};
 ghost use Rattle.std.specs.Iterator.{IsFinite, IsFiniteIterable};
 ghost use Rattle.std.specs.Iterator.Runs.{WholeRun};
 ghost use Rattle.std.specs.Option.{is_none, option_copied, option_map_or};
-ghost use Rattle.arrow2_model.specs.Buffers.{buffer_items};
 ghost use Rattle.arrow2_model.specs.Parts.{part};
-ghost use Rattle.arrow2_offset.specs.Offsets.{lengths_of};
 ghost use Rattle.arrow2_datatypes.specs.Types.{physical};
-ghost use Rattle.arrow2_text.specs.Binary.{binary_items, binary_layout, default_binary};
+ghost use Rattle.arrow2_text.specs.Binary.{binary_items, binary_layout, default_binary, slots_size};
 ghost use Rattle.arrow2_text.specs.Growth.{AppendsBinary, MayYieldPastOffset, PopsBinary, growing_binary, items_by_bytes};
 
 use crate::binary::BinaryArray;
@@ -265,7 +263,7 @@ impl<O: Offset> MutableBinaryArray<O> {
     ) -> Result<()>
         requires inside { start + len ≤ length (binary_items array.now) }
         ensures { AppendsBinary O.MAX result self.old self.new (part (binary_items array.now) start len)
-            (sum (part (lengths_of (buffer_items array.now.offsets)) start len)) }
+            (slots_size array.now.offsets start len) }
     {
         let slots = array.slots();
         // For the proof alone: reading the length brings the invariant that the validity has an item for each slot.

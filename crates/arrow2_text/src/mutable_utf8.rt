@@ -1,14 +1,12 @@
 //! An array of texts that grows.
-ghost use Rattle.std.specs.Prelude.{◌≡◌, ◌+◌, ◌<◌, ◌≤◌, ◌^◌, ◌↔◌, ◌⊎◌, [], ◌∷◌, None, length, sum, count_by, map, if◌then◌else◌, option_map, string_bytes, IfErr, IfOk, IfSome, IsErrOf, IsNone, IsOk, IsTrue, IsUtf8, OnOk};
+ghost use Rattle.std.specs.Prelude.{◌≡◌, ◌+◌, ◌<◌, ◌≤◌, ◌^◌, ◌↔◌, ◌⊎◌, [], ◌∷◌, None, length, count_by, option_map, string_bytes, IfErr, IfOk, IfSome, IsErrOf, IsNone, IsOk, IsTrue, IsUtf8, OnOk};
 ghost use Rattle.std.specs.Iterator.{IsFinite, IsFiniteIterable};
 ghost use Rattle.std.specs.Iterator.Runs.{WholeRun};
 ghost use Rattle.std.specs.Option.{is_none, option_copied, option_map_or};
-ghost use Rattle.arrow2_model.specs.Buffers.{buffer_items};
 ghost use Rattle.arrow2_model.specs.Parts.{part};
 ghost use Rattle.arrow2_walks.specs.Zipped.{zipped};
-ghost use Rattle.arrow2_offset.specs.Offsets.{lengths_of};
 ghost use Rattle.arrow2_datatypes.specs.Types.{physical};
-ghost use Rattle.arrow2_text.specs.Binary.{binary_items, text_layout, default_text};
+ghost use Rattle.arrow2_text.specs.Binary.{binary_items, default_text, slots_size, text_layout};
 ghost use Rattle.arrow2_text.specs.AllTexts.{AreUtf8};
 ghost use Rattle.arrow2_text.specs.Growth.{AppendsBinary, MayYieldPastOffset, PopsBinary, growing_binary, items_by_bytes};
 
@@ -278,7 +276,7 @@ impl<O: Offset> MutableUtf8Array<O> {
     ) -> Result<()>
         requires inside { start + len ≤ length (binary_items array.now) }
         ensures { AppendsBinary O.MAX result self.old self.new (part (binary_items array.now) start len)
-            (sum (part (lengths_of (buffer_items array.now.offsets)) start len)) }
+            (slots_size array.now.offsets start len) }
     {
         let slots = array.slots();
         // For the proof alone: reading the length brings the invariant that the validity has an item for each slot.

@@ -1,16 +1,13 @@
 //! How parts that are no array are refused.
-ghost use Rattle.std.specs.Prelude.{◌≡◌, ◌<◌, ◌≤◌, ◌↔◌, length, IfErr, IfOk, IsOk, IsTrue, OnOk};
-ghost use Rattle.std.specs.Option.{ForSome};
+ghost use Rattle.std.specs.Prelude.{◌≡◌, ◌<◌, ◌≤◌, ◌↔◌, length, IfOk, IsOk, IsTrue};
 ghost use Rattle.arrow2_model.specs.Buffers.{buffer_items};
-ghost use Rattle.arrow2_model.specs.Storage.{items_of};
-ghost use Rattle.arrow2_offset.specs.Offsets.{last_of, lengths_of};
+ghost use Rattle.arrow2_offset.specs.Offsets.{last_of};
 ghost use Rattle.arrow2_types.specs.Refusals.{IsInvalidArgumentOrOutOfMemory};
 ghost use Rattle.arrow2_datatypes.specs.Types.{physical};
 ghost use Rattle.arrow2_utf8.specs.Texts.{AreTexts};
 ghost use Rattle.arrow2_validity.specs.OptionalValidity.{valid_items};
-ghost use Rattle.arrow2_validity.specs.Refused.{unequal_lengths_message};
-ghost use Rattle.arrow2_text.specs.Binary.{HasBitPerSlot, binary_layout, default_binary, default_text, text_layout};
-ghost use Rattle.arrow2_text.specs.Refused.{not_utf8, other_binary_layout_message, other_text_layout_message, past_the_values_message};
+ghost use Rattle.arrow2_text.specs.Binary.{binary_layout, default_binary, default_text, slots_between, text_layout};
+ghost use Rattle.arrow2_text.specs.Refused.{FailsOnlyWith, RefusesParts, not_utf8, other_binary_layout_message, other_text_layout_message, past_the_values_message};
 
 use arrow2_bitmap::Bitmap;
 use arrow2_buffer::Buffer;
@@ -39,7 +36,7 @@ pub(crate) fn check_bounds<O: Offset>(
     values: usize,
 ) -> Result<()>
     ensures accepted { IsOk result ↔ (last_of (buffer_items offsets.now) ≤ values) }
-    ensures refused { IfErr result (λ e. IsInvalidArgumentOrOutOfMemory e past_the_values_message) }
+    ensures refused { FailsOnlyWith result past_the_values_message }
 {
     if offsets.last().to_usize() > values {
         return Err(refusal(alloc, "offsets must not exceed the values length"));
@@ -55,9 +52,9 @@ pub(crate) fn check_texts<O: Offset>(
 ) -> Result<()>
     ensures accepted { IsOk result ↔ AreTexts (buffer_items offsets.now) values.now }
     ensures past { length values.now < last_of (buffer_items offsets.now) →
-        IfErr result (λ e. IsInvalidArgumentOrOutOfMemory e past_the_values_message) }
+        FailsOnlyWith result past_the_values_message }
     ensures broken { last_of (buffer_items offsets.now) ≤ length values.now →
-        IfErr result (λ e. IsInvalidArgumentOrOutOfMemory e not_utf8) }
+        FailsOnlyWith result not_utf8 }
 {
     match try_check_utf8(offsets, values) {
         Ok(()) => Ok(()),
@@ -74,7 +71,7 @@ pub(crate) fn check_texts<O: Offset>(
 /// Refuses a logical type that is not laid out as byte strings are.
 pub(crate) fn check_binary_layout<O: Offset>(alloc: Global, data_type: &DataType) -> Result<()>
     ensures accepted { IsOk result ↔ (physical data_type.now ≡ binary_layout O.IS_LARGE) }
-    ensures refused { IfErr result (λ e. IsInvalidArgumentOrOutOfMemory e other_binary_layout_message) }
+    ensures refused { FailsOnlyWith result other_binary_layout_message }
 {
     if !is_binary(data_type.to_physical_type(), O::IS_LARGE) {
         return Err(refusal(
@@ -88,7 +85,7 @@ pub(crate) fn check_binary_layout<O: Offset>(alloc: Global, data_type: &DataType
 /// Refuses a logical type that is not laid out as texts are.
 pub(crate) fn check_text_layout<O: Offset>(alloc: Global, data_type: &DataType) -> Result<()>
     ensures accepted { IsOk result ↔ (physical data_type.now ≡ text_layout O.IS_LARGE) }
-    ensures refused { IfErr result (λ e. IsInvalidArgumentOrOutOfMemory e other_text_layout_message) }
+    ensures refused { FailsOnlyWith result other_text_layout_message }
 {
     if !is_text(data_type.to_physical_type(), O::IS_LARGE) {
         return Err(refusal(
@@ -107,26 +104,15 @@ pub(crate) fn check_binary<O: Offset>(
     validity: Option<Bitmap>,
 ) -> Result<Validity>
     ensures ok { IfOk result (λ v. v ≡ record {
-      len = length (lengths_of (buffer_items offsets.now));
+      len = slots_between offsets.now;
       bitmap = validity;
     }) }
-    ensures len { IfOk result (λ v. length (valid_items v) ≡ length (lengths_of (buffer_items offsets.now))) }
-    ensures accepted { OnOk result ((last_of (buffer_items offsets.now) ≤ length (buffer_items values.now))
-        × HasBitPerSlot (buffer_items offsets.now) validity
-        × (physical data_type.now ≡ binary_layout O.IS_LARGE)) }
+    ensures len { IfOk result (λ v. length (valid_items v) ≡ slots_between offsets.now) }
     ensures past { length (buffer_items values.now) < last_of (buffer_items offsets.now) →
-        IfErr result (λ e. IsInvalidArgumentOrOutOfMemory e past_the_values_message) }
-    ensures unequal { last_of (buffer_items offsets.now) ≤ length (buffer_items values.now) →
-        ForSome validity (λ v. ¬ (length (items_of v) ≡ length (lengths_of (buffer_items offsets.now))) →
-        IfErr result (λ e. IsInvalidArgumentOrOutOfMemory e
-        (unequal_lengths_message (length (items_of v)) (length (lengths_of (buffer_items offsets.now)))))) }
-    ensures layout { last_of (buffer_items offsets.now) ≤ length (buffer_items values.now) →
-        HasBitPerSlot (buffer_items offsets.now) validity →
-        ¬ (physical data_type.now ≡ binary_layout O.IS_LARGE) →
-        IfErr result (λ e. IsInvalidArgumentOrOutOfMemory e other_binary_layout_message) }
-    ensures only { last_of (buffer_items offsets.now) ≤ length (buffer_items values.now) →
-        HasBitPerSlot (buffer_items offsets.now) validity →
-        physical data_type.now ≡ binary_layout O.IS_LARGE → IfErr result (λ e. e ≡ Error.OutOfMemory) }
+        FailsOnlyWith result past_the_values_message }
+    ensures refusals { RefusesParts result offsets.now validity
+        (last_of (buffer_items offsets.now) ≤ length (buffer_items values.now))
+        (physical data_type.now ≡ binary_layout O.IS_LARGE) other_binary_layout_message }
 {
     let alloc = values.allocator();
     check_bounds(alloc, offsets, values.len())?;
@@ -143,29 +129,17 @@ pub(crate) fn check_utf8<O: Offset>(
     validity: Option<Bitmap>,
 ) -> Result<Validity>
     ensures ok { IfOk result (λ v. v ≡ record {
-      len = length (lengths_of (buffer_items offsets.now));
+      len = slots_between offsets.now;
       bitmap = validity;
     }) }
-    ensures len { IfOk result (λ v. length (valid_items v) ≡ length (lengths_of (buffer_items offsets.now))) }
-    ensures accepted { OnOk result (AreTexts (buffer_items offsets.now) (buffer_items values.now)
-        × HasBitPerSlot (buffer_items offsets.now) validity
-        × (physical data_type.now ≡ text_layout O.IS_LARGE)) }
+    ensures len { IfOk result (λ v. length (valid_items v) ≡ slots_between offsets.now) }
     ensures past { length (buffer_items values.now) < last_of (buffer_items offsets.now) →
-        IfErr result (λ e. IsInvalidArgumentOrOutOfMemory e past_the_values_message) }
+        FailsOnlyWith result past_the_values_message }
     ensures broken { last_of (buffer_items offsets.now) ≤ length (buffer_items values.now) →
-        ¬ AreTexts (buffer_items offsets.now) (buffer_items values.now) →
-        IfErr result (λ e. IsInvalidArgumentOrOutOfMemory e not_utf8) }
-    ensures unequal { AreTexts (buffer_items offsets.now) (buffer_items values.now) →
-        ForSome validity (λ v. ¬ (length (items_of v) ≡ length (lengths_of (buffer_items offsets.now))) →
-        IfErr result (λ e. IsInvalidArgumentOrOutOfMemory e
-        (unequal_lengths_message (length (items_of v)) (length (lengths_of (buffer_items offsets.now)))))) }
-    ensures layout { AreTexts (buffer_items offsets.now) (buffer_items values.now) →
-        HasBitPerSlot (buffer_items offsets.now) validity →
-        ¬ (physical data_type.now ≡ text_layout O.IS_LARGE) →
-        IfErr result (λ e. IsInvalidArgumentOrOutOfMemory e other_text_layout_message) }
-    ensures only { AreTexts (buffer_items offsets.now) (buffer_items values.now) →
-        HasBitPerSlot (buffer_items offsets.now) validity →
-        physical data_type.now ≡ text_layout O.IS_LARGE → IfErr result (λ e. e ≡ Error.OutOfMemory) }
+        ¬ AreTexts (buffer_items offsets.now) (buffer_items values.now) → FailsOnlyWith result not_utf8 }
+    ensures refusals { RefusesParts result offsets.now validity
+        (AreTexts (buffer_items offsets.now) (buffer_items values.now))
+        (physical data_type.now ≡ text_layout O.IS_LARGE) other_text_layout_message }
 {
     let alloc = values.allocator();
     check_texts(alloc, offsets, values.as_slice())?;

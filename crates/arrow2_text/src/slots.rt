@@ -6,10 +6,10 @@ ghost use Rattle.either.specs.Either.{MatchEither};
 ghost use Rattle.arrow2_model.specs.Buffers.{buffer_items, whole_buffer};
 ghost use Rattle.arrow2_model.specs.Parts.{part};
 ghost use Rattle.arrow2_offset.specs.Nested.{cut};
-ghost use Rattle.arrow2_offset.specs.Offsets.{last_of, lengths_of, offset_at, offsets_of, start_of};
+ghost use Rattle.arrow2_offset.specs.Offsets.{last_of, offsets_of};
 ghost use Rattle.arrow2_walks.specs.Zipped.{zipped};
 ghost use Rattle.arrow2_validity.specs.OptionalValidity.{valid_items};
-ghost use Rattle.arrow2_text.specs.Binary.{binary_items, binary_values, sliced_binary};
+ghost use Rattle.arrow2_text.specs.Binary.{binary_items, binary_values, sliced_binary, slot_offset, slots_between, slots_size};
 
 use crate::growing::Growing;
 use arrow2_buffer::Buffer;
@@ -36,9 +36,9 @@ pub(crate) struct Slots<O: Offset> {
 impl<O: Offset> Model for Slots<O> {
     ghost use Rattle.std.specs.Prelude.{◌≡◌, ◌≤◌, length};
     ghost use Rattle.arrow2_model.specs.Buffers.{buffer_items};
-    ghost use Rattle.arrow2_offset.specs.Offsets.{lengths_of, last_of};
+    ghost use Rattle.arrow2_offset.specs.Offsets.{last_of};
     ghost use Rattle.arrow2_validity.specs.OptionalValidity.{valid_items};
-    ghost use Rattle.arrow2_text.specs.Binary.{BinaryParts};
+    ghost use Rattle.arrow2_text.specs.Binary.{BinaryParts, slots_between};
     ghost use Rattle.std.specs.Coded.{codes};
     ghost use Rattle.arrow2_datatypes.specs.contracts.DataType as logical_type;
 
@@ -54,7 +54,7 @@ impl<O: Offset> Model for Slots<O> {
     } };
 
     ghost invariant = { λ a. (last_of (buffer_items a.offsets) ≤ length (buffer_items a.values))
-        × (length (valid_items a.validity) ≡ length (lengths_of (buffer_items a.offsets))) };
+        × (length (valid_items a.validity) ≡ slots_between a.offsets) };
 }
 
 #[tactic(auto, using(crate::proofs::SlotLists::slotted))]
@@ -68,7 +68,7 @@ impl<O: Offset> Slots<O> {
         validity: Validity,
     ) -> Slots<O>
         requires inside { last_of (buffer_items offsets) ≤ length (buffer_items values) }
-        requires same_length { length (valid_items validity) ≡ length (lengths_of (buffer_items offsets)) }
+        requires same_length { length (valid_items validity) ≡ slots_between offsets }
         ensures { result ≡ record {
           data_type = data_type.value;
           offsets = offsets;
@@ -94,7 +94,7 @@ impl<O: Offset> Slots<O> {
     /// Returns the offsets.
     pub(crate) fn offsets(&self) -> &OffsetsBuffer<O>
         ensures value { result.now ≡ self.now.offsets }
-        ensures slots { length (lengths_of (buffer_items result.now)) ≡ length (binary_items self.now) }
+        ensures slots { slots_between result.now ≡ length (binary_items self.now) }
     {
         &self.offsets
     }
@@ -120,7 +120,7 @@ impl<O: Offset> Slots<O> {
     pub(crate) fn len(&self) -> usize
         ensures items { result ≡ length (binary_items self.now) }
         ensures values { result ≡ length (binary_values self.now) }
-        ensures lengths { result ≡ length (lengths_of (buffer_items self.now.offsets)) }
+        ensures lengths { result ≡ slots_between self.now.offsets }
         ensures validity { result ≡ length (valid_items self.now.validity) }
     {
         self.offsets.len_proxy()
@@ -156,9 +156,8 @@ impl<O: Offset> Slots<O> {
 
     /// Returns the offset after the first `index` slots. Requires that `index` is at most the number of slots.
     fn place(&self, index: usize) -> usize
-        requires inside { index ≤ length (lengths_of (buffer_items self.now.offsets)) }
-        ensures { result ≡ offset_at (start_of (buffer_items self.now.offsets))
-            (lengths_of (buffer_items self.now.offsets)) index }
+        requires inside { index ≤ slots_between self.now.offsets }
+        ensures { result ≡ slot_offset self.now.offsets index }
     {
         if index == self.offsets.len_proxy() {
             return self.offsets.last().to_usize();
@@ -170,9 +169,9 @@ impl<O: Offset> Slots<O> {
     pub(crate) fn bytes_of(&self, start: usize, len: usize) -> &[u8]
         requires inside { start + len ≤ length (binary_items self.now) }
         ensures bytes { result.now ≡ part (buffer_items self.now.values)
-            (offset_at (start_of (buffer_items self.now.offsets)) (lengths_of (buffer_items self.now.offsets)) start)
-            (sum (part (lengths_of (buffer_items self.now.offsets)) start len)) }
-        ensures len { length result.now ≡ sum (part (lengths_of (buffer_items self.now.offsets)) start len) }
+            (slot_offset self.now.offsets start)
+            (slots_size self.now.offsets start len) }
+        ensures len { length result.now ≡ slots_size self.now.offsets start len }
     {
         let count = self.len();
         prove!(start <= count && len <= count - start);
@@ -257,7 +256,7 @@ impl<O: Offset> Slots<O> {
         ensures values { result.2 ≡ self.values }
         ensures validity { result.3 ≡ self.validity }
         ensures inside { last_of (buffer_items result.1) ≤ length (buffer_items result.2) }
-        ensures same_length { length (valid_items result.3) ≡ length (lengths_of (buffer_items result.1)) }
+        ensures same_length { length (valid_items result.3) ≡ slots_between result.1 }
     {
         (self.data_type, self.offsets, self.values, self.validity)
     }

@@ -1,20 +1,18 @@
 //! An array of texts, each of which may be null.
-ghost use Rattle.std.specs.Prelude.{◌≡◌, ◌+◌, ◌<◌, ◌≤◌, ◌↔◌, ◌⊎◌, [], None, Some, true, length, map, count_by, replicate, slice_index_or, sum, IsErrOf, IsNone, IfErr, IfOk, IsTrue, MatchOption, OnOk, option_map};
-ghost use Rattle.std.specs.Option.{ForSome, is_none, is_some, option_copied};
+ghost use Rattle.std.specs.Prelude.{◌≡◌, ◌+◌, ◌<◌, ◌≤◌, ◌↔◌, ◌⊎◌, [], None, Some, true, length, map, count_by, replicate, slice_index_or, sum, IsErrOf, IsNone, IfErr, IfOk, IsTrue, MatchOption, option_map};
+ghost use Rattle.std.specs.Option.{is_none, is_some, option_copied};
 ghost use Rattle.either.specs.Either.{MatchEither};
 ghost use Rattle.arrow2_model.specs.Buffers.{buffer_items};
 ghost use Rattle.arrow2_model.specs.Parts.{part};
 ghost use Rattle.arrow2_model.specs.Storage.{items_of};
-ghost use Rattle.arrow2_types.specs.Refusals.{IsInvalidArgumentOrOutOfMemory};
 ghost use Rattle.arrow2_walks.specs.Zipped.{zipped};
-ghost use Rattle.arrow2_offset.specs.Offsets.{lengths_of, last_of};
+ghost use Rattle.arrow2_offset.specs.Offsets.{last_of};
 ghost use Rattle.arrow2_validity.specs.OptionalValidity.{valid_items};
-ghost use Rattle.arrow2_validity.specs.Refused.{unequal_lengths_message};
 ghost use Rattle.arrow2_datatypes.specs.Types.{physical};
 ghost use Rattle.arrow2_utf8.specs.Texts.{AreTexts};
-ghost use Rattle.arrow2_text.specs.Binary.{HasBitPerSlot, binary_items, binary_of, binary_values, default_binary, default_text, sliced_binary, text_layout};
+ghost use Rattle.arrow2_text.specs.Binary.{HasBitPerSlot, binary_items, binary_of, binary_values, default_binary, default_text, sliced_binary, slots_between, text_layout};
 ghost use Rattle.arrow2_text.specs.Growth.{bytes_of_items, items_by_bytes};
-ghost use Rattle.arrow2_text.specs.Refused.{not_utf8, other_text_layout_message, past_the_values_message};
+ghost use Rattle.arrow2_text.specs.Refused.{FailsOnlyWith, RefusesParts, not_utf8, other_text_layout_message, past_the_values_message};
 
 use crate::binary::BinaryArray;
 use crate::iterator::Utf8Iter;
@@ -83,29 +81,15 @@ impl<O: Offset> Utf8Array<O> {
         values: Buffer<u8>,
         validity: Option<Bitmap>,
     ) -> Result<Utf8Array<O>>
-        // With `Ok` the array is these parts, and they fit.
         ensures ok { IfOk result (λ a. a ≡ binary_of data_type offsets values validity) }
-        ensures accepted { OnOk result (AreTexts (buffer_items offsets) (buffer_items values)
-            × HasBitPerSlot (buffer_items offsets) validity
-            × (physical data_type ≡ text_layout O.IS_LARGE)) }
-        // Each message comes for the first fault, in this order.
+        // The last offset is checked first, then whether each slot is UTF-8.
         ensures past { length (buffer_items values) < last_of (buffer_items offsets) →
-            IfErr result (λ e. IsInvalidArgumentOrOutOfMemory e past_the_values_message) }
+            FailsOnlyWith result past_the_values_message }
         ensures broken { last_of (buffer_items offsets) ≤ length (buffer_items values) →
-            ¬ AreTexts (buffer_items offsets) (buffer_items values) →
-            IfErr result (λ e. IsInvalidArgumentOrOutOfMemory e not_utf8) }
-        ensures unequal { AreTexts (buffer_items offsets) (buffer_items values) →
-            ForSome validity (λ v. ¬ (length (items_of v) ≡ length (lengths_of (buffer_items offsets))) →
-            IfErr result (λ e. IsInvalidArgumentOrOutOfMemory e
-            (unequal_lengths_message (length (items_of v)) (length (lengths_of (buffer_items offsets)))))) }
-        ensures layout { AreTexts (buffer_items offsets) (buffer_items values) →
-            HasBitPerSlot (buffer_items offsets) validity →
-            ¬ (physical data_type ≡ text_layout O.IS_LARGE) →
-            IfErr result (λ e. IsInvalidArgumentOrOutOfMemory e other_text_layout_message) }
-        // Parts that fit are refused by running out of memory alone.
-        ensures only { AreTexts (buffer_items offsets) (buffer_items values) →
-            HasBitPerSlot (buffer_items offsets) validity →
-            physical data_type ≡ text_layout O.IS_LARGE → IfErr result (λ e. e ≡ Error.OutOfMemory) }
+            ¬ AreTexts (buffer_items offsets) (buffer_items values) → FailsOnlyWith result not_utf8 }
+        ensures refusals { RefusesParts result offsets validity
+            (AreTexts (buffer_items offsets) (buffer_items values))
+            (physical data_type ≡ text_layout O.IS_LARGE) other_text_layout_message }
     {
         let validity = check_utf8(&data_type, &offsets, &values, validity)?;
         let data_type = Rc::new(values.allocator(), data_type)?;
@@ -126,7 +110,7 @@ impl<O: Offset> Utf8Array<O> {
     ) -> Utf8Array<O>
         requires layout { physical data_type.value ≡ text_layout O.IS_LARGE }
         requires texts { AreTexts (buffer_items offsets) (buffer_items values) }
-        requires same_length { HasBitPerSlot (buffer_items offsets) validity }
+        requires same_length { HasBitPerSlot offsets validity }
         ensures { result ≡ binary_of data_type.value offsets values validity }
     {
         let validity = Validity::new(offsets.len_proxy(), validity);
@@ -212,7 +196,7 @@ impl<O: Offset> Utf8Array<O> {
     /// Returns the offsets: where the bytes of each slot begin, and where the last ones end.
     pub fn offsets(&self) -> &OffsetsBuffer<O>
         ensures value { result.now ≡ self.now.offsets }
-        ensures slots { length (lengths_of (buffer_items result.now)) ≡ length (binary_items self.now) }
+        ensures slots { slots_between result.now ≡ length (binary_items self.now) }
     {
         self.slots.offsets()
     }
@@ -229,7 +213,7 @@ impl<O: Offset> Utf8Array<O> {
     pub fn len(&self) -> usize
         ensures items { result ≡ length (binary_items self.now) }
         ensures values { result ≡ length (binary_values self.now) }
-        ensures slots { result ≡ length (lengths_of (buffer_items self.now.offsets)) }
+        ensures slots { result ≡ slots_between self.now.offsets }
         ensures validity { result ≡ length (valid_items self.now.validity) }
     {
         self.slots.len()
@@ -343,7 +327,7 @@ impl<O: Offset> Utf8Array<O> {
     /// Returns the array of the same slots with another validity. Requires that it has a bit for each slot. Does not
     /// allocate.
     pub fn with_validity(self, validity: Option<Bitmap>) -> Utf8Array<O>
-        requires same_length { HasBitPerSlot (buffer_items self.offsets) validity }
+        requires same_length { HasBitPerSlot self.offsets validity }
         ensures { result ≡ binary_of self.data_type self.offsets self.values validity }
     {
         let (data_type, offsets, values, _) = self.slots.into_parts();
