@@ -1,7 +1,7 @@
 /* Bits with fewer arguments, and checks of whole arrays of the Arrow C data interface: inline functions on top of the
  * library, which you still link.
  *
- * Every test of bits, offsets, texts and indices is a call of the library, whose result is proved (arrow2_proved.h).
+ * Each test of bits, offsets, texts and indices, except of slots of unions, is a call of the library, and proved.
  * The walk over the tree of an array is written by hand here (docs/BINDINGS.md, which the package has too).
  *
  * The interface does not state the number of bytes of a buffer. `arrow2_array_check` trusts that each buffer has the
@@ -152,7 +152,7 @@ static inline uint32_t arrow2_bits_not(struct arrow2_bits bits, size_t length, u
 
 /* Writes over `out` which of `length` items are valid by both validities, either of which may be missing. `out` has
  * arrow2_bytes_for(length) bytes, and padding bits become 0, also where both are missing.
- * ARROW2_RANGE: the bits of a validity that is there are not inside. Else ARROW2_LENGTH: `out` has another length. */
+ * ARROW2_RANGE: the bits of a validity that is there are not inside. Else ARROW2_LENGTH: `out` has the wrong size. */
 static inline uint32_t arrow2_bits_and_validity(struct arrow2_bits left, struct arrow2_bits right, size_t length,
                                                 uint8_t *out, size_t out_count) {
     struct arrow2_bits one = left.bytes ? left : right;
@@ -177,7 +177,7 @@ static inline uint32_t arrow2_bits_and_validity(struct arrow2_bits left, struct 
  * and `validity` get the result. Each has arrow2_bytes_for(length) bytes, which are `values_count` and
  * `validity_count`. Both are always written, also where neither column has a validity, so neither may be NULL unless
  * `length` is 0.
- * ARROW2_RANGE: bits that are there are not inside. Else ARROW2_LENGTH: `values` or `validity` has another length. */
+ * ARROW2_RANGE: bits that are there are not inside. Else ARROW2_LENGTH: `values` or `validity` has the wrong size. */
 static inline uint32_t arrow2_bits_and_kleene(struct arrow2_bits left, struct arrow2_bits left_validity,
                                               struct arrow2_bits right, struct arrow2_bits right_validity,
                                               size_t length, uint8_t *values, size_t values_count, uint8_t *validity,
@@ -272,7 +272,7 @@ static inline struct arrow2_bits arrow2_bits_of_column(const struct ArrowArray *
 #define ARROW2_C_MAX_ARRAYS 1048576
 /* More bytes than any buffer has: the size of a buffer whose size is not known. */
 #define ARROW2_C_MAX_BYTES ((size_t)1 << 56)
-/* The number of bytes that the longest path needs. */
+/* More bytes than the longest path needs. */
 #define ARROW2_C_PATH 1280
 
 /* Where the check refused.
@@ -936,8 +936,8 @@ static inline uint32_t arrow2_c_check_root(const struct ArrowSchema *schema, con
  * ARROW2_SPEC_NEGATIVE, ARROW2_SPEC_FALLING, ARROW2_PAST, ARROW2_UTF8 and ARROW2_INDEX.
  *
  * Schema and array stay the caller's, whatever the code is: nothing in them is changed, kept or released. The caller
- * releases both, also after a refusal: `if (array.release) array.release(&array);`, since with ARROW2_C_RELEASED one
- * `release` is NULL.
+ * releases both, also after a refusal: `if (array.release) array.release(&array);`, since with ARROW2_C_RELEASED it
+ * may be NULL.
  *
  * With ARROW2_OK offsets and indices that are read are aligned. Plain values may not be: read an int64 column through
  * `int64_t *` only where its pointer is a multiple of 8, else by memcpy.
@@ -952,7 +952,7 @@ static inline uint32_t arrow2_array_check(const struct ArrowSchema *schema, cons
 
 /* The same with the number of bytes of each buffer of the tree, outside of which nothing is read. The order of the
  * sizes is depth first: those of an array's buffers, then those of its children in order, then those of its dictionary.
- * A buffer that is NULL takes a size too, as a rule 0.
+ * A NULL buffer takes a size too, usually 0.
  *
  * - Values, and types and offsets of a union, need the bytes of offset + length items, also where `length` is 0 and
  *   where the buffer is NULL. An int32 array of length 0 and offset 5 needs 20 bytes of values: with NULL and the size

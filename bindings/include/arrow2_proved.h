@@ -4,7 +4,7 @@
  *
  * Rules for every call. A call tests its numbers and returns a code; only the four `_unchecked` calls do not test their
  * offsets. Breaking a rule about pointers, alignment, overlap, bools or threads is undefined behaviour.
- * - A slice is a pointer followed by its number of items. NULL with the number 0 is safe. With any other number the
+ * - A slice is a pointer and its number of items. NULL with 0 is safe, but not for `_unchecked` offsets. Else the
  *   pointer must lead to that many items, and be aligned for their type.
  * - A pointer to a single value (`zeros`, `equal`, `value`, `at`, `count`, `index`, `slot`) must not be NULL.
  * - NULL never means that a validity is missing. Where one may be missing, the call has an argument that states it:
@@ -98,7 +98,7 @@ static inline uint32_t arrow2_get_bit_inline(const uint8_t *bytes, size_t bytes_
 uint32_t arrow2_set_bit(uint8_t *bytes, size_t bytes_count, size_t index, bool value);
 
 /* Copies the `length` bits from bit `offset` on over `out`.
- * ARROW2_RANGE: they are not inside the bytes. Else ARROW2_LENGTH: `out` has another length. */
+ * ARROW2_RANGE: they are not inside the bytes. Else ARROW2_LENGTH: `out` has the wrong size. */
 uint32_t arrow2_copy_bits(const uint8_t *bytes, size_t bytes_count, size_t offset, size_t length, uint8_t *out,
                           size_t out_count);
 
@@ -107,7 +107,7 @@ uint32_t arrow2_copy_bits(const uint8_t *bytes, size_t bytes_count, size_t offse
  * Bit a1 + 2 * a2 + 4 * a3 + 8 * a4 of `table` is its output for inputs a1 to a4. Of two inputs 8 is AND, 14 OR, 6 XOR;
  * of one input 1 is NOT. Each input is `length` bits from its offset on.
  * ARROW2_RANGE: a table of one input is above 3, of two above 15, of three above 255, or an input is not inside its
- * bytes. Else ARROW2_LENGTH: `out` has another length. */
+ * bytes. Else ARROW2_LENGTH: `out` has the wrong size. */
 
 uint32_t arrow2_unary_table(const uint8_t *bytes, size_t bytes_count, size_t offset, size_t length, uint16_t table,
                             uint8_t *out, size_t out_count);
@@ -149,16 +149,16 @@ uint32_t arrow2_quaternary_assign_table(uint8_t *bytes, size_t bytes_count, cons
  * Values with their validity: an item is null where its validity bit is not set. Of both sides `length` items are read.
  * `values` and `validity` get the result. Each is exactly (length + 7) / 8 bytes, and both are always written. A value
  * is the operator applied to the two values, also where the result is null. ARROW2_RANGE: bits of any of the four are
- * not inside. Else ARROW2_LENGTH: `values` or `validity` has another length. */
+ * not inside. Else ARROW2_LENGTH: `values` or `validity` has the wrong size. */
 
-/* Whether both are true: false where one of them is false, and null where that is not known. */
+/* AND: false where either is false, else null where either is null, else true. */
 uint32_t arrow2_and_kleene(const uint8_t *left, size_t left_count, size_t left_offset, const uint8_t *left_validity,
                            size_t left_validity_count, size_t left_validity_offset, const uint8_t *right,
                            size_t right_count, size_t right_offset, const uint8_t *right_validity,
                            size_t right_validity_count, size_t right_validity_offset, size_t length, uint8_t *values,
                            size_t values_count, uint8_t *validity, size_t validity_count);
 
-/* Whether one is true, or both: true where one of them is true, and null where that is not known. */
+/* OR: true where either is true, else null where either is null, else false. */
 uint32_t arrow2_or_kleene(const uint8_t *left, size_t left_count, size_t left_offset, const uint8_t *left_validity,
                           size_t left_validity_count, size_t left_validity_offset, const uint8_t *right,
                           size_t right_count, size_t right_offset, const uint8_t *right_validity,
@@ -219,7 +219,7 @@ uint32_t arrow2_set_indices(const uint8_t *bytes, size_t bytes_count, size_t off
 /* ---- Offsets of 32 and of 64 bits
  *
  * Offsets are at least one number, none negative and none below the one before it. Slot i spans from offset i to offset
- * i + 1. If the numbers are no offsets, each call on them but the `_unchecked` ones returns, before any other code,
+ * i + 1. If the numbers are not offsets, each call on them but the `_unchecked` ones returns, before any other code,
  * ARROW2_SPEC_EMPTY: there is no number; ARROW2_SPEC_NEGATIVE: the first is negative; ARROW2_SPEC_FALLING: the first is
  * not negative, and some number is below the one before it.
  *
@@ -290,7 +290,7 @@ uint32_t arrow2_bits_check(size_t bytes, size_t offset, size_t length);
 uint32_t arrow2_values_check(size_t bytes, size_t width, size_t offset, size_t length);
 
 /* Whether the numbers are offsets, and none is above `items`. ARROW2_SPEC_EMPTY, ARROW2_SPEC_NEGATIVE,
- * ARROW2_SPEC_FALLING: they are no offsets. ARROW2_PAST: the last one is above `items`.
+ * ARROW2_SPEC_FALLING: they are not offsets. ARROW2_PAST: the last one is above `items`.
  * `*index` is a position in `offsets`: with ARROW2_SPEC_FALLING that of the first number below the one before it, with
  * ARROW2_PAST that of the first number above `items`. */
 uint32_t arrow2_offsets32_check_inside(const int32_t *offsets, size_t offsets_count, size_t items, size_t *index);

@@ -4,12 +4,12 @@ use crate::Bits;
 use crate::refusal::{Refusal, RefusalAt, told, told_at};
 use crate::sys;
 
-/// Checks that the `length` bits are inside, and that the declared number of them is not set, if it is declared.
+/// Checks that the `length` bits are inside, and that `null_count` of them are 0; with -1 it checks no count.
 ///
 /// # Errors
 ///
 /// [`Refusal::Range`] exactly where they are not inside the bytes, else [`Refusal::Nulls`] exactly where `null_count`
-/// is neither -1 nor their number.
+/// is neither -1 nor the number of zeros.
 #[inline]
 pub fn check_validity(validity: Bits<'_>, length: usize, null_count: i64) -> Result<(), Refusal> {
     let Bits { bytes, offset } = validity;

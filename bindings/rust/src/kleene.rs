@@ -57,14 +57,13 @@ macro_rules! operator {
 }
 
 operator!(
-    /// Writes, item by item, whether both are true: false where one of them is false, and null where that is not known.
+    /// Writes AND, item by item: false where either is false, else null where either is null, else true.
     and_kleene,
     arrow2_and_kleene
 );
 
 operator!(
-    /// Writes, item by item, whether one is true, or both: true where one of them is true, and null where that is not
-    /// known.
+    /// Writes OR, item by item: true where either is true, else null where either is null, else false.
     or_kleene,
     arrow2_or_kleene
 );

@@ -1,10 +1,10 @@
 //! The memory layer under Apache Arrow arrays, over slices that are the caller's: bits, truth tables, offsets.
 //!
-//! The result of each call is proved of the library that it calls (`docs/BINDINGS.md`). This crate adds the guarantees
-//! of Rust's slices: no pointer is null, and a slice that is written overlaps none that is read.
+//! The library that it calls is proved (`docs/BINDINGS.md`); this crate is by hand. It adds the guarantees of Rust's
+//! slices: no pointer is null, and a slice that is written overlaps none that is read.
 //!
 //! Bit `i` of bytes is bit `i % 8` of byte `i / 8`, the lowest first. Lengths and offsets of bits are in bits, and may
-//! be any numbers. A call that refuses has written nothing. No call allocates, and none panics.
+//! be any numbers. A call that refuses writes nothing. Only `c_data` allocates; none panics.
 //!
 //! ```
 //! use arrow2_proved::{Bits, binary_table, count_zeros};

@@ -24,7 +24,7 @@ mod sealed {
 /// A number that an offset may be: `i32` or `i64`.
 ///
 /// Offsets are at least one number, none negative and none below the one before it. Slot `i` spans from offset `i` to
-/// offset `i + 1`. If the numbers are no offsets, each call on them returns, before any other error,
+/// offset `i + 1`. If the numbers are not offsets, each call on them returns, before any other error,
 /// [`Refusal::NoOffset`]: there is no number; [`Refusal::NegativeOffset`]: the first is negative;
 /// [`Refusal::FallingOffsets`]: the first is not negative, and some number is below the one before it.
 pub trait Offset: sealed::Sealed + Copy {

@@ -121,7 +121,7 @@ impl MutableBooleanArray {
     ///
     /// # Errors
     ///
-    /// `Overflow` exactly where the length is `usize::MAX`, else `OutOfMemory` alone. After both the array holds the
+    /// `Overflow` exactly where the length is `usize::MAX`, else `OutOfMemory` alone. After either the array holds the
     /// items that it held.
     pub fn push(&mut self, item: Option<bool>) -> Result<()>
         ensures { AppendsBooleans result self.old self.new (item ∷ []) }
@@ -136,7 +136,7 @@ impl MutableBooleanArray {
     ///
     /// # Errors
     ///
-    /// `Overflow` exactly where the length is `usize::MAX`, else `OutOfMemory` alone. After both the array holds the
+    /// `Overflow` exactly where the length is `usize::MAX`, else `OutOfMemory` alone. After either the array holds the
     /// items that it held.
     pub fn push_null(&mut self) -> Result<()>
         ensures { AppendsBooleans result self.old self.new (None ∷ []) }
@@ -148,8 +148,8 @@ impl MutableBooleanArray {
     ///
     /// # Errors
     ///
-    /// `Overflow` exactly where the new length would pass `usize::MAX`, else `OutOfMemory` alone. After both the array
-    /// holds the items that it held.
+    /// `Overflow` exactly where the new length would pass `usize::MAX`, else `OutOfMemory` alone. After either the
+    /// array holds the items that it held.
     pub fn extend_constant(&mut self, additional: usize, item: Option<bool>) -> Result<()>
         ensures { AppendsBooleans result self.old self.new (replicate additional item) }
     {
@@ -165,8 +165,8 @@ impl MutableBooleanArray {
     ///
     /// # Errors
     ///
-    /// `Overflow` exactly where the new length would pass `usize::MAX`, else `OutOfMemory` alone. After both the array
-    /// holds the items that it held.
+    /// `Overflow` exactly where the new length would pass `usize::MAX`, else `OutOfMemory` alone. After either the
+    /// array holds the items that it held.
     pub fn extend_from_array(
         &mut self,
         array: &BooleanArray,

@@ -190,7 +190,7 @@ impl MutableBitmap {
     /// # Errors
     ///
     /// `Overflow` exactly where the length is `usize::MAX`, else `OutOfMemory` alone.
-    /// After both the bitmap holds the items that it held.
+    /// After either the bitmap holds the items that it held.
     pub fn push(&mut self, value: bool) -> Result<()>
         ensures { Appends error_of result self.old self.new (value ∷ []) }
     {
@@ -204,7 +204,7 @@ impl MutableBitmap {
     /// # Errors
     ///
     /// `Overflow` exactly where the new length would pass `usize::MAX`, else `OutOfMemory` alone.
-    /// After both the bitmap holds the items that it held.
+    /// After either the bitmap holds the items that it held.
     pub fn extend_constant(&mut self, additional: usize, value: bool) -> Result<()>
         ensures { Appends error_of result self.old self.new (replicate additional value) }
     {
@@ -219,7 +219,7 @@ impl MutableBitmap {
     /// # Errors
     ///
     /// `Overflow` exactly where the new length would pass `usize::MAX`, else `OutOfMemory` alone.
-    /// After both the bitmap holds the items that it held.
+    /// After either the bitmap holds the items that it held.
     pub fn extend_from_slice(&mut self, slice: &[u8], offset: usize, length: usize) -> Result<()>
         requires inside { offset + length ≤ 8 * length' slice.now }
         ensures { Appends error_of result self.old self.new (part (bits slice.now) offset length) }
@@ -234,7 +234,7 @@ impl MutableBitmap {
     /// # Errors
     ///
     /// `Overflow` exactly where the new length would pass `usize::MAX`, else `OutOfMemory` alone.
-    /// After both the bitmap holds the items that it held.
+    /// After either the bitmap holds the items that it held.
     pub fn extend_from_bitmap(&mut self, bitmap: &Bitmap) -> Result<()>
         ensures { Appends error_of result self.old self.new (items_of bitmap.now) }
     {
@@ -248,7 +248,7 @@ impl MutableBitmap {
     /// # Errors
     ///
     /// `Overflow` exactly where the length and `additional` pass `usize::MAX` together, else `OutOfMemory` alone.
-    /// After both the bitmap holds the items that it held.
+    /// After either the bitmap holds the items that it held.
     pub fn reserve(&mut self, additional: usize) -> Result<()>
         // The items stay, and `additional` more fit.
         ensures items { self.new.items ≡ self.old.items }

@@ -43,8 +43,8 @@ pub trait Binary: Drop {
     ///
     /// # Errors
     ///
-    /// `Overflow` exactly if the last offset would pass `O::MAX` or the length is `usize::MAX`. Otherwise the only
-    /// error is `OutOfMemory`. After an error it holds the items that it held.
+    /// `Overflow` exactly if the last offset would pass the greatest one or the length is `usize::MAX`. Otherwise the
+    /// only error is `OutOfMemory`. After an error it holds the items that it held.
     fn push_item(grown: &mut Self::Growing, array: &Self, index: usize) -> Result<()>
         requires below { index < length (binary_items (parts array.now)) }
         ensures { AppendsItem GREATEST result (growing grown.old) (growing grown.new)

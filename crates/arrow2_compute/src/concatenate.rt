@@ -19,7 +19,7 @@ use arrow2_types::native::NativeType;
 ///
 /// # Errors
 ///
-/// `Overflow`, only if a `usize` cannot count the items, or `OutOfMemory`.
+/// `OutOfMemory`, or `Overflow` only if a `usize` cannot count the items.
 #[tactic(auto, using(crate::proofs::Filtered::joining))]
 pub fn concatenate<T: NativeType>(
     first: &PrimitiveArray<T>,
@@ -47,8 +47,8 @@ pub fn concatenate<T: NativeType>(
 ///
 /// # Errors
 ///
-/// `Overflow`, only if the slots of all arrays, those under nulls too, have more than `O::MAX` bytes in all, or a
-/// `usize` cannot count the items; or `OutOfMemory`. `Ok` only if neither is so.
+/// `OutOfMemory`, or `Overflow` only if the slots of all arrays, those under nulls too, have more bytes than the
+/// greatest offset, or a `usize` cannot count the items: then never `Ok`.
 #[tactic(auto, using(crate::proofs::Filtered::joining))]
 pub fn concatenate_binary<A: Binary>(first: &A, others: &[&A]) -> Result<A>
     ensures items { IfOk result (λ a.
@@ -76,7 +76,7 @@ pub fn concatenate_binary<A: Binary>(first: &A, others: &[&A]) -> Result<A>
 ///
 /// # Errors
 ///
-/// `Overflow`, only if a `usize` cannot count the items, or `OutOfMemory`.
+/// `OutOfMemory`, or `Overflow` only if a `usize` cannot count the items.
 #[tactic(auto, using(crate::proofs::Filtered::joining))]
 pub fn concatenate_boolean(first: &BooleanArray, others: &[&BooleanArray]) -> Result<BooleanArray>
     ensures items { IfOk result (λ a. boolean_items a

@@ -87,8 +87,7 @@ fn push_values<T: NativeType>(
     Ok(())
 }
 
-/// Returns which of the items at whose index the mask is true are not null, with a bitmap exactly if `validity` has
-/// one. Requires that both have one length.
+/// Returns which of the items at whose index the mask is true are not null. Requires that both have one length.
 fn selected_validity(validity: &Validity, mask: &Bitmap) -> Result<Validity>
     requires same_length { length (items_of mask.now) ≡ length (valid_items validity.now) }
     ensures items { IfOk result (λ v. valid_items v

@@ -73,8 +73,8 @@ fn either<T: NativeType>(is_left: bool, left: T, right: T) -> T
     if is_left { left } else { right }
 }
 
-/// Returns, index by index, whether the item of `lhs` is not null where the mask is true, and that of `rhs` elsewhere,
-/// with no bitmap exactly where neither has one. Requires that all three have one length.
+/// Returns, index by index, whether the item of `lhs` is not null where the mask is true, and that of `rhs` elsewhere.
+/// Requires that all three have one length.
 fn chosen_validity(mask: &Bitmap, lhs: &Validity, rhs: &Validity) -> Result<Validity>
     requires left { length (items_of mask.now) ≡ length (valid_items lhs.now) }
     requires right { length (items_of mask.now) ≡ length (valid_items rhs.now) }
@@ -121,8 +121,7 @@ fn chosen_bits(mask: &Bitmap, lhs: &Bitmap, rhs: &Bitmap) -> Result<Bitmap>
 ///
 /// # Errors
 ///
-/// `Overflow`, only if the chosen items have more than `O::MAX` bytes in all, or `OutOfMemory`. `Ok` only if they have
-/// at most as many.
+/// `OutOfMemory`, or `Overflow` only if the chosen items have more bytes than the greatest offset: then never `Ok`.
 #[tactic(auto, using(crate::proofs::Weighed::weighed))]
 pub fn if_then_else_binary<A: Binary>(mask: &Bitmap, lhs: &A, rhs: &A) -> Result<A>
     // The mask has an item for each slot of both arrays.

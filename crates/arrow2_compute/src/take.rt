@@ -62,8 +62,7 @@ fn values_at<T: NativeType>(
     Ok(taken)
 }
 
-/// Returns which of the items at these indices are not null, with a bitmap exactly if `validity` has one. Requires that
-/// each is below the length.
+/// Returns which of the items at these indices are not null. Requires that each index is below the length.
 fn validity_at(validity: &Validity, indices: &[usize]) -> Result<Validity>
     requires inside { All (λ index. index < length (valid_items validity.now)) indices.now }
     ensures items { IfOk result (λ v. valid_items v
@@ -179,8 +178,7 @@ fn item_at<T: NativeType, I: Index>(array: &PrimitiveArray<T>, index: Option<I>)
 ///
 /// # Errors
 ///
-/// `Overflow`, only if the items that are taken have more than `O::MAX` bytes in all, or `OutOfMemory`. `Ok` only if
-/// they have at most as many.
+/// `OutOfMemory`, or `Overflow` only if the items taken have more bytes than the greatest offset: then never `Ok`.
 #[tactic(auto, using(crate::proofs::Weighed::weighed))]
 pub fn take_binary<A: Binary>(array: &A, indices: &[usize]) -> Result<A>
     requires inside { All (λ index. index < length (binary_items (A.parts array.now))) indices.now }

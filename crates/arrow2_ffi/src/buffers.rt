@@ -11,7 +11,7 @@ use crate::ranges::{Bits, are_inside};
 /// the count is not checked.
 ///
 /// `ARROW2_RANGE` exactly where they are not inside the bytes, else `ARROW2_NULLS` exactly where `null_count` is
-/// neither -1 nor their number.
+/// neither -1 nor the number of zeros.
 #[unsafe(no_mangle)]
 pub extern "C" fn arrow2_validity_check(
     bytes: &[u8],

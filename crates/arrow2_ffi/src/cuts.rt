@@ -6,8 +6,8 @@ use crate::inside::{check_inside, check_texts};
 
 /// Returns whether the numbers are offsets of 32 bits, none of which is above `items`.
 ///
-/// The code of `arrow2_offsets32_check` where the numbers are no offsets, else `ARROW2_PAST` exactly where the last one
-/// is above `items`. `ARROW2_SPEC_FALLING` writes the index of the first number that is below the one before it,
+/// The code of `arrow2_offsets32_check` where the numbers are not offsets, else `ARROW2_PAST` exactly where the last
+/// one is above `items`. `ARROW2_SPEC_FALLING` writes the index of the first number that is below the one before it,
 /// `ARROW2_PAST` that of the first number above `items`.
 #[unsafe(no_mangle)]
 pub extern "C" fn arrow2_offsets32_check_inside(

@@ -19,7 +19,7 @@ struct Nullable<'a> {
     validity: Bits<'a>,
 }
 
-/// Writes, item by item, whether both are true: false where one of them is false, and null where that is not known.
+/// Writes AND, item by item: false where either is false, else null where either is null, else true.
 ///
 /// `ARROW2_RANGE` exactly where bits of any of the four are not inside, else `ARROW2_LENGTH` exactly where `values` or
 /// `validity` does not have exactly the bytes that hold the items.
@@ -53,8 +53,7 @@ pub extern "C" fn arrow2_and_kleene(
     write::<AND_VALUES, AND_KNOWN>(left, right, length, values, validity)
 }
 
-/// Writes, item by item, whether one is true, or both: true where one of them is true, and null where that is not
-/// known.
+/// Writes OR, item by item: true where either is true, else null where either is null, else false.
 ///
 /// `ARROW2_RANGE` exactly where bits of any of the four are not inside, else `ARROW2_LENGTH` exactly where `values` or
 /// `validity` does not have exactly the bytes that hold the items.

@@ -10,7 +10,7 @@ use arrow2_offset::widths::{write_narrow, write_wide};
 
 /// Writes the same numbers, in 64 bits each.
 ///
-/// The code of `arrow2_offsets32_check` where the numbers are no offsets, else `ARROW2_LENGTH` exactly where `out` has
+/// The code of `arrow2_offsets32_check` where the numbers are not offsets, else `ARROW2_LENGTH` exactly where `out` has
 /// more or fewer items than `offsets`.
 #[unsafe(no_mangle)]
 pub extern "C" fn arrow2_offsets_widen(offsets: &[i32], out: &mut [i64]) -> u32
@@ -29,7 +29,7 @@ pub extern "C" fn arrow2_offsets_widen(offsets: &[i32], out: &mut [i64]) -> u32
 
 /// Writes the same numbers, in 32 bits each.
 ///
-/// The code of `arrow2_offsets64_check` where the numbers are no offsets, else `ARROW2_LENGTH` exactly where `out` has
+/// The code of `arrow2_offsets64_check` where the numbers are not offsets, else `ARROW2_LENGTH` exactly where `out` has
 /// more or fewer items than `offsets`, else `ARROW2_OVERFLOW` exactly where the last number is above 2147483647.
 #[unsafe(no_mangle)]
 pub extern "C" fn arrow2_offsets_narrow(offsets: &[i64], out: &mut [i32]) -> u32

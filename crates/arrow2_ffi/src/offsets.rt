@@ -24,8 +24,8 @@ pub extern "C" fn arrow2_offsets32_check(offsets: &[i32]) -> u32
 
 /// Writes how far each offset of 32 bits is from the next one: one length for each slot.
 ///
-/// The code of `arrow2_offsets32_check` where the numbers are no offsets, else `ARROW2_LENGTH` exactly where the number
-/// of items of `out` is not that of `offsets` minus 1.
+/// The code of `arrow2_offsets32_check` where the numbers are not offsets, else `ARROW2_LENGTH` exactly where the
+/// number of items of `out` is not that of `offsets` minus 1.
 #[unsafe(no_mangle)]
 pub extern "C" fn arrow2_offsets32_lengths(offsets: &[i32], out: &mut [usize]) -> u32
     ensures { WritesLengths offsets.now (length out.old) result out.old out.new }
@@ -69,7 +69,7 @@ pub extern "C" fn arrow2_offsets32_from_lengths(
 /// Writes to each item `i` of `out` offset `from + i` minus offset `from`, of 32 bits. So the written offsets begin at
 /// 0, and each slot has the length that it had.
 ///
-/// The code of `arrow2_offsets32_check` where the numbers are no offsets, else `ARROW2_LENGTH` exactly where `out` has
+/// The code of `arrow2_offsets32_check` where the numbers are not offsets, else `ARROW2_LENGTH` exactly where `out` has
 /// no item, else `ARROW2_RANGE` exactly where `from` plus the number of items of `out` is above that of `offsets`.
 #[unsafe(no_mangle)]
 pub extern "C" fn arrow2_offsets32_rebase(offsets: &[i32], from: usize, out: &mut [i32]) -> u32
@@ -111,8 +111,8 @@ pub extern "C" fn arrow2_offsets64_check(offsets: &[i64]) -> u32
 
 /// Writes how far each offset of 64 bits is from the next one: one length for each slot.
 ///
-/// The code of `arrow2_offsets64_check` where the numbers are no offsets, else `ARROW2_LENGTH` exactly where the number
-/// of items of `out` is not that of `offsets` minus 1.
+/// The code of `arrow2_offsets64_check` where the numbers are not offsets, else `ARROW2_LENGTH` exactly where the
+/// number of items of `out` is not that of `offsets` minus 1.
 #[unsafe(no_mangle)]
 pub extern "C" fn arrow2_offsets64_lengths(offsets: &[i64], out: &mut [usize]) -> u32
     ensures { WritesLengths offsets.now (length out.old) result out.old out.new }
@@ -156,7 +156,7 @@ pub extern "C" fn arrow2_offsets64_from_lengths(
 /// Writes to each item `i` of `out` offset `from + i` minus offset `from`, of 64 bits. So the written offsets begin at
 /// 0, and each slot has the length that it had.
 ///
-/// The code of `arrow2_offsets64_check` where the numbers are no offsets, else `ARROW2_LENGTH` exactly where `out` has
+/// The code of `arrow2_offsets64_check` where the numbers are not offsets, else `ARROW2_LENGTH` exactly where `out` has
 /// no item, else `ARROW2_RANGE` exactly where `from` plus the number of items of `out` is above that of `offsets`.
 #[unsafe(no_mangle)]
 pub extern "C" fn arrow2_offsets64_rebase(offsets: &[i64], from: usize, out: &mut [i64]) -> u32

@@ -18,7 +18,7 @@ impl PackedBits {
     ///
     /// # Errors
     ///
-    /// `Overflow` exactly where there would be more items than `usize::MAX`, else `OutOfMemory` alone. After both the
+    /// `Overflow` exactly where there would be more items than `usize::MAX`, else `OutOfMemory` alone. After either the
     /// items are as before.
     pub fn extend_from_slice(
         &mut self,
@@ -41,7 +41,7 @@ impl PackedBits {
     ///
     /// # Errors
     ///
-    /// `Overflow` exactly where there would be more items than `usize::MAX`, else `OutOfMemory` alone. After both the
+    /// `Overflow` exactly where there would be more items than `usize::MAX`, else `OutOfMemory` alone. After either the
     /// items are as before.
     pub fn extend_constant(&mut self, additional: usize, value: bool) -> Result<(), Refusal>
         ensures { Appends (λ refusal. refusal) result self.old self.new

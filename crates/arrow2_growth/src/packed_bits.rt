@@ -179,7 +179,7 @@ impl PackedBits {
     ///
     /// # Errors
     ///
-    /// `Overflow` exactly where there are `usize::MAX` items, else `OutOfMemory` alone. After both the items are as
+    /// `Overflow` exactly where there are `usize::MAX` items, else `OutOfMemory` alone. After either the items are as
     /// before.
     pub fn push(&mut self, item: bool) -> Result<(), Refusal>
         ensures { Appends (λ refusal. refusal) result self.old self.new (item ∷ []) }

@@ -236,7 +236,7 @@ impl<O: Offset> Offsets<O> {
     /// # Errors
     ///
     /// `Overflow` only where the iterator may give lengths whose sum, added to the last offset, passes `O::MAX`, else
-    /// `OutOfMemory` alone. After both the offsets are as they were.
+    /// `OutOfMemory` alone. After either the offsets are as they were.
     pub fn try_extend_from_lengths<I: Iterator<Item = usize> + Drop>(
         &mut self,
         lengths: I,
@@ -256,7 +256,7 @@ impl<O: Offset> Offsets<O> {
     /// # Errors
     ///
     /// `Overflow` exactly where the last offset and the sum of the lengths pass `O::MAX`, else
-    /// `OutOfMemory` alone. After both the offsets are as they were.
+    /// `OutOfMemory` alone. After either the offsets are as they were.
     pub fn try_extend_from_self(&mut self, other: &Self) -> Result<()>
         ensures { GrowsUpTo O.MAX error_of result self.old self.new other.now.lengths }
     {
@@ -272,7 +272,7 @@ impl<O: Offset> Offsets<O> {
     /// # Errors
     ///
     /// `Overflow` exactly where the last offset and the sum of these lengths pass `O::MAX`, else
-    /// `OutOfMemory` alone. After both the offsets are as they were.
+    /// `OutOfMemory` alone. After either the offsets are as they were.
     pub fn try_extend_from_slice(
         &mut self,
         other: &OffsetsBuffer<O>,
@@ -298,7 +298,7 @@ impl<O: Offset> Offsets<O> {
     /// # Errors
     ///
     /// `Overflow` exactly where the number of offsets would pass `usize::MAX`, else `OutOfMemory`
-    /// alone. After both the offsets are as they were. arrow2 wraps there, and shrinks.
+    /// alone. After either the offsets are as they were. arrow2 wraps there, and shrinks.
     pub fn extend_constant(&mut self, additional: usize) -> Result<()>
         // The number of offsets may reach the greatest `usize`.
         ensures { Grows error_of (slots self.old + 1 + additional) (2 ^ 64 - 1) result

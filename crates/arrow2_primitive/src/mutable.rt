@@ -250,7 +250,7 @@ impl<T: NativeType> MutablePrimitiveArray<T> {
     ///
     /// # Errors
     ///
-    /// `Overflow` exactly where the length is `usize::MAX`, else `OutOfMemory` alone. After both the array holds the
+    /// `Overflow` exactly where the length is `usize::MAX`, else `OutOfMemory` alone. After either the array holds the
     /// items that it held.
     pub fn push(&mut self, item: Option<T>) -> Result<()>
         ensures { AppendsItems result self.old self.new (item ∷ []) }
@@ -267,7 +267,7 @@ impl<T: NativeType> MutablePrimitiveArray<T> {
     ///
     /// # Errors
     ///
-    /// `Overflow` exactly where the length is `usize::MAX`, else `OutOfMemory` alone. After both the array holds the
+    /// `Overflow` exactly where the length is `usize::MAX`, else `OutOfMemory` alone. After either the array holds the
     /// items that it held.
     pub fn push_null(&mut self) -> Result<()>
         ensures { AppendsItems result self.old self.new (None ∷ []) }
@@ -279,8 +279,8 @@ impl<T: NativeType> MutablePrimitiveArray<T> {
     ///
     /// # Errors
     ///
-    /// `Overflow` exactly where the new length would pass `usize::MAX`, else `OutOfMemory` alone. After both the array
-    /// holds the items that it held.
+    /// `Overflow` exactly where the new length would pass `usize::MAX`, else `OutOfMemory` alone. After either the
+    /// array holds the items that it held.
     pub fn extend_from_slice(&mut self, values: &[T]) -> Result<()>
         ensures { AppendsItems result self.old self.new (map (λ x. Some x) values.now) }
     {
@@ -294,8 +294,8 @@ impl<T: NativeType> MutablePrimitiveArray<T> {
     ///
     /// # Errors
     ///
-    /// `Overflow` exactly where the new length would pass `usize::MAX`, else `OutOfMemory` alone. After both the array
-    /// holds the items that it held.
+    /// `Overflow` exactly where the new length would pass `usize::MAX`, else `OutOfMemory` alone. After either the
+    /// array holds the items that it held.
     pub fn extend_from_options(&mut self, items: &[Option<T>]) -> Result<()>
         ensures { AppendsItems result self.old self.new items.now }
     {
@@ -311,8 +311,8 @@ impl<T: NativeType> MutablePrimitiveArray<T> {
     ///
     /// # Errors
     ///
-    /// `Overflow` exactly where the new length would pass `usize::MAX`, else `OutOfMemory` alone. After both the array
-    /// holds the items that it held.
+    /// `Overflow` exactly where the new length would pass `usize::MAX`, else `OutOfMemory` alone. After either the
+    /// array holds the items that it held.
     pub fn extend_constant(&mut self, additional: usize, item: Option<T>) -> Result<()>
         ensures { AppendsItems result self.old self.new (replicate additional item) }
     {
@@ -329,8 +329,8 @@ impl<T: NativeType> MutablePrimitiveArray<T> {
     ///
     /// # Errors
     ///
-    /// `Overflow` exactly where the new length would pass `usize::MAX`, else `OutOfMemory` alone. After both the array
-    /// holds the items that it held.
+    /// `Overflow` exactly where the new length would pass `usize::MAX`, else `OutOfMemory` alone. After either the
+    /// array holds the items that it held.
     pub fn extend_from_array(
         &mut self,
         array: &PrimitiveArray<T>,

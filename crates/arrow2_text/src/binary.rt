@@ -358,8 +358,8 @@ impl<O: Offset> BinaryArray<O> {
     }
 }
 
-/// Shares the logical type, the offsets, the bytes and the validity. Does not allocate: it returns `AllocError` only if
-/// the count of an `Rc` would overflow.
+/// Shares the logical type, the offsets, the bytes and the validity. Does not allocate: in the code it fails only if
+/// the count of an `Rc` would overflow. No clause states that.
 impl<O: Offset> Clone for BinaryArray<O> {
     ghost is_clone = { λ a copy. copy ≡ a };
 

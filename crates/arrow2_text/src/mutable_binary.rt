@@ -223,7 +223,7 @@ impl<O: Offset> MutableBinaryArray<O> {
     /// # Errors
     ///
     /// `Overflow` exactly where the last offset would pass `O::MAX`, or the length is `usize::MAX`; else `OutOfMemory`
-    /// alone. After both the array holds the items that it held.
+    /// alone. After either the array holds the items that it held.
     pub fn push(&mut self, item: Option<&[u8]>) -> Result<()>
         ensures { AppendsBinary O.MAX result self.old self.new (option_copied item.entry ∷ [])
             (option_map_or length (option_copied item.entry) 0) }
@@ -238,7 +238,7 @@ impl<O: Offset> MutableBinaryArray<O> {
     ///
     /// # Errors
     ///
-    /// `Overflow` exactly where the length is `usize::MAX`, else `OutOfMemory` alone. After both the array holds the
+    /// `Overflow` exactly where the length is `usize::MAX`, else `OutOfMemory` alone. After either the array holds the
     /// items that it held.
     pub fn push_null(&mut self) -> Result<()>
         ensures { AppendsBinary O.MAX result self.old self.new (None ∷ []) 0 }
@@ -254,7 +254,7 @@ impl<O: Offset> MutableBinaryArray<O> {
     /// # Errors
     ///
     /// `Overflow` exactly where the last offset would pass `O::MAX`, or the new length `usize::MAX`; else `OutOfMemory`
-    /// alone. After both the array holds the items that it held.
+    /// alone. After either the array holds the items that it held.
     pub fn extend_from_array(
         &mut self,
         array: &BinaryArray<O>,

@@ -229,7 +229,7 @@ impl<O: Offset> MutableUtf8Array<O> {
     /// # Errors
     ///
     /// `Overflow` exactly where the last offset would pass `O::MAX`, or the length is `usize::MAX`; else `OutOfMemory`
-    /// alone. After both the array holds the items that it held.
+    /// alone. After either the array holds the items that it held.
     pub fn push(&mut self, item: Option<&str>) -> Result<()>
         ensures { AppendsBinary O.MAX result self.old self.new (option_copied item.entry ∷ [])
             (option_map_or length (option_copied item.entry) 0) }
@@ -244,7 +244,7 @@ impl<O: Offset> MutableUtf8Array<O> {
     ///
     /// # Errors
     ///
-    /// `Overflow` exactly where the length is `usize::MAX`, else `OutOfMemory` alone. After both the array holds the
+    /// `Overflow` exactly where the length is `usize::MAX`, else `OutOfMemory` alone. After either the array holds the
     /// items that it held.
     pub fn push_null(&mut self) -> Result<()>
         ensures { AppendsBinary O.MAX result self.old self.new (None ∷ []) 0 }
@@ -267,7 +267,7 @@ impl<O: Offset> MutableUtf8Array<O> {
     /// # Errors
     ///
     /// `Overflow` exactly where the last offset would pass `O::MAX`, or the new length `usize::MAX`; else `OutOfMemory`
-    /// alone. After both the array holds the items that it held.
+    /// alone. After either the array holds the items that it held.
     pub fn extend_from_array(
         &mut self,
         array: &Utf8Array<O>,

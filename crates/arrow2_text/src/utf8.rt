@@ -401,8 +401,8 @@ impl<O: Offset> Utf8Array<O> {
     }
 }
 
-/// Shares the logical type, the offsets, the bytes and the validity. Does not allocate: it returns `AllocError` only if
-/// the count of an `Rc` would overflow.
+/// Shares the logical type, the offsets, the bytes and the validity. Does not allocate: in the code it fails only if
+/// the count of an `Rc` would overflow. No clause states that.
 impl<O: Offset> Clone for Utf8Array<O> {
     ghost is_clone = { λ a copy. copy ≡ a };
 

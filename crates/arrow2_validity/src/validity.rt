@@ -173,8 +173,8 @@ impl Validity {
     ///
     /// # Errors
     ///
-    /// `Overflow` exactly where the new length would pass `usize::MAX`, else `OutOfMemory` alone. After both the bitmap
-    /// holds the items that it held.
+    /// `Overflow` exactly where the new length would pass `usize::MAX`, else `OutOfMemory` alone. After either the
+    /// bitmap holds the items that it held.
     pub fn append_to(&self, start: usize, len: usize, grown: &mut MutableBitmap) -> Result<()>
         requires inside { start + len ≤ length (valid_items self.now) }
         ensures { Appends error_of result grown.old grown.new (part (valid_items self.now) start len) }

@@ -57,9 +57,9 @@ pub struct Layout<'a> {
     pub index: Option<u8>,
     /// The types of a union, as in the format.
     pub types: &'a [u8],
-    /// Returns the number of buffers.
+    /// The number of buffers.
     pub buffers: usize,
-    /// Returns the number of children, `None` for any number.
+    /// The number of children, `None` for any number.
     pub children: Option<usize>,
 }
 
