@@ -1,5 +1,6 @@
-//! Arrays of numbers and of texts, and the kernels over them.
+//! The items of the crate at their paths, arrays of numbers and of texts, and the kernels over them.
 mod checks;
+mod facade;
 mod kernels;
 mod numbers;
 mod texts;

@@ -3,6 +3,4 @@
 #![tactic(auto)]
 
 #[cfg(test)]
-mod examples;
-#[cfg(test)]
 mod tests;

@@ -9,7 +9,6 @@ mod chunks_mut;
 mod composite;
 mod counted;
 mod datatypes;
-mod facade;
 mod growing;
 mod hinting;
 mod index;

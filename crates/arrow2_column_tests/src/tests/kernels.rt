@@ -74,9 +74,16 @@ fn last_items(
 ) -> PrimitiveArray<i64>
     ensures { length (primitive_items result) ≡ len }
 {
-    assert!(rt; skipped <= array.len() && array.len() - skipped == len);
-    let array = array.sliced(skipped / 2, len + (skipped - skipped / 2));
-    array.sliced(skipped - skipped / 2, len)
+    let array = without_first(rt, without_first(rt, array, 1), skipped.saturating_sub(1));
+    assert_that(rt, array.len() == len);
+    array
+}
+
+/// Returns the items after the first `count`, which must be there.
+fn without_first(rt: &impl Abort, array: PrimitiveArray<i64>, count: usize) -> PrimitiveArray<i64> {
+    let len = array.len();
+    assert_that(rt, count <= len);
+    array.sliced(count, len - count)
 }
 
 /// Returns the results of a test on the items of two lists, index by index.
@@ -368,14 +375,19 @@ fn texts(rt: &impl Abort, alloc: Global, items: &[Option<&str>]) -> Utf8Array<i3
 }
 
 /// Returns the `len` texts after two others, which must be all: a slice of a slice.
-fn last_texts(rt: &impl Abort, mut array: Utf8Array<i32>, len: usize) -> Utf8Array<i32>
+fn last_texts(rt: &impl Abort, array: Utf8Array<i32>, len: usize) -> Utf8Array<i32>
     ensures { length (binary_items result) ≡ len }
 {
-    assert!(rt; 2 <= array.len() && array.len() - 2 == len);
-    array.slice(1, len + 1);
-    assert!(rt; 1 <= array.len() && array.len() - 1 == len);
-    array.slice(1, len);
+    let array = without_first_text(rt, without_first_text(rt, array));
+    assert_that(rt, array.len() == len);
     array
+}
+
+/// Returns the texts after the first, which must be there.
+fn without_first_text(rt: &impl Abort, array: Utf8Array<i32>) -> Utf8Array<i32> {
+    let len = array.len();
+    assert_that(rt, 1 <= len);
+    array.sliced(1, len - 1)
 }
 
 /// Checks that an array was made, of these texts.
@@ -469,13 +481,19 @@ fn booleans(rt: &impl Abort, alloc: Global, items: &[Option<bool>]) -> BooleanAr
 }
 
 /// Returns the `len` booleans after seven others, which must be all: a slice of a slice.
-fn last_booleans(rt: &impl Abort, mut array: BooleanArray, len: usize) -> BooleanArray
+fn last_booleans(rt: &impl Abort, array: BooleanArray, len: usize) -> BooleanArray
     ensures { length (boolean_items result) ≡ len }
 {
-    assert!(rt; 7 <= array.len() && array.len() - 7 == len);
-    array.slice(5, len + 2);
-    array.slice(2, len);
+    let array = without_first_booleans(rt, without_first_booleans(rt, array, 5), 2);
+    assert_that(rt, array.len() == len);
     array
+}
+
+/// Returns the booleans after the first `count`, which must be there.
+fn without_first_booleans(rt: &impl Abort, array: BooleanArray, count: usize) -> BooleanArray {
+    let len = array.len();
+    assert_that(rt, count <= len);
+    array.sliced(count, len - count)
 }
 
 /// Checks the kernels of booleans on two lists of one length.

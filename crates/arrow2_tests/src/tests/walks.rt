@@ -2,9 +2,9 @@
 ghost use Rattle.std.specs.Prelude.{◌≡◌, length};
 
 use super::checks::{assert_that, bitmap_from, gives, has, ok, shows};
-use arrow2::bitmap::Bitmap;
-use arrow2::bitmap::utils::{BitmapIter, SlicesIterator, ZipValidity, ZipValidityIter};
-use arrow2::laws;
+use arrow2_bitmap::Bitmap;
+use arrow2_bits::iterator::BitmapIter;
+use arrow2_walks::{SlicesIterator, ZipValidity, ZipValidityIter, laws};
 use std::alloc::Global;
 use std::iter::Copied;
 use std::process::Abort;
@@ -120,6 +120,6 @@ fn a_zip_is_iterated_from_both_ends(rt: HostRuntime) {
         &[both.next(), both.next()],
         &[Some(Some(1)), Some(None)],
     );
-    laws::walks::a_zip_walks_over_its_slots::<Values, BitmapIter, u32>();
-    laws::walks::a_zip_with_or_without_validity_walks_over_its_slots::<Values, BitmapIter, u32>();
+    laws::a_zip_walks_over_its_slots::<Values, BitmapIter, u32>();
+    laws::a_zip_with_or_without_validity_walks_over_its_slots::<Values, BitmapIter, u32>();
 }

@@ -1,5 +1,5 @@
 //! Each item of the one crate that users name, at its path: this file compiles.
-use super::checks::{has, prints};
+use super::checks::{assert_text, assert_that};
 pub use arrow2::array::{BooleanArray, BooleanIter, MutableBooleanArray};
 pub use arrow2::bitmap::utils::{
     BitChunkIterExact, BitChunks, BitChunksExact, BitChunksExactMut, BitmapIter, Reads,
@@ -44,10 +44,10 @@ fn each_item_has_its_path(rt: HostRuntime) {
         utils::get_bit_from(&bytes, 1, 1),
         utils::is_set(utils::set(0, 3, true), 3),
     ];
-    has(&rt, &bits, &[true; 3]);
+    assert_that(&rt, bits == [true; 3]);
     let counts = [utils::bytes_for(9), utils::count_zeros(&bytes, 0, 8)];
-    has(&rt, &counts, &[2, 5]);
-    prints(&rt, rt.alloc(), &Bits, "[0b_____101]");
+    assert_that(&rt, counts == [2, 5]);
+    assert_text(&rt, Bits.to_string(rt.alloc()), "[0b_____101]");
     laws::lists::part_of_a_part();
     laws::buffers::written_items_are_the_items::<u8>();
     laws::offsets::offset_is_a_sum();
