@@ -3,4 +3,4 @@ pub use Rattle.arrow2_growth.specs.Growth.{Appends}
 pub use Rattle.arrow2_offset.specs.Growth.{Grows, GrowsUpTo, GrowsByRun}
 pub use Rattle.arrow2_primitive.specs.Growth.{AppendsItems}
 pub use Rattle.arrow2_array.specs.Growth.{AppendsBooleans}
-pub use Rattle.arrow2_text.specs.Growth.{AppendsBinary, AppendsSlots, PopsBinary, items_by_bytes, bytes_of_items}
+pub use Rattle.arrow2_text.specs.Growth.{AppendsBinary, AppendsSlots, GrowingBinary, PopsBinary, items_by_bytes, bytes_of_items}

@@ -2,6 +2,7 @@ pub mod Bits
 pub mod Collected
 pub mod Errors
 pub mod Growth
+pub mod Printed
 pub mod Refused
 pub use Rattle.arrow2_model.specs.Buffers
 pub use Rattle.arrow2_model.specs.Canonical
