@@ -3,8 +3,9 @@
 //! A new line is a call of crate `arrow2_bench`, in the export of its shape of inputs, its twin in `original` under
 //! the same names, and an entry here, in the list of the crate whose call it measures. A new crate has a list of its
 //! own, which [`all`] names.
+use crate::c_library;
 use crate::inputs::{again, near_parts, parts, Inputs, Part, LONG, MANY, NUMBERS};
-use crate::{exports, original, ours};
+use crate::layer::{original, ours};
 use std::rc::Rc;
 
 /// The number of runs that a call makes.
@@ -114,7 +115,7 @@ pub fn all(inputs: &Inputs) -> impl Iterator<Item = (&'static str, Line<'_>)> {
         ("arrow2_compute", computed(inputs)),
         ("arrow2_offset", offsets(inputs)),
         ("arrow2_offset", shared_offsets(inputs)),
-        ("arrow2_ffi", exports::lines(inputs)),
+        ("arrow2_ffi", c_library::lines(inputs)),
     ];
     crates.into_iter().flat_map(|(name, lines)| lines.into_iter().map(move |line| (name, line)))
 }
@@ -153,10 +154,10 @@ fn bits(inputs: &Inputs) -> Vec<Line<'_>> {
 }
 
 fn single_bits(inputs: &Inputs) -> Vec<Line<'_>> {
-    let Inputs { bytes, items, trues, places, .. } = inputs;
+    let Inputs { bytes, items, trues, positions, .. } = inputs;
     let some = (MANY, "bits");
     let iter = |name, offset| line!(name, some, bits("iter", bytes), again(offset, MANY, 1));
-    let set = |name, items| line!(name, some, set_bit(bytes, items), places.clone());
+    let set = |name, items| line!(name, some, set_bit(bytes, items), positions.clone());
     vec![
         iter("BitmapIter, added up", 0),
         iter("BitmapIter, added up, from bit 3", 3),
@@ -191,7 +192,7 @@ static FIRST_1_000: [Part; 1] = part(0, 1_000);
 static FIRST_8_192: [Part; 1] = part(0, 8_192);
 
 fn bitmaps(inputs: &Inputs) -> Vec<Line<'_>> {
-    let Inputs { bytes, places, .. } = inputs;
+    let Inputs { bytes, positions, .. } = inputs;
     let slices = |name, least, most, count| {
         line!(name, (count, "slices"), bits("sliced", bytes), parts(LONG, least, most, count))
     };
@@ -207,7 +208,7 @@ fn bitmaps(inputs: &Inputs) -> Vec<Line<'_>> {
         slices("sliced to any length", 0, LONG, 1_000),
         slices("sliced to 2,000 bits at most", 0, 2_000, 100_000),
         slices("sliced to all but 4,000 bits at most", LONG - 4_000, LONG, 5_000),
-        line!("get, at random", (MANY, "items"), bytes("get", bytes), places.clone()),
+        line!("get, at random", (MANY, "items"), bytes("get", bytes), positions.clone()),
     ]
 }
 
@@ -253,7 +254,7 @@ fn walks(inputs: &Inputs) -> Vec<Line<'_>> {
         some("iter, added up, from bit 3", "iter", &SOME_FROM_3),
         on("iter of 64 bits", CALLS, "iter", &FIRST_64, few(0)),
         on("iter of 1,000 bits", CALLS, "iter", &FIRST_1_000, few(0)),
-        some("iter, places of trues", "iter_places", &SOME_FROM_0),
+        some("iter, indices of set bits", "iter_places", &SOME_FROM_0),
         some("iter from the back", "iter_back", &SOME_FROM_3),
         line!(
             "iter, each eighth by nth",
@@ -494,7 +495,7 @@ fn offsets(inputs: &Inputs) -> Vec<Line<'_>> {
         lengths("try_from_lengths of 1,000 lengths", 1_000, 3_000),
         lengths("try_from_lengths of 10,000 lengths", 10_000, 300),
         lengths("try_from_lengths of 100,000 lengths", 100_000, 30),
-        all_of("try_extend_from_lengths, with room", "extend_from_lengths"),
+        all_of("try_extend_from_lengths, with capacity", "extend_from_lengths"),
         push("try_push", all, vec![NUMBERS; 8]),
         push("try_push of 64 lengths", CALLS, few(64)),
         line!("a vector, checked", all, longs("try_from", offsets), vec![NUMBERS; 8]),
@@ -503,7 +504,7 @@ fn offsets(inputs: &Inputs) -> Vec<Line<'_>> {
 
 /// Calls on buffers of offsets.
 fn shared_offsets(inputs: &Inputs) -> Vec<Line<'_>> {
-    let Inputs { offsets, offsets_of_32, places, .. } = inputs;
+    let Inputs { offsets, offsets_of_32, positions, .. } = inputs;
     let all = (8 * NUMBERS, "offsets");
     let on = |name, elements, call, parts| line!(name, elements, offset(call, offsets), parts);
     let whole = || again(0, NUMBERS + 1, 8);
@@ -512,9 +513,9 @@ fn shared_offsets(inputs: &Inputs) -> Vec<Line<'_>> {
         on("lengths, added up", all, "lengths", whole()),
         line!(
             "start_end, at random",
-            (places.len(), "slots"),
+            (positions.len(), "slots"),
             longs("start_end", offsets),
-            places.clone()
+            positions.clone()
         ),
         on("clone and sliced", (100_000, "slices"), "sliced", parts(NUMBERS, 1, NUMBERS, 100_000)),
         line!("widened to 64 bits", all, widen(offsets_of_32), vec![0; 8]),

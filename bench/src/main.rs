@@ -5,13 +5,12 @@
 //!     arrow2_speed program OURS ORIGINAL FOLDER       the row of the replay programs
 //!     arrow2_speed print ROWS..               rows of several runs, merged, as text
 //!     arrow2_speed write FACTS DOCS ROWS..    the same as a page and a picture
-mod exports;
+mod c_library;
 mod inputs;
+mod layer;
 mod lines;
 mod measure;
 mod notes;
-mod original;
-mod ours;
 mod picture;
 mod programs;
 mod report;

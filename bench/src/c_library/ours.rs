@@ -4,12 +4,12 @@
 //! takes. The output is read once, after the runs.
 use super::inputs::{digest, digest_of_bytes, FourBits, Slots, CHOICE, KNOWN};
 use arrow2_proved::{
-    bytes_for, Bits, CheckedOffsets, Nullable, Offset, OptionalNullable, Refusal, NOT, XOR,
+    bytes_for, Bits, CheckedOffsets, Error, Nullable, Offset, OptionalNullable, NOT, XOR,
 };
 use std::hint::black_box;
 
 /// The results of a call for each run, added up.
-fn added(runs: &[usize], call: impl Fn(usize) -> Result<usize, Refusal>) -> usize {
+fn added(runs: &[usize], call: impl Fn(usize) -> Result<usize, Error>) -> usize {
     let mut sum = 0usize;
     for run in runs {
         sum = sum.wrapping_add(call(*run).unwrap_or(0));
@@ -21,7 +21,7 @@ fn added(runs: &[usize], call: impl Fn(usize) -> Result<usize, Refusal>) -> usiz
 fn written(
     length: usize,
     runs: &[usize],
-    call: impl Fn(usize, &mut [u8]) -> Result<(), Refusal>,
+    call: impl Fn(usize, &mut [u8]) -> Result<(), Error>,
 ) -> usize {
     changed(vec![0; bytes_for(length)], runs, call)
 }
@@ -30,7 +30,7 @@ fn written(
 fn changed(
     mut bytes: Vec<u8>,
     runs: &[usize],
-    call: impl Fn(usize, &mut [u8]) -> Result<(), Refusal>,
+    call: impl Fn(usize, &mut [u8]) -> Result<(), Error>,
 ) -> usize {
     let mut refused = 0;
     for run in runs {
@@ -49,19 +49,21 @@ pub fn equal_bits(on: &FourBits, runs: &[usize]) -> usize {
     added(runs, |length| arrow2_proved::equal_bits(left, right, length).map(usize::from))
 }
 
-pub fn get_bit(on: &FourBits, places: &[usize]) -> usize {
+pub fn get_bit(on: &FourBits, positions: &[usize]) -> usize {
     let [Bits { bytes, .. }, ..] = on.inputs;
-    added(places, |place| arrow2_proved::get_bit(bytes, place).map(usize::from))
+    added(positions, |position| arrow2_proved::get_bit(bytes, position).map(usize::from))
 }
 
-pub fn get_bit_inline(on: &FourBits, places: &[usize]) -> usize {
+pub fn get_bit_inline(on: &FourBits, positions: &[usize]) -> usize {
     let [Bits { bytes, .. }, ..] = on.inputs;
-    added(places, |place| arrow2_proved::get_bit_inline(black_box(bytes), place).map(usize::from))
+    added(positions, |position| {
+        arrow2_proved::get_bit_inline(black_box(bytes), position).map(usize::from)
+    })
 }
 
-pub fn set_bit(on: &FourBits, places: &[usize]) -> usize {
-    changed(on.inputs[0].bytes.to_vec(), places, |place, bytes| {
-        arrow2_proved::set_bit(bytes, place, place % 3 == 0)
+pub fn set_bit(on: &FourBits, positions: &[usize]) -> usize {
+    changed(on.inputs[0].bytes.to_vec(), positions, |position, bytes| {
+        arrow2_proved::set_bit(bytes, position, position % 3 == 0)
     })
 }
 
@@ -142,7 +144,7 @@ fn arrays<'a>(on: &'a FourBits) -> [Nullable<'a>; 2] {
 fn both_written(
     length: usize,
     runs: &[usize],
-    call: impl Fn(usize, &mut [u8], &mut [u8]) -> Result<(), Refusal>,
+    call: impl Fn(usize, &mut [u8], &mut [u8]) -> Result<(), Error>,
 ) -> usize {
     let mut validity = vec![0; bytes_for(length)];
     let mut values = vec![0; bytes_for(length)];
@@ -180,8 +182,8 @@ pub fn and_kleene_optional(on: &FourBits, runs: &[usize]) -> usize {
 
 pub fn runs(on: &FourBits, runs: &[usize]) -> usize {
     let [input, ..] = on.inputs;
-    let room = on.length / 2 + 1;
-    let (mut starts, mut lengths) = (vec![0; room], vec![0; room]);
+    let capacity = on.length / 2 + 1;
+    let (mut starts, mut lengths) = (vec![0; capacity], vec![0; capacity]);
     let mut count = 0usize;
     for run in runs {
         let (starts, lengths) = (black_box(&mut starts), black_box(&mut lengths));
@@ -193,13 +195,13 @@ pub fn runs(on: &FourBits, runs: &[usize]) -> usize {
 
 pub fn set_indices(on: &FourBits, runs: &[usize]) -> usize {
     let [input, ..] = on.inputs;
-    let mut places = vec![0; on.length];
+    let mut positions = vec![0; on.length];
     let mut count = 0usize;
     for run in runs {
-        let written = arrow2_proved::set_indices(input, *run, &mut 0, black_box(&mut places));
+        let written = arrow2_proved::set_indices(input, *run, &mut 0, black_box(&mut positions));
         count = count.wrapping_add(written.unwrap_or(0));
     }
-    digest(places).wrapping_add(count)
+    digest(positions).wrapping_add(count)
 }
 
 pub fn pack(items: &[bool], runs: &[usize]) -> usize {
@@ -221,7 +223,7 @@ pub fn unpack(on: &FourBits, runs: &[usize]) -> usize {
 fn numbers_written<T: Copy + Default + Into<i64>>(
     length: usize,
     runs: &[usize],
-    call: impl Fn(usize, &mut [T]) -> Result<(), Refusal>,
+    call: impl Fn(usize, &mut [T]) -> Result<(), Error>,
 ) -> usize {
     let mut out = vec![T::default(); length];
     let mut refused = 0;

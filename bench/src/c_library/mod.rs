@@ -83,9 +83,9 @@ fn four_bits(inputs: &Inputs) -> [(&'static str, Rc<FourBits<'_>>); 4] {
 
 fn single_bits(inputs: &Inputs) -> Vec<Line<'_>> {
     let on = Rc::new(FourBits::new(inputs, AT_0, MUCH));
-    let places = &inputs.places[..MUCH];
+    let positions = &inputs.positions[..MUCH];
     let calls: [Call<FourBits>; 3] = calls![get_bit, get_bit_inline, set_bit];
-    let line = |call| line(call, ", at random", &on, (1, "items"), places.to_vec());
+    let line = |call| line(call, ", at random", &on, (1, "items"), positions.to_vec());
     calls.into_iter().map(line).collect()
 }
 
