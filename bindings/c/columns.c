@@ -48,9 +48,9 @@ static uint32_t and_of_columns(const struct ArrowArray *batch, uint8_t *values, 
 }
 
 /* Checks texts in a file's buffers. */
-static void check_texts(const int32_t *offsets, size_t slots, const uint8_t *bytes, size_t bytes_count) {
+static void check_texts(const int32_t *offsets, size_t slots, const uint8_t *bytes, size_t bytes_len) {
     size_t index = 0;
-    uint32_t code = arrow2_texts32_check(offsets, slots + 1, bytes, bytes_count, &index);
+    uint32_t code = arrow2_texts32_check(offsets, slots + 1, bytes, bytes_len, &index);
     if (code == ARROW2_UTF8)
         printf("slot %zu is not UTF-8\n", index);
     else if (code == ARROW2_SPEC_FALLING || code == ARROW2_PAST)

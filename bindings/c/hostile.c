@@ -342,9 +342,9 @@ static void right_dictionaries(void) {
 
 /* ---- Hostile arrays */
 
-static struct tree *list_of(const int32_t *offsets, int64_t length, int64_t items_count) {
+static struct tree *list_of(const int32_t *offsets, int64_t length, int64_t items_len) {
     struct tree *made = add(add(tree("+l", length, 0, 0), NULL, 0), offsets, 4 * (size_t)(length + 1));
-    return adopt(made, items(items_count));
+    return adopt(made, items(items_len));
 }
 
 static void hostile_offsets(void) {
@@ -568,7 +568,7 @@ static void hostile_roots(void) {
     report("texts of codes", "",
            strcmp(arrow2_code_text(ARROW2_INDEX), "an index is outside its dictionary") == 0 &&
                strcmp(arrow2_code_text(ARROW2_C_NULL), "a pointer is null") == 0 &&
-               strcmp(arrow2_code_text(ARROW2_C_SIZES), "another number of sizes") == 0 &&
+               strcmp(arrow2_code_text(ARROW2_C_SIZES), "the number of sizes is not the number of buffers") == 0 &&
                strcmp(arrow2_code_text(12), arrow2_code_text(45)) == 0,
            0, &where);
     report("no place", "", check(NULL, &some->array, NULL, 0, NULL) == ARROW2_C_NULL, 0, &where);

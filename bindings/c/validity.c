@@ -13,15 +13,15 @@ static void expect_ok(uint32_t code, const char *call) {
 }
 
 /* Prints `length` bits from bit `offset` on, and the number that are not set. */
-static void print_bits(const char *name, const uint8_t *bytes, size_t bytes_count, size_t offset, size_t length) {
+static void print_bits(const char *name, const uint8_t *bytes, size_t bytes_len, size_t offset, size_t length) {
     size_t zeros = 0;
     printf("%s: ", name);
     for (size_t i = 0; i < length; i++) {
         bool bit = false;
-        expect_ok(arrow2_get_bit(bytes, bytes_count, offset + i, &bit), "arrow2_get_bit");
+        expect_ok(arrow2_get_bit(bytes, bytes_len, offset + i, &bit), "arrow2_get_bit");
         putchar(bit ? '1' : '0');
     }
-    expect_ok(arrow2_count_zeros(bytes, bytes_count, offset, length, &zeros), "arrow2_count_zeros");
+    expect_ok(arrow2_count_zeros(bytes, bytes_len, offset, length, &zeros), "arrow2_count_zeros");
     printf(", %zu null\n", zeros);
 }
 

@@ -71,15 +71,17 @@ struct ArrowArrayStream {
 
 /* ---- Bits
  *
- * Bits are `bytes`, the number of these bytes, `bytes_len`, and the bit at which the bits begin, `offset`. For a raw
- * bitmap fill them by hand. arrow2_bits_of and arrow2_bits_of_column fill them from an array that was checked.
+ * Bits have three members: `bytes` points to the bytes, `bytes_len` is how many bytes there are, and `offset` is the
+ * bit at which the bits begin. For a raw bitmap fill them by hand. arrow2_bits_of and arrow2_bits_of_column fill them
+ * from an array that was checked.
  *
  * Rules, next to those of arrow2_proved.h:
- * - A function that returns a code makes at most one call of the library, and returns the code of that call.
- * - A pointer to bytes that is NULL has 0 bytes, whatever `bytes_len`, `out_count`, `values_count` or `validity_count`
- *   is. Where bytes are needed, the result is ARROW2_RANGE for an input, and ARROW2_LENGTH for an output.
- * - The exception is a validity: there NULL means that there is no validity bitmap, so no item is null. It is
- *   `(struct arrow2_bits){NULL, 0, 0}`, in C++ `arrow2_bits{nullptr, 0, 0}`. The functions that accept this are
+ * - Each `arrow2_bits_*` function that returns a code makes at most one call of the library, which its comment names,
+ *   and returns the code of that call. Without a call it returns ARROW2_OK or ARROW2_LENGTH.
+ * - A pointer to bytes that is NULL has 0 bytes, whatever `bytes_len`, `out_len`, `values_len` or `validity_len` is.
+ *   Where bytes are needed, the result is ARROW2_RANGE for an input, and ARROW2_LENGTH for an output.
+ * - The exception is a validity: there NULL means that there is no validity bitmap, so no item is null. It is `(struct
+ *   arrow2_bits){NULL, 0, 0}`, in C++ `arrow2_bits{nullptr, 0, 0}`. The functions that accept this are
  *   arrow2_bits_null_count, arrow2_bits_and_validity, and for their validity arguments arrow2_bits_and_kleene and
  *   arrow2_bits_or_kleene.
  * - `nulls` and `equal` must not be NULL.
@@ -94,12 +96,12 @@ struct arrow2_bits {
 /* The number of items of a slice: 0 where its pointer is NULL. */
 static inline size_t arrow2_c_count(const void *pointer, size_t count) { return pointer ? count : 0; }
 
-/* The number of bytes that hold `bits` bits, which `out_count` must be: (bits + 7) / 8, computed as if in unlimited
+/* The number of bytes that hold `bits` bits, which `out_len` must be: (bits + 7) / 8, computed as if in unlimited
  * integers. */
 static inline size_t arrow2_bytes_for(size_t bits) { return bits / 8 + (bits % 8 != 0); }
 
-/* Writes to `*nulls` how many of `length` items are null by a validity: arrow2_count_zeros. Without a validity bitmap
- * it makes no call, writes 0 and returns ARROW2_OK. */
+/* Writes to `*nulls` how many of `length` items are null by a validity. Calls arrow2_count_zeros. Without a validity
+ * bitmap it makes no call, writes 0 and returns ARROW2_OK. */
 static inline uint32_t arrow2_bits_null_count(struct arrow2_bits validity, size_t length, size_t *nulls) {
     if (!validity.bytes) {
         *nulls = 0;
@@ -108,55 +110,57 @@ static inline uint32_t arrow2_bits_null_count(struct arrow2_bits validity, size_
     return arrow2_count_zeros(validity.bytes, validity.bytes_len, validity.offset, length, nulls);
 }
 
-/* Writes to `*equal` whether the `length` bits of both are the same: arrow2_equal_bits. It does not accept a missing
- * validity. */
+/* Writes to `*equal` whether the `length` bits of both are the same. Calls arrow2_equal_bits. It does not accept a
+ * missing validity. */
 static inline uint32_t arrow2_bits_equal(struct arrow2_bits left, struct arrow2_bits right, size_t length,
                                          bool *equal) {
     return arrow2_equal_bits(left.bytes, arrow2_c_count(left.bytes, left.bytes_len), left.offset, right.bytes,
                              arrow2_c_count(right.bytes, right.bytes_len), right.offset, length, equal);
 }
 
-/* Writes the outputs of a table of two inputs over `out`, which has arrow2_bytes_for(length) bytes:
+/* Writes the outputs of a table of two inputs over `out`, which has arrow2_bytes_for(length) bytes. Calls
  * arrow2_binary_table. It does not accept a missing validity. */
 static inline uint32_t arrow2_bits_table(struct arrow2_bits left, struct arrow2_bits right, size_t length,
-                                         uint16_t table, uint8_t *out, size_t out_count) {
+                                         uint16_t table, uint8_t *out, size_t out_len) {
     return arrow2_binary_table(left.bytes, arrow2_c_count(left.bytes, left.bytes_len), left.offset, right.bytes,
                                arrow2_c_count(right.bytes, right.bytes_len), right.offset, length, table, out,
-                               arrow2_c_count(out, out_count));
+                               arrow2_c_count(out, out_len));
 }
 
 /* As arrow2_bits_table, with the table of AND. */
 static inline uint32_t arrow2_bits_and(struct arrow2_bits left, struct arrow2_bits right, size_t length, uint8_t *out,
-                                       size_t out_count) {
-    return arrow2_bits_table(left, right, length, 8, out, out_count);
+                                       size_t out_len) {
+    return arrow2_bits_table(left, right, length, 8, out, out_len);
 }
 
 /* As arrow2_bits_table, with the table of OR. */
 static inline uint32_t arrow2_bits_or(struct arrow2_bits left, struct arrow2_bits right, size_t length, uint8_t *out,
-                                      size_t out_count) {
-    return arrow2_bits_table(left, right, length, 14, out, out_count);
+                                      size_t out_len) {
+    return arrow2_bits_table(left, right, length, 14, out, out_len);
 }
 
 /* As arrow2_bits_table, with the table of XOR. */
 static inline uint32_t arrow2_bits_xor(struct arrow2_bits left, struct arrow2_bits right, size_t length, uint8_t *out,
-                                       size_t out_count) {
-    return arrow2_bits_table(left, right, length, 6, out, out_count);
+                                       size_t out_len) {
+    return arrow2_bits_table(left, right, length, 6, out, out_len);
 }
 
-/* Writes NOT of the `length` bits over `out`, which has arrow2_bytes_for(length) bytes: arrow2_unary_table. It does not
- * accept a missing validity. */
-static inline uint32_t arrow2_bits_not(struct arrow2_bits bits, size_t length, uint8_t *out, size_t out_count) {
+/* Writes NOT of the `length` bits over `out`, which has arrow2_bytes_for(length) bytes. Calls arrow2_unary_table. It
+ * does not accept a missing validity. */
+static inline uint32_t arrow2_bits_not(struct arrow2_bits bits, size_t length, uint8_t *out, size_t out_len) {
     return arrow2_unary_table(bits.bytes, arrow2_c_count(bits.bytes, bits.bytes_len), bits.offset, length, 1, out,
-                              arrow2_c_count(out, out_count));
+                              arrow2_c_count(out, out_len));
 }
 
-/* Writes over `out` which of `length` items are valid by both validities, either of which may be missing. `out` has
- * arrow2_bytes_for(length) bytes, and padding bits become 0, also where both are missing.
- * ARROW2_RANGE: the bits of a validity that is there are not inside. Else ARROW2_LENGTH: `out` has the wrong size. */
+/* Writes to `out`, for each of `length` items, whether it is valid by both validities, either of which may be missing.
+ * Calls arrow2_binary_table, arrow2_copy_bits or arrow2_unary_assign_table. `out` has arrow2_bytes_for(length) bytes,
+ * and padding bits become 0, also where both are missing.
+ * ARROW2_RANGE: a validity was passed, and its bits are not inside its bytes. Else ARROW2_LENGTH: `out` has the
+ * wrong size. */
 static inline uint32_t arrow2_bits_and_validity(struct arrow2_bits left, struct arrow2_bits right, size_t length,
-                                                uint8_t *out, size_t out_count) {
+                                                uint8_t *out, size_t out_len) {
     struct arrow2_bits one = left.bytes ? left : right;
-    size_t count = arrow2_c_count(out, out_count);
+    size_t count = arrow2_c_count(out, out_len);
     if (left.bytes && right.bytes) {
         return arrow2_bits_and(left, right, length, out, count);
     }
@@ -173,41 +177,44 @@ static inline uint32_t arrow2_bits_and_validity(struct arrow2_bits left, struct 
     return arrow2_unary_assign_table(out, count, length, 1); /* NOT of zeros */
 }
 
-/* Kleene's AND of two boolean columns: arrow2_and_kleene_optional. Either column may have no validity bitmap. `values`
- * and `validity` get the result. Each has arrow2_bytes_for(length) bytes, which are `values_count` and
- * `validity_count`. Both are always written, also where neither column has a validity, so neither may be NULL unless
+/* Kleene's AND of two boolean columns. Calls arrow2_and_kleene_optional. Either column may have no validity bitmap.
+ * `values` and `validity` get the result. Each has arrow2_bytes_for(length) bytes; `values_len` and `validity_len` must
+ * both be this number. Both are always written, also where neither column has a validity, so neither may be NULL unless
  * `length` is 0.
- * ARROW2_RANGE: bits that are there are not inside. Else ARROW2_LENGTH: `values` or `validity` has the wrong size. */
+ * ARROW2_RANGE: bits of a value, or of a validity that was passed, are not inside their bytes. Else ARROW2_LENGTH:
+ * `values` or `validity` has the wrong size. */
 static inline uint32_t arrow2_bits_and_kleene(struct arrow2_bits left, struct arrow2_bits left_validity,
                                               struct arrow2_bits right, struct arrow2_bits right_validity,
-                                              size_t length, uint8_t *values, size_t values_count, uint8_t *validity,
-                                              size_t validity_count) {
+                                              size_t length, uint8_t *values, size_t values_len, uint8_t *validity,
+                                              size_t validity_len) {
     return arrow2_and_kleene_optional(
         left.bytes, arrow2_c_count(left.bytes, left.bytes_len), left.offset, left_validity.bytes,
         arrow2_c_count(left_validity.bytes, left_validity.bytes_len), left_validity.offset, !left_validity.bytes,
         right.bytes, arrow2_c_count(right.bytes, right.bytes_len), right.offset, right_validity.bytes,
         arrow2_c_count(right_validity.bytes, right_validity.bytes_len), right_validity.offset, !right_validity.bytes,
-        length, values, arrow2_c_count(values, values_count), validity, arrow2_c_count(validity, validity_count));
+        length, values, arrow2_c_count(values, values_len), validity, arrow2_c_count(validity, validity_len));
 }
 
-/* Kleene's OR of two boolean columns: arrow2_or_kleene_optional. Arguments as of arrow2_bits_and_kleene. */
+/* Kleene's OR of two boolean columns. Calls arrow2_or_kleene_optional. Arguments as of arrow2_bits_and_kleene. */
 static inline uint32_t arrow2_bits_or_kleene(struct arrow2_bits left, struct arrow2_bits left_validity,
                                              struct arrow2_bits right, struct arrow2_bits right_validity, size_t length,
-                                             uint8_t *values, size_t values_count, uint8_t *validity,
-                                             size_t validity_count) {
+                                             uint8_t *values, size_t values_len, uint8_t *validity,
+                                             size_t validity_len) {
     return arrow2_or_kleene_optional(
         left.bytes, arrow2_c_count(left.bytes, left.bytes_len), left.offset, left_validity.bytes,
         arrow2_c_count(left_validity.bytes, left_validity.bytes_len), left_validity.offset, !left_validity.bytes,
         right.bytes, arrow2_c_count(right.bytes, right.bytes_len), right.offset, right_validity.bytes,
         arrow2_c_count(right_validity.bytes, right_validity.bytes_len), right_validity.offset, !right_validity.bytes,
-        length, values, arrow2_c_count(values, values_count), validity, arrow2_c_count(validity, validity_count));
+        length, values, arrow2_c_count(values, values_len), validity, arrow2_c_count(validity, validity_len));
 }
 
 /* The bits of buffer `index` of an array that was checked, from the array's own offset on. Buffer 0 is the validity,
- * except in a union, where it is the types. Buffer 1 of a boolean array is its values. A null array has no buffer, and
- * each of its items is null. So test the format before you take a validity, as `columns.c` of the examples does. If
- * `index` is negative or not below `n_buffers`, or the buffer is NULL, the result has `bytes` NULL, `bytes_len` 0 and
- * `offset` 0.
+ * except in a union, where it is the types. Buffer 1 of a boolean array is its values. Ask for no other buffer: for any
+ * other, `bytes_len` of the result may be greater than the number of bytes that the buffer has. If `length` is 0 the
+ * check has not tested the pointer: do not use the result unless the producer set a real one. A null array has no
+ * buffer, and each of its items is null. So test the format before you take a validity, as `columns.c` of the examples
+ * does. If `index` is negative or not below `n_buffers`, or the buffer is NULL, the result has `bytes` NULL,
+ * `bytes_len` 0 and `offset` 0.
  *
  * Only the array's own offset is applied. For a column of a batch call arrow2_bits_of_column. */
 static inline struct arrow2_bits arrow2_bits_of(const struct ArrowArray *array, int index) {
@@ -223,8 +230,8 @@ static inline struct arrow2_bits arrow2_bits_of(const struct ArrowArray *array, 
 
 /* The bits of buffer `index` of column `column` of a batch that was checked, from row 0 of the batch on. A batch is a
  * struct: its row i is item `batch->offset + i` of each column, so the batch's offset is added to the column's own. The
- * same serves for the children of a sparse union. If there is no such column or buffer, the result is as of
- * arrow2_bits_of, which as a validity means that no item is null.
+ * same serves for the children of a sparse union. If there is no such column or buffer, the result is the one that
+ * arrow2_bits_of returns where there is no buffer. Used as a validity, it means that no item is null.
  *
  * The validity of the struct itself is not applied. It is arrow2_bits_of(batch, 0). */
 static inline struct arrow2_bits arrow2_bits_of_column(const struct ArrowArray *batch, int64_t column, int index) {
@@ -261,7 +268,7 @@ static inline struct arrow2_bits arrow2_bits_of_column(const struct ArrowArray *
 #define ARROW2_C_TYPE 40u
 /* A slot of a dense union points outside its child, or before the item of an earlier slot of the same type. */
 #define ARROW2_C_UNION_OFFSET 41u
-/* The tree is deeper than ARROW2_C_MAX_DEPTH, or has more arrays than ARROW2_C_MAX_ARRAYS. */
+/* An array is ARROW2_C_MAX_DEPTH levels below the root, or the tree has more arrays than ARROW2_C_MAX_ARRAYS. */
 #define ARROW2_C_TOO_LARGE 42u
 /* A buffer of numbers of several bytes, which the check reads, is not aligned. */
 #define ARROW2_C_UNALIGNED 43u
@@ -283,7 +290,8 @@ static inline struct arrow2_bits arrow2_bits_of_column(const struct ArrowArray *
  * which is child 3 of a struct.
  *
  * `slot` is the slot of that array, or -1 where the rule is about no slot. It counts from 0 at `array->offset`. An
- * offset that breaks a rule belongs to the slot that ends at it; the first offset belongs to slot 0. */
+ * offset of binary, utf8, a list or a map that breaks a rule belongs to the slot that ends at it, the first offset
+ * to slot 0. An offset of a dense union belongs to its own slot. */
 struct arrow2_where {
     char path[ARROW2_C_PATH];
     int64_t slot;
@@ -303,9 +311,9 @@ enum arrow2_c_kind {
     ARROW2_C_KIND_DENSE_UNION
 };
 
-/* The layout that a format describes: `size` is the bytes of a value, those of an offset, or the items of a slot;
- * `index` the letter of a whole number; `types` those of a union, `children` the number of children, or -1 for any
- * number. */
+/* The layout that a format describes: `size` is the number of bytes of a value, of bytes of an offset, or of items
+ * of a slot; `index` is the format letter of an integer, else 0; `types` is the list of types of a union, else NULL;
+ * `children` is the number of children, or -1 for any number. */
 struct arrow2_c_layout {
     enum arrow2_c_kind kind;
     size_t size;
@@ -318,7 +326,7 @@ struct arrow2_c_layout {
 struct arrow2_c_tree {
     struct arrow2_where *where;
     const size_t *sizes; /* NULL for arrow2_array_check alone, where no size is known */
-    size_t sizes_count;
+    size_t sizes_len;
     size_t next_size;
     size_t arrays;
     int depth;
@@ -558,7 +566,7 @@ static inline uint32_t arrow2_c_check_head(const struct ArrowSchema *schema, con
     return ARROW2_OK;
 }
 
-/* Goes to child `index` of an array by its format, or to its dictionary, by -1. */
+/* Goes to child `index` of an array, named by the format of the array; with -1 to its dictionary. */
 static inline void arrow2_c_enter(struct arrow2_c_tree *tree, enum arrow2_c_kind kind, int64_t index) {
     tree->kinds[tree->depth] = index < 0 ? "dictionary" : arrow2_c_kind_name(kind);
     tree->children[tree->depth] = index;
@@ -584,13 +592,13 @@ static inline uint32_t arrow2_c_check_counts(struct arrow2_c_tree *tree, const s
     if (!array->dictionary != !schema->dictionary || (array->dictionary && !layout->index)) {
         return ARROW2_C_DICTIONARY;
     }
-    if (tree->sizes && tree->sizes_count - tree->next_size < (size_t)layout->buffers) {
+    if (tree->sizes && tree->sizes_len - tree->next_size < (size_t)layout->buffers) {
         return ARROW2_C_SIZES;
     }
     return ARROW2_OK;
 }
 
-/* Whether each child can be read at all, so that its length can be. Stays at the child that cannot. */
+/* Whether each child can be read at all, so that its length can be read. If one cannot, `tree` is left at it. */
 static inline uint32_t arrow2_c_check_heads(struct arrow2_c_tree *tree, enum arrow2_c_kind kind,
                                             const struct ArrowSchema *schema, const struct ArrowArray *array) {
     for (int64_t i = 0; i < array->n_children; i++) {
@@ -610,7 +618,8 @@ static inline uint32_t arrow2_c_check_heads(struct arrow2_c_tree *tree, enum arr
     return ARROW2_OK;
 }
 
-/* Buffer `index` of an array whose counts were checked. Without a size it is longer than any. */
+/* Buffer `index` of an array whose counts were checked. If no sizes are known, it is taken to have
+ * ARROW2_C_MAX_BYTES bytes. */
 static inline struct arrow2_c_buffer arrow2_c_buffer_of(const struct arrow2_c_tree *tree,
                                                         const struct ArrowArray *array, int index) {
     struct arrow2_c_buffer buffer;
@@ -654,8 +663,8 @@ static inline uint32_t arrow2_c_check_values(struct arrow2_c_buffer values, bool
     return code != ARROW2_OK ? code : arrow2_c_check_pointer(values.bytes, values.length, bits ? 1 : width > 0);
 }
 
-/* Whether a buffer has offsets, of `width` bytes each, into `items` items. `slot` is where they are not, and `last` the
- * last of them. Of an array of no item no offset is read. */
+/* Whether a buffer has offsets, of `width` bytes each, into `items` items. `slot` becomes the slot at which they are
+ * not, and `last` the last offset. Of an array of no item no offset is read. */
 static inline uint32_t arrow2_c_check_offsets(struct arrow2_c_buffer offsets, size_t width, size_t items, int64_t *slot,
                                               size_t *last) {
     *last = 0;
@@ -738,7 +747,7 @@ static inline uint32_t arrow2_c_check_indices(struct arrow2_c_buffer indices, st
     return code;
 }
 
-/* Writes at each type that a union names which child it is, and -1 at the others. */
+/* Sets child_of[type] to the child of that type for each type that a union names, and to -1 for all others. */
 static inline void arrow2_c_read_types(const char *at, int64_t child_of[128]) {
     size_t type;
     for (int i = 0; i < 128; i++) {
@@ -796,7 +805,7 @@ static inline uint32_t arrow2_c_check_union_buffers(const struct arrow2_c_tree *
 }
 
 /* Whether each child has the items that its parent needs of it: `of_a_slot` for each slot, including those before the
- * offset. Stays at the child that has not. */
+ * offset. If one has not, `tree` is left at it. */
 static inline uint32_t arrow2_c_check_lengths(struct arrow2_c_tree *tree, enum arrow2_c_kind kind, size_t of_a_slot,
                                               const struct ArrowArray *array) {
     for (int64_t i = 0; i < array->n_children; i++) {
@@ -830,7 +839,7 @@ static inline uint32_t arrow2_c_check_flat(const struct arrow2_c_tree *tree, con
                                   (size_t)array->dictionary->length, slot);
 }
 
-/* Whether the array's own buffers are right, where its counts and its children's heads are. */
+/* Whether the array's own buffers are right. Its counts and its children's heads must have been found right before. */
 static inline uint32_t arrow2_c_check_content(struct arrow2_c_tree *tree, const struct arrow2_c_layout *layout,
                                               const struct ArrowSchema *schema, const struct ArrowArray *array,
                                               int64_t *slot) {
@@ -858,7 +867,7 @@ static inline uint32_t arrow2_c_check_content(struct arrow2_c_tree *tree, const 
     }
 }
 
-/* Whether an array is right, apart from its children and its dictionary. Stays where it is not. */
+/* Whether an array is right, apart from its children and its dictionary. If it is not, `tree` is left at it. */
 static inline uint32_t arrow2_c_check_own(struct arrow2_c_tree *tree, const struct arrow2_c_layout *layout,
                                           const struct ArrowSchema *schema, const struct ArrowArray *array,
                                           int64_t *slot) {
@@ -910,11 +919,11 @@ static inline uint32_t arrow2_c_check_tree(struct arrow2_c_tree *tree, const str
 
 /* Whether a whole tree is right, and has as many buffers as there are sizes, if there are sizes. */
 static inline uint32_t arrow2_c_check_root(const struct ArrowSchema *schema, const struct ArrowArray *array,
-                                           const size_t *sizes, size_t sizes_count, struct arrow2_where *where) {
+                                           const size_t *sizes, size_t sizes_len, struct arrow2_where *where) {
     struct arrow2_c_tree tree;
     tree.where = where;
     tree.sizes = sizes;
-    tree.sizes_count = sizes_count;
+    tree.sizes_len = sizes_len;
     tree.next_size = 0;
     tree.arrays = 0;
     tree.depth = 0;
@@ -922,7 +931,7 @@ static inline uint32_t arrow2_c_check_root(const struct ArrowSchema *schema, con
     if (code == ARROW2_OK) {
         code = arrow2_c_check_tree(&tree, schema, array);
     }
-    if (code == ARROW2_OK && sizes && tree.next_size != sizes_count) {
+    if (code == ARROW2_OK && sizes && tree.next_size != sizes_len) {
         return arrow2_c_refuse(&tree, ARROW2_C_SIZES, -1);
     }
     return code;
@@ -930,21 +939,21 @@ static inline uint32_t arrow2_c_check_root(const struct ArrowSchema *schema, con
 
 /* Checks whether an array follows the Arrow format and its schema. Returns ARROW2_OK if it does, else the code of the
  * first rule that is broken. docs/BINDINGS.md has the order of the rules, what is not tested, and where the check is
- * stricter than Arrow: the bytes of a null slot of a text must be UTF-8 too.
+ * stricter than Arrow; for example, the bytes of a null slot of a text must be UTF-8 too.
  *
  * The codes are those above, and of arrow2_proved.h ARROW2_RANGE (a buffer is too short), ARROW2_NULLS,
  * ARROW2_SPEC_NEGATIVE, ARROW2_SPEC_FALLING, ARROW2_PAST, ARROW2_UTF8 and ARROW2_INDEX.
  *
  * Schema and array stay the caller's, whatever the code is: nothing in them is changed, kept or released. The caller
- * releases both, also after a refusal: `if (array.release) array.release(&array);`, since with ARROW2_C_RELEASED it
- * may be NULL.
+ * releases both, also after a refusal: `if (array.release) array.release(&array);`, since with ARROW2_C_RELEASED it may
+ * be NULL.
  *
  * With ARROW2_OK offsets and indices that are read are aligned. Plain values may not be: read an int64 column through
  * `int64_t *` only where its pointer is a multiple of 8, else by memcpy.
  *
- * If the code is not ARROW2_OK and `where` is not NULL, `*where` is written; else it stays as it was. Each buffer is
- * read to the length that format, length, offset and last offset require. It is taken to have 2^56 bytes: what would
- * need more is refused, with ARROW2_PAST for an offset into binary or utf8 bytes, else with ARROW2_RANGE. */
+ * If the code is not ARROW2_OK and `where` is not NULL, `*where` is written; else it stays as it was. Nothing is
+ * read past the bytes that format, length, offset and last offset require. A buffer is taken to have 2^56 bytes:
+ * what would need more is refused, with ARROW2_PAST for an offset into binary or utf8 bytes, else with ARROW2_RANGE. */
 static inline uint32_t arrow2_array_check(const struct ArrowSchema *schema, const struct ArrowArray *array,
                                           struct arrow2_where *where) {
     return arrow2_c_check_root(schema, array, NULL, 0, where);
@@ -958,31 +967,49 @@ static inline uint32_t arrow2_array_check(const struct ArrowSchema *schema, cons
  *   where the buffer is NULL. An int32 array of length 0 and offset 5 needs 20 bytes of values: with NULL and the size
  *   0 the code is ARROW2_RANGE, where arrow2_array_check returns ARROW2_OK.
  * - A validity needs the bytes of offset + length bits. If it is NULL its size is not used.
- * - Offsets of binary, utf8, lists and maps need the bytes of offset + length + 1 offsets, and the bytes of binary and
- *   utf8 those up to the last offset. If `length` is 0 neither size is used.
+ * - Offsets of binary, utf8, lists and maps need the bytes of offset + length + 1 offsets. The buffer of the bytes of
+ *   binary and utf8 needs the bytes up to the last offset. If `length` is 0 neither size is used.
  *
- * NULL `sizes` is an empty list, whatever `sizes_count` is: any tree that has a buffer is refused, with ARROW2_C_SIZES
+ * NULL `sizes` is an empty list, whatever `sizes_len` is: any tree that has a buffer is refused, with ARROW2_C_SIZES
  * unless an earlier rule is broken. To check without sizes call arrow2_array_check.
  * ARROW2_C_SIZES: there are more or fewer sizes than buffers. */
 static inline uint32_t arrow2_array_check_sized(const struct ArrowSchema *schema, const struct ArrowArray *array,
-                                                const size_t *sizes, size_t sizes_count, struct arrow2_where *where) {
+                                                const size_t *sizes, size_t sizes_len, struct arrow2_where *where) {
     static const size_t none = 0;
-    return arrow2_c_check_root(schema, array, sizes ? sizes : &none, arrow2_c_count(sizes, sizes_count), where);
+    return arrow2_c_check_root(schema, array, sizes ? sizes : &none, arrow2_c_count(sizes, sizes_len), where);
 }
 
-/* Returns the text of a code. */
+/* Returns a static text for a code, never NULL. It is not to be freed. */
 static inline const char *arrow2_code_text(uint32_t code) {
     static const char *const of_library[] = {
-        "right", "a range ends outside its buffer, or a table number is too large", "a slice has another length",
-        "a number is above the greatest offset", "out of memory", "there is no offset", "the first offset is negative",
-        "an offset falls", "the nulls are not as many as declared", "an offset is past its items",
-        "a text is not UTF-8", "an index is outside its dictionary"};
+        "right",
+        "a range ends outside its buffer, or a table number is too large",
+        "a slice does not have the required length",
+        "a number is above the greatest offset",
+        "out of memory",
+        "there is no offset",
+        "the first offset is negative",
+        "an offset falls",
+        "the nulls are not as many as declared",
+        "an offset is past its items",
+        "a text is not UTF-8",
+        "an index is outside its dictionary",
+    };
     static const char *const of_tree[] = {
-        "a pointer is null", "it was released", "a number is negative", "the format is not known",
-        "another number of buffers", "another number of children", "a child is too short",
-        "the dictionary does not fit", "a union has a type that its format does not name",
-        "an offset of a union is outside its child, or falls", "the tree is too large", "numbers are not aligned",
-        "another number of sizes"};
+        "a pointer is null",
+        "it was released",
+        "a number is negative, or length + offset is too large",
+        "the format is not known",
+        "the number of buffers is not what the format requires",
+        "the children are not what the format requires",
+        "a child is too short",
+        "the dictionary does not fit",
+        "a union has a type that its format does not name",
+        "an offset of a union is outside its child, or falls",
+        "the tree is too large",
+        "numbers are not aligned",
+        "the number of sizes is not the number of buffers",
+    };
     if (code < sizeof of_library / sizeof of_library[0]) {
         return of_library[code];
     }

@@ -1,26 +1,30 @@
-/* Calls on bits, offsets, texts and indices in the caller's memory, as Apache Arrow arrays have them. The library is
- * written in Rattle, a language whose programs are proved. The contract of each call is proved (docs/BINDINGS.md, which
- * the package has too); this header is written by hand.
+/* Functions that work on bits, offsets, texts and indices in the caller's memory, in the layout of Apache Arrow arrays.
+ * The library is written in Rattle, a language whose programs are proved. The contract of each call is proved
+ * (docs/BINDINGS.md, which the package has too); this header is written by hand.
  *
  * Rules for every call. A call tests its numbers and returns a code; only the four `_unchecked` calls do not test their
  * offsets. Breaking a rule about pointers, alignment, overlap, bools or threads is undefined behaviour.
- * - A slice is a pointer and its number of items. NULL with 0 is safe, but not for `_unchecked` offsets. Else the
- *   pointer must lead to that many items, and be aligned for their type.
+ * - A slice is a pointer and its number of items. NULL with 0 is safe, but not for `_unchecked` offsets. Any other
+ *   pointer must lead to that many items, and be aligned for their type, also with 0 items.
  * - A pointer to a single value (`zeros`, `equal`, `value`, `at`, `count`, `index`, `slot`) must not be NULL.
  * - NULL never means that a validity is missing. Where one may be missing, the call has an argument that states it:
  *   `all_valid`, `left_all_valid`, `right_all_valid`. Without a validity bitmap pass NULL, 0, 0, true for pointer,
  *   count, offset and this argument. Every other call needs the bitmap.
- * - An output must not overlap any other argument, input or output. Inputs may overlap each other.
- * - A `bool`, also one of a slice, is 0 or 1.
+ * - An output must not overlap any other argument, input or output. `bytes` of the *_assign_table calls and of
+ *   arrow2_set_bit, and `*at`, are outputs too. Inputs may overlap each other.
+ * - Every `bool` in memory that a call gets must hold 0 or 1 when the call begins: an input, each item of a slice, and
+ *   also one that the call only writes (`*equal`, `*value`, `out` of arrow2_unpack). Other outputs need not be
+ *   initialised, except `*at`, and `bytes` of the *_assign_table calls and of arrow2_set_bit.
  * - Other threads may read the memory that a call reads. Until the call returns, no other thread may write that memory,
  *   and none may read or write the memory that the call writes.
  * - Bit i of bytes is bit i % 8 of byte i / 8, the lowest first. Offsets and lengths of bits are in bits, and may be
  *   any numbers. Those of other slices are in items.
- * - The `length` bits from bit `offset` on are inside `bytes` if offset + length <= 8 * bytes_count. This is computed
- *   as if in unlimited integers, so a huge offset gives ARROW2_RANGE and never wraps. It is tested for length 0 too:
- *   offset 5, length 0 in 0 bytes is ARROW2_RANGE. Bit `index` is inside if index < 8 * bytes_count.
- * - An output of bits is exactly (length + 7) / 8 bytes. The bits are written from bit 0 on, and padding bits become 0.
- *   The same holds in place, for `bytes` of the *_assign_table calls.
+ * - The `length` bits from bit `offset` on are inside `bytes` if offset + length <= 8 * bytes_len. This is computed as
+ *   if in unlimited integers, so a huge offset gives ARROW2_RANGE and never wraps. It is tested for length 0 too:
+ *   offset 5, length 0 in 0 bytes is ARROW2_RANGE. Bit `index` is inside if index < 8 * bytes_len.
+ * - An output of bits is exactly (length + 7) / 8 bytes, computed as if in unlimited integers: arrow2_bytes_for of
+ *   arrow2_c_data.h returns it. The bits are written from bit 0 on, and padding bits become 0. The same holds in place,
+ *   for `bytes` of the *_assign_table calls.
  * - The result is one of the codes below. On any error nothing is written, except `*index` or `*slot` of a check, with
  *   the codes that its comment names. No check writes them with ARROW2_OK.
  * - Nothing is kept between calls, no call allocates, and calls may run on several threads at once. Nothing is made
@@ -48,8 +52,8 @@ extern "C" {
 /* An index or a range is not inside, or a truth-table number is too large: above 3, 15 or 255 for one, two or three
  * inputs. */
 #define ARROW2_RANGE 1u
-/* An output slice is not exactly the required size (bits: (length + 7) / 8), `starts_count` differs from
- * `lengths_count`, the two slices of a widen or narrow call differ in length, or `out` of a rebase call has no item. */
+/* An output slice is not exactly the required size (bits: (length + 7) / 8), `starts_len` differs from
+ * `lengths_len`, the two slices of a widen or narrow call differ in length, or `out` of a rebase call has no item. */
 #define ARROW2_LENGTH 2u
 /* A number is above the greatest offset: 2147483647 of 32 bits, 9223372036854775807 of 64 bits. */
 #define ARROW2_OVERFLOW 3u
@@ -74,20 +78,19 @@ extern "C" {
 
 /* Writes to `zeros` how many of the `length` bits from bit `offset` on are not set.
  * ARROW2_RANGE: they are not inside the bytes. */
-uint32_t arrow2_count_zeros(const uint8_t *bytes, size_t bytes_count, size_t offset, size_t length, size_t *zeros);
+uint32_t arrow2_count_zeros(const uint8_t *bytes, size_t bytes_len, size_t offset, size_t length, size_t *zeros);
 
 /* Writes to `equal` whether the `length` bits of `left` from bit `left_offset` on are those of `right` from bit
  * `right_offset` on. ARROW2_RANGE: either is not inside its bytes. */
-uint32_t arrow2_equal_bits(const uint8_t *left, size_t left_count, size_t left_offset, const uint8_t *right,
-                           size_t right_count, size_t right_offset, size_t length, bool *equal);
+uint32_t arrow2_equal_bits(const uint8_t *left, size_t left_len, size_t left_offset, const uint8_t *right,
+                           size_t right_len, size_t right_offset, size_t length, bool *equal);
 
 /* Writes to `value` whether bit `index` is set. ARROW2_RANGE: it is not inside the bytes. */
-uint32_t arrow2_get_bit(const uint8_t *bytes, size_t bytes_count, size_t index, bool *value);
+uint32_t arrow2_get_bit(const uint8_t *bytes, size_t bytes_len, size_t index, bool *value);
 
-/* The same by code that the compiler puts in place of the call. It is written by hand and not proved: tests compare it
- * with arrow2_get_bit. */
-static inline uint32_t arrow2_get_bit_inline(const uint8_t *bytes, size_t bytes_count, size_t index, bool *value) {
-    if (index / 8 >= bytes_count) {
+/* The same as an inline function. It is written by hand and not proved: tests compare it with arrow2_get_bit. */
+static inline uint32_t arrow2_get_bit_inline(const uint8_t *bytes, size_t bytes_len, size_t index, bool *value) {
+    if (index / 8 >= bytes_len) {
         return ARROW2_RANGE;
     }
     *value = ((bytes[index / 8] >> (index % 8)) & 1) != 0;
@@ -95,12 +98,12 @@ static inline uint32_t arrow2_get_bit_inline(const uint8_t *bytes, size_t bytes_
 }
 
 /* Writes `value` to bit `index`, and leaves every other bit as it was. ARROW2_RANGE: it is not inside the bytes. */
-uint32_t arrow2_set_bit(uint8_t *bytes, size_t bytes_count, size_t index, bool value);
+uint32_t arrow2_set_bit(uint8_t *bytes, size_t bytes_len, size_t index, bool value);
 
-/* Copies the `length` bits from bit `offset` on over `out`.
+/* Copies the `length` bits that begin at bit `offset` to `out`, from bit 0 on.
  * ARROW2_RANGE: they are not inside the bytes. Else ARROW2_LENGTH: `out` has the wrong size. */
-uint32_t arrow2_copy_bits(const uint8_t *bytes, size_t bytes_count, size_t offset, size_t length, uint8_t *out,
-                          size_t out_count);
+uint32_t arrow2_copy_bits(const uint8_t *bytes, size_t bytes_len, size_t offset, size_t length, uint8_t *out,
+                          size_t out_len);
 
 /* ---- Truth tables
  *
@@ -109,165 +112,167 @@ uint32_t arrow2_copy_bits(const uint8_t *bytes, size_t bytes_count, size_t offse
  * ARROW2_RANGE: a table of one input is above 3, of two above 15, of three above 255, or an input is not inside its
  * bytes. Else ARROW2_LENGTH: `out` has the wrong size. */
 
-uint32_t arrow2_unary_table(const uint8_t *bytes, size_t bytes_count, size_t offset, size_t length, uint16_t table,
-                            uint8_t *out, size_t out_count);
+uint32_t arrow2_unary_table(const uint8_t *bytes, size_t bytes_len, size_t offset, size_t length, uint16_t table,
+                            uint8_t *out, size_t out_len);
 
-uint32_t arrow2_binary_table(const uint8_t *first, size_t first_count, size_t first_offset, const uint8_t *second,
-                             size_t second_count, size_t second_offset, size_t length, uint16_t table, uint8_t *out,
-                             size_t out_count);
+uint32_t arrow2_binary_table(const uint8_t *first, size_t first_len, size_t first_offset, const uint8_t *second,
+                             size_t second_len, size_t second_offset, size_t length, uint16_t table, uint8_t *out,
+                             size_t out_len);
 
-uint32_t arrow2_ternary_table(const uint8_t *first, size_t first_count, size_t first_offset, const uint8_t *second,
-                              size_t second_count, size_t second_offset, const uint8_t *third, size_t third_count,
-                              size_t third_offset, size_t length, uint16_t table, uint8_t *out, size_t out_count);
+uint32_t arrow2_ternary_table(const uint8_t *first, size_t first_len, size_t first_offset, const uint8_t *second,
+                              size_t second_len, size_t second_offset, const uint8_t *third, size_t third_len,
+                              size_t third_offset, size_t length, uint16_t table, uint8_t *out, size_t out_len);
 
-uint32_t arrow2_quaternary_table(const uint8_t *first, size_t first_count, size_t first_offset, const uint8_t *second,
-                                 size_t second_count, size_t second_offset, const uint8_t *third, size_t third_count,
-                                 size_t third_offset, const uint8_t *fourth, size_t fourth_count, size_t fourth_offset,
-                                 size_t length, uint16_t table, uint8_t *out, size_t out_count);
+uint32_t arrow2_quaternary_table(const uint8_t *first, size_t first_len, size_t first_offset, const uint8_t *second,
+                                 size_t second_len, size_t second_offset, const uint8_t *third, size_t third_len,
+                                 size_t third_offset, const uint8_t *fourth, size_t fourth_len, size_t fourth_offset,
+                                 size_t length, uint16_t table, uint8_t *out, size_t out_len);
 
 /* The same in place: the first input is the first `length` bits of `bytes`, and the outputs are written over it.
  * Padding bits become 0, whatever they were.
  * ARROW2_RANGE: the table is above the same bound, or an input after the first is not inside its bytes.
- * Else ARROW2_LENGTH: `bytes_count` is not (length + 7) / 8. */
+ * Else ARROW2_LENGTH: `bytes_len` is not (length + 7) / 8. */
 
-uint32_t arrow2_unary_assign_table(uint8_t *bytes, size_t bytes_count, size_t length, uint16_t table);
+uint32_t arrow2_unary_assign_table(uint8_t *bytes, size_t bytes_len, size_t length, uint16_t table);
 
-uint32_t arrow2_binary_assign_table(uint8_t *bytes, size_t bytes_count, const uint8_t *second, size_t second_count,
+uint32_t arrow2_binary_assign_table(uint8_t *bytes, size_t bytes_len, const uint8_t *second, size_t second_len,
                                     size_t second_offset, size_t length, uint16_t table);
 
-uint32_t arrow2_ternary_assign_table(uint8_t *bytes, size_t bytes_count, const uint8_t *second, size_t second_count,
-                                     size_t second_offset, const uint8_t *third, size_t third_count,
+uint32_t arrow2_ternary_assign_table(uint8_t *bytes, size_t bytes_len, const uint8_t *second, size_t second_len,
+                                     size_t second_offset, const uint8_t *third, size_t third_len,
                                      size_t third_offset, size_t length, uint16_t table);
 
-uint32_t arrow2_quaternary_assign_table(uint8_t *bytes, size_t bytes_count, const uint8_t *second, size_t second_count,
-                                        size_t second_offset, const uint8_t *third, size_t third_count,
-                                        size_t third_offset, const uint8_t *fourth, size_t fourth_count,
+uint32_t arrow2_quaternary_assign_table(uint8_t *bytes, size_t bytes_len, const uint8_t *second, size_t second_len,
+                                        size_t second_offset, const uint8_t *third, size_t third_len,
+                                        size_t third_offset, const uint8_t *fourth, size_t fourth_len,
                                         size_t fourth_offset, size_t length, uint16_t table);
 
 /* ---- Kleene's logic
  *
- * Values with their validity: an item is null where its validity bit is not set. Of both sides `length` items are read.
- * `values` and `validity` get the result. Each is exactly (length + 7) / 8 bytes, and both are always written. A value
- * is the operator applied to the two values, also where the result is null. ARROW2_RANGE: bits of any of the four are
- * not inside. Else ARROW2_LENGTH: `values` or `validity` has the wrong size. */
+ * Values with their validity: an item is null where its validity bit is not set. Of both sides `length` items are
+ * read. `values` and `validity` get the result. Each is exactly (length + 7) / 8 bytes, and both are always written.
+ * Each bit of `values` is the operator applied to the two value bits, also where the result is null. ARROW2_RANGE:
+ * bits of any of the four are not inside. Else ARROW2_LENGTH: `values` or `validity` has the wrong size. */
 
 /* AND: false where either is false, else null where either is null, else true. */
-uint32_t arrow2_and_kleene(const uint8_t *left, size_t left_count, size_t left_offset, const uint8_t *left_validity,
-                           size_t left_validity_count, size_t left_validity_offset, const uint8_t *right,
-                           size_t right_count, size_t right_offset, const uint8_t *right_validity,
-                           size_t right_validity_count, size_t right_validity_offset, size_t length, uint8_t *values,
-                           size_t values_count, uint8_t *validity, size_t validity_count);
+uint32_t arrow2_and_kleene(const uint8_t *left, size_t left_len, size_t left_offset, const uint8_t *left_validity,
+                           size_t left_validity_len, size_t left_validity_offset, const uint8_t *right,
+                           size_t right_len, size_t right_offset, const uint8_t *right_validity,
+                           size_t right_validity_len, size_t right_validity_offset, size_t length, uint8_t *values,
+                           size_t values_len, uint8_t *validity, size_t validity_len);
 
 /* OR: true where either is true, else null where either is null, else false. */
-uint32_t arrow2_or_kleene(const uint8_t *left, size_t left_count, size_t left_offset, const uint8_t *left_validity,
-                          size_t left_validity_count, size_t left_validity_offset, const uint8_t *right,
-                          size_t right_count, size_t right_offset, const uint8_t *right_validity,
-                          size_t right_validity_count, size_t right_validity_offset, size_t length, uint8_t *values,
-                          size_t values_count, uint8_t *validity, size_t validity_count);
+uint32_t arrow2_or_kleene(const uint8_t *left, size_t left_len, size_t left_offset, const uint8_t *left_validity,
+                          size_t left_validity_len, size_t left_validity_offset, const uint8_t *right,
+                          size_t right_len, size_t right_offset, const uint8_t *right_validity,
+                          size_t right_validity_len, size_t right_validity_offset, size_t length, uint8_t *values,
+                          size_t values_len, uint8_t *validity, size_t validity_len);
 
 /* The same where a side may have no validity. If `left_all_valid` is true no item of the left side is null: pointer,
- * count and offset of `left_validity` are ignored, and ARROW2_RANGE never comes from them. The same holds for the right
- * side. */
-uint32_t arrow2_and_kleene_optional(const uint8_t *left, size_t left_count, size_t left_offset,
-                                    const uint8_t *left_validity, size_t left_validity_count,
+ * number of bytes and offset of `left_validity` are not read, and ARROW2_RANGE never comes from them. The rule for
+ * slices still holds for them: pass NULL, 0, 0. The same holds for the right side. */
+uint32_t arrow2_and_kleene_optional(const uint8_t *left, size_t left_len, size_t left_offset,
+                                    const uint8_t *left_validity, size_t left_validity_len,
                                     size_t left_validity_offset, bool left_all_valid, const uint8_t *right,
-                                    size_t right_count, size_t right_offset, const uint8_t *right_validity,
-                                    size_t right_validity_count, size_t right_validity_offset, bool right_all_valid,
-                                    size_t length, uint8_t *values, size_t values_count, uint8_t *validity,
-                                    size_t validity_count);
-uint32_t arrow2_or_kleene_optional(const uint8_t *left, size_t left_count, size_t left_offset,
-                                   const uint8_t *left_validity, size_t left_validity_count,
+                                    size_t right_len, size_t right_offset, const uint8_t *right_validity,
+                                    size_t right_validity_len, size_t right_validity_offset, bool right_all_valid,
+                                    size_t length, uint8_t *values, size_t values_len, uint8_t *validity,
+                                    size_t validity_len);
+uint32_t arrow2_or_kleene_optional(const uint8_t *left, size_t left_len, size_t left_offset,
+                                   const uint8_t *left_validity, size_t left_validity_len,
                                    size_t left_validity_offset, bool left_all_valid, const uint8_t *right,
-                                   size_t right_count, size_t right_offset, const uint8_t *right_validity,
-                                   size_t right_validity_count, size_t right_validity_offset, bool right_all_valid,
-                                   size_t length, uint8_t *values, size_t values_count, uint8_t *validity,
-                                   size_t validity_count);
+                                   size_t right_len, size_t right_offset, const uint8_t *right_validity,
+                                   size_t right_validity_len, size_t right_validity_offset, bool right_all_valid,
+                                   size_t length, uint8_t *values, size_t values_len, uint8_t *validity,
+                                   size_t validity_len);
 
 /* ---- Booleans, one byte each, 0 or 1 */
 
-/* Writes the booleans as bits over `out`, which has (items_count + 7) / 8 bytes. ARROW2_LENGTH: it has another
+/* Writes the booleans as bits over `out`, which has (items_len + 7) / 8 bytes. ARROW2_LENGTH: it has another
  * length. */
-uint32_t arrow2_pack(const bool *items, size_t items_count, uint8_t *out, size_t out_count);
+uint32_t arrow2_pack(const bool *items, size_t items_len, uint8_t *out, size_t out_len);
 
-/* Writes the `out_count` bits from bit `offset` on, as booleans. ARROW2_RANGE: they are not inside. */
-uint32_t arrow2_unpack(const uint8_t *bytes, size_t bytes_count, size_t offset, bool *out, size_t out_count);
+/* Writes the `out_len` bits from bit `offset` on, as booleans. ARROW2_RANGE: they are not inside. */
+uint32_t arrow2_unpack(const uint8_t *bytes, size_t bytes_len, size_t offset, bool *out, size_t out_len);
 
 /* ---- Runs and indices of set bits */
 
 /* Finds the runs of set bits in a range, the `length` bits from bit `offset` on. Bits of the range are counted from
  * `offset`. The search begins at bit `*at` of the range: set `*at` to 0 before the first call. Run k is `lengths[k]`
- * bits from bit `starts[k]` of the range on. The call stops when the slices are full or no run is left. It writes to
- * `*count` how many runs it has written, and to `*at` where the next call goes on. If `*count < starts_count`, all runs
- * are done, and `*at` equals `length`. The items of `starts` and `lengths` from `*count` on may have been written too.
- * For all runs, call again until `*count` is below `starts_count`, which must be at least 1: with 0 `*count` is 0, and
- * `*at` may stay.
- * ARROW2_RANGE: the range is not inside the bytes, or `*at` is above `length`. Else ARROW2_LENGTH: `starts_count` is
- * not `lengths_count`. */
-uint32_t arrow2_runs(const uint8_t *bytes, size_t bytes_count, size_t offset, size_t length, size_t *at, size_t *starts,
-                     size_t starts_count, size_t *lengths, size_t lengths_count, size_t *count);
+ * bits from bit `starts[k]` of the range on. A run that begins before `*at` is found from `*at` on. The call stops when
+ * the slices are full or no run is left. It writes to `*count` how many runs it has written, and to `*at` where the
+ * next call goes on. If `*count < starts_len`, all runs are done, and `*at` equals `length`. The items of `starts` and
+ * `lengths` from `*count` on may have been written too. For all runs, call again until `*count` is below `starts_len`,
+ * which must be at least 1. If it is 0, `*count` becomes 0, and `*at` may stay as it was.
+ * ARROW2_RANGE: the range is not inside the bytes, or `*at` is above `length`. Else ARROW2_LENGTH: `starts_len` is
+ * not `lengths_len`. */
+uint32_t arrow2_runs(const uint8_t *bytes, size_t bytes_len, size_t offset, size_t length, size_t *at, size_t *starts,
+                     size_t starts_len, size_t *lengths, size_t lengths_len, size_t *count);
 
 /* Finds the set bits in a range, the `length` bits from bit `offset` on. Bits of the range are counted from `offset`.
  * The search begins at bit `*at` of the range: set `*at` to 0 before the first call. Bit `indices[k]` of the range is
  * set, and the indices rise. The call stops when `indices` is full or no set bit is left. It writes to `*count` how
- * many indices it has written, and to `*at` where the next call goes on. If `*count < indices_count`, all set bits are
+ * many indices it has written, and to `*at` where the next call goes on. If `*count < indices_len`, all set bits are
  * done, and `*at` equals `length`. The items of `indices` from `*count` on may have been written too. For all set bits,
- * call again until `*count` is below `indices_count`, which must be at least 1.
+ * call again until `*count` is below `indices_len`, which must be at least 1. If it is 0, `*count` becomes 0, `*at` may
+ * change, and no further call ends the search.
  * ARROW2_RANGE: the range is not inside the bytes, or `*at` is above `length`. */
-uint32_t arrow2_set_indices(const uint8_t *bytes, size_t bytes_count, size_t offset, size_t length, size_t *at,
-                            size_t *indices, size_t indices_count, size_t *count);
+uint32_t arrow2_set_indices(const uint8_t *bytes, size_t bytes_len, size_t offset, size_t length, size_t *at,
+                            size_t *indices, size_t indices_len, size_t *count);
 
 /* ---- Offsets of 32 and of 64 bits
  *
  * Offsets are at least one number, none negative and none below the one before it. Slot i spans from offset i to offset
- * i + 1. If the numbers are not offsets, each call on them but the `_unchecked` ones returns, before any other code,
- * ARROW2_SPEC_EMPTY: there is no number; ARROW2_SPEC_NEGATIVE: the first is negative; ARROW2_SPEC_FALLING: the first is
- * not negative, and some number is below the one before it.
+ * i + 1. If the numbers are not offsets, each call on them but the `_unchecked` ones returns one of these codes, before
+ * any other. ARROW2_SPEC_EMPTY: there is no number. ARROW2_SPEC_NEGATIVE: the first is negative. ARROW2_SPEC_FALLING:
+ * the first is not negative, and some number is below the one before it.
  *
- * The four `_unchecked` calls test no offset. Their numbers must be offsets, so at least one; else the behaviour is
- * undefined, and memory outside `offsets` may be read. Their other codes come as without `_unchecked`. */
+ * The four `_unchecked` calls test no offset. Their numbers must be offsets, so there must be at least one; else the
+ * behaviour is undefined, and memory outside `offsets` may be read. They return their other codes in the same cases
+ * as the calls without `_unchecked`. */
 
 /* Returns ARROW2_OK if the numbers are offsets. */
-uint32_t arrow2_offsets32_check(const int32_t *offsets, size_t offsets_count);
-uint32_t arrow2_offsets64_check(const int64_t *offsets, size_t offsets_count);
+uint32_t arrow2_offsets32_check(const int32_t *offsets, size_t offsets_len);
+uint32_t arrow2_offsets64_check(const int64_t *offsets, size_t offsets_len);
 
-/* Writes the length of each slot. ARROW2_LENGTH: `out_count` is not `offsets_count - 1`. */
-uint32_t arrow2_offsets32_lengths(const int32_t *offsets, size_t offsets_count, size_t *out, size_t out_count);
-uint32_t arrow2_offsets64_lengths(const int64_t *offsets, size_t offsets_count, size_t *out, size_t out_count);
+/* Writes the length of each slot. ARROW2_LENGTH: `out_len` is not `offsets_len - 1`. */
+uint32_t arrow2_offsets32_lengths(const int32_t *offsets, size_t offsets_len, size_t *out, size_t out_len);
+uint32_t arrow2_offsets64_lengths(const int64_t *offsets, size_t offsets_len, size_t *out, size_t out_len);
 
-/* The same of numbers that must be offsets, as arrow2_offsets32_check or arrow2_offsets64_check found; else the
- * behaviour is undefined. ARROW2_LENGTH as above. */
-uint32_t arrow2_offsets32_lengths_unchecked(const int32_t *offsets, size_t offsets_count, size_t *out,
-                                            size_t out_count);
-uint32_t arrow2_offsets64_lengths_unchecked(const int64_t *offsets, size_t offsets_count, size_t *out,
-                                            size_t out_count);
+/* The same without a test of the offsets. The numbers must be such that arrow2_offsets32_check or
+ * arrow2_offsets64_check returns ARROW2_OK; else the behaviour is undefined. ARROW2_LENGTH as above. */
+uint32_t arrow2_offsets32_lengths_unchecked(const int32_t *offsets, size_t offsets_len, size_t *out,
+                                            size_t out_len);
+uint32_t arrow2_offsets64_lengths_unchecked(const int64_t *offsets, size_t offsets_len, size_t *out,
+                                            size_t out_len);
 
 /* Writes `start`; each number after it is the one before plus the next length.
- * ARROW2_LENGTH: `out_count` is not `lengths_count + 1`. Else ARROW2_OVERFLOW: `start` and all lengths, added up
- * exactly, are above 2147483647 or 9223372036854775807. */
-uint32_t arrow2_offsets32_from_lengths(size_t start, const size_t *lengths, size_t lengths_count, int32_t *out,
-                                       size_t out_count);
-uint32_t arrow2_offsets64_from_lengths(size_t start, const size_t *lengths, size_t lengths_count, int64_t *out,
-                                       size_t out_count);
+ * ARROW2_LENGTH: `out_len` is not `lengths_len + 1`. Else ARROW2_OVERFLOW: the exact sum of `start` and all lengths
+ * is above 2147483647 for 32 bits, or above 9223372036854775807 for 64. */
+uint32_t arrow2_offsets32_from_lengths(size_t start, const size_t *lengths, size_t lengths_len, int32_t *out,
+                                       size_t out_len);
+uint32_t arrow2_offsets64_from_lengths(size_t start, const size_t *lengths, size_t lengths_len, int64_t *out,
+                                       size_t out_len);
 
 /* Writes out[i] = offsets[from + i] - offsets[from] for each item of `out`.
- * ARROW2_LENGTH: `out_count` is 0. Else ARROW2_RANGE: from + out_count > offsets_count, computed as if in unlimited
+ * ARROW2_LENGTH: `out_len` is 0. Else ARROW2_RANGE: from + out_len > offsets_len, computed as if in unlimited
  * integers. */
-uint32_t arrow2_offsets32_rebase(const int32_t *offsets, size_t offsets_count, size_t from, int32_t *out,
-                                 size_t out_count);
-uint32_t arrow2_offsets64_rebase(const int64_t *offsets, size_t offsets_count, size_t from, int64_t *out,
-                                 size_t out_count);
+uint32_t arrow2_offsets32_rebase(const int32_t *offsets, size_t offsets_len, size_t from, int32_t *out,
+                                 size_t out_len);
+uint32_t arrow2_offsets64_rebase(const int64_t *offsets, size_t offsets_len, size_t from, int64_t *out,
+                                 size_t out_len);
 
-/* The same of numbers that must be offsets, so at least one; else the behaviour is undefined. ARROW2_LENGTH and
- * ARROW2_RANGE as above. */
-uint32_t arrow2_offsets32_rebase_unchecked(const int32_t *offsets, size_t offsets_count, size_t from, int32_t *out,
-                                           size_t out_count);
-uint32_t arrow2_offsets64_rebase_unchecked(const int64_t *offsets, size_t offsets_count, size_t from, int64_t *out,
-                                           size_t out_count);
+/* The same of numbers that must be offsets, so there must be at least one; else the behaviour is undefined.
+ * ARROW2_LENGTH and ARROW2_RANGE as above. */
+uint32_t arrow2_offsets32_rebase_unchecked(const int32_t *offsets, size_t offsets_len, size_t from, int32_t *out,
+                                           size_t out_len);
+uint32_t arrow2_offsets64_rebase_unchecked(const int64_t *offsets, size_t offsets_len, size_t from, int64_t *out,
+                                           size_t out_len);
 
 /* Writes the same numbers in the other width. ARROW2_LENGTH: `out` has another length than `offsets`.
  * Else, where they are narrowed, ARROW2_OVERFLOW: the last one is above 2147483647. */
-uint32_t arrow2_offsets_widen(const int32_t *offsets, size_t offsets_count, int64_t *out, size_t out_count);
-uint32_t arrow2_offsets_narrow(const int64_t *offsets, size_t offsets_count, int32_t *out, size_t out_count);
+uint32_t arrow2_offsets_widen(const int32_t *offsets, size_t offsets_len, int64_t *out, size_t out_len);
+uint32_t arrow2_offsets_narrow(const int64_t *offsets, size_t offsets_len, int32_t *out, size_t out_len);
 
 /* ---- Checks of arrays that somebody else made
  *
@@ -280,7 +285,7 @@ uint32_t arrow2_offsets_narrow(const int64_t *offsets, size_t offsets_count, int
  * the count is not checked. It does not accept a missing validity: NULL, 0 bytes and a length above 0 are ARROW2_RANGE.
  * Where there is no validity bitmap make no call: `null_count` is right if it is 0 or -1.
  * ARROW2_RANGE: they are not inside. ARROW2_NULLS: `null_count` is neither -1 nor the number of bits that are 0. */
-uint32_t arrow2_validity_check(const uint8_t *bytes, size_t bytes_count, size_t offset, size_t length,
+uint32_t arrow2_validity_check(const uint8_t *bytes, size_t bytes_len, size_t offset, size_t length,
                                int64_t null_count);
 
 /* `bytes` is a number of bytes. The first returns ARROW2_OK if offset + length <= 8 * bytes, the second if
@@ -293,44 +298,45 @@ uint32_t arrow2_values_check(size_t bytes, size_t width, size_t offset, size_t l
  * ARROW2_SPEC_FALLING: they are not offsets. ARROW2_PAST: the last one is above `items`.
  * `*index` is a position in `offsets`: with ARROW2_SPEC_FALLING that of the first number below the one before it, with
  * ARROW2_PAST that of the first number above `items`. */
-uint32_t arrow2_offsets32_check_inside(const int32_t *offsets, size_t offsets_count, size_t items, size_t *index);
-uint32_t arrow2_offsets64_check_inside(const int64_t *offsets, size_t offsets_count, size_t items, size_t *index);
+uint32_t arrow2_offsets32_check_inside(const int32_t *offsets, size_t offsets_len, size_t items, size_t *index);
+uint32_t arrow2_offsets64_check_inside(const int64_t *offsets, size_t offsets_len, size_t items, size_t *index);
 
-/* Whether the numbers are offsets, none is above `values_count`, and the values of each slot, from its offset to the
- * next, are UTF-8. Codes and `*index` as above, with `values_count` as `items`. Then ARROW2_UTF8: a slot is not UTF-8;
+/* Whether the numbers are offsets, none is above `values_len`, and the values of each slot, from its offset to the
+ * next, are UTF-8. Codes and `*index` as above, with `values_len` as `items`. Then ARROW2_UTF8: a slot is not UTF-8;
  * `*index` is the first such slot. */
-uint32_t arrow2_texts32_check(const int32_t *offsets, size_t offsets_count, const uint8_t *values, size_t values_count,
+uint32_t arrow2_texts32_check(const int32_t *offsets, size_t offsets_len, const uint8_t *values, size_t values_len,
                               size_t *index);
-uint32_t arrow2_texts64_check(const int64_t *offsets, size_t offsets_count, const uint8_t *values, size_t values_count,
+uint32_t arrow2_texts64_check(const int64_t *offsets, size_t offsets_len, const uint8_t *values, size_t values_len,
                               size_t *index);
 
-/* Whether each index is at least 0 and below `items`, or null by its bit of the validity. If `all_valid` is true none
- * is null: pointer, count and offset of the validity are ignored, and ARROW2_RANGE never comes from them.
- * ARROW2_RANGE: the bits of the indices are not inside the validity. ARROW2_INDEX: an index that is not null is
- * negative or not below `items`; `*slot` is the first such, counted from 0. */
-uint32_t arrow2_indices_i8_check(const int8_t *indices, size_t indices_count, const uint8_t *validity,
-                                 size_t validity_count, size_t validity_offset, bool all_valid, size_t items,
+/* Whether each index is at least 0 and below `items`, or null: index k is null if bit `validity_offset` + k of the
+ * validity is 0. If `all_valid` is true none is null: pointer, number of bytes and offset of the validity are not read,
+ * and ARROW2_RANGE never comes from them. The rule for slices still holds for them: pass NULL, 0, 0.
+ * ARROW2_RANGE: the `indices_len` bits from bit `validity_offset` on are not inside the validity. ARROW2_INDEX: an
+ * index that is not null is negative or not below `items`; `*slot` is the first such, counted from 0. */
+uint32_t arrow2_indices_i8_check(const int8_t *indices, size_t indices_len, const uint8_t *validity,
+                                 size_t validity_len, size_t validity_offset, bool all_valid, size_t items,
                                  size_t *slot);
-uint32_t arrow2_indices_u8_check(const uint8_t *indices, size_t indices_count, const uint8_t *validity,
-                                 size_t validity_count, size_t validity_offset, bool all_valid, size_t items,
+uint32_t arrow2_indices_u8_check(const uint8_t *indices, size_t indices_len, const uint8_t *validity,
+                                 size_t validity_len, size_t validity_offset, bool all_valid, size_t items,
                                  size_t *slot);
-uint32_t arrow2_indices_i16_check(const int16_t *indices, size_t indices_count, const uint8_t *validity,
-                                  size_t validity_count, size_t validity_offset, bool all_valid, size_t items,
+uint32_t arrow2_indices_i16_check(const int16_t *indices, size_t indices_len, const uint8_t *validity,
+                                  size_t validity_len, size_t validity_offset, bool all_valid, size_t items,
                                   size_t *slot);
-uint32_t arrow2_indices_u16_check(const uint16_t *indices, size_t indices_count, const uint8_t *validity,
-                                  size_t validity_count, size_t validity_offset, bool all_valid, size_t items,
+uint32_t arrow2_indices_u16_check(const uint16_t *indices, size_t indices_len, const uint8_t *validity,
+                                  size_t validity_len, size_t validity_offset, bool all_valid, size_t items,
                                   size_t *slot);
-uint32_t arrow2_indices_i32_check(const int32_t *indices, size_t indices_count, const uint8_t *validity,
-                                  size_t validity_count, size_t validity_offset, bool all_valid, size_t items,
+uint32_t arrow2_indices_i32_check(const int32_t *indices, size_t indices_len, const uint8_t *validity,
+                                  size_t validity_len, size_t validity_offset, bool all_valid, size_t items,
                                   size_t *slot);
-uint32_t arrow2_indices_u32_check(const uint32_t *indices, size_t indices_count, const uint8_t *validity,
-                                  size_t validity_count, size_t validity_offset, bool all_valid, size_t items,
+uint32_t arrow2_indices_u32_check(const uint32_t *indices, size_t indices_len, const uint8_t *validity,
+                                  size_t validity_len, size_t validity_offset, bool all_valid, size_t items,
                                   size_t *slot);
-uint32_t arrow2_indices_i64_check(const int64_t *indices, size_t indices_count, const uint8_t *validity,
-                                  size_t validity_count, size_t validity_offset, bool all_valid, size_t items,
+uint32_t arrow2_indices_i64_check(const int64_t *indices, size_t indices_len, const uint8_t *validity,
+                                  size_t validity_len, size_t validity_offset, bool all_valid, size_t items,
                                   size_t *slot);
-uint32_t arrow2_indices_u64_check(const uint64_t *indices, size_t indices_count, const uint8_t *validity,
-                                  size_t validity_count, size_t validity_offset, bool all_valid, size_t items,
+uint32_t arrow2_indices_u64_check(const uint64_t *indices, size_t indices_len, const uint8_t *validity,
+                                  size_t validity_len, size_t validity_offset, bool all_valid, size_t items,
                                   size_t *slot);
 
 #ifdef __cplusplus

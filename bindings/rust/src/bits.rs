@@ -1,19 +1,19 @@
 //! Bits of bytes.
 
 use crate::Bits;
-use crate::refusal::{Refusal, told};
+use crate::error::{Error, to_result};
 use crate::sys;
 
 /// Returns how many of the `length` bits from bit `offset` on are not set.
 ///
 /// # Errors
 ///
-/// [`Refusal::Range`] exactly where they are not inside the bytes.
+/// [`Error::Range`] exactly where they are not inside the bytes.
 #[inline]
-pub fn count_zeros(bytes: &[u8], offset: usize, length: usize) -> Result<usize, Refusal> {
+pub fn count_zeros(bytes: &[u8], offset: usize, length: usize) -> Result<usize, Error> {
     let mut zeros = 0;
     // SAFETY: the slice and the number are borrowed for the call, and it keeps neither.
-    told(unsafe { sys::arrow2_count_zeros(bytes.as_ptr(), bytes.len(), offset, length, &mut zeros) })?;
+    to_result(unsafe { sys::arrow2_count_zeros(bytes.as_ptr(), bytes.len(), offset, length, &mut zeros) })?;
     Ok(zeros)
 }
 
@@ -21,12 +21,12 @@ pub fn count_zeros(bytes: &[u8], offset: usize, length: usize) -> Result<usize, 
 ///
 /// # Errors
 ///
-/// [`Refusal::Range`] exactly where those of either are not inside its bytes.
+/// [`Error::Range`] exactly where those of either are not inside its bytes.
 #[inline]
-pub fn equal_bits(left: Bits<'_>, right: Bits<'_>, length: usize) -> Result<bool, Refusal> {
+pub fn equal_bits(left: Bits<'_>, right: Bits<'_>, length: usize) -> Result<bool, Error> {
     let mut equal = false;
     // SAFETY: the slices and the boolean are borrowed for the call, and it keeps none.
-    told(unsafe {
+    to_result(unsafe {
         sys::arrow2_equal_bits(
             left.bytes.as_ptr(),
             left.bytes.len(),
@@ -45,12 +45,12 @@ pub fn equal_bits(left: Bits<'_>, right: Bits<'_>, length: usize) -> Result<bool
 ///
 /// # Errors
 ///
-/// [`Refusal::Range`] exactly where it is not inside the bytes.
+/// [`Error::Range`] exactly where it is not inside the bytes.
 #[inline]
-pub fn get_bit(bytes: &[u8], index: usize) -> Result<bool, Refusal> {
+pub fn get_bit(bytes: &[u8], index: usize) -> Result<bool, Error> {
     let mut value = false;
     // SAFETY: the slice and the boolean are borrowed for the call, and it keeps neither.
-    told(unsafe { sys::arrow2_get_bit(bytes.as_ptr(), bytes.len(), index, &mut value) })?;
+    to_result(unsafe { sys::arrow2_get_bit(bytes.as_ptr(), bytes.len(), index, &mut value) })?;
     Ok(value)
 }
 
@@ -60,10 +60,10 @@ pub fn get_bit(bytes: &[u8], index: usize) -> Result<bool, Refusal> {
 ///
 /// # Errors
 ///
-/// [`Refusal::Range`] exactly where it is not inside the bytes.
+/// [`Error::Range`] exactly where it is not inside the bytes.
 #[inline]
-pub fn get_bit_inline(bytes: &[u8], index: usize) -> Result<bool, Refusal> {
-    let byte = bytes.get(index / 8).ok_or(Refusal::Range)?;
+pub fn get_bit_inline(bytes: &[u8], index: usize) -> Result<bool, Error> {
+    let byte = bytes.get(index / 8).ok_or(Error::Range)?;
     Ok(byte >> (index % 8) & 1 != 0)
 }
 
@@ -71,21 +71,23 @@ pub fn get_bit_inline(bytes: &[u8], index: usize) -> Result<bool, Refusal> {
 ///
 /// # Errors
 ///
-/// [`Refusal::Range`] exactly where it is not inside the bytes.
+/// [`Error::Range`] exactly where it is not inside the bytes.
 #[inline]
-pub fn set_bit(bytes: &mut [u8], index: usize, value: bool) -> Result<(), Refusal> {
+pub fn set_bit(bytes: &mut [u8], index: usize, value: bool) -> Result<(), Error> {
     // SAFETY: the slice is borrowed for the call, and it does not keep it.
-    told(unsafe { sys::arrow2_set_bit(bytes.as_mut_ptr(), bytes.len(), index, value) })
+    to_result(unsafe { sys::arrow2_set_bit(bytes.as_mut_ptr(), bytes.len(), index, value) })
 }
 
 /// Copies the `length` bits from bit `offset` on over `out`, from bit 0 on. Padding bits become 0.
 ///
 /// # Errors
 ///
-/// [`Refusal::Range`] exactly where they are not inside the bytes, else [`Refusal::Length`] exactly where `out` has
+/// [`Error::Range`] exactly where they are not inside the bytes, else [`Error::Length`] exactly where `out` has
 /// not [`crate::bytes_for`] that many bytes.
 #[inline]
-pub fn copy_bits(bytes: &[u8], offset: usize, length: usize, out: &mut [u8]) -> Result<(), Refusal> {
+pub fn copy_bits(bytes: &[u8], offset: usize, length: usize, out: &mut [u8]) -> Result<(), Error> {
     // SAFETY: the slices are borrowed for the call, one of them alone, and it keeps neither.
-    told(unsafe { sys::arrow2_copy_bits(bytes.as_ptr(), bytes.len(), offset, length, out.as_mut_ptr(), out.len()) })
+    to_result(unsafe {
+        sys::arrow2_copy_bits(bytes.as_ptr(), bytes.len(), offset, length, out.as_mut_ptr(), out.len())
+    })
 }

@@ -1,28 +1,28 @@
 //! Booleans, one byte each, as bits and back.
 
 use crate::Bits;
-use crate::refusal::{Refusal, told};
+use crate::error::{Error, to_result};
 use crate::sys;
 
 /// Writes the booleans as bits over `out`, from bit 0 on. Padding bits become 0.
 ///
 /// # Errors
 ///
-/// [`Refusal::Length`] exactly where `out` has not [`crate::bytes_for`] that many bytes.
+/// [`Error::Length`] exactly where `out` has not [`crate::bytes_for`] that many bytes.
 #[inline]
-pub fn pack(items: &[bool], out: &mut [u8]) -> Result<(), Refusal> {
+pub fn pack(items: &[bool], out: &mut [u8]) -> Result<(), Error> {
     // SAFETY: the slices are borrowed for the call, `out` alone, and it keeps none.
-    told(unsafe { sys::arrow2_pack(items.as_ptr(), items.len(), out.as_mut_ptr(), out.len()) })
+    to_result(unsafe { sys::arrow2_pack(items.as_ptr(), items.len(), out.as_mut_ptr(), out.len()) })
 }
 
 /// Fills `out` with bits, as booleans.
 ///
 /// # Errors
 ///
-/// [`Refusal::Range`] exactly where they are not inside.
+/// [`Error::Range`] exactly where they are not inside.
 #[inline]
-pub fn unpack(bits: Bits<'_>, out: &mut [bool]) -> Result<(), Refusal> {
+pub fn unpack(bits: Bits<'_>, out: &mut [bool]) -> Result<(), Error> {
     let Bits { bytes, offset } = bits;
     // SAFETY: the slices are borrowed for the call, `out` alone, and it keeps none.
-    told(unsafe { sys::arrow2_unpack(bytes.as_ptr(), bytes.len(), offset, out.as_mut_ptr(), out.len()) })
+    to_result(unsafe { sys::arrow2_unpack(bytes.as_ptr(), bytes.len(), offset, out.as_mut_ptr(), out.len()) })
 }

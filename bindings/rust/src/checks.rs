@@ -1,42 +1,42 @@
 //! Checks of the parts of an array that somebody else made.
 
 use crate::Bits;
-use crate::refusal::{Refusal, RefusalAt, told, told_at};
+use crate::error::{Error, ErrorAt, to_result, to_result_at};
 use crate::sys;
 
 /// Checks that the `length` bits are inside, and that `null_count` of them are 0; with -1 it checks no count.
 ///
 /// # Errors
 ///
-/// [`Refusal::Range`] exactly where they are not inside the bytes, else [`Refusal::Nulls`] exactly where `null_count`
+/// [`Error::Range`] exactly where they are not inside the bytes, else [`Error::Nulls`] exactly where `null_count`
 /// is neither -1 nor the number of zeros.
 #[inline]
-pub fn check_validity(validity: Bits<'_>, length: usize, null_count: i64) -> Result<(), Refusal> {
+pub fn check_validity(validity: Bits<'_>, length: usize, null_count: i64) -> Result<(), Error> {
     let Bits { bytes, offset } = validity;
     // SAFETY: the slice is borrowed for the call, and it does not keep it.
-    told(unsafe { sys::arrow2_validity_check(bytes.as_ptr(), bytes.len(), offset, length, null_count) })
+    to_result(unsafe { sys::arrow2_validity_check(bytes.as_ptr(), bytes.len(), offset, length, null_count) })
 }
 
 /// Whether this number of bytes has `length` bits from bit `offset` on.
 ///
 /// # Errors
 ///
-/// [`Refusal::Range`] exactly where they do not.
+/// [`Error::Range`] exactly where they do not.
 #[inline]
-pub fn check_bits(bytes: usize, offset: usize, length: usize) -> Result<(), Refusal> {
+pub fn check_bits(bytes: usize, offset: usize, length: usize) -> Result<(), Error> {
     // SAFETY: the call takes numbers alone.
-    told(unsafe { sys::arrow2_bits_check(bytes, offset, length) })
+    to_result(unsafe { sys::arrow2_bits_check(bytes, offset, length) })
 }
 
 /// Whether this number of bytes has `length` values of `width` bytes from value `offset` on.
 ///
 /// # Errors
 ///
-/// [`Refusal::Range`] exactly where they do not.
+/// [`Error::Range`] exactly where they do not.
 #[inline]
-pub fn check_values(bytes: usize, width: usize, offset: usize, length: usize) -> Result<(), Refusal> {
+pub fn check_values(bytes: usize, width: usize, offset: usize, length: usize) -> Result<(), Error> {
     // SAFETY: the call takes numbers alone.
-    told(unsafe { sys::arrow2_values_check(bytes, width, offset, length) })
+    to_result(unsafe { sys::arrow2_values_check(bytes, width, offset, length) })
 }
 
 mod sealed {
@@ -49,9 +49,9 @@ pub trait Index: sealed::Sealed + Copy {
     ///
     /// # Errors
     ///
-    /// [`Refusal::Range`] exactly where the validity has no bit for each, else [`Refusal::Index`] with the first index
+    /// [`Error::Range`] exactly where the validity has no bit for each, else [`Error::Index`] with the first index
     /// that is not, exactly where there is one.
-    fn check_indices(indices: &[Self], validity: Option<Bits<'_>>, items: usize) -> Result<(), RefusalAt>;
+    fn check_indices(indices: &[Self], validity: Option<Bits<'_>>, items: usize) -> Result<(), ErrorAt>;
 }
 
 /// The check of one width.
@@ -61,7 +61,7 @@ macro_rules! index {
 
         impl Index for $width {
             #[inline]
-            fn check_indices(indices: &[Self], validity: Option<Bits<'_>>, items: usize) -> Result<(), RefusalAt> {
+            fn check_indices(indices: &[Self], validity: Option<Bits<'_>>, items: usize) -> Result<(), ErrorAt> {
                 let all_valid = validity.is_none();
                 let Bits { bytes, offset } = validity.unwrap_or(Bits { bytes: &[], offset: 0 });
                 let mut slot = 0;
@@ -78,7 +78,7 @@ macro_rules! index {
                         &mut slot,
                     )
                 };
-                told_at(code, slot)
+                to_result_at(code, slot)
             }
         }
     };

@@ -1,7 +1,7 @@
 //! Kleene's logic on values with their validity.
 
 use crate::Bits;
-use crate::refusal::{Refusal, told};
+use crate::error::{Error, to_result};
 use crate::sys;
 
 /// Values with their validity: an item is null where its validity bit is not set.
@@ -20,7 +20,7 @@ macro_rules! operator {
         ///
         /// # Errors
         ///
-        /// [`Refusal::Range`] exactly where bits of any of the four are not inside, else [`Refusal::Length`] exactly
+        /// [`Error::Range`] exactly where bits of any of the four are not inside, else [`Error::Length`] exactly
         /// where `values` or `validity` has not [`crate::bytes_for`] that many bytes.
         #[inline]
         pub fn $name(
@@ -29,9 +29,9 @@ macro_rules! operator {
             length: usize,
             values: &mut [u8],
             validity: &mut [u8],
-        ) -> Result<(), Refusal> {
+        ) -> Result<(), Error> {
             // SAFETY: the slices are borrowed for the call, the last two alone, and it keeps none.
-            told(unsafe {
+            to_result(unsafe {
                 sys::$export(
                     left.values.bytes.as_ptr(),
                     left.values.bytes.len(),
@@ -84,7 +84,7 @@ macro_rules! optional_operator {
         ///
         /// # Errors
         ///
-        /// [`Refusal::Range`] exactly where bits of any that are there are not inside, else [`Refusal::Length`] exactly
+        /// [`Error::Range`] exactly where bits of any that are there are not inside, else [`Error::Length`] exactly
         /// where `values` or `validity` has not [`crate::bytes_for`] that many bytes.
         #[inline]
         pub fn $name(
@@ -93,12 +93,12 @@ macro_rules! optional_operator {
             length: usize,
             values: &mut [u8],
             validity: &mut [u8],
-        ) -> Result<(), Refusal> {
+        ) -> Result<(), Error> {
             let none = Bits { bytes: &[], offset: 0 };
             let left_validity = left.validity.unwrap_or(none);
             let right_validity = right.validity.unwrap_or(none);
             // SAFETY: the slices are borrowed for the call, the last two alone, and it keeps none.
-            told(unsafe {
+            to_result(unsafe {
                 sys::$export(
                     left.values.bytes.as_ptr(),
                     left.values.bytes.len(),

@@ -15,7 +15,7 @@
 //! binary_table(values, others, 4, arrow2_proved::AND, &mut both)?;
 //! assert_eq!(both, [0b0000_0011]);
 //! assert_eq!(count_zeros(&both, 0, 4)?, 2);
-//! # Ok::<(), arrow2_proved::Refusal>(())
+//! # Ok::<(), arrow2_proved::Error>(())
 //! ```
 #![no_std]
 #![deny(missing_docs)]
@@ -28,9 +28,9 @@ mod booleans;
 #[cfg(feature = "c-data")]
 pub mod c_data;
 mod checks;
+mod error;
 mod kleene;
 mod offsets;
-mod refusal;
 mod runs;
 mod set_indices;
 mod sys;
@@ -39,9 +39,9 @@ mod tables;
 pub use bits::{copy_bits, count_zeros, equal_bits, get_bit, get_bit_inline, set_bit};
 pub use booleans::{pack, unpack};
 pub use checks::{Index, check_bits, check_validity, check_values};
+pub use error::{Error, ErrorAt};
 pub use kleene::{Nullable, OptionalNullable, and_kleene, and_kleene_optional, or_kleene, or_kleene_optional};
 pub use offsets::{CheckedOffsets, Offset, narrow, widen};
-pub use refusal::{Refusal, RefusalAt};
 pub use runs::runs;
 pub use set_indices::set_indices;
 pub use tables::{

@@ -1,6 +1,6 @@
 //! Offsets of 32 and of 64 bits.
 
-use crate::refusal::{Refusal, RefusalAt, told, told_at};
+use crate::error::{Error, ErrorAt, to_result, to_result_at};
 use crate::sys;
 
 mod sealed {
@@ -25,55 +25,55 @@ mod sealed {
 ///
 /// Offsets are at least one number, none negative and none below the one before it. Slot `i` spans from offset `i` to
 /// offset `i + 1`. If the numbers are not offsets, each call on them returns, before any other error,
-/// [`Refusal::NoOffset`]: there is no number; [`Refusal::NegativeOffset`]: the first is negative;
-/// [`Refusal::FallingOffsets`]: the first is not negative, and some number is below the one before it.
+/// [`Error::NoOffset`]: there is no number; [`Error::NegativeOffset`]: the first is negative;
+/// [`Error::FallingOffsets`]: the first is not negative, and some number is below the one before it.
 pub trait Offset: sealed::Sealed + Copy {
     /// Whether the numbers are offsets.
     ///
     /// # Errors
     ///
     /// The first rule that they break.
-    fn check(offsets: &[Self]) -> Result<(), Refusal>;
+    fn check(offsets: &[Self]) -> Result<(), Error>;
 
     /// Writes the length of each slot.
     ///
     /// # Errors
     ///
-    /// As [`Offset::check`], else [`Refusal::Length`] exactly where `out.len() + 1` is not `offsets.len()`.
-    fn lengths(offsets: &[Self], out: &mut [usize]) -> Result<(), Refusal>;
+    /// As [`Offset::check`], else [`Error::Length`] exactly where `out.len() + 1` is not `offsets.len()`.
+    fn lengths(offsets: &[Self], out: &mut [usize]) -> Result<(), Error>;
 
     /// Writes `start`; each number after it is the one before plus the next length.
     ///
     /// # Errors
     ///
-    /// [`Refusal::Length`] exactly where `out.len()` is not `lengths.len() + 1`, else [`Refusal::Overflow`] exactly
+    /// [`Error::Length`] exactly where `out.len()` is not `lengths.len() + 1`, else [`Error::Overflow`] exactly
     /// where `start` and all lengths together are above `i32::MAX` or `i64::MAX`.
-    fn from_lengths(start: usize, lengths: &[usize], out: &mut [Self]) -> Result<(), Refusal>;
+    fn from_lengths(start: usize, lengths: &[usize], out: &mut [Self]) -> Result<(), Error>;
 
     /// Writes `offsets[from + i] - offsets[from]` to each item `i` of `out`.
     ///
     /// # Errors
     ///
-    /// As [`Offset::check`], else [`Refusal::Length`] exactly where `out` has no item, else [`Refusal::Range`] exactly
+    /// As [`Offset::check`], else [`Error::Length`] exactly where `out` has no item, else [`Error::Range`] exactly
     /// where `from + out.len()` is above `offsets.len()`.
-    fn rebase(offsets: &[Self], from: usize, out: &mut [Self]) -> Result<(), Refusal>;
+    fn rebase(offsets: &[Self], from: usize, out: &mut [Self]) -> Result<(), Error>;
 
     /// Whether the numbers are offsets, and none is above `items`.
     ///
     /// # Errors
     ///
-    /// As [`Offset::check`], else [`Refusal::PastOffset`] exactly where the last number is above `items`.
-    /// [`Refusal::FallingOffsets`] comes with the index of the first number that is below the one before it,
-    /// [`Refusal::PastOffset`] with that of the first number above `items`.
-    fn check_inside(offsets: &[Self], items: usize) -> Result<(), RefusalAt>;
+    /// As [`Offset::check`], else [`Error::PastOffset`] exactly where the last number is above `items`.
+    /// [`Error::FallingOffsets`] comes with the index of the first number that is below the one before it,
+    /// [`Error::PastOffset`] with that of the first number above `items`.
+    fn check_inside(offsets: &[Self], items: usize) -> Result<(), ErrorAt>;
 
     /// Whether the numbers are offsets, none is above `values.len()`, and the values of each slot are UTF-8.
     ///
     /// # Errors
     ///
-    /// As [`Offset::check_inside`] with `values.len()` as `items`, else [`Refusal::NotUtf8`] with the first slot that
+    /// As [`Offset::check_inside`] with `values.len()` as `items`, else [`Error::NotUtf8`] with the first slot that
     /// is not UTF-8, exactly where there is one.
-    fn check_texts(offsets: &[Self], values: &[u8]) -> Result<(), RefusalAt>;
+    fn check_texts(offsets: &[Self], values: &[u8]) -> Result<(), ErrorAt>;
 }
 
 /// The calls of one width.
@@ -99,38 +99,40 @@ macro_rules! offset {
         // SAFETY, of each call: as above.
         impl Offset for $width {
             #[inline]
-            fn check(offsets: &[Self]) -> Result<(), Refusal> {
-                told(unsafe { sys::$check(offsets.as_ptr(), offsets.len()) })
+            fn check(offsets: &[Self]) -> Result<(), Error> {
+                to_result(unsafe { sys::$check(offsets.as_ptr(), offsets.len()) })
             }
 
             #[inline]
-            fn lengths(offsets: &[Self], out: &mut [usize]) -> Result<(), Refusal> {
-                told(unsafe { sys::$lengths(offsets.as_ptr(), offsets.len(), out.as_mut_ptr(), out.len()) })
+            fn lengths(offsets: &[Self], out: &mut [usize]) -> Result<(), Error> {
+                to_result(unsafe { sys::$lengths(offsets.as_ptr(), offsets.len(), out.as_mut_ptr(), out.len()) })
             }
 
             #[inline]
-            fn from_lengths(start: usize, lengths: &[usize], out: &mut [Self]) -> Result<(), Refusal> {
-                told(unsafe { sys::$from_lengths(start, lengths.as_ptr(), lengths.len(), out.as_mut_ptr(), out.len()) })
+            fn from_lengths(start: usize, lengths: &[usize], out: &mut [Self]) -> Result<(), Error> {
+                to_result(unsafe {
+                    sys::$from_lengths(start, lengths.as_ptr(), lengths.len(), out.as_mut_ptr(), out.len())
+                })
             }
 
             #[inline]
-            fn rebase(offsets: &[Self], from: usize, out: &mut [Self]) -> Result<(), Refusal> {
-                told(unsafe { sys::$rebase(offsets.as_ptr(), offsets.len(), from, out.as_mut_ptr(), out.len()) })
+            fn rebase(offsets: &[Self], from: usize, out: &mut [Self]) -> Result<(), Error> {
+                to_result(unsafe { sys::$rebase(offsets.as_ptr(), offsets.len(), from, out.as_mut_ptr(), out.len()) })
             }
 
             #[inline]
-            fn check_inside(offsets: &[Self], items: usize) -> Result<(), RefusalAt> {
+            fn check_inside(offsets: &[Self], items: usize) -> Result<(), ErrorAt> {
                 let mut index = 0;
                 let code = unsafe { sys::$inside(offsets.as_ptr(), offsets.len(), items, &mut index) };
-                told_at(code, index)
+                to_result_at(code, index)
             }
 
             #[inline]
-            fn check_texts(offsets: &[Self], values: &[u8]) -> Result<(), RefusalAt> {
+            fn check_texts(offsets: &[Self], values: &[u8]) -> Result<(), ErrorAt> {
                 let mut index = 0;
                 let code =
                     unsafe { sys::$texts(offsets.as_ptr(), offsets.len(), values.as_ptr(), values.len(), &mut index) };
-                told_at(code, index)
+                to_result_at(code, index)
             }
         }
     };
@@ -170,7 +172,7 @@ impl<'a, O: Offset> CheckedOffsets<'a, O> {
     ///
     /// The first rule that they break.
     #[inline]
-    pub fn new(offsets: &'a [O]) -> Result<Self, Refusal> {
+    pub fn new(offsets: &'a [O]) -> Result<Self, Error> {
         O::check(offsets)?;
         Ok(CheckedOffsets(offsets))
     }
@@ -185,23 +187,23 @@ impl<'a, O: Offset> CheckedOffsets<'a, O> {
     ///
     /// # Errors
     ///
-    /// [`Refusal::Length`] exactly where `out.len() + 1` is not the number of offsets.
+    /// [`Error::Length`] exactly where `out.len() + 1` is not the number of offsets.
     #[inline]
-    pub fn lengths(self, out: &mut [usize]) -> Result<(), Refusal> {
+    pub fn lengths(self, out: &mut [usize]) -> Result<(), Error> {
         // SAFETY: `new` found that the numbers are offsets.
-        told(unsafe { O::lengths_unchecked(self.0, out) })
+        to_result(unsafe { O::lengths_unchecked(self.0, out) })
     }
 
     /// Writes offset `from + i` minus offset `from` to each item `i` of `out`.
     ///
     /// # Errors
     ///
-    /// [`Refusal::Length`] exactly where `out` has no item, else [`Refusal::Range`] exactly where `from + out.len()` is
+    /// [`Error::Length`] exactly where `out` has no item, else [`Error::Range`] exactly where `from + out.len()` is
     /// above the number of offsets.
     #[inline]
-    pub fn rebase(self, from: usize, out: &mut [O]) -> Result<(), Refusal> {
+    pub fn rebase(self, from: usize, out: &mut [O]) -> Result<(), Error> {
         // SAFETY: `new` found that the numbers are offsets.
-        told(unsafe { O::rebase_unchecked(self.0, from, out) })
+        to_result(unsafe { O::rebase_unchecked(self.0, from, out) })
     }
 }
 
@@ -209,20 +211,20 @@ impl<'a, O: Offset> CheckedOffsets<'a, O> {
 ///
 /// # Errors
 ///
-/// As [`Offset::check`], else [`Refusal::Length`] exactly where `out.len()` is not `offsets.len()`.
+/// As [`Offset::check`], else [`Error::Length`] exactly where `out.len()` is not `offsets.len()`.
 #[inline]
-pub fn widen(offsets: &[i32], out: &mut [i64]) -> Result<(), Refusal> {
+pub fn widen(offsets: &[i32], out: &mut [i64]) -> Result<(), Error> {
     // SAFETY: the slices are borrowed for the call, `out` alone, and it keeps none.
-    told(unsafe { sys::arrow2_offsets_widen(offsets.as_ptr(), offsets.len(), out.as_mut_ptr(), out.len()) })
+    to_result(unsafe { sys::arrow2_offsets_widen(offsets.as_ptr(), offsets.len(), out.as_mut_ptr(), out.len()) })
 }
 
 /// Writes the same offsets, in 32 bits each.
 ///
 /// # Errors
 ///
-/// As [`widen`], else [`Refusal::Overflow`] exactly where the last offset is above `i32::MAX`.
+/// As [`widen`], else [`Error::Overflow`] exactly where the last offset is above `i32::MAX`.
 #[inline]
-pub fn narrow(offsets: &[i64], out: &mut [i32]) -> Result<(), Refusal> {
+pub fn narrow(offsets: &[i64], out: &mut [i32]) -> Result<(), Error> {
     // SAFETY: the slices are borrowed for the call, `out` alone, and it keeps none.
-    told(unsafe { sys::arrow2_offsets_narrow(offsets.as_ptr(), offsets.len(), out.as_mut_ptr(), out.len()) })
+    to_result(unsafe { sys::arrow2_offsets_narrow(offsets.as_ptr(), offsets.len(), out.as_mut_ptr(), out.len()) })
 }

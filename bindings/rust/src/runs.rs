@@ -1,7 +1,7 @@
 //! The runs of set bits.
 
 use crate::Bits;
-use crate::refusal::{Refusal, told};
+use crate::error::{Error, to_result};
 use crate::sys;
 
 /// Finds the runs of set bits among `length` bits, which are counted from `bits.offset`. The search begins at bit `at`:
@@ -12,7 +12,7 @@ use crate::sys;
 ///
 /// # Errors
 ///
-/// [`Refusal::Range`] exactly where the bits are not inside or `at` is above `length`, else [`Refusal::Length`] exactly
+/// [`Error::Range`] exactly where the bits are not inside or `at` is above `length`, else [`Error::Length`] exactly
 /// where `starts` and `lengths` have not equally many items.
 #[inline]
 pub fn runs(
@@ -21,10 +21,10 @@ pub fn runs(
     at: &mut usize,
     starts: &mut [usize],
     lengths: &mut [usize],
-) -> Result<usize, Refusal> {
+) -> Result<usize, Error> {
     let mut count = 0;
     // All is borrowed for the call, slices that are written exclusively, and it keeps nothing.
-    told(unsafe {
+    to_result(unsafe {
         sys::arrow2_runs(
             bits.bytes.as_ptr(),
             bits.bytes.len(),

@@ -1,7 +1,7 @@
 //! The indices of set bits.
 
 use crate::Bits;
-use crate::refusal::{Refusal, told};
+use crate::error::{Error, to_result};
 use crate::sys;
 
 /// Finds the set bits among `length` bits, which are counted from `bits.offset`. The search begins at bit `at`: set it
@@ -11,12 +11,12 @@ use crate::sys;
 ///
 /// # Errors
 ///
-/// [`Refusal::Range`] exactly where the bits are not inside or `at` is above `length`.
+/// [`Error::Range`] exactly where the bits are not inside or `at` is above `length`.
 #[inline]
-pub fn set_indices(bits: Bits<'_>, length: usize, at: &mut usize, indices: &mut [usize]) -> Result<usize, Refusal> {
+pub fn set_indices(bits: Bits<'_>, length: usize, at: &mut usize, indices: &mut [usize]) -> Result<usize, Error> {
     let mut count = 0;
     // All is borrowed for the call, slices that are written exclusively, and it keeps nothing.
-    told(unsafe {
+    to_result(unsafe {
         sys::arrow2_set_indices(
             bits.bytes.as_ptr(),
             bits.bytes.len(),

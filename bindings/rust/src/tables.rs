@@ -3,7 +3,7 @@
 //! Bit `a1 + 2 * a2 + 4 * a3 + 8 * a4` of a table is its output for inputs `a1` to `a4`.
 
 use crate::Bits;
-use crate::refusal::{Refusal, told};
+use crate::error::{Error, to_result};
 use crate::sys;
 
 /// The table of one input whose output is the negated input.
@@ -22,13 +22,13 @@ pub const XOR: u16 = 0b0110;
 ///
 /// # Errors
 ///
-/// [`Refusal::Range`] exactly where `table` is above 3 or the bits are not inside, else [`Refusal::Length`] exactly
+/// [`Error::Range`] exactly where `table` is above 3 or the bits are not inside, else [`Error::Length`] exactly
 /// where `out` has not [`crate::bytes_for`] that many bytes.
 #[inline]
-pub fn unary_table(input: Bits<'_>, length: usize, table: u16, out: &mut [u8]) -> Result<(), Refusal> {
+pub fn unary_table(input: Bits<'_>, length: usize, table: u16, out: &mut [u8]) -> Result<(), Error> {
     let Bits { bytes, offset } = input;
     // SAFETY: the slices are borrowed for the call, `out` alone, and it keeps none.
-    told(unsafe {
+    to_result(unsafe {
         sys::arrow2_unary_table(bytes.as_ptr(), bytes.len(), offset, length, table, out.as_mut_ptr(), out.len())
     })
 }
@@ -39,15 +39,9 @@ pub fn unary_table(input: Bits<'_>, length: usize, table: u16, out: &mut [u8]) -
 ///
 /// As [`unary_table`], but where `table` is above 15.
 #[inline]
-pub fn binary_table(
-    first: Bits<'_>,
-    second: Bits<'_>,
-    length: usize,
-    table: u16,
-    out: &mut [u8],
-) -> Result<(), Refusal> {
+pub fn binary_table(first: Bits<'_>, second: Bits<'_>, length: usize, table: u16, out: &mut [u8]) -> Result<(), Error> {
     // SAFETY: the slices are borrowed for the call, `out` alone, and it keeps none.
-    told(unsafe {
+    to_result(unsafe {
         sys::arrow2_binary_table(
             first.bytes.as_ptr(),
             first.bytes.len(),
@@ -76,9 +70,9 @@ pub fn ternary_table(
     length: usize,
     table: u16,
     out: &mut [u8],
-) -> Result<(), Refusal> {
+) -> Result<(), Error> {
     // SAFETY: the slices are borrowed for the call, `out` alone, and it keeps none.
-    told(unsafe {
+    to_result(unsafe {
         sys::arrow2_ternary_table(
             first.bytes.as_ptr(),
             first.bytes.len(),
@@ -111,9 +105,9 @@ pub fn quaternary_table(
     length: usize,
     table: u16,
     out: &mut [u8],
-) -> Result<(), Refusal> {
+) -> Result<(), Error> {
     // SAFETY: the slices are borrowed for the call, `out` alone, and it keeps none.
-    told(unsafe {
+    to_result(unsafe {
         sys::arrow2_quaternary_table(
             first.bytes.as_ptr(),
             first.bytes.len(),
@@ -139,12 +133,12 @@ pub fn quaternary_table(
 ///
 /// # Errors
 ///
-/// [`Refusal::Range`] exactly where `table` is above 3, else [`Refusal::Length`] exactly where `bytes` has not
+/// [`Error::Range`] exactly where `table` is above 3, else [`Error::Length`] exactly where `bytes` has not
 /// [`crate::bytes_for`] that many bytes.
 #[inline]
-pub fn unary_assign_table(bytes: &mut [u8], length: usize, table: u16) -> Result<(), Refusal> {
+pub fn unary_assign_table(bytes: &mut [u8], length: usize, table: u16) -> Result<(), Error> {
     // SAFETY: the slice is borrowed for the call, alone, and it does not keep it.
-    told(unsafe { sys::arrow2_unary_assign_table(bytes.as_mut_ptr(), bytes.len(), length, table) })
+    to_result(unsafe { sys::arrow2_unary_assign_table(bytes.as_mut_ptr(), bytes.len(), length, table) })
 }
 
 /// The same of two inputs: the first `length` bits of `bytes`, and `length` bits of `second`.
@@ -153,9 +147,9 @@ pub fn unary_assign_table(bytes: &mut [u8], length: usize, table: u16) -> Result
 ///
 /// As [`unary_assign_table`], but where `table` is above 15 or bits of `second` are not inside.
 #[inline]
-pub fn binary_assign_table(bytes: &mut [u8], second: Bits<'_>, length: usize, table: u16) -> Result<(), Refusal> {
+pub fn binary_assign_table(bytes: &mut [u8], second: Bits<'_>, length: usize, table: u16) -> Result<(), Error> {
     // SAFETY: the slices are borrowed for the call, `bytes` alone, and it keeps none.
-    told(unsafe {
+    to_result(unsafe {
         sys::arrow2_binary_assign_table(
             bytes.as_mut_ptr(),
             bytes.len(),
@@ -180,9 +174,9 @@ pub fn ternary_assign_table(
     third: Bits<'_>,
     length: usize,
     table: u16,
-) -> Result<(), Refusal> {
+) -> Result<(), Error> {
     // SAFETY: the slices are borrowed for the call, `bytes` alone, and it keeps none.
-    told(unsafe {
+    to_result(unsafe {
         sys::arrow2_ternary_assign_table(
             bytes.as_mut_ptr(),
             bytes.len(),
@@ -211,9 +205,9 @@ pub fn quaternary_assign_table(
     fourth: Bits<'_>,
     length: usize,
     table: u16,
-) -> Result<(), Refusal> {
+) -> Result<(), Error> {
     // SAFETY: the slices are borrowed for the call, `bytes` alone, and it keeps none.
-    told(unsafe {
+    to_result(unsafe {
         sys::arrow2_quaternary_assign_table(
             bytes.as_mut_ptr(),
             bytes.len(),

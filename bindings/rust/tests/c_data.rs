@@ -3,7 +3,7 @@
 use arrow2_proved::c_data::{
     Array, ArrowArray, ArrowArrayStream, ArrowSchema, Broken, Offsets, Schema, Stream, StreamError,
 };
-use arrow2_proved::{Bits, Refusal};
+use arrow2_proved::{Bits, Error};
 use core::ffi::{CStr, c_int, c_void};
 use std::cell::Cell;
 use std::ptr;
@@ -110,7 +110,7 @@ fn values_of_one_width_begin_at_the_first_item() {
     assert_eq!(view.bytes(), Some(&[40, 0, 50, 0][..]));
     assert!(owner.check_sized(&of_type, &[0, 6]).is_ok());
     let refused = owner.check_sized(&of_type, &[0, 5]).unwrap_err();
-    assert_eq!(refused.broken, Broken::Part(Refusal::Range));
+    assert_eq!(refused.broken, Broken::Part(Error::Range));
     assert!(view.validity().is_none() && view.offsets().is_none());
 }
 
@@ -134,7 +134,7 @@ fn what_is_refused_has_no_view() {
     let of_type = unsafe { Schema::from_raw(schema(&releases, c"u")) };
     let owner = unsafe { Array::from_raw(array(&releases, 3, 0, &mut buffers)) };
     let refused = owner.check(&of_type).unwrap_err();
-    assert_eq!((refused.broken, refused.slot), (Broken::Part(Refusal::NotUtf8), Some(1)));
+    assert_eq!((refused.broken, refused.slot), (Broken::Part(Error::NotUtf8), Some(1)));
     assert_eq!(refused.to_string(), "\"\": a text is not UTF-8 at slot 1");
 }
 

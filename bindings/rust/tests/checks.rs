@@ -3,8 +3,8 @@
 mod inputs;
 
 use arrow2_proved::{
-    Bits, Index, Offset, OptionalNullable, Refusal, RefusalAt, and_kleene_optional, bytes_for, check_bits,
-    check_validity, check_values, or_kleene_optional,
+    Bits, Error, ErrorAt, Index, Offset, OptionalNullable, and_kleene_optional, bytes_for, check_bits, check_validity,
+    check_values, or_kleene_optional,
 };
 use inputs::{Random, part};
 
@@ -19,27 +19,27 @@ fn validities() {
         let (offset, length) = random.range(&bytes);
         let zeros = part(&bytes, offset, length).map(|bits| bits.iter().filter(|bit| !**bit).count());
         let null_count = random.near(zeros.unwrap_or(0)) as i64 - i64::from(random.flag());
-        let told = zeros.and_then(|zeros| match null_count {
+        let outcome = zeros.and_then(|zeros| match null_count {
             -1 => Ok(()),
             _ if null_count == zeros as i64 => Ok(()),
-            _ => Err(Refusal::Nulls),
+            _ => Err(Error::Nulls),
         });
-        assert_eq!(check_validity(Bits { bytes: &bytes, offset }, length, null_count), told);
+        assert_eq!(check_validity(Bits { bytes: &bytes, offset }, length, null_count), outcome);
     }
 }
 
 #[test]
 fn sizes() {
     let near = [0, 1, 2, 7, 8, 9, 24, 25, 1 << 31, usize::MAX / 8, usize::MAX - 1, usize::MAX];
-    let told = |fits: bool| if fits { Ok(()) } else { Err(Refusal::Range) };
+    let outcome = |fits: bool| if fits { Ok(()) } else { Err(Error::Range) };
     for bytes in near {
         for offset in near {
             for length in near {
                 let items = offset as u128 + length as u128;
-                assert_eq!(check_bits(bytes, offset, length), told(items <= 8 * bytes as u128));
+                assert_eq!(check_bits(bytes, offset, length), outcome(items <= 8 * bytes as u128));
                 for width in near {
                     let fits = items.checked_mul(width as u128).is_some_and(|all| all <= bytes as u128);
-                    assert_eq!(check_values(bytes, width, offset, length), told(fits));
+                    assert_eq!(check_values(bytes, width, offset, length), outcome(fits));
                 }
             }
         }
@@ -47,16 +47,16 @@ fn sizes() {
 }
 
 /// The first rule that the numbers break, by plain loops.
-fn offsets_told(offsets: &[i64], items: usize) -> Result<(), RefusalAt> {
-    let refused = |refusal, at| Err(RefusalAt { refusal, at });
-    let Some(first) = offsets.first() else { return refused(Refusal::NoOffset, 0) };
+fn offsets_checked(offsets: &[i64], items: usize) -> Result<(), ErrorAt> {
+    let refused = |error, at| Err(ErrorAt { error, at });
+    let Some(first) = offsets.first() else { return refused(Error::NoOffset, 0) };
     if *first < 0 {
-        return refused(Refusal::NegativeOffset, 0);
+        return refused(Error::NegativeOffset, 0);
     }
     if let Some(at) = offsets.windows(2).position(|two| two[1] < two[0]) {
-        return refused(Refusal::FallingOffsets, at + 1);
+        return refused(Error::FallingOffsets, at + 1);
     }
-    offsets.iter().position(|it| *it as usize > items).map_or(Ok(()), |at| refused(Refusal::PastOffset, at))
+    offsets.iter().position(|it| *it as usize > items).map_or(Ok(()), |at| refused(Error::PastOffset, at))
 }
 
 /// Offsets, or one time in four numbers that are near to some.
@@ -87,16 +87,16 @@ fn offsets_and_texts() {
         }
         let wide = numbers(&mut random, values.len());
         let narrow: Vec<i32> = wide.iter().map(|it| *it as i32).collect();
-        let inside = offsets_told(&wide, values.len());
+        let inside = offsets_checked(&wide, values.len());
         assert_eq!(i64::check_inside(&wide, values.len()), inside);
         assert_eq!(i32::check_inside(&narrow, values.len()), inside);
         let slot = |two: &[i64]| std::str::from_utf8(&values[two[0] as usize..two[1] as usize]);
-        let told = inside.and_then(|()| match wide.windows(2).position(|two| slot(two).is_err()) {
+        let outcome = inside.and_then(|()| match wide.windows(2).position(|two| slot(two).is_err()) {
             None => Ok(()),
-            Some(at) => Err(RefusalAt { refusal: Refusal::NotUtf8, at }),
+            Some(at) => Err(ErrorAt { error: Error::NotUtf8, at }),
         });
-        assert_eq!(i64::check_texts(&wide, &values), told);
-        assert_eq!(i32::check_texts(&narrow, &values), told);
+        assert_eq!(i64::check_texts(&wide, &values), outcome);
+        assert_eq!(i32::check_texts(&narrow, &values), outcome);
     }
 }
 
@@ -110,17 +110,17 @@ fn indices() {
         let items = random.below(6);
         let indices: Vec<i16> =
             (0..length).map(|_| random.below(items + 2) as i16 - i16::from(random.below(9) == 0)).collect();
-        let valid = part(&bytes, offset, length).map_err(|refusal| RefusalAt { refusal, at: 0 });
-        let told = valid.and_then(|valid| {
+        let valid = part(&bytes, offset, length).map_err(|error| ErrorAt { error, at: 0 });
+        let outcome = valid.and_then(|valid| {
             let outside = |at: &usize| valid[*at] && !(0..items as i16).contains(&indices[*at]);
-            (0..length).find(outside).map_or(Ok(()), |at| Err(RefusalAt { refusal: Refusal::Index, at }))
+            (0..length).find(outside).map_or(Ok(()), |at| Err(ErrorAt { error: Error::Index, at }))
         });
-        assert_eq!(i16::check_indices(&indices, Some(Bits { bytes: &bytes, offset }), items), told);
+        assert_eq!(i16::check_indices(&indices, Some(Bits { bytes: &bytes, offset }), items), outcome);
         let all = indices.iter().position(|it| !(0..items as i16).contains(it));
-        let told = all.map_or(Ok(()), |at| Err(RefusalAt { refusal: Refusal::Index, at }));
-        assert_eq!(i16::check_indices(&indices, None, items), told);
+        let outcome = all.map_or(Ok(()), |at| Err(ErrorAt { error: Error::Index, at }));
+        assert_eq!(i16::check_indices(&indices, None, items), outcome);
         let wide: Vec<u64> = indices.iter().map(|it| *it as u64).collect();
-        assert_eq!(u64::check_indices(&wide, None, items), told);
+        assert_eq!(u64::check_indices(&wide, None, items), outcome);
     }
 }
 
@@ -148,12 +148,12 @@ fn kleenes_logic_without_a_validity() {
                 validity: Some(Bits { bytes: &validity, offset: 0 }),
             };
             for at in 0..length {
-                let told = match (item(left, at), item(right, at)) {
+                let outcome = match (item(left, at), item(right, at)) {
                     (Some(a), Some(b)) => Some(if is_and { a && b } else { a || b }),
                     (Some(a), None) | (None, Some(a)) => (a != is_and).then_some(a),
                     (None, None) => None,
                 };
-                assert_eq!(item(written, at), told);
+                assert_eq!(item(written, at), outcome);
             }
         }
     }

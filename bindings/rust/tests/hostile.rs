@@ -25,7 +25,7 @@ unsafe extern "C" fn in_rust(
     array: *const ArrowArray,
     sizes: *const usize,
     count: usize,
-    place: *mut Where,
+    position: *mut Where,
 ) -> u32 {
     // SAFETY: C hands in sizes or null, and an index or null.
     let sizes = (!sizes.is_null()).then(|| unsafe { slice::from_raw_parts(sizes, count) });
@@ -33,12 +33,12 @@ unsafe extern "C" fn in_rust(
         Ok(()) => 0,
         Err(refused) => {
             // SAFETY: as above.
-            if let Some(place) = unsafe { place.as_mut() } {
+            if let Some(position) = unsafe { position.as_mut() } {
                 let mut path = String::new();
                 write!(path, "{}", refused.path).unwrap();
-                place.slot = refused.slot.map_or(-1, |slot| slot as i64);
-                place.path.fill(0);
-                for (to, from) in place.path[..1279].iter_mut().zip(path.bytes()) {
+                position.slot = refused.slot.map_or(-1, |slot| slot as i64);
+                position.path.fill(0);
+                for (to, from) in position.path[..1279].iter_mut().zip(path.bytes()) {
                     *to = from as c_char;
                 }
             }

@@ -20,7 +20,7 @@ fn bitmap(bits: Bits<'_>, length: usize) -> Bitmap {
 }
 
 /// The bits that were written, as a bitmap of arrow2.
-fn told(out: Vec<u8>, length: usize) -> Bitmap {
+fn outcome(out: Vec<u8>, length: usize) -> Bitmap {
     Bitmap::from_u8_vec(out, length)
 }
 
@@ -67,11 +67,11 @@ fn operators() {
         for (table, theirs) in [(AND, &a & &b), (OR, &a | &b), (XOR, &a ^ &b)] {
             let mut out = vec![255; bytes_for(length)];
             binary_table(first, second, length, table, &mut out).unwrap();
-            assert_eq!(told(out, length), theirs);
+            assert_eq!(outcome(out, length), theirs);
         }
         let mut out = vec![255; bytes_for(length)];
         unary_table(first, length, NOT, &mut out).unwrap();
-        assert_eq!(told(out, length), !&a);
+        assert_eq!(outcome(out, length), !&a);
     }
 }
 
@@ -105,7 +105,7 @@ fn copies_runs_indices_and_booleans() {
 
         let mut out = vec![255; bytes_for(length)];
         copy_bits(&bytes, bits.offset, length, &mut out).unwrap();
-        assert_eq!(told(out, length), theirs);
+        assert_eq!(outcome(out, length), theirs);
 
         let (mut at, mut starts, mut lengths) = (0, vec![0; length + 1], vec![0; length + 1]);
         let count = runs(bits, length, &mut at, &mut starts, &mut lengths).unwrap();
@@ -114,7 +114,7 @@ fn copies_runs_indices_and_booleans() {
 
         let (mut at, mut indices) = (0, vec![0; length]);
         let count = set_indices(bits, length, &mut at, &mut indices).unwrap();
-        let set: Vec<_> = theirs.iter().enumerate().filter(|(_, bit)| *bit).map(|(place, _)| place).collect();
+        let set: Vec<_> = theirs.iter().enumerate().filter(|(_, bit)| *bit).map(|(position, _)| position).collect();
         assert_eq!(indices[..count], set);
 
         let mut items = vec![false; length];
@@ -122,7 +122,7 @@ fn copies_runs_indices_and_booleans() {
         assert_eq!(items, theirs.iter().collect::<Vec<_>>());
         let mut out = vec![255; bytes_for(length)];
         pack(&items, &mut out).unwrap();
-        assert_eq!(told(out, length), items.into_iter().collect::<Bitmap>());
+        assert_eq!(outcome(out, length), items.into_iter().collect::<Bitmap>());
     }
 }
 

@@ -3,8 +3,8 @@
 mod inputs;
 
 use arrow2_proved::{
-    Bits, CheckedOffsets, Nullable, Offset, Refusal, and_kleene, binary_assign_table, binary_table, bytes_for,
-    copy_bits, count_zeros, equal_bits, get_bit, get_bit_inline, narrow, or_kleene, pack, quaternary_assign_table,
+    Bits, CheckedOffsets, Error, Nullable, Offset, and_kleene, binary_assign_table, binary_table, bytes_for, copy_bits,
+    count_zeros, equal_bits, get_bit, get_bit_inline, narrow, or_kleene, pack, quaternary_assign_table,
     quaternary_table, runs, set_bit, set_indices, ternary_assign_table, ternary_table, unary_assign_table, unary_table,
     unpack, widen,
 };
@@ -38,9 +38,9 @@ fn equality() {
             length,
         );
         let bits = part(&left, left_offset, length);
-        let told = bits.and_then(|bits| Ok(bits == part(&right, right_offset, length)?));
-        assert_eq!(answer, told);
-        same += usize::from(told == Ok(true));
+        let outcome = bits.and_then(|bits| Ok(bits == part(&right, right_offset, length)?));
+        assert_eq!(answer, outcome);
+        same += usize::from(outcome == Ok(true));
     }
     // Both results came often.
     assert!(INPUTS / 10 < same && same < INPUTS * 9 / 10, "{same} of {INPUTS}");
@@ -51,10 +51,10 @@ fn single_bits() {
     let mut random = Random::new(2);
     for _ in 0..INPUTS {
         let mut bytes = random.bytes();
-        let index = random.place(&bytes);
+        let index = random.position(&bytes);
         let value = random.flag();
         let before = part(&bytes, 0, 8 * bytes.len()).unwrap();
-        assert_eq!(get_bit(&bytes, index), before.get(index).copied().ok_or(Refusal::Range));
+        assert_eq!(get_bit(&bytes, index), before.get(index).copied().ok_or(Error::Range));
         assert_eq!(get_bit_inline(&bytes, index), get_bit(&bytes, index));
         let mut after = before.clone();
         let set = set_bit(&mut bytes, index, value);
@@ -63,7 +63,7 @@ fn single_bits() {
                 *bit = value;
                 assert_eq!(set, Ok(()));
             }
-            None => assert_eq!(set, Err(Refusal::Range)),
+            None => assert_eq!(set, Err(Error::Range)),
         }
         assert_eq!(part(&bytes, 0, 8 * bytes.len()).unwrap(), after);
     }
@@ -83,23 +83,23 @@ fn copies() {
 }
 
 /// The outputs of a table, by the number of its inputs.
-fn answers(table: u16, inputs: &[Vec<bool>], length: usize) -> Vec<bool> {
-    let answer = |place: usize| {
+fn results(table: u16, inputs: &[Vec<bool>], length: usize) -> Vec<bool> {
+    let answer = |position: usize| {
         let bits = inputs.iter().enumerate();
-        let index: usize = bits.map(|(input, bits)| usize::from(bits[place]) << input).sum();
+        let index: usize = bits.map(|(input, bits)| usize::from(bits[position]) << input).sum();
         table >> index & 1 == 1
     };
     (0..length).map(answer).collect()
 }
 
 /// The outputs of a table of `count` inputs, or its error.
-fn expected(table: u16, inputs: &[Bits<'_>], length: usize) -> Result<Vec<bool>, Refusal> {
+fn expected(table: u16, inputs: &[Bits<'_>], length: usize) -> Result<Vec<bool>, Error> {
     let most = [3, 15, 255, u16::MAX][inputs.len() - 1];
     if table > most {
-        return Err(Refusal::Range);
+        return Err(Error::Range);
     }
     let lists: Result<Vec<_>, _> = inputs.iter().map(|bits| part(bits.bytes, bits.offset, length)).collect();
-    Ok(answers(table, &lists?, length))
+    Ok(results(table, &lists?, length))
 }
 
 #[test]
@@ -113,14 +113,14 @@ fn tables() {
         for count in 1..=4 {
             let table = random.table(count as u32);
             let mut out = random.out(length);
-            let told = written(expected(table, &inputs[..count], length), length, &out);
+            let outcome = written(expected(table, &inputs[..count], length), length, &out);
             let answer = match count {
                 1 => unary_table(inputs[0], length, table, &mut out),
                 2 => binary_table(inputs[0], inputs[1], length, table, &mut out),
                 3 => ternary_table(inputs[0], inputs[1], inputs[2], length, table, &mut out),
                 _ => quaternary_table(inputs[0], inputs[1], inputs[2], inputs[3], length, table, &mut out),
             };
-            assert_eq!((answer, out), told, "{count} inputs");
+            assert_eq!((answer, out), outcome, "{count} inputs");
         }
     }
 }
@@ -140,24 +140,24 @@ fn tables_in_place() {
             let own = if out.len() == bytes_for(length) { out.clone() } else { vec![0; bytes_for(length)] };
             let mut inputs = vec![Bits { bytes: &own, offset: 0 }];
             inputs.extend(&others[..count - 1]);
-            let told = written(expected(table, &inputs, length), length, &out);
+            let outcome = written(expected(table, &inputs, length), length, &out);
             let answer = match count {
                 1 => unary_assign_table(&mut out, length, table),
                 2 => binary_assign_table(&mut out, others[0], length, table),
                 3 => ternary_assign_table(&mut out, others[0], others[1], length, table),
                 _ => quaternary_assign_table(&mut out, others[0], others[1], others[2], length, table),
             };
-            assert_eq!((answer, out), told, "{count} inputs");
+            assert_eq!((answer, out), outcome, "{count} inputs");
         }
     }
 }
 
 /// The first rule that the numbers break.
-fn rule(offsets: &[i128]) -> Result<(), Refusal> {
+fn rule(offsets: &[i128]) -> Result<(), Error> {
     match offsets {
-        [] => Err(Refusal::NoOffset),
-        [first, ..] if *first < 0 => Err(Refusal::NegativeOffset),
-        _ if offsets.windows(2).any(|pair| pair[0] > pair[1]) => Err(Refusal::FallingOffsets),
+        [] => Err(Error::NoOffset),
+        [first, ..] if *first < 0 => Err(Error::NegativeOffset),
+        _ if offsets.windows(2).any(|pair| pair[0] > pair[1]) => Err(Error::FallingOffsets),
         _ => Ok(()),
     }
 }
@@ -189,11 +189,11 @@ fn offsets<O: Offset + Into<i128> + TryFrom<i128> + Default + PartialEq + std::f
         checked_once(&offsets, &mut random);
 
         let mut lengths = vec![7; random.near(numbers.len().saturating_sub(1))];
-        let told = rule(&numbers)
-            .and_then(|()| if lengths.len() + 1 == numbers.len() { Ok(()) } else { Err(Refusal::Length) });
+        let outcome =
+            rule(&numbers).and_then(|()| if lengths.len() + 1 == numbers.len() { Ok(()) } else { Err(Error::Length) });
         let spans: Vec<usize> = numbers.windows(2).map(|pair| (pair[1] - pair[0]) as usize).collect();
-        let wanted = if told.is_ok() { spans } else { lengths.clone() };
-        assert_eq!((O::lengths(&offsets, &mut lengths), &lengths), (told, &wanted));
+        let wanted = if outcome.is_ok() { spans } else { lengths.clone() };
+        assert_eq!((O::lengths(&offsets, &mut lengths), &lengths), (outcome, &wanted));
 
         let start = random.below(5);
         let mut sums = vec![O::default(); random.near(lengths.len() + 1)];
@@ -202,26 +202,26 @@ fn offsets<O: Offset + Into<i128> + TryFrom<i128> + Default + PartialEq + std::f
             *sum += *length as i128;
             Some(*sum)
         }));
-        let told = match wanted.last() {
-            _ if sums.len() != lengths.len() + 1 => Err(Refusal::Length),
-            Some(last) if *last > greatest => Err(Refusal::Overflow),
+        let outcome = match wanted.last() {
+            _ if sums.len() != lengths.len() + 1 => Err(Error::Length),
+            Some(last) if *last > greatest => Err(Error::Overflow),
             _ => Ok(()),
         };
         let untouched: Vec<i128> = vec![0; sums.len()];
-        assert_eq!(O::from_lengths(start, &lengths, &mut sums), told);
+        assert_eq!(O::from_lengths(start, &lengths, &mut sums), outcome);
         let sums: Vec<i128> = sums.into_iter().map(Into::into).collect();
-        assert_eq!(sums, if told.is_ok() { wanted } else { untouched });
+        assert_eq!(sums, if outcome.is_ok() { wanted } else { untouched });
 
         let from = random.below(numbers.len() + 2);
         let mut moved = vec![O::default(); random.below(numbers.len() + 2)];
-        let told = rule(&numbers).and_then(|()| match moved.len() {
-            0 => Err(Refusal::Length),
-            count if from + count > numbers.len() => Err(Refusal::Range),
+        let outcome = rule(&numbers).and_then(|()| match moved.len() {
+            0 => Err(Error::Length),
+            count if from + count > numbers.len() => Err(Error::Range),
             _ => Ok(()),
         });
-        assert_eq!(O::rebase(&offsets, from, &mut moved), told);
+        assert_eq!(O::rebase(&offsets, from, &mut moved), outcome);
         let moved: Vec<i128> = moved.into_iter().map(Into::into).collect();
-        let wanted = match told {
+        let wanted = match outcome {
             Ok(()) => numbers[from..from + moved.len()].iter().map(|n| n - numbers[from]).collect(),
             Err(_) => vec![0; moved.len()],
         };
@@ -246,14 +246,14 @@ fn widths() {
         let numbers = random.numbers(1 << 33);
         let wide: Vec<i64> = numbers.iter().map(|n| *n as i64).collect();
         let mut out = vec![7; random.near(wide.len())];
-        let told = rule(&numbers).and_then(|()| match numbers.last() {
-            _ if out.len() != wide.len() => Err(Refusal::Length),
-            Some(last) if *last > i128::from(i32::MAX) => Err(Refusal::Overflow),
+        let outcome = rule(&numbers).and_then(|()| match numbers.last() {
+            _ if out.len() != wide.len() => Err(Error::Length),
+            Some(last) if *last > i128::from(i32::MAX) => Err(Error::Overflow),
             _ => Ok(()),
         });
-        let wanted = if told.is_ok() { wide.iter().map(|n| *n as i32).collect() } else { out.clone() };
-        assert_eq!((narrow(&wide, &mut out), &out), (told, &wanted));
-        if told.is_ok() {
+        let wanted = if outcome.is_ok() { wide.iter().map(|n| *n as i32).collect() } else { out.clone() };
+        assert_eq!((narrow(&wide, &mut out), &out), (outcome, &wanted));
+        if outcome.is_ok() {
             let mut back = vec![0; out.len()];
             assert_eq!((widen(&out, &mut back), back), (Ok(()), wide));
         }
@@ -263,10 +263,10 @@ fn widths() {
 /// The runs of set bits, each by its first index and its length.
 fn plain_runs(bits: &[bool], from: usize) -> Vec<(usize, usize)> {
     let mut runs: Vec<(usize, usize)> = vec![];
-    for place in (from..bits.len()).filter(|place| bits[*place]) {
+    for position in (from..bits.len()).filter(|position| bits[*position]) {
         match runs.last_mut() {
-            Some((start, length)) if *start + *length == place => *length += 1,
-            _ => runs.push((place, 1)),
+            Some((start, length)) if *start + *length == position => *length += 1,
+            _ => runs.push((position, 1)),
         }
     }
     runs
@@ -279,31 +279,30 @@ fn runs_of_set_bits() {
         let bytes = random.bytes();
         let (offset, length) = random.range(&bytes);
         let bits = Bits { bytes: &bytes, offset };
-        let room = 1 + random.below(5);
-        let (mut starts, mut lengths) = (vec![7; room], vec![7; random.near(room)]);
+        let capacity = 1 + random.below(5);
+        let (mut starts, mut lengths) = (vec![7; capacity], vec![7; random.near(capacity)]);
         let mut at = random.below(length.min(1 << 12) + 2);
         let begun = at;
-        let Ok(items) =
-            part(&bytes, offset, length).and_then(|b| if at <= length { Ok(b) } else { Err(Refusal::Range) })
+        let Ok(items) = part(&bytes, offset, length).and_then(|b| if at <= length { Ok(b) } else { Err(Error::Range) })
         else {
-            assert_eq!(runs(bits, length, &mut at, &mut starts, &mut lengths), Err(Refusal::Range));
-            assert_eq!((at, starts), (begun, vec![7; room]));
+            assert_eq!(runs(bits, length, &mut at, &mut starts, &mut lengths), Err(Error::Range));
+            assert_eq!((at, starts), (begun, vec![7; capacity]));
             continue;
         };
-        if lengths.len() != room {
-            assert_eq!(runs(bits, length, &mut at, &mut starts, &mut lengths), Err(Refusal::Length));
-            assert_eq!((at, starts), (begun, vec![7; room]));
+        if lengths.len() != capacity {
+            assert_eq!(runs(bits, length, &mut at, &mut starts, &mut lengths), Err(Error::Length));
+            assert_eq!((at, starts), (begun, vec![7; capacity]));
             continue;
         }
-        let mut told = vec![];
+        let mut outcome = vec![];
         loop {
             let count = runs(bits, length, &mut at, &mut starts, &mut lengths).unwrap();
-            told.extend(starts.iter().copied().zip(lengths.iter().copied()).take(count));
-            if count < room {
+            outcome.extend(starts.iter().copied().zip(lengths.iter().copied()).take(count));
+            if count < capacity {
                 break;
             }
         }
-        assert_eq!(told, plain_runs(&items, begun));
+        assert_eq!(outcome, plain_runs(&items, begun));
     }
 }
 
@@ -314,26 +313,25 @@ fn indices_of_set_bits() {
         let bytes = random.bytes();
         let (offset, length) = random.range(&bytes);
         let bits = Bits { bytes: &bytes, offset };
-        let room = 1 + random.below(70);
-        let mut indices = vec![7; room];
+        let capacity = 1 + random.below(70);
+        let mut indices = vec![7; capacity];
         let mut at = random.below(length.min(1 << 12) + 2);
         let begun = at;
-        let Ok(items) =
-            part(&bytes, offset, length).and_then(|b| if at <= length { Ok(b) } else { Err(Refusal::Range) })
+        let Ok(items) = part(&bytes, offset, length).and_then(|b| if at <= length { Ok(b) } else { Err(Error::Range) })
         else {
-            assert_eq!(set_indices(bits, length, &mut at, &mut indices), Err(Refusal::Range));
-            assert_eq!((at, indices), (begun, vec![7; room]));
+            assert_eq!(set_indices(bits, length, &mut at, &mut indices), Err(Error::Range));
+            assert_eq!((at, indices), (begun, vec![7; capacity]));
             continue;
         };
-        let mut told = vec![];
+        let mut outcome = vec![];
         loop {
             let count = set_indices(bits, length, &mut at, &mut indices).unwrap();
-            told.extend_from_slice(&indices[..count]);
-            if count < room {
+            outcome.extend_from_slice(&indices[..count]);
+            if count < capacity {
                 break;
             }
         }
-        assert_eq!(told, (begun..length).filter(|place| items[*place]).collect::<Vec<_>>());
+        assert_eq!(outcome, (begun..length).filter(|position| items[*position]).collect::<Vec<_>>());
         assert_eq!((set_indices(bits, length, &mut at, &mut indices), at), (Ok(0), length));
         assert_eq!(set_indices(bits, length, &mut at, &mut []), Ok(0));
     }
@@ -347,9 +345,9 @@ fn booleans() {
         let (offset, length) = random.range(&bytes);
         let length = length.min(1 << 12);
         let mut items = vec![false; length];
-        let told = part(&bytes, offset, length);
+        let outcome = part(&bytes, offset, length);
         let answer = unpack(Bits { bytes: &bytes, offset }, &mut items);
-        assert_eq!((answer, &items), (told.clone().map(drop), told.as_ref().unwrap_or(&vec![false; length])));
+        assert_eq!((answer, &items), (outcome.clone().map(drop), outcome.as_ref().unwrap_or(&vec![false; length])));
 
         let items: Vec<bool> = (0..length).map(|_| random.flag()).collect();
         let mut out = random.out(length);
@@ -379,7 +377,7 @@ fn kleene() {
             match &parts {
                 Ok(parts) if fits => {
                     assert_eq!(answer, Ok(()));
-                    let (told, valid) = (part(&values, 0, length).unwrap(), part(&validity, 0, length).unwrap());
+                    let (outcome, valid) = (part(&values, 0, length).unwrap(), part(&validity, 0, length).unwrap());
                     for i in 0..length {
                         let sides = [parts[1][i].then_some(parts[0][i]), parts[3][i].then_some(parts[2][i])];
                         let wanted = match sides {
@@ -387,12 +385,12 @@ fn kleene() {
                             [Some(_), Some(_)] => Some(!decides),
                             _ => None,
                         };
-                        assert_eq!(valid[i].then_some(told[i]), wanted);
+                        assert_eq!(valid[i].then_some(outcome[i]), wanted);
                     }
                 }
                 _ => {
-                    let refusal = if parts.is_ok() { Refusal::Length } else { Refusal::Range };
-                    assert_eq!((answer, (values, validity)), (Err(refusal), before));
+                    let error = if parts.is_ok() { Error::Length } else { Error::Range };
+                    assert_eq!((answer, (values, validity)), (Err(error), before));
                 }
             }
         }

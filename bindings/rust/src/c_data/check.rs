@@ -3,7 +3,7 @@
 
 use super::abi::{ArrowArray, ArrowSchema};
 use super::layout::{Kind, Layout};
-use crate::refusal::{Refusal, RefusalAt};
+use crate::error::{Error, ErrorAt};
 use crate::{Bits, Index, Offset, bytes_for, check_bits, check_validity, check_values};
 use alloc::vec::Vec;
 use core::ffi::CStr;
@@ -23,7 +23,7 @@ const MAX_BYTES: usize = 1 << 56;
 #[derive(Clone, Copy, Debug, PartialEq, Eq)]
 pub enum Broken {
     /// A rule that the library tests.
-    Part(Refusal),
+    Part(Error),
     /// A pointer that the array needs is null.
     Null,
     /// The schema or the array was released.
@@ -58,18 +58,18 @@ impl Broken {
     #[must_use]
     pub fn code(self) -> u32 {
         match self {
-            Broken::Part(refusal) => match refusal {
-                Refusal::Range => 1,
-                Refusal::Length => 2,
-                Refusal::Overflow => 3,
-                Refusal::Memory => 4,
-                Refusal::NoOffset => 5,
-                Refusal::NegativeOffset => 6,
-                Refusal::FallingOffsets => 7,
-                Refusal::Nulls => 8,
-                Refusal::PastOffset => 9,
-                Refusal::NotUtf8 => 10,
-                Refusal::Index => 11,
+            Broken::Part(error) => match error {
+                Error::Range => 1,
+                Error::Length => 2,
+                Error::Overflow => 3,
+                Error::Memory => 4,
+                Error::NoOffset => 5,
+                Error::NegativeOffset => 6,
+                Error::FallingOffsets => 7,
+                Error::Nulls => 8,
+                Error::PastOffset => 9,
+                Error::NotUtf8 => 10,
+                Error::Index => 11,
             },
             Broken::Null => 32,
             Broken::Released => 33,
@@ -91,20 +91,20 @@ impl Broken {
 impl fmt::Display for Broken {
     fn fmt(&self, f: &mut fmt::Formatter<'_>) -> fmt::Result {
         f.write_str(match self {
-            Broken::Part(refusal) => return refusal.fmt(f),
+            Broken::Part(error) => return error.fmt(f),
             Broken::Null => "a pointer is null",
             Broken::Released => "it was released",
-            Broken::Negative => "a number is negative",
+            Broken::Negative => "a number is negative, or length + offset is too large",
             Broken::Format => "the format is not known",
-            Broken::Buffers => "another number of buffers",
-            Broken::Children => "another number of children",
+            Broken::Buffers => "the number of buffers is not what the format requires",
+            Broken::Children => "the children are not what the format requires",
             Broken::ShortChild => "a child is too short",
             Broken::Dictionary => "the dictionary does not fit",
             Broken::Type => "a union has a type that its format does not name",
             Broken::UnionOffset => "an offset of a union is outside its child, or falls",
             Broken::TooLarge => "the tree is too large",
             Broken::Unaligned => "numbers are not aligned",
-            Broken::Sizes => "another number of sizes",
+            Broken::Sizes => "the number of sizes is not the number of buffers",
         })
     }
 }
@@ -158,20 +158,20 @@ impl From<Broken> for Fault {
     }
 }
 
-impl From<Refusal> for Fault {
-    fn from(refusal: Refusal) -> Self {
-        Fault(Broken::Part(refusal), None)
+impl From<Error> for Fault {
+    fn from(error: Error) -> Self {
+        Fault(Broken::Part(error), None)
     }
 }
 
 /// A refusal of offsets, by the slot that ends there.
-fn of_offset(refused: RefusalAt) -> Fault {
-    Fault(Broken::Part(refused.refusal), Some(refused.at.saturating_sub(1)))
+fn of_offset(refused: ErrorAt) -> Fault {
+    Fault(Broken::Part(refused.error), Some(refused.at.saturating_sub(1)))
 }
 
 /// A refusal by the slot.
-fn of_slot(refused: RefusalAt) -> Fault {
-    Fault(Broken::Part(refused.refusal), Some(refused.at))
+fn of_slot(refused: ErrorAt) -> Fault {
+    Fault(Broken::Part(refused.error), Some(refused.at))
 }
 
 /// Whether an array is one of a schema, by the sizes in bytes of the tree's buffers: those of an array, then those of
@@ -179,8 +179,8 @@ fn of_slot(refused: RefusalAt) -> Fault {
 /// empty list: any tree that has a buffer is refused, with [`Broken::Sizes`] unless an earlier rule is broken.
 ///
 /// With `None` the buffers are read to the length that format, length, offset and last offset require. Each is taken to
-/// have 2^56 bytes: what would need more is refused, with [`Refusal::PastOffset`] for an offset into binary or utf8
-/// bytes, else with [`Refusal::Range`].
+/// have 2^56 bytes: what would need more is refused, with [`Error::PastOffset`] for an offset into binary or utf8
+/// bytes, else with [`Error::Range`].
 ///
 /// It is stricter than Arrow: the bytes of a null slot of a text must be UTF-8 too, and offsets and indices that are
 /// read must be aligned. `docs/BINDINGS.md` has the order of the rules, and what is not tested.
@@ -409,7 +409,7 @@ impl Tree<'_> {
                 self.check_nulls(node)?;
             }
             if layout.is_union() && !matches!(null_count, 0 | -1) {
-                return Err(Refusal::Nulls.into());
+                return Err(Error::Nulls.into());
             }
             self.check_content(node, layout)
         }
@@ -464,7 +464,7 @@ impl Tree<'_> {
             let null_count = (*node.array).null_count;
             let buffer = self.buffer(node, 0);
             if buffer.start.is_null() {
-                return if matches!(null_count, 0 | -1) { Ok(()) } else { Err(Refusal::Nulls.into()) };
+                return if matches!(null_count, 0 | -1) { Ok(()) } else { Err(Error::Nulls.into()) };
             }
             check_bits(buffer.size, buffer.offset, buffer.length)?;
             let bits = Bits { bytes: buffer.items(0, bytes_for(buffer.offset + buffer.length)), offset: buffer.offset };
@@ -479,7 +479,7 @@ impl Tree<'_> {
             let array = &*node.array;
             match layout.kind {
                 Kind::Null if array.null_count == -1 || array.null_count == array.length => Ok(()),
-                Kind::Null => Err(Refusal::Nulls.into()),
+                Kind::Null => Err(Error::Nulls.into()),
                 Kind::Map if !is_entries(node.child(0)) => Err(Broken::Children.into()),
                 Kind::Map | Kind::List => {
                     let items = (*node.child(0).array).length as usize;

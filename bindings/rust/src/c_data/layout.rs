@@ -15,7 +15,7 @@ pub enum Kind {
     Text,
     /// Lists, each from one offset to the next.
     List,
-    /// Lists of one length.
+    /// Lists of one fixed size.
     FixedList,
     /// Fields side by side.
     Struct,
@@ -51,7 +51,7 @@ impl Kind {
 pub struct Layout<'a> {
     /// How it is stored.
     pub kind: Kind,
-    /// The bytes of a value or of an offset, or the items of a list of one length.
+    /// The bytes of a value or of an offset, or the items of a fixed-size list.
     pub size: usize,
     /// The letter of a whole number.
     pub index: Option<u8>,

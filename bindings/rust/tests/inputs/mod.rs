@@ -1,7 +1,7 @@
 //! Random inputs, and the results of plain loops for them.
 #![allow(dead_code)]
 
-use arrow2_proved::{Refusal, bytes_for};
+use arrow2_proved::{Error, bytes_for};
 
 /// Numbers that look random, the same in each run (xorshift).
 pub struct Random(u64);
@@ -51,7 +51,7 @@ impl Random {
     }
 
     /// A bit's index: inside three times of four.
-    pub fn place(&mut self, bytes: &[u8]) -> usize {
+    pub fn position(&mut self, bytes: &[u8]) -> usize {
         match self.below(8) {
             0 => 8 * bytes.len() + self.below(9),
             1 => usize::MAX - self.below(9),
@@ -94,9 +94,9 @@ impl Random {
         let mut copied: Vec<u8> = (0..bytes_for(start + length)).map(|_| self.next() as u8).collect();
         let flipped = if self.flag() { self.below(length) } else { length };
         for (i, bit) in bits.into_iter().enumerate() {
-            let place = start + i;
-            copied[place / 8] &= !(1 << (place % 8));
-            copied[place / 8] |= u8::from(bit != (i == flipped)) << (place % 8);
+            let position = start + i;
+            copied[position / 8] &= !(1 << (position % 8));
+            copied[position / 8] |= u8::from(bit != (i == flipped)) << (position % 8);
         }
         if self.below(8) == 0 {
             copied.pop();
@@ -134,17 +134,17 @@ impl Random {
 }
 
 /// The bits of a range as booleans.
-pub fn part(bytes: &[u8], offset: usize, length: usize) -> Result<Vec<bool>, Refusal> {
-    let end = offset.checked_add(length).filter(|end| *end <= 8 * bytes.len()).ok_or(Refusal::Range)?;
+pub fn part(bytes: &[u8], offset: usize, length: usize) -> Result<Vec<bool>, Error> {
+    let end = offset.checked_add(length).filter(|end| *end <= 8 * bytes.len()).ok_or(Error::Range)?;
     Ok((offset..end).map(|i| bytes[i / 8] >> (i % 8) & 1 == 1).collect())
 }
 
 /// The result of a call that writes these bits, and the bytes of `out` afterwards.
-pub fn written(bits: Result<Vec<bool>, Refusal>, length: usize, out: &[u8]) -> (Result<(), Refusal>, Vec<u8>) {
+pub fn written(bits: Result<Vec<bool>, Error>, length: usize, out: &[u8]) -> (Result<(), Error>, Vec<u8>) {
     let bits = match bits {
         Ok(bits) if out.len() == bytes_for(length) => bits,
-        Ok(_) => return (Err(Refusal::Length), out.to_vec()),
-        Err(refusal) => return (Err(refusal), out.to_vec()),
+        Ok(_) => return (Err(Error::Length), out.to_vec()),
+        Err(error) => return (Err(error), out.to_vec()),
     };
     let mut bytes = vec![0; out.len()];
     for (i, bit) in bits.iter().enumerate() {

@@ -1,0 +1,102 @@
+//! Why a call refuses.
+
+use crate::sys;
+use core::fmt;
+
+/// Why a call refused. Nothing was written.
+#[derive(Clone, Copy, Debug, PartialEq, Eq)]
+pub enum Error {
+    /// An index or a range is not inside, or a truth-table number is too large: above 3, 15 or 255 for one, two or
+    /// three inputs.
+    Range,
+    /// An output slice is not exactly the required size (of bits [`crate::bytes_for`] bytes), the two slices of runs or
+    /// of a widen or narrow call differ in length, or the output of a rebase call is empty.
+    Length,
+    /// A number is above the greatest offset: `i32::MAX` or `i64::MAX`.
+    Overflow,
+    /// An allocation failed. No call of this version returns it.
+    Memory,
+    /// The offsets slice has 0 items; at least 1 is needed.
+    NoOffset,
+    /// The first offset is negative.
+    NegativeOffset,
+    /// The first offset is not negative, and some offset is below the one before it.
+    FallingOffsets,
+    /// The number of nulls is not the declared one.
+    Nulls,
+    /// An offset is greater than the number of bytes or child items that the offsets index.
+    PastOffset,
+    /// The bytes of a slot are not UTF-8.
+    NotUtf8,
+    /// An index is negative, or not below the number of items that it points into.
+    Index,
+}
+
+/// Why a check refused, and where.
+#[derive(Clone, Copy, Debug, PartialEq, Eq)]
+pub struct ErrorAt {
+    /// Why.
+    pub error: Error,
+    /// With [`Error::FallingOffsets`] and [`Error::PastOffset`] the position of the offset; with
+    /// [`Error::NotUtf8`] and [`Error::Index`] the slot; else 0.
+    pub at: usize,
+}
+
+impl fmt::Display for ErrorAt {
+    fn fmt(&self, f: &mut fmt::Formatter<'_>) -> fmt::Result {
+        write!(f, "{} at {}", self.error, self.at)
+    }
+}
+
+impl core::error::Error for ErrorAt {}
+
+impl fmt::Display for Error {
+    fn fmt(&self, f: &mut fmt::Formatter<'_>) -> fmt::Result {
+        f.write_str(match self {
+            Error::Range => "an index or a range is not inside, or a truth-table number is too large",
+            Error::Length => "a slice does not have the required length",
+            Error::Overflow => "a number is above the greatest offset",
+            Error::Memory => "out of memory",
+            Error::NoOffset => "offsets must have at least one element",
+            Error::NegativeOffset => "offsets must be larger than 0",
+            Error::FallingOffsets => "offsets must be monotonically increasing",
+            Error::Nulls => "the nulls are not as many as declared",
+            Error::PastOffset => "an offset is past its items",
+            Error::NotUtf8 => "a text is not UTF-8",
+            Error::Index => "an index is outside its dictionary",
+        })
+    }
+}
+
+impl core::error::Error for Error {}
+
+/// The error of a code of the library.
+#[inline]
+pub(crate) fn to_result(code: u32) -> Result<(), Error> {
+    if code == sys::ARROW2_OK { Ok(()) } else { Err(error_of(code)) }
+}
+
+/// Returns the error of a code that is not `ARROW2_OK`.
+#[cold]
+fn error_of(code: u32) -> Error {
+    match code {
+        sys::ARROW2_LENGTH => Error::Length,
+        sys::ARROW2_OVERFLOW => Error::Overflow,
+        sys::ARROW2_MEMORY => Error::Memory,
+        sys::ARROW2_SPEC_EMPTY => Error::NoOffset,
+        sys::ARROW2_SPEC_NEGATIVE => Error::NegativeOffset,
+        sys::ARROW2_SPEC_FALLING => Error::FallingOffsets,
+        sys::ARROW2_NULLS => Error::Nulls,
+        sys::ARROW2_PAST => Error::PastOffset,
+        sys::ARROW2_UTF8 => Error::NotUtf8,
+        sys::ARROW2_INDEX => Error::Index,
+        // `ARROW2_RANGE`: the library has no other codes.
+        _ => Error::Range,
+    }
+}
+
+/// The same of a check, which writes where.
+#[inline]
+pub(crate) fn to_result_at(code: u32, at: usize) -> Result<(), ErrorAt> {
+    to_result(code).map_err(|error| ErrorAt { error, at })
+}
