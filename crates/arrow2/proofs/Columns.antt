@@ -10,10 +10,10 @@ pub use Rattle.arrow2_walks.proofs.Zipped.{length-zipped, at-zipped, item-zipped
 module _ {X : Type 0} (xs : List X) (vs : List Bool) (items : List (Option X)) (k : ℕ) (d : X) (v : Bool) where
   -- the item at an index, from its value and its validity there
   pub slot-zipped : length vs ≡ length xs → zipped xs vs ≡ items → k < length items → v ≡ get_or vs k false → get_or items k None ≡ slot (get_or xs k d) v
-  slot-zipped e is h told =
+  slot-zipped e is h stated =
       let l = length-zipped xs vs e in
       let n = ap length is in
-      sym (ap (λ zs. get_or zs k None) is) ∙ (at-zipped xs vs k d e (omega (arith, l, n, h)) ∙ ap (slot (get_or xs k d)) (sym told))
+      sym (ap (λ zs. get_or zs k None) is) ∙ (at-zipped xs vs k d e (omega (arith, l, n, h)) ∙ ap (slot (get_or xs k d)) (sym stated))
 
   is_none-slot : (x : X) (w : Bool) → not w ≡ is_none (slot x w)
   is_none-slot x true = refl
@@ -21,4 +21,4 @@ module _ {X : Type 0} (xs : List X) (vs : List Bool) (items : List (Option X)) (
 
   -- whether it is null
   pub null-zipped : length vs ≡ length xs → zipped xs vs ≡ items → k < length items → v ≡ get_or vs k false → not v ≡ is_none (get_or items k None)
-  null-zipped e is h told = is_none-slot (get_or xs k d) v ∙ ap is_none (sym (slot-zipped e is h told))
+  null-zipped e is h stated = is_none-slot (get_or xs k d) v ∙ ap is_none (sym (slot-zipped e is h stated))

@@ -5,6 +5,6 @@ pub use Rattle.arrow2_model.proofs.Counts.{counting, counted_words}
 pub use Rattle.arrow2_model.proofs.Same.{comparing}
 pub use Rattle.arrow2_model.proofs.Shown.{texts}
 pub use Rattle.arrow2_model.proofs.Texts.{texts_of_lists}
-pub use Rattle.arrow2_model.proofs.Walks.{parts}
+pub use Rattle.arrow2_model.proofs.Cursors.{parts}
 pub use Rattle.arrow2_model.proofs.Words.{by_words}
 pub use Rattle.arrow2_validity.proofs.ItemParts.{iterating}

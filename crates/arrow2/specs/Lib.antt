@@ -1,9 +1,9 @@
 pub mod Bits
-pub mod Collected
+pub mod Iterators
 pub mod Errors
 pub mod Growth
 pub mod Printed
-pub mod Refused
+pub mod RefusalMessages
 pub use Rattle.arrow2_model.specs.Buffers
 pub use Rattle.arrow2_model.specs.Canonical
 pub use Rattle.arrow2_model.specs.Digits
@@ -23,11 +23,11 @@ pub use Rattle.arrow2_walks.specs.Zipped
 pub use Rattle.arrow2_types.specs.ErrorTexts
 pub use Rattle.arrow2_types.specs.Refusals
 pub use Rattle.arrow2_bits.specs.ChunksMut
-pub use Rattle.arrow2_bits.specs.Counted
+pub use Rattle.arrow2_bits.specs.CountedBytes
 pub use Rattle.arrow2_bits.specs.LentChunk
 pub use Rattle.arrow2_buffer.specs.Lent
 pub use Rattle.arrow2_buffer.specs.LentItems
-pub use Rattle.arrow2_offset.specs.Made
+pub use Rattle.arrow2_offset.specs.NewOffsets
 pub use Rattle.arrow2_offset.specs.Nested
 pub use Rattle.arrow2_utf8.specs.Texts
 pub use Rattle.arrow2_datatypes.specs.Extensions
@@ -50,6 +50,6 @@ pub use Rattle.arrow2_compute.specs.Casts
 pub use Rattle.arrow2_compute.specs.Masks
 pub use Rattle.arrow2_compute.specs.Pairs
 pub use Rattle.arrow2_compute.specs.Sizes
-pub use Rattle.arrow2_compute.specs.Taken
+pub use Rattle.arrow2_compute.specs.Take
 pub use Rattle.arrow2_text.specs.Binary
 pub use Rattle.arrow2_text.specs.AllTexts

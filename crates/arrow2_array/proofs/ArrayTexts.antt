@@ -5,13 +5,13 @@ use Rattle.std.specs.List.{flat_map}
 use Rattle.arrow2_array.specs.ArrayTexts.{item_word, listed}
 
 -- the word for an item after another one
-abbrev behind : Option Bool → List ℕ
-behind item = codes ", " ++ item_word item
+abbrev following : Option Bool → List ℕ
+following item = codes ", " ++ item_word item
 
-more-behind : (items : List (Option Bool)) (i : ℕ) → i < length items → flat_map behind (take (suc i) items) ≡ flat_map behind (take i items) ++ behind (get_or items i None)
-more-behind [] i h = absurd (omega (arith, h))
-more-behind (item ∷ items) zero h = append-nil (behind item)
-more-behind (item ∷ items) (suc i) h = ap (λ t. behind item ++ t) (more-behind items i (omega (arith, h))) ∙ sym (append_assoc (behind item) (flat_map behind (take i items)) (behind (get_or items i None)))
+more-following : (items : List (Option Bool)) (i : ℕ) → i < length items → flat_map following (take (suc i) items) ≡ flat_map following (take i items) ++ following (get_or items i None)
+more-following [] i h = absurd (omega (arith, h))
+more-following (item ∷ items) zero h = append-nil (following item)
+more-following (item ∷ items) (suc i) h = ap (λ t. following item ++ t) (more-following items i (omega (arith, h))) ∙ sym (append_assoc (following item) (flat_map following (take i items)) (following (get_or items i None)))
 
 -- before the first item there is nothing
 pub listed-none : (items : List (Option Bool)) (i : ℕ) (word : List ℕ) → i ≡ 0 → listed (take i items) ++ word ≡ word
@@ -29,4 +29,4 @@ pub listed-more : (items : List (Option Bool)) (i n : ℕ) → 0 < i → n ≡ s
 unfolding listed
 listed-more [] i n some e h = absurd (omega (arith, h))
 listed-more (item ∷ items) zero n some e h = absurd (omega (arith, some))
-listed-more (item ∷ items) (suc i) n some e h = rw e (ap (λ t. item_word item ++ t) (more-behind items i (omega (arith, h))) ∙ sym (append_assoc (item_word item) (flat_map behind (take i items)) (behind (get_or items i None))))
+listed-more (item ∷ items) (suc i) n some e h = rw e (ap (λ t. item_word item ++ t) (more-following items i (omega (arith, h))) ∙ sym (append_assoc (item_word item) (flat_map following (take i items)) (following (get_or items i None))))

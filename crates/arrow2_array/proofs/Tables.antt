@@ -7,7 +7,7 @@ use Rattle.arrow2_model.specs.Tables.{answer, each}
 use Rattle.arrow2_walks.specs.Zipped.{slot, zipped}
 use Rattle.arrow2_model.proofs.Kernels.{length-each, get_or-each, each_from}
 use Rattle.arrow2_walks.proofs.Zipped.{length-zipped, at-zipped}
-use Rattle.arrow2_array.specs.Kleene.{kleene_and, kleene_or, by_items, TablesCompute, kleene, values_table, known_table, beside_table}
+use Rattle.arrow2_array.specs.Kleene.{kleene_and, kleene_or, by_items, TablesCompute, kleene, values_table, known_table, paired_table}
 use Rattle.arrow2_array.specs.declared.kleene.Operator.{Operator}
 use Rattle.arrow2_array.specs.declared.kleene.Operator.TheVariants.{And, Or}
 
@@ -29,49 +29,49 @@ or_known false false = refl
 
 -- with an item that is not null, which comes second or first
 
-pub and_beside : (a n b : Bool) → answer 207 (a ∷ n ∷ b ∷ []) ≡ answer 53060 (a ∷ n ∷ b ∷ true ∷ [])
+pub and_paired : (a n b : Bool) → answer 207 (a ∷ n ∷ b ∷ []) ≡ answer 53060 (a ∷ n ∷ b ∷ true ∷ [])
 unfolding bit
-and_beside true true true = refl
-and_beside true true false = refl
-and_beside true false true = refl
-and_beside true false false = refl
-and_beside false true true = refl
-and_beside false true false = refl
-and_beside false false true = refl
-and_beside false false false = refl
+and_paired true true true = refl
+and_paired true true false = refl
+and_paired true false true = refl
+and_paired true false false = refl
+and_paired false true true = refl
+and_paired false true false = refl
+and_paired false false true = refl
+and_paired false false false = refl
 
-pub and_behind : (a b m : Bool) → answer 207 (b ∷ m ∷ a ∷ []) ≡ answer 53060 (a ∷ true ∷ b ∷ m ∷ [])
+pub and_following : (a b m : Bool) → answer 207 (b ∷ m ∷ a ∷ []) ≡ answer 53060 (a ∷ true ∷ b ∷ m ∷ [])
 unfolding bit
-and_behind true true true = refl
-and_behind true true false = refl
-and_behind true false true = refl
-and_behind true false false = refl
-and_behind false true true = refl
-and_behind false true false = refl
-and_behind false false true = refl
-and_behind false false false = refl
+and_following true true true = refl
+and_following true true false = refl
+and_following true false true = refl
+and_following true false false = refl
+and_following false true true = refl
+and_following false true false = refl
+and_following false false true = refl
+and_following false false false = refl
 
-pub or_beside : (a n b : Bool) → answer 252 (a ∷ n ∷ b ∷ []) ≡ answer 64648 (a ∷ n ∷ b ∷ true ∷ [])
+pub or_paired : (a n b : Bool) → answer 252 (a ∷ n ∷ b ∷ []) ≡ answer 64648 (a ∷ n ∷ b ∷ true ∷ [])
 unfolding bit
-or_beside true true true = refl
-or_beside true true false = refl
-or_beside true false true = refl
-or_beside true false false = refl
-or_beside false true true = refl
-or_beside false true false = refl
-or_beside false false true = refl
-or_beside false false false = refl
+or_paired true true true = refl
+or_paired true true false = refl
+or_paired true false true = refl
+or_paired true false false = refl
+or_paired false true true = refl
+or_paired false true false = refl
+or_paired false false true = refl
+or_paired false false false = refl
 
-pub or_behind : (a b m : Bool) → answer 252 (b ∷ m ∷ a ∷ []) ≡ answer 64648 (a ∷ true ∷ b ∷ m ∷ [])
+pub or_following : (a b m : Bool) → answer 252 (b ∷ m ∷ a ∷ []) ≡ answer 64648 (a ∷ true ∷ b ∷ m ∷ [])
 unfolding bit
-or_behind true true true = refl
-or_behind true true false = refl
-or_behind true false true = refl
-or_behind true false false = refl
-or_behind false true true = refl
-or_behind false true false = refl
-or_behind false false true = refl
-or_behind false false false = refl
+or_following true true true = refl
+or_following true true false = refl
+or_following true false true = refl
+or_following true false false = refl
+or_following false true true = refl
+or_following false true false = refl
+or_following false false true = refl
+or_following false false false = refl
 
 pub and_spelled : TablesCompute 8 53060 kleene_and
 unfolding bit
@@ -121,13 +121,13 @@ pub known : (o : Operator) (a b : Bool) → answer (known_table o) (a ∷ true �
 known And = and_known
 known Or = or_known
 
-pub beside : (o : Operator) (a n b : Bool) → answer (beside_table o) (a ∷ n ∷ b ∷ []) ≡ answer (known_table o) (a ∷ n ∷ b ∷ true ∷ [])
-beside And = and_beside
-beside Or = or_beside
+pub paired : (o : Operator) (a n b : Bool) → answer (paired_table o) (a ∷ n ∷ b ∷ []) ≡ answer (known_table o) (a ∷ n ∷ b ∷ true ∷ [])
+paired And = and_paired
+paired Or = or_paired
 
-pub behind : (o : Operator) (a b m : Bool) → answer (beside_table o) (b ∷ m ∷ a ∷ []) ≡ answer (known_table o) (a ∷ true ∷ b ∷ m ∷ [])
-behind And = and_behind
-behind Or = or_behind
+pub following : (o : Operator) (a b m : Bool) → answer (paired_table o) (b ∷ m ∷ a ∷ []) ≡ answer (known_table o) (a ∷ true ∷ b ∷ m ∷ [])
+following And = and_following
+following Or = or_following
 
 -- ---- item by item
 
@@ -146,21 +146,21 @@ all_known t xs ns ys ms known e is-n is-m =
     left ∙ rw (is-n, is-m, left, right) (sym (known (get_or xs k false) (get_or ys k false))))
 
 -- a table of three lists is that of four, one of which is all set
-pub beside_right : (t u : ℕ) (xs ns ys ms : List Bool) → ((a n b : Bool) → answer u (a ∷ n ∷ b ∷ []) ≡ answer t (a ∷ n ∷ b ∷ true ∷ [])) → length xs ≡ length ys → ms ≡ replicate (length ys) true
+pub paired_right : (t u : ℕ) (xs ns ys ms : List Bool) → ((a n b : Bool) → answer u (a ∷ n ∷ b ∷ []) ≡ answer t (a ∷ n ∷ b ∷ true ∷ [])) → length xs ≡ length ys → ms ≡ replicate (length ys) true
     → each u (xs ∷ ns ∷ ys ∷ []) ≡ each t (xs ∷ ns ∷ ys ∷ ms ∷ [])
-beside_right t u xs ns ys ms beside e is =
+paired_right t u xs ns ys ms paired e is =
     each_from t (xs ∷ ns ∷ ys ∷ ms ∷ []) (each u (xs ∷ ns ∷ ys ∷ [])) (length-each u (xs ∷ ns ∷ ys ∷ []))
     (λ k k<.
     let set : get_or (replicate (length ys) true) k false ≡ true = get_or-replicate (length ys) k true false (omega (arith, e)) in
-    get_or-each u (xs ∷ ns ∷ ys ∷ []) k k< ∙ rw (is, set) (beside (get_or xs k false) (get_or ns k false) (get_or ys k false)))
+    get_or-each u (xs ∷ ns ∷ ys ∷ []) k k< ∙ rw (is, set) (paired (get_or xs k false) (get_or ns k false) (get_or ys k false)))
 
-pub beside_left : (t u : ℕ) (xs ns ys ms : List Bool) → ((a b m : Bool) → answer u (b ∷ m ∷ a ∷ []) ≡ answer t (a ∷ true ∷ b ∷ m ∷ [])) → length xs ≡ length ys → ns ≡ replicate (length xs) true
+pub paired_left : (t u : ℕ) (xs ns ys ms : List Bool) → ((a b m : Bool) → answer u (b ∷ m ∷ a ∷ []) ≡ answer t (a ∷ true ∷ b ∷ m ∷ [])) → length xs ≡ length ys → ns ≡ replicate (length xs) true
     → each u (ys ∷ ms ∷ xs ∷ []) ≡ each t (xs ∷ ns ∷ ys ∷ ms ∷ [])
-beside_left t u xs ns ys ms behind e is =
+paired_left t u xs ns ys ms following e is =
     each_from t (xs ∷ ns ∷ ys ∷ ms ∷ []) (each u (ys ∷ ms ∷ xs ∷ [])) (length-each u (ys ∷ ms ∷ xs ∷ []) ∙ sym e)
     (λ k k<.
     let set : get_or (replicate (length xs) true) k false ≡ true = get_or-replicate (length xs) k true false k< in
-    get_or-each u (ys ∷ ms ∷ xs ∷ []) k (omega (arith, e)) ∙ rw (is, set) (behind (get_or xs k false) (get_or ys k false) (get_or ms k false)))
+    get_or-each u (ys ∷ ms ∷ xs ∷ []) k (omega (arith, e)) ∙ rw (is, set) (following (get_or xs k false) (get_or ys k false) (get_or ms k false)))
 
 length-by_items : (f : Option Bool → Option Bool → Option Bool) (xs ys : List (Option Bool)) → length xs ≡ length ys → length (by_items f xs ys) ≡ length xs
 length-by_items f [] ys e = refl

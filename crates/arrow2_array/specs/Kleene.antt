@@ -23,7 +23,7 @@ kleene_or None (Some true) = Some true
 kleene_or None (Some false) = None
 kleene_or None None = None
 
--- item by item, on lists of one length
+-- item by item, on lists of equal length
 abbrev pub by_items : (Option Bool → Option Bool → Option Bool) → List (Option Bool) → List (Option Bool) → List (Option Bool)
 by_items f [] ys = []
 by_items f (x ∷ xs) [] = []
@@ -47,6 +47,6 @@ abbrev pub known_table : Operator → ℕ
 known_table And = 53060
 known_table Or = 64648
 
-abbrev pub beside_table : Operator → ℕ
-beside_table And = 207
-beside_table Or = 252
+abbrev pub paired_table : Operator → ℕ
+paired_table And = 207
+paired_table Or = 252

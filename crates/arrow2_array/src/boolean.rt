@@ -13,7 +13,7 @@ ghost use Rattle.arrow2_bitmap.specs.Packed.{IsPacked};
 ghost use Rattle.arrow2_walks.specs.Zipped.{zipped};
 ghost use Rattle.arrow2_types.specs.Refusals.{IsInvalidArgumentOrOutOfMemory};
 ghost use Rattle.arrow2_validity.specs.OptionalValidity.{valid_items};
-ghost use Rattle.arrow2_validity.specs.Refused.{unequal_lengths_message};
+ghost use Rattle.arrow2_validity.specs.Refusals.{unequal_lengths_message};
 ghost use Rattle.arrow2_array.specs.Items.{boolean_items, sliced_boolean, nulls};
 ghost use Rattle.arrow2_array.specs.Kleene.{by_items, kleene, kleene_and, kleene_or, known_table, values_table};
 
@@ -108,8 +108,8 @@ impl BooleanArray {
         BooleanArray { values, validity }
     }
 
-    /// Returns the array of these values, each null where the validity has an unset bit. Requires that both have one
-    /// length. Does not allocate. arrow2 has no such call.
+    /// Returns the array of these values, each null where the validity has an unset bit. Requires that both have equal
+    /// lengths. Does not allocate. arrow2 has no such call.
     pub fn from_parts(values: Bitmap, validity: Validity) -> BooleanArray
         requires same_length { length' (valid_items validity) ≡ length' (items_of values) }
         ensures { result ≡ record { values = values; validity = validity } }
@@ -288,7 +288,7 @@ impl BooleanArray {
     }
 
     /// Returns, item by item, whether both are true: false where one of them is false, and null where that is not
-    /// known. The values are `and` of the values, also under nulls. Requires that both have one length.
+    /// known. The values are `and` of the values, also under nulls. Requires that both have equal lengths.
     ///
     /// In arrow2 it is `compute::boolean_kleene::and`, which refuses other lengths.
     ///
@@ -318,7 +318,7 @@ impl BooleanArray {
     }
 
     /// Returns, item by item, whether one is true, or both: true where one of them is true, and null where that is not
-    /// known. The values are `or` of the values, also under nulls. Requires that both have one length.
+    /// known. The values are `or` of the values, also under nulls. Requires that both have equal lengths.
     ///
     /// In arrow2 it is `compute::boolean_kleene::or`, which refuses other lengths.
     ///
@@ -384,7 +384,7 @@ impl<'a> IntoIterator for &'a BooleanArray {
 
     type IntoIter = BooleanIter<'a>;
 
-    ghost into_iter_gives = { λ a walk. walk ≡ boolean_items a.now };
+    ghost into_iter_gives = { λ a cursor. cursor ≡ boolean_items a.now };
 
     fn into_iter(self) -> BooleanIter<'a> {
         self.iter()
@@ -410,7 +410,7 @@ impl PartialEq for BooleanArray {
     ghost laws = { partial_equiv_from_equiv (on_equiv boolean_items (lists_equiv (options_equiv bool_eq_equiv))) };
 
     fn eq(&self, other: &BooleanArray) -> bool
-        ensures told { result
+        ensures equality { result
             ≡ pointwise (option_eq beq) (boolean_items self.now) (boolean_items other.now) }
         ensures same { IsTrue result ↔ (boolean_items self.now ≡ boolean_items other.now) }
     {

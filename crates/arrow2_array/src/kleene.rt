@@ -3,7 +3,7 @@ ghost use Rattle.std.specs.Prelude.{◌≡◌, ◌↔◌, [], ◌∷◌, length 
 ghost use Rattle.arrow2_model.specs.Storage.{items_of};
 ghost use Rattle.arrow2_model.specs.Tables.{each};
 ghost use Rattle.arrow2_validity.specs.OptionalValidity.{valid_items};
-ghost use Rattle.arrow2_array.specs.Kleene.{beside_table, known_table, values_table};
+ghost use Rattle.arrow2_array.specs.Kleene.{paired_table, known_table, values_table};
 
 use arrow2_bitmap::Bitmap;
 use arrow2_tables::bitmap_ops::{quaternary_table, ternary_table};
@@ -27,10 +27,10 @@ pub const OR_KNOWN: u16 = 0b1111_1100_1000_1000;
 
 /// For which items it is known whether both are true, where one of them is not null: bit
 /// `value + 2 * validity + 4 * other` of an item and of the value that the other one has.
-pub const AND_KNOWN_BESIDE: u8 = 0b1100_1111;
+pub const AND_KNOWN_PAIRED: u8 = 0b1100_1111;
 
 /// And for which it is known whether one is true, or both.
-pub const OR_KNOWN_BESIDE: u8 = 0b1111_1100;
+pub const OR_KNOWN_PAIRED: u8 = 0b1111_1100;
 
 /// An operator of Kleene's logic.
 #[derive(Clone, Copy)]
@@ -63,12 +63,12 @@ impl Operator {
     }
 
     /// Returns the same where one of the two is not null.
-    fn known_beside(self) -> u8
-        ensures { result ≡ beside_table self }
+    fn known_paired(self) -> u8
+        ensures { result ≡ paired_table self }
     {
         match self {
-            Operator::And => AND_KNOWN_BESIDE,
-            Operator::Or => OR_KNOWN_BESIDE,
+            Operator::And => AND_KNOWN_PAIRED,
+            Operator::Or => OR_KNOWN_PAIRED,
         }
     }
 }
@@ -82,7 +82,7 @@ pub(crate) fn validity_by(
     right: &Bitmap,
     right_validity: &Validity,
 ) -> Result<Validity>
-    // All four have one length.
+    // All four have equal lengths.
     requires same_length { length' (items_of left.now) ≡ length' (items_of right.now) }
     requires left_length { length' (valid_items left_validity.now) ≡ length' (items_of left.now) }
     requires right_length { length' (valid_items right_validity.now) ≡ length' (items_of right.now) }
@@ -98,12 +98,12 @@ pub(crate) fn validity_by(
     ensures only { IfErr result (λ e. e ≡ Error.OutOfMemory) }
 {
     let t = operator.known();
-    let beside = operator.known_beside();
+    let paired = operator.known_paired();
     let len = left.len();
     match (left_validity.bitmap(), right_validity.bitmap()) {
         (None, None) => Ok(Validity::all_valid(len)),
-        (Some(valid), None) => Ok(known_by(len, ternary_table(left, valid, right, beside)?)),
-        (None, Some(valid)) => Ok(known_by(len, ternary_table(right, valid, left, beside)?)),
+        (Some(valid), None) => Ok(known_by(len, ternary_table(left, valid, right, paired)?)),
+        (None, Some(valid)) => Ok(known_by(len, ternary_table(right, valid, left, paired)?)),
         (Some(valid), Some(other)) => {
             Ok(known_by(len, quaternary_table(left, valid, right, other, t)?))
         }

@@ -3,7 +3,7 @@ ghost use Rattle.std.specs.Prelude.{◌≡◌, ◌+◌, ◌≤◌, ◌^◌, ◌�
 ghost use Rattle.arrow2_types.specs.Refusals.{error_of};
 ghost use Rattle.arrow2_model.specs.Parts.{part};
 ghost use Rattle.arrow2_model.specs.Storage.{items_of};
-ghost use Rattle.arrow2_growth.specs.Growth.{Appends};
+ghost use Rattle.arrow2_packed_bits.specs.Growth.{Appends};
 ghost use Rattle.arrow2_bitmap.specs.Packed.{IsPacked};
 ghost use Rattle.arrow2_array.specs.Growth.{AppendsBooleans};
 ghost use Rattle.arrow2_array.specs.Items.{boolean_items, nulls};
@@ -89,7 +89,7 @@ impl MutableBooleanArray {
     /// Returns the capacity in items, including those that it holds.
     pub fn capacity(&self) -> usize
         ensures value { result ≡ self.now.capacity }
-        ensures held { length self.now.items ≤ result }
+        ensures within_capacity { length self.now.items ≤ result }
     {
         self.values.capacity().min(self.validity.capacity())
     }

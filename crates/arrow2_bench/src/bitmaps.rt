@@ -90,9 +90,9 @@ fn iter(bitmap: &Bitmap) -> Result<usize> {
 /// Adds up the indices of the items that are true.
 fn iter_places(bitmap: &Bitmap) -> Result<usize> {
     let mut sum = 0usize;
-    for (place, item) in bitmap.iter().enumerate() {
+    for (position, item) in bitmap.iter().enumerate() {
         if item {
-            sum = sum.wrapping_add(place);
+            sum = sum.wrapping_add(position);
         }
     }
     Ok(sum)

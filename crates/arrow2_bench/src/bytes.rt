@@ -111,8 +111,8 @@ fn on_whole<R, F: Fn(&Bitmap, &R) -> Result<usize>>(
 }
 
 /// Returns the item at an index as a number, or 0 where there is none.
-fn get(bitmap: &Bitmap, place: &usize) -> Result<usize> {
-    match bitmap.get(*place) {
+fn get(bitmap: &Bitmap, position: &usize) -> Result<usize> {
+    match bitmap.get(*position) {
         Some(item) => Ok(usize::from(item)),
         None => Ok(0),
     }
@@ -135,14 +135,14 @@ fn iter_nth(bitmap: &Bitmap, step: &usize) -> Result<usize> {
 /// Mixes the counts of the pieces of a bitmap. Each piece is halved in turn, from the first one on.
 fn pieces(whole: &Bitmap, cuts: &usize) -> Result<usize> {
     let mut pieces = Pieces::new(whole.allocator(), whole.clone()?)?;
-    let mut place = 0usize;
+    let mut position = 0usize;
     for _ in 0..*cuts {
-        if pieces.len() <= place {
-            place = 0;
+        if pieces.len() <= position {
+            position = 0;
         }
-        let half = pieces.get(place).len() / 2;
-        pieces.cut(place, half)?;
-        place = place.wrapping_add(2);
+        let half = pieces.get(position).len() / 2;
+        pieces.cut(position, half)?;
+        position = position.wrapping_add(2);
     }
     let mut counts = 0usize;
     for piece in pieces.into_inner() {
@@ -201,15 +201,15 @@ pub extern "C" fn bench_set_bit(
     alloc: Global,
     bytes: &[u8],
     items: &[bool],
-    places: &[usize],
+    positions: &[usize],
 ) -> usize {
     let Ok(copied) = Vec::from_slice(alloc, bytes) else {
         return 0;
     };
     let mut bytes = copied;
-    for (place, item) in places.iter().zip(items) {
-        if *place / 8 < bytes.len() {
-            set_bit(bytes.as_mut_slice(), *place, *item);
+    for (position, item) in positions.iter().zip(items) {
+        if *position / 8 < bytes.len() {
+            set_bit(bytes.as_mut_slice(), *position, *item);
         }
     }
     zeros(bytes.as_slice())

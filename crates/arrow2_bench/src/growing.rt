@@ -69,9 +69,9 @@ pub extern "C" fn bench_set(alloc: Global, bytes: &[u8], items: &[bool], runs: &
     let mut bitmap = made;
     for run in runs {
         if let Some(items) = items.get(..*run) {
-            for (place, item) in items.iter().enumerate() {
-                if place < bitmap.len() {
-                    bitmap.set(place, *item);
+            for (position, item) in items.iter().enumerate() {
+                if position < bitmap.len() {
+                    bitmap.set(position, *item);
                 }
             }
         }

@@ -37,8 +37,8 @@ fn index_range(length: &usize) -> Result<usize> {
 /// Adds up the indices of the set bits of a word.
 fn ones(word: &usize) -> Result<usize> {
     let mut sum = 0usize;
-    for place in BitChunkOnes::<u64>::new(*word as u64) {
-        sum = sum.wrapping_add(place);
+    for position in BitChunkOnes::<u64>::new(*word as u64) {
+        sum = sum.wrapping_add(position);
     }
     Ok(sum)
 }

@@ -81,19 +81,19 @@ fn buffer<O: Offset>(alloc: Global, items: &[O]) -> Result<OffsetsBuffer<O>> {
 }
 
 /// Mixes where slots of one buffer of offsets start and end.
-fn start_ends(alloc: Global, items: &[i64], places: &[usize]) -> usize {
+fn start_ends(alloc: Global, items: &[i64], positions: &[usize]) -> usize {
     let Ok(offsets) = buffer(alloc, items) else {
         return 0;
     };
-    on_each(places, |place| start_end(&offsets, *place))
+    on_each(positions, |position| start_end(&offsets, *position))
 }
 
 /// Mixes where a slot starts and ends. 0 where there is no such slot.
-fn start_end(offsets: &OffsetsBuffer<i64>, place: usize) -> Result<usize> {
-    if offsets.len_proxy() <= place {
+fn start_end(offsets: &OffsetsBuffer<i64>, position: usize) -> Result<usize> {
+    if offsets.len_proxy() <= position {
         return Ok(0);
     }
-    let (start, end) = offsets.start_end(place);
+    let (start, end) = offsets.start_end(position);
     Ok(start ^ end)
 }
 

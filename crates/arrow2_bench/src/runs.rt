@@ -29,10 +29,10 @@ pub fn on_each<R, F: Fn(&R) -> Result<usize>>(runs: &[R], call: F) -> usize
 {
     let mut sum = 0usize;
     for run in runs {
-        let Ok(answer) = call(run) else {
+        let Ok(outcome) = call(run) else {
             return 0;
         };
-        sum = sum.wrapping_add(answer);
+        sum = sum.wrapping_add(outcome);
     }
     sum
 }

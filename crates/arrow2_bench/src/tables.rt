@@ -109,8 +109,8 @@ fn arrays(
 ) -> Result<Vec<BooleanArray>> {
     let validities = bitmaps(alloc, validity, parts)?;
     let mut arrays = Vec::new(alloc);
-    for (place, values) in bitmaps(alloc, values, parts)?.into_iter().enumerate() {
-        let validity = match validities.get(place) {
+    for (position, values) in bitmaps(alloc, values, parts)?.into_iter().enumerate() {
+        let validity = match validities.get(position) {
             Some(validity) => Some(validity.clone()?),
             None => None,
         };

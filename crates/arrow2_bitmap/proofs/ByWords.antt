@@ -22,7 +22,7 @@ word_copied bytes after word x items left all so first is bits-of =
 -- all words are copied, and the word of the rest
 pub all_copied : (bytes after word : List ℕ) (x len : ℕ) (left items : List Bool) → bits bytes ++ word_bits left ≡ word_bits items → full_words 64 left ≡ [] → rest 64 left ≡ rest 64 items → take (length (rest 64 left)) (unnum 64 x) ≡ rest 64 left
     → after ≡ bytes ++ word → bits word ≡ unnum 64 x → len ≡ length items → (len ≤ 8 * length after) × (take len (bits after) ≡ items)
-all_copied bytes after word x len left items so none behind spilled is bits-of size =
+all_copied bytes after word x len left items so none following spilled is bits-of size =
     let done : bits bytes ≡ word_bits items = sym (append-nil (bits bytes)) ∙ (ap (λ ws. bits bytes ++ flat_map (unnum 64) ws) (sym none) ∙ so) in
     let e : bits after ≡ word_bits items ++ unnum 64 x = rw (is, bits-append bytes word, done, bits-of) refl in
     let whole = items_of_words 64 items wide in
@@ -31,7 +31,7 @@ all_copied bytes after word x len left items so none behind spilled is bits-of s
     let u = length-unnum 64 x in
     let l = length-bits after in
     let short = length-rest 64 items wide in
-    let cut : take (length (rest 64 items)) (unnum 64 x) ≡ rest 64 items = subst (λ (r : List Bool). take (length r) (unnum 64 x) ≡ r) behind spilled in (
+    let cut : take (length (rest 64 items)) (unnum 64 x) ≡ rest 64 items = subst (λ (r : List Bool). take (length r) (unnum 64 x) ≡ r) following spilled in (
       omega (arith, ap length e, ap length whole, n, m, u, l, short, size),
       ap (take len) e ∙ (take-append_more (word_bits items) (unnum 64 x) len (length (rest 64 items)) (omega (arith, ap length whole, n, size)) ∙ (rw cut whole)),
     )

@@ -7,7 +7,7 @@ use Rattle.arrow2_model.specs.Canonical.{canonical_bytes, IsCanonical}
 use Rattle.arrow2_model.specs.Storage.{BitmapStorage, items_of}
 use Rattle.arrow2_model.proofs.Bytes.{bits-zeros}
 use Rattle.arrow2_model.proofs.Canonical.{canonical_is}
-use Rattle.arrow2_growth.proofs.Buffer.{length_items, copies_fit}
+use Rattle.arrow2_packed_bits.proofs.Buffer.{length_items, copies_fit}
 use Rattle.arrow2_bitmap.specs.Packed.{IsPacked}
 
 -- n items from bit 0 of these bytes on

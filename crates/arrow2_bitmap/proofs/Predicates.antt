@@ -15,34 +15,34 @@ if-both (Ok v) gives p q = gives v p q
 if-both (Err e) gives p q = tt
 
 -- of numbers
-pub told-below : (items : List Bool) (n : ℕ) (returns : ℕ → Bool → Type 0) (test : ℕ → Bool) → length items ≡ n → ((k : ℕ) → k < n → returns k (get_or items k false)) → ReturnsBelow n returns test → items ≡ map test (range_with_len 0 n)
-told-below items n returns test size given says =
+pub stated-below : (items : List Bool) (n : ℕ) (returns : ℕ → Bool → Type 0) (test : ℕ → Bool) → length items ≡ n → ((k : ℕ) → k < n → returns k (get_or items k false)) → ReturnsBelow n returns test → items ≡ map test (range_with_len 0 n)
+stated-below items n returns test size given states =
     let l = length-map-range_with_len test 0 n in
     ext_get_or false items (map test (range_with_len 0 n)) (size ∙ sym l) (λ k h.
     let less : k < n = omega (arith, h, size) in
-    says k (get_or items k false) less (given k less) ∙ sym (get_or-map-range_with_len test 0 n k k false less (zero-add k)))
+    states k (get_or items k false) less (given k less) ∙ sym (get_or-map-range_with_len test 0 n k k false less (zero-add k)))
 
 module _ {X : Type 0} where
   -- of the items of a list, by reference
-  pub told-each : (xs : List X) (items : List Bool) (returns : Bor X → Bool → Type 0) (test : X → Bool) → length items ≡ length xs
+  pub stated-each : (xs : List X) (items : List Bool) (returns : Bor X → Bool → Type 0) (test : X → Bool) → length items ≡ length xs
       → ((k : ℕ) → k < length xs → IsResultAt xs returns k (get_or items k false)) → ReturnsOnEach xs returns test → items ≡ map test xs
-  told-each xs items returns test size given says =
+  stated-each xs items returns test size given states =
       let l = length-map xs test in
       ext_get_or false items (map test xs) (size ∙ sym l) (λ k h.
       let less : k < length xs = omega (arith, h, size) in
       let one = given k less in
-      says k one.item (get_or items k false) less one.is_item one.returned ∙ (ap test (sym one.is_item) ∙ sym (get_or-map test xs k one.item.now false less)))
+      states k one.item (get_or items k false) less one.is_item one.returned ∙ (ap test (sym one.is_item) ∙ sym (get_or-map test xs k one.item.now false less)))
 
 -- of the items of two lists, index by index
 module _ {X Y : Type 0} where
-  pub told-pairs : (xs : List X) (ys : List Y) (items : List Bool) (returns : Bor X → Bor Y → Bool → Type 0) (test : X → Y → Bool) → length xs ≡ length ys → length items ≡ length xs
+  pub stated-pairs : (xs : List X) (ys : List Y) (items : List Bool) (returns : Bor X → Bor Y → Bool → Type 0) (test : X → Y → Bool) → length xs ≡ length ys → length items ≡ length xs
       → ((k : ℕ) → k < length xs → IsPairResultAt xs ys returns k (get_or items k false)) → ReturnsOnPairs xs ys returns test → items ≡ zip2 test xs ys
-  told-pairs xs ys items returns test alike size given says =
+  stated-pairs xs ys items returns test alike size given states =
       let l = length-zip2 test xs ys alike in
       ext_get_or false items (zip2 test xs ys) (size ∙ sym l) (λ k h.
       let less : k < length xs = omega (arith, h, size) in
       let more : k < length ys = omega (arith, less, alike) in
       let one = given k less in
-      says k one.left one.right (get_or items k false) less one.is_left one.is_right one.returned
+      states k one.left one.right (get_or items k false) less one.is_left one.is_right one.returned
       ∙ (ap (λ x. test x one.right.now) (sym one.is_left)
       ∙ (ap (test (get_or xs k one.left.now)) (sym one.is_right) ∙ sym (get_or-zip2 test xs ys k one.left.now one.right.now false less more))))

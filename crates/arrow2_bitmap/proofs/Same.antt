@@ -10,14 +10,14 @@ use Rattle.arrow2_model.proofs.Canonical.{same_from_canonical_bytes}
 use Rattle.arrow2_model.proofs.Same.{pointwise-same}
 
 -- a result that is true just where the lists are the same
-pub same_told : (xs ys : List Bool) (r : Bool) → IsTrue r ↔ (xs ≡ ys) → r ≡ pointwise beq xs ys
-same_told xs ys r h = same_from_decides r (pointwise beq xs ys) h (pointwise-same xs ys)
+pub same_stated : (xs ys : List Bool) (r : Bool) → IsTrue r ↔ (xs ≡ ys) → r ≡ pointwise beq xs ys
+same_stated xs ys r h = same_from_decides r (pointwise beq xs ys) h (pointwise-same xs ys)
 
--- a result that is about the canonical bytes of lists of one length
-pub same_bytes_told : (xs ys : List Bool) (a b : List ℕ) (r : Bool) → length xs ≡ length ys → a ≡ canonical_bytes xs → b ≡ canonical_bytes ys → r ≡ pointwise nat_eq a b → r ≡ pointwise beq xs ys
-same_bytes_told xs ys a b r size is-a is-b is =
-    let told = slice_eq-Decides Decides-eqb a b r is in
-    same_told xs ys r (
-      (λ h. same_from_canonical_bytes xs ys size (sym is-a ∙ (told.0 h ∙ is-b))),
-      λ same. told.1 (is-a ∙ (ap canonical_bytes same ∙ sym is-b)),
+-- a result that is about the canonical bytes of lists of equal length
+pub same_bytes_stated : (xs ys : List Bool) (a b : List ℕ) (r : Bool) → length xs ≡ length ys → a ≡ canonical_bytes xs → b ≡ canonical_bytes ys → r ≡ pointwise nat_eq a b → r ≡ pointwise beq xs ys
+same_bytes_stated xs ys a b r size is-a is-b is =
+    let stated = slice_eq-Decides Decides-eqb a b r is in
+    same_stated xs ys r (
+      (λ h. same_from_canonical_bytes xs ys size (sym is-a ∙ (stated.0 h ∙ is-b))),
+      λ same. stated.1 (is-a ∙ (ap canonical_bytes same ∙ sym is-b)),
     )

@@ -12,11 +12,11 @@ use arrow2_bits::chunk_iterator::BitChunks;
 use arrow2_bits::chunks_exact::BitChunksExact;
 use arrow2_chunk::bit_chunk::BitChunk;
 use arrow2_kernels::rows::{NoList, OneList};
-use arrow2_kernels::tables::binary_answers;
+use arrow2_kernels::truth_tables::binary_outputs;
 use std::ops::{BitAnd, BitAndAssign, BitOr, BitOrAssign, BitXor, BitXorAssign, Not};
 
-/// Replaces each word of `T` by the result of `op` for it. The last word is filled with false, and bits that `op` sets
-/// there are cleared. Does not allocate. Requires that `op` accepts every word.
+/// Replaces each word of `T` by the result of `op` for it. The last word is padded with false, and bits that `op` sets
+/// in the padding are cleared. Does not allocate. Requires that the `requires` of `op` holds for every word.
 ///
 /// Differs from arrow2: padding bits don't reach `op`, and are false afterwards.
 pub fn unary_assign<T: BitChunk, F: Fn(T) -> T>(bitmap: &mut MutableBitmap, op: F)
@@ -34,9 +34,9 @@ pub fn unary_assign<T: BitChunk, F: Fn(T) -> T>(bitmap: &mut MutableBitmap, op: 
     bitmap.bits.assign_rows(rows, |own: T, _none: ()| op(own));
 }
 
-/// Replaces each word of `T` by the result of `op` for it and the word of `rhs` at its index. The last words are filled
-/// with false, and bits that `op` sets there are cleared. Does not allocate. Requires that both have one length, and
-/// that `op` accepts every two words.
+/// Replaces each word of `T` by the result of `op` for it and the word of `rhs` at its index. The last words are padded
+/// with false, and bits that `op` sets in the padding are cleared. Does not allocate. Requires equal lengths, and that
+/// the `requires` of `op` holds for every two words.
 ///
 /// Differs from arrow2: padding bits don't reach `op`, and are false afterwards.
 pub fn binary_assign<T: BitChunk, F: Fn(T, T) -> T>(lhs: &mut MutableBitmap, rhs: &Bitmap, op: F)
@@ -64,18 +64,19 @@ pub fn binary_assign<T: BitChunk, F: Fn(T, T) -> T>(lhs: &mut MutableBitmap, rhs
 /// Replaces each item by the output of the truth table `t`: bit `a` of `t`, where `a` is the item as 0 or 1. Reads the
 /// two lowest bits of `t`. Does not allocate.
 ///
-/// `W` is not used, since it goes by 32 bytes at a time. It is there so that all calls in place name a width.
+/// `W` is not used, since the call goes by 32 bytes at a time. `W` is there so that all calls in place name a width.
 ///
 /// arrow2 has no such call.
 pub fn unary_assign_table<W: BitChunk>(bitmap: &mut MutableBitmap, t: u8)
     ensures items { bitmap.new.items ≡ each t (bitmap.old.items ∷ []) }
     ensures capacity { bitmap.new.capacity ≡ bitmap.old.capacity }
 {
-    bitmap.bits.answer(t);
+    bitmap.bits.apply_unary_table(t);
 }
 
 /// Replaces each item by the output of the truth table `t`: bit `a + 2 * b` of `t`, where `a` and `b` are the items of
-/// `lhs` and `rhs` as 0 or 1. Reads the four lowest bits of `t`. Requires that both have one length. Does not allocate.
+/// `lhs` and `rhs` as 0 or 1. Reads the four lowest bits of `t`. Requires that both have equal lengths. Does not
+/// allocate.
 ///
 /// Goes by 32 bytes at a time where `rhs` begins at a whole byte, else by words of `W`. The list is the same for each
 /// `W`.
@@ -89,14 +90,14 @@ pub fn binary_assign_table<W: BitChunk>(lhs: &mut MutableBitmap, rhs: &Bitmap, t
 {
     let (bytes, offset, _length) = rhs.as_slice();
     if offset == 0 {
-        lhs.bits.answer_beside(bytes, t);
+        lhs.bits.apply_binary_table(bytes, t);
     } else {
-        binary_assign(lhs, rhs, |x: W, y: W| binary_answers(u16::from(t), x, y));
+        binary_assign(lhs, rhs, |x: W, y: W| binary_outputs(u16::from(t), x, y));
     }
 }
 
-/// Item by item, whether both are true. Does not allocate. Requires that both have one length. arrow2 implements it on
-/// `&mut MutableBitmap`.
+/// Item by item, whether both are true. Does not allocate. Requires that both have equal lengths. arrow2 implements it
+/// on `&mut MutableBitmap`.
 impl<'a> BitAndAssign<&'a Bitmap> for MutableBitmap {
     ghost can_bitand_assign = { λ m b. length m.items ≡ length (items_of b.now) };
 
@@ -108,7 +109,7 @@ impl<'a> BitAndAssign<&'a Bitmap> for MutableBitmap {
     }
 }
 
-/// Item by item, whether both are true. Does not allocate. Requires that both have one length.
+/// Item by item, whether both are true. Does not allocate. Requires that both have equal lengths.
 impl<'a> BitAnd<&'a Bitmap> for MutableBitmap {
     type Output = MutableBitmap;
 
@@ -124,8 +125,8 @@ impl<'a> BitAnd<&'a Bitmap> for MutableBitmap {
     }
 }
 
-/// Item by item, whether one is true, or both. Does not allocate. Requires that both have one length. arrow2 implements
-/// it on `&mut MutableBitmap`.
+/// Item by item, whether one is true, or both. Does not allocate. Requires that both have equal lengths. arrow2
+/// implements it on `&mut MutableBitmap`.
 impl<'a> BitOrAssign<&'a Bitmap> for MutableBitmap {
     ghost can_bitor_assign = { λ m b. length m.items ≡ length (items_of b.now) };
 
@@ -137,7 +138,7 @@ impl<'a> BitOrAssign<&'a Bitmap> for MutableBitmap {
     }
 }
 
-/// Item by item, whether one is true, or both. Does not allocate. Requires that both have one length.
+/// Item by item, whether one is true, or both. Does not allocate. Requires that both have equal lengths.
 impl<'a> BitOr<&'a Bitmap> for MutableBitmap {
     type Output = MutableBitmap;
 
@@ -153,7 +154,7 @@ impl<'a> BitOr<&'a Bitmap> for MutableBitmap {
     }
 }
 
-/// Item by item, whether one is true, and not both. Does not allocate. Requires that both have one length. arrow2
+/// Item by item, whether one is true, and not both. Does not allocate. Requires that both have equal lengths. arrow2
 /// implements it on `&mut MutableBitmap`.
 impl<'a> BitXorAssign<&'a Bitmap> for MutableBitmap {
     ghost can_bitxor_assign = { λ m b. length m.items ≡ length (items_of b.now) };
@@ -166,7 +167,7 @@ impl<'a> BitXorAssign<&'a Bitmap> for MutableBitmap {
     }
 }
 
-/// Item by item, whether one is true, and not both. Does not allocate. Requires that both have one length.
+/// Item by item, whether one is true, and not both. Does not allocate. Requires that both have equal lengths.
 impl<'a> BitXor<&'a Bitmap> for MutableBitmap {
     type Output = MutableBitmap;
 

@@ -12,17 +12,18 @@ use crate::mutable::MutableBitmap;
 use arrow2_bits::bytes_for;
 use arrow2_bits::chunk_iterator::BitChunks;
 use arrow2_bits::chunks_exact::BitChunksExact;
-use arrow2_kernels::lane_mapped::{map_binary, map_unary};
-use arrow2_kernels::mapped::map_rows;
-use arrow2_kernels::rows::{Beside, OneList, WordRows};
-use arrow2_kernels::tables::{binary_answers, unary_answers};
+use arrow2_kernels::map::map_rows;
+use arrow2_kernels::rows::{OneList, WordRows, ZipRows};
+use arrow2_kernels::simd_map::{map_binary, map_unary};
+use arrow2_kernels::truth_tables::{binary_outputs, unary_outputs};
 use arrow2_types::error::{Error, Result};
 use std::alloc::Global;
 use std::convert::TryFrom;
 use std::ops::{BitAnd, BitOr, BitXor, Not};
 
 /// Applies `op` to each row of words, and returns a bitmap of the first `length` bits of the results. A row is the
-/// words at one index of several lists. Requires that all lists have `length` items, and that `op` accepts every row.
+/// words at one index of several lists. Requires that all lists have `length` items, and that the `requires` of `op`
+/// holds for every row.
 ///
 /// arrow2 has no such call.
 ///
@@ -39,8 +40,8 @@ pub fn from_rows<S: WordRows<u64>, F: Fn(S::Row) -> u64>(
     requires callable { F.IsAlwaysCallable op }
     requires alike { S.alike rows }
     requires length { S.length rows ≡ length }
-    // For every word function `f` that `op` computes: the items are the bits of its results, row after row. Where the rows
-    // are those of lists, they are what the kernel of `f` gives for the lists.
+    // For every word function `f` that `op` computes: the items are the bits of its results for the rows in their
+    // order, cut to `length`. Where the rows are those of `lists`, the items are `kernel 64 f lists`.
     ensures items { (f : List ℕ → ℕ) → ComputesRows 64 S.words (λ x. x) (F.post op) f →
         IfOk result (λ b. items_of b ≡ joined 64 (λ j. f (S.row_at rows j)) length) }
     ensures kernel { (f : List ℕ → ℕ) (lists : List (List Bool)) →
@@ -61,10 +62,11 @@ pub fn from_rows<S: WordRows<u64>, F: Fn(S::Row) -> u64>(
     Bitmap::from_u8_vec(bytes, length)
 }
 
-/// Returns the bitmap of the results of `op` for each word of 64 items. The last word is filled with false. Requires
-/// that `op` accepts every word.
+/// Returns the bitmap of the results of `op` for each word of 64 items. The last word is padded with false. Requires
+/// that the `requires` of `op` holds for every word.
 ///
-/// Differs from arrow2: padding bits don't reach `op`, nor does a word after the last item. It returns no `Result`.
+/// Differs from arrow2: padding bits don't reach `op`, nor does a word that begins after the last item. It returns no
+/// `Result`.
 ///
 /// # Errors
 ///
@@ -93,10 +95,11 @@ pub fn unary<F: Fn(u64) -> u64>(lhs: &Bitmap, op: F) -> Result<Bitmap>
     }
 }
 
-/// Returns the bitmap of the results of `op` for each two words of 64 items at one index. The last words are filled
-/// with false. Requires that both have one length, and that `op` accepts every two words.
+/// Returns the bitmap of the results of `op` for each two words of 64 items at one index. The last words are padded
+/// with false. Requires equal lengths, and that the `requires` of `op` holds for every two words.
 ///
-/// Differs from arrow2: padding bits don't reach `op`, nor do words after the last item. It returns no `Result`.
+/// Differs from arrow2: padding bits don't reach `op`, nor do words that begin after the last item. It returns no
+/// `Result`.
 ///
 /// # Errors
 ///
@@ -124,7 +127,7 @@ pub fn binary<F: Fn(u64, u64) -> u64>(lhs: &Bitmap, rhs: &Bitmap, op: F) -> Resu
     from_rows(
         lhs.allocator(),
         lhs.len(),
-        Beside { left, right },
+        ZipRows { left, right },
         |(x, y)| op(x, y),
     )
 }
@@ -146,17 +149,17 @@ pub fn unary_table(lhs: &Bitmap, t: u8) -> Result<Bitmap>
 {
     let (bytes, offset, length) = lhs.as_slice();
     if offset == 0 {
-        let answers = map_unary(lhs.allocator(), bytes, length, t)?;
-        prove!(bytes_for(length) <= answers.len());
-        Bitmap::from_u8_vec(answers, length)
+        let results = map_unary(lhs.allocator(), bytes, length, t)?;
+        prove!(bytes_for(length) <= results.len());
+        Bitmap::from_u8_vec(results, length)
     } else {
-        unary(lhs, |x| unary_answers(u16::from(t), x))
+        unary(lhs, |x| unary_outputs(u16::from(t), x))
     }
 }
 
 /// Returns, item by item, the output of the truth table `t`: bit `a + 2 * b` of `t`, where `a` and `b` are the items of
-/// `lhs` and `rhs` as 0 or 1. Reads the four lowest bits of `t`. Requires that both have one length. Goes by 32 bytes
-/// at a time where both begin at a whole byte, else by words.
+/// `lhs` and `rhs` as 0 or 1. Reads the four lowest bits of `t`. Requires that both have equal lengths. Goes by 32
+/// bytes at a time where both begin at a whole byte, else by words.
 ///
 /// arrow2 has no such call.
 ///
@@ -175,15 +178,15 @@ pub fn binary_table(lhs: &Bitmap, rhs: &Bitmap, t: u8) -> Result<Bitmap>
     let (left, left_offset, length) = lhs.as_slice();
     let (right, right_offset, _right_length) = rhs.as_slice();
     if left_offset + right_offset == 0 {
-        let answers = map_binary(lhs.allocator(), left, right, length, t)?;
-        prove!(bytes_for(length) <= answers.len());
-        Bitmap::from_u8_vec(answers, length)
+        let results = map_binary(lhs.allocator(), left, right, length, t)?;
+        prove!(bytes_for(length) <= results.len());
+        Bitmap::from_u8_vec(results, length)
     } else {
-        binary(lhs, rhs, |x, y| binary_answers(u16::from(t), x, y))
+        binary(lhs, rhs, |x, y| binary_outputs(u16::from(t), x, y))
     }
 }
 
-/// Item by item, whether both are true. Requires that both have one length. arrow2 returns no `Result`.
+/// Item by item, whether both are true. Requires that both have equal lengths. arrow2 returns no `Result`.
 ///
 /// # Errors
 ///
@@ -203,7 +206,7 @@ pub fn and(lhs: &Bitmap, rhs: &Bitmap) -> Result<Bitmap>
     }
 }
 
-/// Item by item, whether one is true, or both. Requires that both have one length. arrow2 returns no `Result`.
+/// Item by item, whether one is true, or both. Requires that both have equal lengths. arrow2 returns no `Result`.
 ///
 /// # Errors
 ///
@@ -223,7 +226,7 @@ pub fn or(lhs: &Bitmap, rhs: &Bitmap) -> Result<Bitmap>
     }
 }
 
-/// Item by item, whether one is true, and not both. Requires that both have one length. arrow2 returns no `Result`.
+/// Item by item, whether one is true, and not both. Requires that both have equal lengths. arrow2 returns no `Result`.
 ///
 /// # Errors
 ///

@@ -1,7 +1,7 @@
-//! The test of a length against the bytes that are to hold it.
+//! The test that bytes can hold a given number of bits.
 ghost use Rattle.std.specs.Prelude.{◌≡◌, ◌*◌, ◌≤◌, ◌↔◌, IsOk, IfOk, IfErr, vec_len, string_bytes};
 ghost use Rattle.arrow2_types.specs.Refusals.{IsInvalidArgumentOrOutOfMemory};
-ghost use Rattle.arrow2_bitmap.specs.Refused.{too_long};
+ghost use Rattle.arrow2_bitmap.specs.Refusals.{too_long};
 
 use arrow2_types::error::{Error, Result};
 use std::alloc::{AllocError, Global};
@@ -20,7 +20,7 @@ pub(crate) fn check_length(subject: &str, length: usize, bytes: &Vec<u8>) -> Res
 }
 
 /// Returns the text of the error that `length` bits are not inside `bytes` bytes.
-#[tactic(auto, unfolding(crate::specs::Refused::too_long))]
+#[tactic(auto, unfolding(crate::specs::Refusals::too_long))]
 fn refusal(
     alloc: Global,
     subject: &str,
@@ -29,8 +29,8 @@ fn refusal(
 ) -> std::result::Result<String, AllocError>
     ensures { IfOk result (λ text. string_bytes text ≡ too_long subject.now length bytes) }
 {
-    let room = bytes.saturating_mul(8);
+    let bits = bytes.saturating_mul(8);
     format!(in alloc;
-        "{subject} of the bitmap ({length}) must be `<=` to the number of bytes times 8 ({room})"
+        "{subject} of the bitmap ({length}) must be `<=` to the number of bytes times 8 ({bits})"
     )
 }

@@ -18,9 +18,9 @@ ghost use Rattle.arrow2_model.specs.Storage.{BitmapStorage, items_of};
 ghost use Rattle.arrow2_types.specs.Refusals.{IsInvalidArgumentOrOutOfMemory};
 ghost use Rattle.arrow2_types.specs.declared.error.Error.TheVariants.{OutOfMemory};
 ghost use Rattle.arrow2_bitmap.specs.Predicates.{ReturnsBelow, ReturnsOnEach, ReturnsOnPairs, IsResultAt, IsPairResultAt, IsCallableWithEach, IsCallableWithPairs};
-ghost use Rattle.arrow2_bitmap.specs.Collected.{MayYieldTooMany};
+ghost use Rattle.arrow2_bitmap.specs.Iterators.{MayYieldTooMany};
 ghost use Rattle.arrow2_bitmap.specs.Packed.{IsPacked, packed_storage};
-ghost use Rattle.arrow2_bitmap.specs.Refused.{too_long};
+ghost use Rattle.arrow2_bitmap.specs.Refusals.{too_long};
 ghost use Rattle.std.specs.declared.alloc.Global.{Global};
 
 use crate::check::check_length;
@@ -30,7 +30,7 @@ use arrow2_bits::iterator::BitmapIter;
 use arrow2_bits::{Reads, Stored, bytes_for, count_zeros, get_bit, recount, same_bits};
 use arrow2_buffer::bytes::Bytes;
 use arrow2_chunk::bit_chunk::BitChunk;
-use arrow2_growth::answered::answered;
+use arrow2_packed_bits::from_fn::pack_results;
 use arrow2_types::error::{Error, Result};
 use arrow2_types::native::NativeType;
 use either::Either;
@@ -76,7 +76,7 @@ impl Model for Bitmap {
         × (b.unset_bits ≡ falses (part (bits b.bytes.value) b.offset b.length)) };
 }
 
-#[tactic(auto, using(arrow2_model::proofs::Walks::parts))]
+#[tactic(auto, using(arrow2_model::proofs::Cursors::parts))]
 impl Bitmap {
     /// Returns an empty bitmap.
     ///
@@ -116,7 +116,7 @@ impl Bitmap {
     }
 
     /// Returns a bitmap of the first `length` bits of `bytes`. It keeps the whole vector. Requires `length` to be at
-    /// most eight times the number of bytes; arrow2's documentation states the contrary.
+    /// most eight times the number of bytes; arrow2's documentation has the comparison the other way round.
     ///
     /// # Errors
     ///
@@ -161,7 +161,7 @@ impl Bitmap {
     }
 
     /// Returns a bitmap of the first `length` bits of a copy of `bytes`. It keeps the whole copy. Requires `length` to
-    /// be at most eight times the number of bytes; arrow2's documentation states the contrary.
+    /// be at most eight times the number of bytes; arrow2's documentation has the comparison the other way round.
     ///
     /// # Errors
     ///
@@ -221,7 +221,7 @@ impl Bitmap {
             × WholeRun I.IntoIter.next_gives it (λ p. items_of b ≡ p.items)) }
         ensures storage { IfOk result (λ b. IsPacked b) }
         ensures fits { IfOk result (λ b. length (items_of b) < 2 ^ 64) }
-        // It comes only where a run may have too many.
+        // `Overflow` comes only where a run may have too many items.
         ensures overflow { IsErrOf result Error.Overflow →
             (it : I.IntoIter) × I.into_iter_gives iter it × MayYieldTooMany I.IntoIter.next_gives it }
         ensures only { IfErr result (λ e. (e ≡ Error.Overflow) ⊎ (e ≡ Error.OutOfMemory)) }
@@ -242,15 +242,15 @@ impl Bitmap {
         // Where `f` computes a function `test`.
         ensures items { (test : ℕ → Bool) → ReturnsBelow length (F.post f) test →
             IfOk result (λ b. items_of b ≡ map test (range_with_len 0 length)) }
-        // For any `f`: each item is what one of its calls returned.
-        ensures answers { IfOk result (λ b. (index : ℕ) → index < length →
+        // For any `f`: each item is a result that the contract of `f` allows at its index.
+        ensures results { IfOk result (λ b. (index : ℕ) → index < length →
             F.post f index (slice_index_or (items_of b) index false)) }
         // It is stored in canonical bytes, and the only error is `OutOfMemory`.
         ensures len { IfOk result (λ b. length' (items_of b) ≡ length) }
         ensures storage { IfOk result (λ b. IsPacked b) }
         ensures only { IfErr result (λ e. e ≡ Error.OutOfMemory) }
     {
-        let bytes = answered(alloc, length, f)?;
+        let bytes = pack_results(alloc, length, f)?;
         Bitmap::try_from(MutableBitmap::from_vec(bytes, length))
     }
 
@@ -267,8 +267,8 @@ impl Bitmap {
         // Where `f` computes a function `test`.
         ensures items { (test : T → Bool) → ReturnsOnEach items.now (F.post f) test →
             IfOk result (λ b. items_of b ≡ map test items.now) }
-        // For any `f`: each item is what one of its calls returned.
-        ensures answers { IfOk result (λ b. (index : ℕ) → index < length' items.now →
+        // For any `f`: each item is a result that the contract of `f` allows at its index.
+        ensures results { IfOk result (λ b. (index : ℕ) → index < length' items.now →
             IsResultAt items.now (F.post f) index (slice_index_or (items_of b) index false)) }
         // It is stored in canonical bytes, and the only error is `OutOfMemory`.
         ensures len { IfOk result (λ b. length' (items_of b) ≡ length' items.now) }
@@ -288,7 +288,7 @@ impl Bitmap {
 
     /// Returns the bitmap of the results of `f` for each item of one slice and the item of another at its index.
     ///
-    /// Packs 64 results at a time. Requires that both have one length, and that `f` may be called at each pair. arrow2
+    /// Packs 64 results at a time. Requires equal lengths, and that `f` may be called at each pair. arrow2
     /// has no such call: it collects an iterator.
     ///
     /// # Errors
@@ -305,8 +305,8 @@ impl Bitmap {
         // Where `f` computes a function `test`.
         ensures items { (test : S → T → Bool) → ReturnsOnPairs left.now right.now (F.post f) test →
             IfOk result (λ b. items_of b ≡ zip2 test left.now right.now) }
-        // For any `f`: each item is what one of its calls returned.
-        ensures answers { IfOk result (λ b. (index : ℕ) → index < length' left.now →
+        // For any `f`: each item is a result that the contract of `f` allows at its index.
+        ensures results { IfOk result (λ b. (index : ℕ) → index < length' left.now →
             IsPairResultAt left.now right.now (F.post f) index
             (slice_index_or (items_of b) index false)) }
         // It is stored in canonical bytes, and the only error is `OutOfMemory`.
@@ -380,8 +380,7 @@ impl Bitmap {
     }
 
     /// Returns the bytes that hold its items, the bit of the first byte at which the items begin, and the number of
-    /// items. The bit is below 8. A bitmap with no item that does not begin at a whole byte gives the byte in which it
-    /// begins.
+    /// items. The bit is below 8. An empty bitmap that begins inside a byte gives that byte.
     pub fn as_slice(&self) -> (&[u8], usize, usize)
         ensures bytes { result.0.now ≡ part self.now.bytes (self.now.offset / 8)
             ((self.now.offset % 8 + self.now.len + 7) / 8) }
@@ -402,7 +401,8 @@ impl Bitmap {
     }
 
     /// Returns an iterator over the items by words of `T`, from the first item on. In the contract `spill` is the word
-    /// that its `remainder` returns: the items after the last full word, and above them the bits that are stored there.
+    /// that its `remainder` returns: its lowest bits are the items after the last full word, above them are the bits
+    /// stored after those, in the byte with the last item (without a full word, in all bytes), then 0.
     pub fn chunks<T: BitChunk>(&self) -> BitChunks<'_, T>
         ensures items { result.items ≡ items_of self.now }
         ensures fits { length (items_of self.now) < 2 ^ 64 }
@@ -452,7 +452,7 @@ impl Bitmap {
     }
 
     /// Slices as [`Bitmap::slice`] does, and adds to `reads` the number of bytes that it counts: at most `L / 16 + 4`,
-    /// where `L` is the number of items before the slice.
+    /// where `L` is the number of items that the bitmap had before it was sliced.
     ///
     /// arrow2 counts no reads.
     pub fn slice_counted(&mut self, offset: usize, length: usize, reads: &mut Reads)
@@ -513,8 +513,8 @@ impl Bitmap {
         (self.bytes, self.offset, self.length, self.unset_bits)
     }
 
-    /// Returns a bitmap that is changed in place, on the right, if nobody shares the bytes and the items begin at bit
-    /// 0. Otherwise returns the bitmap as it was, on the left. Does not allocate.
+    /// Returns, on the right, a bitmap that can be changed in place, if nobody shares the bytes and the items begin at
+    /// bit 0. Otherwise returns the bitmap as it was, on the left. Does not allocate.
     ///
     /// It is proved that the left side is the bitmap as it was, and that the right side has the same items and comes
     /// only where they begin at bit 0. It is not proved that the right side comes whenever nobody shares the bytes.
@@ -602,7 +602,7 @@ impl<'a> IntoIterator for &'a Bitmap {
 
     type IntoIter = BitmapIter<'a>;
 
-    ghost into_iter_gives = { λ b walk. walk ≡ items_of b.now };
+    ghost into_iter_gives = { λ b cursor. cursor ≡ items_of b.now };
 
     fn into_iter(self) -> BitmapIter<'a> {
         self.iter()
@@ -616,7 +616,7 @@ impl PartialEq for Bitmap {
     ghost laws = { partial_equiv_from_equiv (on_equiv items_of (lists_equiv bool_eq_equiv)) };
 
     fn eq(&self, other: &Bitmap) -> bool
-        ensures told { result ≡ pointwise beq (items_of self.now) (items_of other.now) }
+        ensures equality { result ≡ pointwise beq (items_of self.now) (items_of other.now) }
         ensures same { IsTrue result ↔ (items_of self.now ≡ items_of other.now) }
     {
         self.len() == other.len()
@@ -649,7 +649,7 @@ impl Clone for Bitmap {
     }
 }
 
-/// Keeps the bytes. Refused by `OutOfMemory` alone, and the items are then dropped; arrow2 has `From`, and aborts.
+/// Keeps the bytes. The only error is `OutOfMemory`, and the items are then dropped; arrow2 has `From`, and aborts.
 impl TryFrom<MutableBitmap> for Bitmap {
     type Error = Error;
 

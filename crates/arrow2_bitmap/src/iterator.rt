@@ -31,7 +31,7 @@ impl Model for IntoIter {
         × (i.values.len ≡ length (items_of i.values)) };
 }
 
-#[tactic(auto, using(crate::proofs::Walk::walking))]
+#[tactic(auto, using(crate::proofs::Cursor::walking))]
 impl IntoIter {
     /// Returns an iterator over all items of `values`.
     pub fn new(values: Bitmap) -> IntoIter
@@ -46,7 +46,7 @@ impl IntoIter {
     }
 }
 
-#[tactic(auto, using(crate::proofs::Walk::walking))]
+#[tactic(auto, using(crate::proofs::Cursor::walking))]
 impl Iterator for IntoIter {
     type Item = bool;
 
@@ -74,7 +74,7 @@ impl Iterator for IntoIter {
     }
 }
 
-#[tactic(auto, using(crate::proofs::Walk::walking))]
+#[tactic(auto, using(crate::proofs::Cursor::walking))]
 impl DoubleEndedIterator for IntoIter {
     ghost next_back_gives = { YieldsLast (λ s. s) };
 
@@ -106,7 +106,7 @@ impl IntoIterator for Bitmap {
 
     type IntoIter = IntoIter;
 
-    ghost into_iter_gives = { λ b walk. walk ≡ items_of b };
+    ghost into_iter_gives = { λ b cursor. cursor ≡ items_of b };
 
     fn into_iter(self) -> IntoIter {
         IntoIter::new(self)

@@ -1,18 +1,18 @@
 //! Laws of the bytes of bitmaps that grow. Each function is its law and nothing else.
-ghost use Rattle.std.specs.Prelude.{◌≡◌, ◌↔◌, length};
+ghost use Rattle.std.specs.Prelude.{◌≡◌, ◌↔◌, ◌++◌, ℕ, List, Bool, length, take, drop};
 ghost use Rattle.arrow2_model.specs.Canonical.{canonical_bytes};
 ghost use Rattle.arrow2_bitmap.specs.Packed.{packed_storage};
 ghost use Rattle.arrow2_model.specs.Storage.{BitmapStorage, GrowingBitmap, items_of};
 
-/// Two bitmaps that grow, of one length, are equal exactly if their bytes are.
+/// Two bitmaps that grow, of equal length, are equal exactly if their bytes are.
 #[tactic(auto, using(crate::proofs::Bytes::canonical))]
 pub fn bytes_tell_growing_bitmaps_apart()
     ensures { (m n : GrowingBitmap) → length m.items ≡ length n.items →
         (m.items ≡ n.items) ↔ (canonical_bytes m.items ≡ canonical_bytes n.items) }
 {}
 
-/// A frozen bitmap has the items of the one that grew. Two of them are equal exactly if they are frozen to equal
-/// storage: to equal bytes, which begin at bit 0, and one length.
+/// A frozen bitmap has the items of the one that grew. Two growing bitmaps are equal exactly if they are frozen to
+/// equal storage: to equal bytes, which begin at bit 0, and equal lengths.
 #[tactic(auto, using(crate::proofs::Bytes::canonical))]
 pub fn equal_items_freeze_to_equal_bytes()
     ensures items { (m : GrowingBitmap) (a : BitmapStorage) →
@@ -20,4 +20,14 @@ pub fn equal_items_freeze_to_equal_bytes()
     ensures equal { (m n : GrowingBitmap) (a b : BitmapStorage) →
         a ≡ packed_storage m.items → b ≡ packed_storage n.items →
         (m.items ≡ n.items) ↔ (a ≡ b) }
+{}
+
+/// A bitmap that grew by two lists grew by the one that they make together, wherever that is cut.
+pub fn two_appended_lists_are_one()
+    ensures items { (old middle new : GrowingBitmap) (front back : List Bool) →
+        middle.items ≡ old.items ++ front → new.items ≡ middle.items ++ back →
+        new.items ≡ old.items ++ (front ++ back) }
+    ensures cut { (old middle new : GrowingBitmap) (items : List Bool) (n : ℕ) →
+        middle.items ≡ old.items ++ take n items → new.items ≡ middle.items ++ drop n items →
+        new.items ≡ old.items ++ items }
 {}

@@ -14,17 +14,17 @@ ghost use Rattle.arrow2_model.specs.Shown.{shown};
 ghost use Rattle.arrow2_model.specs.Storage.{GrowingBitmap, items_of};
 ghost use Rattle.arrow2_model.specs.Tables.{each};
 ghost use Rattle.arrow2_types.specs.Refusals.{IsInvalidArgumentOrOutOfMemory, error_of};
-ghost use Rattle.arrow2_growth.specs.Growth.{Appends};
-ghost use Rattle.arrow2_bitmap.specs.Collected.{MayYieldTooMany};
-ghost use Rattle.arrow2_bitmap.specs.Refused.{too_long};
+ghost use Rattle.arrow2_packed_bits.specs.Growth.{Appends};
+ghost use Rattle.arrow2_bitmap.specs.Iterators.{MayYieldTooMany};
+ghost use Rattle.arrow2_bitmap.specs.Refusals.{too_long};
 ghost use Rattle.std.specs.declared.alloc.Global.{Global};
 
 use crate::check::check_length;
 use crate::immutable::Bitmap;
 use arrow2_bits::iterator::BitmapIter;
 use arrow2_bits::{bytes_for, count_zeros, get_bit};
-use arrow2_growth::packed::{collected, packed};
-use arrow2_growth::packed_bits::PackedBits;
+use arrow2_packed_bits::packed_bits::PackedBits;
+use arrow2_packed_bits::packing::{collected, packed};
 use arrow2_types::error::{Error, Result};
 use std::alloc::{AllocError, Global};
 use std::convert::TryFrom;
@@ -71,8 +71,8 @@ impl MutableBitmap {
     }
 
     /// Returns a bitmap of the first `length` bits of `bytes`, in their vector. It cuts spare bytes off, clears padding
-    /// bits and keeps the capacity. Does not allocate where the bytes have `length` bits. In arrow2 spare bytes stay,
-    /// and `push` may write into the wrong byte.
+    /// bits and keeps the capacity. Does not allocate where the bytes have at least `length` bits. In arrow2 spare
+    /// bytes stay, and `push` may write into the wrong byte.
     ///
     /// # Errors
     ///
@@ -124,7 +124,7 @@ impl MutableBitmap {
     /// # Errors
     ///
     /// `OutOfMemory` alone.
-    #[tactic(auto, using(arrow2_growth::proofs::Filled::filling))]
+    #[tactic(auto, using(arrow2_packed_bits::proofs::Filled::filling))]
     pub fn from_len_zeroed(alloc: Global, length: usize) -> Result<MutableBitmap>
         ensures ok { IfOk result (λ m. m.items ≡ replicate length false) }
         ensures only { IfErr result (λ e. e ≡ Error.OutOfMemory) }
@@ -138,7 +138,7 @@ impl MutableBitmap {
     /// # Errors
     ///
     /// `OutOfMemory` alone.
-    #[tactic(auto, using(arrow2_growth::proofs::Filled::filling))]
+    #[tactic(auto, using(arrow2_packed_bits::proofs::Filled::filling))]
     pub fn from_len_set(alloc: Global, length: usize) -> Result<MutableBitmap>
         ensures ok { IfOk result (λ m. m.items ≡ replicate length true) }
         ensures only { IfErr result (λ e. e ≡ Error.OutOfMemory) }
@@ -163,7 +163,7 @@ impl MutableBitmap {
         ensures items { IfOk result (λ m. (it : I.IntoIter) × I.into_iter_gives iter it
             × WholeRun I.IntoIter.next_gives it (λ p. m.items ≡ p.items)) }
         ensures fits { IfOk result (λ m. length m.items < 2 ^ 64) }
-        // It comes only where a run may have too many.
+        // `Overflow` comes only where a run may have too many items.
         ensures overflow { IsErrOf result Error.Overflow →
             (it : I.IntoIter) × I.into_iter_gives iter it × MayYieldTooMany I.IntoIter.next_gives it }
         ensures only { IfErr result (λ e. (e ≡ Error.Overflow) ⊎ (e ≡ Error.OutOfMemory)) }
@@ -228,6 +228,20 @@ impl MutableBitmap {
         Ok(())
     }
 
+    /// Appends the items of a slice. Within the capacity it does not allocate, else it allocates once, before it
+    /// writes. Stands for arrow2's `extend_from_trusted_len_iter`, which takes an iterator and returns no `Result`.
+    ///
+    /// # Errors
+    ///
+    /// `Overflow` exactly where the new length would pass `usize::MAX`, else `OutOfMemory` alone.
+    /// After either the bitmap holds the items that it held.
+    pub fn extend_from_bools(&mut self, items: &[bool]) -> Result<()>
+        ensures { Appends error_of result self.old self.new items.now }
+    {
+        self.bits.extend_from_bools(items)?;
+        Ok(())
+    }
+
     /// Appends the items of a bitmap, as [`MutableBitmap::extend_from_slice`] does. Within the capacity it does not
     /// allocate, else it allocates once, before it writes. arrow2 returns no `Result`.
     ///
@@ -250,10 +264,11 @@ impl MutableBitmap {
     /// `Overflow` exactly where the length and `additional` pass `usize::MAX` together, else `OutOfMemory` alone.
     /// After either the bitmap holds the items that it held.
     pub fn reserve(&mut self, additional: usize) -> Result<()>
-        // The items stay, and `additional` more fit.
+        // The items stay, and `additional` more fit; that the capacity holds the items (`within_capacity`) is a fact of
+        // the type.
         ensures items { self.new.items ≡ self.old.items }
         ensures ok { OnOk result (length self.old.items + additional ≤ self.new.capacity) }
-        ensures held { length self.old.items ≤ self.old.capacity }
+        ensures within_capacity { length self.old.items ≤ self.old.capacity }
         // When each error comes, and when none does.
         ensures overflow { IsErrOf result Error.Overflow ↔
             (2 ^ 64 ≤ length self.old.items + additional) }
@@ -266,7 +281,8 @@ impl MutableBitmap {
         Ok(())
     }
 
-    /// Frees unused capacity if the allocator can. Always returns `Ok`. arrow2 returns no `Result`.
+    /// Frees unused capacity if the allocator can: no clause states that any is freed. Always returns `Ok`. arrow2
+    /// returns no `Result`.
     ///
     /// If the smaller block cannot be allocated, the items stay where they are.
     pub fn shrink_to_fit(&mut self) -> Result<()>
@@ -351,7 +367,7 @@ impl MutableBitmap {
     /// Returns the capacity in items, at most `usize::MAX`, where arrow2's may wrap.
     pub fn capacity(&self) -> usize
         ensures capacity { result ≡ self.now.capacity }
-        ensures held { length self.now.items ≤ result }
+        ensures within_capacity { length self.now.items ≤ result }
     {
         self.bits.capacity()
     }
@@ -436,7 +452,7 @@ impl<'a> IntoIterator for &'a MutableBitmap {
 
     type IntoIter = BitmapIter<'a>;
 
-    ghost into_iter_gives = { λ m walk. walk ≡ m.now.items };
+    ghost into_iter_gives = { λ m cursor. cursor ≡ m.now.items };
 
     fn into_iter(self) -> BitmapIter<'a> {
         self.iter()
@@ -450,7 +466,7 @@ impl PartialEq for MutableBitmap {
     ghost laws = { partial_equiv_from_equiv (on_equiv (λ m. m.items) (lists_equiv bool_eq_equiv)) };
 
     fn eq(&self, other: &MutableBitmap) -> bool
-        ensures told { result ≡ pointwise beq self.now.items other.now.items }
+        ensures equality { result ≡ pointwise beq self.now.items other.now.items }
         ensures same { IsTrue result ↔ (self.now.items ≡ other.now.items) }
     {
         self.len() == other.len() && self.as_slice() == other.as_slice()

@@ -25,11 +25,11 @@ pub merged_word : (bytes : List ℕ) (k w s : ℕ) (low high down up all : List 
     → low ≡ bits (take k bytes) → high ≡ bits (take (1 + k - 1) (drop 1 bytes))
     → down ≡ drop s low ++ replicate s false → up ≡ replicate (8 - s) false ++ take (w - (8 - s)) high → all ≡ zip2 (λ a b. a || b) down up
     → all ≡ part (bits bytes) s w
-merged_word bytes k w s low high down up all e wide s<8 h room is-low is-high is-down is-up is =
+merged_word bytes k w s low high down up all e wide s<8 h spare is-low is-high is-down is-up is =
     let l = length-bits bytes in
     let a = low_word bytes k w low e (omega arith) is-low in
-    let b = high_word bytes k w high e room is-high in
-    is ∙ (rw (is-down, is-up) (merged (bits bytes) low high w s s<8 wide (omega (arith, l)) (omega (arith, l, e, room)) a b))
+    let b = high_word bytes k w high e spare is-high in
+    is ∙ (rw (is-down, is-up) (merged (bits bytes) low high w s s<8 wide (omega (arith, l)) (omega (arith, l, e, spare)) a b))
 
 -- the number of a word that was loaded
 pub loaded_number : (w x : ℕ) (xs : List Bool) → x < 2 ^ w → unnum w x ≡ xs → x ≡ num xs
@@ -42,11 +42,11 @@ padded_number bytes copied w x s fits e is =
     ∙ (rw (e, drop-replicate {X = ℕ} (length bytes) 16 0) (num-zeros bytes (16 - length bytes) s w))
 
 -- a bit of the word of a part of the bytes from one on
-pub bit_of_part : (bytes : List ℕ) (w first shift offset place : ℕ) → w ≡ num (part (bits (take (length bytes - first) (drop first bytes))) shift 64) → first ≤ length bytes → 8 * first + shift ≡ offset + place
-    → (i : ℕ) → i < 64 → bit w i ≡ get_or (bits bytes) (offset + (place + i)) false
-bit_of_part bytes w first shift offset place is inside at i l =
+pub bit_of_part : (bytes : List ℕ) (w first shift offset position : ℕ) → w ≡ num (part (bits (take (length bytes - first) (drop first bytes))) shift 64) → first ≤ length bytes → 8 * first + shift ≡ offset + position
+    → (i : ℕ) → i < 64 → bit w i ≡ get_or (bits bytes) (offset + (position + i)) false
+bit_of_part bytes w first shift offset position is inside at i l =
     let n = length-drop first bytes in
     let all : take (length bytes - first) (drop first bytes) ≡ drop first bytes = take_all (length bytes - first) (drop first bytes) (omega (arith, n)) in
-    let e : 8 * first + shift + i ≡ offset + (place + i) = omega (arith, at) in
+    let e : 8 * first + shift + i ≡ offset + (position + i) = omega (arith, at) in
     ap (λ x. bit x i) (is ∙ (ap (λ xs. num (part (bits xs) shift 64)) all ∙ ap num (part-bits-drop bytes first shift 64 inside))) ∙ (bit-num (part (bits bytes) (8 * first + shift) 64) i
     ∙ (get_or-part (bits bytes) (8 * first + shift) 64 i false l ∙ ap (λ t. get_or (bits bytes) t false) e))

@@ -3,7 +3,7 @@ use Rattle.std.proofs.Common.{◌≡◌, ◌≤◌, ◌<◌, ◌+◌, ◌-◌, �
 use Rattle.std.proofs.Math.Nat.{div-eq-sub-div}
 use Rattle.std.proofs.lemmas.List.{length-append, length-drop, length-take-le, take-append-drop, nil_from_length}
 use Rattle.arrow2_model.specs.Buffers.{overwritten}
-use Rattle.arrow2_bits.specs.ChunksMut.{ChunkWalkMut, chunks_left, next_len, past}
+use Rattle.arrow2_bits.specs.ChunksMut.{ChunkCursorMut, chunks_left, next_len, past}
 
 -- one chunk fewer
 pub one-fewer : (size left less : ℕ) → 0 < size → size ≤ left → less ≡ left - size → left / size ≡ less / size + 1
@@ -14,22 +14,22 @@ either true n = inl refl
 either false n = inr refl
 
 -- a loan is a whole chunk, where it is not empty
-pub whole-chunk : (walk : ChunkWalkMut) → 0 < next_len walk → next_len walk ≡ walk.size
-whole-chunk walk p = elim (either (nat_le walk.size (length walk.bytes - walk.at)) walk.size) [
+pub whole-chunk : (cursor : ChunkCursorMut) → 0 < next_len cursor → next_len cursor ≡ cursor.size
+whole-chunk cursor p = elim (either (nat_le cursor.size (length cursor.bytes - cursor.at)) cursor.size) [
   | inl e ↦ e
   | inr e ↦ absurd (omega (arith, p, e))
 ]
 
 -- the number of chunks left is that of the bytes ahead, whatever was written
-pub left-past : (walk : ChunkWalkMut) (written : List ℕ) → length written ≡ walk.size → 0 < walk.size → walk.size ≤ length walk.bytes - walk.at → chunks_left walk ≡ chunks_left (past walk walk.size written) + 1
-left-past walk written e p h =
-    let behind = drop (length written) (drop walk.at walk.bytes) in
-    let same : length (overwritten walk.bytes walk.at written) ≡ length walk.bytes =
-    omega (arith, length-append (take walk.at walk.bytes) (written ++ behind), length-append written behind, length-take-le walk.at walk.bytes (omega arith), length-drop (length written) (drop walk.at walk.bytes), length-drop walk.at walk.bytes) in
-    one-fewer walk.size (length walk.bytes - walk.at) (length (overwritten walk.bytes walk.at written) - (walk.at + walk.size)) p h (omega (arith, same))
+pub left-past : (cursor : ChunkCursorMut) (written : List ℕ) → length written ≡ cursor.size → 0 < cursor.size → cursor.size ≤ length cursor.bytes - cursor.at → chunks_left cursor ≡ chunks_left (past cursor cursor.size written) + 1
+left-past cursor written e p h =
+    let following = drop (length written) (drop cursor.at cursor.bytes) in
+    let same : length (overwritten cursor.bytes cursor.at written) ≡ length cursor.bytes =
+    omega (arith, length-append (take cursor.at cursor.bytes) (written ++ following), length-append written following, length-take-le cursor.at cursor.bytes (omega arith), length-drop (length written) (drop cursor.at cursor.bytes), length-drop cursor.at cursor.bytes) in
+    one-fewer cursor.size (length cursor.bytes - cursor.at) (length (overwritten cursor.bytes cursor.at written) - (cursor.at + cursor.size)) p h (omega (arith, same))
 
 -- where nothing was lent the iterator stays
-pub past-none : (walk : ChunkWalkMut) (written : List ℕ) → next_len walk ≡ 0 → length written ≡ 0 → past walk (next_len walk) written ≡ walk
-past-none walk written none e =
-    ap (past walk (next_len walk)) (nil_from_length written e) ∙ ap (λ (k : ℕ). record walk { bytes = take walk.at walk.bytes ++ drop walk.at walk.bytes; at = walk.at + k }) none
-    ∙ ap (λ (items : List ℕ). record walk { bytes = items; at = walk.at + 0 }) (take-append-drop walk.at walk.bytes) ∙ ap (λ (k : ℕ). record walk { at = k }) (omega arith)
+pub past-none : (cursor : ChunkCursorMut) (written : List ℕ) → next_len cursor ≡ 0 → length written ≡ 0 → past cursor (next_len cursor) written ≡ cursor
+past-none cursor written none e =
+    ap (past cursor (next_len cursor)) (nil_from_length written e) ∙ ap (λ (k : ℕ). record cursor { bytes = take cursor.at cursor.bytes ++ drop cursor.at cursor.bytes; at = cursor.at + k }) none
+    ∙ ap (λ (items : List ℕ). record cursor { bytes = items; at = cursor.at + 0 }) (take-append-drop cursor.at cursor.bytes) ∙ ap (λ (k : ℕ). record cursor { at = k }) (omega arith)

@@ -12,7 +12,7 @@ use Rattle.arrow2_model.proofs.Bytes.{part-bits-part, part-bits-drop}
 use Rattle.arrow2_model.proofs.Numbers.{bit-num, num-unnum}
 use Rattle.arrow2_model.proofs.Parts.{take-part, drop-part, length-part, part-part}
 use Rattle.arrow2_model.proofs.Words.{full_words-cons, full_words-none, rest-drop, length-full_words}
-use Rattle.arrow2_bits.specs.Chunks.{IsChunkWalk}
+use Rattle.arrow2_bits.specs.Chunks.{IsChunkCursor}
 
 -- a slice up to the end
 pub slice_end : {X : Type 0} (items : List X) (a : ℕ) → take (length items - a) (drop a items) ≡ drop a items
@@ -40,32 +40,32 @@ pub rest_is_short : (len k w : ℕ) → 8 * k ≡ w → 0 < w → len - w * (len
 rest_is_short len k w e p = let f = full_count len k w e in let d = div-add-mod len w in let m = mod-lt len p in rw f (omega (arith, d, m))
 
 -- the bytes of the remainder hold it, from bit shift on
-pub spilled_rest : (bytes behind : List ℕ) (w shift len count tail start : ℕ) → shift < 8 → shift + len ≤ 8 * length bytes → w * count + tail ≡ len → tail < w → 8 * start ≡ w * count
-    → (start ≡ 0 → behind ≡ bytes) → (0 < start → behind ≡ part bytes start ((len + shift + 7) / 8 - start))
-    → take tail (unnum w (num (part (bits behind) shift w))) ≡ part (bits bytes) (shift + w * count) tail
-spilled_rest bytes behind w shift len count tail start s<8 within all short at none some =
+pub spilled_rest : (bytes following : List ℕ) (w shift len count tail start : ℕ) → shift < 8 → shift + len ≤ 8 * length bytes → w * count + tail ≡ len → tail < w → 8 * start ≡ w * count
+    → (start ≡ 0 → following ≡ bytes) → (0 < start → following ≡ part bytes start ((len + shift + 7) / 8 - start))
+    → take tail (unnum w (num (part (bits following) shift w))) ≡ part (bits bytes) (shift + w * count) tail
+spilled_rest bytes following w shift len count tail start s<8 within all short at none some =
     elim (cases_lt 0 start) [
       | inr ge ↦
           let z : start ≡ 0 = omega arith in
           let e = none z in
-          let l = length-bits behind in
-          let room : shift + tail ≤ length (bits behind) = omega (arith, l, ap length e) in
-          let lw = length-take w (drop shift (bits behind)) in
-          let ld = length-drop shift (bits behind) in
-          take-unnum-num w tail (part (bits behind) shift w) (omega arith) (omega (arith, lw, ld, room))
-          ∙ (take-part (bits behind) shift tail w (omega arith)
+          let l = length-bits following in
+          let spare : shift + tail ≤ length (bits following) = omega (arith, l, ap length e) in
+          let lw = length-take w (drop shift (bits following)) in
+          let ld = length-drop shift (bits following) in
+          take-unnum-num w tail (part (bits following) shift w) (omega arith) (omega (arith, lw, ld, spare))
+          ∙ (take-part (bits following) shift tail w (omega arith)
           ∙ (rw e (ap (λ a. part (bits bytes) a tail) (omega (arith, at, z)))))
       | inl lt ↦
           let m : ℕ = (len + shift + 7) / 8 - start in
           let e = some lt in
           let inside : start + m ≤ length bytes = omega (arith, at) in
           let lb = length-part bytes start m inside in
-          let l = length-bits behind in
-          let many : length behind ≡ m = ap length e ∙ lb in
-          let lw = length-take w (drop shift (bits behind)) in
-          let ld = length-drop shift (bits behind) in
-          take-unnum-num w tail (part (bits behind) shift w) (omega arith) (omega (arith, lw, ld, l, many, at))
-          ∙ (take-part (bits behind) shift tail w (omega arith)
+          let l = length-bits following in
+          let many : length following ≡ m = ap length e ∙ lb in
+          let lw = length-take w (drop shift (bits following)) in
+          let ld = length-drop shift (bits following) in
+          take-unnum-num w tail (part (bits following) shift w) (omega arith) (omega (arith, lw, ld, l, many, at))
+          ∙ (take-part (bits following) shift tail w (omega arith)
           ∙ (rw e (part-bits-part bytes start m shift tail (shift + w * count) inside (omega (arith, at)) (omega (arith, at)))))
     ]
 
@@ -74,22 +74,22 @@ word_starts : (full k w : ℕ) → 8 * k ≡ w → 8 * (full * k) ≡ w * full
 word_starts full k w e = ap (λ n. 8 * n) (mul_comm full k) ∙ (sym (mul_assoc 8 k full) ∙ ap (λ n. n * full) e)
 
 -- the invariant of an iterator that begins
-pub new_walk : (bytes behind front : List ℕ) (k w offset len x : ℕ) → 8 * k ≡ w → 8 ≤ w → len < 2 ^ 64 → offset + len ≤ 8 * length bytes → front ≡ drop (offset / 8) bytes
-    → (len / 8 / k * k ≡ 0 → behind ≡ front) → (0 < len / 8 / k * k → behind ≡ part front (len / 8 / k * k) ((len + offset % 8 + 7) / 8 - len / 8 / k * k))
-    → x ≡ num (part (bits behind) (offset % 8) w)
-    → IsChunkWalk w front (offset % 8) (len / 8 / k) (len - w * (len / 8 / k)) x
-new_walk bytes behind front k w offset len x e wide small h is none some number =
+pub new_cursor : (bytes following front : List ℕ) (k w offset len x : ℕ) → 8 * k ≡ w → 8 ≤ w → len < 2 ^ 64 → offset + len ≤ 8 * length bytes → front ≡ drop (offset / 8) bytes
+    → (len / 8 / k * k ≡ 0 → following ≡ front) → (0 < len / 8 / k * k → following ≡ part front (len / 8 / k * k) ((len + offset % 8 + 7) / 8 - len / 8 / k * k))
+    → x ≡ num (part (bits following) (offset % 8) w)
+    → IsChunkCursor w front (offset % 8) (len / 8 / k) (len - w * (len / 8 / k)) x
+new_cursor bytes following front k w offset len x e wide small h is none some number =
     let all = words_and_rest len k w e (omega arith) in
     let short = rest_is_short len k w e (omega arith) in
     let l = length-drop (offset / 8) bytes in
-    let room : offset % 8 + len ≤ 8 * length front = omega (arith, l, ap length is) in
+    let spare : offset % 8 + len ≤ 8 * length front = omega (arith, l, ap length is) in
     let at : 8 * (len / 8 / k * k) ≡ w * (len / 8 / k) = word_starts (len / 8 / k) k w e in
     record {
-      place = omega arith;
-      within = omega (arith, all, room);
+      position = omega arith;
+      within = omega (arith, all, spare);
       short = short;
       fits = omega (arith, all, small);
-      spilled = rw number (spilled_rest front behind w (offset % 8) len (len / 8 / k) (len - w * (len / 8 / k)) (len / 8 / k * k) (omega arith) room all short at none some);
+      spilled = rw number (spilled_rest front following w (offset % 8) len (len / 8 / k) (len - w * (len / 8 / k)) (len / 8 / k * k) (omega arith) spare all short at none some);
     }
 
 -- the items of an iterator that begins
@@ -105,17 +105,17 @@ pos_suc n = omega arith
 no_zero : (n : ℕ) → 0 < n → (n == 0) ≡ false
 no_zero n h = grind arith
 
-spilled_is : (full k end : ℕ) (behind b : List ℕ) → 0 < k → (full * k ≡ 0 → b ≡ behind) → (0 < full * k → b ≡ part behind (full * k) (end - full * k)) → b ≡ (if full == 0 then behind else part behind (full * k) (end - full * k))
-spilled_is zero k end behind b p none some = none (zero-mul k)
-spilled_is (suc n) k end behind b p none some = rw (no_zero (suc n) (pos_suc n)) (some (let l = le-mul_of_pos_right k (pos_suc n) in omega (arith, l, mul_comm (suc n) k)))
+spilled_is : (full k end : ℕ) (following b : List ℕ) → 0 < k → (full * k ≡ 0 → b ≡ following) → (0 < full * k → b ≡ part following (full * k) (end - full * k)) → b ≡ (if full == 0 then following else part following (full * k) (end - full * k))
+spilled_is zero k end following b p none some = none (zero-mul k)
+spilled_is (suc n) k end following b p none some = rw (no_zero (suc n) (pos_suc n)) (some (let l = le-mul_of_pos_right k (pos_suc n) in omega (arith, l, mul_comm (suc n) k)))
 
 -- the remainder of an iterator that begins
-pub new_spill : (bytes behind front : List ℕ) (k w offset len x : ℕ) → 8 * k ≡ w → 8 ≤ w → front ≡ drop (offset / 8) bytes
-    → (len / 8 / k * k ≡ 0 → behind ≡ front) → (0 < len / 8 / k * k → behind ≡ part front (len / 8 / k * k) ((len + offset % 8 + 7) / 8 - len / 8 / k * k))
-    → x ≡ num (part (bits behind) (offset % 8) w) → x ≡ spill k bytes offset len
+pub new_spill : (bytes following front : List ℕ) (k w offset len x : ℕ) → 8 * k ≡ w → 8 ≤ w → front ≡ drop (offset / 8) bytes
+    → (len / 8 / k * k ≡ 0 → following ≡ front) → (0 < len / 8 / k * k → following ≡ part front (len / 8 / k * k) ((len + offset % 8 + 7) / 8 - len / 8 / k * k))
+    → x ≡ num (part (bits following) (offset % 8) w) → x ≡ spill k bytes offset len
 unfolding spill
-new_spill bytes behind front k w offset len x e wide is none some number =
-    let b = spilled_is (len / 8 / k) k ((len + offset % 8 + 7) / 8) front behind (omega (arith, e)) none some in
+new_spill bytes following front k w offset len x e wide is none some number =
+    let b = spilled_is (len / 8 / k) k ((len + offset % 8 + 7) / 8) front following (omega (arith, e)) none some in
     number ∙ (rw (← e, ← is) (ap (λ (t : List ℕ). num (part (bits t) (offset % 8) (8 * k))) b))
 
 -- ---- an iterator from bit 0 on, over the bytes that hold its items
@@ -148,61 +148,61 @@ div-mul-add_left : (w count tail : ℕ) → tail < w → (w * count + tail) / w 
 div-mul-add_left w count tail h = rw (mul_comm w count) (div-mul-add count w tail h)
 
 -- the number of words to come
-pub words_left : (bytes : List ℕ) (w shift count tail word : ℕ) → IsChunkWalk w bytes shift count tail word → length (full_words w (part (bits bytes) shift (w * count + tail))) ≡ count
-words_left bytes w shift count tail word walk =
+pub words_left : (bytes : List ℕ) (w shift count tail word : ℕ) → IsChunkCursor w bytes shift count tail word → length (full_words w (part (bits bytes) shift (w * count + tail))) ≡ count
+words_left bytes w shift count tail word cursor =
     let l = length-bits bytes in
-    let n = length-part (bits bytes) shift (w * count + tail) (omega (arith, l, walk.within)) in
-    length-full_words w (part (bits bytes) shift (w * count + tail)) ∙ (rw n (div-mul-add_left w count tail walk.short))
+    let n = length-part (bits bytes) shift (w * count + tail) (omega (arith, l, cursor.within)) in
+    length-full_words w (part (bits bytes) shift (w * count + tail)) ∙ (rw n (div-mul-add_left w count tail cursor.short))
 
 -- the number of items fits a number of 64 bits
-pub walk_fits : (bytes : List ℕ) (w shift count tail word : ℕ) → IsChunkWalk w bytes shift count tail word → length (part (bits bytes) shift (w * count + tail)) < 2 ^ 64
-walk_fits bytes w shift count tail word walk =
+pub cursor_fits : (bytes : List ℕ) (w shift count tail word : ℕ) → IsChunkCursor w bytes shift count tail word → length (part (bits bytes) shift (w * count + tail)) < 2 ^ 64
+cursor_fits bytes w shift count tail word cursor =
     let l = length-bits bytes in
-    let n = length-part (bits bytes) shift (w * count + tail) (omega (arith, l, walk.within)) in
-    omega (arith, n, walk.fits)
+    let n = length-part (bits bytes) shift (w * count + tail) (omega (arith, l, cursor.within)) in
+    omega (arith, n, cursor.fits)
 
 -- the number of items after them, and these items
-pub rest_left : (bytes : List ℕ) (w shift count tail word : ℕ) → IsChunkWalk w bytes shift count tail word → rest w (part (bits bytes) shift (w * count + tail)) ≡ part (bits bytes) (shift + w * count) tail
+pub rest_left : (bytes : List ℕ) (w shift count tail word : ℕ) → IsChunkCursor w bytes shift count tail word → rest w (part (bits bytes) shift (w * count + tail)) ≡ part (bits bytes) (shift + w * count) tail
 unfolding rest
-rest_left bytes w shift count tail word walk =
+rest_left bytes w shift count tail word cursor =
     let l = length-bits bytes in
-    let n = length-part (bits bytes) shift (w * count + tail) (omega (arith, l, walk.within)) in
-    let q : length (part (bits bytes) shift (w * count + tail)) / w ≡ count = rw n (div-mul-add_left w count tail walk.short) in
+    let n = length-part (bits bytes) shift (w * count + tail) (omega (arith, l, cursor.within)) in
+    let q : length (part (bits bytes) shift (w * count + tail)) / w ≡ count = rw n (div-mul-add_left w count tail cursor.short) in
     rw q (drop-part (bits bytes) shift (w * count) tail)
 
 -- the lowest bits of the word of the remainder are the rest
-pub length_of_rest : (bytes : List ℕ) (w shift count tail word : ℕ) → IsChunkWalk w bytes shift count tail word → length (rest w (part (bits bytes) shift (w * count + tail))) ≡ tail
-length_of_rest bytes w shift count tail word walk =
+pub length_of_rest : (bytes : List ℕ) (w shift count tail word : ℕ) → IsChunkCursor w bytes shift count tail word → length (rest w (part (bits bytes) shift (w * count + tail))) ≡ tail
+length_of_rest bytes w shift count tail word cursor =
     let l = length-bits bytes in
-    ap length (rest_left bytes w shift count tail word walk) ∙ length-part (bits bytes) (shift + w * count) tail (omega (arith, l, walk.within))
+    ap length (rest_left bytes w shift count tail word cursor) ∙ length-part (bits bytes) (shift + w * count) tail (omega (arith, l, cursor.within))
 
-pub rest_of_word : (bytes : List ℕ) (w shift count tail word : ℕ) → IsChunkWalk w bytes shift count tail word
+pub rest_of_word : (bytes : List ℕ) (w shift count tail word : ℕ) → IsChunkCursor w bytes shift count tail word
     → take (length (rest w (part (bits bytes) shift (w * count + tail)))) (unnum w word) ≡ rest w (part (bits bytes) shift (w * count + tail))
-rest_of_word bytes w shift count tail word walk =
-    rw (length_of_rest bytes w shift count tail word walk) (walk.spilled ∙ sym (rest_left bytes w shift count tail word walk))
+rest_of_word bytes w shift count tail word cursor =
+    rw (length_of_rest bytes w shift count tail word cursor) (cursor.spilled ∙ sym (rest_left bytes w shift count tail word cursor))
 
 -- no word is left
-pub walk_ended : (bytes : List ℕ) (w shift count tail word : ℕ) → IsChunkWalk w bytes shift count tail word → count ≡ 0 → full_words w (part (bits bytes) shift (w * count + tail)) ≡ []
-walk_ended bytes w shift count tail word walk z =
+pub cursor_ended : (bytes : List ℕ) (w shift count tail word : ℕ) → IsChunkCursor w bytes shift count tail word → count ≡ 0 → full_words w (part (bits bytes) shift (w * count + tail)) ≡ []
+cursor_ended bytes w shift count tail word cursor z =
     let l = length-bits bytes in
     let m : w * count ≡ 0 = rw z (mul-zero w) in
-    let n = length-part (bits bytes) shift (w * count + tail) (omega (arith, l, walk.within)) in
-    full_words-none w (part (bits bytes) shift (w * count + tail)) (omega (arith, n, m, walk.short))
+    let n = length-part (bits bytes) shift (w * count + tail) (omega (arith, l, cursor.within)) in
+    full_words-none w (part (bits bytes) shift (w * count + tail)) (omega (arith, n, m, cursor.short))
 
 -- a word is taken
-pub walk_moves : (bytes after : List ℕ) (k w shift count before tail word x : ℕ) → 8 * k ≡ w → 8 ≤ w → IsChunkWalk w bytes shift before tail word → before ≡ count + 1 → after ≡ drop k bytes → x < 2 ^ w → unnum w x ≡ part (bits bytes) shift w
-    → IsChunkWalk w after shift count tail word
+pub cursor_moves : (bytes after : List ℕ) (k w shift count before tail word x : ℕ) → 8 * k ≡ w → 8 ≤ w → IsChunkCursor w bytes shift before tail word → before ≡ count + 1 → after ≡ drop k bytes → x < 2 ^ w → unnum w x ≡ part (bits bytes) shift w
+    → IsChunkCursor w after shift count tail word
     × (full_words w (part (bits bytes) shift (w * before + tail)) ≡ x ∷ full_words w (part (bits after) shift (w * count + tail)))
     × (rest w (part (bits after) shift (w * count + tail)) ≡ rest w (part (bits bytes) shift (w * before + tail)))
-walk_moves bytes after k w shift count before tail word x e wide walk was moved fits is =
+cursor_moves bytes after k w shift count before tail word x e wide cursor was moved fits is =
     let l = length-bits bytes in
     let d = length-drop k bytes in
     let step : w * before ≡ w + w * count = ap (λ n. w * n) (was ∙ omega arith) ∙ (mul-suc w count ∙ omega arith) in
     let n : w * before + tail ≡ w + (w * count + tail) = omega (arith, step) in
-    let k≤ : k ≤ length bytes = omega (arith, walk.within, step, e) in
+    let k≤ : k ≤ length bytes = omega (arith, cursor.within, step, e) in
     let la : length after ≡ length bytes - k = ap length moved ∙ d in
     let items : List Bool = part (bits bytes) shift (w + (w * count + tail)) in
-    let li = length-part (bits bytes) shift (w + (w * count + tail)) (omega (arith, l, walk.within, n)) in
+    let li = length-part (bits bytes) shift (w + (w * count + tail)) (omega (arith, l, cursor.within, n)) in
     let p : 0 < w = omega arith in
     let cons = full_words-cons w items p (omega (arith, li)) in
     let others : drop w items ≡ part (bits after) shift (w * count + tail) =
@@ -211,11 +211,11 @@ walk_moves bytes after k w shift count before tail word x e wide walk was moved 
     let back : part (bits after) (shift + w * count) tail ≡ part (bits bytes) (shift + w * before) tail =
     rw moved (part-bits-drop bytes k (shift + w * count) tail k≤ ∙ ap (λ a. part (bits bytes) a tail) (omega (arith, e, step))) in (
       record {
-        place = walk.place;
-        within = omega (arith, walk.within, n, la, e);
-        short = walk.short;
-        fits = omega (arith, walk.fits, n);
-        spilled = walk.spilled ∙ sym back;
+        position = cursor.position;
+        within = omega (arith, cursor.within, n, la, e);
+        short = cursor.short;
+        fits = omega (arith, cursor.fits, n);
+        spilled = cursor.spilled ∙ sym back;
       },
       rw n (cons ∙ (rw (first, others) refl)),
       rw n (ap (rest w) (sym others) ∙ rest-drop w items p (omega (arith, li))),

@@ -4,8 +4,8 @@ use Rattle.arrow2_model.specs.Bits.{bits, unnum}
 use Rattle.arrow2_model.specs.Parts.{part}
 
 -- the next of count words begins at bit shift, tail bits come after them, and the lowest bits of a word are these
-pub record IsChunkWalk (w : ℕ) (bytes : List ℕ) (shift count tail word : ℕ) : Type 0 where
-  pub place : shift < 8
+pub record IsChunkCursor (w : ℕ) (bytes : List ℕ) (shift count tail word : ℕ) : Type 0 where
+  pub position : shift < 8
   pub within : shift + (w * count + tail) ≤ 8 * length bytes
   pub short : tail < w
   pub fits : w * count + tail < 2 ^ 64

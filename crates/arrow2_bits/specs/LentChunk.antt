@@ -3,27 +3,27 @@ use Rattle.std.specs.Prelude.{ℕ, List, [], Option}
 use Rattle.std.specs.Borrow.{Lends, LendsIf, MutBor, Fml, Array, RattleType, u8}
 use mir.Syntax.{named}
 use Rattle.arrow2_model.specs.Buffers.{overwritten}
-use Rattle.arrow2_bits.specs.ChunksMut.{ChunkWalkMut, next_len, past}
+use Rattle.arrow2_bits.specs.ChunksMut.{ChunkCursorMut, next_len, past}
 use Rattle.arrow2_bits.specs.contracts.chunks_exact_mut.BitChunksExactMut.{the_row}
 
 -- r is the remainder of the iterator, which ends with the bytes written through r in its place
-abbrev pub LendsRemainder : (T : RattleType) → MutBor ChunkWalkMut → MutBor (List ℕ) → Fml
-LendsRemainder T walk r = Lends (the_row (record { mir = named 1; lft = [] }) T) (Array u8 0) walk r (λ written. record walk.now { remainder = written })
+abbrev pub LendsRemainder : (T : RattleType) → MutBor ChunkCursorMut → MutBor (List ℕ) → Fml
+LendsRemainder T cursor r = Lends (the_row (record { mir = named 1; lft = [] }) T) (Array u8 0) cursor r (λ written. record cursor.now { remainder = written })
 
 -- r is the bytes of the iterator's chunks, which end as the bytes written through r
-abbrev pub LendsBytes : (T : RattleType) → MutBor ChunkWalkMut → MutBor (List ℕ) → Fml
-LendsBytes T walk r = Lends (the_row (record { mir = named 1; lft = [] }) T) (Array u8 0) walk r (λ written. record walk.now { bytes = written })
+abbrev pub LendsBytes : (T : RattleType) → MutBor ChunkCursorMut → MutBor (List ℕ) → Fml
+LendsBytes T cursor r = Lends (the_row (record { mir = named 1; lft = [] }) T) (Array u8 0) cursor r (λ written. record cursor.now { bytes = written })
 
 -- r is the part of them from index start on, which end with the bytes written through r in its place
-abbrev pub LendsPart : (T : RattleType) → MutBor ChunkWalkMut → ℕ → MutBor (List ℕ) → Fml
-LendsPart T walk start r = Lends (the_row (record { mir = named 1; lft = [] }) T) (Array u8 0) walk r (λ written. record walk.now { bytes = overwritten walk.now.bytes start written })
+abbrev pub LendsPart : (T : RattleType) → MutBor ChunkCursorMut → ℕ → MutBor (List ℕ) → Fml
+LendsPart T cursor start r = Lends (the_row (record { mir = named 1; lft = [] }) T) (Array u8 0) cursor r (λ written. record cursor.now { bytes = overwritten cursor.now.bytes start written })
 
 -- r is the next chunk of the iterator, or no bytes at the end: the iterator ends past it, with the bytes written
 -- through r in its place
-abbrev pub LendsNext : (T : RattleType) → MutBor ChunkWalkMut → MutBor (List ℕ) → Fml
-LendsNext T walk r = Lends (the_row (record { mir = named 1; lft = [] }) T) (Array u8 0) walk r (past walk.now (next_len walk.now))
+abbrev pub LendsNext : (T : RattleType) → MutBor ChunkCursorMut → MutBor (List ℕ) → Fml
+LendsNext T cursor r = Lends (the_row (record { mir = named 1; lft = [] }) T) (Array u8 0) cursor r (past cursor.now (next_len cursor.now))
 
 -- r is the next chunk of the iterator, which ends past it, with the bytes written through r in its place; where r is
 -- none it ends as it was
-abbrev pub LendsNextIf : (T : RattleType) → MutBor ChunkWalkMut → Option (MutBor (List ℕ)) → Fml
-LendsNextIf T walk r = LendsIf (the_row (record { mir = named 1; lft = [] }) T) (Array u8 0) walk r (past walk.now walk.now.size) walk.now
+abbrev pub LendsNextIf : (T : RattleType) → MutBor ChunkCursorMut → Option (MutBor (List ℕ)) → Fml
+LendsNextIf T cursor r = LendsIf (the_row (record { mir = named 1; lft = [] }) T) (Array u8 0) cursor r (past cursor.now cursor.now.size) cursor.now

@@ -4,7 +4,7 @@ ghost use Rattle.std.specs.Iterator.{item_count, UpTo, IsFinite};
 ghost use Rattle.std.specs.Iterator.SizeHint.{IsWithinCount};
 ghost use Rattle.arrow2_model.specs.Bits.{bits, unnum};
 ghost use Rattle.arrow2_model.specs.Parts.{part};
-ghost use Rattle.arrow2_model.specs.Words.{WordWalk, GivesWord, full_words, rest, spill};
+ghost use Rattle.arrow2_model.specs.Words.{WordCursor, GivesWord, full_words, rest, spill};
 
 use crate::chunks::{chunk_at, padded_chunk_at};
 use arrow2_chunk::bit_chunk::BitChunk;
@@ -17,27 +17,27 @@ use std::marker::Model;
 /// Differs from arrow2: it needs no `TrustedLen`.
 pub trait BitChunkIterExact<B: BitChunk>: Iterator<Item = B> {
     // The items still to come, those of the remainder included, and the word of the remainder.
-    ghost walk: { Self → WordWalk };
+    ghost cursor: { Self → WordCursor };
 
     /// Returns the word in which the remainder stands. The bits after it are not masked: the padding bits of the byte
     /// that holds the last item, or everything that is stored there where a [`BitChunks`] has no full word. So mask it
     /// to [`BitChunkIterExact::remainder_len`] bits.
     fn remainder(&self) -> B
-        ensures spill { B.BitChunk.number result ≡ (walk self.now).spill }
-        ensures rest { take (length (rest B.BitChunk.WIDTH (walk self.now).items))
+        ensures spill { B.BitChunk.number result ≡ (cursor self.now).spill }
+        ensures rest { take (length (rest B.BitChunk.WIDTH (cursor self.now).items))
             (unnum B.BitChunk.WIDTH (B.BitChunk.number result))
-            ≡ rest B.BitChunk.WIDTH (walk self.now).items };
+            ≡ rest B.BitChunk.WIDTH (cursor self.now).items };
 
     /// Returns the number of items of the remainder: fewer than a word. The number of all items still to come fits a
     /// `usize`.
     fn remainder_len(&self) -> usize
-        ensures rest { result ≡ length (rest B.BitChunk.WIDTH (walk self.now).items) }
+        ensures rest { result ≡ length (rest B.BitChunk.WIDTH (cursor self.now).items) }
         ensures short { result < B.BitChunk.WIDTH }
-        ensures fits { length (walk self.now).items < 2 ^ 64 };
+        ensures fits { length (cursor self.now).items < 2 ^ 64 };
 
     /// The items of the remainder.
     final fn remainder_iter(&self) -> BitChunkIter<B>
-        ensures { result ≡ rest B.BitChunk.WIDTH (walk self.now).items }
+        ensures { result ≡ rest B.BitChunk.WIDTH (cursor self.now).items }
     {
         BitChunkIter::new(self.remainder(), self.remainder_len())
     }
@@ -49,7 +49,7 @@ pub trait BitChunkIterExact<B: BitChunk>: Iterator<Item = B> {
 
     // Each step gives the first full word, and the remainder stays.
     ghost gives_law: { (s : Self) (r : Option B) (t : Self) → Self.next_gives s r t →
-        GivesWord B.BitChunk.WIDTH B.BitChunk.number walk s r t };
+        GivesWord B.BitChunk.WIDTH B.BitChunk.number cursor s r t };
 }
 
 /// The iterator over bits from any bit offset on: contracts see the items still to come and the word of the remainder.
@@ -66,10 +66,10 @@ impl<'a, T: BitChunk> Model for BitChunks<'a, T> {
     ghost use Rattle.std.specs.Prelude.{◌+◌, ◌*◌};
     ghost use Rattle.arrow2_model.specs.Bits.{bits};
     ghost use Rattle.arrow2_model.specs.Parts.{part};
-    ghost use Rattle.arrow2_model.specs.Words.{WordWalk};
-    ghost use Rattle.arrow2_bits.specs.Chunks.{IsChunkWalk};
+    ghost use Rattle.arrow2_model.specs.Words.{WordCursor};
+    ghost use Rattle.arrow2_bits.specs.Chunks.{IsChunkCursor};
 
-    ghost Value = { WordWalk };
+    ghost Value = { WordCursor };
 
     ghost view = { λ c. record {
       items = part (bits c.bytes.now) c.shift
@@ -77,7 +77,7 @@ impl<'a, T: BitChunk> Model for BitChunks<'a, T> {
       spill = T.BitChunk.number c.remainder;
     } };
 
-    ghost invariant = { λ c. IsChunkWalk T.BitChunk.WIDTH c.bytes.now c.shift c.count
+    ghost invariant = { λ c. IsChunkCursor T.BitChunk.WIDTH c.bytes.now c.shift c.count
         c.remainder_len (T.BitChunk.number c.remainder) };
 }
 
@@ -93,12 +93,12 @@ impl<'a, T: BitChunk> BitChunks<'a, T> {
         let shift = offset % 8;
         let size = T::SIZE;
         let count = len / 8 / size;
-        let behind = spilled(bytes, shift, len, count * size);
+        let following = spilled(bytes, shift, len, count * size);
         BitChunks {
             bytes,
             shift,
             count,
-            remainder: padded_chunk_at(behind, shift),
+            remainder: padded_chunk_at(following, shift),
             remainder_len: len - T::WIDTH * count,
         }
     }
@@ -134,7 +134,7 @@ impl<'a, T: BitChunk> BitChunks<'a, T> {
 }
 
 impl<'a, T: BitChunk> BitChunkIterExact<T> for BitChunks<'a, T> {
-    ghost walk = { λ s. s };
+    ghost cursor = { λ s. s };
 
     ghost next_law = { λ s. tt };
 
@@ -191,11 +191,11 @@ impl<'a, T: BitChunk> ExactSizeIterator for BitChunks<'a, T> {
 /// Returns the bytes of the remainder: all of them where it begins at the first, else those from byte `start` up to the
 /// one that holds the last of `len` bits from bit `shift` on.
 fn spilled(bytes: &[u8], shift: usize, len: usize, start: usize) -> &[u8]
-    requires place { shift < 8 }
+    requires position { shift < 8 }
     requires within { shift + len ≤ 8 * length bytes.now }
     requires order { start ≤ len / 8 }
     ensures all { start ≡ 0 → result.now ≡ bytes.now }
-    ensures behind { 0 < start → result.now ≡ part bytes.now start ((len + shift + 7) / 8 - start) }
+    ensures following { 0 < start → result.now ≡ part bytes.now start ((len + shift + 7) / 8 - start) }
 {
     if start == 0 {
         return bytes;

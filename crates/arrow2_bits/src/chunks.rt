@@ -10,7 +10,7 @@ use arrow2_chunk::bit_chunk::BitChunk;
 ///
 /// It takes one load where `shift` is 0, else two that overlap, two shifts and an or.
 pub(crate) fn chunk_at<T: BitChunk>(bytes: &[u8], shift: usize) -> T
-    requires place { shift < 8 }
+    requires position { shift < 8 }
     requires within { shift + T.BitChunk.WIDTH ≤ 8 * length bytes.now }
     ensures bits { unnum T.BitChunk.WIDTH (T.BitChunk.number result)
         ≡ part (bits bytes.now) shift T.BitChunk.WIDTH }
@@ -39,14 +39,14 @@ pub(crate) fn padded_chunk_at<T: BitChunk>(bytes: &[u8], shift: usize) -> T
     chunk_at(&padded, shift)
 }
 
-/// Returns the word of the bits from bit `offset + place` on, where bits past the bytes count as false. Their sum need
-/// not fit a `usize`. Requires that the first is inside.
-pub fn word_from(bytes: &[u8], offset: usize, place: usize) -> u64
-    requires { offset + place < 8 * length bytes.now }
+/// Returns the word of the bits from bit `offset + position` on, where bits past the bytes count as false. Their sum
+/// need not fit a `usize`. Requires that the first is inside.
+pub fn word_from(bytes: &[u8], offset: usize, position: usize) -> u64
+    requires { offset + position < 8 * length bytes.now }
     ensures { (i : ℕ) → i < 64 →
-        bit result i ≡ get_or (bits bytes.now) (offset + (place + i)) false }
+        bit result i ≡ get_or (bits bytes.now) (offset + (position + i)) false }
 {
-    let within = offset % 8 + place % 8;
-    let first = offset / 8 + place / 8 + within / 8;
+    let within = offset % 8 + position % 8;
+    let first = offset / 8 + position / 8 + within / 8;
     padded_chunk_at(&bytes[first..], within % 8)
 }

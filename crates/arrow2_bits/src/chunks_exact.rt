@@ -4,7 +4,7 @@ ghost use Rattle.std.specs.Iterator.{item_count, UpTo};
 ghost use Rattle.std.specs.Iterator.SizeHint.{IsWithinCount};
 ghost use Rattle.arrow2_model.specs.Bits.{bits, unnum};
 ghost use Rattle.arrow2_model.specs.Parts.{part};
-ghost use Rattle.arrow2_model.specs.Words.{WordWalk, GivesWord, full_words, rest, exact_spill};
+ghost use Rattle.arrow2_model.specs.Words.{WordCursor, GivesWord, full_words, rest, exact_spill};
 
 use crate::bytes_for;
 use crate::chunk_iterator::{BitChunkIterExact, BitChunks};
@@ -19,9 +19,9 @@ pub struct BitChunksExact<'a, T: BitChunk> {
 }
 
 impl<'a, T: BitChunk> Model for BitChunksExact<'a, T> {
-    ghost use Rattle.arrow2_model.specs.Words.{WordWalk};
+    ghost use Rattle.arrow2_model.specs.Words.{WordCursor};
 
-    ghost Value = { WordWalk };
+    ghost Value = { WordCursor };
 
     ghost view = { λ c. c.chunks };
 }
@@ -69,7 +69,7 @@ impl<'a, T: BitChunk> BitChunksExact<'a, T> {
 }
 
 impl<'a, T: BitChunk> BitChunkIterExact<T> for BitChunksExact<'a, T> {
-    ghost walk = { λ s. s };
+    ghost cursor = { λ s. s };
 
     ghost next_law = { λ s. tt };
 

@@ -29,9 +29,9 @@ pub struct BitChunksExactMut<'a, T> {
 
 impl<'a, T> Model for BitChunksExactMut<'a, T> {
     ghost use Rattle.std.specs.Prelude.{◌<◌, ◌*◌};
-    ghost use Rattle.arrow2_bits.specs.ChunksMut.{ChunkWalkMut};
+    ghost use Rattle.arrow2_bits.specs.ChunksMut.{ChunkCursorMut};
 
-    ghost Value = { ChunkWalkMut };
+    ghost Value = { ChunkCursorMut };
 
     ghost view = { λ c. record {
       bytes = c.bytes.now;
@@ -202,8 +202,8 @@ impl<'a, T: Drop> Iterator for BitChunksExactMut<'a, T> {
             return None;
         }
         let (_, ahead) = mem::take(&mut self.bytes).split_at_mut(self.at);
-        let (chunk, behind) = ahead.split_at_mut(self.size);
-        self.bytes = behind;
+        let (chunk, following) = ahead.split_at_mut(self.size);
+        self.bytes = following;
         self.at = 0;
         Some(chunk)
     }

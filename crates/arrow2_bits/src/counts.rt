@@ -4,9 +4,9 @@ ghost use Rattle.arrow2_model.specs.Bits.{bits};
 ghost use Rattle.arrow2_model.specs.Parts.{part, falses};
 ghost use Rattle.arrow2_model.specs.Touched.{touched, slice_reads};
 
-use crate::bytes::Stored;
-use crate::counter::Reads;
-use crate::lanes::ones_of;
+use crate::popcount::ones_of;
+use crate::reads::Reads;
+use crate::stored::Stored;
 use arrow2_chunk::bit_chunk::BitChunk;
 use std::simd::prelude::*;
 
@@ -81,7 +81,7 @@ fn zeros_after(stored: &mut Stored<'_>, offset: usize, start: usize, len: usize)
 
 /// Returns how many of the `len` bits from bit `start` of byte `first` on are not set.
 fn zeros_from(stored: &mut Stored<'_>, first: usize, start: usize, len: usize) -> usize
-    requires place { start < 8 }
+    requires position { start < 8 }
     requires fits { first < 2 ^ 63 }
     requires inside { 0 < len → 8 * first + start + len ≤ 8 * length stored.old.bytes }
     ensures zeros { result ≡ falses (part (bits stored.old.bytes) (8 * first + start) len) }

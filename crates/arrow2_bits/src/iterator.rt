@@ -32,7 +32,7 @@ impl<'a> Model for BitmapIter<'a> {
     ghost invariant = { λ i. (i.index ≤ i.end) × (i.offset + i.end ≤ 8 * length i.bytes.now) };
 }
 
-#[tactic(auto, using(arrow2_model::proofs::Walks::walking))]
+#[tactic(auto, using(arrow2_model::proofs::Cursors::walking))]
 impl<'a> BitmapIter<'a> {
     /// Returns an iterator over the `len` bits from bit `offset` on. Requires that they are inside the bytes.
     pub fn new(bytes: &'a [u8], offset: usize, len: usize) -> BitmapIter<'a>
@@ -78,7 +78,7 @@ impl<'a> Clone for BitmapIter<'a> {
     }
 }
 
-#[tactic(auto, using(arrow2_model::proofs::Walks::walking))]
+#[tactic(auto, using(arrow2_model::proofs::Cursors::walking))]
 impl<'a> Iterator for BitmapIter<'a> {
     type Item = bool;
 
@@ -106,7 +106,7 @@ impl<'a> Iterator for BitmapIter<'a> {
     }
 }
 
-#[tactic(auto, using(arrow2_model::proofs::Walks::walking))]
+#[tactic(auto, using(arrow2_model::proofs::Cursors::walking))]
 impl<'a> DoubleEndedIterator for BitmapIter<'a> {
     ghost next_back_gives = { YieldsLast (λ s. s) };
 
@@ -119,7 +119,7 @@ impl<'a> DoubleEndedIterator for BitmapIter<'a> {
     }
 }
 
-#[tactic(auto, using(arrow2_model::proofs::Walks::walking))]
+#[tactic(auto, using(arrow2_model::proofs::Cursors::walking))]
 impl<'a> ExactSizeIterator for BitmapIter<'a> {
     fn len(&self) -> usize {
         self.end - self.index

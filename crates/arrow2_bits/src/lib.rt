@@ -4,22 +4,22 @@
 ghost use Rattle.std.specs.Prelude.{◌≡◌, ◌+◌, ◌*◌, ◌/◌, ◌<◌, ◌≤◌, length, false, slice_set, slice_index_or};
 ghost use Rattle.arrow2_model.specs.Bits.{bit, unnum, bits};
 
-mod bytes;
 pub mod chunk_iterator;
 pub mod chunks;
 pub mod chunks_exact;
 pub mod chunks_exact_mut;
-mod counter;
 mod counts;
+mod equal;
 pub mod fmt;
 pub mod iterator;
-mod lanes;
-mod same;
+mod popcount;
+mod reads;
+mod stored;
 
-pub use bytes::Stored;
-pub use counter::Reads;
 pub use counts::{count_zeros, count_zeros_counted, recount};
-pub use same::same_bits;
+pub use equal::same_bits;
+pub use reads::Reads;
+pub use stored::Stored;
 
 /// At index i the byte whose bit i alone is clear: read instead of a shift by a variable.
 const KEPT: [u8; 8] = [254, 253, 251, 247, 239, 223, 191, 127];

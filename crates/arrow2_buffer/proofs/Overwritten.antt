@@ -37,11 +37,11 @@ kept_before items i n others h e =
     ap (take i) (rewritten_within items i others within) ∙ take_at (take i items) (others ++ tail) i (length-take-le i items (omega (arith, h)))
 
 -- and the items after it
-pub kept_behind : {X : Type 0} (items : List X) (i n : ℕ) (others : List X) → i + n ≤ length items → length others ≡ n → drop (i + n) (rewritten items i others) ≡ drop (i + n) items
-kept_behind items i n others h e =
+pub kept_following : {X : Type 0} (items : List X) (i n : ℕ) (others : List X) → i + n ≤ length items → length others ≡ n → drop (i + n) (rewritten items i others) ≡ drop (i + n) items
+kept_following items i n others h e =
     let tail = drop (length others) (drop i items) in
     let within : i + length others ≤ length items = omega (arith, e) in
     let at_i = drop_at (take i items) (others ++ tail) i (length-take-le i items (omega (arith, h))) in
     ap (drop (i + n)) (rewritten_within items i others within) ∙ sym (drop-drop n i (overwritten items i others)) ∙ ap (drop n) at_i ∙ drop_at others tail n e ∙ rw e (drop-drop n i items)
 
-pub ruleset loans = (written_part, kept_before, kept_behind)
+pub ruleset loans = (written_part, kept_before, kept_following)

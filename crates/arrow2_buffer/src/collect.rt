@@ -30,7 +30,7 @@ pub(crate) fn collected<T: Drop, I: Iterator<Item = T>>(
         let Some(item) = source.next() else {
             return Ok(items);
         };
-        make_room(&mut items)?;
+        grow_capacity(&mut items)?;
         items.push_reserved(item);
         let (full, went_on) = filled(items, &mut source);
         items = full;
@@ -70,7 +70,7 @@ fn filled<T: Drop, I: Iterator<Item = T>>(items: Vec<T>, source: &mut I) -> (Vec
 }
 
 /// Reserves four times the capacity.
-fn make_room<T>(items: &mut Vec<T>) -> Result<(), AllocError>
+fn grow_capacity<T>(items: &mut Vec<T>) -> Result<(), AllocError>
     ensures items { items.new.items ≡ items.old.items }
     ensures ok { OnOk result (vec_len items.new < vec_capacity items.new) }
 {

@@ -330,12 +330,12 @@ impl<T: Drop> TryFrom<Vec<T>> for Buffer<T> {
 impl<T> Index<usize> for Buffer<T> {
     type Output = T;
 
-    ghost can_index = { λ b place. place < length (buffer_items b) };
+    ghost can_index = { λ b position. position < length (buffer_items b) };
 
-    ghost index_gives = { λ b place item. item ≡ slice_index_or (buffer_items b) place item };
+    ghost index_gives = { λ b position item. item ≡ slice_index_or (buffer_items b) position item };
 
-    fn index(&self, place: usize) -> &T {
-        &self.as_slice()[place]
+    fn index(&self, position: usize) -> &T {
+        &self.as_slice()[position]
     }
 }
 

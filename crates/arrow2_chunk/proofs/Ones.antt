@@ -160,8 +160,8 @@ above_none : (x : ℕ) → (x ≡ 0 → ⊥) → 0 < x
 above_none zero h = absurd (h refl)
 above_none (suc x) h = omega arith
 
-first_place : (w : Width) (x p : ℕ) → 0 < length (ones (unnum (width_bits w) x)) → x < 2 ^ width_bits w → p ≡ trailing_zeros w x → ones (unnum (width_bits w) x) ≡ p ∷ drop 1 (ones (unnum (width_bits w) x))
-first_place w x p h k e =
+first_position : (w : Width) (x p : ℕ) → 0 < length (ones (unnum (width_bits w) x)) → x < 2 ^ width_bits w → p ≡ trailing_zeros w x → ones (unnum (width_bits w) x) ≡ p ∷ drop 1 (ones (unnum (width_bits w) x))
+first_position w x p h k e =
     let some : x ≡ 0 → ⊥ = λ none. absurd (omega (arith, h, ap length (ones-zero (width_bits w) x none))) in
     let all = ones-first w x (above_none x some) k in
     all ∙ (rw (all, e) refl)
@@ -187,25 +187,25 @@ pub length-ones : (w x : ℕ) → x < 2 ^ w → count_ones x ≡ length (ones (u
 length-ones w x h = ap count_ones (sym (num-unnum w x h)) ∙ (length-ones_from 0 (unnum w x) ∙ ap length (sym (ones_is (unnum w x))))
 
 pub first_8 : (x p : ℕ) → 0 < length (ones (unnum 8 x)) → x < 2 ^ 8 → p ≡ trailing_zeros width.w8 x → ones (unnum 8 x) ≡ p ∷ drop 1 (ones (unnum 8 x))
-first_8 x p h k e = first_place width.w8 x p h k e
+first_8 x p h k e = first_position width.w8 x p h k e
 
 pub rest_8 : (x r : ℕ) → x < 2 ^ 8 → r ≡ bit_and x ((x + (2 ^ 8 - 1)) % 2 ^ 8) → ones (unnum 8 r) ≡ drop 1 (ones (unnum 8 x))
 rest_8 x r k e = rest_of width.w8 x r k e
 
 pub first_16 : (x p : ℕ) → 0 < length (ones (unnum 16 x)) → x < 2 ^ 16 → p ≡ trailing_zeros width.w16 x → ones (unnum 16 x) ≡ p ∷ drop 1 (ones (unnum 16 x))
-first_16 x p h k e = first_place width.w16 x p h k e
+first_16 x p h k e = first_position width.w16 x p h k e
 
 pub rest_16 : (x r : ℕ) → x < 2 ^ 16 → r ≡ bit_and x ((x + (2 ^ 16 - 1)) % 2 ^ 16) → ones (unnum 16 r) ≡ drop 1 (ones (unnum 16 x))
 rest_16 x r k e = rest_of width.w16 x r k e
 
 pub first_32 : (x p : ℕ) → 0 < length (ones (unnum 32 x)) → x < 2 ^ 32 → p ≡ trailing_zeros width.w32 x → ones (unnum 32 x) ≡ p ∷ drop 1 (ones (unnum 32 x))
-first_32 x p h k e = first_place width.w32 x p h k e
+first_32 x p h k e = first_position width.w32 x p h k e
 
 pub rest_32 : (x r : ℕ) → x < 2 ^ 32 → r ≡ bit_and x ((x + (2 ^ 32 - 1)) % 2 ^ 32) → ones (unnum 32 r) ≡ drop 1 (ones (unnum 32 x))
 rest_32 x r k e = rest_of width.w32 x r k e
 
 pub first_64 : (x p : ℕ) → 0 < length (ones (unnum 64 x)) → x < 2 ^ 64 → p ≡ trailing_zeros width.w64 x → ones (unnum 64 x) ≡ p ∷ drop 1 (ones (unnum 64 x))
-first_64 x p h k e = first_place width.w64 x p h k e
+first_64 x p h k e = first_position width.w64 x p h k e
 
 pub rest_64 : (x r : ℕ) → x < 2 ^ 64 → r ≡ bit_and x ((x + (2 ^ 64 - 1)) % 2 ^ 64) → ones (unnum 64 r) ≡ drop 1 (ones (unnum 64 x))
 rest_64 x r k e = rest_of width.w64 x r k e

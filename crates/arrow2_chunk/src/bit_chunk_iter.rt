@@ -28,7 +28,7 @@ impl<T: BitChunk> Model for BitChunkIter<T> {
     ghost invariant = { λ i. (i.index ≤ i.end) × (i.end ≤ T.WIDTH) };
 }
 
-#[tactic(auto, using(arrow2_model::proofs::Chunks::word_walk))]
+#[tactic(auto, using(arrow2_model::proofs::Chunks::word_cursor))]
 impl<T: BitChunk> BitChunkIter<T> {
     /// Returns an iterator over the lowest `len` bits of the word. Requires that `len` is at most `WIDTH`.
     pub fn new(value: T, len: usize) -> BitChunkIter<T>
@@ -43,7 +43,7 @@ impl<T: BitChunk> BitChunkIter<T> {
     }
 }
 
-#[tactic(auto, using(arrow2_model::proofs::Chunks::word_walk))]
+#[tactic(auto, using(arrow2_model::proofs::Chunks::word_cursor))]
 impl<T: BitChunk> Iterator for BitChunkIter<T> {
     type Item = bool;
 

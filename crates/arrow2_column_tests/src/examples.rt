@@ -1,5 +1,5 @@
 //! The examples of the layer's docs, each line word for word: `tests/pages` checks it.
-use arrow2::array::{BooleanArray, MutablePrimitiveArray};
+use arrow2::array::{BooleanArray, MutablePrimitiveArray, MutableUtf8Array};
 use arrow2::bitmap::utils::SlicesIterator;
 use arrow2::bitmap::{Bitmap, MutableBitmap};
 use arrow2::buffer::Buffer;
@@ -99,7 +99,7 @@ fn schema(rt: &impl Abort, alloc: Global) -> Result<()> {
     Ok(())
 }
 
-/// The example of `arrow2`.
+/// The example of `arrow2`, of `PrimitiveArray` and of `MutablePrimitiveArray`.
 fn column(rt: &impl Abort, alloc: Global) -> Result<()> {
     let mut prices = MutablePrimitiveArray::<i64>::new(alloc)?;
     prices.push(Some(30))?;
@@ -109,9 +109,20 @@ fn column(rt: &impl Abort, alloc: Global) -> Result<()> {
     Ok(())
 }
 
+/// The example of `Utf8Array` and of `MutableUtf8Array`.
+fn texts(rt: &impl Abort, alloc: Global) -> Result<()> {
+    let mut names = MutableUtf8Array::<i32>::new(alloc)?;
+    names.push(Some("Ada"))?;
+    names.push(None)?;
+    let names = names.freeze()?;
+    assert!(rt; names.get(0) == Some("Ada") && names.get(1).is_none());
+    Ok(())
+}
+
 #[test]
 fn columns(rt: HostRuntime) {
     passes(&rt, boolean_array(&rt, rt.alloc()));
     passes(&rt, schema(&rt, rt.alloc()));
     passes(&rt, column(&rt, rt.alloc()));
+    passes(&rt, texts(&rt, rt.alloc()));
 }

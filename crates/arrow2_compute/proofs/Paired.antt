@@ -40,16 +40,16 @@ each-and vs ws e =
     get_or-zip2 ◌&&◌ vs ws k false false false short also ∙ and-answer (get_or vs k false) (get_or ws k false)))
 
 -- the bits that a test of both items gave at each index
-pub tested-pairs : {X Y : Type 0} (xs : List X) (ys : List Y) (items : List Bool) (says : X → Y → Bool → Type 0) (test : X → Y → Bool)
+pub tested-pairs : {X Y : Type 0} (xs : List X) (ys : List Y) (items : List Bool) (states : X → Y → Bool → Type 0) (test : X → Y → Bool)
     → length xs ≡ length ys → length items ≡ length xs
-    → ((k : ℕ) → k < length xs → IsTestedAt xs ys says k (get_or items k false))
-    → ((x : X) (y : Y) (said : Bool) → says x y said → said ≡ test x y) → items ≡ zip2 test xs ys
-tested-pairs xs ys items says test alike size given told =
+    → ((k : ℕ) → k < length xs → IsTestedAt xs ys states k (get_or items k false))
+    → ((x : X) (y : Y) (said : Bool) → states x y said → said ≡ test x y) → items ≡ zip2 test xs ys
+tested-pairs xs ys items states test alike size given stated =
     let l = length-zip2 test xs ys alike in
     ext_get_or false items (zip2 test xs ys) (size ∙ sym l) (λ k h.
     let less : k < length xs = omega (arith, h, size) in
     let more : k < length ys = omega (arith, less, alike) in
     let one = given k less in
-    told one.left one.right (get_or items k false) one.returned
+    stated one.left one.right (get_or items k false) one.returned
     ∙ (ap (λ x. test x one.right) (sym one.is_left)
     ∙ (ap (test (get_or xs k one.left)) (sym one.is_right) ∙ sym (get_or-zip2 test xs ys k one.left one.right false less more))))

@@ -95,9 +95,9 @@ module _ {X : Type 0} where
   cut-ones xs ms = cut-from xs (λ i. get_or ms i false) 0 ms (λ i l. ap (λ j. get_or ms j false) (omega arith))
 
 -- the indices of true items are below the length
-pub ones-inside : (ms : List Bool) → All (λ place. place < length ms) (ones ms)
+pub ones-inside : (ms : List Bool) → All (λ position. position < length ms) (ones ms)
 unfolding ones
-ones-inside ms = All-filter (λ k. get_or ms k false) (λ place. place < length ms) (range_with_len 0 (length ms))
+ones-inside ms = All-filter (λ k. get_or ms k false) (λ position. position < length ms) (range_with_len 0 (length ms))
     (λ k d m. let n = length-range_with_len 0 (length ms) in rw (get_or-range_with_len 0 (length ms) k d (omega (arith, m, n))) (omega (arith, m, n)))
 
 module _ {X : Type 0} where
@@ -152,8 +152,8 @@ selected-true (suc n) (true ∷ ms) = ap (λ l. true ∷ l) (selected-true n ms)
 selected-true (suc n) (false ∷ ms) = selected-true n ms
 
 -- the indices of set bits of a word
-pub places-inside : (w : ℕ) (places : List ℕ) → places ≡ ones (unnum 64 w) → All (λ place. place < 64) places
-places-inside w places is = rw is (subst (λ n. All (λ place. place < n) (ones (unnum 64 w))) (length-unnum 64 w) (ones-inside (unnum 64 w)))
+pub positions-inside : (w : ℕ) (positions : List ℕ) → positions ≡ ones (unnum 64 w) → All (λ position. position < 64) positions
+positions-inside w positions is = rw is (subst (λ n. All (λ position. position < n) (ones (unnum 64 w))) (length-unnum 64 w) (ones-inside (unnum 64 w)))
 
 -- a bit of a word, as a part of its list
 pub bit-at : (w k : ℕ) (b : Bool) → k < 64 → b ≡ bit w k → part (unnum 64 w) k 1 ≡ b ∷ []

@@ -1,6 +1,6 @@
 pub mod Aggregates
 pub mod Pairs
 pub mod Casts
-pub mod Taken
+pub mod Take
 pub mod Masks
 pub mod Sizes

@@ -7,9 +7,9 @@ of_both f None y = None
 of_both f (Some x) None = None
 of_both f (Some x) (Some y) = Some (f x y)
 
--- whatever a test returns for two items is `answer` of both
+-- whatever a test returns for two items is `test` of both
 abbrev pub AlwaysReturns : {X Y : Type 0} → (X → Y → Bool → Type 0) → (X → Y → Bool) → Type 0
-AlwaysReturns {X} {Y} returns answer = (x : X) (y : Y) (result : Bool) → returns x y result → result ≡ answer x y
+AlwaysReturns {X} {Y} returns test = (x : X) (y : Y) (result : Bool) → returns x y result → result ≡ test x y
 
 -- this was returned for the items of two lists at an index
 pub record IsTestedAt {X Y : Type 0} (xs : List X) (ys : List Y) (returns : X → Y → Bool → Type 0) (index : ℕ) (result : Bool) : Type 0 where

@@ -217,7 +217,8 @@ fn best_item<T: NativeType, C: Choice<T>>(array: &PrimitiveArray<T>) -> Option<T
     }
 }
 
-/// Returns what is kept of the values that are valid, word by word of the validity. Requires that both have one length.
+/// Returns what is kept of the values that are valid, word by word of the validity. Requires that both have equal
+/// lengths.
 fn best_valid<T: NativeType, C: Choice<T>>(values: &[T], validity: &Bitmap) -> Option<T>
     requires same_length { length (items_of validity.now) ≡ length values.now }
     ensures { result ≡ best_from C.kept None (selected values.entry.now (items_of validity.now)) }
@@ -244,8 +245,8 @@ fn best_of_word<T: NativeType, C: Choice<T>>(best: Option<T>, values: &[T], word
         return best_of::<T, C>(best, values);
     }
     let mut best = best;
-    for place in BitChunkOnes::new(word) {
-        if let Some(value) = values.get(place) {
+    for position in BitChunkOnes::new(word) {
+        if let Some(value) = values.get(position) {
             best = Some(better::<T, C>(best, *value));
         }
     }

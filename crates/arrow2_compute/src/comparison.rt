@@ -25,9 +25,9 @@ pub fn tested<T: NativeType, F: Fn(&T) -> bool>(
     test: F,
 ) -> Result<BooleanArray>
     requires callable { IsCallableWithEach (buffer_items array.now.values) (F.pre test) }
-    ensures items { (answer : T → Bool) →
-        ReturnsOnEach (buffer_items array.now.values) (F.post test) answer →
-        IfOk result (λ a. boolean_items a ≡ map (option_map answer) (primitive_items array.now)) }
+    ensures items { (outcome : T → Bool) →
+        ReturnsOnEach (buffer_items array.now.values) (F.post test) outcome →
+        IfOk result (λ a. boolean_items a ≡ map (option_map outcome) (primitive_items array.now)) }
     ensures only { IfErr result (λ e. e ≡ Error.OutOfMemory) }
 {
     let values = array.values();
@@ -127,7 +127,7 @@ pub fn gt_eq_scalar<T: NativeType + PartialOrd>(
 }
 
 /// Returns, index by index, what a test returns for the values of both, and null where an item of either is null.
-/// Requires that both have one length, and that the test may be called at any two values.
+/// Requires that both have equal lengths, and that the test may be called at any two values.
 ///
 /// # Errors
 ///
@@ -139,10 +139,10 @@ fn tested_both<T: NativeType, F: Fn(T, T) -> bool>(
 ) -> Result<BooleanArray>
     requires same_length { length (primitive_items lhs.now) ≡ length (primitive_items rhs.now) }
     requires callable { (left right : T) → F.pre test left right }
-    ensures items { (answer : T → T → Bool) →
-        AlwaysReturns (F.post test) answer →
+    ensures items { (outcome : T → T → Bool) →
+        AlwaysReturns (F.post test) outcome →
         IfOk result (λ a. boolean_items a
-        ≡ zip2 (of_both answer) (primitive_items lhs.now) (primitive_items rhs.now)) }
+        ≡ zip2 (of_both outcome) (primitive_items lhs.now) (primitive_items rhs.now)) }
     ensures only { IfErr result (λ e. e ≡ Error.OutOfMemory) }
 {
     let values = lhs.values();
@@ -162,7 +162,7 @@ fn tested_both<T: NativeType, F: Fn(T, T) -> bool>(
 }
 
 /// Returns, index by index, whether the item of `lhs` equals that of `rhs`, and null where either is null. Requires
-/// that both have one length.
+/// that both have equal lengths.
 ///
 /// # Errors
 ///
@@ -177,7 +177,7 @@ pub fn eq<T: NativeType>(lhs: &PrimitiveArray<T>, rhs: &PrimitiveArray<T>) -> Re
 }
 
 /// Returns, index by index, whether the item of `lhs` differs from that of `rhs`, and null where either is null.
-/// Requires that both have one length.
+/// Requires that both have equal lengths.
 ///
 /// # Errors
 ///
@@ -192,7 +192,7 @@ pub fn neq<T: NativeType>(lhs: &PrimitiveArray<T>, rhs: &PrimitiveArray<T>) -> R
 }
 
 /// Returns, index by index, whether the item of `lhs` is below that of `rhs`, and null where either is null. Requires
-/// that both have one length.
+/// that both have equal lengths.
 ///
 /// # Errors
 ///
@@ -210,7 +210,7 @@ pub fn lt<T: NativeType + PartialOrd>(
 }
 
 /// Returns, index by index, whether the item of `lhs` is at most that of `rhs`, and null where either is null. Requires
-/// that both have one length.
+/// that both have equal lengths.
 ///
 /// # Errors
 ///
@@ -228,7 +228,7 @@ pub fn lt_eq<T: NativeType + PartialOrd>(
 }
 
 /// Returns, index by index, whether the item of `lhs` is above that of `rhs`, and null where either is null. Requires
-/// that both have one length.
+/// that both have equal lengths.
 ///
 /// # Errors
 ///
@@ -246,7 +246,7 @@ pub fn gt<T: NativeType + PartialOrd>(
 }
 
 /// Returns, index by index, whether the item of `lhs` is at least that of `rhs`, and null where either is null.
-/// Requires that both have one length.
+/// Requires that both have equal lengths.
 ///
 /// # Errors
 ///

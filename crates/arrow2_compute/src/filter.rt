@@ -25,7 +25,7 @@ use arrow2_walks::{SlicesIterator, laws};
 use std::alloc::AllocError;
 use std::convert::TryFrom;
 
-/// Returns the items at whose index the mask is true. Requires that both have one length.
+/// Returns the items at whose index the mask is true. Requires that both have equal lengths.
 ///
 /// Differs from arrow2: the mask is a bitmap, in which no item is null.
 ///
@@ -45,7 +45,7 @@ pub fn filter<T: NativeType>(array: &PrimitiveArray<T>, mask: &Bitmap) -> Result
     Ok(PrimitiveArray::new(data_type, values, validity.into_bitmap()))
 }
 
-/// Returns the values at whose index the mask is true, word by word of the mask. Requires that both have one length.
+/// Returns the values at whose index the mask is true, word by word of the mask. Requires that both have equal lengths.
 fn selected_values<T: NativeType>(
     values: &[T],
     mask: &Bitmap,
@@ -79,15 +79,15 @@ fn push_values<T: NativeType>(
     if word == u64::MAX {
         return kept.extend_from_slice(values);
     }
-    for place in BitChunkOnes::new(word) {
-        if let Some(value) = values.get(place) {
+    for position in BitChunkOnes::new(word) {
+        if let Some(value) = values.get(position) {
             kept.push(*value)?;
         }
     }
     Ok(())
 }
 
-/// Returns which of the items at whose index the mask is true are not null. Requires that both have one length.
+/// Returns which of the items at whose index the mask is true are not null. Requires that both have equal lengths.
 fn selected_validity(validity: &Validity, mask: &Bitmap) -> Result<Validity>
     requires same_length { length (items_of mask.now) ≡ length (valid_items validity.now) }
     ensures items { IfOk result (λ v. valid_items v
@@ -102,8 +102,8 @@ fn selected_validity(validity: &Validity, mask: &Bitmap) -> Result<Validity>
     Ok(Validity::new(count, Some(selected_bits(bitmap, mask)?)))
 }
 
-/// Returns the items of a bitmap at whose index the mask is true, word by word of both. Requires that both have one
-/// length.
+/// Returns the items of a bitmap at whose index the mask is true, word by word of both. Requires that both have equal
+/// lengths.
 fn selected_bits(bitmap: &Bitmap, mask: &Bitmap) -> Result<Bitmap>
     requires same_length { length (items_of mask.now) ≡ length (items_of bitmap.now) }
     ensures items { IfOk result (λ b. items_of b ≡ selected (items_of bitmap.now) (items_of mask.now)) }
@@ -131,13 +131,13 @@ fn push_bits(kept: &mut MutableBitmap, block: u64, word: u64) -> Result<()>
     if word == u64::MAX {
         return kept.extend_from_slice(&BitChunk::to_ne_bytes(block), 0, 64);
     }
-    for place in BitChunkOnes::new(word) {
-        kept.push(BitChunk::bit(block, place))?;
+    for position in BitChunkOnes::new(word) {
+        kept.push(BitChunk::bit(block, position))?;
     }
     Ok(())
 }
 
-/// Returns the items at whose index the mask is `Some(true)`. Requires that both have one length.
+/// Returns the items at whose index the mask is `Some(true)`. Requires that both have equal lengths.
 ///
 /// In arrow2 it is `filter`.
 ///
@@ -168,8 +168,8 @@ fn true_items(mask: &BooleanArray) -> Result<Bitmap>
     }
 }
 
-/// Returns the byte strings or texts at whose index the mask is true, copied run by run. Requires that both have one
-/// length.
+/// Returns the byte strings or texts at whose index the mask is true, copied run by run. Requires that both have equal
+/// lengths.
 ///
 /// In arrow2 it is `filter`, whose mask is a boolean array.
 ///
@@ -193,7 +193,7 @@ pub fn filter_binary<A: Binary>(array: &A, mask: &Bitmap) -> Result<A>
     A::freeze(kept)
 }
 
-/// Returns the booleans at whose index the mask is true. Requires that both have one length.
+/// Returns the booleans at whose index the mask is true. Requires that both have equal lengths.
 ///
 /// In arrow2 it is `filter`, whose mask is a boolean array.
 ///

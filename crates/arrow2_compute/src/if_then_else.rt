@@ -21,7 +21,7 @@ use std::alloc::AllocError;
 use std::convert::TryFrom;
 
 /// Returns, index by index, the item of `lhs` where the mask is true, and that of `rhs` elsewhere, with the logical
-/// type of `lhs`. Requires that all three have one length.
+/// type of `lhs`. Requires that all three have equal lengths.
 ///
 /// Differs from arrow2: the mask is a bitmap, in which no item is null.
 ///
@@ -48,7 +48,7 @@ pub fn if_then_else<T: NativeType>(
 }
 
 /// Returns, index by index, the value of `lhs` where the mask is true, and that of `rhs` elsewhere. Requires that all
-/// three have one length.
+/// three have equal lengths.
 fn chosen_values<T: NativeType>(
     mask: &Bitmap,
     lhs: &[T],
@@ -59,9 +59,9 @@ fn chosen_values<T: NativeType>(
     ensures { IfOk result (λ v. v.items ≡ chosen (items_of mask.now) lhs.now rhs.now) }
 {
     let mut values = Vec::with_capacity(mask.allocator(), mask.len())?;
-    for place in 0..mask.len() {
-        let (left, right) = (lhs[place], rhs[place]);
-        values.push_reserved(either(mask.get_bit(place), left, right));
+    for position in 0..mask.len() {
+        let (left, right) = (lhs[position], rhs[position]);
+        values.push_reserved(either(mask.get_bit(position), left, right));
     }
     Ok(values)
 }
@@ -74,7 +74,7 @@ fn either<T: NativeType>(is_left: bool, left: T, right: T) -> T
 }
 
 /// Returns, index by index, whether the item of `lhs` is not null where the mask is true, and that of `rhs` elsewhere.
-/// Requires that all three have one length.
+/// Requires that all three have equal lengths.
 fn chosen_validity(mask: &Bitmap, lhs: &Validity, rhs: &Validity) -> Result<Validity>
     requires left { length (items_of mask.now) ≡ length (valid_items lhs.now) }
     requires right { length (items_of mask.now) ≡ length (valid_items rhs.now) }
@@ -100,7 +100,7 @@ fn by_bits(bits: Bitmap) -> Validity
 }
 
 /// Returns, index by index, the item of `lhs` where the mask is true, and that of `rhs` elsewhere, by truth tables.
-/// Requires that all three have one length.
+/// Requires that all three have equal lengths.
 fn chosen_bits(mask: &Bitmap, lhs: &Bitmap, rhs: &Bitmap) -> Result<Bitmap>
     requires left { length (items_of mask.now) ≡ length (items_of lhs.now) }
     requires right { length (items_of mask.now) ≡ length (items_of rhs.now) }
@@ -115,7 +115,7 @@ fn chosen_bits(mask: &Bitmap, lhs: &Bitmap, rhs: &Bitmap) -> Result<Bitmap>
 }
 
 /// Returns, index by index, the byte string or text of `lhs` where the mask is true, and that of `rhs` elsewhere, with
-/// the logical type of `lhs`. Requires that all three have one length.
+/// the logical type of `lhs`. Requires that all three have equal lengths.
 ///
 /// In arrow2 it is `if_then_else`, whose mask is a boolean array.
 ///
@@ -139,34 +139,34 @@ pub fn if_then_else_binary<A: Binary>(mask: &Bitmap, lhs: &A, rhs: &A) -> Result
     ensures only { IfErr result (λ e. (e ≡ Error.Overflow) ⊎ (e ≡ Error.OutOfMemory)) }
 {
     let mut items = lhs.like()?;
-    for place in 0..mask.len() {
-        push_either(&mut items, mask.get_bit(place), lhs, rhs, place)?;
+    for position in 0..mask.len() {
+        push_either(&mut items, mask.get_bit(position), lhs, rhs, position)?;
     }
     A::freeze(items)
 }
 
-/// Appends item `place` of `lhs` where `is_left`, else that of `rhs`. Requires that it is below the length of both.
+/// Appends item `position` of `lhs` where `is_left`, else that of `rhs`. Requires that it is below the length of both.
 fn push_either<A: Binary>(
     grown: &mut A::Growing,
     is_left: bool,
     lhs: &A,
     rhs: &A,
-    place: usize,
+    position: usize,
 ) -> Result<()>
-    requires left { place < length (binary_items (A.parts lhs.now)) }
-    requires right { place < length (binary_items (A.parts rhs.now)) }
+    requires left { position < length (binary_items (A.parts lhs.now)) }
+    requires right { position < length (binary_items (A.parts rhs.now)) }
     ensures { AppendsItem A.GREATEST result (A.growing grown.old) (A.growing grown.new)
-        (if is_left then binary_item (A.parts lhs.now) place else binary_item (A.parts rhs.now) place) }
+        (if is_left then binary_item (A.parts lhs.now) position else binary_item (A.parts rhs.now) position) }
 {
     if is_left {
-        A::push_item(grown, lhs, place)
+        A::push_item(grown, lhs, position)
     } else {
-        A::push_item(grown, rhs, place)
+        A::push_item(grown, rhs, position)
     }
 }
 
 /// Returns, index by index, the boolean of `lhs` where the mask is true, and that of `rhs` elsewhere. Requires that all
-/// three have one length.
+/// three have equal lengths.
 ///
 /// In arrow2 it is `if_then_else`, whose mask is a boolean array.
 ///

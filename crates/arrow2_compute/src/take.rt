@@ -2,7 +2,7 @@
 ghost use Rattle.std.specs.Prelude.{◌≡◌, ◌<◌, ◌≤◌, ◌⊎◌, All, None, false, is_some, length, map, slice_index_or, sum_by, IfOk, IfErr, IsErrOf, OnOk};
 ghost use Rattle.std.specs.List.{AllZip};
 ghost use Rattle.arrow2_array.specs.Items.{boolean_items};
-ghost use Rattle.arrow2_compute.specs.Taken.{IsInBoundsOrNull, IsItemAt, item_at, items_at};
+ghost use Rattle.arrow2_compute.specs.Take.{IsInBoundsOrNull, IsItemAt, item_at, items_at};
 ghost use Rattle.arrow2_compute.specs.Sizes.{binary_item, item_bytes};
 ghost use Rattle.arrow2_model.specs.Buffers.{buffer_items};
 ghost use Rattle.arrow2_model.specs.Storage.{items_of};
@@ -131,8 +131,8 @@ fn values_by_array<T: NativeType, I: Index>(
     ensures len { IfOk result (λ v. length v.items ≡ length (primitive_items indices.now)) }
 {
     let mut taken = Vec::with_capacity(array.values().allocator(), indices.len())?;
-    for place in 0..indices.len() {
-        let item = item_at(array, indices.get(place));
+    for position in 0..indices.len() {
+        let item = item_at(array, indices.get(position));
         taken.push_reserved(item.unwrap_or(T::default()));
     }
     Ok(taken)
@@ -152,12 +152,12 @@ fn bits_by_array<T: NativeType, I: Index>(
     Bitmap::try_from_fn(
         array.values().allocator(),
         indices.len(),
-        |place|
-            requires below { place < length (primitive_items indices.now) }
+        |position|
+            requires below { position < length (primitive_items indices.now) }
             requires inside { All (IsInBoundsOrNull I.value (length (primitive_items array.now))) (primitive_items indices.now) }
             ensures { result ≡ is_some (item_at I.value (primitive_items array.entry.now)
-                (slice_index_or (primitive_items indices.entry.now) place None)) }
-        { item_at(array, indices.get(place)).is_some() },
+                (slice_index_or (primitive_items indices.entry.now) position None)) }
+        { item_at(array, indices.get(position)).is_some() },
     )
 }
 

@@ -11,11 +11,11 @@ physical-of_primitive Int8 = refl
 physical-of_primitive p = refl
 
 pub physical-logical : (t : DataType) → physical (logical t) ≡ physical t
-physical-logical (Extension' name place inner metadata) = physical-logical inner
+physical-logical (Extension' name position inner metadata) = physical-logical inner
 physical-logical t = refl
 
 pub logical-logical : (t : DataType) → logical (logical t) ≡ logical t
-logical-logical (Extension' name place inner metadata) = logical-logical inner
+logical-logical (Extension' name position inner metadata) = logical-logical inner
 logical-logical t = refl
 
 pub ruleset tables = (physical-of_primitive, physical-logical, logical-logical)

@@ -10,7 +10,7 @@ IsCallableWithFields may fields = (index : ℕ) (field : Bor Field) → index < 
 
 -- every result at one of the first n indices and a field is that of accepts
 abbrev pub ReturnsOnFields : ℕ → (ℕ → Bor Field → Bool → Type 0) → (ℕ → Field → Bool) → Type 0
-ReturnsOnFields n answers accepts = (index : ℕ) (field : Bor Field) (answer : Bool) → index < n → answers index field answer → answer ≡ accepts index field.now
+ReturnsOnFields n results accepts = (index : ℕ) (field : Bor Field) (answer : Bool) → index < n → results index field answer → answer ≡ accepts index field.now
 
 -- the items that are accepted, each by its index in the list and by itself, in order
 abbrev pub accepted : {X : Type 0} → (ℕ → X → Bool) → List X → List X

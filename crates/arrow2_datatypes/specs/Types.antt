@@ -37,20 +37,20 @@ physical (FixedSizeBinary size) = Physical.FixedSizeBinary
 physical LargeBinary = Physical.LargeBinary
 physical Utf8 = Physical.Utf8
 physical LargeUtf8 = Physical.LargeUtf8
-physical (List' place name item nullable metadata) = Physical.List
-physical (FixedSizeList' place name item nullable metadata size) = Physical.FixedSizeList
-physical (LargeList' place name item nullable metadata) = Physical.LargeList
+physical (List' position name item nullable metadata) = Physical.List
+physical (FixedSizeList' position name item nullable metadata size) = Physical.FixedSizeList
+physical (LargeList' position name item nullable metadata) = Physical.LargeList
 physical (Struct' shape fields) = Physical.Struct
 physical (Union' shape fields ids mode) = Physical.Union
-physical (Map' place name entries nullable metadata sorted) = Physical.Map
-physical (Dictionary' key place values sorted) = Physical.Dictionary key
+physical (Map' position name entries nullable metadata sorted) = Physical.Map
+physical (Dictionary' key position values sorted) = Physical.Dictionary key
 physical (Decimal precision scale) = Physical.Primitive Primitive.Int128
 physical (Decimal256 precision scale) = Physical.Primitive Primitive.Int256
-physical (Extension' name place inner metadata) = physical inner
+physical (Extension' name position inner metadata) = physical inner
 
 -- the logical type of extensions
 abbrev pub logical : DataType → DataType
-logical (Extension' name place inner metadata) = logical inner
+logical (Extension' name position inner metadata) = logical inner
 logical t = t
 
 -- the whole-number type of an integer type

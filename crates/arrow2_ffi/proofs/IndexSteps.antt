@@ -9,7 +9,7 @@ use Rattle.arrow2_model.specs.Bits.{bit, bits, unnum}
 use Rattle.arrow2_model.specs.Parts.{part}
 use Rattle.arrow2_model.proofs.Bits.{get_or-unnum}
 use Rattle.arrow2_model.proofs.Parts.{get_or-part}
-use Rattle.arrow2_model.proofs.Walks.{length-part_bits}
+use Rattle.arrow2_model.proofs.Cursors.{length-part_bits}
 use Rattle.arrow2_chunk.specs.Ones.{ones}
 use Rattle.arrow2_ffi.specs.SetIndices.{ones_from}
 
@@ -72,7 +72,7 @@ none_among p a (suc n) h =
     rw (here, others) refl
 
 -- those after an index begin with it
-record Behind (p : ℕ → Bool) (a m x : ℕ) (others : List ℕ) : Type 0 where
+record Following (p : ℕ → Bool) (a m x : ℕ) (others : List ℕ) : Type 0 where
   from : a ≤ x
   below : x < a + m
   rest : filter p (range_with_len x (a + m - x)) ≡ x ∷ others
@@ -83,10 +83,10 @@ head_is x y xs ys e = ap (λ (zs : List ℕ). get_or zs 0 0) e
 tail_is : (x y : ℕ) (xs ys : List ℕ) → x ∷ xs ≡ y ∷ ys → xs ≡ ys
 tail_is x y xs ys e = ap (drop 1) e
 
-behind_test : (p : ℕ → Bool) (a m x : ℕ) (front others : List ℕ) (b : Bool) → p a ≡ b
-    → ((front : List ℕ) → filter p (range_with_len (a + 1) m) ≡ front ++ x ∷ others → Behind p (a + 1) m x others)
-    → cond b (a ∷ filter p (range_with_len (a + 1) m)) (filter p (range_with_len (a + 1) m)) ≡ front ++ x ∷ others → Behind p a (suc m) x others
-behind_test p a m x [] others true is later e =
+following_test : (p : ℕ → Bool) (a m x : ℕ) (front others : List ℕ) (b : Bool) → p a ≡ b
+    → ((front : List ℕ) → filter p (range_with_len (a + 1) m) ≡ front ++ x ∷ others → Following p (a + 1) m x others)
+    → cond b (a ∷ filter p (range_with_len (a + 1) m)) (filter p (range_with_len (a + 1) m)) ≡ front ++ x ∷ others → Following p a (suc m) x others
+following_test p a m x [] others true is later e =
     let here : a ≡ x = head_is a x (filter p (range_with_len (a + 1) m)) others e in
     let n : a + suc m - x ≡ suc m = omega (arith, here) in
     record {
@@ -94,26 +94,26 @@ behind_test p a m x [] others true is later e =
       below = omega (arith, here);
       rest = rw (n, ← here, is) (ap (λ (zs : List ℕ). a ∷ zs) (tail_is a x (filter p (range_with_len (a + 1) m)) others e));
     }
-behind_test p a m x (y ∷ front) others true is later e =
+following_test p a m x (y ∷ front) others true is later e =
     let b = later front (tail_is a y (filter p (range_with_len (a + 1) m)) (front ++ x ∷ others) e) in
     let n : a + suc m - x ≡ a + 1 + m - x = omega arith in
     record { from = omega (arith, b.from); below = omega (arith, b.below); rest = rw n b.rest }
-behind_test p a m x front others false is later e =
+following_test p a m x front others false is later e =
     let b = later front e in
     let n : a + suc m - x ≡ a + 1 + m - x = omega arith in
     record { from = omega (arith, b.from); below = omega (arith, b.below); rest = rw n b.rest }
 
-behind : (p : ℕ → Bool) (a m x : ℕ) (front others : List ℕ) → filter p (range_with_len a m) ≡ front ++ x ∷ others → Behind p a m x others
-behind p a zero x front others e =
+following : (p : ℕ → Bool) (a m x : ℕ) (front others : List ℕ) → filter p (range_with_len a m) ≡ front ++ x ∷ others → Following p a m x others
+following p a zero x front others e =
     let l = ap length e ∙ length-append front (x ∷ others) in
     let no : ⊥ = omega (arith, l) in
     absurd no
-behind p a (suc m) x front others e = behind_test p a m x front others (p a) refl (λ f h. behind p (a + 1) m x f others h) e
+following p a (suc m) x front others e = following_test p a m x front others (p a) refl (λ f h. following p (a + 1) m x f others h) e
 
 -- those from an index on begin with it
 pub from_index : (items : List Bool) (at x : ℕ) (front others : List ℕ) → at ≤ length items → ones_from items at ≡ front ++ x ∷ others → (at ≤ x) × (x < length items) × (ones_from items x ≡ x ∷ others)
 from_index items at x front others within e =
-    let b = behind (λ k. get_or items k false) at (length items - at) x front others (sym (ones_among items at) ∙ e) in
+    let b = following (λ k. get_or items k false) at (length items - at) x front others (sym (ones_among items at) ∙ e) in
     let n : at + (length items - at) - x ≡ length items - x = omega arith in
     (b.from, omega (arith, b.below), ones_among items x ∙ subst (λ m. set_among items x m ≡ x ∷ others) n b.rest)
 

@@ -10,11 +10,11 @@ use Rattle.arrow2_ffi.specs.Rules.{ReportsBrokenRule}
 
 -- the numbers are not offsets
 pub not_offsets : {misfits done unchanged : Type 0} (xs : List ℤ) (code : ℕ) → ReportsBrokenRule code xs → unchanged → WritesFromOffsets xs code misfits done unchanged
-not_offsets xs code told same = record {
-  broken = λ _. told.rule;
-  length = λ are. absurd (told.broken are);
-  only = λ are. absurd (told.broken are);
-  ok = λ e. absurd (told.other e);
+not_offsets xs code stated same = record {
+  broken = λ _. stated.rule;
+  length = λ are. absurd (stated.broken are);
+  only = λ are. absurd (stated.broken are);
+  ok = λ e. absurd (stated.other e);
   refused = λ _. same;
 }
 
@@ -42,12 +42,12 @@ written xs are fit is = record {
 
 -- the numbers are not offsets
 pub not_offsets_or : {misfits beyond done unchanged : Type 0} (second : ℕ) (xs : List ℤ) (code : ℕ) → ReportsBrokenRule code xs → unchanged → WritesFromOffsetsOr second xs code misfits beyond done unchanged
-not_offsets_or second xs code told same = record {
-  broken = λ _. told.rule;
-  length = λ are. absurd (told.broken are);
-  second = λ are. absurd (told.broken are);
-  only = λ are. absurd (told.broken are);
-  ok = λ e. absurd (told.other e);
+not_offsets_or second xs code stated same = record {
+  broken = λ _. stated.rule;
+  length = λ are. absurd (stated.broken are);
+  second = λ are. absurd (stated.broken are);
+  only = λ are. absurd (stated.broken are);
+  ok = λ e. absurd (stated.other e);
   refused = λ _. same;
 }
 

@@ -5,22 +5,22 @@ use Rattle.std.proofs.lemmas.List.{length-replicate, get_or-replicate}
 use Rattle.arrow2_model.specs.Bits.{bit}
 use Rattle.arrow2_model.specs.Tables.{answer, each}
 use Rattle.arrow2_model.proofs.Kernels.{each_from}
-use Rattle.arrow2_model.proofs.Walks.{length-part_bits}
-use Rattle.arrow2_array.proofs.Tables.{and_behind, and_beside, and_known, or_behind, or_beside, or_known}
-use Rattle.arrow2_ffi.specs.declared.ranges.Bits.{Bits}
+use Rattle.arrow2_model.proofs.Cursors.{length-part_bits}
+use Rattle.arrow2_array.proofs.Tables.{and_following, and_paired, and_known, or_following, or_paired, or_known}
+use Rattle.arrow2_ffi.specs.declared.bits_input.Bits.{Bits}
 use Rattle.arrow2_ffi.specs.Kleene.{AgreesWhereOneIsValid}
 use Rattle.arrow2_ffi.specs.Ranges.{first_bits}
 use Rattle.arrow2_ffi.specs.Validities.{CoversItems, valid_items, validity_of}
 
-pub and_beside_table : AgreesWhereOneIsValid 207 53060
-and_beside_table = record { second = and_beside; first = and_behind; both = and_known }
+pub and_paired_table : AgreesWhereOneIsValid 207 53060
+and_paired_table = record { second = and_paired; first = and_following; both = and_known }
 
-pub or_beside_table : AgreesWhereOneIsValid 252 64648
-or_beside_table = record { second = or_beside; first = or_behind; both = or_known }
+pub or_paired_table : AgreesWhereOneIsValid 252 64648
+or_paired_table = record { second = or_paired; first = or_following; both = or_known }
 
 pub length-valid_items : (validity : Option Bits) (n : ℕ) → CoversItems (validity_of validity) n → length (valid_items (validity_of validity) n) ≡ n
-length-valid_items None n says = length-replicate n true
-length-valid_items (Some b) n says = length-part_bits b.0.now b.1 n says
+length-valid_items None n states = length-replicate n true
+length-valid_items (Some b) n states = length-part_bits b.0.now b.1 n states
 
 -- without a validity all items are valid
 pub all_valid : (validity : Option Bits) (xs : List Bool) (n : ℕ) → validity ≡ None → length xs ≡ n → valid_items (validity_of validity) n ≡ replicate (length xs) true

@@ -15,11 +15,11 @@ module _ {inside holds done unchanged : Type 0} where
   }
 
   -- the fact at success may be replaced by a consequence of it
-  pub told : {other : Type 0} (code : ℕ) → (done → other) → Writes code inside holds done unchanged → Writes code inside holds other unchanged
-  told code says w = record {
+  pub stated : {other : Type 0} (code : ℕ) → (done → other) → Writes code inside holds done unchanged → Writes code inside holds other unchanged
+  stated code states w = record {
     range = w.range;
     length = w.length;
     only = w.only;
-    ok = λ e. says (w.ok e);
+    ok = λ e. states (w.ok e);
     refused = w.refused;
   }

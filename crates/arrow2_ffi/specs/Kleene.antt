@@ -66,13 +66,13 @@ first_valid n x = valid_items x.validity n
 abbrev pub IsWholeInside : ℕ → OptionalInput → Type 0
 IsWholeInside n x = IsInside x.values.0 x.values.1 n × CoversItems x.validity n
 
--- table `beside` of three inputs has the outputs of table `known` of four where one of the two items is not null. The
--- inputs of `beside` are value and validity of the item that may be null, then the value of the other item
-pub record AgreesWhereOneIsValid (beside known : ℕ) : Type 0 where
+-- table `paired` of three inputs has the outputs of table `known` of four where one of the two items is not null. The
+-- inputs of `paired` are value and validity of the item that may be null, then the value of the other item
+pub record AgreesWhereOneIsValid (paired known : ℕ) : Type 0 where
   -- where the second item is not null
-  pub second : (a n b : Bool) → answer beside (a ∷ n ∷ b ∷ []) ≡ answer known (a ∷ n ∷ b ∷ true ∷ [])
+  pub second : (a n b : Bool) → answer paired (a ∷ n ∷ b ∷ []) ≡ answer known (a ∷ n ∷ b ∷ true ∷ [])
   -- where the first item is not null
-  pub first : (a b m : Bool) → answer beside (b ∷ m ∷ a ∷ []) ≡ answer known (a ∷ true ∷ b ∷ m ∷ [])
+  pub first : (a b m : Bool) → answer paired (b ∷ m ∷ a ∷ []) ≡ answer known (a ∷ true ∷ b ∷ m ∷ [])
   -- where neither item is null the output of `known` is true
   pub both : (a b : Bool) → answer known (a ∷ true ∷ b ∷ true ∷ []) ≡ true
 

@@ -2,7 +2,7 @@
 use Rattle.std.specs.Prelude.{◌≡◌, ◌≢◌, ◌+◌, ◌-◌, ◌<◌, ℕ, ℤ, pos, ◌↔◌, ◌⊎◌, List, length as len, map}
 use Rattle.arrow2_model.specs.Parts.{part}
 use Rattle.arrow2_offset.specs.Offsets.{AreOffsets, lengths_of, offsets_list}
-use Rattle.arrow2_offset.specs.Refused.{first_broken}
+use Rattle.arrow2_offset.specs.Refusals.{first_broken}
 use Rattle.arrow2_ffi.specs.declared.codes.TheConstants.{ARROW2_OK, ARROW2_RANGE, ARROW2_LENGTH}
 use Rattle.arrow2_ffi.specs.Rules.{rule_code}
 

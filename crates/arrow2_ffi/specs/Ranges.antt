@@ -2,7 +2,7 @@
 use Rattle.std.specs.Prelude.{◌≡◌, ℕ, ◌+◌, ◌*◌, ◌/◌, ◌≤◌, List, [], ◌∷◌, Bool, length, map}
 use Rattle.arrow2_model.specs.Bits.{bits}
 use Rattle.arrow2_model.specs.Parts.{part}
-use Rattle.arrow2_ffi.specs.declared.ranges.Bits.{Bits}
+use Rattle.arrow2_ffi.specs.declared.bits_input.Bits.{Bits}
 
 -- the n bits from bit o on are inside the bytes
 abbrev pub IsInside : List ℕ → ℕ → ℕ → Type 0

@@ -2,7 +2,7 @@
 use Rattle.std.specs.Prelude.{ℕ, List, Bool, true, Option, Some, None, if◌then◌else◌, replicate}
 use Rattle.arrow2_model.specs.Bits.{bits}
 use Rattle.arrow2_model.specs.Parts.{part}
-use Rattle.arrow2_ffi.specs.declared.ranges.Bits.{Bits}
+use Rattle.arrow2_ffi.specs.declared.bits_input.Bits.{Bits}
 use Rattle.arrow2_ffi.specs.Ranges.{IsInside}
 
 -- the validity that a call was given: none if `all_valid` is true, else its bytes and its first bit

@@ -46,14 +46,14 @@ WritesTable code bound t n inputs old new = Writes code ((t < bound) × AreInsid
 abbrev pub WritesTableInPlace : (code bound t n : ℕ) → List (List ℕ × ℕ) → (old new : List ℕ) → Type 0
 WritesTableInPlace code bound t n inputs old new = Writes code ((t < bound) × AreInside n inputs) (HasBytesForBits old n) (Stores new n (each t (take n (bits old) ∷ inputs_of n inputs))) (new ≡ old)
 
--- of the items that were left before, the call wrote the first `count`, at most `room`; the others are left now
-pub record Resumes {X : Type 0} (written left_before left_now : List X) (count room before at end : ℕ) : Type 0 where
+-- of the items that were left before, the call wrote the first `count`, at most `spare`; the others are left now
+pub record Resumes {X : Type 0} (written left_before left_now : List X) (count spare before at end : ℕ) : Type 0 where
   -- the written items, and then the items left now, are the items left before
   pub items : written ++ left_now ≡ left_before
-  -- no more items were written than there was room for
-  pub most : count ≤ room
+  -- no more items were written than there was capacity for
+  pub most : count ≤ spare
   -- where fewer were written, no item is left, and the index `at` from which to go on is `end`
-  pub last : count < room → (left_now ≡ []) × (at ≡ end)
+  pub last : count < spare → (left_now ≡ []) × (at ≡ end)
   -- the index `at` is not before the index `before` from which the call went on
   pub forth : before ≤ at
   -- the index `at` is at most `end`

@@ -3,10 +3,10 @@
 ghost use Rattle.std.specs.Prelude.{[], ◌∷◌};
 ghost use Rattle.arrow2_ffi.specs.Writes.{WritesTableInPlace};
 
+use crate::bits_input::{Bits, are_both_inside, are_inside, hold};
 use crate::codes::{ARROW2_LENGTH, ARROW2_OK, ARROW2_RANGE};
-use crate::ranges::{Bits, are_both_inside, are_inside, hold};
-use crate::rows::{assign_four, assign_three, assign_two};
-use arrow2_kernels::lane_assigned::assign_unary;
+use crate::in_place::{assign_four, assign_three, assign_two};
+use arrow2_kernels::simd_assign::assign_unary;
 
 /// Replaces the first `length` bits by the outputs of a table of one input.
 ///

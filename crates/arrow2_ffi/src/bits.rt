@@ -6,9 +6,9 @@ ghost use Rattle.arrow2_model.specs.Parts.{part, falses};
 ghost use Rattle.arrow2_ffi.specs.Ranges.{IsInside, HasBytesForBits};
 ghost use Rattle.arrow2_ffi.specs.Writes.{Stores, Writes, WritesWhere};
 
+use crate::bits_input::{Bits, are_both_inside, are_inside, has_bit, hold};
 use crate::codes::{ARROW2_LENGTH, ARROW2_OK, ARROW2_RANGE};
-use crate::ranges::{Bits, are_both_inside, are_inside, has_bit, hold};
-use crate::rows::copy;
+use crate::in_place::copy;
 
 /// Writes to `zeros` how many of the `length` bits from bit `offset` on are not set.
 ///
@@ -86,8 +86,8 @@ pub extern "C" fn arrow2_set_bit(bytes: &mut [u8], index: usize, value: bool) ->
     ARROW2_OK
 }
 
-/// Copies the `length` bits from bit `offset` on over `out`, from bit 0 on. It has exactly the bytes that hold them,
-/// and its padding bits become 0.
+/// Copies the `length` bits that begin at bit `offset` to `out`, from bit 0 on. `out` must have exactly the bytes that
+/// hold them, and its padding bits become 0.
 ///
 /// `ARROW2_RANGE` exactly where they are not inside the bytes, else `ARROW2_LENGTH` exactly where `out` has another
 /// length.

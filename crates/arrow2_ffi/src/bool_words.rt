@@ -3,8 +3,8 @@ ghost use Rattle.std.specs.Prelude.{◌∷◌, [], length as length'};
 ghost use Rattle.arrow2_model.specs.Kernels.{word};
 
 use arrow2_chunk::bit_chunk::BitChunk;
-use arrow2_growth::packed::{padded, word_of};
 use arrow2_kernels::rows::WordRows;
+use arrow2_packed_bits::packing::{padded, word_of};
 
 /// Booleans, each 64 of which are a row of one word.
 #[derive(Drop)]

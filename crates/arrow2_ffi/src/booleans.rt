@@ -5,16 +5,16 @@ ghost use Rattle.arrow2_model.specs.Parts.{part};
 ghost use Rattle.arrow2_ffi.specs.Ranges.{IsInside, HasBits, first_bits, HasBytesForBits};
 ghost use Rattle.arrow2_ffi.specs.Writes.{Stores, WritesWhere};
 
+use crate::bits_input::{Bits, are_inside, hold};
 use crate::bool_words::BoolWords;
 use crate::codes::{ARROW2_LENGTH, ARROW2_OK, ARROW2_RANGE};
-use crate::ranges::{Bits, are_inside, hold};
 use arrow2_bits::get_bit_from;
-use arrow2_kernels::assigned::assign_rows;
+use arrow2_kernels::assign::assign_rows;
 
-/// Writes the booleans as bits over `out`, from bit 0 on. It has exactly the bytes that hold them, and its padding bits
-/// become 0.
+/// Writes the booleans as bits to `out`, from bit 0 on. `out` must have exactly the bytes that hold them, and its
+/// padding bits become 0.
 ///
-/// `ARROW2_LENGTH` exactly where it has another length.
+/// `ARROW2_LENGTH` exactly where `out` has another length.
 #[unsafe(no_mangle)]
 pub extern "C" fn arrow2_pack(items: &[bool], out: &mut [u8]) -> u32
     ensures { WritesWhere ARROW2_LENGTH result (HasBytesForBits out.old (length items.now))

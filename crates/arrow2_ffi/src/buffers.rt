@@ -4,8 +4,8 @@ ghost use Rattle.arrow2_model.specs.Bits.{bits};
 ghost use Rattle.arrow2_model.specs.Parts.{part, falses};
 ghost use Rattle.arrow2_ffi.specs.Ranges.{IsInside};
 
+use crate::bits_input::{Bits, are_inside};
 use crate::codes::{ARROW2_NULLS, ARROW2_OK, ARROW2_RANGE};
-use crate::ranges::{Bits, are_inside};
 
 /// Checks that the `length` bits from bit `offset` on are inside, and that `null_count` of them are not set; with -1
 /// the count is not checked.

@@ -1,5 +1,6 @@
-//! The codes that an export returns. With any code but [`ARROW2_OK`] nothing was written, except that a check writes
-//! the index or slot of the first fault.
+//! The codes that an export returns. With any code but [`ARROW2_OK`] nothing was written, except the index or slot of
+//! the first fault, which a check that has one writes with `ARROW2_SPEC_FALLING`, `ARROW2_PAST`, `ARROW2_UTF8` or
+//! `ARROW2_INDEX`.
 
 /// The call succeeded.
 pub const ARROW2_OK: u32 = 0;

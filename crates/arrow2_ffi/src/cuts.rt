@@ -8,7 +8,7 @@ use crate::inside::{check_inside, check_texts};
 ///
 /// The code of `arrow2_offsets32_check` where the numbers are not offsets, else `ARROW2_PAST` exactly where the last
 /// one is above `items`. `ARROW2_SPEC_FALLING` writes the index of the first number that is below the one before it,
-/// `ARROW2_PAST` that of the first number above `items`.
+/// `ARROW2_PAST` that of the first number above `items`. No other code writes `index`.
 #[unsafe(no_mangle)]
 pub extern "C" fn arrow2_offsets32_check_inside(
     offsets: &[i32],

@@ -9,9 +9,9 @@ use crate::validities::given_validity;
 /// Checks that each index that is not null is at least 0 and below `items`. With `all_valid` none is null, and of the
 /// validity nothing is read.
 ///
-/// `ARROW2_RANGE` exactly where some may be null and the validity has no bit for each from bit `validity_offset` on,
-/// else `ARROW2_INDEX` exactly where one that is not null is negative or not below `items`, which writes to `slot` the
-/// first such.
+/// `ARROW2_RANGE` exactly where `all_valid` is false and the validity has fewer bits from bit `validity_offset` on than
+/// there are indices, else `ARROW2_INDEX` exactly where one that is not null is negative or not below `items`, which
+/// writes to `slot` the first such. No other code writes `slot`.
 #[unsafe(no_mangle)]
 pub extern "C" fn arrow2_indices_i8_check(
     indices: &[i8],

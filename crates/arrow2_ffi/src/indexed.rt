@@ -3,9 +3,9 @@ ghost use Rattle.std.specs.Prelude.{◌≡◌, ◌<◌, ◌↔◌, ℕ, pos, map
 ghost use Rattle.arrow2_ffi.specs.Indices.{ChecksIndices, IsFirstOutside, IsIndex, IsIndexOrNull};
 ghost use Rattle.arrow2_ffi.specs.Validities.{CoversItems, valid_items, validity_of};
 
+use crate::bits_input::Bits;
 use crate::codes::{ARROW2_INDEX, ARROW2_OK, ARROW2_RANGE};
-use crate::ranges::Bits;
-use crate::validities::{is_valid, says_of};
+use crate::validities::{covers_items, is_valid};
 use arrow2_index::index::Index;
 
 /// Returns whether each item is null or an index below `items`. Writes the first that is neither.
@@ -18,7 +18,7 @@ pub(crate) fn check<I: Index>(
     ensures { ChecksIndices result (map I.value indices.now) (validity_of validity.entry) items
         slot.old slot.new }
 {
-    if !says_of(validity, indices.len()) {
+    if !covers_items(validity, indices.len()) {
         return ARROW2_RANGE;
     }
     match first_outside(indices, validity, items) {
@@ -32,7 +32,7 @@ pub(crate) fn check<I: Index>(
 
 /// Returns the first item that is neither null nor an index below `items`.
 fn first_outside<I: Index>(indices: &[I], validity: Option<Bits<'_>>, items: usize) -> Option<usize>
-    requires says { CoversItems (validity_of validity) (length indices.now) }
+    requires covers { CoversItems (validity_of validity) (length indices.now) }
     ensures { MatchOption result
         ((k : ℕ) → k < length indices.now → IsIndexOrNull (map I.value indices.now)
         (valid_items (validity_of validity.entry) (length indices.now)) items k)

@@ -1,15 +1,15 @@
 //! Kleene's logic on values with their validity: an item is null where its validity bit is not set.
 //!
-//! The values of the result are written over `values` and its validity over `validity`, from bit 0 on. Both have
+//! The values of the result are written over `values` and its validity over `validity`, from bit 0 on. Both must have
 //! exactly the bytes that hold them, and their padding bits become 0. A value is the operator applied to the two
 //! values, also where the result is null.
 ghost use Rattle.std.specs.Prelude.{Bool, Option};
 ghost use Rattle.arrow2_array.specs.Kleene.{TablesCompute};
 ghost use Rattle.arrow2_ffi.specs.Kleene.{WritesKleene, WritesKleeneAnd, WritesKleeneOr, input, input_of};
 
+use crate::bits_input::{Bits, are_both_inside, hold};
 use crate::codes::{ARROW2_LENGTH, ARROW2_OK, ARROW2_RANGE};
-use crate::ranges::{Bits, are_both_inside, hold};
-use crate::rows::{write_four, write_two};
+use crate::in_place::{write_four, write_two};
 use arrow2_array::kleene::{AND_KNOWN, AND_VALUES, OR_KNOWN, OR_VALUES};
 
 /// Values, and which of them are not null.

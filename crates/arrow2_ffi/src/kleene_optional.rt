@@ -1,6 +1,6 @@
 //! Kleene's logic where either side may have no validity: then none of its items is null.
 //!
-//! A validity that is missing costs no memory, and nothing is read in its stead.
+//! A validity that is missing needs no bytes.
 ghost use Rattle.std.specs.Prelude.{Bool, Option, [], ◌∷◌, ◌↔◌, IsTrue};
 ghost use Rattle.arrow2_model.specs.Tables.{each};
 ghost use Rattle.arrow2_array.specs.Kleene.{TablesCompute};
@@ -8,12 +8,12 @@ ghost use Rattle.arrow2_ffi.specs.Kleene.{AgreesWhereOneIsValid, IsWholeInside, 
 ghost use Rattle.arrow2_ffi.specs.Ranges.{HasBytesForBits};
 ghost use Rattle.arrow2_ffi.specs.Writes.{Stores};
 
+use crate::bits_input::{Bits, are_inside, hold};
 use crate::codes::{ARROW2_LENGTH, ARROW2_OK, ARROW2_RANGE};
-use crate::ranges::{Bits, are_inside, hold};
-use crate::rows::{write_four, write_three, write_two};
-use crate::validities::{given_validity, says_of};
+use crate::in_place::{write_four, write_three, write_two};
+use crate::validities::{covers_items, given_validity};
 use arrow2_array::kleene::{
-    AND_KNOWN, AND_KNOWN_BESIDE, AND_VALUES, OR_KNOWN, OR_KNOWN_BESIDE, OR_VALUES,
+    AND_KNOWN, AND_KNOWN_PAIRED, AND_VALUES, OR_KNOWN, OR_KNOWN_PAIRED, OR_VALUES,
 };
 
 /// The table of two inputs that is true of any.
@@ -27,7 +27,7 @@ struct Side<'a> {
 }
 
 /// Writes, item by item, whether both are true, as `arrow2_and_kleene` does. Where `left_all_valid` is true no item of
-/// the left side is null, and `left_validity` and its offset are ignored; so of the right side.
+/// the left side is null, and `left_validity` and its offset are ignored; likewise of the right side.
 ///
 /// `ARROW2_RANGE` exactly where bits of values or of a validity that is not ignored are not inside, else
 /// `ARROW2_LENGTH` exactly where `values` or `validity` has other than the bytes that the items need.
@@ -60,11 +60,11 @@ pub extern "C" fn arrow2_and_kleene_optional(
         values: Bits(right, right_offset),
         validity: given_validity(right_all_valid, right_validity, right_validity_offset),
     };
-    write::<AND_VALUES, AND_KNOWN, AND_KNOWN_BESIDE>(left, right, length, values, validity)
+    write::<AND_VALUES, AND_KNOWN, AND_KNOWN_PAIRED>(left, right, length, values, validity)
 }
 
 /// Writes, item by item, whether one is true, or both, as `arrow2_or_kleene` does. Where `left_all_valid` is true no
-/// item of the left side is null, and `left_validity` and its offset are ignored; so of the right side.
+/// item of the left side is null, and `left_validity` and its offset are ignored; likewise of the right side.
 ///
 /// Codes as of `arrow2_and_kleene_optional`.
 #[unsafe(no_mangle)]
@@ -96,19 +96,19 @@ pub extern "C" fn arrow2_or_kleene_optional(
         values: Bits(right, right_offset),
         validity: given_validity(right_all_valid, right_validity, right_validity_offset),
     };
-    write::<OR_VALUES, OR_KNOWN, OR_KNOWN_BESIDE>(left, right, length, values, validity)
+    write::<OR_VALUES, OR_KNOWN, OR_KNOWN_PAIRED>(left, right, length, values, validity)
 }
 
-/// Writes the values by table `VALUES` of two inputs, and the validity by table `KNOWN` of four, or by `BESIDE` of
+/// Writes the values by table `VALUES` of two inputs, and the validity by table `KNOWN` of four, or by `PAIRED` of
 /// three.
-fn write<const VALUES: u8, const KNOWN: u16, const BESIDE: u8>(
+fn write<const VALUES: u8, const KNOWN: u16, const PAIRED: u8>(
     left: Side<'_>,
     right: Side<'_>,
     length: usize,
     values: &mut [u8],
     validity: &mut [u8],
 ) -> u32
-    ensures { (f : Option Bool → Option Bool → Option Bool) → TablesCompute VALUES KNOWN f → AgreesWhereOneIsValid BESIDE KNOWN →
+    ensures { (f : Option Bool → Option Bool → Option Bool) → TablesCompute VALUES KNOWN f → AgreesWhereOneIsValid PAIRED KNOWN →
         WritesOptionalKleene result f VALUES KNOWN length (optional_of left.entry)
         (optional_of right.entry) values.old values.new validity.old validity.new }
 {
@@ -119,7 +119,7 @@ fn write<const VALUES: u8, const KNOWN: u16, const BESIDE: u8>(
         return ARROW2_LENGTH;
     }
     write_two::<VALUES>(values, length, left.values, right.values);
-    write_known::<KNOWN, BESIDE>(validity, length, left, right);
+    write_known::<KNOWN, PAIRED>(validity, length, left, right);
     ARROW2_OK
 }
 
@@ -127,12 +127,12 @@ fn write<const VALUES: u8, const KNOWN: u16, const BESIDE: u8>(
 fn is_inside(side: Side<'_>, length: usize) -> bool
     ensures { IsTrue result ↔ IsWholeInside length (optional_of side.entry) }
 {
-    are_inside(side.values, length) && says_of(side.validity, length)
+    are_inside(side.values, length) && covers_items(side.validity, length)
 }
 
 /// Writes which answers are known: by table `KNOWN` of values and validities, and where one side has no validity by
-/// table `BESIDE`, whose inputs are value and validity of the other side and the value of this one.
-fn write_known<const KNOWN: u16, const BESIDE: u8>(
+/// table `PAIRED`, whose inputs are value and validity of the other side and the value of this one.
+fn write_known<const KNOWN: u16, const PAIRED: u8>(
     out: &mut [u8],
     length: usize,
     left: Side<'_>,
@@ -141,17 +141,17 @@ fn write_known<const KNOWN: u16, const BESIDE: u8>(
     requires exact { HasBytesForBits out.old length }
     requires left { IsWholeInside length (optional_of left) }
     requires right { IsWholeInside length (optional_of right) }
-    ensures { AgreesWhereOneIsValid BESIDE KNOWN → Stores out.new length (each KNOWN
+    ensures { AgreesWhereOneIsValid PAIRED KNOWN → Stores out.new length (each KNOWN
         (first_values length (optional_of left.entry) ∷ first_valid length (optional_of left.entry)
         ∷ first_values length (optional_of right.entry) ∷ first_valid length (optional_of right.entry) ∷ [])) }
 {
     match (left.validity, right.validity) {
         (None, None) => write_two::<ALWAYS>(out, length, left.values, right.values),
         (Some(known), None) => {
-            write_three::<BESIDE>(out, length, left.values, known, right.values);
+            write_three::<PAIRED>(out, length, left.values, known, right.values);
         }
         (None, Some(known)) => {
-            write_three::<BESIDE>(out, length, right.values, known, left.values);
+            write_three::<PAIRED>(out, length, right.values, known, left.values);
         }
         (Some(known), Some(other)) => {
             write_four::<KNOWN>(out, length, left.values, known, right.values, other);

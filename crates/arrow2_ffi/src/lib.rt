@@ -3,24 +3,20 @@
 
 pub mod assign_tables;
 pub mod bits;
+mod bits_input;
 mod bool_words;
 pub mod booleans;
 pub mod buffers;
 pub mod codes;
 pub mod cuts;
 pub mod dictionary;
+mod in_place;
 mod indexed;
 mod inside;
 pub mod kleene;
 pub mod kleene_optional;
-mod offset_calls;
-pub mod offset_widths;
 pub mod offsets;
-mod ranges;
-mod rows;
 pub mod runs;
 pub mod set_indices;
 pub mod tables;
-#[cfg(test)]
-mod tests;
 mod validities;

@@ -2,12 +2,15 @@
 //! negative, and none is below the one before it.
 ghost use Rattle.std.specs.Prelude.{◌≡◌, ◌≢◌, ◌+◌, ◌<◌, ◌↔◌, ◌⊎◌, pos, map, length};
 ghost use Rattle.arrow2_offset.specs.Offsets.{AreOffsets, last_offset, offsets_list};
-ghost use Rattle.arrow2_offset.specs.Refused.{first_broken};
+ghost use Rattle.arrow2_offset.specs.Refusals.{first_broken};
 ghost use Rattle.arrow2_ffi.specs.OffsetWrites.{WritesLengths, WritesRebased};
 ghost use Rattle.arrow2_ffi.specs.Rules.{rule_code};
 
+pub(crate) mod calls;
+pub mod widths;
+
 use crate::codes::{ARROW2_LENGTH, ARROW2_OK, ARROW2_OVERFLOW, ARROW2_RANGE};
-use crate::offset_calls::{check, lengths, lengths_unchecked, rebase, rebase_unchecked, sums};
+use crate::offsets::calls::{check, lengths, lengths_unchecked, rebase, rebase_unchecked, sums};
 
 /// Checks whether the numbers are offsets of 32 bits.
 ///
@@ -66,7 +69,7 @@ pub extern "C" fn arrow2_offsets32_from_lengths(
     sums(start, lengths, out)
 }
 
-/// Writes to each item `i` of `out` offset `from + i` minus offset `from`, of 32 bits. So the written offsets begin at
+/// Sets `out[i]` to `offsets[from + i] - offsets[from]`, of 32 bits. So the written offsets begin at
 /// 0, and each slot has the length that it had.
 ///
 /// The code of `arrow2_offsets32_check` where the numbers are not offsets, else `ARROW2_LENGTH` exactly where `out` has
@@ -153,7 +156,7 @@ pub extern "C" fn arrow2_offsets64_from_lengths(
     sums(start, lengths, out)
 }
 
-/// Writes to each item `i` of `out` offset `from + i` minus offset `from`, of 64 bits. So the written offsets begin at
+/// Sets `out[i]` to `offsets[from + i] - offsets[from]`, of 64 bits. So the written offsets begin at
 /// 0, and each slot has the length that it had.
 ///
 /// The code of `arrow2_offsets64_check` where the numbers are not offsets, else `ARROW2_LENGTH` exactly where `out` has

@@ -6,14 +6,16 @@ ghost use Rattle.arrow2_ffi.specs.Ranges.{IsInside, HasBits, first_bits};
 ghost use Rattle.arrow2_ffi.specs.RunWrites.{WritesRuns};
 ghost use Rattle.arrow2_ffi.specs.Writes.{Writes};
 
+use crate::bits_input::{Bits, are_inside};
 use crate::codes::{ARROW2_LENGTH, ARROW2_OK, ARROW2_RANGE};
-use crate::ranges::{Bits, are_inside};
 use arrow2_walks::cursor::{BitCursor, find_bit};
 
-/// Finds the runs of set bits among the `length` bits from bit `offset` on, and counts these bits from `offset`. The
-/// search begins at bit `at`. Writes the first bits of runs to `starts` and their lengths to `lengths`, until the
-/// slices are full or no run is left. Writes to `count` how many runs it wrote, and to `at` where the next call goes
-/// on.
+/// Finds the runs of set bits among the `length` bits from bit `offset` on. Indices are relative to `offset`: index 0
+/// is bit `offset`. The search begins at index `at`, and a run that begins before is found from there on. Writes the
+/// index at which each run begins to `starts` and its length to `lengths`, until the slices are full or no run is left.
+/// Writes to `count` how many runs it wrote, and to `at` where the next call goes on. All runs are found once `count`
+/// is below the length of the slices; where that is 0, no call goes on. What the slices hold from `count` on is not
+/// specified.
 ///
 /// `ARROW2_RANGE` exactly where the bits are not inside, or `at` is above `length`; else `ARROW2_LENGTH` exactly where
 /// `starts` and `lengths` differ in length.
@@ -51,7 +53,7 @@ pub extern "C" fn arrow2_runs(
 
 /// Writes the runs from index `at` on, until the slices are full or no run is left, and returns how many were written
 /// and the index from which to go on. Requires that the bits and the index are inside, and that starts and lengths have
-/// one length.
+/// equal lengths.
 fn write_runs(
     bits: Bits<'_>,
     end: usize,

@@ -8,15 +8,17 @@ ghost use Rattle.arrow2_ffi.specs.SetIndices.{WritesSetIndices};
 ghost use Rattle.arrow2_ffi.specs.Ranges.{IsInside, HasBits, first_bits};
 ghost use Rattle.arrow2_ffi.specs.Writes.{WritesWhere};
 
+use crate::bits_input::{Bits, are_inside};
 use crate::codes::{ARROW2_OK, ARROW2_RANGE};
-use crate::ranges::{Bits, are_inside};
 use arrow2_bits::chunks::word_from;
 use arrow2_chunk::bit_chunk::BitChunk;
 use arrow2_chunk::bit_chunk_iter::BitChunkOnes;
 
-/// Finds the set bits among the `length` bits from bit `offset` on, and counts these bits from `offset`. The search
-/// begins at bit `at`. Writes the indices of set bits to `indices`, rising, until it is full or no set bit is left.
-/// Writes to `count` how many indices it wrote, and to `at` where the next call goes on.
+/// Finds the set bits among the `length` bits from bit `offset` on. Indices are relative to `offset`: index 0 is bit
+/// `offset`. The search begins at index `at`. Writes the indices of set bits to `indices`, rising, until it is full or
+/// no set bit is left. Writes to `count` how many indices it wrote, and to `at` where the next call goes on. All are
+/// found once `count` is below the length of `indices`; where that is 0, no call goes on. What `indices` holds from
+/// `count` on is not specified.
 ///
 /// `ARROW2_RANGE` exactly where the bits are not inside, or `at` is above `length`.
 #[unsafe(no_mangle)]
@@ -75,7 +77,7 @@ fn write_indices(bits: Bits<'_>, end: usize, at: usize, indices: &mut [usize]) -
 fn write_ones(word: u64, base: usize, count: usize, indices: &mut [usize]) -> (usize, Option<usize>)
     requires few { count ≤ length' indices.old }
     requires fit { All (λ index. index < 2 ^ 64) (map (λ k. base + k) (ones (unnum 64 word))) }
-    ensures room { length' indices.new ≡ length' indices.old }
+    ensures size { length' indices.new ≡ length' indices.old }
     ensures few { result.0 ≤ length' indices.old }
     ensures all { IfNone result.1 (take result.0 indices.new
         ≡ take count indices.old ++ map (λ k. base + k) (ones (unnum 64 word))) }

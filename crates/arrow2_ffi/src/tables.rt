@@ -1,15 +1,15 @@
 //! Truth tables over bits of one to four inputs: bit `a1 + 2 * a2 + 4 * a3 + 8 * a4` of a table is its output for
 //! inputs `a1` to `a4`.
 //!
-//! The outputs are written over `out` from bit 0 on. It has exactly the bytes that hold them, and its padding bits
-//! become 0.
+//! The outputs are written to `out` from bit 0 on. `out` must have exactly the bytes that hold them, and its padding
+//! bits become 0.
 ghost use Rattle.std.specs.Prelude.{[], ◌∷◌};
 ghost use Rattle.arrow2_ffi.specs.Writes.{WritesTable};
 
+use crate::bits_input::{Bits, are_both_inside, are_inside, hold};
 use crate::codes::{ARROW2_LENGTH, ARROW2_OK, ARROW2_RANGE};
-use crate::ranges::{Bits, are_both_inside, are_inside, hold};
-use crate::rows::{assign_four, assign_three, assign_two, copy};
-use arrow2_kernels::lane_assigned::assign_unary;
+use crate::in_place::{assign_four, assign_three, assign_two, copy};
+use arrow2_kernels::simd_assign::assign_unary;
 
 /// Writes the outputs of a table of one input for the `length` bits from bit `offset` on.
 ///

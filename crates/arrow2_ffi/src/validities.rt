@@ -2,7 +2,7 @@
 ghost use Rattle.std.specs.Prelude.{◌≡◌, ◌<◌, ◌↔◌, false, slice_index_or, IsTrue};
 ghost use Rattle.arrow2_ffi.specs.Validities.{CoversItems, given_validity, valid_items, validity_of};
 
-use crate::ranges::{Bits, are_inside};
+use crate::bits_input::{Bits, are_inside};
 use arrow2_bits::get_bit_from;
 
 /// Returns a validity that a call was given, `None` where all items are valid.
@@ -16,7 +16,7 @@ pub(crate) fn given_validity(all_valid: bool, bytes: &[u8], offset: usize) -> Op
 }
 
 /// Returns whether the validity has a bit for each of `length` items.
-pub(crate) fn says_of(validity: Option<Bits<'_>>, length: usize) -> bool
+pub(crate) fn covers_items(validity: Option<Bits<'_>>, length: usize) -> bool
     ensures { IsTrue result ↔ CoversItems (validity_of validity.entry) length }
 {
     match validity {
@@ -27,7 +27,7 @@ pub(crate) fn says_of(validity: Option<Bits<'_>>, length: usize) -> bool
 
 /// Returns whether item `index` of `length` is not null.
 pub(crate) fn is_valid(validity: Option<Bits<'_>>, index: usize, length: usize) -> bool
-    requires says { CoversItems (validity_of validity) length }
+    requires covers { CoversItems (validity_of validity) length }
     requires below { index < length }
     ensures { result ≡ slice_index_or (valid_items (validity_of validity.entry) length) index
         false }

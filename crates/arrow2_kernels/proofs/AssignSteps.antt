@@ -52,9 +52,9 @@ put_outside xs ys a k p inside size h =
           get_or_append_left (bits (take a xs) ++ bits ys) (bits (drop (a + k) xs)) false p (omega (arith, l, f, m, front))
           ∙ (get_or_append_left (bits (take a xs)) (bits ys) false p (omega (arith, f, front))
           ∙ (ap (λ (t : List Bool). get_or t p false) (sym (take-bits xs a (omega arith))) ∙ get_or-take (8 * a) (bits xs) p false before))
-      | inr behind ↦
+      | inr following ↦
           let q : 8 * (a + k) + (p - 8 * (a + k)) ≡ p = omega arith in
-          get_or-append_right (bits (take a xs) ++ bits ys) (bits (drop (a + k) xs)) (8 * (a + k)) p false (omega (arith, l, f, m, front)) behind
+          get_or-append_right (bits (take a xs) ++ bits ys) (bits (drop (a + k) xs)) (8 * (a + k)) p false (omega (arith, l, f, m, front)) following
           ∙ (ap (λ (t : List Bool). get_or t (p - 8 * (a + k)) false) (sym (drop-bits xs (a + k) inside)) ∙ (get_or-drop (8 * (a + k)) (bits xs) (p - 8 * (a + k)) false ∙ ap (λ j. get_or (bits xs) j false) q))
     ])
 
@@ -63,8 +63,8 @@ pub word_bit : (w x c i : ℕ) (word : List ℕ) → bits word ≡ unnum w x →
 word_bit w x c i word of most h =
     let l = length-bits word in
     let u = length-unnum w x in
-    let room : c ≤ length word = omega (arith, l, u, ap length of) in
-    ap (λ (t : List Bool). get_or t i false) (sym (take-bits word c room))
+    let spare : c ≤ length word = omega (arith, l, u, ap length of) in
+    ap (λ (t : List Bool). get_or t i false) (sym (take-bits word c spare))
     ∙ (get_or-take (8 * c) (bits word) i false h ∙ (ap (λ (t : List Bool). get_or t i false) of ∙ get_or-unnum w x i false (omega arith)))
 
 -- a bit of a word that was read from bytes, which others follow
@@ -73,12 +73,12 @@ read_bit w n x a c i xs copied more size is from inside most h =
     let u = length-unnum w x in
     let b = length-bits (take n (copied ++ more)) in
     let t = length-take n (copied ++ more) in
-    let room : n ≤ length (copied ++ more) = omega (arith, u, b, t, ap length is) in
+    let spare : n ≤ length (copied ++ more) = omega (arith, u, b, t, ap length is) in
     let d = length-drop a xs in
     let m : length copied ≡ c = ap length from ∙ length-take-le c (drop a xs) (omega (arith, d)) in
     let cb = length-bits copied in
     sym (get_or-unnum w x i false (omega arith))
-    ∙ (ap (λ (t : List Bool). get_or t i false) (is ∙ sym (take-bits (copied ++ more) n room))
+    ∙ (ap (λ (t : List Bool). get_or t i false) (is ∙ sym (take-bits (copied ++ more) n spare))
     ∙ (get_or-take (8 * n) (bits (copied ++ more)) i false (omega arith)
     ∙ (ap (λ (t : List Bool). get_or t i false) (bits-append copied more)
     ∙ (get_or_append_left (bits copied) (bits more) false i (omega (arith, cb, m))
@@ -96,29 +96,29 @@ abbrev pub Kept : List ℕ → List ℕ → ℕ → Type 0
 Kept old bytes p = (k : ℕ) → p ≤ k → get_or (bits bytes) k false ≡ get_or (bits old) k false
 
 -- the word that begins at an index
-place_of : (w q i : ℕ) → i < w → ((w * q + i) / w ≡ q) × ((w * q + i) % w ≡ i)
-place_of w q i h = let e : w * q + i ≡ q * w + i = omega (arith, mul_comm w q) in (ap (λ n. n / w) e ∙ div-mul-add q w i h, ap (λ n. n % w) e ∙ mod-mul-add q w i h)
+position_of : (w q i : ℕ) → i < w → ((w * q + i) / w ≡ q) × ((w * q + i) % w ≡ i)
+position_of w q i h = let e : w * q + i ≡ q * w + i = omega (arith, mul_comm w q) in (ap (λ n. n / w) e ∙ div-mul-add q w i h, ap (λ n. n % w) e ∙ mod-mul-add q w i h)
 
 -- the bit at which a byte stands begins a word
-pub place_now : (w size at : ℕ) → 8 * size ≡ w → at % size ≡ 0 → 8 * at ≡ w * (at / size)
-place_now w size at wide whole = let d = div-add-mod at size in rw (← wide) (omega (arith, d))
+pub position_now : (w size at : ℕ) → 8 * size ≡ w → at % size ≡ 0 → 8 * at ≡ w * (at / size)
+position_now w size at wide whole = let d = div-add-mod at size in rw (← wide) (omega (arith, d))
 
 -- and so for the next one
-pub place_next : (size at s : ℕ) → 0 < size → s ≡ size → at % size ≡ 0 → ((at + s) % size ≡ 0) × ((at + s) / size ≡ at / size + 1)
-place_next size at s pos e whole =
+pub position_next : (size at s : ℕ) → 0 < size → s ≡ size → at % size ≡ 0 → ((at + s) % size ≡ 0) × ((at + s) / size ≡ at / size + 1)
+position_next size at s pos e whole =
     let n : at + s ≡ at + 1 * size = omega arith in
     (ap (λ (k : ℕ). k % size) n ∙ (add-mul-mod_self_right at 1 size ∙ whole), ap (λ (k : ℕ). k / size) n ∙ add-mul-div_right at 1 pos)
 
 -- a word that was read is the word of the list
 pub own_word : (w x q n p : ℕ) (old bytes : List ℕ) → p ≡ w * q → p + w ≤ n → n ≤ 8 * length old → x < 2 ^ w → ((i : ℕ) → i < w → bit x i ≡ get_or (bits bytes) (p + i) false) → Kept old bytes p → x ≡ word w (take n (bits old)) q
-own_word w x q n p old bytes at inside room fits read kept =
+own_word w x q n p old bytes at inside spare fits read kept =
     same_from_bits w x (word w (take n (bits old)) q) fits (num-part-lt w (take n (bits old)) (w * q))
     (λ i h. read i h ∙ (kept (p + i) (omega arith) ∙ sym (bit-num (part (take n (bits old)) (w * q) w) i ∙ (get_or-part (take n (bits old)) (w * q) w i false h ∙ (get_or-take n (bits old) (w * q + i) false (omega arith) ∙ ap (λ k. get_or (bits old) k false) (omega arith))))))
 
 -- the same of a rest that was masked
 pub own_rest : (w x m len q n p : ℕ) (old bytes : List ℕ) → p ≡ w * q → p + len ≡ n → len < w → n ≤ 8 * length old → m < 2 ^ w → unnum w m ≡ take len (unnum w x) ++ replicate (w - len) false
     → ((i : ℕ) → i < len → bit x i ≡ get_or (bits bytes) (p + i) false) → Kept old bytes p → m ≡ word w (take n (bits old)) q
-own_rest w x m len q n p old bytes at end short room fits masked read kept =
+own_rest w x m len q n p old bytes at end short spare fits masked read kept =
     let u = length-unnum w x in
     let t = length-take-le len (unnum w x) (omega (arith, u)) in
     let l = length-take n (bits old) in
@@ -142,10 +142,10 @@ done_word w r q p g bytes after pos at written kept same done k h = elim (cases_
       let i : ℕ = k - p in
       let i< : i < w = omega arith in
       let e : k ≡ w * q + i = omega arith in
-      let place = place_of w q i i< in
+      let position = position_of w q i i< in
       let e' : p + i ≡ k = omega arith in
       ap (λ z. get_or (bits after) z false) (sym e') ∙ (written i i< ∙ (sym (get_or-unnum w r i false i<) ∙ (ap (λ (b : List Bool). get_or b i false) same ∙ (get_or-unnum w (g q) i false i<
-      ∙ sym (ap (λ z. bit (g (z / w)) (z % w)) e ∙ (ap (λ z. bit (g z) ((w * q + i) % w)) place.0 ∙ ap (bit (g q)) place.1))))))
+      ∙ sym (ap (λ z. bit (g (z / w)) (z % w)) e ∙ (ap (λ z. bit (g z) ((w * q + i) % w)) position.0 ∙ ap (bit (g q)) position.1))))))
 ]
 
 pub kept_word : (old bytes after : List ℕ) (p w : ℕ) → Kept old bytes p → ((k : ℕ) → (k < p) ⊎ (p + w ≤ k) → get_or (bits after) k false ≡ get_or (bits bytes) k false) → Kept old after (p + w)
@@ -153,7 +153,7 @@ kept_word old bytes after p w kept same k h = same k (inr h) ∙ kept k (omega a
 
 -- all words were written
 pub done_all : (w n : ℕ) (g : ℕ → ℕ) (bytes : List ℕ) → 0 < w → n ≤ 8 * length bytes → Done w g bytes n → take n (bits bytes) ≡ joined w g n
-done_all w n g bytes pos room done =
+done_all w n g bytes pos spare done =
     let l = length-bits bytes in
     let t = length-take-le n (bits bytes) (omega (arith, l)) in
     joined_from w g n (take n (bits bytes)) pos t (λ k h. get_or-take n (bits bytes) k false h ∙ done k h)
@@ -169,10 +169,10 @@ done_rest w r m len q p n g bytes after pos at end short masked written kept sam
       let i< : i < len = omega arith in
       let i<w : i < w = omega arith in
       let e : k ≡ w * q + i = omega arith in
-      let place = place_of w q i i<w in
+      let position = position_of w q i i<w in
       let e' : p + i ≡ k = omega arith in
       ap (λ z. get_or (bits after) z false) (sym e') ∙ (written i i< ∙ (low_bit w len r m i (omega arith) masked i< ∙ (sym (get_or-unnum w r i false i<w) ∙ (ap (λ (b : List Bool). get_or b i false) same ∙ (get_or-unnum w (g q) i false i<w
-      ∙ sym (ap (λ z. bit (g (z / w)) (z % w)) e ∙ (ap (λ z. bit (g z) ((w * q + i) % w)) place.0 ∙ ap (bit (g q)) place.1)))))))
+      ∙ sym (ap (λ z. bit (g (z / w)) (z % w)) e ∙ (ap (λ z. bit (g z) ((w * q + i) % w)) position.0 ∙ ap (bit (g q)) position.1)))))))
 ]
   where
     low_bit : (w len r m i : ℕ) → len ≤ w → unnum w m ≡ take len (unnum w r) ++ replicate (w - len) false → i < len → bit m i ≡ bit r i
@@ -184,7 +184,7 @@ done_rest w r m len q p n g bytes after pos at end short masked written kept sam
 -- and nothing comes after the last item
 pub rest_canonical : (w r m len p c n : ℕ) (after : List ℕ) → len ≤ w → p + len ≡ n → p + 8 * c ≡ 8 * length after → 8 * c ≤ w → length after ≡ (n + 7) / 8 → unnum w m ≡ take len (unnum w r) ++ replicate (w - len) false
     → ((i : ℕ) → i < 8 * c → get_or (bits after) (p + i) false ≡ bit m i) → ((k : ℕ) → get_or after k 0 < 256) → IsCanonical after n
-rest_canonical w r m len p c n after most end whole room exact masked written fits =
+rest_canonical w r m len p c n after most end whole spare exact masked written fits =
     let l = length-bits after in
     record {
       fits = fits;

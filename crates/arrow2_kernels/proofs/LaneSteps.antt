@@ -90,7 +90,7 @@ pub record Written (P : List ℕ → ℕ → Type 0) (old bytes : List ℕ) (p :
 pub lanes_written2 : (t t' p q : ℕ) (old other bytes v : List ℕ) → t' ≡ t → q ≡ p + 32 → q ≤ length old → length old ≤ length other → length v ≡ 32
     → ((k i : ℕ) → k < 32 → i < 8 → bit (get_or v k 0) i ≡ answer t' (bit (get_or (chunk p 32 bytes) k 0) i ∷ bit (get_or (chunk p 32 other) k 0) i ∷ []))
     → Written (Acts2 t old other) old bytes p → Written (Acts2 t old other) old (put_chunk p bytes v) q
-lanes_written2 t t' p q old other bytes v same e inside beside lv acts w =
+lanes_written2 t t' p q old other bytes v same e inside paired lv acts w =
     let s = w.size in
     record {
       size = length-put_chunk p bytes v ∙ s;
@@ -130,7 +130,7 @@ lanes_written1 t t' p q old bytes v same e inside lv acts w =
 
 -- all bytes were written
 pub all_written2 : (t : ℕ) (old other bytes : List ℕ) → length old ≤ length other → Written (Acts2 t old other) old bytes (length old) → bits bytes ≡ each t (bits old ∷ take (8 * length old) (bits other) ∷ [])
-all_written2 t old other bytes beside w =
+all_written2 t old other bytes paired w =
     let l = length-bits bytes in
     let o = length-bits old in
     let b = length-bits other in
@@ -279,8 +279,8 @@ tail_written old more ys xs items at len e was is size all =
     let n = length-append old more in
     let k : length xs - at ≡ length more = omega (arith, ap length e, ap length was, n) in
     let front : take at xs ≡ old = ap (take at) (e ∙ was) ∙ take_at old more at (sym is) in
-    let behind : drop (length xs - at) (drop at xs) ≡ [] = drop_all (length xs - at) (drop at xs) (omega (arith, length-drop at xs)) in
-    let whole : put_mid at (length xs - at) xs ys ≡ old ++ ys = ap (λ (b : List ℕ). b ++ (ys ++ drop (length xs - at) (drop at xs))) front ∙ ap (λ (b : List ℕ). old ++ b) (ap (λ (b : List ℕ). ys ++ b) behind ∙ append-nil ys) in
+    let following : drop (length xs - at) (drop at xs) ≡ [] = drop_all (length xs - at) (drop at xs) (omega (arith, length-drop at xs)) in
+    let whole : put_mid at (length xs - at) xs ys ≡ old ++ ys = ap (λ (b : List ℕ). b ++ (ys ++ drop (length xs - at) (drop at xs))) front ∙ ap (λ (b : List ℕ). old ++ b) (ap (λ (b : List ℕ). ys ++ b) following ∙ append-nil ys) in
     whole_written items (put_mid at (length xs - at) xs ys) len all (ap length whole ∙ omega (arith, length-append old ys, n, size, ap length was)) ∙ whole
 
 pub appended : (t : ℕ) (left right : List ℕ) → length left ≡ length right → each t (bits left ∷ take (8 * length left) (bits right) ∷ []) ≡ each t (bits left ∷ bits right ∷ [])
@@ -296,14 +296,14 @@ tail_is old more xs at was is =
 pub block_written : (t : ℕ) (old left right ys xs items after : List ℕ) (at len : ℕ) → length left ≡ length right → xs ≡ items → items ≡ old ++ left → at ≡ length old → len ≡ length items → length ys ≡ length (take (length xs - at) (drop at xs))
     → bits ys ≡ each t (bits (take (length xs - at) (drop at xs)) ∷ take (8 * length (take (length xs - at) (drop at xs))) (bits right) ∷ [])
     → bits (take len (put_mid at (length xs - at) xs ys ++ drop (length (put_mid at (length xs - at) xs ys)) items)) ≡ bits old ++ each t (bits left ∷ bits right ∷ [])
-block_written t old left right ys xs items after at len alike e was is all size answers =
+block_written t old left right ys xs items after at len alike e was is all size results =
     let part = tail_is old left xs at (e ∙ was) is in
     ap bits (tail_written old left ys xs items at len e was is (size ∙ ap length part) all)
-    ∙ (bits-append old ys ∙ ap (λ (b : List Bool). bits old ++ b) (answers ∙ (ap (λ (p : List ℕ). each t (bits p ∷ take (8 * length p) (bits right) ∷ [])) part ∙ appended t left right alike)))
+    ∙ (bits-append old ys ∙ ap (λ (b : List Bool). bits old ++ b) (results ∙ (ap (λ (p : List ℕ). each t (bits p ∷ take (8 * length p) (bits right) ∷ [])) part ∙ appended t left right alike)))
 
 -- exactly the bytes that hold the outputs
-pub length-answers : (t n m : ℕ) (left right bytes : List ℕ) → n ≤ 8 * length left → m ≡ (n + 7) / 8 → bits bytes ≡ each t (bits (take m left) ∷ bits (take m right) ∷ []) → length bytes ≡ (n + 7) / 8
-length-answers t n m left right bytes h e is =
+pub length-results : (t n m : ℕ) (left right bytes : List ℕ) → n ≤ 8 * length left → m ≡ (n + 7) / 8 → bits bytes ≡ each t (bits (take m left) ∷ bits (take m right) ∷ []) → length bytes ≡ (n + 7) / 8
+length-results t n m left right bytes h e is =
     let a = length-bits bytes in
     let b = length-bits (take m left) in
     let d = length-take-le m left (omega (arith, e)) in
@@ -311,8 +311,8 @@ length-answers t n m left right bytes h e is =
     omega (arith, a, b, d, e, ap length is ∙ f)
 
 -- the first of them
-pub first_answers : (t n m : ℕ) (left right bytes : List ℕ) → n ≤ 8 * length left → n ≤ 8 * length right → m ≡ (n + 7) / 8 → bits bytes ≡ each t (bits (take m left) ∷ bits (take m right) ∷ []) → take n (bits bytes) ≡ each t (take n (bits left) ∷ take n (bits right) ∷ [])
-first_answers t n m left right bytes h g e is =
+pub first_results : (t n m : ℕ) (left right bytes : List ℕ) → n ≤ 8 * length left → n ≤ 8 * length right → m ≡ (n + 7) / 8 → bits bytes ≡ each t (bits (take m left) ∷ bits (take m right) ∷ []) → take n (bits bytes) ≡ each t (take n (bits left) ∷ take n (bits right) ∷ [])
+first_results t n m left right bytes h g e is =
     let a = length-bits (take m left) in
     let b = length-bits (take m right) in
     let d = length-take-le m left (omega (arith, e)) in

@@ -4,7 +4,7 @@ use Rattle.std.proofs.lemmas.Nat.{pow_pos}
 use Rattle.std.proofs.lemmas.List.{length-append, drop_at, drop-drop, take_all}
 use Rattle.std.proofs.Math.Nat.{mul-suc}
 use Rattle.arrow2_model.specs.Bits.{num, unnum}
-use Rattle.arrow2_model.specs.Words.{full_words, rest, WordWalk, GivesWord}
+use Rattle.arrow2_model.specs.Words.{full_words, rest, WordCursor, GivesWord}
 use Rattle.arrow2_model.specs.Kernels.{word, AreWords}
 use Rattle.arrow2_model.proofs.Bits.{length-unnum}
 use Rattle.arrow2_model.proofs.Numbers.{num-unnum, num-part-lt}
@@ -24,8 +24,8 @@ one_word w x h zero = h
 one_word w x h (suc k) = pow_pos w
 
 -- word j of a list after its first word
-word_behind : (w x : ℕ) (items left : List Bool) (j : ℕ) → items ≡ unnum w x ++ left → word w left j ≡ word w items (j + 1)
-word_behind w x items left j e =
+word_following : (w x : ℕ) (items left : List Bool) (j : ℕ) → items ≡ unnum w x ++ left → word w left j ≡ word w items (j + 1)
+word_following w x items left j e =
     let m = mul-suc w j in
     let n : j + 1 ≡ suc j = omega arith in
     let at : w * (j + 1) ≡ w * j + w = ap (λ q. w * q) n ∙ omega (arith, m) in
@@ -40,23 +40,23 @@ first_word w x items left p e =
     sym (ap (λ (t : List ℕ). get_or t 0 0) e) ∙ get_or-full_words w items 0 some
 
 -- a step of one list
-pub one_step : {S A : Type 0} (w : ℕ) (number : A → ℕ) (walk : S → WordWalk) (s : S) (r : Option A) (t : S) → 0 < w → GivesWord w number walk s r t
-    → GivesRow w (λ x. number x ∷ []) (length (walk s).items) (λ j. word w (walk s).items j ∷ []) r (length (walk t).items) (λ j. word w (walk t).items j ∷ [])
-one_step w number walk s None t p gives =
-    let short = length-rest w (walk s).items p in
-    let whole : rest w (walk s).items ≡ (walk s).items = gives.items in
-    let also : rest w (walk t).items ≡ (walk t).items = rest-whole w (walk t).items p gives.word.1 in
-    let same : (walk t).items ≡ (walk s).items = sym also ∙ (gives.rest ∙ whole) in
+pub one_step : {S A : Type 0} (w : ℕ) (number : A → ℕ) (cursor : S → WordCursor) (s : S) (r : Option A) (t : S) → 0 < w → GivesWord w number cursor s r t
+    → GivesRow w (λ x. number x ∷ []) (length (cursor s).items) (λ j. word w (cursor s).items j ∷ []) r (length (cursor t).items) (λ j. word w (cursor t).items j ∷ [])
+one_step w number cursor s None t p gives =
+    let short = length-rest w (cursor s).items p in
+    let whole : rest w (cursor s).items ≡ (cursor s).items = gives.items in
+    let also : rest w (cursor t).items ≡ (cursor t).items = rest-whole w (cursor t).items p gives.word.1 in
+    let same : (cursor t).items ≡ (cursor s).items = sym also ∙ (gives.rest ∙ whole) in
     (omega (arith, short, ap length whole), ap length same, λ j. ap (λ (i : List Bool). word w i j ∷ []) same)
-one_step w number walk s (Some x) t p gives =
-    let first : number x ≡ word w (walk s).items 0 = first_word w (number x) (walk s).items (full_words w (walk t).items) p gives.word in
-    let e : (walk s).items ≡ unnum w (number x) ++ (walk t).items = gives.items in
-    let n = length-append (unnum w (number x)) (walk t).items in
+one_step w number cursor s (Some x) t p gives =
+    let first : number x ≡ word w (cursor s).items 0 = first_word w (number x) (cursor s).items (full_words w (cursor t).items) p gives.word in
+    let e : (cursor s).items ≡ unnum w (number x) ++ (cursor t).items = gives.items in
+    let n = length-append (unnum w (number x)) (cursor t).items in
     let m = length-unnum w (number x) in (
       ap (λ n. n ∷ []) first,
-      one_word w (number x) (subst (λ (y : ℕ). y < 2 ^ w) (sym first) (num-part-lt w (walk s).items (w * 0))),
+      one_word w (number x) (subst (λ (y : ℕ). y < 2 ^ w) (sym first) (num-part-lt w (cursor s).items (w * 0))),
       omega (arith, ap length e, n, m),
-      λ j. ap (λ n. n ∷ []) (word_behind w (number x) (walk s).items (walk t).items j e),
+      λ j. ap (λ n. n ∷ []) (word_following w (number x) (cursor s).items (cursor t).items j e),
     )
 
 -- the masked word of a rest

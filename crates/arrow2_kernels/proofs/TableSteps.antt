@@ -47,43 +47,43 @@ chosen_bit w c a b n p q r i is-p is-n is-q is-r h =
     picked false false false = refl
 
 -- a table of one input
-pub unary_answer : (t : ℕ) (a low high : Bool) → high ≡ bit t 1 → low ≡ bit t 0 → cond a high low ≡ answer t (a ∷ [])
-unary_answer t true low high h l = h
-unary_answer t false low high h l = l
+pub unary_output : (t : ℕ) (a low high : Bool) → high ≡ bit t 1 → low ≡ bit t 0 → cond a high low ≡ answer t (a ∷ [])
+unary_output t true low high h l = h
+unary_output t false low high h l = l
 
 -- one input more: the other half of the table
-pub binary_answer : (t : ℕ) (a b : Bool) → cond b (answer (t / 2 ^ 2) (a ∷ [])) (answer t (a ∷ [])) ≡ answer t (a ∷ b ∷ [])
-binary_answer t true true = bit_down 2 1 t
-binary_answer t true false = refl
-binary_answer t false true = bit_down 2 0 t
-binary_answer t false false = refl
+pub binary_output : (t : ℕ) (a b : Bool) → cond b (answer (t / 2 ^ 2) (a ∷ [])) (answer t (a ∷ [])) ≡ answer t (a ∷ b ∷ [])
+binary_output t true true = bit_down 2 1 t
+binary_output t true false = refl
+binary_output t false true = bit_down 2 0 t
+binary_output t false false = refl
 
 -- one input more: the other half of the table
-pub ternary_answer : (t : ℕ) (a b c : Bool) → cond c (answer (t / 2 ^ 4) (a ∷ b ∷ [])) (answer t (a ∷ b ∷ [])) ≡ answer t (a ∷ b ∷ c ∷ [])
-ternary_answer t true true true = bit_down 4 3 t
-ternary_answer t true true false = refl
-ternary_answer t true false true = bit_down 4 1 t
-ternary_answer t true false false = refl
-ternary_answer t false true true = bit_down 4 2 t
-ternary_answer t false true false = refl
-ternary_answer t false false true = bit_down 4 0 t
-ternary_answer t false false false = refl
+pub ternary_output : (t : ℕ) (a b c : Bool) → cond c (answer (t / 2 ^ 4) (a ∷ b ∷ [])) (answer t (a ∷ b ∷ [])) ≡ answer t (a ∷ b ∷ c ∷ [])
+ternary_output t true true true = bit_down 4 3 t
+ternary_output t true true false = refl
+ternary_output t true false true = bit_down 4 1 t
+ternary_output t true false false = refl
+ternary_output t false true true = bit_down 4 2 t
+ternary_output t false true false = refl
+ternary_output t false false true = bit_down 4 0 t
+ternary_output t false false false = refl
 
 -- one input more: the other half of the table
-pub quaternary_answer : (t : ℕ) (a b c d : Bool) → cond d (answer (t / 2 ^ 8) (a ∷ b ∷ c ∷ [])) (answer t (a ∷ b ∷ c ∷ [])) ≡ answer t (a ∷ b ∷ c ∷ d ∷ [])
-quaternary_answer t true true true true = bit_down 8 7 t
-quaternary_answer t true true true false = refl
-quaternary_answer t true true false true = bit_down 8 3 t
-quaternary_answer t true true false false = refl
-quaternary_answer t true false true true = bit_down 8 5 t
-quaternary_answer t true false true false = refl
-quaternary_answer t true false false true = bit_down 8 1 t
-quaternary_answer t true false false false = refl
-quaternary_answer t false true true true = bit_down 8 6 t
-quaternary_answer t false true true false = refl
-quaternary_answer t false true false true = bit_down 8 2 t
-quaternary_answer t false true false false = refl
-quaternary_answer t false false true true = bit_down 8 4 t
-quaternary_answer t false false true false = refl
-quaternary_answer t false false false true = bit_down 8 0 t
-quaternary_answer t false false false false = refl
+pub quaternary_output : (t : ℕ) (a b c d : Bool) → cond d (answer (t / 2 ^ 8) (a ∷ b ∷ c ∷ [])) (answer t (a ∷ b ∷ c ∷ [])) ≡ answer t (a ∷ b ∷ c ∷ d ∷ [])
+quaternary_output t true true true true = bit_down 8 7 t
+quaternary_output t true true true false = refl
+quaternary_output t true true false true = bit_down 8 3 t
+quaternary_output t true true false false = refl
+quaternary_output t true false true true = bit_down 8 5 t
+quaternary_output t true false true false = refl
+quaternary_output t true false false true = bit_down 8 1 t
+quaternary_output t true false false false = refl
+quaternary_output t false true true true = bit_down 8 6 t
+quaternary_output t false true true false = refl
+quaternary_output t false true false true = bit_down 8 2 t
+quaternary_output t false true false false = refl
+quaternary_output t false false true true = bit_down 8 4 t
+quaternary_output t false false true false = refl
+quaternary_output t false false false true = bit_down 8 0 t
+quaternary_output t false false false false = refl

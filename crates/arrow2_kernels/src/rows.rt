@@ -1,13 +1,13 @@
 //! Lists of booleans zipped, read by words.
 ghost use Rattle.std.specs.Prelude.{◌≡◌, ◌+◌, ◌<◌, ◌++◌, ℕ, List, [], ◌∷◌, length as length'};
 ghost use Rattle.arrow2_model.specs.Kernels.{word, AreWords};
-ghost use Rattle.arrow2_model.specs.Words.{WordWalk};
+ghost use Rattle.arrow2_model.specs.Words.{WordCursor};
 ghost use Rattle.arrow2_model.specs.Rows.{GivesRow};
 
 use arrow2_bits::chunk_iterator::{BitChunkIterExact, BitChunks};
 use arrow2_chunk::bit_chunk::BitChunk;
 
-/// Lists of one length, read row by row: a row has the next word of each list.
+/// Lists of equal length, read row by row: a row has the next word of each list.
 pub trait WordRows<B: BitChunk>: Drop {
     /// The next word of each list.
     type Row: Copy;
@@ -21,7 +21,7 @@ pub trait WordRows<B: BitChunk>: Drop {
     // Row j of those still to come. Items past the end count as false.
     ghost row_at: { Self → ℕ → List ℕ };
 
-    // All lists have one length.
+    // All lists have equal lengths.
     ghost alike: { Self → Type 0 };
 
     /// Returns the next row, or `None` where fewer items are left than a word has.
@@ -80,9 +80,9 @@ impl<B: BitChunk, I: BitChunkIterExact<B> + Drop> WordRows<B> for OneList<I> {
 
     ghost words = { λ x. B.BitChunk.number x ∷ [] };
 
-    ghost length = { λ s. length' (I.walk s.chunks).items };
+    ghost length = { λ s. length' (I.cursor s.chunks).items };
 
-    ghost row_at = { λ s j. word B.BitChunk.WIDTH (I.walk s.chunks).items j ∷ [] };
+    ghost row_at = { λ s j. word B.BitChunk.WIDTH (I.cursor s.chunks).items j ∷ [] };
 
     ghost alike = { λ s. Unit {0} };
 
@@ -97,14 +97,14 @@ impl<B: BitChunk, I: BitChunkIterExact<B> + Drop> WordRows<B> for OneList<I> {
 
 /// The lists of two sides, zipped.
 #[derive(Drop)]
-pub struct Beside<L, R> {
+pub struct ZipRows<L, R> {
     /// The lists of the one side, which come first in a row.
     pub left: L,
     /// The lists of the other side.
     pub right: R,
 }
 
-impl<B: BitChunk, L: WordRows<B>, R: WordRows<B>> WordRows<B> for Beside<L, R> {
+impl<B: BitChunk, L: WordRows<B>, R: WordRows<B>> WordRows<B> for ZipRows<L, R> {
     type Row = (L::Row, R::Row);
 
     ghost words = { λ r. L.words r.0 ++ R.words r.1 };
@@ -130,7 +130,7 @@ impl<B: BitChunk, L: WordRows<B>, R: WordRows<B>> WordRows<B> for Beside<L, R> {
 #[derive(Drop)]
 pub struct Pair<'a> {
     /// The lists.
-    pub lists: Beside<OneList<BitChunks<'a, u64>>, OneList<BitChunks<'a, u64>>>,
+    pub lists: ZipRows<OneList<BitChunks<'a, u64>>, OneList<BitChunks<'a, u64>>>,
 }
 
 impl<'a> WordRows<u64> for Pair<'a> {

@@ -6,7 +6,7 @@ use Rattle.std.specs.Iterator.{YieldsFirst, Yields}
 use Rattle.std.specs.Iterator.Runs.{WholeRun, YieldsRun}
 use Rattle.std.proofs.lemmas.List.Sums.{sum_by-append}
 use Rattle.arrow2.specs.Offsets.{GrowingOffsets, GrownBy, last_of_growing, lengths_of, gaps_after}
-use Rattle.arrow2.specs.Collected.{MayYieldPast}
+use Rattle.arrow2.specs.Iterators.{MayYieldPast}
 
 -- ---- lengths that an iterator over a list gave
 

@@ -82,11 +82,11 @@ num-filled (true ∷ items) n = omega (arith, num-filled items n)
 num-filled (false ∷ items) n = omega (arith, num-filled items n)
 
 -- the items after the last full word are one word, filled with false: the word in which they are stored, masked
-pub last_word : (w n last spill : ℕ) (items behind : List Bool) → 0 < n → n < w → n ≡ length behind → behind ≡ items → last < 2 ^ w → unnum w last ≡ take n (unnum w spill) ++ replicate (w - n) false → take (length behind) (unnum w spill) ≡ behind → words w items ≡ last ∷ []
-last_word w n last spill items behind some short is all fits masked stands =
-    let one = one_word w behind (omega (arith, some, is)) (omega (arith, short, is)) in
-    let kept : take n (unnum w spill) ≡ behind = ap (λ k. take k (unnum w spill)) is ∙ stands in
-    let number : last ≡ num behind = sym (num-unnum w last fits) ∙ ap num (masked ∙ ap (λ t. t ++ replicate (w - n) false) kept) ∙ num-filled behind (w - n) in
+pub last_word : (w n last spill : ℕ) (items following : List Bool) → 0 < n → n < w → n ≡ length following → following ≡ items → last < 2 ^ w → unnum w last ≡ take n (unnum w spill) ++ replicate (w - n) false → take (length following) (unnum w spill) ≡ following → words w items ≡ last ∷ []
+last_word w n last spill items following some short is all fits masked stands =
+    let one = one_word w following (omega (arith, some, is)) (omega (arith, short, is)) in
+    let kept : take n (unnum w spill) ≡ following = ap (λ k. take k (unnum w spill)) is ∙ stands in
+    let number : last ≡ num following = sym (num-unnum w last fits) ∙ ap num (masked ∙ ap (λ t. t ++ replicate (w - n) false) kept) ∙ num-filled following (w - n) in
     ap (words w) (sym all) ∙ one ∙ ap (λ x. x ∷ []) (sym number)
 
 -- ---- their text

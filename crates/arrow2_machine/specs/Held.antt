@@ -1,8 +1,8 @@
 -- The contents of a slot of the machine.
 use Rattle.std.specs.Prelude.{ℕ, Bool, List, Option, slice_index_or, slice_set, codes, Result, Ok, Err}
 use Rattle.arrow2.specs.Offsets.{offsets_list}
-use Rattle.arrow2_machine.specs.declared.refusal.Refusal.{Refusal}
-use Rattle.arrow2_machine.specs.declared.refusal.Refusal.TheVariants.{Kind}
+use Rattle.arrow2_machine.specs.declared.line_error.LineError.{LineError}
+use Rattle.arrow2_machine.specs.declared.line_error.LineError.TheVariants.{Kind}
 
 -- offsets: the first one, and the lengths
 pub record Offsets : Type 0 where
@@ -21,7 +21,7 @@ pub data Held : Type 0 where
 
 infixl 10 ◌>>=◌
 -- the next result of a value, unless it is refused
-abbrev pub ◌>>=◌ : {A B : Type 0} → Result A Refusal → (A → Result B Refusal) → Result B Refusal
+abbrev pub ◌>>=◌ : {A B : Type 0} → Result A LineError → (A → Result B LineError) → Result B LineError
 (Ok x) >>= f = f x
 (Err e) >>= f = Err e
 
@@ -30,45 +30,45 @@ abbrev pub at : List Held → ℕ → Held
 at slots s = slice_index_or slots s Nothing
 
 -- the slots after slot s becomes the value of a result, and the reply `ok`
-abbrev pub with_slot : List Held → ℕ → Result Held Refusal → Result (List Held × List ℕ) Refusal
+abbrev pub with_slot : List Held → ℕ → Result Held LineError → Result (List Held × List ℕ) LineError
 with_slot slots s result = do
   held ← result
   Ok (slice_set slots s held, codes "ok")
 
 -- the same slots, and a reply about them
-abbrev pub with_reply : List Held → Result (List ℕ) Refusal → Result (List Held × List ℕ) Refusal
+abbrev pub with_reply : List Held → Result (List ℕ) LineError → Result (List Held × List ℕ) LineError
 with_reply slots text = do
   said ← text
   Ok (slots, said)
 
 -- a list of booleans that grows
-abbrev pub growing : Held → Result (List Bool) Refusal
+abbrev pub growing : Held → Result (List Bool) LineError
 growing (Growing items) = Ok items
 growing _ = Err Kind
 
 -- a frozen list of booleans
-abbrev pub frozen : Held → Result (List Bool) Refusal
+abbrev pub frozen : Held → Result (List Bool) LineError
 frozen (Frozen items) = Ok items
 frozen _ = Err Kind
 
 -- a list of booleans, frozen or not
-abbrev pub listed : Held → Result (List Bool) Refusal
+abbrev pub listed : Held → Result (List Bool) LineError
 listed (Frozen items) = Ok items
 listed (Growing items) = Ok items
 listed _ = Err Kind
 
 -- offsets that grow
-abbrev pub growing_offsets : Held → Result Offsets Refusal
+abbrev pub growing_offsets : Held → Result Offsets LineError
 growing_offsets (GrowingOffsets o) = Ok o
 growing_offsets _ = Err Kind
 
 -- frozen offsets
-abbrev pub frozen_offsets : Held → Result Offsets Refusal
+abbrev pub frozen_offsets : Held → Result Offsets LineError
 frozen_offsets (FrozenOffsets o) = Ok o
 frozen_offsets _ = Err Kind
 
 -- offsets, frozen or not
-abbrev pub any_offsets : Held → Result Offsets Refusal
+abbrev pub any_offsets : Held → Result Offsets LineError
 any_offsets (FrozenOffsets o) = Ok o
 any_offsets (GrowingOffsets o) = Ok o
 any_offsets _ = Err Kind
@@ -78,6 +78,6 @@ abbrev pub offset_list : Offsets → List ℕ
 offset_list o = offsets_list o.start o.lengths
 
 -- the items of a boolean array
-abbrev pub array : Held → Result (List (Option Bool)) Refusal
+abbrev pub array : Held → Result (List (Option Bool)) LineError
 array (Array items) = Ok items
 array _ = Err Kind

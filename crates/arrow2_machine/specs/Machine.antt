@@ -4,8 +4,8 @@ use Rattle.arrow2_script.specs.Lines.{lines_of, ended}
 use Rattle.arrow2_script.specs.Commands.{command_in}
 use Rattle.arrow2_script.specs.declared.command.Command.{Command}
 use Rattle.arrow2_script.specs.declared.command.Command.TheVariants.{Bitmap, Offset, Value, Storage, Kernel, Growth, Array}
-use Rattle.arrow2_machine.specs.declared.refusal.Refusal.{Refusal}
-use Rattle.arrow2_machine.specs.declared.refusal.Refusal.TheVariants.{Syntax}
+use Rattle.arrow2_machine.specs.declared.line_error.LineError.{LineError}
+use Rattle.arrow2_machine.specs.declared.line_error.LineError.TheVariants.{Syntax}
 use Rattle.arrow2_machine.specs.Held.{Held, Nothing}
 use Rattle.arrow2_machine.specs.Replies.{refused_text}
 use Rattle.arrow2_machine.specs.BitmapOutcomes.{bitmap_outcome}
@@ -17,7 +17,7 @@ use Rattle.arrow2_machine.specs.GrowthOutcomes.{growth_outcome}
 use Rattle.arrow2_machine.specs.ArrayOutcomes.{array_outcome}
 
 -- the slots after a command, and its reply, by the command's group
-unfoldable pub outcome : List Held → Command → Result (List Held × List ℕ) Refusal
+unfoldable pub outcome : List Held → Command → Result (List Held × List ℕ) LineError
 outcome slots (Bitmap command) = bitmap_outcome slots command
 outcome slots (Offset command) = offset_outcome slots command
 outcome slots (Value command) = value_outcome slots command
@@ -27,12 +27,12 @@ outcome slots (Growth command) = growth_outcome slots command
 outcome slots (Array command) = array_outcome slots command
 
 -- a line that is refused changes nothing
-abbrev pub slots_and_reply : List Held → Result (List Held × List ℕ) Refusal → List Held × List ℕ
+abbrev pub slots_and_reply : List Held → Result (List Held × List ℕ) LineError → List Held × List ℕ
 slots_and_reply slots (Ok after) = after
 slots_and_reply slots (Err e) = (slots, refused_text e)
 
 -- the result of a line: one that is no command is refused
-abbrev pub outcome_of : List Held → Option Command → Result (List Held × List ℕ) Refusal
+abbrev pub outcome_of : List Held → Option Command → Result (List Held × List ℕ) LineError
 outcome_of slots None = Err Syntax
 outcome_of slots (Some command) = outcome slots command
 

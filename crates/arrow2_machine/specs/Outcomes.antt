@@ -1,10 +1,10 @@
 -- The results of the program's steps, against the machine of lists.
 use Rattle.std.specs.Prelude.{◌≡◌, ◌≢◌, ◌++◌, ℕ, List, Result, Ok, Err, OnOk, IfErr, IsOkAnd}
 use Rattle.arrow2.specs.Errors as errors
-use Rattle.arrow2_machine.specs.declared.refusal.Refusal.{Refusal}
-use Rattle.arrow2_machine.specs.declared.refusal.Refusal.TheVariants.{Range, Overflow}
-use Rattle.arrow2_machine.specs.declared.refusal.CommandError.{CommandError}
-use Rattle.arrow2_machine.specs.declared.refusal.CommandError.TheVariants.{Refused, OutOfMemory}
+use Rattle.arrow2_machine.specs.declared.line_error.LineError.{LineError}
+use Rattle.arrow2_machine.specs.declared.line_error.LineError.TheVariants.{Range, Overflow}
+use Rattle.arrow2_machine.specs.declared.line_error.CommandError.{CommandError}
+use Rattle.arrow2_machine.specs.declared.line_error.CommandError.TheVariants.{Refused, OutOfMemory}
 use Rattle.arrow2_machine.specs.Held.{Held, Nothing}
 
 -- the error of a command, by the error of the call that it made
@@ -19,23 +19,23 @@ command_error (errors.Io e) = OutOfMemory
 command_error (errors.ExternalFormat t) = OutOfMemory
 
 -- the machine refuses for this reason, unless it was memory that was refused
-abbrev pub Fails : {Y : Type 0} → CommandError → Result Y Refusal → Type 0
+abbrev pub Fails : {Y : Type 0} → CommandError → Result Y LineError → Type 0
 Fails OutOfMemory answer = Unit {0}
 Fails (Refused refusal) answer = answer ≡ Err refusal
 
 -- the result, seen by view, is that of the machine, unless an allocation failed
-abbrev pub Gives : {X Y : Type 0} → (X → Y) → Result X CommandError → Result Y Refusal → Type 0
+abbrev pub Gives : {X Y : Type 0} → (X → Y) → Result X CommandError → Result Y LineError → Type 0
 Gives view (Ok x) answer = answer ≡ Ok (view x)
 Gives view (Err e) answer = Fails e answer
 
 -- the result, seen by view, is that of the machine, its refusals included
-abbrev pub Answers : {X Y : Type 0} → (X → Y) → Result X Refusal → Result Y Refusal → Type 0
+abbrev pub Answers : {X Y : Type 0} → (X → Y) → Result X LineError → Result Y LineError → Type 0
 Answers view (Ok x) answer = answer ≡ Ok (view x)
 Answers view (Err refusal) answer = answer ≡ Err refusal
 
 -- a command is carried out as the machine does it: only where an allocation failed are the slots and the reply
 -- unspecified
-pub record Carries (r : Result Unit CommandError) (old new : List Held) (before after : List ℕ) (machine : Result (List Held × List ℕ) Refusal) : Type 0 where
+pub record Carries (r : Result Unit CommandError) (old new : List Held) (before after : List ℕ) (machine : Result (List Held × List ℕ) LineError) : Type 0 where
   -- the slots are the machine's, and its reply is appended
   pub ok : OnOk r (IsOkAnd machine (λ a. (new ≡ a.0) × (after ≡ before ++ a.1)))
   -- the machine refuses for the same reason
@@ -44,7 +44,7 @@ pub record Carries (r : Result Unit CommandError) (old new : List Held) (before 
   pub err : IfErr r (λ e. e ≢ OutOfMemory → (new ≡ old) × (after ≡ before))
 
 -- the reply of the machine is appended: where an allocation failed, a part of it may be
-pub record Writes (r : Result Unit CommandError) (before after : List ℕ) (machine : Result (List ℕ) Refusal) : Type 0 where
+pub record Writes (r : Result Unit CommandError) (before after : List ℕ) (machine : Result (List ℕ) LineError) : Type 0 where
   -- it is the machine's
   pub ok : OnOk r (IsOkAnd machine (λ text. after ≡ before ++ text))
   -- the machine refuses for the same reason
@@ -53,7 +53,7 @@ pub record Writes (r : Result Unit CommandError) (before after : List ℕ) (mach
   pub err : IfErr r (λ e. e ≢ OutOfMemory → after ≡ before)
 
 -- a slot turns into the value that the machine makes of it: where an allocation failed, its old value is gone
-pub record Turns (r : Result Unit CommandError) (old new : Held) (machine : Result Held Refusal) : Type 0 where
+pub record Turns (r : Result Unit CommandError) (old new : Held) (machine : Result Held LineError) : Type 0 where
   -- it holds the machine's value
   pub gives : Gives (λ _. new) r machine
   -- a refusal changes nothing

@@ -3,11 +3,11 @@ use Rattle.std.specs.Prelude.{ℕ, ℤ, unsigned_abs, Bool, List, [], ◌∷◌,
 use Rattle.std.specs.List.{join_with_byte}
 use Rattle.std.specs.Fmt.{decimal}
 use Rattle.arrow2_script.specs.Words.{bit_byte}
-use Rattle.arrow2_machine.specs.declared.refusal.Refusal.{Refusal}
-use Rattle.arrow2_machine.specs.declared.refusal.Refusal.TheVariants.{Syntax, Kind, Range, Length, Overflow}
+use Rattle.arrow2_machine.specs.declared.line_error.LineError.{LineError}
+use Rattle.arrow2_machine.specs.declared.line_error.LineError.TheVariants.{Syntax, Kind, Range, Length, Overflow}
 
 -- the reply to a line that is refused
-abbrev pub refused_text : Refusal → List ℕ
+abbrev pub refused_text : LineError → List ℕ
 refused_text Syntax = codes "error syntax"
 refused_text Kind = codes "error kind"
 refused_text Range = codes "error range"

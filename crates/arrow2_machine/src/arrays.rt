@@ -8,7 +8,7 @@ ghost use Rattle.arrow2.specs.Kleene.{kleene_and, kleene_or};
 ghost use Rattle.arrow2_machine.specs.Outcomes.{Gives, Carries, Writes, Answers};
 
 use crate::kernels::two_bitmaps;
-use crate::refusal::{CommandError, Refusal};
+use crate::line_error::{CommandError, LineError};
 use crate::replies::{write_array_items, write_number};
 use crate::slot::{Contents, Slot};
 use arrow2::array::BooleanArray;
@@ -70,7 +70,7 @@ fn array_of(
     Ok(array)
 }
 
-/// Returns the result of Kleene's and for two boolean arrays of one length.
+/// Returns the result of Kleene's and for two boolean arrays of equal length.
 ///
 /// # Errors
 ///
@@ -83,7 +83,7 @@ fn both(slots: &[Slot; 16], left: SlotIndex, right: SlotIndex) -> Result<Boolean
     Ok(left.and_kleene(right)?)
 }
 
-/// Returns the result of Kleene's or for two boolean arrays of one length.
+/// Returns the result of Kleene's or for two boolean arrays of equal length.
 ///
 /// # Errors
 ///
@@ -100,7 +100,7 @@ fn either(
     Ok(left.or_kleene(right)?)
 }
 
-/// Returns two boolean arrays of one length.
+/// Returns two boolean arrays of equal length.
 ///
 /// # Errors
 ///
@@ -109,7 +109,7 @@ fn two_boolean_arrays(
     slots: &[Slot; 16],
     first: SlotIndex,
     second: SlotIndex,
-) -> Result<(&BooleanArray, &BooleanArray), Refusal>
+) -> Result<(&BooleanArray, &BooleanArray), LineError>
     ensures gives { Answers (λ a. (boolean_items a.0.now, boolean_items a.1.now)) result
         (two_arrays (at slots.now first) (at slots.now second)) }
     ensures same_length { IfOk result (λ a. count_of (boolean_items a.0.now) ≡ count_of (boolean_items a.1.now)) }
@@ -119,7 +119,7 @@ fn two_boolean_arrays(
     if first.len() == second.len() {
         Ok((first, second))
     } else {
-        Err(Refusal::Length)
+        Err(LineError::Length)
     }
 }
 
@@ -138,12 +138,12 @@ impl Slot {
     /// # Errors
     ///
     /// `Kind` alone.
-    fn array(&self) -> Result<&BooleanArray, Refusal>
+    fn array(&self) -> Result<&BooleanArray, LineError>
         ensures { Answers (λ array. boolean_items array.now) result (array_in self.now) }
     {
         match &self.contents {
             Contents::Array(array) => Ok(array),
-            _ => Err(Refusal::Kind),
+            _ => Err(LineError::Kind),
         }
     }
 
@@ -164,7 +164,7 @@ impl Slot {
     /// # Errors
     ///
     /// `Kind` alone.
-    fn count_nulls(&self) -> Result<usize, Refusal>
+    fn count_nulls(&self) -> Result<usize, LineError>
         ensures { result ≡ null_count self.now }
     {
         Ok(self.array()?.null_count())
@@ -175,19 +175,19 @@ impl Slot {
     /// # Errors
     ///
     /// `Kind` or `Range`. They change nothing.
-    fn slice_array(&mut self, offset: u64, length: u64) -> Result<(), Refusal>
+    fn slice_array(&mut self, offset: u64, length: u64) -> Result<(), LineError>
         ensures gives { Answers (λ _. self.new) result (after_array_slice self.old offset length) }
         ensures err { OnErr result (self.new ≡ self.old) }
     {
         match &mut self.contents {
             Contents::Array(array) => cut(array, offset, length),
-            _ => Err(Refusal::Kind),
+            _ => Err(LineError::Kind),
         }
     }
 }
 
 /// Cuts a boolean array to its `length` items from item `offset` on, where they are inside.
-fn cut(array: &mut BooleanArray, offset: u64, length: u64) -> Result<(), Refusal>
+fn cut(array: &mut BooleanArray, offset: u64, length: u64) -> Result<(), LineError>
     ensures gives { Answers (λ _. boolean_items array.new) result
         (part_inside (boolean_items array.old) offset length) }
     ensures err { OnErr result (array.new ≡ array.old) }
@@ -197,6 +197,6 @@ fn cut(array: &mut BooleanArray, offset: u64, length: u64) -> Result<(), Refusal
         array.slice(offset as usize, length as usize);
         Ok(())
     } else {
-        Err(Refusal::Range)
+        Err(LineError::Range)
     }
 }

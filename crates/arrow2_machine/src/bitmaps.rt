@@ -6,8 +6,8 @@ ghost use Rattle.arrow2_machine.specs.Replies.{item_reply};
 ghost use Rattle.arrow2_machine.specs.BitmapOutcomes.{after_push, after_pop, item_at, after_freeze, after_thaw, after_slice, false_count, item_text, part_inside, bitmap_outcome};
 ghost use Rattle.arrow2_machine.specs.Outcomes.{Gives, Carries, Writes, Answers, Turns};
 
-use crate::refusal::CommandError::Refused;
-use crate::refusal::{CommandError, Refusal};
+use crate::line_error::CommandError::Refused;
+use crate::line_error::{CommandError, LineError};
 use crate::replies::{write_item, write_items, write_number};
 use crate::slot::{Contents, Slot};
 use arrow2::bitmap::{Bitmap, MutableBitmap};
@@ -75,7 +75,7 @@ impl Slot {
                 bitmap.push(bit)?;
                 Ok(())
             }
-            _ => Err(Refused(Refusal::Kind)),
+            _ => Err(Refused(LineError::Kind)),
         }
     }
 
@@ -85,13 +85,13 @@ impl Slot {
     ///
     /// `Kind` alone, which changes nothing.
     #[tactic(auto, using(crate::proofs::SlotLemmas::popping))]
-    fn pop(&mut self) -> Result<Option<bool>, Refusal>
+    fn pop(&mut self) -> Result<Option<bool>, LineError>
         ensures gives { Answers (λ item. (self.new, item_reply item)) result (after_pop self.old) }
         ensures err { OnErr result (self.new ≡ self.old) }
     {
         match &mut self.contents {
             Contents::Growing(bitmap) => Ok(bitmap.pop()),
-            _ => Err(Refusal::Kind),
+            _ => Err(LineError::Kind),
         }
     }
 
@@ -100,13 +100,13 @@ impl Slot {
     /// # Errors
     ///
     /// `Kind` alone.
-    fn get(&self, index: u64) -> Result<Option<bool>, Refusal>
+    fn get(&self, index: u64) -> Result<Option<bool>, LineError>
         ensures { Answers item_reply result (item_at self.now index) }
     {
         match &self.contents {
             Contents::Frozen(bitmap) => Ok(bitmap.get(index as usize)),
             Contents::Growing(bitmap) => Ok(item_at(bitmap, index)),
-            _ => Err(Refusal::Kind),
+            _ => Err(LineError::Kind),
         }
     }
 
@@ -125,7 +125,7 @@ impl Slot {
             }
             other => {
                 self.contents = other;
-                Err(Refused(Refusal::Kind))
+                Err(Refused(LineError::Kind))
             }
         }
     }
@@ -145,7 +145,7 @@ impl Slot {
             }
             other => {
                 self.contents = other;
-                Err(Refused(Refusal::Kind))
+                Err(Refused(LineError::Kind))
             }
         }
     }
@@ -155,13 +155,13 @@ impl Slot {
     /// # Errors
     ///
     /// `Kind` or `Range`. They change nothing.
-    fn slice(&mut self, offset: u64, length: u64) -> Result<(), Refusal>
+    fn slice(&mut self, offset: u64, length: u64) -> Result<(), LineError>
         ensures gives { Answers (λ _. self.new) result (after_slice self.old offset length) }
         ensures err { OnErr result (self.new ≡ self.old) }
     {
         match &mut self.contents {
             Contents::Frozen(bitmap) => cut(bitmap, offset, length),
-            _ => Err(Refusal::Kind),
+            _ => Err(LineError::Kind),
         }
     }
 
@@ -170,13 +170,13 @@ impl Slot {
     /// # Errors
     ///
     /// `Kind` alone.
-    fn count(&self) -> Result<usize, Refusal>
+    fn count(&self) -> Result<usize, LineError>
         ensures { result ≡ false_count self.now }
     {
         match &self.contents {
             Contents::Frozen(bitmap) => Ok(bitmap.unset_bits()),
             Contents::Growing(bitmap) => Ok(bitmap.unset_bits()),
-            _ => Err(Refusal::Kind),
+            _ => Err(LineError::Kind),
         }
     }
 
@@ -191,7 +191,7 @@ impl Slot {
         match &self.contents {
             Contents::Frozen(bitmap) => write_items(bitmap.iter(), out)?,
             Contents::Growing(bitmap) => write_items(bitmap.iter(), out)?,
-            _ => return Err(Refused(Refusal::Kind)),
+            _ => return Err(Refused(LineError::Kind)),
         }
         Ok(())
     }
@@ -210,7 +210,7 @@ fn bitmap_of(alloc: Global, text: &BitText<'_>) -> Result<MutableBitmap, Command
 }
 
 /// Cuts a bitmap to its `length` items from item `offset` on, where they are inside.
-fn cut(bitmap: &mut Bitmap, offset: u64, length: u64) -> Result<(), Refusal>
+fn cut(bitmap: &mut Bitmap, offset: u64, length: u64) -> Result<(), LineError>
     ensures gives { Answers (λ _. items_of bitmap.new) result
         (part_inside (items_of bitmap.old) offset length) }
     ensures err { OnErr result (bitmap.new ≡ bitmap.old) }
@@ -220,7 +220,7 @@ fn cut(bitmap: &mut Bitmap, offset: u64, length: u64) -> Result<(), Refusal>
         bitmap.slice(offset as usize, length as usize);
         Ok(())
     } else {
-        Err(Refusal::Range)
+        Err(LineError::Range)
     }
 }
 

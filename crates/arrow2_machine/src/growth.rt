@@ -4,8 +4,8 @@ ghost use Rattle.arrow2.specs.Storage.{items_of};
 ghost use Rattle.arrow2_machine.specs.GrowthOutcomes.{after_fill, after_append, growth_outcome};
 ghost use Rattle.arrow2_machine.specs.Outcomes.{Gives, Carries};
 
-use crate::refusal::CommandError::Refused;
-use crate::refusal::{CommandError, Refusal};
+use crate::line_error::CommandError::Refused;
+use crate::line_error::{CommandError, LineError};
 use crate::slot::{Contents, Slot};
 use arrow2::bitmap::Bitmap;
 use arrow2_script::growth_command::GrowthCommand;
@@ -46,7 +46,7 @@ impl Slot {
                 bitmap.extend_constant(additional as usize, bit)?;
                 Ok(())
             }
-            _ => Err(Refused(Refusal::Kind)),
+            _ => Err(Refused(LineError::Kind)),
         }
     }
 
@@ -64,7 +64,7 @@ impl Slot {
                 bitmap.extend_from_bitmap(other)?;
                 Ok(())
             }
-            _ => Err(Refused(Refusal::Kind)),
+            _ => Err(Refused(LineError::Kind)),
         }
     }
 }

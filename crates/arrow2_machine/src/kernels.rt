@@ -6,7 +6,7 @@ ghost use Rattle.arrow2_machine.specs.Held.{at, frozen as frozen_in};
 ghost use Rattle.arrow2_machine.specs.KernelOutcomes.{two_lists, three_lists, four_lists, kernel_items, after_assign_unary, after_assign_binary, kernel_outcome};
 ghost use Rattle.arrow2_machine.specs.Outcomes.{Gives, Carries, Answers};
 
-use crate::refusal::{CommandError, Refusal};
+use crate::line_error::{CommandError, LineError};
 use crate::slot::{Contents, Slot};
 use arrow2::bitmap::{
     Bitmap, MutableBitmap, and, binary_assign_table, binary_table, or, quaternary_table,
@@ -37,7 +37,7 @@ pub(crate) fn run(
         }
         KernelCommand::AssignBinary(slot, table, width, other) => {
             let other = slots[other.get()].frozen()?.clone()?;
-            slots[slot.get()].assign_beside(table, width, &other)?;
+            slots[slot.get()].assign_paired(table, width, &other)?;
         }
     }
     reply.extend_from_slice(b"ok")?;
@@ -86,7 +86,7 @@ fn made(slots: &[Slot; 16], kernel: Kernel) -> Result<Bitmap, CommandError>
     }
 }
 
-/// Returns two frozen bitmaps of one length.
+/// Returns two frozen bitmaps of equal length.
 ///
 /// # Errors
 ///
@@ -95,7 +95,7 @@ pub(crate) fn two_bitmaps(
     slots: &[Slot; 16],
     first: SlotIndex,
     second: SlotIndex,
-) -> Result<(&Bitmap, &Bitmap), Refusal>
+) -> Result<(&Bitmap, &Bitmap), LineError>
     ensures gives { Answers (λ b. (items_of b.0.now, items_of b.1.now)) result
         (two_lists (at slots.now first) (at slots.now second)) }
     ensures same_length { IfOk result (λ b. length (items_of b.0.now) ≡ length (items_of b.1.now)) }
@@ -105,11 +105,11 @@ pub(crate) fn two_bitmaps(
     if first.len() == second.len() {
         Ok((first, second))
     } else {
-        Err(Refusal::Length)
+        Err(LineError::Length)
     }
 }
 
-/// Returns three frozen bitmaps of one length.
+/// Returns three frozen bitmaps of equal length.
 ///
 /// # Errors
 ///
@@ -119,7 +119,7 @@ fn three_bitmaps(
     first: SlotIndex,
     second: SlotIndex,
     third: SlotIndex,
-) -> Result<(&Bitmap, &Bitmap, &Bitmap), Refusal>
+) -> Result<(&Bitmap, &Bitmap, &Bitmap), LineError>
     ensures gives { Answers (λ b. (items_of b.0.now, items_of b.1.now, items_of b.2.now)) result
         (three_lists (at slots.now first) (at slots.now second) (at slots.now third)) }
     ensures same_length2 { IfOk result (λ b. length (items_of b.0.now)
@@ -133,11 +133,11 @@ fn three_bitmaps(
     if first.len() == second.len() && first.len() == third.len() {
         Ok((first, second, third))
     } else {
-        Err(Refusal::Length)
+        Err(LineError::Length)
     }
 }
 
-/// Returns four frozen bitmaps of one length.
+/// Returns four frozen bitmaps of equal length.
 ///
 /// # Errors
 ///
@@ -148,7 +148,7 @@ fn four_bitmaps(
     second: SlotIndex,
     third: SlotIndex,
     fourth: SlotIndex,
-) -> Result<(&Bitmap, &Bitmap, &Bitmap, &Bitmap), Refusal>
+) -> Result<(&Bitmap, &Bitmap, &Bitmap, &Bitmap), LineError>
     ensures gives { Answers (λ b. (
       items_of b.0.now,
       items_of b.1.now,
@@ -170,7 +170,7 @@ fn four_bitmaps(
     if first.len() == second.len() && first.len() == third.len() && first.len() == fourth.len() {
         Ok((first, second, third, fourth))
     } else {
-        Err(Refusal::Length)
+        Err(LineError::Length)
     }
 }
 
@@ -180,12 +180,12 @@ impl Slot {
     /// # Errors
     ///
     /// `Kind` alone.
-    pub(crate) fn frozen(&self) -> Result<&Bitmap, Refusal>
+    pub(crate) fn frozen(&self) -> Result<&Bitmap, LineError>
         ensures { Answers (λ bitmap. items_of bitmap.now) result (frozen_in self.now) }
     {
         match &self.contents {
             Contents::Frozen(bitmap) => Ok(bitmap),
-            _ => Err(Refusal::Kind),
+            _ => Err(LineError::Kind),
         }
     }
 
@@ -195,7 +195,7 @@ impl Slot {
     /// # Errors
     ///
     /// `Kind` alone, which changes nothing.
-    fn assign(&mut self, table: Below<4>, width: Width) -> Result<(), Refusal>
+    fn assign(&mut self, table: Below<4>, width: Width) -> Result<(), LineError>
         ensures gives { Answers (λ _. self.new) result (after_assign_unary self.old table) }
         ensures err { OnErr result (self.new ≡ self.old) }
     {
@@ -204,7 +204,7 @@ impl Slot {
                 assign_table(bitmap, table, width);
                 Ok(())
             }
-            _ => Err(Refusal::Kind),
+            _ => Err(LineError::Kind),
         }
     }
 
@@ -214,12 +214,12 @@ impl Slot {
     /// # Errors
     ///
     /// `Kind`, or else `Length`. They change nothing.
-    fn assign_beside(
+    fn assign_paired(
         &mut self,
         table: Below<16>,
         width: Width,
         other: &Bitmap,
-    ) -> Result<(), Refusal>
+    ) -> Result<(), LineError>
         ensures gives { Answers (λ _. self.new) result
             (after_assign_binary self.old table (items_of other.now)) }
         ensures err { OnErr result (self.new ≡ self.old) }
@@ -227,13 +227,13 @@ impl Slot {
         match &mut self.contents {
             Contents::Growing(bitmap) => {
                 if bitmap.len() == other.len() {
-                    assign_table_beside(bitmap, table, width, other);
+                    assign_table_paired(bitmap, table, width, other);
                     Ok(())
                 } else {
-                    Err(Refusal::Length)
+                    Err(LineError::Length)
                 }
             }
-            _ => Err(Refusal::Kind),
+            _ => Err(LineError::Kind),
         }
     }
 }
@@ -251,9 +251,9 @@ fn assign_table(bitmap: &mut MutableBitmap, table: Below<4>, width: Width)
     }
 }
 
-/// Replaces each item by the output of a table for it and the other item at its index. Requires that both have one
-/// length.
-fn assign_table_beside(bitmap: &mut MutableBitmap, table: Below<16>, width: Width, other: &Bitmap)
+/// Replaces each item by the output of a table for it and the other item at its index. Requires that both have equal
+/// lengths.
+fn assign_table_paired(bitmap: &mut MutableBitmap, table: Below<16>, width: Width, other: &Bitmap)
     requires same_length { length bitmap.old.items ≡ length (items_of other.now) }
     ensures { bitmap.new.items ≡ each table (bitmap.old.items ∷ items_of other.now ∷ []) }
 {

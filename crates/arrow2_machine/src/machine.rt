@@ -5,8 +5,8 @@ ghost use Rattle.arrow2_machine.specs.Held.{Nothing};
 ghost use Rattle.arrow2_machine.specs.Machine.{outcome, step, text};
 ghost use Rattle.arrow2_machine.specs.Outcomes.{Carries};
 
-use crate::refusal::CommandError::Refused;
-use crate::refusal::{CommandError, Refusal};
+use crate::line_error::CommandError::Refused;
+use crate::line_error::{CommandError, LineError};
 use crate::slot::Slot;
 use crate::{arrays, bitmaps, growth, kernels, offsets, storage, values};
 use arrow2_script::command::{Command, parse};
@@ -68,7 +68,7 @@ impl Machine {
     ///
     /// Where an allocation fails. The slots may have changed then.
     #[tactic(auto, unfolding(crate::specs::Machine::step))]
-    pub fn answer(
+    pub fn apply_unary_table(
         &mut self,
         alloc: Global,
         line: &[u8],
@@ -80,7 +80,7 @@ impl Machine {
     {
         let outcome = match parse(line) {
             Some(command) => self.run(alloc, command, reply),
-            None => Err(Refused(Refusal::Syntax)),
+            None => Err(Refused(LineError::Syntax)),
         };
         match outcome {
             Ok(()) => {}
@@ -106,7 +106,7 @@ pub fn replies(alloc: Global, script: &[u8]) -> Result<Vec<u8>, AllocError>
     let mut rest = script;
     'lines: while !rest.is_empty() {
         let (line, others) = next_line(rest);
-        machine.answer(alloc, line, &mut reply)?;
+        machine.apply_unary_table(alloc, line, &mut reply)?;
         rest = others;
     }
     Ok(reply)

@@ -7,8 +7,8 @@ ghost use Rattle.arrow2_machine.specs.Replies.{offset_reply};
 ghost use Rattle.arrow2_machine.specs.OffsetOutcomes.{after_new_offsets, after_lengths, after_offset_pop, offset_text, after_offsets_freeze, offsets_inside, after_offsets_slice, zip_text, offset_outcome};
 ghost use Rattle.arrow2_machine.specs.Outcomes.{Gives, Carries, Writes, Answers, Turns};
 
-use crate::refusal::CommandError::Refused;
-use crate::refusal::{CommandError, Refusal};
+use crate::line_error::CommandError::Refused;
+use crate::line_error::{CommandError, LineError};
 use crate::replies::{write_offset, write_offsets, write_slots};
 use crate::slot::{Contents, Slot};
 use arrow2::error;
@@ -60,7 +60,7 @@ impl Slot {
         ensures { Gives (λ slot. slot) result (after_new_offsets first) }
     {
         let Ok(first) = i32::try_from(first) else {
-            return Err(Refused(Refusal::Range));
+            return Err(Refused(LineError::Range));
         };
         Ok(Slot {
             contents: Contents::GrowingOffsets(offsets_of(alloc, first)?),
@@ -81,7 +81,7 @@ impl Slot {
                 offsets.try_push_usize(length as usize)?;
                 Ok(())
             }
-            _ => Err(Refused(Refusal::Kind)),
+            _ => Err(Refused(LineError::Kind)),
         }
     }
 
@@ -99,7 +99,7 @@ impl Slot {
                 extend(offsets, lengths)?;
                 Ok(())
             }
-            _ => Err(Refused(Refusal::Kind)),
+            _ => Err(Refused(LineError::Kind)),
         }
     }
 
@@ -108,14 +108,14 @@ impl Slot {
     /// # Errors
     ///
     /// `Kind` alone, which changes nothing.
-    fn pop_offset(&mut self) -> Result<Option<i32>, Refusal>
+    fn pop_offset(&mut self) -> Result<Option<i32>, LineError>
         ensures gives { Answers (λ offset.
             (self.new, offset_reply offset)) result (after_offset_pop self.old) }
         ensures err { OnErr result (self.new ≡ self.old) }
     {
         match &mut self.contents {
             Contents::GrowingOffsets(offsets) => Ok(offsets.pop()),
-            _ => Err(Refusal::Kind),
+            _ => Err(LineError::Kind),
         }
     }
 
@@ -130,7 +130,7 @@ impl Slot {
         match &self.contents {
             Contents::FrozenOffsets(offsets) => write_offsets(offsets.as_slice(), out)?,
             Contents::GrowingOffsets(offsets) => write_offsets(offsets.as_slice(), out)?,
-            _ => return Err(Refused(Refusal::Kind)),
+            _ => return Err(Refused(LineError::Kind)),
         }
         Ok(())
     }
@@ -150,7 +150,7 @@ impl Slot {
             }
             other => {
                 self.contents = other;
-                Err(Refused(Refusal::Kind))
+                Err(Refused(LineError::Kind))
             }
         }
     }
@@ -160,13 +160,13 @@ impl Slot {
     /// # Errors
     ///
     /// `Kind`, or `Range` where `count` is 0 or they are not inside. They change nothing.
-    fn slice_offsets(&mut self, first: u64, count: u64) -> Result<(), Refusal>
+    fn slice_offsets(&mut self, first: u64, count: u64) -> Result<(), LineError>
         ensures gives { Answers (λ _. self.new) result (after_offsets_slice self.old first count) }
         ensures err { OnErr result (self.new ≡ self.old) }
     {
         match &mut self.contents {
             Contents::FrozenOffsets(offsets) => cut(offsets, first, count),
-            _ => Err(Refusal::Kind),
+            _ => Err(LineError::Kind),
         }
     }
 
@@ -181,12 +181,12 @@ impl Slot {
         match (&self.contents, &validity.contents) {
             (Contents::FrozenOffsets(offsets), Contents::Frozen(validity)) => {
                 if offsets.len_proxy() != validity.len() {
-                    return Err(Refused(Refusal::Length));
+                    return Err(Refused(LineError::Length));
                 }
                 write_slots(offsets.lengths(), validity.iter(), out)?;
                 Ok(())
             }
-            _ => Err(Refused(Refusal::Kind)),
+            _ => Err(Refused(LineError::Kind)),
         }
     }
 }
@@ -213,7 +213,7 @@ fn extend(offsets: &mut Offsets<i32>, lengths: NumberText<'_>) -> error::Result<
 }
 
 /// Cuts offsets to `count` of them from offset `first` on, where that is one or more and they are inside.
-fn cut(offsets: &mut OffsetsBuffer<i32>, first: u64, count: u64) -> Result<(), Refusal>
+fn cut(offsets: &mut OffsetsBuffer<i32>, first: u64, count: u64) -> Result<(), LineError>
     ensures gives { Answers (λ _. offsets_in (buffer_items offsets.new)) result
         (offsets_inside (offsets_in (buffer_items offsets.old)) first count) }
     ensures err { OnErr result (offsets.new ≡ offsets.old) }
@@ -223,6 +223,6 @@ fn cut(offsets: &mut OffsetsBuffer<i32>, first: u64, count: u64) -> Result<(), R
         offsets.slice(first as usize, count as usize);
         Ok(())
     } else {
-        Err(Refusal::Range)
+        Err(LineError::Range)
     }
 }

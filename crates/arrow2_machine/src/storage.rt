@@ -3,8 +3,8 @@ ghost use Rattle.std.specs.Prelude.{◌≡◌, OnErr, IfOk};
 ghost use Rattle.arrow2_machine.specs.StorageOutcomes.{after_raw, after_set, word_text, run_text, storage_outcome};
 ghost use Rattle.arrow2_machine.specs.Outcomes.{Gives, Carries, Writes, Answers};
 
-use crate::refusal::CommandError::Refused;
-use crate::refusal::{CommandError, Refusal};
+use crate::line_error::CommandError::Refused;
+use crate::line_error::{CommandError, LineError};
 use crate::replies::{write_runs, write_words};
 use crate::slot::{Contents, Slot};
 use arrow2::bitmap::Bitmap;
@@ -51,7 +51,7 @@ impl Slot {
         ensures { Gives (λ slot. slot) result (after_raw bytes.entry offset length) }
     {
         let Some(end) = offset.checked_add(length) else {
-            return Err(Refused(Refusal::Range));
+            return Err(Refused(LineError::Range));
         };
         let mut bitmap = Bitmap::try_new(gather(alloc, bytes)?, end as usize)?;
         bitmap.slice(offset as usize, length as usize);
@@ -65,7 +65,7 @@ impl Slot {
     /// # Errors
     ///
     /// `Kind` or `Range`. They change nothing.
-    fn set(&mut self, index: u64, bit: bool) -> Result<(), Refusal>
+    fn set(&mut self, index: u64, bit: bool) -> Result<(), LineError>
         ensures gives { Answers (λ _. self.new) result (after_set self.old index bit) }
         ensures err { OnErr result (self.new ≡ self.old) }
     {
@@ -75,10 +75,10 @@ impl Slot {
                     bitmap.set(index as usize, bit);
                     Ok(())
                 } else {
-                    Err(Refusal::Range)
+                    Err(LineError::Range)
                 }
             }
-            _ => Err(Refusal::Kind),
+            _ => Err(LineError::Kind),
         }
     }
 
@@ -91,7 +91,7 @@ impl Slot {
         ensures { Writes result out.old.items out.new.items (word_text self.now width) }
     {
         let Contents::Frozen(bitmap) = &self.contents else {
-            return Err(Refused(Refusal::Kind));
+            return Err(Refused(LineError::Kind));
         };
         match width {
             Width::Bits8 => write_words(bitmap.chunks::<u8>(), |word| word as usize, out)?,

@@ -3,8 +3,8 @@ ghost use Rattle.std.specs.Prelude.{◌≡◌};
 ghost use Rattle.arrow2_machine.specs.ValueOutcomes.{after_copy, are_equal, value_outcome};
 ghost use Rattle.arrow2_machine.specs.Outcomes.{Gives, Carries};
 
-use crate::refusal::CommandError::Refused;
-use crate::refusal::{CommandError, Refusal};
+use crate::line_error::CommandError::Refused;
+use crate::line_error::{CommandError, LineError};
 use crate::replies::write_item;
 use crate::slot::{Contents, Slot};
 use arrow2_script::value_command::ValueCommand;
@@ -44,7 +44,7 @@ impl Slot {
             Contents::Frozen(bitmap) => Contents::Frozen(bitmap.clone()?),
             Contents::FrozenOffsets(offsets) => Contents::FrozenOffsets(offsets.clone()?),
             Contents::Array(array) => Contents::Array(array.clone()?),
-            _ => return Err(Refused(Refusal::Kind)),
+            _ => return Err(Refused(LineError::Kind)),
         };
         Ok(Slot { contents })
     }
@@ -54,7 +54,7 @@ impl Slot {
     /// # Errors
     ///
     /// `Kind` alone, where they hold values of different types, boolean arrays or nothing.
-    fn compare(&self, other: &Slot) -> Result<bool, Refusal>
+    fn compare(&self, other: &Slot) -> Result<bool, LineError>
         ensures { result ≡ are_equal self.now other.now }
     {
         match (&self.contents, &other.contents) {
@@ -63,7 +63,7 @@ impl Slot {
             // By the method, since its contract speaks of the starts and the lengths.
             (Contents::FrozenOffsets(a), Contents::FrozenOffsets(b)) => Ok(a.eq(b)),
             (Contents::GrowingOffsets(a), Contents::GrowingOffsets(b)) => Ok(a == b),
-            _ => Err(Refusal::Kind),
+            _ => Err(LineError::Kind),
         }
     }
 }

@@ -63,7 +63,7 @@ impl Write for Narrow {
 }
 
 /// The output of a replay, and its result.
-fn told<R: Read + Drop, W: Write>(
+fn stated<R: Read + Drop, W: Write>(
     alloc: Global,
     reader: R,
     writer: W,
@@ -96,7 +96,7 @@ fn scripts_end_with_or_without_a_line_end(rt: HostRuntime) -> Result<(), Fail> {
         ),
     ];
     for (script, replies) in rows {
-        let (out, result) = told(rt.alloc(), script, Vec::new(rt.alloc()));
+        let (out, result) = stated(rt.alloc(), script, Vec::new(rt.alloc()));
         assert_eq!(&rt; result, Ok(()));
         assert_eq!(&rt; out.as_slice(), replies);
     }
@@ -106,7 +106,7 @@ fn scripts_end_with_or_without_a_line_end(rt: HostRuntime) -> Result<(), Fail> {
 #[test]
 fn long_line(rt: HostRuntime) -> Result<(), Fail> {
     let script = repeated(rt.alloc(), b'x', 1_000_000)?;
-    let (out, result) = told(rt.alloc(), script.as_slice(), Vec::new(rt.alloc()));
+    let (out, result) = stated(rt.alloc(), script.as_slice(), Vec::new(rt.alloc()));
     assert_eq!(&rt; result, Ok(()));
     assert_eq!(&rt; out.as_slice(), b"error syntax\n".as_slice());
     Ok(())
@@ -118,15 +118,15 @@ fn readers(rt: HostRuntime) -> Result<(), Fail> {
         (1, 0, Ok(()), FIRST_REPLIES),
         (20, 2, Err(ReplayFault::Read), b""),
     ];
-    for (at_most, fails_at, answer, written) in rows {
+    for (at_most, fails_at, outcome, written) in rows {
         let reader = Trickle {
             rest: FIRST,
             at_most,
             fails_at,
             calls: 0,
         };
-        let (out, result) = told(rt.alloc(), reader, Vec::new(rt.alloc()));
-        assert_eq!(&rt; result, answer);
+        let (out, result) = stated(rt.alloc(), reader, Vec::new(rt.alloc()));
+        assert_eq!(&rt; result, outcome);
         assert_eq!(&rt; out.as_slice(), written);
     }
     Ok(())
@@ -141,7 +141,7 @@ fn writers(rt: HostRuntime) -> Result<(), Fail> {
         (0, 0, false, failed, b""),
         (1000, 0, true, failed, FIRST_REPLIES),
     ];
-    for (at_most, fails_at, flush_fails, answer, written) in rows {
+    for (at_most, fails_at, flush_fails, outcome, written) in rows {
         let writer = Narrow {
             taken: Vec::new(rt.alloc()),
             at_most,
@@ -149,8 +149,8 @@ fn writers(rt: HostRuntime) -> Result<(), Fail> {
             calls: 0,
             flush_fails,
         };
-        let (writer, result) = told(rt.alloc(), FIRST, writer);
-        assert_eq!(&rt; result, answer);
+        let (writer, result) = stated(rt.alloc(), FIRST, writer);
+        assert_eq!(&rt; result, outcome);
         assert_eq!(&rt; writer.taken.as_slice(), written);
     }
     Ok(())

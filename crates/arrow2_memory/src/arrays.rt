@@ -26,7 +26,7 @@ fn frozen(alloc: Global) -> Result<BooleanArray> {
 }
 
 /// Returns the number of items of an array that has spare capacity.
-fn roomy(alloc: Global) -> [Row<usize>; 1] {
+fn reserved(alloc: Global) -> [Row<usize>; 1] {
     let array = MutableBooleanArray::with_capacity(alloc, 20);
     [(
         "MutableBooleanArray::with_capacity",
@@ -85,7 +85,7 @@ fn grown<R: Print + Eprint>(rt: &R, alloc: Global, growth: Growth, other: &Boole
 /// Makes each of these calls.
 pub(crate) fn all<R: Print + Eprint>(rt: &R, alloc: Global) -> Result<()> {
     made(rt, &given(alloc), &given(alloc));
-    made(rt, &roomy(alloc), &roomy(alloc));
+    made(rt, &reserved(alloc), &reserved(alloc));
     let other = array(alloc).or(array(alloc))?;
     for growth in [
         Growth::Push,

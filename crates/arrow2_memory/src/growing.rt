@@ -71,6 +71,8 @@ enum Growth<'a> {
     ExtendConstant,
     /// By bits.
     ExtendFromSlice,
+    /// By booleans: a whole word of them, and the rest.
+    ExtendFromBools,
     /// By the items of a bitmap.
     ExtendFromBitmap(&'a Bitmap),
     /// By capacity alone.
@@ -90,6 +92,10 @@ impl Change<MutableBitmap> for Growth<'_> {
             Growth::ExtendFromSlice => (
                 "MutableBitmap::extend_from_slice",
                 bitmap.extend_from_slice(&BYTES, 3, 70),
+            ),
+            Growth::ExtendFromBools => (
+                "MutableBitmap::extend_from_bools",
+                bitmap.extend_from_bools(&[true; 70]),
             ),
             Growth::ExtendFromBitmap(other) => (
                 "MutableBitmap::extend_from_bitmap",
@@ -115,6 +121,7 @@ fn grown<R: Print + Eprint>(rt: &R, alloc: Global) -> Result<()> {
         Growth::Push,
         Growth::ExtendConstant,
         Growth::ExtendFromSlice,
+        Growth::ExtendFromBools,
         Growth::ExtendFromBitmap(&other),
         Growth::Reserve,
         Growth::ShrinkToFit,

@@ -157,7 +157,7 @@ fn sides(alloc: Global) -> Result<(MutableBitmap, Bitmap)> {
 }
 
 /// The inputs of pushes.
-fn roomy(alloc: Global) -> Result<(MutableBitmap, Offsets<i32>)> {
+fn reserved(alloc: Global) -> Result<(MutableBitmap, Offsets<i32>)> {
     let bitmap = MutableBitmap::with_capacity(alloc, 20)?;
     Ok((bitmap, Offsets::with_capacity(alloc, 20)?))
 }
@@ -175,7 +175,7 @@ fn owned(alloc: Global) -> Result<(BooleanArray, OffsetsBuffer<i32>)> {
 /// Makes each of these calls.
 pub(crate) fn all<R: Print + Eprint>(rt: &R, alloc: Global) -> Result<()> {
     let (mut lhs, rhs) = sides(alloc).or(sides(alloc))?;
-    let (mut bitmap, mut offsets) = roomy(alloc).or(roomy(alloc))?;
+    let (mut bitmap, mut offsets) = reserved(alloc).or(reserved(alloc))?;
     let mut options = roomy_array(alloc).or(roomy_array(alloc))?;
     let (array, shared) = owned(alloc).or(owned(alloc))?;
     let _ = println!(rt; "calls that do not allocate");

@@ -174,10 +174,10 @@ get_or-canonical_bytes : (items : List Bool) (k : ℕ) → k < length items → 
 unfolding canonical_bytes
 get_or-canonical_bytes items k h =
     let at : k / 8 < div_ceil (length items) 8 = grind arith in
-    let place : 8 * (k / 8) + k % 8 ≡ k = omega arith in
+    let position : 8 * (k / 8) + k % 8 ≡ k = omega arith in
     sym (ap (λ x. bit x (k % 8)) (get_or-words 8 items (k / 8) at) ∙
     (bit-num (part items (8 * (k / 8)) 8) (k % 8) ∙
-    (get_or-part items (8 * (k / 8)) 8 (k % 8) false (omega arith) ∙ ap (λ p. get_or items p false) place)))
+    (get_or-part items (8 * (k / 8)) 8 (k % 8) false (omega arith) ∙ ap (λ p. get_or items p false) position)))
 
 pub same_from_canonical_bytes : (xs ys : List Bool) → length xs ≡ length ys → canonical_bytes xs ≡ canonical_bytes ys → xs ≡ ys
 same_from_canonical_bytes xs ys l e =

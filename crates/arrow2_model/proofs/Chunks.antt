@@ -42,16 +42,16 @@ bit_at_low x n i h = sym (ap (λ t. bit_at t i) (sym (shr_split x n)) ∙ bit_at
 
 -- items and then false
 items_then_false : (n m i : ℕ) (xs : List Bool) (b : ℕ) → length xs ≡ n → (i < n → get_or xs i false ≡ (b == 1)) → (n ≤ i → b ≡ 0) → i < n + m → get_or (xs ++ replicate m false) i false ≡ (b == 1)
-items_then_false n m i xs b l front behind h = elim (cases_lt i n) [
+items_then_false n m i xs b l front following h = elim (cases_lt i n) [
   | inl inside ↦ get_or_append_left xs (replicate m false) false i (omega (arith, l)) ∙ front inside
-  | inr past ↦ get_or-append_right xs (replicate m false) n i false l past ∙ (get_or-replicate m (i - n) false false (omega arith) ∙ sym (same_test b 0 (behind past)))
+  | inr past ↦ get_or-append_right xs (replicate m false) n i false l past ∙ (get_or-replicate m (i - n) false false (omega arith) ∙ sym (same_test b 0 (following past)))
 ]
 
 -- false and then items
 false_then_items : (n i : ℕ) (xs : List Bool) (b : ℕ) → (i < n → b ≡ 0) → (n ≤ i → get_or xs (i - n) false ≡ (b == 1)) → get_or (replicate n false ++ xs) i false ≡ (b == 1)
-false_then_items n i xs b front behind = let l = length-replicate n false in elim (cases_lt i n) [
+false_then_items n i xs b front following = let l = length-replicate n false in elim (cases_lt i n) [
   | inl inside ↦ get_or_append_left (replicate n false) xs false i (omega (arith, l)) ∙ (get_or-replicate n i false false inside ∙ sym (same_test b 0 (front inside)))
-  | inr past ↦ get_or-append_right (replicate n false) xs n i false l past ∙ behind past
+  | inr past ↦ get_or-append_right (replicate n false) xs n i false l past ∙ following past
 ]
 
 -- ---- shifts
@@ -237,4 +237,4 @@ word_first w x i e h k =
 pub length-word_part : (w x i e : ℕ) → i ≤ e → e ≤ w → length (part (unnum w x) i (e - i)) ≡ e - i
 length-word_part w x i e h k = let l = length-unnum w x in length-part (unnum w x) i (e - i) (omega (arith, l))
 
-pub ruleset word_walk = (word_none, word_first, length-word_part)
+pub ruleset word_cursor = (word_none, word_first, length-word_part)

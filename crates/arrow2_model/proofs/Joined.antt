@@ -26,30 +26,30 @@ length-pieces : (w : ℕ) (g : ℕ → ℕ) (xs : List ℕ) → length (flat_map
 length-pieces w g [] = omega arith
 length-pieces w g (x ∷ xs) = length-append (unnum w (g x)) (flat_map (λ x. unnum w (g x)) xs) ∙ omega (arith, length-unnum w (g x), length-pieces w g xs, mul-suc w (length xs))
 
-room_of_words : (w n : ℕ) (g : ℕ → ℕ) → 0 < w → n ≤ length (flat_map (λ j. unnum w (g j)) (range_with_len 0 (div_ceil n w)))
-room_of_words w n g p =
+spare_of_words : (w n : ℕ) (g : ℕ → ℕ) → 0 < w → n ≤ length (flat_map (λ j. unnum w (g j)) (range_with_len 0 (div_ceil n w)))
+spare_of_words w n g p =
     let m : ℕ = div_ceil n w in
-    let room = div_ceil_times n w p in
+    let spare = div_ceil_times n w p in
     let r = length-range_with_len 0 m in
     let l = length-pieces w g (range_with_len 0 m) in
     let e : w * length (range_with_len 0 m) ≡ w * m = ap (λ q. w * q) r in
-    omega (arith, l, e, room.0, mul_comm w m)
+    omega (arith, l, e, spare.0, mul_comm w m)
 
 pub length-joined : (w : ℕ) (g : ℕ → ℕ) (n : ℕ) → 0 < w → length (joined w g n) ≡ n
 unfolding joined
-length-joined w g n p = length-take-le n (flat_map (λ j. unnum w (g j)) (range_with_len 0 (div_ceil n w))) (room_of_words w n g p)
+length-joined w g n p = length-take-le n (flat_map (λ j. unnum w (g j)) (range_with_len 0 (div_ceil n w))) (spare_of_words w n g p)
 
 -- item k is bit k % w of word k / w
 pub get_or-joined : (w : ℕ) (g : ℕ → ℕ) (n k : ℕ) → 0 < w → k < n → get_or (joined w g n) k false ≡ bit (g (k / w)) (k % w)
 unfolding joined
 get_or-joined w g n k p h =
     let m : ℕ = div_ceil n w in
-    let room = div_ceil_times n w p in
+    let spare = div_ceil_times n w p in
     let j : ℕ = k / w in
     let i : ℕ = k % w in
     let i< : i < w = mod_below k w p in
     let at : k ≡ w * j + i = omega (arith, div-add-mod' k w, mul_comm w (k / w)) in
-    let j< : j < m = div_below k w m p (omega (arith, room.0)) in
+    let j< : j < m = div_below k w m p (omega (arith, spare.0)) in
     let r = length-range_with_len 0 m in
     let e : get_or (range_with_len 0 m) j 0 ≡ j = get_or-range_with_len 0 m j 0 j< ∙ omega arith in
     get_or-take n (flat_map (λ q. unnum w (g q)) (range_with_len 0 m)) k false h

@@ -54,8 +54,8 @@ bit-table_word w t xs i h =
     bit-num (map (λ i. answer t (bits_at xs i)) (range_with_len 0 w)) i ∙ get_or-map-range_with_len (λ i. answer t (bits_at xs i)) 0 w i i false h (omega arith)
 
 -- a word whose output is bit by bit
-pub table_answers : (w t : ℕ) (xs : List ℕ) (r : ℕ) → ((i : ℕ) → i < w → bit r i ≡ answer t (bits_at xs i)) → unnum w r ≡ unnum w (table_word w t xs)
-table_answers w t xs r h =
+pub table_outputs : (w t : ℕ) (xs : List ℕ) (r : ℕ) → ((i : ℕ) → i < w → bit r i ≡ answer t (bits_at xs i)) → unnum w r ≡ unnum w (table_word w t xs)
+table_outputs w t xs r h =
     let l = length-unnum w r in
     let m = length-unnum w (table_word w t xs) in
     ext_get_or false (unnum w r) (unnum w (table_word w t xs)) (l ∙ sym m)
@@ -87,7 +87,7 @@ pub kernel-acts : (w t : ℕ) (f : List ℕ → ℕ) (lists : List (List Bool)) 
 unfolding kernel
 kernel-acts w t f lists p acts =
     same_joined w (λ j. f (words_at w lists j)) (λ j. table_word w t (words_at w lists j)) (common_length lists) p
-    (λ j. table_answers w t (words_at w lists j) (f (words_at w lists j)) (λ i h. acts (words_at w lists j) i (are_words w lists j) h))
+    (λ j. table_outputs w t (words_at w lists j) (f (words_at w lists j)) (λ i h. acts (words_at w lists j) i (are_words w lists j) h))
     ∙ kernel_of_table w t lists p
 
 pub same_kernels : (v w t : ℕ) (f g : List ℕ → ℕ) (lists : List (List Bool)) → 0 < v → 0 < w → IsBitwise t v f → IsBitwise t w g → kernel v f lists ≡ kernel w g lists

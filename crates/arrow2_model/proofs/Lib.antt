@@ -15,7 +15,7 @@ pub mod Signed
 pub mod Tables
 pub mod Texts
 pub mod Touched
-pub mod Walks
+pub mod Cursors
 pub mod Words
 pub mod Words256
 pub mod Written

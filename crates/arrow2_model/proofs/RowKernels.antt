@@ -4,7 +4,7 @@ use Rattle.arrow2_model.specs.Bits.{unnum}
 use Rattle.arrow2_model.specs.Kernels.{joined, kernel, words_at, common_length, unary_kernel, binary_kernel, ternary_kernel, quaternary_kernel}
 use Rattle.arrow2_model.specs.Tables.{each}
 use Rattle.arrow2_model.proofs.Joined.{same_joined}
-use Rattle.arrow2_model.proofs.Kernels.{table_word, table_answers, kernel_of_table}
+use Rattle.arrow2_model.proofs.Kernels.{table_word, table_outputs, kernel_of_table}
 use Rattle.arrow2_model.specs.Rows.{AreRowsOf, IsBitwiseOnRows, IsBitwiseOnOwnRows, ComputesRows, ComputesOwnRows}
 
 -- the rows joined are the kernel of the lists
@@ -19,10 +19,10 @@ rows_table w n t lists row p are = rows_kernel w n (table_word w t) lists row p 
 
 -- a function that acts by a table is the table's word function
 pub acts_rows : {R X : Type 0} (w t : ℕ) (numbers : R → List ℕ) (number : X → ℕ) (gives : R → X → Type 0) → IsBitwiseOnRows w numbers number gives t → ComputesRows w numbers number gives (table_word w t)
-acts_rows w t numbers number gives acts row r fits post = table_answers w t (numbers row) (number r) (λ i h. acts row r i fits h post)
+acts_rows w t numbers number gives acts row r fits post = table_outputs w t (numbers row) (number r) (λ i h. acts row r i fits h post)
 
-pub acts_beside : {X R : Type 0} (w t : ℕ) (numbers : R → List ℕ) (number : X → ℕ) (gives : X → R → X → Type 0) → IsBitwiseOnOwnRows w numbers number gives t → ComputesOwnRows w numbers number gives (table_word w t)
-acts_beside w t numbers number gives acts x row r small fits post = table_answers w t (number x ∷ numbers row) (number r) (λ i h. acts x row r i small fits h post)
+pub acts_paired : {X R : Type 0} (w t : ℕ) (numbers : R → List ℕ) (number : X → ℕ) (gives : X → R → X → Type 0) → IsBitwiseOnOwnRows w numbers number gives t → ComputesOwnRows w numbers number gives (table_word w t)
+acts_paired w t numbers number gives acts x row r small fits post = table_outputs w t (number x ∷ numbers row) (number r) (λ i h. acts x row r i small fits h post)
 
 -- kernels of n lists
 pub unary_is : (w : ℕ) (f : ℕ → ℕ) (a : List Bool) → kernel w (λ xs. f (slice_index xs 0)) (a ∷ []) ≡ unary_kernel w f a

@@ -22,8 +22,8 @@ shown_yes offset len p h g = rw (le-leb offset p h, lt-ltb p (offset + len) g) r
 shown_before : (offset len p : ℕ) → p < offset → is_shown offset len p ≡ false
 shown_before offset len p h = rw (lt-leb offset p h) refl
 
-shown_behind : (offset len p : ℕ) → offset + len ≤ p → is_shown offset len p ≡ false
-shown_behind offset len p h = rw (le-leb offset p (omega arith), le-ltb p (offset + len) h) refl
+shown_following : (offset len p : ℕ) → offset + len ≤ p → is_shown offset len p ≡ false
+shown_following offset len p h = rw (le-leb offset p (omega arith), le-ltb p (offset + len) h) refl
 
 -- the same index, counted from the start of its byte
 shown_alone : (offset len j i start here : ℕ) → i < 8 → offset < 8 → start ≡ offset - 8 * j → here ≡ min (len - (8 * j - offset)) (8 - start) → is_shown start here i ≡ is_shown offset len (8 * j + i)
@@ -31,7 +31,7 @@ shown_alone offset len j i start here h o s e = elim (cases_lt i start) [
   | inl before ↦ shown_before start here i before ∙ sym (shown_before offset len (8 * j + i) (omega arith))
   | inr from ↦ elim (cases_lt i (start + here)) [
     | inl within ↦ shown_yes start here i from within ∙ sym (shown_yes offset len (8 * j + i) (omega arith) (omega arith))
-    | inr behind ↦ shown_behind start here i behind ∙ sym (shown_behind offset len (8 * j + i) (omega arith))
+    | inr following ↦ shown_following start here i following ∙ sym (shown_following offset len (8 * j + i) (omega arith))
   ]
 ]
 
@@ -91,8 +91,8 @@ shown_byte_alone bytes byte offset len j start here h is o s e =
     let at : q ≡ i = omega arith in
     let value : get_or (bits (byte ∷ [])) i false ≡ get_or (bits bytes) (8 * j + i) false =
     bit_alone byte i lt ∙ (ap (λ b. bit b i) is ∙ sym (get_or-bits bytes j i (8 * j + i) false h lt (omega arith))) in
-    let place : is_shown start here i ≡ is_shown offset len (8 * j + i) = shown_alone offset len j i start here lt o s e in
-    rw (at, y, value, place) refl))
+    let position : is_shown start here i ≡ is_shown offset len (8 * j + i) = shown_alone offset len j i start here lt o s e in
+    rw (at, y, value, position) refl))
 
 -- ---- the bytes that hold a shown bit
 
@@ -118,14 +118,14 @@ any_none test a zero fails = refl
 any_none test a (suc n) fails = rw (fails a (omega arith) (omega arith)) (any_none test (a + 1) n (λ p x y. fails p (omega arith) (omega arith)))
 
 -- the bytes that hold a shown bit, where they are the first j
-shown_places_are : (bytes : List ℕ) (offset len j : ℕ) → offset < 8 → j ≤ length bytes → j ≤ len → 8 * j < offset + len + 8 → len ≤ 8 * j - offset → shown_indices bytes offset len ≡ range_with_len 0 j
+shown_positions_are : (bytes : List ℕ) (offset len j : ℕ) → offset < 8 → j ≤ length bytes → j ≤ len → 8 * j < offset + len + 8 → len ≤ 8 * j - offset → shown_indices bytes offset len ≡ range_with_len 0 j
 unfolding shown_indices
-shown_places_are bytes offset len j o within each last all =
+shown_positions_are bytes offset len j o within each last all =
     filter_front (λ k. list_any (is_shown offset len) (range_with_len (8 * k) 8)) 0 (length bytes) j within
     (λ k x y. any_at (is_shown offset len) (8 * k) 8 (8 * k + (offset - 8 * k)) (omega arith) (omega arith) (shown_yes offset len (8 * k + (offset - 8 * k)) (omega arith) (omega arith)))
     (λ k x. any_none (is_shown offset len) (8 * k) 8 (λ p y z. elim (cases_lt p offset) [
       | inl before ↦ shown_before offset len p before
-      | inr from ↦ shown_behind offset len p (omega arith)
+      | inr from ↦ shown_following offset len p (omega arith)
     ]))
 
 -- ---- the whole text
@@ -170,19 +170,19 @@ shown_front_more bytes offset len j k h e =
 pub shown_is : (bytes : List ℕ) (offset len j : ℕ) → offset < 8 → j ≤ length bytes → j ≤ len → 8 * j < offset + len + 8 → len ≤ 8 * j - offset → shown bytes offset len ≡ shown_front bytes offset len j ++ codes "]"
 unfolding shown_front shown
 shown_is bytes offset len j o within each last all =
-    rw (shown_places_are bytes offset len j o within each last all) (sym (append_assoc (codes "[") (join_by (shown_byte bytes offset len) (codes ", ") (range_with_len 0 j)) (codes "]")))
+    rw (shown_positions_are bytes offset len j o within each last all) (sym (append_assoc (codes "[") (join_by (shown_byte bytes offset len) (codes ", ") (range_with_len 0 j)) (codes "]")))
 
 -- no bits
 pub shown_none : (bytes : List ℕ) (offset : ℕ) → shown bytes offset 0 ≡ codes "[]"
 unfolding shown shown_indices
 shown_none bytes offset =
-    let places = filter_front (λ k. list_any (is_shown offset 0) (range_with_len (8 * k) 8)) 0 (length bytes) 0 (omega arith)
+    let positions = filter_front (λ k. list_any (is_shown offset 0) (range_with_len (8 * k) 8)) 0 (length bytes) 0 (omega arith)
     (λ k x y. absurd (omega arith))
     (λ k x. any_none (is_shown offset 0) (8 * k) 8 (λ p y z. elim (cases_lt p offset) [
       | inl before ↦ shown_before offset 0 p before
-      | inr from ↦ shown_behind offset 0 p (omega arith)
+      | inr from ↦ shown_following offset 0 p (omega arith)
     ])) in
-    rw places refl
+    rw positions refl
 
 -- ---- the text of a list
 
@@ -204,7 +204,7 @@ character_same bytes n p h =
     let long : length (take n (bits bytes)) ≡ n = length-take-le n (bits bytes) (omega (arith, h, length-bits bytes)) in
     rw long (elim (cases_lt p n) [
       | inl within ↦ rw (shown_yes 0 n p (omega arith) (omega arith), lt-ltb p n within, get_or-take n (bits bytes) p false within) refl
-      | inr behind ↦ rw (shown_behind 0 n p (omega arith), le-ltb p n behind) refl
+      | inr following ↦ rw (shown_following 0 n p (omega arith), le-ltb p n following) refl
     ])
 
 byte_same : (bytes : List ℕ) (n j : ℕ) → n ≤ 8 * length bytes → shown_byte bytes 0 n j ≡ items_byte (take n (bits bytes)) j
@@ -217,7 +217,7 @@ unfolding shown
 shown-items bytes n h =
     let j : ℕ = (n + 7) / 8 in
     let long : length (take n (bits bytes)) ≡ n = length-take-le n (bits bytes) (omega (arith, h, length-bits bytes)) in
-    rw (long, shown_places_are bytes 0 n j (omega arith) (omega (arith, h)) (omega arith) (omega arith) (omega arith))
+    rw (long, shown_positions_are bytes 0 n j (omega arith) (omega (arith, h)) (omega arith) (omega arith) (omega arith))
     (ap (λ t. codes "[" ++ (t ++ codes "]")) (joined_same (shown_byte bytes 0 n) (items_byte (take n (bits bytes))) (codes ", ") (λ k. byte_same bytes n k h) (range_with_len 0 j)))
 
 pub ruleset texts = (shown_none, shown-items)

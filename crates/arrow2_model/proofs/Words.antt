@@ -98,11 +98,11 @@ items_of_words w items p = words_then_rest (length items / w) w items p refl
 
 -- a list that loses its first full word is the bits of that word and the list that is left
 pub first_word-append : (w : ℕ) (items left : List Bool) (x : ℕ) → 0 < w → full_words w items ≡ x ∷ full_words w left → rest w left ≡ rest w items → items ≡ unnum w x ++ left
-first_word-append w items left x p first behind =
+first_word-append w items left x p first following =
     sym (items_of_words w items p)
     ∙ (ap (λ ws. flat_map (unnum w) ws ++ rest w items) first
     ∙ (append_assoc (unnum w x) (flat_map (unnum w) (full_words w left)) (rest w items)
-    ∙ ap (λ t. unnum w x ++ t) (ap (λ r. flat_map (unnum w) (full_words w left) ++ r) (sym behind) ∙ items_of_words w left p)))
+    ∙ ap (λ t. unnum w x ++ t) (ap (λ r. flat_map (unnum w) (full_words w left) ++ r) (sym following) ∙ items_of_words w left p)))
 
 -- a list without a full word is its rest
 pub rest-whole : (w : ℕ) (items : List Bool) → 0 < w → full_words w items ≡ [] → rest w items ≡ items

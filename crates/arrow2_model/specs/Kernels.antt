@@ -15,7 +15,7 @@ word w items j = num (part items (w * j) w)
 abbrev pub words_at : ℕ → List (List Bool) → ℕ → List ℕ
 words_at w lists j = map (λ items. word w items j) lists
 
--- the length of the first of the lists, which is that of each where they have one length
+-- the length of the first of the lists, which is that of each where they have equal lengths
 abbrev pub common_length : List (List Bool) → ℕ
 common_length lists = length (slice_index_or lists 0 [])
 
@@ -23,7 +23,7 @@ common_length lists = length (slice_index_or lists 0 [])
 unfoldable pub joined : ℕ → (ℕ → ℕ) → ℕ → List Bool
 joined w word_of n = take n (flat_map (λ j. unnum w (word_of j)) (range_with_len 0 (div_ceil n w)))
 
--- the list that a word function gives for lists of one length: the bits of its results for word j of each list, for
+-- the list that a word function gives for lists of equal length: the bits of its results for word j of each list, for
 -- each j in turn, and of all these bits the first ones, one for each item of the lists
 unfoldable pub kernel : ℕ → (List ℕ → ℕ) → List (List Bool) → List Bool
 kernel w f lists = joined w (λ j. f (words_at w lists j)) (common_length lists)

@@ -12,7 +12,7 @@ answer t inputs = bit t (num inputs)
 abbrev pub items_at : List (List Bool) → ℕ → List Bool
 items_at lists i = map (λ items. slice_index_or items i false) lists
 
--- the outputs of a table item by item, on lists of one length
+-- the outputs of a table item by item, on lists of equal length
 unfoldable pub each : ℕ → List (List Bool) → List Bool
 each t lists = map (λ i. answer t (items_at lists i)) (range_with_len 0 (common_length lists))
 

@@ -20,7 +20,7 @@ rest w items = drop (w * (length items / w)) items
 
 -- an iterator by words: the items still to come, those after the full words included, and the word in which these are
 -- stored, whatever bits are after them there
-pub record WordWalk : Type 0 where
+pub record WordCursor : Type 0 where
   pub items : List Bool
   pub spill : ℕ
 
@@ -29,19 +29,19 @@ abbrev pub PassesItems : {A : Type 0} → ℕ → (A → ℕ) → List Bool → 
 PassesItems w number items r left = MatchOption r (rest w items ≡ items) (λ x. items ≡ unnum w (number x) ++ left)
 
 -- one step of an iterator by words: the first full word comes, and the items after the full words stay
-pub record GivesWord {S A : Type 0} (w : ℕ) (number : A → ℕ) (walk : S → WordWalk) (s : S) (r : Option A) (t : S) : Type 0 where
-  pub word : YieldsFirstBy number (λ (c : S). full_words w (walk c).items) s r t
-  pub items : PassesItems w number (walk s).items r (walk t).items
-  pub rest : rest w (walk t).items ≡ rest w (walk s).items
-  pub spill : (walk t).spill ≡ (walk s).spill
+pub record GivesWord {S A : Type 0} (w : ℕ) (number : A → ℕ) (cursor : S → WordCursor) (s : S) (r : Option A) (t : S) : Type 0 where
+  pub word : YieldsFirstBy number (λ (c : S). full_words w (cursor c).items) s r t
+  pub items : PassesItems w number (cursor s).items r (cursor t).items
+  pub rest : rest w (cursor t).items ≡ rest w (cursor s).items
+  pub spill : (cursor t).spill ≡ (cursor s).spill
 
 -- the bytes that hold the rest of len bits from bit offset on, for words of k bytes each: all bytes from the first one
 -- on where there is no full word, else those after the full words up to the one that holds the last bit
 abbrev pub spilled_bytes : ℕ → List ℕ → ℕ → ℕ → List ℕ
 spilled_bytes k bytes offset len =
-    let behind = drop (offset / 8) bytes in
+    let following = drop (offset / 8) bytes in
     let full = len / 8 / k in
-    if full == 0 then behind else part behind (full * k) ((len + offset % 8 + 7) / 8 - full * k)
+    if full == 0 then following else part following (full * k) ((len + offset % 8 + 7) / 8 - full * k)
 
 -- the word of these bytes from bit offset % 8 on, as far as there are bits
 unfoldable pub spill : ℕ → List ℕ → ℕ → ℕ → ℕ

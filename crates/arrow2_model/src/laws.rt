@@ -15,7 +15,7 @@ ghost use Rattle.arrow2_model.specs.Canonical.{canonical_bytes};
 ghost use Rattle.arrow2_model.specs.Shown.{shown, items_text};
 
 /// A part of a part is one part of the list.
-#[tactic(auto, using(crate::proofs::Walks::parts))]
+#[tactic(auto, using(crate::proofs::Cursors::parts))]
 pub fn part_of_a_part()
     ensures { (items : List Bool) (a n b m : ℕ) → b + m ≤ n →
         part (part items a n) b m ≡ part items (a + b) m }
@@ -86,7 +86,7 @@ pub fn one_list_of_a_number()
     ensures only { (items : List Bool) → unnum (length items) (num items) ≡ items }
 {}
 
-/// Lists of one length whose canonical bytes are equal are equal.
+/// Lists of equal length whose canonical bytes are equal are equal.
 #[tactic(auto, using(crate::proofs::Canonical::canonical))]
 pub fn canonical_bytes_tell_lists_apart()
     ensures { (xs ys : List Bool) → length xs ≡ length ys →

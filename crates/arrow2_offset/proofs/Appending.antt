@@ -5,7 +5,7 @@ use Rattle.std.proofs.lemmas.Int.{ints}
 use Rattle.std.proofs.lemmas.List.{length-map, map-append, append_assoc, get_or-map, take-append-le}
 use Rattle.arrow2_offset.specs.Offsets.{AreOffsets, start_of, lengths_of, last_of, offset_at}
 use Rattle.arrow2_offset.proofs.OffsetLists.{Spells, get_or-last, get_or-offsets, push_spells, sum-append}
-use Rattle.arrow2_offset.specs.Lengthened.{LengthenedBy}
+use Rattle.arrow2_offset.specs.Lengths.{LengthenedBy}
 
 pub same_naturals : (a b : ℕ) (x : ℤ) → pos a ≡ x → x ≡ pos b → a ≡ b
 same_naturals a b x e h = ap unsigned_abs (e ∙ h)

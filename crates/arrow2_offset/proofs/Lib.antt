@@ -8,5 +8,5 @@ pub mod OffsetLists
 pub mod Order
 pub mod Same
 pub mod SliceSteps
-pub mod Walk
+pub mod Cursor
 pub mod Written

@@ -14,8 +14,8 @@ length-offsets_list start ns = let l = length-running_sums start ns in omega ari
 pub append-offsets_list : (start : ℕ) (ms ns : List ℕ) → offsets_list start (ms ++ ns) ≡ offsets_list start ms ++ running_sums (last_offset start ms) ns
 append-offsets_list start ms ns = ap (λ t. start ∷ t) (running_sums-append start ms ns)
 
-pub told_apart : (a b : ℕ) (ms ns : List ℕ) → offsets_list a ms ≡ offsets_list b ns ↔ ((a ≡ b) × (ms ≡ ns))
-told_apart a b ms ns = (
+pub distinguished : (a b : ℕ) (ms ns : List ℕ) → offsets_list a ms ≡ offsets_list b ns ↔ ((a ≡ b) × (ms ≡ ns))
+distinguished a b ms ns = (
   (λ e.
       let same = ap (map pos) e in
       (ap start_of same, sym (lengths_of-list a ms) ∙ (ap lengths_of same ∙ lengths_of-list b ns))),
@@ -26,4 +26,4 @@ told_apart a b ms ns = (
 pub there_and_back : (a b c : GrowingOffsets) → SameOffsets a b → SameOffsets b c → offsets_of c ≡ offsets_of a
 there_and_back a b c d e = ap (λ s. offsets_list s c.lengths) (e.0 ∙ d.0) ∙ ap (offsets_list a.start) (e.1 ∙ d.1)
 
-pub ruleset listed = (spelled, AreOffsets-list, lengths_of-list, start_of-list, get_or-offsets_list, at_most_last, length-offsets_list, append-offsets_list, told_apart, there_and_back)
+pub ruleset listed = (spelled, AreOffsets-list, lengths_of-list, start_of-list, get_or-offsets_list, at_most_last, length-offsets_list, append-offsets_list, distinguished, there_and_back)

@@ -52,15 +52,15 @@ stepped : (a : ℕ) (y : ℤ) → pos a ≤ℤ y → y ≡ pos (a + int_gap (pos
 stepped a (pos b) h = let e : b ≡ a + (b - a) = omega (arith, ints) in ap pos e
 stepped a (negsuc b) h = omega (arith, ints)
 
-behind_spelled : (a : ℕ) (xs : List ℤ) → ((k : ℕ) → k + 1 < length (pos a ∷ xs) → slice_index_or (pos a ∷ xs) k (pos 0) ≤ℤ slice_index_or (pos a ∷ xs) (k + 1) (pos 0)) → xs ≡ map pos (running_sums a (gaps_after (pos a) xs))
+following_spelled : (a : ℕ) (xs : List ℤ) → ((k : ℕ) → k + 1 < length (pos a ∷ xs) → slice_index_or (pos a ∷ xs) k (pos 0) ≤ℤ slice_index_or (pos a ∷ xs) (k + 1) (pos 0)) → xs ≡ map pos (running_sums a (gaps_after (pos a) xs))
 unfolding running_sums gaps_after
-behind_spelled a [] h = refl
-behind_spelled a (y ∷ ys) h =
+following_spelled a [] h = refl
+following_spelled a (y ∷ ys) h =
     let n = int_gap (pos a) y in
     let e = stepped a y (h 0 (omega arith)) in
     let next : (k : ℕ) → k + 1 < length (y ∷ ys) → slice_index_or (y ∷ ys) k (pos 0) ≤ℤ slice_index_or (y ∷ ys) (k + 1) (pos 0) = λ k l. rw (← get_or-next (pos a) (y ∷ ys) k (pos 0), ← get_or-next (pos a) (y ∷ ys) (k + 1) (pos 0)) (h (k + 1) (omega arith)) in
     let P : ℤ → Type 0 = λ z. ((k : ℕ) → k + 1 < length (z ∷ ys) → slice_index_or (z ∷ ys) k (pos 0) ≤ℤ slice_index_or (z ∷ ys) (k + 1) (pos 0)) → ys ≡ map pos (running_sums (a + n) (gaps_after z ys)) in
-    let rest : ys ≡ map pos (running_sums (a + n) (gaps_after y ys)) = (subst P (sym e) (behind_spelled (a + n) ys)) next in
+    let rest : ys ≡ map pos (running_sums (a + n) (gaps_after y ys)) = (subst P (sym e) (following_spelled (a + n) ys)) next in
     let Q : ℤ → Type 0 = λ z. (z ∷ ys) ≡ pos (a + n) ∷ map pos (running_sums (a + n) (gaps_after y ys)) in
     subst Q (sym e) (ap (λ t. pos (a + n) ∷ t) rest)
 
@@ -75,7 +75,7 @@ spelled [] h = let no : ⊥ = omega (arith, h.some) in absurd no
 spelled (x ∷ xs) h =
     let e = natural_is x (h.natural 0 (omega arith)) in
     let P : ℤ → Type 0 = λ z. ((k : ℕ) → k + 1 < length (z ∷ xs) → slice_index_or (z ∷ xs) k (pos 0) ≤ℤ slice_index_or (z ∷ xs) (k + 1) (pos 0)) → xs ≡ map pos (running_sums (unsigned_abs x) (gaps_after z xs)) in
-    let rest = (subst P (sym e) (behind_spelled (unsigned_abs x) xs)) h.rising in
+    let rest = (subst P (sym e) (following_spelled (unsigned_abs x) xs)) h.rising in
     let Q : ℤ → Type 0 = λ z. (z ∷ xs) ≡ pos (unsigned_abs x) ∷ map pos (running_sums (unsigned_abs x) (gaps_after x xs)) in
     subst Q (sym e) (ap (λ t. pos (unsigned_abs x) ∷ t) rest)
 

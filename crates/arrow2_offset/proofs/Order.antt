@@ -23,16 +23,16 @@ lt_ranked a b Greater h = ((λ e. let no : ⊥ = cc in absurd no), λ k. let no 
 
 module _ {X : Type 0} (value : X → ℤ) (order : X → X → Option Ordering) where
   -- `<=` of values that are ordered as their numbers
-  pub le_told : (a b : X) (r : Bool) → order a b ≡ Some (int_cmp (value a) (value b)) → r ≡ partial_le order a b → IsTrue r ↔ (value a ≤ℤ value b)
-  le_told a b r law e = rw (e ∙ ap (is_some_and is_le) law) (le_ranked (value a) (value b) (int_cmp (value a) (value b)) (int_ranked (value a) (value b) (int_cmp (value a) (value b)) refl))
+  pub le_stated : (a b : X) (r : Bool) → order a b ≡ Some (int_cmp (value a) (value b)) → r ≡ partial_le order a b → IsTrue r ↔ (value a ≤ℤ value b)
+  le_stated a b r law e = rw (e ∙ ap (is_some_and is_le) law) (le_ranked (value a) (value b) (int_cmp (value a) (value b)) (int_ranked (value a) (value b) (int_cmp (value a) (value b)) refl))
 
   -- `<` of such values
-  pub lt_told : (a b : X) (r : Bool) → order a b ≡ Some (int_cmp (value a) (value b)) → r ≡ partial_lt order a b → IsTrue r ↔ (value a <ℤ value b)
-  lt_told a b r law e = rw (e ∙ ap (is_some_and is_lt) law) (lt_ranked (value a) (value b) (int_cmp (value a) (value b)) (int_ranked (value a) (value b) (int_cmp (value a) (value b)) refl))
+  pub lt_stated : (a b : X) (r : Bool) → order a b ≡ Some (int_cmp (value a) (value b)) → r ≡ partial_lt order a b → IsTrue r ↔ (value a <ℤ value b)
+  lt_stated a b r law e = rw (e ∙ ap (is_some_and is_lt) law) (lt_ranked (value a) (value b) (int_cmp (value a) (value b)) (int_ranked (value a) (value b) (int_cmp (value a) (value b)) refl))
 
-and_told : (b : Bool) (c : Bool) → IsTrue (b && c) → IsTrue b × IsTrue c
-and_told true c e = (refl, e)
-and_told false c e = let no : ⊥ = cc in absurd no
+and_stated : (b : Bool) (c : Bool) → IsTrue (b && c) → IsTrue b × IsTrue c
+and_stated true c e = (refl, e)
+and_stated false c e = let no : ⊥ = cc in absurd no
 
 and_makes : (b : Bool) (c : Bool) → IsTrue b → IsTrue c → IsTrue (b && c)
 and_makes true c e f = f
@@ -45,7 +45,7 @@ RisesTo xs n = (k : ℕ) → k + 1 < n → slice_index_or xs k (pos 0) ≤ℤ sl
 -- one more item
 pub rises_more : (xs : List ℤ) (i : ℕ) (b c : Bool) → 1 ≤ i → (IsTrue b ↔ RisesTo xs i) → (IsTrue c ↔ (slice_index_or xs (i - 1) (pos 0) ≤ℤ slice_index_or xs i (pos 0))) → IsTrue (b && c) ↔ RisesTo xs (i + 1)
 rises_more xs i b c some so_far here = (
-  (λ e. let t = and_told b c e in
+  (λ e. let t = and_stated b c e in
       λ k h. elim (cases_lt (k + 1) i) [
         | inl low ↦ so_far.0 t.0 k low
         | inr last ↦
@@ -72,8 +72,8 @@ natural_from xs (suc k) first rises h =
 
 module _ {X : Type 0} (value : X → ℤ) where
   -- at least one, the first not negative, and none below the one before it
-  pub offsets_told : (items : List X) (x : X) → (length items ≡ 0 → ⊥) → x ≡ get_or items 0 x → (value x <ℤ pos 0 → ⊥) → RisesTo (map value items) (length items) → AreOffsets (map value items)
-  offsets_told items x some is h rises =
+  pub offsets_stated : (items : List X) (x : X) → (length items ≡ 0 → ⊥) → x ≡ get_or items 0 x → (value x <ℤ pos 0 → ⊥) → RisesTo (map value items) (length items) → AreOffsets (map value items)
+  offsets_stated items x some is h rises =
       let m = length-map items value in
       let more : 0 < length items = omega (arith, some) in
       let first : pos 0 ≤ℤ slice_index_or (map value items) 0 (pos 0) = rw (get_or-map value items 0 x (pos 0) more, ← is) (not_below (value x) h) in

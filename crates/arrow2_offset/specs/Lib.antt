@@ -1,7 +1,7 @@
-pub mod Collected
+pub mod Iterators
 pub mod Growth
-pub mod Lengthened
-pub mod Made
+pub mod Lengths
+pub mod NewOffsets
 pub mod Nested
 pub mod Offsets
-pub mod Refused
+pub mod Refusals

@@ -1,7 +1,7 @@
 //! The test that a list is offsets.
 ghost use Rattle.std.specs.Prelude.{◌≡◌, ℕ, ◌+◌, ◌<◌, ◌≤ℤ◌, ◌↔◌, pos, length, map, slice_index_or, OnOk, IsOk, IfErr, IfSome, IfNone, IsNone, IsTrue};
 ghost use Rattle.arrow2_offset.specs.Offsets.{AreOffsets, AreOffsetsUpTo};
-ghost use Rattle.arrow2_offset.specs.Refused.{IsOutOfSpecOrOutOfMemory, first_broken, rule_words, not_offsets_message};
+ghost use Rattle.arrow2_offset.specs.Refusals.{IsOutOfSpecOrOutOfMemory, first_broken, rule_words, not_offsets_message};
 
 use arrow2_index::offset::Offset;
 use arrow2_types::error::{Error, Result};

@@ -94,7 +94,8 @@ impl<'a> TryFrom<&'a OffsetsBuffer<i64>> for OffsetsBuffer<i32> {
     }
 }
 
-/// Returns the same numbers, in 64 bits each. Writes each once: a vector of zeros first takes a third longer.
+/// Returns the same numbers, in 64 bits each. Writes each number once: to fill a vector with zeros first would take a
+/// third longer.
 fn widened(alloc: Global, offsets: &[i32]) -> std::result::Result<Vec<i64>, AllocError>
     ensures { IfOk result (λ wide. wide.items ≡ offsets.now) }
 {

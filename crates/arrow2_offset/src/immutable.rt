@@ -5,7 +5,7 @@ ghost use Rattle.std.specs.Cmp.{partial_equiv_from_equiv, int_eq_equiv, on_equiv
 ghost use Rattle.std.specs.Cmp.Lexicographic.{pointwise, lists_equiv};
 ghost use Rattle.either.specs.Either.{MatchEither};
 ghost use Rattle.arrow2_types.specs.declared.error.Error.TheVariants.{OutOfMemory};
-ghost use Rattle.arrow2_offset.specs.Refused.{IsOutOfSpecOrOutOfMemory, not_offsets_message};
+ghost use Rattle.arrow2_offset.specs.Refusals.{IsOutOfSpecOrOutOfMemory, not_offsets_message};
 ghost use Rattle.arrow2_model.specs.Parts.{part};
 ghost use Rattle.arrow2_model.specs.Buffers.{buffer_items, whole_buffer};
 ghost use Rattle.arrow2_offset.specs.Offsets.{AreOffsets, AreOffsetsUpTo, offset_at, offsets_of, offsets_list, start_of, lengths_of, last_of, numbers_of};
@@ -13,7 +13,7 @@ ghost use Rattle.arrow2_offset.specs.Offsets.{AreOffsets, AreOffsetsUpTo, offset
 use crate::check::try_check_offsets;
 use crate::iterator::Lengths;
 use crate::mutable::Offsets;
-use crate::spans::slot_span;
+use crate::slot::slot_span;
 use arrow2_buffer::Buffer;
 use arrow2_index::offset::Offset;
 use arrow2_types::error::{Error, Result};
@@ -99,7 +99,7 @@ impl<O: Offset> OffsetsBuffer<O> {
         &self.buffer
     }
 
-    /// Returns the number of slots: one less than offsets.
+    /// Returns the number of slots: one fewer than there are offsets.
     pub fn len_proxy(&self) -> usize
         ensures offsets { result + 1 ≡ self.now.len }
         ensures slots { result ≡ length (lengths_of (buffer_items self.now)) }
@@ -132,7 +132,8 @@ impl<O: Offset> OffsetsBuffer<O> {
         offsets
     }
 
-    /// Returns the offsets of `length` slots from slot `start` on: one more than slots. Requires that they are inside.
+    /// Returns the offsets of `length` slots from slot `start` on: one more than there are slots. Requires that they
+    /// are inside.
     pub(crate) fn offsets_of_slots(&self, start: usize, length: usize) -> &[O]
         requires { start + length < count_of (buffer_items self.now) }
         ensures valid { AreOffsets (map O.value result.now) }
@@ -221,7 +222,8 @@ impl<O: Offset> OffsetsBuffer<O> {
         self
     }
 
-    /// Keeps `slots` slots from slot `start` on, by one offset more, over the same storage. Does not allocate.
+    /// Keeps `slots` slots from slot `start` on, which are `slots + 1` offsets, over the same storage. Does not
+    /// allocate.
     ///
     /// Requires that they are inside: `start + slots` is at most [`OffsetsBuffer::len_proxy`]. arrow2 has
     /// [`OffsetsBuffer::slice`] alone, which counts offsets.
@@ -305,7 +307,8 @@ impl<O: Offset> TryFrom<Vec<O>> for OffsetsBuffer<O> {
 ///
 /// # Errors
 ///
-/// `OutOfMemory` alone, where the allocation of the reference count fails. The offsets are then dropped.
+/// `OutOfMemory` alone. In the code it comes only where the allocation of the reference count fails; no clause states
+/// that. The offsets are then dropped.
 impl<O: Offset> TryFrom<Offsets<O>> for OffsetsBuffer<O> {
     type Error = Error;
 
@@ -324,13 +327,13 @@ impl<O: Offset> TryFrom<Offsets<O>> for OffsetsBuffer<O> {
 impl<O: Offset> Index<usize> for OffsetsBuffer<O> {
     type Output = O;
 
-    ghost can_index = { λ b place. place < count_of (buffer_items b) };
+    ghost can_index = { λ b position. position < count_of (buffer_items b) };
 
-    ghost index_gives = { λ b place offset.
-        O.value offset ≡ slice_index_or (buffer_items b) place (pos 0) };
+    ghost index_gives = { λ b position offset.
+        O.value offset ≡ slice_index_or (buffer_items b) position (pos 0) };
 
-    fn index(&self, place: usize) -> &O {
-        &self.as_slice()[place]
+    fn index(&self, position: usize) -> &O {
+        &self.as_slice()[position]
     }
 }
 

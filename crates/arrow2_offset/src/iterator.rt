@@ -4,12 +4,13 @@ ghost use Rattle.std.specs.Iterator.{YieldsFirst, YieldsLast, item_count, UpTo};
 ghost use Rattle.std.specs.Iterator.SizeHint.{IsWithinCount};
 ghost use Rattle.arrow2_offset.specs.Offsets.{AreOffsets, lengths_of};
 
-use crate::spans::slot_span;
+use crate::slot::slot_span;
 use arrow2_index::offset::Offset;
 use std::alloc::AllocError;
 use std::marker::Model;
 
-/// The lengths between neighbouring offsets: contracts see it as the list of the lengths still to come.
+/// An iterator over the lengths between neighbouring offsets: contracts see it as the list of the lengths still to
+/// come.
 ///
 /// Stands for arrow2's `impl Iterator`.
 #[derive(Debug, Drop)]
@@ -23,9 +24,9 @@ impl<'a, O: Offset> Model for Lengths<'a, O> {
 
     ghost Value = { List ℕ };
 
-    ghost view = { λ walk. lengths_of (map O.value walk.offsets.now) };
+    ghost view = { λ cursor. lengths_of (map O.value cursor.offsets.now) };
 
-    ghost invariant = { λ walk. AreOffsets (map O.value walk.offsets.now) };
+    ghost invariant = { λ cursor. AreOffsets (map O.value cursor.offsets.now) };
 }
 
 impl<'a, O: Offset> Lengths<'a, O> {
@@ -40,9 +41,9 @@ impl<'a, O: Offset> Lengths<'a, O> {
 
 /// The same lengths still to come. Does not allocate.
 impl<'a, O: Offset> Clone for Lengths<'a, O> {
-    ghost is_clone = { λ walk copy. copy ≡ walk };
+    ghost is_clone = { λ cursor copy. copy ≡ cursor };
 
-    ghost is_infallible = { λ walk. Unit {0} };
+    ghost is_infallible = { λ cursor. Unit {0} };
 
     fn clone(&self) -> Result<Lengths<'a, O>, AllocError> {
         Ok(Lengths {

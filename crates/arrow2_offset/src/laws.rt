@@ -2,8 +2,8 @@
 ghost use Rattle.std.specs.Prelude.{◌≡◌, ℕ, ℤ, ◌+◌, ◌≤◌, ◌++◌, ◌↔◌, List, length, map, pos, slice_index_or};
 ghost use Rattle.arrow2_offset.specs.Offsets.{running_sums, offsets_list, offset_at, last_offset, AreOffsets, start_of, lengths_of, GrowingOffsets, SameOffsets, offsets_of};
 
-/// Whole numbers are offsets exactly if they are the list of a start and lengths, and then of those that
-/// they spell.
+/// A list of whole numbers is offsets exactly if it is the list that some start and some lengths give. These are its
+/// `start_of` and its `lengths_of`.
 #[tactic(auto, using(crate::proofs::Listed::listed))]
 pub fn offsets_are_a_start_and_lengths()
     ensures list { (xs : List ℤ) → AreOffsets xs →
@@ -27,7 +27,7 @@ pub fn offset_is_a_sum()
         length (offsets_list start lengths) ≡ length lengths + 1 }
 {}
 
-/// Appended lengths append the running sums from the last offset on, and change no other offset.
+/// Appending lengths appends the running sums from the last offset on, and leaves the offsets before them as they were.
 #[tactic(auto, using(crate::proofs::Listed::listed))]
 pub fn appended_lengths_append_offsets()
     ensures { (start : ℕ) (lengths others : List ℕ) →
@@ -42,8 +42,8 @@ pub fn lists_tell_starts_and_lengths_apart()
         offsets_list a ms ≡ offsets_list b ns ↔ ((a ≡ b) × (ms ≡ ns)) }
 {}
 
-/// If each of two lists holds the same offsets as the next one, the first and the last are the same list: so offsets of
-/// 32 bits, as offsets of 64 bits and back, are the same list.
+/// If a second list has the same offsets as a first, and a third the same as the second, the third is the same list as
+/// the first. So offsets of 32 bits that are converted to 64 bits and back are the same list as before.
 #[tactic(auto, using(crate::proofs::Listed::listed))]
 pub fn same_offsets_are_transitive()
     ensures { (narrow wide back : GrowingOffsets) → SameOffsets narrow wide →

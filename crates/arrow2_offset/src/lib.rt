@@ -1,7 +1,7 @@
 //! Where the values of binary, text and list arrays begin: offsets that grow, and offsets that are shared.
 #![tactic(auto)]
 
-mod appended;
+mod append_lengths;
 mod check;
 pub mod convert;
 pub mod immutable;
@@ -9,7 +9,7 @@ pub mod iterator;
 pub mod laws;
 pub mod mutable;
 pub mod slices;
-mod spans;
+mod slot;
 pub mod widths;
 
 pub use check::{BrokenRule, broken_rule};

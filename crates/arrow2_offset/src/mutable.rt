@@ -9,21 +9,21 @@ ghost use Rattle.std.specs.Cmp.Lexicographic.{pointwise, lists_equiv};
 ghost use Rattle.arrow2_model.specs.Parts.{part};
 ghost use Rattle.arrow2_model.specs.Buffers.{buffer_items};
 ghost use Rattle.arrow2_offset.specs.Offsets.{AreOffsets, offset_at, AreOffsetsUpTo, offsets_of, last_of_growing, start_of, lengths_of, slots, SameOffsets, GrownBy};
-ghost use Rattle.arrow2_offset.specs.Collected.{MayYieldPast};
+ghost use Rattle.arrow2_offset.specs.Iterators.{MayYieldPast};
 ghost use Rattle.arrow2_offset.specs.Growth.{Grows, GrowsUpTo, GrowsByRun};
-ghost use Rattle.arrow2_offset.specs.Made.{made_of};
-ghost use Rattle.arrow2_offset.specs.Refused.{IsOutOfSpecOrOutOfMemory, not_offsets_message};
+ghost use Rattle.arrow2_offset.specs.NewOffsets.{made_of};
+ghost use Rattle.arrow2_offset.specs.Refusals.{IsOutOfSpecOrOutOfMemory, not_offsets_message};
 ghost use Rattle.arrow2_types.specs.Refusals.{error_of};
-ghost use Rattle.arrow2_types.specs.declared.refusal.Refusal.TheVariants as refusal;
+ghost use Rattle.arrow2_types.specs.declared.growth_error.GrowthError.TheVariants as growth_error;
 
-use crate::appended::{LEAST_CAPACITY, append_lengths};
+use crate::append_lengths::{LEAST_CAPACITY, append_lengths};
 use crate::check::try_check_offsets;
 use crate::immutable::OffsetsBuffer;
 use crate::iterator::Lengths;
-use crate::spans::{slot_span, total_length};
+use crate::slot::{slot_span, total_length};
 use arrow2_index::offset::Offset;
 use arrow2_types::error::{Error, Result};
-use arrow2_types::refusal::Refusal;
+use arrow2_types::growth_error::GrowthError;
 use std::alloc::{AllocError, Global};
 use std::marker::Model;
 use std::ops::Index;
@@ -31,7 +31,7 @@ use std::ops::Index;
 /// Offsets that grow: contracts see their start, their lengths, and the capacity in lengths.
 ///
 /// There is always at least one offset, none is negative, and none is below the one before it. Each slot spans from one
-/// offset to the next, so there is one slot less than offsets, and one for each length.
+/// offset to the next, so there is one slot fewer than there are offsets, and one slot for each length.
 ///
 /// Differs from arrow2: sums are exact, and a call that refuses leaves the offsets as they were.
 ///
@@ -107,26 +107,26 @@ impl<O: Offset> Offsets<O> {
         ensures overflow { IsErrOf result Error.Overflow ↔ (2 ^ 64 ≤ capacity + 1) }
         ensures only { IfErr result (λ e. (e ≡ Error.Overflow) ⊎ (e ≡ Error.OutOfMemory)) }
     {
-        let Some(room) = capacity.checked_add(1) else {
+        let Some(count) = capacity.checked_add(1) else {
             return Err(Error::Overflow);
         };
-        let mut offsets = Vec::with_capacity(alloc, room)?;
+        let mut offsets = Vec::with_capacity(alloc, count)?;
         offsets.push(O::zero())?;
         Ok(Offsets { offsets })
     }
 
-    /// Returns the offsets from 0 on whose lengths an iterator gives, which ends. Its size hint is not read.
+    /// Returns offsets from 0 on, with the lengths of an iterator. The iterator has to end. Its size hint is not read.
     ///
     /// # Errors
     ///
-    /// `Overflow` only where the iterator may give lengths whose sum passes `O::MAX`, else `OutOfMemory` alone.
+    /// `Overflow`, which comes only where the iterator may give lengths whose sum passes `O::MAX`, or `OutOfMemory`.
     pub fn try_from_iter<I: IntoIterator<Item = usize>>(alloc: Global, iter: I) -> Result<Self>
         requires { IsFiniteIterable I.into_iter_gives I.IntoIter.can_next I.IntoIter.remaining iter }
         // All items of a run of the iterator.
         ensures ok { IfOk result (λ o. (it : I.IntoIter) × I.into_iter_gives iter it
             × WholeRun I.IntoIter.next_gives it (λ p. (o.start ≡ 0) × (o.lengths ≡ p.items))) }
         ensures fits { IfOk result (λ o. last_of_growing o ≤ O.MAX) }
-        // It comes only where a run may have too many.
+        // `Overflow` comes only where the lengths of a run may add up to more than `O::MAX`.
         ensures overflow { IsErrOf result Error.Overflow →
             (it : I.IntoIter) × I.into_iter_gives iter it
             × MayYieldPast O.MAX 0 I.IntoIter.next_gives it }
@@ -135,11 +135,11 @@ impl<O: Offset> Offsets<O> {
         Offsets::try_from_lengths(alloc, iter.into_iter())
     }
 
-    /// Returns the offsets from 0 on with these lengths. The iterator ends, and its size hint is not read.
+    /// Returns the offsets from 0 on with these lengths. The iterator has to end. Its size hint is not read.
     ///
     /// # Errors
     ///
-    /// `Overflow` only where the iterator may give lengths whose sum passes `O::MAX`, else `OutOfMemory` alone.
+    /// `Overflow`, which comes only where the iterator may give lengths whose sum passes `O::MAX`, or `OutOfMemory`.
     pub fn try_from_lengths<I: Iterator<Item = usize> + Drop>(
         alloc: Global,
         lengths: I,
@@ -160,7 +160,7 @@ impl<O: Offset> Offsets<O> {
     /// Returns the capacity in lengths: how many fit before it allocates.
     pub fn capacity(&self) -> usize
         ensures capacity { result ≡ self.now.capacity }
-        ensures held { slots self.now ≤ result }
+        ensures within_capacity { slots self.now ≤ result }
     {
         self.offsets.capacity().saturating_sub(1)
     }
@@ -170,23 +170,24 @@ impl<O: Offset> Offsets<O> {
     ///
     /// # Errors
     ///
-    /// `OutOfMemory` alone. After it the offsets are as they were.
+    /// `OutOfMemory` alone, also where a `usize` cannot count the offsets. After it the offsets are as they were.
     pub fn reserve(&mut self, additional: usize) -> Result<()>
         // The offsets stay, and `additional` more lengths fit.
         ensures items { SameOffsets self.old self.new }
         ensures ok { OnOk result (slots self.old + additional ≤ self.new.capacity) }
-        // The capacity never falls, and holds the slots that there are.
+        // The capacity never falls. The slots that there are fit in it: a fact of the type.
         ensures capacity { self.old.capacity ≤ self.new.capacity }
-        ensures held { slots self.old ≤ self.old.capacity }
+        ensures within_capacity { slots self.old ≤ self.old.capacity }
         // When it succeeds, and which error can come.
         ensures succeeds { slots self.old + additional ≤ self.old.capacity → IsOk result }
         ensures only { IfErr result (λ e. e ≡ Error.OutOfMemory) }
     {
-        self.reserve_room(additional)?;
+        self.reserve_capacity(additional)?;
         Ok(())
     }
 
-    /// Gives back unused capacity, where the allocator takes it. arrow2 returns no `Result`.
+    /// Gives back unused capacity, where the allocator takes it. No clause states that any is given back. arrow2
+    /// returns no `Result`.
     ///
     /// It never fails: where the smaller block cannot be allocated, the offsets stay where they are.
     pub fn shrink_to_fit(&mut self) -> Result<()>
@@ -204,8 +205,8 @@ impl<O: Offset> Offsets<O> {
     ///
     /// # Errors
     ///
-    /// `Overflow` exactly where the last offset would pass `O::MAX`, else `OutOfMemory` alone. After
-    /// both the offsets are as they were.
+    /// `Overflow` exactly where the last offset would pass `O::MAX`, else `OutOfMemory` alone, also where a `usize`
+    /// cannot count the offsets. After either the offsets are as they were.
     pub fn try_push(&mut self, length: O) -> Result<()>
         requires { pos 0 ≤ℤ O.value length }
         ensures { GrowsUpTo O.MAX error_of result self.old self.new
@@ -219,8 +220,8 @@ impl<O: Offset> Offsets<O> {
     ///
     /// # Errors
     ///
-    /// `Overflow` exactly where the last offset would pass `O::MAX`, else `OutOfMemory` alone. After
-    /// both the offsets are as they were.
+    /// `Overflow` exactly where the last offset would pass `O::MAX`, else `OutOfMemory` alone, also where a `usize`
+    /// cannot count the offsets. After either the offsets are as they were.
     pub fn try_push_usize(&mut self, length: usize) -> Result<()>
         ensures { GrowsUpTo O.MAX error_of result self.old self.new (length ∷ []) }
     {
@@ -235,8 +236,8 @@ impl<O: Offset> Offsets<O> {
     ///
     /// # Errors
     ///
-    /// `Overflow` only where the iterator may give lengths whose sum, added to the last offset, passes `O::MAX`, else
-    /// `OutOfMemory` alone. After either the offsets are as they were.
+    /// `Overflow`, which comes only where the iterator may give lengths whose sum, added to the last offset, passes
+    /// `O::MAX`, or `OutOfMemory`. After either the offsets are as they were.
     pub fn try_extend_from_lengths<I: Iterator<Item = usize> + Drop>(
         &mut self,
         lengths: I,
@@ -255,7 +256,7 @@ impl<O: Offset> Offsets<O> {
     ///
     /// # Errors
     ///
-    /// `Overflow` exactly where the last offset and the sum of the lengths pass `O::MAX`, else
+    /// `Overflow` exactly where the last offset plus the sum of the lengths exceeds `O::MAX`, else
     /// `OutOfMemory` alone. After either the offsets are as they were.
     pub fn try_extend_from_self(&mut self, other: &Self) -> Result<()>
         ensures { GrowsUpTo O.MAX error_of result self.old self.new other.now.lengths }
@@ -264,14 +265,15 @@ impl<O: Offset> Offsets<O> {
         Ok(())
     }
 
-    /// Appends `length` of the lengths of other offsets, from length `start` on. Requires that `length` is 0, or that
-    /// `start + length` is below the number of the other's offsets. Within the capacity it does not allocate.
+    /// Appends lengths of other offsets: as many as `length` states, from the one at index `start` on. Requires that
+    /// `length` is 0, or that `start + length` is below the number of the other's offsets. Within the capacity it does
+    /// not allocate.
     ///
     /// Differs from arrow2, which tests the other's last offset instead of the sum of the lengths.
     ///
     /// # Errors
     ///
-    /// `Overflow` exactly where the last offset and the sum of these lengths pass `O::MAX`, else
+    /// `Overflow` exactly where the last offset plus the sum of these lengths exceeds `O::MAX`, else
     /// `OutOfMemory` alone. After either the offsets are as they were.
     pub fn try_extend_from_slice(
         &mut self,
@@ -293,14 +295,14 @@ impl<O: Offset> Offsets<O> {
         Ok(())
     }
 
-    /// Appends `additional` lengths 0. Within the capacity it does not allocate.
+    /// Appends `additional` lengths, each of them 0. Within the capacity it does not allocate.
     ///
     /// # Errors
     ///
-    /// `Overflow` exactly where the number of offsets would pass `usize::MAX`, else `OutOfMemory`
-    /// alone. After either the offsets are as they were. arrow2 wraps there, and shrinks.
+    /// `Overflow` exactly where the number of offsets would pass `usize::MAX` (there arrow2 wraps, and its offsets
+    /// become fewer), else `OutOfMemory` alone. After either the offsets are as they were.
     pub fn extend_constant(&mut self, additional: usize) -> Result<()>
-        // The number of offsets may reach the greatest `usize`.
+        // `Overflow` exactly where the number of offsets would be above 2 ^ 64 - 1.
         ensures { Grows error_of (slots self.old + 1 + additional) (2 ^ 64 - 1) result
             self.old self.new (replicate additional 0) }
     {
@@ -383,7 +385,7 @@ impl<O: Offset> Offsets<O> {
         offsets
     }
 
-    /// Returns the vector itself, which is known to hold offsets.
+    /// Returns the vector as `Offsets`, without a copy. Requires that it holds offsets.
     pub(crate) fn of_vec(offsets: Vec<O>) -> Self
         requires { AreOffsetsUpTo O.MAX (map O.value offsets.items) }
         ensures { result ≡ made_of (map O.value offsets.items) (vec_capacity offsets) }
@@ -395,39 +397,39 @@ impl<O: Offset> Offsets<O> {
     fn last_number(&self) -> usize
         ensures value { result ≡ last_of_growing self.now }
         ensures fits { last_of_growing self.now ≤ O.MAX }
-        ensures held { slots self.now ≤ self.now.capacity }
+        ensures within_capacity { slots self.now ≤ self.now.capacity }
     {
         // The field is read for the facts that the type guarantees: the slots are within the capacity.
         let _ = &self.offsets;
         self.last().to_usize()
     }
 
-    /// Appends one length. The error is one byte.
-    fn push_length(&mut self, length: usize) -> std::result::Result<(), Refusal>
-        ensures { GrowsUpTo O.MAX (λ refusal. refusal) result self.old self.new (length ∷ []) }
+    /// Appends one length. The error type is one byte in size.
+    fn push_length(&mut self, length: usize) -> std::result::Result<(), GrowthError>
+        ensures { GrowsUpTo O.MAX (λ error. error) result self.old self.new (length ∷ []) }
     {
         let last = self.last_number();
         if length > O::MAX - last {
-            return Err(Refusal::Overflow);
+            return Err(GrowthError::Overflow);
         }
         self.offsets.push(O::from_as_usize(last + length))?;
         Ok(())
     }
 
     /// Reserves capacity for `additional` more lengths.
-    fn reserve_room(&mut self, additional: usize) -> std::result::Result<(), AllocError>
+    fn reserve_capacity(&mut self, additional: usize) -> std::result::Result<(), AllocError>
         ensures items { SameOffsets self.old self.new }
         ensures ok { OnOk result (slots self.old + additional ≤ self.new.capacity) }
         ensures capacity { self.old.capacity ≤ self.new.capacity }
-        ensures held { slots self.old ≤ self.old.capacity }
+        ensures within_capacity { slots self.old ≤ self.old.capacity }
         ensures succeeds { slots self.old + additional ≤ self.old.capacity → IsOk result }
     {
         self.offsets.reserve(additional)
     }
 
-    /// Appends one length. Requires spare capacity for it.
+    /// Appends one length. Requires spare capacity for it, and that the last offset plus `length` is at most `O::MAX`.
     fn push_within(&mut self, length: usize)
-        requires room { slots self.old < self.old.capacity }
+        requires spare { slots self.old < self.old.capacity }
         requires fits { last_of_growing self.old + length ≤ O.MAX }
         ensures grown { GrownBy (length ∷ []) self.old self.new }
         ensures capacity { self.new.capacity ≡ self.old.capacity }
@@ -446,31 +448,31 @@ impl<O: Offset> Offsets<O> {
         self.offsets.truncate(count + 1);
     }
 
-    /// Appends the lengths of an iterator that ends, and takes them off again where it refuses.
+    /// Appends the lengths of an iterator that ends. If it returns an error, the appended lengths are removed again.
     fn extend_lengths<I: Iterator<Item = usize> + Drop>(
         &mut self,
         lengths: I,
-    ) -> std::result::Result<(), Refusal>
+    ) -> std::result::Result<(), GrowthError>
         requires can { I.can_next lengths }
         requires ends { IsFinite (I.remaining lengths) }
-        ensures { GrowsByRun O.MAX (λ refusal. refusal) result self.old self.new
+        ensures { GrowsByRun O.MAX (λ error. error) result self.old self.new
             I.next_gives lengths }
     {
         append_lengths(&mut self.offsets, lengths)
     }
 
     /// Appends the lengths between the offsets. Tests their sum before it allocates.
-    fn append(&mut self, offsets: &[O]) -> std::result::Result<(), Refusal>
+    fn append(&mut self, offsets: &[O]) -> std::result::Result<(), GrowthError>
         requires { AreOffsets (map O.value offsets.now) }
-        ensures { GrowsUpTo O.MAX (λ refusal. refusal) result self.old self.new
+        ensures { GrowsUpTo O.MAX (λ error. error) result self.old self.new
             (lengths_of (map O.value offsets.now)) }
     {
         let count = offsets.len() - 1;
         let total = total_length(offsets);
         if total > O::MAX - self.last_number() {
-            return Err(Refusal::Overflow);
+            return Err(GrowthError::Overflow);
         }
-        self.reserve_room(count)?;
+        self.reserve_capacity(count)?;
         for length in Lengths::new(offsets) {
             self.push_within(length);
         }
@@ -516,13 +518,13 @@ impl<O: Offset> Clone for Offsets<O> {
 impl<O: Offset> Index<usize> for Offsets<O> {
     type Output = O;
 
-    ghost can_index = { λ o place. place ≤ slots o };
+    ghost can_index = { λ o position. position ≤ slots o };
 
-    ghost index_gives = { λ o place offset.
-        O.value offset ≡ pos (offset_at o.start o.lengths place) };
+    ghost index_gives = { λ o position offset.
+        O.value offset ≡ pos (offset_at o.start o.lengths position) };
 
-    fn index(&self, place: usize) -> &O {
-        &self.as_slice()[place]
+    fn index(&self, position: usize) -> &O {
+        &self.as_slice()[position]
     }
 }
 

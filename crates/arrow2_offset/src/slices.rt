@@ -7,7 +7,7 @@ ghost use Rattle.arrow2_offset.specs.Offsets.{AreOffsets, AreOffsetsUpTo, last_o
 
 use arrow2_index::offset::Offset;
 
-/// Returns the last of the offsets.
+/// Returns the last of the offsets. Requires that the numbers are offsets.
 pub fn last<O: Offset>(offsets: &[O]) -> usize
     requires are { AreOffsets (map O.value offsets.now) }
     ensures value { result ≡ last_of (map O.value offsets.now) }
@@ -16,7 +16,8 @@ pub fn last<O: Offset>(offsets: &[O]) -> usize
     offsets[offsets.len() - 1].to_usize()
 }
 
-/// Writes how far each offset is from the next one. Requires one length less than offsets.
+/// Writes how far each offset is from the next one. Requires that the numbers are offsets, and that `lengths` has one
+/// item fewer than `offsets`.
 pub fn write_lengths<O: Offset>(offsets: &[O], lengths: &mut [usize])
     requires are { AreOffsets (map O.value offsets.now) }
     requires exact { length offsets.now ≡ length lengths.old + 1 }
@@ -27,7 +28,7 @@ pub fn write_lengths<O: Offset>(offsets: &[O], lengths: &mut [usize])
     }
 }
 
-/// Returns whether the start and all lengths, added up exactly, are an offset.
+/// Returns whether the exact sum of the start and all lengths is at most `O::MAX`.
 pub fn fits<O: Offset>(start: usize, lengths: &[usize]) -> bool
     ensures { IsTrue result ↔ (last_offset start lengths.now ≤ O.MAX) }
 {
@@ -35,7 +36,7 @@ pub fn fits<O: Offset>(start: usize, lengths: &[usize]) -> bool
     most <= O::MAX as u128 || total(start, lengths) <= O::MAX as u128
 }
 
-/// Returns the bits of all lengths: a number that none of them is above. It is found faster than their sum.
+/// Returns the bitwise or of all lengths: a number that none of them exceeds. It is found faster than their sum.
 fn all_bits(lengths: &[usize]) -> usize
     ensures { sum lengths.now ≤ length lengths.now * result }
 {
@@ -57,8 +58,8 @@ fn total(start: usize, lengths: &[usize]) -> u128
     sum
 }
 
-/// Writes the start, followed by the running sums of the lengths. Requires one offset more than lengths, and that the
-/// last of them is an offset.
+/// Writes the start, followed by the running sums of the lengths. Requires that `offsets` has one item more than
+/// `lengths`, and that `start` plus all lengths is at most `O::MAX`.
 pub fn write_sums<O: Offset>(start: usize, lengths: &[usize], offsets: &mut [O])
     requires exact { length offsets.old ≡ length lengths.now + 1 }
     requires fits { last_offset start lengths.now ≤ O.MAX }
@@ -72,8 +73,8 @@ pub fn write_sums<O: Offset>(start: usize, lengths: &[usize], offsets: &mut [O])
     }
 }
 
-/// Fills `out` with the offsets from offset `from` on, each less the first of them. Requires that there is one, and
-/// that they are inside.
+/// Sets `out[i]` to `offsets[from + i] - offsets[from]`. Requires that the numbers are offsets, that `out` is not
+/// empty, and that `from + out.len()` is at most `offsets.len()`.
 pub fn write_part<O: Offset>(offsets: &[O], from: usize, out: &mut [O])
     requires are { AreOffsetsUpTo O.MAX (map O.value offsets.now) }
     requires some { 0 < length out.old }

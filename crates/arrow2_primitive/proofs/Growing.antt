@@ -75,9 +75,9 @@ module _ {X : Type 0} where
       ∙ (ap (λ y. take k items ++ slot y (is_some item) ∷ []) is-x ∙ (ap (λ o. take k items ++ o ∷ []) (slot-option item d) ∙ sym more)))))
 
   -- an array of items, by their values and which of them are there
-  pub beside : (items : List (Option X)) (xs : List X) (b : BufferStorage X) (vs : List Bool) (bitmap : Option BitmapStorage) → zipped xs (map is_some items) ≡ items → length xs ≡ length items → buffer_items b ≡ xs → vs ≡ map is_some items
+  pub paired : (items : List (Option X)) (xs : List X) (b : BufferStorage X) (vs : List Bool) (bitmap : Option BitmapStorage) → zipped xs (map is_some items) ≡ items → length xs ≡ length items → buffer_items b ≡ xs → vs ≡ map is_some items
       → (IsNone bitmap ↔ (falses vs ≡ 0)) → IfSome bitmap (λ w. items_of w ≡ vs) → zipped (buffer_items b) (items_or_true (length (buffer_items b)) bitmap) ≡ items
-  beside items xs b vs bitmap is size held there none some =
+  paired items xs b vs bitmap is size held there none some =
       let n = length-map items is_some in
       frozen xs vs b bitmap (omega (arith, n, size, ap length there)) held none some ∙ (ap (zipped xs) there ∙ is)
 

@@ -11,7 +11,7 @@ ghost use Rattle.arrow2_walks.specs.Selected.{non_null_values};
 ghost use Rattle.arrow2_model.specs.Storage.{items_of};
 ghost use Rattle.arrow2_types.specs.Refusals.{IsInvalidArgumentOrOutOfMemory};
 ghost use Rattle.arrow2_validity.specs.OptionalValidity.{valid_items};
-ghost use Rattle.arrow2_validity.specs.Refused.{unequal_lengths_message};
+ghost use Rattle.arrow2_validity.specs.Refusals.{unequal_lengths_message};
 ghost use Rattle.arrow2_walks.specs.Zipped.{zipped};
 ghost use Rattle.arrow2_datatypes.specs.Types.{of_primitive, physical};
 ghost use Rattle.arrow2_datatypes.specs.declared.physical_type.PhysicalType.TheVariants.{Primitive};
@@ -40,6 +40,18 @@ use std::slice::Iter;
 ///
 /// Differs from arrow2: the logical type is shared by an `Rc`, so that a clone does not allocate. An array is not
 /// `Send`, there is no trait `Array`, and `for item in array.iter()` stands for `for item in &array`.
+///
+/// # Examples
+///
+/// ```rust
+/// use arrow2::array::MutablePrimitiveArray;
+///
+/// let mut prices = MutablePrimitiveArray::<i64>::new(alloc)?;
+/// prices.push(Some(30))?;
+/// prices.push(None)?;
+/// let column = prices.freeze()?;
+/// assert!(rt; column.len() == 2 && column.null_count() == 1);
+/// ```
 #[derive(Drop)]
 pub struct PrimitiveArray<T: NativeType> {
     data_type: Rc<DataType>,
@@ -133,8 +145,8 @@ impl<T: NativeType> PrimitiveArray<T> {
         }
     }
 
-    /// Returns an array of these values, over their storage. None is null. Its logical type is the one that belongs to
-    /// `T`.
+    /// Returns an array of these values, over their storage. No item is null. Its logical type is the one that belongs
+    /// to `T`.
     ///
     /// # Errors
     ///
@@ -151,7 +163,7 @@ impl<T: NativeType> PrimitiveArray<T> {
         Ok(PrimitiveArray::new(data_type, values, None))
     }
 
-    /// Returns an array of a copy of these values. None is null. Its logical type is the one that belongs to `T`.
+    /// Returns an array of a copy of these values. No item is null. Its logical type is the one that belongs to `T`.
     ///
     /// # Errors
     ///
@@ -344,8 +356,8 @@ impl<T: NativeType> PrimitiveArray<T> {
     }
 
     /// Returns `Right` of an array that grows, without a copy, if the values and the bitmap have no other owner, the
-    /// values are not sliced, and the bitmap begins at bit 0; else `Left` of the array as it was. Where there is no
-    /// bitmap it makes one.
+    /// values are not sliced, and the bitmap begins at bit 0 or is missing; else `Left` of the array as it was. In
+    /// place of a missing bitmap it makes one of all true items.
     ///
     /// Proved: `Left` has the whole array, `Right` its items and its logical type, and `Right` comes only if the values
     /// are not sliced. Not proved: that `Right` comes whenever it can.
@@ -355,8 +367,8 @@ impl<T: NativeType> PrimitiveArray<T> {
     /// # Errors
     ///
     /// `OutOfMemory` alone. The array is then dropped. In the code it comes only if the values have no other owner and
-    /// are not sliced, and there is no bitmap, or one that is shared or begins at a bit other than 0. No clause states
-    /// that.
+    /// are not sliced, and in addition the bitmap is missing, is shared, or begins at a bit other than 0. No clause
+    /// states that.
     pub fn into_mut(self) -> Result<Either<PrimitiveArray<T>, MutablePrimitiveArray<T>>>
         ensures ok { IfOk result (λ r. MatchEither r (λ a. a ≡ self)
             (λ m. (m.items ≡ primitive_items self) × (m.data_type ≡ self.data_type))) }

@@ -34,9 +34,9 @@ fn write_items<T: NativeType, W: fmt::Write>(
         (debug_list (item_output T.debug_output) (primitive_items array.now)) f.new }
 {
     f.write_str("[")?;
-    for place in 0..array.len() {
-        write_separator(place, f)?;
-        write_item(array.get(place), f)?;
+    for position in 0..array.len() {
+        write_separator(position, f)?;
+        write_item(array.get(position), f)?;
     }
     f.write_str("]")
 }

@@ -32,6 +32,18 @@ use std::rc::Rc;
 ///
 /// Differs from arrow2: its validity is always there, and [`MutablePrimitiveArray::freeze`] leaves it out where no item
 /// is null. Before `freeze` no call reads or sets an item, but for [`MutablePrimitiveArray::pop`].
+///
+/// # Examples
+///
+/// ```rust
+/// use arrow2::array::MutablePrimitiveArray;
+///
+/// let mut prices = MutablePrimitiveArray::<i64>::new(alloc)?;
+/// prices.push(Some(30))?;
+/// prices.push(None)?;
+/// let column = prices.freeze()?;
+/// assert!(rt; column.len() == 2 && column.null_count() == 1);
+/// ```
 #[derive(Drop)]
 pub struct MutablePrimitiveArray<T: NativeType> {
     data_type: Rc<DataType>,
@@ -217,12 +229,12 @@ impl<T: NativeType> MutablePrimitiveArray<T> {
     /// Returns how many items fit before it allocates, those that it holds too.
     pub fn capacity(&self) -> usize
         ensures value { result ≡ self.now.capacity }
-        ensures held { length self.now.items ≤ result }
+        ensures within_capacity { length self.now.items ≤ result }
     {
         self.values.capacity().min(self.validity.capacity())
     }
 
-    /// Makes room for `additional` items more. Within the capacity it does not allocate.
+    /// Reserves capacity for `additional` more items. Within the capacity it does not allocate.
     ///
     /// # Errors
     ///
@@ -400,7 +412,7 @@ impl<T: NativeType> MutablePrimitiveArray<T> {
         Ok(PrimitiveArray::new(data_type, values, validity))
     }
 
-    /// Makes room for an item, and appends it.
+    /// Reserves capacity for an item, and appends it.
     fn push_growing(&mut self, item: Option<T>) -> Result<()>
         ensures { AppendsItems result self.old self.new (item ∷ []) }
     {

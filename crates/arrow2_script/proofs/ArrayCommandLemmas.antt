@@ -9,21 +9,21 @@ use Rattle.arrow2_script.specs.Commands.{bitmap_named, frozen_named, offset_name
 use Rattle.arrow2_script.specs.declared.array_command.ArrayCommand.{ArrayCommand}
 use Rattle.arrow2_script.specs.declared.array_command.ArrayCommand.TheVariants.{New, List as Items, Nulls, Slice, And, Or}
 use Rattle.arrow2_script.specs.declared.command.Command.TheVariants as Kinds
-use Rattle.arrow2_script.proofs.KindLemmas.{numbers, optional_slots, slots, more, no_more, at_row, Says}
+use Rattle.arrow2_script.proofs.KindLemmas.{numbers, optional_slots, slots, more, no_more, at_row, Parses}
 use Rattle.arrow2_script.proofs.SpellingLemmas.{is_word}
 use Rattle.arrow2_script.proofs.WordLemmas.{number_of-decimal, optional_slot_of-word, slot_of-decimal}
 
 -- words that are parsed as a command on boolean arrays are its words
-pub array_says : (name : List ℕ) (words : List (List ℕ)) (command : ArrayCommand) → array_named name words ≡ Some command → Says ArrayFits array_words name words command
+pub array_parses : (name : List ℕ) (words : List (List ℕ)) (command : ArrayCommand) → array_named name words ≡ Some command → Parses ArrayFits array_words name words command
 unfolding array_named is_word
-array_says name words command =
-    let says = Says ArrayFits array_words in
-    at_row says (codes "anew") refl (more slots (more slots (more optional_slots no_more))) (λ p. New p.0 p.1.0 p.1.1.0) (λ p f w. ((f.0, f.1.0, f.1.1.0), refl, w)) words name command _ (
-    at_row says (codes "alist") refl (more slots no_more) (λ p. Items p.0) (λ p f w. (f.0, refl, w)) words name command _ (
-    at_row says (codes "anulls") refl (more slots no_more) (λ p. Nulls p.0) (λ p f w. (f.0, refl, w)) words name command _ (
-    at_row says (codes "aslice") refl (more slots (more numbers (more numbers no_more))) (λ p. Slice p.0 p.1.0 p.1.1.0) (λ p f w. ((f.0, f.1.0, f.1.1.0), refl, w)) words name command _ (
-    at_row says (codes "aand") refl (more slots (more slots (more slots no_more))) (λ p. And p.0 p.1.0 p.1.1.0) (λ p f w. ((f.0, f.1.0, f.1.1.0), refl, w)) words name command _ (
-    at_row says (codes "aor") refl (more slots (more slots (more slots no_more))) (λ p. Or p.0 p.1.0 p.1.1.0) (λ p f w. ((f.0, f.1.0, f.1.1.0), refl, w)) words name command None (
+array_parses name words command =
+    let parses = Parses ArrayFits array_words in
+    at_row parses (codes "anew") refl (more slots (more slots (more optional_slots no_more))) (λ p. New p.0 p.1.0 p.1.1.0) (λ p f w. ((f.0, f.1.0, f.1.1.0), refl, w)) words name command _ (
+    at_row parses (codes "alist") refl (more slots no_more) (λ p. Items p.0) (λ p f w. (f.0, refl, w)) words name command _ (
+    at_row parses (codes "anulls") refl (more slots no_more) (λ p. Nulls p.0) (λ p f w. (f.0, refl, w)) words name command _ (
+    at_row parses (codes "aslice") refl (more slots (more numbers (more numbers no_more))) (λ p. Slice p.0 p.1.0 p.1.1.0) (λ p f w. ((f.0, f.1.0, f.1.1.0), refl, w)) words name command _ (
+    at_row parses (codes "aand") refl (more slots (more slots (more slots no_more))) (λ p. And p.0 p.1.0 p.1.1.0) (λ p f w. ((f.0, f.1.0, f.1.1.0), refl, w)) words name command _ (
+    at_row parses (codes "aor") refl (more slots (more slots (more slots no_more))) (λ p. Or p.0 p.1.0 p.1.1.0) (λ p f w. ((f.0, f.1.0, f.1.1.0), refl, w)) words name command None (
     λ e. absurd (none-some command e)))))))
 
 -- the words of a command on boolean arrays are parsed as it

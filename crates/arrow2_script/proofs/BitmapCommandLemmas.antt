@@ -8,24 +8,24 @@ use Rattle.arrow2_script.specs.Commands.{named, command_of}
 use Rattle.arrow2_script.specs.declared.bitmap_command.BitmapCommand.{BitmapCommand}
 use Rattle.arrow2_script.specs.declared.bitmap_command.BitmapCommand.TheVariants.{New, Push, Pop, Get, Freeze, Thaw, Slice, Count, Bits}
 use Rattle.arrow2_script.specs.declared.command.Command.TheVariants as Kinds
-use Rattle.arrow2_script.proofs.KindLemmas.{bit_texts, bits, numbers, slots, more, no_more, at_row, Says}
+use Rattle.arrow2_script.proofs.KindLemmas.{bit_texts, bits, numbers, slots, more, no_more, at_row, Parses}
 use Rattle.arrow2_script.proofs.SpellingLemmas.{is_word}
 use Rattle.arrow2_script.proofs.WordLemmas.{bit_of-byte, bits_of-text, number_of-decimal, slot_of-decimal}
 
 -- words that are parsed as a command on bitmaps are its words
-pub bitmap_says : (name : List ℕ) (words : List (List ℕ)) (command : BitmapCommand) → bitmap_named name words ≡ Some command → Says BitmapFits bitmap_words name words command
+pub bitmap_parses : (name : List ℕ) (words : List (List ℕ)) (command : BitmapCommand) → bitmap_named name words ≡ Some command → Parses BitmapFits bitmap_words name words command
 unfolding bitmap_named frozen_named is_word
-bitmap_says name words command =
-    let says = Says BitmapFits bitmap_words in
-    at_row says (codes "new") refl (more slots (more bit_texts no_more)) (λ p. New p.0 p.1.0) (λ p f w. (f.0, refl, w)) words name command _ (
-    at_row says (codes "push") refl (more slots (more bits no_more)) (λ p. Push p.0 p.1.0) (λ p f w. (f.0, refl, w)) words name command _ (
-    at_row says (codes "pop") refl (more slots no_more) (λ p. Pop p.0) (λ p f w. (f.0, refl, w)) words name command _ (
-    at_row says (codes "freeze") refl (more slots no_more) (λ p. Freeze p.0) (λ p f w. (f.0, refl, w)) words name command _ (
-    at_row says (codes "get") refl (more slots (more numbers no_more)) (λ p. Get p.0 p.1.0) (λ p f w. ((f.0, f.1.0), refl, w)) words name command _ (
-    at_row says (codes "thaw") refl (more slots no_more) (λ p. Thaw p.0) (λ p f w. (f.0, refl, w)) words name command _ (
-    at_row says (codes "slice") refl (more slots (more numbers (more numbers no_more))) (λ p. Slice p.0 p.1.0 p.1.1.0) (λ p f w. ((f.0, f.1.0, f.1.1.0), refl, w)) words name command _ (
-    at_row says (codes "count") refl (more slots no_more) (λ p. Count p.0) (λ p f w. (f.0, refl, w)) words name command _ (
-    at_row says (codes "bits") refl (more slots no_more) (λ p. Bits p.0) (λ p f w. (f.0, refl, w)) words name command None (
+bitmap_parses name words command =
+    let parses = Parses BitmapFits bitmap_words in
+    at_row parses (codes "new") refl (more slots (more bit_texts no_more)) (λ p. New p.0 p.1.0) (λ p f w. (f.0, refl, w)) words name command _ (
+    at_row parses (codes "push") refl (more slots (more bits no_more)) (λ p. Push p.0 p.1.0) (λ p f w. (f.0, refl, w)) words name command _ (
+    at_row parses (codes "pop") refl (more slots no_more) (λ p. Pop p.0) (λ p f w. (f.0, refl, w)) words name command _ (
+    at_row parses (codes "freeze") refl (more slots no_more) (λ p. Freeze p.0) (λ p f w. (f.0, refl, w)) words name command _ (
+    at_row parses (codes "get") refl (more slots (more numbers no_more)) (λ p. Get p.0 p.1.0) (λ p f w. ((f.0, f.1.0), refl, w)) words name command _ (
+    at_row parses (codes "thaw") refl (more slots no_more) (λ p. Thaw p.0) (λ p f w. (f.0, refl, w)) words name command _ (
+    at_row parses (codes "slice") refl (more slots (more numbers (more numbers no_more))) (λ p. Slice p.0 p.1.0 p.1.1.0) (λ p f w. ((f.0, f.1.0, f.1.1.0), refl, w)) words name command _ (
+    at_row parses (codes "count") refl (more slots no_more) (λ p. Count p.0) (λ p f w. (f.0, refl, w)) words name command _ (
+    at_row parses (codes "bits") refl (more slots no_more) (λ p. Bits p.0) (λ p f w. (f.0, refl, w)) words name command None (
     λ e. absurd (none-some command e))))))))))
 
 -- the words of a command on bitmaps are parsed as it

@@ -8,49 +8,49 @@ use Rattle.arrow2_script.specs.Lines.{parts_of, words_of, is_blank}
 use Rattle.arrow2_script.specs.Commands.{bitmap_named, offset_named, value_named, storage_named, kernel_named, growth_named, array_named, named, command_of, command_in, command_words, Fits}
 use Rattle.arrow2_script.specs.declared.command.Command.{Command}
 use Rattle.arrow2_script.specs.declared.command.Command.TheVariants.{Bitmap, Offset, Value, Storage, Kernel, Growth, Array}
-use Rattle.arrow2_script.proofs.KindLemmas.{Says}
+use Rattle.arrow2_script.proofs.KindLemmas.{Parses}
 use Rattle.arrow2_script.proofs.WordLemmas.{mapped, some_or_none}
 use Rattle.arrow2_script.proofs.SpellingLemmas.{is_word, words_there}
-use Rattle.arrow2_script.proofs.BitmapCommandLemmas.{bitmap_says, bitmap_of-words}
-use Rattle.arrow2_script.proofs.OffsetCommandLemmas.{offset_says, offset_of-words}
-use Rattle.arrow2_script.proofs.ValueCommandLemmas.{value_says, value_of-words}
-use Rattle.arrow2_script.proofs.StorageCommandLemmas.{storage_says, storage_of-words}
-use Rattle.arrow2_script.proofs.KernelCommandLemmas.{kernel_says, kernel_of-words}
-use Rattle.arrow2_script.proofs.GrowthCommandLemmas.{growth_says, growth_of-words}
-use Rattle.arrow2_script.proofs.ArrayCommandLemmas.{array_says, array_of-words}
+use Rattle.arrow2_script.proofs.BitmapCommandLemmas.{bitmap_parses, bitmap_of-words}
+use Rattle.arrow2_script.proofs.OffsetCommandLemmas.{offset_parses, offset_of-words}
+use Rattle.arrow2_script.proofs.ValueCommandLemmas.{value_parses, value_of-words}
+use Rattle.arrow2_script.proofs.StorageCommandLemmas.{storage_parses, storage_of-words}
+use Rattle.arrow2_script.proofs.KernelCommandLemmas.{kernel_parses, kernel_of-words}
+use Rattle.arrow2_script.proofs.GrowthCommandLemmas.{growth_parses, growth_of-words}
+use Rattle.arrow2_script.proofs.ArrayCommandLemmas.{array_parses, array_of-words}
 
 -- a value that is one of two
 either_way : {A : Type 0} (a b : Option A) (y : A) → option_or a b ≡ Some y → (a ≡ Some y) ⊎ (b ≡ Some y)
 either_way None b y e = inr e
 either_way (Some x) b y e = inl e
 
-named_says : (name : List ℕ) (words : List (List ℕ)) (command : Command) → named name words ≡ Some command → Says Fits command_words name words command
+named_parses : (name : List ℕ) (words : List (List ℕ)) (command : Command) → named name words ≡ Some command → Parses Fits command_words name words command
 unfolding named
-named_says name words command =
-    of_kind Bitmap (bitmap_named name words) (bitmap_says name words) _ (
-    of_kind Offset (offset_named name words) (offset_says name words) _ (
-    of_kind Value (value_named name words) (value_says name words) _ (
-    of_kind Storage (storage_named name words) (storage_says name words) _ (
-    of_kind Kernel (kernel_named name words) (kernel_says name words) _ (
-    of_kind Growth (growth_named name words) (growth_says name words) _ (
-    only_kind Array (array_named name words) (array_says name words)))))))
+named_parses name words command =
+    of_kind Bitmap (bitmap_named name words) (bitmap_parses name words) _ (
+    of_kind Offset (offset_named name words) (offset_parses name words) _ (
+    of_kind Value (value_named name words) (value_parses name words) _ (
+    of_kind Storage (storage_named name words) (storage_parses name words) _ (
+    of_kind Kernel (kernel_named name words) (kernel_parses name words) _ (
+    of_kind Growth (growth_named name words) (growth_parses name words) _ (
+    only_kind Array (array_named name words) (array_parses name words)))))))
   where
-    only_kind : {K : Type 0} (kind : K → Command) (read : Option K) → ((c : K) → read ≡ Some c → Says Fits command_words name words (kind c)) → option_map kind read ≡ Some command → Says Fits command_words name words command
-    only_kind kind read says e =
+    only_kind : {K : Type 0} (kind : K → Command) (read : Option K) → ((c : K) → read ≡ Some c → Parses Fits command_words name words (kind c)) → option_map kind read ≡ Some command → Parses Fits command_words name words command
+    only_kind kind read parses e =
         let p = mapped kind read command e in
-        subst (λ c. Says Fits command_words name words c) p.2 (says p.0 p.1)
+        subst (λ c. Parses Fits command_words name words c) p.2 (parses p.0 p.1)
 
-    of_kind : {K : Type 0} (kind : K → Command) (read : Option K) → ((c : K) → read ≡ Some c → Says Fits command_words name words (kind c)) → (next : Option Command) → (next ≡ Some command → Says Fits command_words name words command) → option_or (option_map kind read) next ≡ Some command → Says Fits command_words name words command
-    of_kind kind read says next others e = elim (either_way (option_map kind read) next command e) [
-      | inl q ↦ only_kind kind read says q
+    of_kind : {K : Type 0} (kind : K → Command) (read : Option K) → ((c : K) → read ≡ Some c → Parses Fits command_words name words (kind c)) → (next : Option Command) → (next ≡ Some command → Parses Fits command_words name words command) → option_or (option_map kind read) next ≡ Some command → Parses Fits command_words name words command
+    of_kind kind read parses next others e = elim (either_way (option_map kind read) next command e) [
+      | inl q ↦ only_kind kind read parses q
       | inr q ↦ others q
     ]
 
 -- words that are parsed as a command are its words
-pub command_says : (words : List (List ℕ)) (command : Command) → command_of words ≡ Some command → Fits command × (words ≡ command_words command) × (list_all is_word words ≡ true)
+pub command_parses : (words : List (List ℕ)) (command : Command) → command_of words ≡ Some command → Fits command × (words ≡ command_words command) × (list_all is_word words ≡ true)
 unfolding command_of
-command_says [] command e = absurd (none-some command e)
-command_says (name ∷ words) command e = named_says name words command e
+command_parses [] command e = absurd (none-some command e)
+command_parses (name ∷ words) command e = named_parses name words command e
 
 -- there are some
 pub some_words : (words : List (List ℕ)) (command : Command) → command_of words ≡ Some command → 0 < length words
@@ -69,10 +69,10 @@ command_of-words (Growth command) fits = growth_of-words command fits
 command_of-words (Array command) fits = array_of-words command fits
 
 -- parts one of which is blank spell no command
-blank_says_none : (parts : List (List ℕ)) → list_any is_blank parts ≡ true → command_of parts ≡ None
-blank_says_none parts blank = elim (some_or_none (command_of parts)) [
+blank_states_none : (parts : List (List ℕ)) → list_any is_blank parts ≡ true → command_of parts ≡ None
+blank_states_none parts blank = elim (some_or_none (command_of parts)) [
   | inl p ↦
-      let there = words_there parts (command_says parts p.0 p.1).2 in
+      let there = words_there parts (command_parses parts p.0 p.1).2 in
       cc
   | inr e ↦ e
 ]
@@ -84,7 +84,7 @@ whichever false parts none = refl
 -- all parts of a line are parsed as its words are
 pub command_in-parts : (line : List ℕ) → command_of (parts_of line) ≡ command_in line
 unfolding command_in words_of command_of
-command_in-parts line = whichever (list_any is_blank (parts_of line)) (parts_of line) (blank_says_none (parts_of line))
+command_in-parts line = whichever (list_any is_blank (parts_of line)) (parts_of line) (blank_states_none (parts_of line))
 
 -- the command of a line, from its first part and the others
 pub first_part : (line name : List ℕ) (others : List (List ℕ)) → parts_of line ≡ name ∷ others → command_in line ≡ named name others

@@ -9,17 +9,17 @@ use Rattle.arrow2_script.specs.Commands.{bitmap_named, frozen_named, offset_name
 use Rattle.arrow2_script.specs.declared.growth_command.GrowthCommand.{GrowthCommand}
 use Rattle.arrow2_script.specs.declared.growth_command.GrowthCommand.TheVariants.{Fill, Append}
 use Rattle.arrow2_script.specs.declared.command.Command.TheVariants as Kinds
-use Rattle.arrow2_script.proofs.KindLemmas.{bits, numbers, slots, more, no_more, at_row, Says}
+use Rattle.arrow2_script.proofs.KindLemmas.{bits, numbers, slots, more, no_more, at_row, Parses}
 use Rattle.arrow2_script.proofs.SpellingLemmas.{is_word}
 use Rattle.arrow2_script.proofs.WordLemmas.{bit_of-byte, number_of-decimal, slot_of-decimal}
 
 -- words that are parsed as a command by which a bitmap grows are its words
-pub growth_says : (name : List ℕ) (words : List (List ℕ)) (command : GrowthCommand) → growth_named name words ≡ Some command → Says GrowthFits growth_words name words command
+pub growth_parses : (name : List ℕ) (words : List (List ℕ)) (command : GrowthCommand) → growth_named name words ≡ Some command → Parses GrowthFits growth_words name words command
 unfolding growth_named is_word
-growth_says name words command =
-    let says = Says GrowthFits growth_words in
-    at_row says (codes "fill") refl (more slots (more numbers (more bits no_more))) (λ p. Fill p.0 p.1.0 p.1.1.0) (λ p f w. ((f.0, f.1.0), refl, w)) words name command _ (
-    at_row says (codes "append") refl (more slots (more slots no_more)) (λ p. Append p.0 p.1.0) (λ p f w. ((f.0, f.1.0), refl, w)) words name command None (
+growth_parses name words command =
+    let parses = Parses GrowthFits growth_words in
+    at_row parses (codes "fill") refl (more slots (more numbers (more bits no_more))) (λ p. Fill p.0 p.1.0 p.1.1.0) (λ p f w. ((f.0, f.1.0), refl, w)) words name command _ (
+    at_row parses (codes "append") refl (more slots (more slots no_more)) (λ p. Append p.0 p.1.0) (λ p f w. ((f.0, f.1.0), refl, w)) words name command None (
     λ e. absurd (none-some command e)))
 
 -- the words of a command by which a bitmap grows are parsed as it

@@ -9,9 +9,9 @@ use Rattle.arrow2_script.proofs.LineLemmas.{parts_all}
 use Rattle.arrow2_script.proofs.WordLemmas.{at_word, choice, both, some_bytes, other_than}
 
 -- two digits spell the first byte, and those after them the others
-pub first_byte : (digits behind rest : List ℕ) (high low h l : ℕ) → digits ≡ high ∷ behind → behind ≡ low ∷ rest → h ≡ hex_value high → l ≡ hex_value low → bytes_of_digits digits ≡ (16 * h + l) ∷ bytes_of_digits rest
+pub first_byte : (digits following rest : List ℕ) (high low h l : ℕ) → digits ≡ high ∷ following → following ≡ low ∷ rest → h ≡ hex_value high → l ≡ hex_value low → bytes_of_digits digits ≡ (16 * h + l) ∷ bytes_of_digits rest
 unfolding bytes_of_digits
-first_byte digits behind rest high low h l e f is_high is_low = rw (e, f, is_high, is_low) refl
+first_byte digits following rest high low h l e f is_high is_low = rw (e, f, is_high, is_low) refl
 
 -- fewer digits spell none
 pub no_byte : (digits : List ℕ) → length digits ≡ 0 → bytes_of_digits digits ≡ []
@@ -19,10 +19,10 @@ unfolding bytes_of_digits
 no_byte [] e = refl
 no_byte (high ∷ digits) e = cc
 
-pub half_byte : (digits behind : List ℕ) (high : ℕ) → digits ≡ high ∷ behind → length behind ≡ 0 → bytes_of_digits digits ≡ []
+pub half_byte : (digits following : List ℕ) (high : ℕ) → digits ≡ high ∷ following → length following ≡ 0 → bytes_of_digits digits ≡ []
 unfolding bytes_of_digits
 half_byte digits [] high e f = rw e refl
-half_byte digits (low ∷ behind) high e f = cc
+half_byte digits (low ∷ following) high e f = cc
 
 -- half the number of digits
 pub length-bytes_of_digits : (digits : List ℕ) → length (bytes_of_digits digits) ≡ length digits / 2
@@ -48,13 +48,13 @@ are_even : (bs : List ℕ) → length (flat_map hex_digits bs) % 2 ≡ 0
 are_even [] = refl
 are_even (b ∷ bs) = omega (arith, are_even bs)
 
-said_again : (bs : List ℕ) → All (λ m. m < 256) bs → (list_all is_hex_digit (flat_map hex_digits bs) ≡ true) × (bytes_of_digits (flat_map hex_digits bs) ≡ bs)
+parsed_again : (bs : List ℕ) → All (λ m. m < 256) bs → (list_all is_hex_digit (flat_map hex_digits bs) ≡ true) × (bytes_of_digits (flat_map hex_digits bs) ≡ bs)
 unfolding bytes_of_digits
-said_again [] all = (refl, refl)
-said_again (b ∷ bs) all =
+parsed_again [] all = (refl, refl)
+parsed_again (b ∷ bs) all =
     let p = parts_all (λ m. m < 256) b bs all in
     let h = halves b p.0 in
-    let others = said_again bs p.1 in
+    let others = parsed_again bs p.1 in
     (rw (is_digit (b / 16) h.0, is_digit (b % 16) h.1, others.0) refl, rw (value_digit (b / 16) h.0, value_digit (b % 16) h.1, h.2, others.1) refl)
 
 not_dash : (b : ℕ) (bs : List ℕ) → hex_text (b ∷ bs) ≡ codes "-" → ⊥
@@ -66,8 +66,8 @@ bytes_of-text [] all = refl
 bytes_of-text (b ∷ bs) all =
     let text = other_than (hex_text (b ∷ bs)) (codes "-") (not_dash b bs) in
     let some = some_bytes (hex_digit (b / 16)) (hex_digit (b % 16) ∷ flat_map hex_digits bs) in
-    let said = said_again (b ∷ bs) all in
-    rw (text, some, are_even (b ∷ bs), said.0, said.1) refl
+    let parsed = parsed_again (b ∷ bs) all in
+    rw (text, some, are_even (b ∷ bs), parsed.0, parsed.1) refl
 
 -- ---- and back
 

@@ -9,25 +9,25 @@ use Rattle.arrow2_script.specs.declared.kernel_command.KernelCommand.{KernelComm
 use Rattle.arrow2_script.specs.declared.kernel_command.KernelCommand.TheVariants.{Make, AssignUnary, AssignBinary}
 use Rattle.arrow2_script.specs.declared.kernel_command.Kernel.TheVariants.{And, Or, Xor, Not, Unary, Binary, Ternary, Quaternary}
 use Rattle.arrow2_script.specs.declared.command.Command.TheVariants as Kinds
-use Rattle.arrow2_script.proofs.KindLemmas.{slots, tables, widths, more, no_more, at_row, Says}
+use Rattle.arrow2_script.proofs.KindLemmas.{slots, tables, widths, more, no_more, at_row, Parses}
 use Rattle.arrow2_script.proofs.SpellingLemmas.{is_word}
 use Rattle.arrow2_script.proofs.WordLemmas.{below_of-decimal, slot_of-decimal, width_of-word}
 
 -- words that are parsed as a command that combines bitmaps are its words
-pub kernel_says : (name : List ℕ) (words : List (List ℕ)) (command : KernelCommand) → kernel_named name words ≡ Some command → Says KernelFits kernel_words name words command
+pub kernel_parses : (name : List ℕ) (words : List (List ℕ)) (command : KernelCommand) → kernel_named name words ≡ Some command → Parses KernelFits kernel_words name words command
 unfolding kernel_named operator_named table_named is_word
-kernel_says name words command =
-    let says = Says KernelFits kernel_words in
-    at_row says (codes "inplace1") refl (more slots (more (tables 4 (omega arith)) (more widths no_more))) (λ p. AssignUnary p.0 p.1.0 p.1.1.0) (λ p f w. ((f.0, f.1.0), refl, w)) words name command _ (
-    at_row says (codes "inplace2") refl (more slots (more (tables 16 (omega arith)) (more widths (more slots no_more)))) (λ p. AssignBinary p.0 p.1.0 p.1.1.0 p.1.1.1.0) (λ p f w. ((f.0, f.1.0, f.1.1.1.0), refl, w)) words name command _ (
-    at_row says (codes "and") refl (more slots (more slots (more slots no_more))) (λ p. Make p.0 (And p.1.0 p.1.1.0)) (λ p f w. ((f.0, (f.1.0, f.1.1.0)), refl, w)) words name command _ (
-    at_row says (codes "or") refl (more slots (more slots (more slots no_more))) (λ p. Make p.0 (Or p.1.0 p.1.1.0)) (λ p f w. ((f.0, (f.1.0, f.1.1.0)), refl, w)) words name command _ (
-    at_row says (codes "xor") refl (more slots (more slots (more slots no_more))) (λ p. Make p.0 (Xor p.1.0 p.1.1.0)) (λ p f w. ((f.0, (f.1.0, f.1.1.0)), refl, w)) words name command _ (
-    at_row says (codes "not") refl (more slots (more slots no_more)) (λ p. Make p.0 (Not p.1.0)) (λ p f w. ((f.0, f.1.0), refl, w)) words name command _ (
-    at_row says (codes "table1") refl (more slots (more (tables 4 (omega arith)) (more slots no_more))) (λ p. Make p.0 (Unary p.1.0 p.1.1.0)) (λ p f w. ((f.0, (f.1.0, f.1.1.0)), refl, w)) words name command _ (
-    at_row says (codes "table2") refl (more slots (more (tables 16 (omega arith)) (more slots (more slots no_more)))) (λ p. Make p.0 (Binary p.1.0 p.1.1.0 p.1.1.1.0)) (λ p f w. ((f.0, (f.1.0, f.1.1.0, f.1.1.1.0)), refl, w)) words name command _ (
-    at_row says (codes "table3") refl (more slots (more (tables 256 (omega arith)) (more slots (more slots (more slots no_more))))) (λ p. Make p.0 (Ternary p.1.0 p.1.1.0 p.1.1.1.0 p.1.1.1.1.0)) (λ p f w. ((f.0, (f.1.0, f.1.1.0, f.1.1.1.0, f.1.1.1.1.0)), refl, w)) words name command _ (
-    at_row says (codes "table4") refl (more slots (more (tables 65536 (omega arith)) (more slots (more slots (more slots (more slots no_more)))))) (λ p. Make p.0 (Quaternary p.1.0 p.1.1.0 p.1.1.1.0 p.1.1.1.1.0 p.1.1.1.1.1.0)) (λ p f w. ((f.0, (f.1.0, f.1.1.0, f.1.1.1.0, f.1.1.1.1.0, f.1.1.1.1.1.0)), refl, w)) words name command None (
+kernel_parses name words command =
+    let parses = Parses KernelFits kernel_words in
+    at_row parses (codes "inplace1") refl (more slots (more (tables 4 (omega arith)) (more widths no_more))) (λ p. AssignUnary p.0 p.1.0 p.1.1.0) (λ p f w. ((f.0, f.1.0), refl, w)) words name command _ (
+    at_row parses (codes "inplace2") refl (more slots (more (tables 16 (omega arith)) (more widths (more slots no_more)))) (λ p. AssignBinary p.0 p.1.0 p.1.1.0 p.1.1.1.0) (λ p f w. ((f.0, f.1.0, f.1.1.1.0), refl, w)) words name command _ (
+    at_row parses (codes "and") refl (more slots (more slots (more slots no_more))) (λ p. Make p.0 (And p.1.0 p.1.1.0)) (λ p f w. ((f.0, (f.1.0, f.1.1.0)), refl, w)) words name command _ (
+    at_row parses (codes "or") refl (more slots (more slots (more slots no_more))) (λ p. Make p.0 (Or p.1.0 p.1.1.0)) (λ p f w. ((f.0, (f.1.0, f.1.1.0)), refl, w)) words name command _ (
+    at_row parses (codes "xor") refl (more slots (more slots (more slots no_more))) (λ p. Make p.0 (Xor p.1.0 p.1.1.0)) (λ p f w. ((f.0, (f.1.0, f.1.1.0)), refl, w)) words name command _ (
+    at_row parses (codes "not") refl (more slots (more slots no_more)) (λ p. Make p.0 (Not p.1.0)) (λ p f w. ((f.0, f.1.0), refl, w)) words name command _ (
+    at_row parses (codes "table1") refl (more slots (more (tables 4 (omega arith)) (more slots no_more))) (λ p. Make p.0 (Unary p.1.0 p.1.1.0)) (λ p f w. ((f.0, (f.1.0, f.1.1.0)), refl, w)) words name command _ (
+    at_row parses (codes "table2") refl (more slots (more (tables 16 (omega arith)) (more slots (more slots no_more)))) (λ p. Make p.0 (Binary p.1.0 p.1.1.0 p.1.1.1.0)) (λ p f w. ((f.0, (f.1.0, f.1.1.0, f.1.1.1.0)), refl, w)) words name command _ (
+    at_row parses (codes "table3") refl (more slots (more (tables 256 (omega arith)) (more slots (more slots (more slots no_more))))) (λ p. Make p.0 (Ternary p.1.0 p.1.1.0 p.1.1.1.0 p.1.1.1.1.0)) (λ p f w. ((f.0, (f.1.0, f.1.1.0, f.1.1.1.0, f.1.1.1.1.0)), refl, w)) words name command _ (
+    at_row parses (codes "table4") refl (more slots (more (tables 65536 (omega arith)) (more slots (more slots (more slots (more slots no_more)))))) (λ p. Make p.0 (Quaternary p.1.0 p.1.1.0 p.1.1.1.0 p.1.1.1.1.0 p.1.1.1.1.1.0)) (λ p f w. ((f.0, (f.1.0, f.1.1.0, f.1.1.1.0, f.1.1.1.1.0, f.1.1.1.1.1.0)), refl, w)) words name command None (
     λ e. absurd (none-some command e)))))))))))
 
 -- the words of a command that combines bitmaps are parsed as it

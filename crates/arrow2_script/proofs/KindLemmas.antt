@@ -87,18 +87,18 @@ abbrev pub more : {A B : Type 0} → Reader A → Values B → Values (A × B)
 more f g = record { read = f.read >> g.read; spell = λ x. f.spell x.0 ∷ g.spell x.1; Fits = λ x. f.Fits x.0 × g.Fits x.1; spelled = more_spelled f g; passes = more_pass f g }
 
 -- after this name, the words of a command, which are words
-abbrev pub Says : {C : Type 0} → (C → Type 0) → (C → List (List ℕ)) → List ℕ → List (List ℕ) → C → Type 0
-Says fits words_of name words command = fits command × (name ∷ words ≡ words_of command) × (list_all is_word (name ∷ words) ≡ true)
+abbrev pub Parses : {C : Type 0} → (C → Type 0) → (C → List (List ℕ)) → List ℕ → List (List ℕ) → C → Type 0
+Parses fits words_of name words command = fits command × (name ∷ words ≡ words_of command) × (list_all is_word (name ∷ words) ≡ true)
 
 -- a row of a table of commands: where the test of its name passes, the values after it are a command's; else the next
 -- row is one
-pub at_row : {A C : Type 0} (Says : List ℕ → List (List ℕ) → C → Type 0) (known : List ℕ) → is_word known ≡ true → (values : Values A) (made : A → C) → ((x : A) → values.Fits x → list_all is_word (known ∷ values.spell x) ≡ true → Says known (values.spell x) (made x)) → (words : List (List ℕ)) (name : List ℕ) (command : C) (next : Option C) → (next ≡ Some command → Says name words command) → cond (bytes_eq name known) (option_map made (values.read words)) next ≡ Some command → Says name words command
-at_row Says known is values made says words name command next others e = elim (choice (bytes_eq name known) (option_map made (values.read words)) next (Some command) e) [
+pub at_row : {A C : Type 0} (Parses : List ℕ → List (List ℕ) → C → Type 0) (known : List ℕ) → is_word known ≡ true → (values : Values A) (made : A → C) → ((x : A) → values.Fits x → list_all is_word (known ∷ values.spell x) ≡ true → Parses known (values.spell x) (made x)) → (words : List (List ℕ)) (name : List ℕ) (command : C) (next : Option C) → (next ≡ Some command → Parses name words command) → cond (bytes_eq name known) (option_map made (values.read words)) next ≡ Some command → Parses name words command
+at_row Parses known is values made parses words name command next others e = elim (choice (bytes_eq name known) (option_map made (values.read words)) next (Some command) e) [
   | inl p ↦
       let same = (bytes_eq-Decides name known).0 p.0 in
       let m = mapped made (values.read words) command p.1 in
       let q = values.spelled words m.0 m.1 in
       let pass : list_all is_word (known ∷ values.spell m.0) ≡ true = rw (is, values.passes m.0 q.0) refl in
-      rw same (subst (λ c. Says known words c) m.2 (subst (λ t. Says known t (made m.0)) q.1 (says m.0 q.0 pass)))
+      rw same (subst (λ c. Parses known words c) m.2 (subst (λ t. Parses known t (made m.0)) q.1 (parses m.0 q.0 pass)))
   | inr p ↦ others p.1
 ]

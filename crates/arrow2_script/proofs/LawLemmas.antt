@@ -12,7 +12,7 @@ use Rattle.arrow2_script.specs.declared.command.Command.{Command}
 use Rattle.arrow2_script.proofs.LineLemmas.{lines_of-cut, parts-joined, parts_all}
 use Rattle.arrow2_script.proofs.SpellingLemmas.{is_word, filled}
 use Rattle.arrow2_script.proofs.WordLemmas.{both}
-use Rattle.arrow2_script.proofs.CommandLemmas.{command_says, command_of-words, some_words}
+use Rattle.arrow2_script.proofs.CommandLemmas.{command_parses, command_of-words, some_words}
 
 -- a byte before the first part, where it is not the one that cuts
 free_longer : (cut b : ℕ) (parts : List (List ℕ)) → b ≢ cut → All (λ part. All (λ x. x ≢ cut) part) parts → All (λ part. All (λ x. x ≢ cut) part) (onto_first b parts)
@@ -160,7 +160,7 @@ words_law line words some = (λ e. let P : List (List ℕ) → Type 0 = λ w. Ar
 spelled : (line : List ℕ) (command : Command) → command_in line ≡ Some command → IsSpelling line command
 unfolding command_in
 spelled line command e =
-    let p = command_says (words_of line) command e in
+    let p = command_parses (words_of line) command e in
     let are = words_are line (some_words (words_of line) command e) in
     (p.0, sym are.2 ∙ ap (λ t. join_with_byte 32 t) p.1)
 
@@ -168,9 +168,9 @@ read : (line : List ℕ) (command : Command) → IsSpelling line command → com
 unfolding command_in
 read line command is =
     let parts = command_words command in
-    let says = command_of-words command is.0 in
-    let words = words_only line parts (some_words parts command says, words_pass parts (command_says parts command says).2, sym is.1) in
-    ap command_of words ∙ says
+    let parses = command_of-words command is.0 in
+    let words = words_only line parts (some_words parts command parses, words_pass parts (command_parses parts command parses).2, sym is.1) in
+    ap command_of words ∙ parses
 
 pub command_law : (line : List ℕ) (command : Command) → (command_in line ≡ Some command) ↔ IsSpelling line command
 command_law line command = (spelled line command, read line command)

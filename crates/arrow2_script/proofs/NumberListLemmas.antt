@@ -15,8 +15,8 @@ use Rattle.arrow2_script.proofs.LineLemmas.{parts_all, parts-joined, parts-last}
 use Rattle.arrow2_script.proofs.WordLemmas.{number_of-decimal, decimal-number_of, some_or_none, at_word, both, other_than, no_dash}
 
 -- a word that is a number is parsed as the number of its digits
-pub number-said : (word : List ℕ) → is_number word ≡ true → (number_of word ≡ Some (digits_value 10 word)) × (digits_value 10 word < 2 ^ 64) × (decimal (digits_value 10 word) ≡ word)
-number-said word e = elim (some_or_none (number_of word)) [
+pub number-parsed : (word : List ℕ) → is_number word ≡ true → (number_of word ≡ Some (digits_value 10 word)) × (digits_value 10 word < 2 ^ 64) × (decimal (digits_value 10 word) ≡ word)
+number-parsed word e = elim (some_or_none (number_of word)) [
   | inl p ↦
       let d = decimal-number_of word p.0 p.1 in
       let value : digits_value 10 word ≡ p.0 = ap (digits_value 10) (sym d.1) ∙ (decimal_is_IsNumeral p.0 d.0).1 in
@@ -26,15 +26,15 @@ number-said word e = elim (some_or_none (number_of word)) [
 
 -- the first of such words spells the first of their numbers
 pub first_number : (words others : List (List ℕ)) (word : List ℕ) (n : ℕ) → words ≡ word ∷ others → list_all is_number words ≡ true → number_of word ≡ Some n → numbers_of_words words ≡ n ∷ numbers_of_words others
-first_number words others word n e all says =
-    let value = (number-said word (both (is_number word) (list_all is_number others) (ap (list_all is_number) (sym e) ∙ all)).0).0 in
-    let same : digits_value 10 word ≡ n = same_Some (digits_value 10 word) n (sym value ∙ says) in
+first_number words others word n e all parses =
+    let value = (number-parsed word (both (is_number word) (list_all is_number others) (ap (list_all is_number) (sym e) ∙ all)).0).0 in
+    let same : digits_value 10 word ≡ n = same_Some (digits_value 10 word) n (sym value ∙ parses) in
     rw (e, same) refl
 
 -- there is one
 pub some_number : (words others : List (List ℕ)) (word : List ℕ) → words ≡ word ∷ others → list_all is_number words ≡ true → number_of word ≡ None → ⊥
 some_number words others word e all none =
-    let value = (number-said word (both (is_number word) (list_all is_number others) (ap (list_all is_number) (sym e) ∙ all)).0).0 in
+    let value = (number-parsed word (both (is_number word) (list_all is_number others) (ap (list_all is_number) (sym e) ∙ all)).0).0 in
     none-some (digits_value 10 word) (sym none ∙ value)
 
 -- and the others are numbers too
@@ -45,11 +45,11 @@ pub ruleset numbers = (first_number, some_number, other_numbers)
 
 -- ---- from numbers to their word
 
-said_again : (ns : List ℕ) → All (λ m. m < 2 ^ 64) ns → (list_all is_number (map decimal ns) ≡ true) × (numbers_of_words (map decimal ns) ≡ ns)
-said_again [] all = (refl, refl)
-said_again (n ∷ ns) all =
+parsed_again : (ns : List ℕ) → All (λ m. m < 2 ^ 64) ns → (list_all is_number (map decimal ns) ≡ true) × (numbers_of_words (map decimal ns) ≡ ns)
+parsed_again [] all = (refl, refl)
+parsed_again (n ∷ ns) all =
     let p = parts_all (λ m. m < 2 ^ 64) n ns all in
-    let others = said_again ns p.1 in
+    let others = parsed_again ns p.1 in
     (rw (number_of-decimal n p.0, others.0) refl, rw ((decimal_is_IsNumeral n p.0).1, others.1) refl)
 
 digits_free : (digits : List ℕ) → AllDigits 10 digits → All (λ b. b ≢ 44) digits
@@ -78,8 +78,8 @@ pub numbers_of-text : (ns : List ℕ) → All (λ m. m < 2 ^ 64) ns → numbers_
 unfolding numbers_of
 numbers_of-text [] all = refl
 numbers_of-text (n ∷ ns) all =
-    let said = said_again (n ∷ ns) all in
-    rw (other_than (join_with_byte 44 (map decimal (n ∷ ns))) (codes "-") (not_dash n ns all), numbers_parts n ns all, said.0, said.1) refl
+    let parsed = parsed_again (n ∷ ns) all in
+    rw (other_than (join_with_byte 44 (map decimal (n ∷ ns))) (codes "-") (not_dash n ns all), numbers_parts n ns all, parsed.0, parsed.1) refl
 
 -- ---- and back
 
@@ -87,7 +87,7 @@ words_again : (words : List (List ℕ)) → list_all is_number words ≡ true �
 words_again [] e = (All-nil (λ m. m < 2 ^ 64), refl)
 words_again (word ∷ words) e =
     let p = both (is_number word) (list_all is_number words) e in
-    let first = number-said word p.0 in
+    let first = number-parsed word p.0 in
     let others = words_again words p.1 in
     (All-cons (λ m. m < 2 ^ 64) (digits_value 10 word) (numbers_of_words words) first.1 others.0, rw (first.2, others.1) refl)
 

@@ -8,24 +8,24 @@ use Rattle.arrow2_script.specs.Commands.{bitmap_named, frozen_named, named, comm
 use Rattle.arrow2_script.specs.declared.offset_command.OffsetCommand.{OffsetCommand}
 use Rattle.arrow2_script.specs.declared.offset_command.OffsetCommand.TheVariants.{New, Push, Pop, Extend, Offsets, Freeze, Slice, Zip}
 use Rattle.arrow2_script.specs.declared.command.Command.TheVariants as Kinds
-use Rattle.arrow2_script.proofs.KindLemmas.{number_lists, numbers, slots, more, no_more, at_row, Says}
+use Rattle.arrow2_script.proofs.KindLemmas.{number_lists, numbers, slots, more, no_more, at_row, Parses}
 use Rattle.arrow2_script.proofs.SpellingLemmas.{is_word}
 use Rattle.arrow2_script.proofs.WordLemmas.{number_of-decimal, slot_of-decimal}
 use Rattle.arrow2_script.proofs.NumberListLemmas.{numbers_of-text}
 
 -- words that are parsed as a command on offsets are its words
-pub offset_says : (name : List ℕ) (words : List (List ℕ)) (command : OffsetCommand) → offset_named name words ≡ Some command → Says OffsetFits offset_words name words command
+pub offset_parses : (name : List ℕ) (words : List (List ℕ)) (command : OffsetCommand) → offset_named name words ≡ Some command → Parses OffsetFits offset_words name words command
 unfolding offset_named frozen_offsets_named is_word
-offset_says name words command =
-    let says = Says OffsetFits offset_words in
-    at_row says (codes "onew") refl (more slots (more numbers no_more)) (λ p. New p.0 p.1.0) (λ p f w. ((f.0, f.1.0), refl, w)) words name command _ (
-    at_row says (codes "opush") refl (more slots (more numbers no_more)) (λ p. Push p.0 p.1.0) (λ p f w. ((f.0, f.1.0), refl, w)) words name command _ (
-    at_row says (codes "opop") refl (more slots no_more) (λ p. Pop p.0) (λ p f w. (f.0, refl, w)) words name command _ (
-    at_row says (codes "oext") refl (more slots (more number_lists no_more)) (λ p. Extend p.0 p.1.0) (λ p f w. ((f.0, f.1.0), refl, w)) words name command _ (
-    at_row says (codes "ofreeze") refl (more slots no_more) (λ p. Freeze p.0) (λ p f w. (f.0, refl, w)) words name command _ (
-    at_row says (codes "olist") refl (more slots no_more) (λ p. Offsets p.0) (λ p f w. (f.0, refl, w)) words name command _ (
-    at_row says (codes "oslice") refl (more slots (more numbers (more numbers no_more))) (λ p. Slice p.0 p.1.0 p.1.1.0) (λ p f w. ((f.0, f.1.0, f.1.1.0), refl, w)) words name command _ (
-    at_row says (codes "zip") refl (more slots (more slots no_more)) (λ p. Zip p.0 p.1.0) (λ p f w. ((f.0, f.1.0), refl, w)) words name command None (
+offset_parses name words command =
+    let parses = Parses OffsetFits offset_words in
+    at_row parses (codes "onew") refl (more slots (more numbers no_more)) (λ p. New p.0 p.1.0) (λ p f w. ((f.0, f.1.0), refl, w)) words name command _ (
+    at_row parses (codes "opush") refl (more slots (more numbers no_more)) (λ p. Push p.0 p.1.0) (λ p f w. ((f.0, f.1.0), refl, w)) words name command _ (
+    at_row parses (codes "opop") refl (more slots no_more) (λ p. Pop p.0) (λ p f w. (f.0, refl, w)) words name command _ (
+    at_row parses (codes "oext") refl (more slots (more number_lists no_more)) (λ p. Extend p.0 p.1.0) (λ p f w. ((f.0, f.1.0), refl, w)) words name command _ (
+    at_row parses (codes "ofreeze") refl (more slots no_more) (λ p. Freeze p.0) (λ p f w. (f.0, refl, w)) words name command _ (
+    at_row parses (codes "olist") refl (more slots no_more) (λ p. Offsets p.0) (λ p f w. (f.0, refl, w)) words name command _ (
+    at_row parses (codes "oslice") refl (more slots (more numbers (more numbers no_more))) (λ p. Slice p.0 p.1.0 p.1.1.0) (λ p f w. ((f.0, f.1.0, f.1.1.0), refl, w)) words name command _ (
+    at_row parses (codes "zip") refl (more slots (more slots no_more)) (λ p. Zip p.0 p.1.0) (λ p f w. ((f.0, f.1.0), refl, w)) words name command None (
     λ e. absurd (none-some command e)))))))))
 
 -- the words of a command on offsets are parsed as it

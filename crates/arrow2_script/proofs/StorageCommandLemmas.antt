@@ -8,20 +8,20 @@ use Rattle.arrow2_script.specs.Commands.{bitmap_named, frozen_named, offset_name
 use Rattle.arrow2_script.specs.declared.storage_command.StorageCommand.{StorageCommand}
 use Rattle.arrow2_script.specs.declared.storage_command.StorageCommand.TheVariants.{Raw, Set, Words, Runs}
 use Rattle.arrow2_script.specs.declared.command.Command.TheVariants as Kinds
-use Rattle.arrow2_script.proofs.KindLemmas.{bits, hex_bytes, numbers, slots, widths, more, no_more, at_row, Says}
+use Rattle.arrow2_script.proofs.KindLemmas.{bits, hex_bytes, numbers, slots, widths, more, no_more, at_row, Parses}
 use Rattle.arrow2_script.proofs.SpellingLemmas.{is_word}
 use Rattle.arrow2_script.proofs.WordLemmas.{bit_of-byte, number_of-decimal, slot_of-decimal, width_of-word}
 use Rattle.arrow2_script.proofs.HexLemmas.{bytes_of-text}
 
 -- words that are parsed as a command on stored bits are its words
-pub storage_says : (name : List ℕ) (words : List (List ℕ)) (command : StorageCommand) → storage_named name words ≡ Some command → Says StorageFits storage_words name words command
+pub storage_parses : (name : List ℕ) (words : List (List ℕ)) (command : StorageCommand) → storage_named name words ≡ Some command → Parses StorageFits storage_words name words command
 unfolding storage_named is_word
-storage_says name words command =
-    let says = Says StorageFits storage_words in
-    at_row says (codes "raw") refl (more slots (more hex_bytes (more numbers (more numbers no_more)))) (λ p. Raw p.0 p.1.0 p.1.1.0 p.1.1.1.0) (λ p f w. ((f.0, f.1.0, f.1.1.0, f.1.1.1.0), refl, w)) words name command _ (
-    at_row says (codes "set") refl (more slots (more numbers (more bits no_more))) (λ p. Set p.0 p.1.0 p.1.1.0) (λ p f w. ((f.0, f.1.0), refl, w)) words name command _ (
-    at_row says (codes "words") refl (more slots (more widths no_more)) (λ p. Words p.0 p.1.0) (λ p f w. (f.0, refl, w)) words name command _ (
-    at_row says (codes "runs") refl (more slots no_more) (λ p. Runs p.0) (λ p f w. (f.0, refl, w)) words name command None (
+storage_parses name words command =
+    let parses = Parses StorageFits storage_words in
+    at_row parses (codes "raw") refl (more slots (more hex_bytes (more numbers (more numbers no_more)))) (λ p. Raw p.0 p.1.0 p.1.1.0 p.1.1.1.0) (λ p f w. ((f.0, f.1.0, f.1.1.0, f.1.1.1.0), refl, w)) words name command _ (
+    at_row parses (codes "set") refl (more slots (more numbers (more bits no_more))) (λ p. Set p.0 p.1.0 p.1.1.0) (λ p f w. ((f.0, f.1.0), refl, w)) words name command _ (
+    at_row parses (codes "words") refl (more slots (more widths no_more)) (λ p. Words p.0 p.1.0) (λ p f w. (f.0, refl, w)) words name command _ (
+    at_row parses (codes "runs") refl (more slots no_more) (λ p. Runs p.0) (λ p f w. (f.0, refl, w)) words name command None (
     λ e. absurd (none-some command e)))))
 
 -- the words of a command on stored bits are parsed as it

@@ -8,17 +8,17 @@ use Rattle.arrow2_script.specs.Commands.{bitmap_named, frozen_named, offset_name
 use Rattle.arrow2_script.specs.declared.value_command.ValueCommand.{ValueCommand}
 use Rattle.arrow2_script.specs.declared.value_command.ValueCommand.TheVariants.{Copy, Compare}
 use Rattle.arrow2_script.specs.declared.command.Command.TheVariants as Kinds
-use Rattle.arrow2_script.proofs.KindLemmas.{slots, more, no_more, at_row, Says}
+use Rattle.arrow2_script.proofs.KindLemmas.{slots, more, no_more, at_row, Parses}
 use Rattle.arrow2_script.proofs.SpellingLemmas.{is_word}
 use Rattle.arrow2_script.proofs.WordLemmas.{slot_of-decimal}
 
 -- words that are parsed as a command on values are its words
-pub value_says : (name : List ℕ) (words : List (List ℕ)) (command : ValueCommand) → value_named name words ≡ Some command → Says ValueFits value_words name words command
+pub value_parses : (name : List ℕ) (words : List (List ℕ)) (command : ValueCommand) → value_named name words ≡ Some command → Parses ValueFits value_words name words command
 unfolding value_named is_word
-value_says name words command =
-    let says = Says ValueFits value_words in
-    at_row says (codes "copy") refl (more slots (more slots no_more)) (λ p. Copy p.0 p.1.0) (λ p f w. ((f.0, f.1.0), refl, w)) words name command _ (
-    at_row says (codes "eq") refl (more slots (more slots no_more)) (λ p. Compare p.0 p.1.0) (λ p f w. ((f.0, f.1.0), refl, w)) words name command None (
+value_parses name words command =
+    let parses = Parses ValueFits value_words in
+    at_row parses (codes "copy") refl (more slots (more slots no_more)) (λ p. Copy p.0 p.1.0) (λ p f w. ((f.0, f.1.0), refl, w)) words name command _ (
+    at_row parses (codes "eq") refl (more slots (more slots no_more)) (λ p. Compare p.0 p.1.0) (λ p f w. ((f.0, f.1.0), refl, w)) words name command None (
     λ e. absurd (none-some command e)))
 
 -- the words of a command on values are parsed as it

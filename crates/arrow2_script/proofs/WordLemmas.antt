@@ -75,12 +75,12 @@ own = numerals_by_value (AllDigits 10) tells_digits
 pub number_of-digits : (word : List ℕ) (r : Option ℕ) → 0 < length word → ¬ ((1 < length word) × (get_or word 0 0 ≡ 48))
     → IfSome r (λ n. AllDigits 10 word × (n ≡ digits_value 10 word)) → IfSome r (λ n. n < 2 ^ 64)
     → IfNone r (¬ (AllDigits 10 word × (digits_value 10 word < 2 ^ 64))) → r ≡ number_of word
-number_of-digits word (Some n) some plain said fits refused =
+number_of-digits word (Some n) some plain parsed fits refused =
     let one : get_or word 0 0 ≡ 48 → length word ≡ 1 = λ e. let short : 1 < length word → ⊥ = λ l. plain (l, e) in omega (arith, short, some) in
-    let small : digits_value 10 word < 2 ^ 64 = rw (← said.1) fits in
-    let same = decimal-digits_value own word said.0 some one small in
-    ap Some said.1 ∙ sym (ap number_of (sym same) ∙ number_of-decimal (digits_value 10 word) small)
-number_of-digits word None some plain said fits refused =
+    let small : digits_value 10 word < 2 ^ 64 = rw (← parsed.1) fits in
+    let same = decimal-digits_value own word parsed.0 some one small in
+    ap Some parsed.1 ∙ sym (ap number_of (sym same) ∙ number_of-decimal (digits_value 10 word) small)
+number_of-digits word None some plain parsed fits refused =
     sym (number_of-none word (λ n h e.
     let is = decimal_is_IsNumeral n h in
     refused (rw e at is.0.1, let v : digits_value 10 word ≡ n = ap (digits_value 10) (sym e) ∙ is.1 in omega (arith, v, h))))
@@ -94,10 +94,10 @@ below_of-decimal bound n most h =
 
 pub decimal-below_of : (bound : ℕ) (word : List ℕ) (n : ℕ) → below_of bound word ≡ Some n → (n < bound) × (decimal n ≡ word)
 decimal-below_of bound word n e = option_and_then_some {P = (n < bound) × (decimal n ≡ word)} (λ x. cond (nat_lt x bound) (Some x) None) (number_of word) n e
-    (λ x said kept.
+    (λ x parsed kept.
     let p = cond_some (nat_lt x bound) x n kept in
     let fits : x < bound = grind (arith, p.0) in
-    (rw (← p.1) fits, rw (← p.1) (decimal-number_of word x said).1))
+    (rw (← p.1) fits, rw (← p.1) (decimal-number_of word x parsed).1))
 
 -- a slot's word
 pub slot_of-decimal : (n : ℕ) → n < 16 → slot_of (decimal n) ≡ Some n

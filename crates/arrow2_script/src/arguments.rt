@@ -8,15 +8,15 @@ use crate::words::Word;
 /// The values of words, one a word, and no word more: a pair of the first one and the others, or `()` for none.
 pub(crate) trait Values<'a>: Drop {
     // The values of words.
-    ghost say: { List (List ℕ) → Option Self };
+    ghost parsed: { List (List ℕ) → Option Self };
 
     /// Returns the values of the remaining words.
     fn read(parts: Parts<'a>) -> Option<Self>
-        ensures { result ≡ say parts.entry };
+        ensures { result ≡ parsed parts.entry };
 }
 
 impl<'a> Values<'a> for () {
-    ghost say = { no_words };
+    ghost parsed = { no_words };
 
     fn read(parts: Parts<'a>) -> Option<()> {
         let mut parts = parts;
@@ -28,11 +28,11 @@ impl<'a> Values<'a> for () {
 }
 
 impl<'a, A: Word<'a>, B: Values<'a>> Values<'a> for (A, B) {
-    ghost say = { A.says >> B.say };
+    ghost parsed = { A.parsed >> B.parsed };
 
     fn read(parts: Parts<'a>) -> Option<(A, B)> {
         let mut parts = parts;
-        let first = A::said(parts.next()?)?;
+        let first = A::parse(parts.next()?)?;
         let others = B::read(parts)?;
         Some((first, others))
     }

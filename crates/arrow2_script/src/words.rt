@@ -11,11 +11,11 @@ use std::marker::Model;
 /// A value that is spelled by one word.
 pub trait Word<'a>: Drop {
     // The value of each word, where it spells one of this type.
-    ghost says: { List ℕ → Option Self };
+    ghost parsed: { List ℕ → Option Self };
 
     /// Returns the value of a word.
-    fn said(word: &'a [u8]) -> Option<Self>
-        ensures { result ≡ says word.entry.now };
+    fn parse(word: &'a [u8]) -> Option<Self>
+        ensures { result ≡ parsed word.entry.now };
 }
 
 /// Returns whether the first of several digits is 0.
@@ -56,19 +56,19 @@ fn number(word: &[u8]) -> Option<u64>
 
 /// A number: decimal digits without a leading zero, except `0`, at most `u64::MAX`.
 impl<'a> Word<'a> for u64 {
-    ghost says = { number_of };
+    ghost parsed = { number_of };
 
-    fn said(word: &'a [u8]) -> Option<u64> {
+    fn parse(word: &'a [u8]) -> Option<u64> {
         number(word)
     }
 }
 
 /// A bit: `0` or `1`.
 impl<'a> Word<'a> for bool {
-    ghost says = { bit_of };
+    ghost parsed = { bit_of };
 
     #[tactic(auto, unfolding(crate::specs::Words::bit_of))]
-    fn said(word: &'a [u8]) -> Option<bool> {
+    fn parse(word: &'a [u8]) -> Option<bool> {
         if word == b"0".as_slice() {
             Some(false)
         } else if word == b"1".as_slice() {
@@ -107,9 +107,9 @@ impl<const BOUND: usize> Below<BOUND> {
 
 /// A number, where it is below the bound.
 impl<'a, const BOUND: usize> Word<'a> for Below<BOUND> {
-    ghost says = { below_of BOUND };
+    ghost parsed = { below_of BOUND };
 
-    fn said(word: &'a [u8]) -> Option<Below<BOUND>> {
+    fn parse(word: &'a [u8]) -> Option<Below<BOUND>> {
         let number = number(word)? as usize;
         if number < BOUND {
             Some(Below { number })
@@ -124,14 +124,14 @@ pub type SlotIndex = Below<16>;
 
 /// A slot that may be left out: `-` for none, or the slot's index.
 impl<'a> Word<'a> for Option<SlotIndex> {
-    ghost says = { optional_slot_of };
+    ghost parsed = { optional_slot_of };
 
     #[tactic(auto, unfolding(crate::specs::Words::optional_slot_of))]
-    fn said(word: &'a [u8]) -> Option<Option<SlotIndex>> {
+    fn parse(word: &'a [u8]) -> Option<Option<SlotIndex>> {
         if word == b"-".as_slice() {
             return Some(None);
         }
-        let slot = SlotIndex::said(word)?;
+        let slot = SlotIndex::parse(word)?;
         Some(Some(slot))
     }
 }
@@ -151,10 +151,10 @@ pub enum Width {
 
 /// A width: `8`, `16`, `32` or `64`.
 impl<'a> Word<'a> for Width {
-    ghost says = { width_of };
+    ghost parsed = { width_of };
 
     #[tactic(auto, unfolding(crate::specs::Words::width_of))]
-    fn said(word: &'a [u8]) -> Option<Width> {
+    fn parse(word: &'a [u8]) -> Option<Width> {
         if word == b"8".as_slice() {
             Some(Width::Bits8)
         } else if word == b"16".as_slice() {
@@ -199,10 +199,10 @@ impl<'a> BitText<'a> {
 
 /// Items: `-` for none, or bytes `0` and `1`.
 impl<'a> Word<'a> for BitText<'a> {
-    ghost says = { bits_of };
+    ghost parsed = { bits_of };
 
     #[tactic(auto, unfolding(crate::specs::Words::bits_of))]
-    fn said(word: &'a [u8]) -> Option<BitText<'a>> {
+    fn parse(word: &'a [u8]) -> Option<BitText<'a>> {
         if word == b"-".as_slice() {
             return Some(BitText { digits: &[] });
         }
@@ -269,10 +269,10 @@ impl<'a> HexText<'a> {
 
 /// Bytes: `-` for none, or two digits `0` to `9` and `a` to `f` for each.
 impl<'a> Word<'a> for HexText<'a> {
-    ghost says = { bytes_of };
+    ghost parsed = { bytes_of };
 
     #[tactic(auto, unfolding(crate::specs::Words::bytes_of, crate::specs::Words::bytes_of_digits))]
-    fn said(word: &'a [u8]) -> Option<HexText<'a>> {
+    fn parse(word: &'a [u8]) -> Option<HexText<'a>> {
         if word == b"-".as_slice() {
             return Some(HexText { digits: &[] });
         }
@@ -325,10 +325,10 @@ impl<'a> Model for NumberText<'a> {
 
 /// Numbers: `-` for none, or numbers joined by `,`.
 impl<'a> Word<'a> for NumberText<'a> {
-    ghost says = { numbers_of };
+    ghost parsed = { numbers_of };
 
     #[tactic(auto, unfolding(crate::specs::Words::numbers_of))]
-    fn said(word: &'a [u8]) -> Option<NumberText<'a>> {
+    fn parse(word: &'a [u8]) -> Option<NumberText<'a>> {
         if word == b"-".as_slice() {
             return Some(NumberText {
                 words: Parts::none(),

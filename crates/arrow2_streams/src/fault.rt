@@ -56,10 +56,10 @@ impl<T: Drop> From<AllocFailed<T>> for ReplayFault {
 }
 
 /// Returns the status that a program ends with after a replay. A fault is reported on standard error, as one line.
-pub fn exit_code<R: Eprint>(rt: &R, answer: Result<(), ReplayFault>) -> ExitCode
-    ensures { MatchResult answer (λ _. result ≡ ExitCode.SUCCESS) (λ _. result ≡ ExitCode.FAILURE) }
+pub fn exit_code<R: Eprint>(rt: &R, outcome: Result<(), ReplayFault>) -> ExitCode
+    ensures { MatchResult outcome (λ _. result ≡ ExitCode.SUCCESS) (λ _. result ≡ ExitCode.FAILURE) }
 {
-    match answer {
+    match outcome {
         Ok(()) => ExitCode::SUCCESS,
         Err(fault) => {
             let _ = rt.eprintln(fault);

@@ -7,12 +7,12 @@ ghost use Rattle.arrow2_bitmap.specs.Packed.{IsPacked};
 
 use arrow2_bitmap::Bitmap;
 use arrow2_bitmap::bitmap_ops::from_rows;
-use arrow2_kernels::rows::{Beside, OneList, Pair};
-use arrow2_kernels::tables::{quaternary_answers, ternary_answers};
+use arrow2_kernels::rows::{OneList, Pair, ZipRows};
+use arrow2_kernels::truth_tables::{quaternary_outputs, ternary_outputs};
 use arrow2_types::error::{Error, Result};
 
 /// Returns the bitmap of the results of `op` for each three words of 64 items at one index. The last words are filled
-/// with false. Requires that all have one length, and that `op` accepts all words.
+/// with false. Requires that all have equal lengths, and that `op` accepts all words.
 ///
 /// Differs from arrow2: padding bits don't reach `op`, nor do words after the last item. It returns no `Result`.
 ///
@@ -50,11 +50,11 @@ pub fn ternary<F: Fn(u64, u64, u64) -> u64>(
     let a3_words = OneList {
         chunks: a3.chunks::<u64>(),
     };
-    let two = Beside {
+    let two = ZipRows {
         left: a1_words,
         right: a2_words,
     };
-    let three = Beside {
+    let three = ZipRows {
         left: two,
         right: a3_words,
     };
@@ -62,7 +62,7 @@ pub fn ternary<F: Fn(u64, u64, u64) -> u64>(
 }
 
 /// Returns the bitmap of the results of `op` for each four words of 64 items at one index. The last words are filled
-/// with false. Requires that all have one length, and that `op` accepts all words.
+/// with false. Requires that all have equal lengths, and that `op` accepts all words.
 ///
 /// Differs from arrow2: padding bits don't reach `op`, nor do words after the last item. It returns no `Result`.
 ///
@@ -95,7 +95,7 @@ pub fn quaternary<F: Fn(u64, u64, u64, u64) -> u64>(
     ensures storage { IfOk result (λ b. IsPacked b) }
     ensures only { IfErr result (λ e. e ≡ Error.OutOfMemory) }
 {
-    let rows = Beside {
+    let rows = ZipRows {
         left: pair(a1, a2),
         right: pair(a3, a4),
     };
@@ -110,7 +110,7 @@ fn pair<'a>(left: &'a Bitmap, right: &'a Bitmap) -> Pair<'a>
     ensures right { result.lists.right.chunks.items ≡ items_of right.now }
 {
     Pair {
-        lists: Beside {
+        lists: ZipRows {
             left: OneList {
                 chunks: left.chunks::<u64>(),
             },
@@ -122,7 +122,7 @@ fn pair<'a>(left: &'a Bitmap, right: &'a Bitmap) -> Pair<'a>
 }
 
 /// Returns, item by item, the output of the truth table `t`: bit `a + 2 * b + 4 * c` of `t`, where `a`, `b` and `c` are
-/// the items of `a1`, `a2` and `a3` as 0 or 1. Requires that all have one length.
+/// the items of `a1`, `a2` and `a3` as 0 or 1. Requires that all have equal lengths.
 ///
 /// arrow2 has no such call.
 ///
@@ -138,11 +138,11 @@ pub fn ternary_table(a1: &Bitmap, a2: &Bitmap, a3: &Bitmap, t: u8) -> Result<Bit
     ensures storage { IfOk result (λ b. IsPacked b) }
     ensures only { IfErr result (λ e. e ≡ Error.OutOfMemory) }
 {
-    ternary(a1, a2, a3, |x, y, z| ternary_answers(u16::from(t), x, y, z))
+    ternary(a1, a2, a3, |x, y, z| ternary_outputs(u16::from(t), x, y, z))
 }
 
 /// Returns, item by item, the output of the truth table `t`: bit `a + 2 * b + 4 * c + 8 * d` of `t`, where `a` to `d`
-/// are the items of `a1` to `a4` as 0 or 1. Requires that all have one length.
+/// are the items of `a1` to `a4` as 0 or 1. Requires that all have equal lengths.
 ///
 /// arrow2 has no such call.
 ///
@@ -172,6 +172,6 @@ pub fn quaternary_table(
         a2,
         a3,
         a4,
-        |x, y, z, v| quaternary_answers(t, x, y, z, v),
+        |x, y, z, v| quaternary_outputs(t, x, y, z, v),
     )
 }

@@ -48,7 +48,7 @@ module _ {V : Type 0} (bytes_of : V → List ℕ) where
   popped-slot old new o last h p is =
       let more = length-append new.values (get_or old.values (length new.values) [] ∷ []) in
       let l = ap length p.values in
-      let place : last ≡ length new.values = omega (arith, more, l, p.same, h) in
+      let position : last ≡ length new.values = omega (arith, more, l, p.same, h) in
       record {
         same = p.same;
         same_left = p.same_left;
@@ -58,7 +58,7 @@ module _ {V : Type 0} (bytes_of : V → List ℕ) where
           p.values,
           p.valid,
           p.bytes,
-          is ∙ ap (λ k. slot (get_or old.values k []) (get_or old.valid k false)) place,
+          is ∙ ap (λ k. slot (get_or old.values k []) (get_or old.valid k false)) position,
         );
         none = tt;
         err_values = tt;
@@ -109,20 +109,20 @@ lost-last xs ns vs k old new last whole count values valid bytes left bits few s
     let short = length-cut (take s xs) (take k ns) in
     let fewer = length-take k ns in
     let front = length-take s xs in
-    let behind = length-drop s xs in
+    let following = length-drop s xs in
     let size = length-take n (drop s xs) in
     let sums = sum-parts ns k last in
-    let place : length new.values ≡ k = omega (arith, ap length left, short, fewer, last) in
+    let position : length new.values ≡ k = omega (arith, ap length left, short, fewer, last) in
     let old_values : old.values ≡ new.values ++ part xs s n ∷ [] = values ∙ (pop-cut xs ns k last whole ∙ ap (λ l. l ++ part xs s n ∷ []) (sym left)) in
     let value : get_or old.values (length new.values) [] ≡ part xs s n = last-is new.values (part xs s n) [] old.values old_values in
-    let bit : get_or old.valid (length new.values) false ≡ get_or vs k false = ap (λ l. get_or l (length new.values) false) valid ∙ ap (λ j. get_or vs j false) place in
+    let bit : get_or old.valid (length new.values) false ≡ get_or vs k false = ap (λ l. get_or l (length new.values) false) valid ∙ ap (λ j. get_or vs j false) position in
     let one = length-append new.valid (get_or vs k false ∷ []) in
     record {
       same = omega (arith, ap length values, ap length valid, long, count);
       values = old_values ∙ ap (λ x. new.values ++ x ∷ []) (sym value);
       valid = valid ∙ (bits ∙ ap (λ b. new.valid ++ b ∷ []) (sym bit));
-      same_left = omega (arith, ap length bits, one, place, count, last);
-      bytes = omega (arith, bytes, few, ap length value, front, behind, size, sums, whole);
+      same_left = omega (arith, ap length bits, one, position, count, last);
+      bytes = omega (arith, bytes, few, ap length value, front, following, size, sums, whole);
       data_type = same_type;
       capacity = capacity;
       byte_capacity = byte_capacity;

@@ -35,8 +35,8 @@ append-slots xs ys start a k n ns ms e size =
     ∙ (extend-cut xs ys (start + sum (take a ms)) n k ns (part ms a k) e size most ∙ ap (λ l. cut xs ns ++ l) (sym (part-cut ys start ms a k)))
 
 -- how many bytes the slots up to one of them have
-pub sum-part-behind : (ns : List ℕ) (a n : ℕ) → sum (take (a + n) ns) ≡ sum (take a ns) + sum (part ns a n)
-sum-part-behind ns a n = ap sum (take-add a n ns) ∙ sum_by-append (λ x. x) (take a ns) (part ns a n)
+pub sum-part-following : (ns : List ℕ) (a n : ℕ) → sum (take (a + n) ns) ≡ sum (take a ns) + sum (part ns a n)
+sum-part-following ns a n = ap sum (take-add a n ns) ∙ sum_by-append (λ x. x) (take a ns) (part ns a n)
 
 pub sum-take-all : (ns : List ℕ) (k : ℕ) → k ≡ length ns → sum (take k ns) ≡ sum ns
 sum-take-all ns k e = ap sum (take_all k ns (omega (arith, e)))
@@ -59,10 +59,10 @@ pop-cut xs ns k e whole =
     let split : ns ≡ take k ns ++ n ∷ [] = sym (take_all (k + 1) ns (omega (arith, e))) ∙ take_more ns k 0 (omega (arith, e)) in
     let sums = ap sum split ∙ sum-push (take k ns) n in
     let front = length-take s xs in
-    let behind = length-drop s xs in
-    let last : part xs s n ≡ drop s xs = take_all n (drop s xs) (omega (arith, behind, sums, whole)) in
+    let following = length-drop s xs in
+    let last : part xs s n ≡ drop s xs = take_all n (drop s xs) (omega (arith, following, sums, whole)) in
     ap (cut xs) split ∙ (ap (λ l. cut l (take k ns ++ n ∷ [])) (sym (take-append-drop s xs))
-    ∙ (push-cut (take s xs) (drop s xs) (take k ns) n (omega (arith, front, sums, whole)) (omega (arith, behind, sums, whole))
+    ∙ (push-cut (take s xs) (drop s xs) (take k ns) n (omega (arith, front, sums, whole)) (omega (arith, following, sums, whole))
     ∙ ap (λ l. cut (take s xs) (take k ns) ++ l ∷ []) (sym last)))
 
 -- the buffer of all that another one stores is that one, where nothing of it is sliced off
@@ -94,6 +94,6 @@ frozen-values offsets values xs ns first lengths whole =
     ap (λ l. cut (drop (start_of (buffer_items offsets)) (buffer_items values)) l) lengths
     ∙ (ap (λ n. cut (drop n (buffer_items values)) ns) first ∙ (ap (λ b. cut (buffer_items b) ns) whole ∙ ap (λ l. cut l ns) (take_all (length xs) xs (omega arith))))
 
-pub ruleset slotted = (arrays, nested, sum-part-behind, sum-take-all)
+pub ruleset slotted = (arrays, nested, sum-part-following, sum-take-all)
 
-pub ruleset growing = (arrays, nested, min-le_left, min-le_right, le-min, append-slots, sum-part-behind)
+pub ruleset growing = (arrays, nested, min-le_left, min-le_right, le-min, append-slots, sum-part-following)

@@ -84,7 +84,7 @@ pub record AppendsSlots {T : Type 0} (greatest : ℕ) (r : Result T Error) (old 
   pub capacity : old.capacity ≤ new.capacity
   pub byte_capacity : old.byte_capacity ≤ new.byte_capacity
 
--- room for more slots and bytes, where the last offset may reach the greatest one and not pass it: the slots stay
+-- capacity for more slots and bytes, where the last offset may reach the greatest one and not pass it: the slots stay
 pub record ReservesSlots {T : Type 0} (greatest : ℕ) (r : Result T Error) (old new : GrowingSlots) (count size : ℕ) : Type 0 where
   -- the validity has an item for each of them
   pub same : length old.valid ≡ length old.values
@@ -108,7 +108,7 @@ pub record ReservesSlots {T : Type 0} (greatest : ℕ) (r : Result T Error) (old
 
 -- the given slots and bytes more are within both capacities, a usize counts them, and the last offset does not pass the
 -- greatest one
-pub record HasRoomFor (greatest : ℕ) (held : GrowingSlots) (count size : ℕ) : Type 0 where
+pub record HasCapacityFor (greatest : ℕ) (held : GrowingSlots) (count size : ℕ) : Type 0 where
   pub slots : length held.valid + count ≤ held.capacity
   pub bytes : held.bytes + size ≤ held.byte_capacity
   pub counted : length held.valid + count < 2 ^ 64

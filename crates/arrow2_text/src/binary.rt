@@ -11,7 +11,7 @@ ghost use Rattle.arrow2_validity.specs.OptionalValidity.{valid_items};
 ghost use Rattle.arrow2_datatypes.specs.Types.{physical};
 ghost use Rattle.arrow2_text.specs.Binary.{HasBitPerSlot, binary_items, binary_layout, binary_of, binary_values, default_binary, sliced_binary, slots_between};
 ghost use Rattle.arrow2_text.specs.Growth.{bytes_of_items, items_by_bytes};
-ghost use Rattle.arrow2_text.specs.Refused.{FailsOnlyWith, RefusesParts, other_binary_layout_message, past_the_values_message};
+ghost use Rattle.arrow2_text.specs.Refusals.{FailsOnlyWith, RefusesParts, other_binary_layout_message, past_the_values_message};
 
 use crate::iterator::BinaryIter;
 use crate::mutable_binary::MutableBinaryArray;

@@ -23,7 +23,7 @@ impl<O: Offset> PartialEq for BinaryArray<O> {
         (on_per binary_items (partial_equiv_from_equiv (lists_equiv (options_equiv (lists_equiv nat_eq_equiv))))) };
 
     fn eq(&self, other: &BinaryArray<O>) -> bool
-        ensures told { result ≡ (⟦<DataType as PartialEq>⟧.eq self.now.data_type other.now.data_type
+        ensures equality { result ≡ (⟦<DataType as PartialEq>⟧.eq self.now.data_type other.now.data_type
             && pointwise (option_eq (pointwise nat_eq)) (binary_items self.now) (binary_items other.now)) }
         ensures same { IsTrue result
             ↔ (IsTrue (⟦<DataType as PartialEq>⟧.eq self.now.data_type other.now.data_type)
@@ -42,7 +42,7 @@ impl<O: Offset> PartialEq for Utf8Array<O> {
         (on_per binary_items (partial_equiv_from_equiv (lists_equiv (options_equiv (lists_equiv nat_eq_equiv))))) };
 
     fn eq(&self, other: &Utf8Array<O>) -> bool
-        ensures told { result ≡ (⟦<DataType as PartialEq>⟧.eq self.now.data_type other.now.data_type
+        ensures equality { result ≡ (⟦<DataType as PartialEq>⟧.eq self.now.data_type other.now.data_type
             && pointwise (option_eq (pointwise nat_eq)) (binary_items self.now) (binary_items other.now)) }
         ensures same { IsTrue result
             ↔ (IsTrue (⟦<DataType as PartialEq>⟧.eq self.now.data_type other.now.data_type)
@@ -54,7 +54,7 @@ impl<O: Offset> PartialEq for Utf8Array<O> {
 
 /// Returns whether two arrays have the same items, whatever stands under nulls.
 fn same_slots<O: Offset>(slots: &Slots<O>, others: &Slots<O>) -> bool
-    ensures told { result
+    ensures equality { result
         ≡ pointwise (option_eq (pointwise nat_eq)) (binary_items slots.now) (binary_items others.now) }
     ensures same { Decides result (binary_items slots.now ≡ binary_items others.now) }
 {

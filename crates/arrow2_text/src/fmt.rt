@@ -43,9 +43,9 @@ fn write_byte_strings<O: Offset, W: fmt::Write>(
         (debug_list (item_output bytes_output) (binary_items array.now)) f.new }
 {
     f.write_str("[")?;
-    for place in 0..array.len() {
-        write_separator(place, f)?;
-        write_bytes(array.get(place), f)?;
+    for position in 0..array.len() {
+        write_separator(position, f)?;
+        write_bytes(array.get(position), f)?;
     }
     f.write_str("]")
 }
@@ -59,9 +59,9 @@ fn write_texts<O: Offset, W: fmt::Write>(
         (debug_list (item_output (λ text. Some text)) (binary_items array.now)) f.new }
 {
     f.write_str("[")?;
-    for place in 0..array.len() {
-        write_separator(place, f)?;
-        write_text(array.get(place), f)?;
+    for position in 0..array.len() {
+        write_separator(position, f)?;
+        write_text(array.get(position), f)?;
     }
     f.write_str("]")
 }

@@ -7,7 +7,7 @@ ghost use Rattle.arrow2_model.specs.Parts.{part};
 ghost use Rattle.arrow2_validity.specs.OptionalValidity.{valid_items};
 ghost use Rattle.arrow2_text.specs.Binary.{binary_items, binary_values, slot_offset, slots_size};
 ghost use Rattle.arrow2_offset.specs.Nested.{cut};
-ghost use Rattle.arrow2_text.specs.Growth.{AppendsSlots, GrownBySlots, HasRoomFor, LosesLastSlot, PopsSlot, ReservesSlots};
+ghost use Rattle.arrow2_text.specs.Growth.{AppendsSlots, GrownBySlots, HasCapacityFor, LosesLastSlot, PopsSlot, ReservesSlots};
 
 use crate::slots::Slots;
 use arrow2_bitmap::MutableBitmap;
@@ -206,7 +206,7 @@ impl<O: Offset> Growing<O> {
 
     /// Appends a slot. Requires that it is within both capacities, and that the last offset does not pass `O::MAX`.
     fn push_within(&mut self, value: &[u8], valid: bool)
-        requires { HasRoomFor O.MAX self.old 1 (length value.now) }
+        requires { HasCapacityFor O.MAX self.old 1 (length value.now) }
         ensures { GrownBySlots self.old self.new (value.now ∷ []) (valid ∷ []) (length value.now) }
     {
         // None of them allocates, so none returns an error.
@@ -238,7 +238,7 @@ impl<O: Offset> Growing<O> {
             (slot_offset slots.now.offsets start)
             (slots_size slots.now.offsets start len) }
         requires size { length bytes.now ≡ slots_size slots.now.offsets start len }
-        requires room { HasRoomFor O.MAX self.old len (length bytes.now) }
+        requires spare { HasCapacityFor O.MAX self.old len (length bytes.now) }
         ensures { GrownBySlots self.old self.new (part (binary_values slots.now) start len)
             (part (valid_items slots.now.validity) start len)
             (slots_size slots.now.offsets start len) }

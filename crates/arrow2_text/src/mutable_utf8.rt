@@ -28,6 +28,18 @@ use std::rc::Rc;
 ///
 /// Differs from arrow2: its validity is always there, and [`MutableUtf8Array::freeze`] leaves it out where no item is
 /// null. Before `freeze` no call reads or sets an item, but for [`MutableUtf8Array::pop`].
+///
+/// # Examples
+///
+/// ```rust
+/// use arrow2::array::MutableUtf8Array;
+///
+/// let mut names = MutableUtf8Array::<i32>::new(alloc)?;
+/// names.push(Some("Ada"))?;
+/// names.push(None)?;
+/// let names = names.freeze()?;
+/// assert!(rt; names.get(0) == Some("Ada") && names.get(1).is_none());
+/// ```
 #[derive(Drop)]
 pub struct MutableUtf8Array<O: Offset> {
     slots: Growing<O>,

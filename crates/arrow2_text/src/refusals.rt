@@ -7,7 +7,7 @@ ghost use Rattle.arrow2_datatypes.specs.Types.{physical};
 ghost use Rattle.arrow2_utf8.specs.Texts.{AreTexts};
 ghost use Rattle.arrow2_validity.specs.OptionalValidity.{valid_items};
 ghost use Rattle.arrow2_text.specs.Binary.{binary_layout, default_binary, default_text, slots_between, text_layout};
-ghost use Rattle.arrow2_text.specs.Refused.{FailsOnlyWith, RefusesParts, not_utf8, other_binary_layout_message, other_text_layout_message, past_the_values_message};
+ghost use Rattle.arrow2_text.specs.Refusals.{FailsOnlyWith, RefusesParts, not_utf8, other_binary_layout_message, other_text_layout_message, past_the_values_message};
 
 use arrow2_bitmap::Bitmap;
 use arrow2_buffer::Buffer;

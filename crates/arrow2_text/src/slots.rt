@@ -155,7 +155,7 @@ impl<O: Offset> Slots<O> {
     }
 
     /// Returns the offset after the first `index` slots. Requires that `index` is at most the number of slots.
-    fn place(&self, index: usize) -> usize
+    fn position(&self, index: usize) -> usize
         requires inside { index ≤ slots_between self.now.offsets }
         ensures { result ≡ slot_offset self.now.offsets index }
     {
@@ -175,7 +175,7 @@ impl<O: Offset> Slots<O> {
     {
         let count = self.len();
         prove!(start <= count && len <= count - start);
-        let (from, to) = (self.place(start), self.place(start + len));
+        let (from, to) = (self.position(start), self.position(start + len));
         &self.values.as_slice()[from..to]
     }
 

@@ -12,7 +12,7 @@ ghost use Rattle.arrow2_datatypes.specs.Types.{physical};
 ghost use Rattle.arrow2_utf8.specs.Texts.{AreTexts};
 ghost use Rattle.arrow2_text.specs.Binary.{HasBitPerSlot, binary_items, binary_of, binary_values, default_binary, default_text, sliced_binary, slots_between, text_layout};
 ghost use Rattle.arrow2_text.specs.Growth.{bytes_of_items, items_by_bytes};
-ghost use Rattle.arrow2_text.specs.Refused.{FailsOnlyWith, RefusesParts, not_utf8, other_text_layout_message, past_the_values_message};
+ghost use Rattle.arrow2_text.specs.Refusals.{FailsOnlyWith, RefusesParts, not_utf8, other_text_layout_message, past_the_values_message};
 
 use crate::binary::BinaryArray;
 use crate::iterator::Utf8Iter;
@@ -40,6 +40,18 @@ use std::str;
 ///
 /// Differs from arrow2: the logical type is shared by an `Rc`, so that a clone does not allocate. An array is not
 /// `Send`, there is no trait `Array`, and `for item in array.iter()` stands for `for item in &array`.
+///
+/// # Examples
+///
+/// ```rust
+/// use arrow2::array::MutableUtf8Array;
+///
+/// let mut names = MutableUtf8Array::<i32>::new(alloc)?;
+/// names.push(Some("Ada"))?;
+/// names.push(None)?;
+/// let names = names.freeze()?;
+/// assert!(rt; names.get(0) == Some("Ada") && names.get(1).is_none());
+/// ```
 #[derive(Drop)]
 pub struct Utf8Array<O: Offset> {
     slots: Slots<O>,

@@ -2,8 +2,8 @@
 use Rattle.std.specs.Prelude.{◌≡◌, ℕ, List, string_bytes}
 use Rattle.arrow2_types.specs.declared.error.Error.{Error}
 use Rattle.arrow2_types.specs.declared.error.Error.TheVariants.{InvalidArgumentError, Overflow, OutOfMemory}
-use Rattle.arrow2_types.specs.declared.refusal.Refusal.{Refusal}
-use Rattle.arrow2_types.specs.declared.refusal.Refusal.TheVariants as refusal
+use Rattle.arrow2_types.specs.declared.growth_error.GrowthError.{GrowthError}
+use Rattle.arrow2_types.specs.declared.growth_error.GrowthError.TheVariants as growth_error
 
 -- an invalid argument, in these words; or out of memory, where the allocation of the words fails
 abbrev pub IsInvalidArgumentOrOutOfMemory : Error → List ℕ → Type 0
@@ -12,6 +12,6 @@ IsInvalidArgumentOrOutOfMemory OutOfMemory words = Unit {0}
 IsInvalidArgumentOrOutOfMemory _ words = ⊥
 
 -- the error that a refused growth becomes
-abbrev pub error_of : Refusal → Error
-error_of refusal.Overflow = Overflow
-error_of refusal.OutOfMemory = OutOfMemory
+abbrev pub error_of : GrowthError → Error
+error_of growth_error.Overflow = Overflow
+error_of growth_error.OutOfMemory = OutOfMemory

@@ -3,6 +3,6 @@
 
 pub mod arrays;
 pub mod error;
+pub mod growth_error;
 pub mod native;
 pub mod primitive;
-pub mod refusal;

@@ -55,7 +55,7 @@ pub fn filled<T: NativeType>(column: &PrimitiveArray<T>, value: T) -> Result<Pri
     filled.freeze()
 }
 
-/// Returns the sum of the items that a mask selects. Requires that column and mask have one length.
+/// Returns the sum of the items that a mask selects. Requires that column and mask have equal lengths.
 ///
 /// # Errors
 ///

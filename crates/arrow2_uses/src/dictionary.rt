@@ -6,7 +6,7 @@ ghost use Rattle.arrow2.specs.Parts.{part};
 ghost use Rattle.arrow2.specs.Primitive.{primitive_items};
 ghost use Rattle.arrow2.specs.Selected.{selected};
 ghost use Rattle.arrow2.specs.Storage.{items_of};
-ghost use Rattle.arrow2.specs.Taken.{IsInBoundsOrNull, item_at};
+ghost use Rattle.arrow2.specs.Take.{IsInBoundsOrNull, item_at};
 
 use arrow2::array::{MutableUtf8Array, PrimitiveArray, Utf8Array};
 use arrow2::bitmap::Bitmap;
@@ -25,7 +25,7 @@ impl Model for Dictionary {
     ghost use Rattle.std.specs.Prelude.{ℕ, List, Option, All, pos, length, map};
     ghost use Rattle.arrow2.specs.Binary.{binary_items};
     ghost use Rattle.arrow2.specs.Primitive.{primitive_items};
-    ghost use Rattle.arrow2.specs.Taken.{IsInBoundsOrNull, item_at};
+    ghost use Rattle.arrow2.specs.Take.{IsInBoundsOrNull, item_at};
 
     ghost Value = { List (Option (List ℕ)) };
 
@@ -70,7 +70,7 @@ impl Dictionary {
         self.keys.slice(offset, length);
     }
 
-    /// Returns the items at whose index the mask is true. Requires that it has one item for each of the column's.
+    /// Returns the items at whose index the mask is true. Requires that the mask has as many items as the column.
     ///
     /// # Errors
     ///

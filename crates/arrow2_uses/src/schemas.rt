@@ -8,11 +8,11 @@ use arrow2::laws;
 
 /// Returns the first `count` columns, or all where there are fewer.
 pub fn first_columns(schema: Schema, count: usize) -> Schema
-    ensures columns { result.fields.items ≡ accepted (λ place _.
-        nat_lt place count) schema.fields.items }
+    ensures columns { result.fields.items ≡ accepted (λ position _.
+        nat_lt position count) schema.fields.items }
     ensures metadata { result.metadata ≡ schema.metadata }
 {
-    schema.filter(|place, _| place < count)
+    schema.filter(|position, _| position < count)
 }
 
 /// Returns the columns in which nulls may stand.
@@ -27,11 +27,11 @@ pub fn nullable_columns(schema: Schema) -> Schema
 /// Returns the columns at whose index the mask is true. Requires one item for each column.
 pub fn masked_columns(schema: Schema, mask: &[bool]) -> Schema
     requires same_length { length mask.now ≡ length schema.fields.items }
-    ensures columns { result.fields.items ≡ accepted (λ place _.
-        slice_index_or mask.now place false) schema.fields.items }
+    ensures columns { result.fields.items ≡ accepted (λ position _.
+        slice_index_or mask.now position false) schema.fields.items }
     ensures metadata { result.metadata ≡ schema.metadata }
 {
-    schema.filter(|place, _| mask[place])
+    schema.filter(|position, _| mask[position])
 }
 
 /// Returns the layouts of a type and of all its extensions.

@@ -52,7 +52,7 @@ text-boundary xs (n ∷ ns) (suc k) h all =
 pub sum-take-step : (ns : List ℕ) (k : ℕ) → sum (take (k + 1) ns) ≡ sum (take k ns) + get_or ns k 0
 sum-take-step ns k = rw add-one (sum-take-next ns k)
 
-pub ruleset places = (length-lengths_of, length-map, sum-take-le, sum-take-step)
+pub ruleset positions = (length-lengths_of, length-map, sum-take-le, sum-take-step)
 
 -- the same of the bytes from the first offset, a, to the last, b
 module _ (xs : List ℕ) (ns : List ℕ) (start a b : ℕ) (from : a ≡ start) (to : b ≡ start + sum ns) where

@@ -110,14 +110,14 @@ pub fn text_at<'a, O: Offset>(offsets: &OffsetsBuffer<O>, values: &'a [u8], slot
 }
 
 /// Checks the values between numbers that are known to be offsets.
-#[tactic(auto, using(crate::proofs::Between::places))]
+#[tactic(auto, using(crate::proofs::Between::positions))]
 fn try_check_slots<O: Offset>(offsets: &[O], values: &[u8]) -> Result<(), BrokenTexts>
     requires valid { AreOffsets (map O.value offsets.now) }
     ensures accepted { IsOk result ↔ AreTexts (map O.value offsets.now) values.now }
     ensures broken { IfErr result (λ broken.
         ReportsBrokenTexts (map O.value offsets.now) values.now broken) }
 {
-    if last_place(offsets) > values.len() {
+    if last_position(offsets) > values.len() {
         return Err(BrokenTexts::PastTheValues);
     }
     if are_texts_at_once(offsets, values) {
@@ -130,19 +130,19 @@ fn try_check_slots<O: Offset>(offsets: &[O], values: &[u8]) -> Result<(), Broken
 }
 
 /// Returns whether the values between the offsets are one text, and each offset stands between its characters.
-#[tactic(auto, using(crate::proofs::Between::places))]
+#[tactic(auto, using(crate::proofs::Between::positions))]
 fn are_texts_at_once<O: Offset>(offsets: &[O], values: &[u8]) -> bool
     requires valid { AreOffsets (map O.value offsets.now) }
     requires inside { last_of (map O.value offsets.now) ≤ length values.now }
     ensures { IsTrue result ↔ All IsUtf8 (slot_values (map O.value offsets.now) values.now) }
 {
-    let bytes = &values[place(offsets, 0)..last_place(offsets)];
+    let bytes = &values[position(offsets, 0)..last_position(offsets)];
     bytes.is_ascii() || (is_text(bytes) && stand_between(offsets, bytes))
 }
 
 /// Returns whether each offset stands between characters of the bytes that they span. Reads all of them, with no
 /// branch.
-#[tactic(auto, using(crate::proofs::Between::places))]
+#[tactic(auto, using(crate::proofs::Between::positions))]
 fn stand_between<O: Offset>(offsets: &[O], bytes: &[u8]) -> bool
     requires valid { AreOffsets (map O.value offsets.now) }
     requires spanned { length bytes.now ≡ sum (lengths_of (map O.value offsets.now)) }
@@ -152,27 +152,27 @@ fn stand_between<O: Offset>(offsets: &[O], bytes: &[u8]) -> bool
     if bytes.is_empty() {
         return true;
     }
-    let start = place(offsets, 0);
+    let start = position(offsets, 0);
     let mut between = true;
     for index in 0..offsets.len() {
-        between &= is_boundary(bytes, place(offsets, index) - start);
+        between &= is_boundary(bytes, position(offsets, index) - start);
     }
     between
 }
 
 /// Returns whether a character may begin at an index, or the bytes end there. With no branch.
-fn is_boundary(bytes: &[u8], place: usize) -> bool
+fn is_boundary(bytes: &[u8], position: usize) -> bool
     requires some { 0 < length bytes.now }
-    requires inside { place ≤ length bytes.now }
-    ensures { IsTrue result ↔ IsCharBoundary bytes.now place }
+    requires inside { position ≤ length bytes.now }
+    ensures { IsTrue result ↔ IsCharBoundary bytes.now position }
 {
     let last = bytes.len() - 1;
-    let byte = bytes[place.min(last)];
-    (last < place) | (byte < 0x80) | (0xC0 <= byte)
+    let byte = bytes[position.min(last)];
+    (last < position) | (byte < 0x80) | (0xC0 <= byte)
 }
 
 /// Returns the first slot whose values are not UTF-8.
-#[tactic(auto, using(crate::proofs::Between::places))]
+#[tactic(auto, using(crate::proofs::Between::positions))]
 fn first_broken<O: Offset>(offsets: &[O], values: &[u8]) -> Option<usize>
     requires valid { AreOffsets (map O.value offsets.now) }
     requires inside { last_of (map O.value offsets.now) ≤ length values.now }
@@ -188,7 +188,7 @@ fn first_broken<O: Offset>(offsets: &[O], values: &[u8]) -> Option<usize>
 }
 
 /// Returns the values of a slot.
-#[tactic(auto, using(crate::proofs::Between::places))]
+#[tactic(auto, using(crate::proofs::Between::positions))]
 fn slot_of<'a, O: Offset>(offsets: &[O], values: &'a [u8], slot: usize) -> &'a [u8]
     requires valid { AreOffsets (map O.value offsets.now) }
     requires inside { last_of (map O.value offsets.now) ≤ length values.now }
@@ -196,7 +196,7 @@ fn slot_of<'a, O: Offset>(offsets: &[O], values: &'a [u8], slot: usize) -> &'a [
     ensures { result.now ≡ slice_index_or (slot_values (map O.value offsets.now) values.now) slot
         [] }
 {
-    &values[place(offsets, slot)..place(offsets, slot + 1)]
+    &values[position(offsets, slot)..position(offsets, slot + 1)]
 }
 
 /// Returns whether the bytes are UTF-8.
@@ -207,7 +207,7 @@ fn is_text(bytes: &[u8]) -> bool
 }
 
 /// Returns the last offset.
-fn last_place<O: Offset>(offsets: &[O]) -> usize
+fn last_position<O: Offset>(offsets: &[O]) -> usize
     requires { AreOffsets (map O.value offsets.now) }
     ensures { result ≡ last_of (map O.value offsets.now) }
 {
@@ -215,7 +215,7 @@ fn last_place<O: Offset>(offsets: &[O]) -> usize
 }
 
 /// Returns the offset at an index.
-fn place<O: Offset>(offsets: &[O], index: usize) -> usize
+fn position<O: Offset>(offsets: &[O], index: usize) -> usize
     requires valid { AreOffsets (map O.value offsets.now) }
     requires below { index < length offsets.now }
     ensures { result ≡ offset_at (start_of (map O.value offsets.now))

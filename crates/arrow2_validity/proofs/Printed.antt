@@ -13,9 +13,9 @@ assoc (Some a) None c = refl
 assoc (Some a) (Some b) None = refl
 assoc (Some a) (Some b) (Some c) = ap (λ t. Some t) (append_assoc a b c)
 
-nothing-behind : (a : Option (List ℕ)) → a ++? Some [] ≡ a
-nothing-behind None = refl
-nothing-behind (Some a) = ap (λ t. Some t) (append-nil a)
+nothing-following : (a : Option (List ℕ)) → a ++? Some [] ≡ a
+nothing-following None = refl
+nothing-following (Some a) = ap (λ t. Some t) (append-nil a)
 
 nothing-before : (a : Option (List ℕ)) → Some [] ++? a ≡ a
 nothing-before None = refl
@@ -38,7 +38,7 @@ module _ {X : Type 0} (text : X → Option (List ℕ)) where
   -- one item more
   more : (lead : List ℕ) (xs : List X) (i : ℕ) (d : X) → i < length xs → debug_items text lead (take (suc i) xs) ≡ debug_items text lead (take i xs) ++? (Some (lead_at lead i) ++? text (get_or xs i d))
   more lead [] i d h = absurd (omega (arith, h))
-  more lead (y ∷ ys) zero d h = ap (λ t. Some lead ++? t) (nothing-behind (text y)) ∙ sym (nothing-before (Some lead ++? text y))
+  more lead (y ∷ ys) zero d h = ap (λ t. Some lead ++? t) (nothing-following (text y)) ∙ sym (nothing-before (Some lead ++? text y))
   more lead (y ∷ ys) (suc i) d h =
       let rest = debug_items text comma_space (take i ys) in
       let last = text (get_or ys i d) in
@@ -70,8 +70,8 @@ module _ {X : Type 0} (text : X → Option (List ℕ)) where
         let last = text (get_or items i d) in
         let one : debug_items text [] (take (i + 1) items) ≡ before ++? (Some (separator i) ++? last) =
         ap (λ n. debug_items text [] (take n items)) (add-one i) ∙ (more [] items i d below ∙ ap (λ l. before ++? (Some l ++? last)) (first-lead i)) in
-        let behind = shows-then f g k (head ++? before) (Some (separator i) ++? last) so_far (λ plain. shows-then g h k (Some (separator i)) last (comma plain) item) in
-        subst (λ o. Shows f o k) (assoc head before (Some (separator i) ++? last) ∙ ap (λ t. head ++? t) (sym one)) behind
+        let following = shows-then f g k (head ++? before) (Some (separator i) ++? last) so_far (λ plain. shows-then g h k (Some (separator i)) last (comma plain) item) in
+        subst (λ o. Shows f o k) (assoc head before (Some (separator i) ++? last) ∙ ap (λ t. head ++? t) (sym one)) following
 
     -- the bracket after all of them
     pub all-shown : (items : List X) (i : ℕ) (f g h : Formatter W) → length items ≤ i

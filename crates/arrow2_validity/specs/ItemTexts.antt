@@ -9,4 +9,4 @@ item_output text (Some x) = text x
 -- the separator before an item, by its index
 abbrev pub separator : ℕ → List ℕ
 separator zero = []
-separator (suc place) = codes ", "
+separator (suc position) = codes ", "

@@ -1,3 +1,3 @@
 pub mod OptionalValidity
-pub mod Refused
+pub mod Refusals
 pub mod ItemTexts

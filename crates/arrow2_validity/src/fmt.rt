@@ -5,8 +5,8 @@ ghost use Rattle.arrow2_validity.specs.ItemTexts.{separator};
 use std::fmt;
 
 /// Writes the separator before the item at an index: a comma, and nothing before the first.
-pub fn write_separator<W: fmt::Write>(place: usize, f: &mut fmt::Formatter<W>) -> fmt::Result
-    ensures { WritesOnOk W.write_str_gives f.old result (separator place) f.new }
+pub fn write_separator<W: fmt::Write>(position: usize, f: &mut fmt::Formatter<W>) -> fmt::Result
+    ensures { WritesOnOk W.write_str_gives f.old result (separator position) f.new }
 {
-    f.write_str(if place > 0 { ", " } else { "" })
+    f.write_str(if position > 0 { ", " } else { "" })
 }

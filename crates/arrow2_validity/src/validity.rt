@@ -5,10 +5,10 @@ ghost use Rattle.either.specs.Either.{MatchEither};
 ghost use Rattle.arrow2_model.specs.Parts.{falses, part};
 ghost use Rattle.arrow2_model.specs.Storage.{items_of};
 ghost use Rattle.arrow2_model.specs.Tables.{each};
-ghost use Rattle.arrow2_growth.specs.Growth.{Appends};
+ghost use Rattle.arrow2_packed_bits.specs.Growth.{Appends};
 ghost use Rattle.arrow2_types.specs.Refusals.{IsInvalidArgumentOrOutOfMemory, error_of};
 ghost use Rattle.arrow2_validity.specs.OptionalValidity.{OptionalValidity, valid_items, sliced_validity};
-ghost use Rattle.arrow2_validity.specs.Refused.{unequal_lengths_message};
+ghost use Rattle.arrow2_validity.specs.Refusals.{unequal_lengths_message};
 
 use arrow2_bitmap::bitmap_ops::and;
 use arrow2_bitmap::{Bitmap, MutableBitmap};
@@ -186,7 +186,7 @@ impl Validity {
     }
 
     /// Returns which items are null neither here nor in `other`, with no bitmap exactly where neither has one. Requires
-    /// that both have one length.
+    /// that both have equal lengths.
     ///
     /// # Errors
     ///
@@ -221,7 +221,7 @@ impl Clone for Validity {
 }
 
 /// Appends the `len` items of a bitmap from item `start` on. Requires that they are inside.
-#[tactic(auto, using(arrow2_model::proofs::Walks::parts))]
+#[tactic(auto, using(arrow2_model::proofs::Cursors::parts))]
 fn append_part(bitmap: &Bitmap, start: usize, len: usize, grown: &mut MutableBitmap) -> Result<()>
     requires inside { start + len ≤ length (items_of bitmap.now) }
     ensures { Appends error_of result grown.old grown.new (part (items_of bitmap.now) start len) }
@@ -250,7 +250,7 @@ pub fn check_same_length(values: usize, validity: &Bitmap) -> Result<()>
 }
 
 /// Returns the text that refuses a validity of this length for this many values.
-#[tactic(auto, unfolding(crate::specs::Refused::unequal_lengths_message))]
+#[tactic(auto, unfolding(crate::specs::Refusals::unequal_lengths_message))]
 fn refusal(alloc: Global, validity: usize, values: usize) -> std::result::Result<String, AllocError>
     ensures { IfOk result (λ text. string_bytes text ≡ unequal_lengths_message validity values) }
 {

@@ -35,52 +35,52 @@ first_unset x p h e =
     (most, (λ i l. not-false (bit x i) (sym (flipped_bit x i h (omega (arith, most, l))) ∙ f.1 i l)), λ l. not-true (bit x p) (sym (flipped_bit x p h l) ∙ f.2 l))
 
 -- a bit of a shifted number
-pub bit_behind : (n x i : ℕ) → bit (x / 2 ^ n) i ≡ bit x (n + i)
+pub bit_following : (n x i : ℕ) → bit (x / 2 ^ n) i ≡ bit x (n + i)
 unfolding bit
-bit_behind zero x i = ap (λ t. bit t i) (div-one x) ∙ ap (bit x) (sym (zero-add i))
-bit_behind (suc n) x i =
+bit_following zero x i = ap (λ t. bit t i) (div-one x) ∙ ap (bit x) (sym (zero-add i))
+bit_following (suc n) x i =
     let d : x / 2 ^ suc n ≡ x / 2 / 2 ^ n = sym (div-div-eq-div-mul x 2 (2 ^ n) ∙ ap (λ (p : ℕ). x / p) (sym (pow-succ' 2 n))) in
     let e : suc n + i ≡ suc (n + i) = omega arith in
-    ap (λ t. bit t i) d ∙ (bit_behind n (x / 2) i ∙ sym (ap (bit x) e))
+    ap (λ t. bit t i) d ∙ (bit_following n (x / 2) i ∙ sym (ap (bit x) e))
 
-module _ (items : List Bool) (offset at end place w buffered : ℕ) (value : Bool) (read : IsRead items offset end place w buffered) where
+module _ (items : List Bool) (offset at end position w buffered : ℕ) (value : Bool) (read : IsRead items offset end position w buffered) where
   -- a bit that was read, by its index
-  buffered_bit : (k : ℕ) → place ≤ k → k < place + buffered → get_or items (offset + k) false ≡ bit w (k - place)
+  buffered_bit : (k : ℕ) → position ≤ k → k < position + buffered → get_or items (offset + k) false ≡ bit w (k - position)
   buffered_bit k l h =
-      let e : place + (k - place) ≡ k = omega arith in
-      sym (read.same (k - place) (omega arith) ∙ ap (λ t. get_or items (offset + t) false) e)
+      let e : position + (k - position) ≡ k = omega arith in
+      sym (read.same (k - position) (omega arith) ∙ ap (λ t. get_or items (offset + t) false) e)
 
   -- bits of the word that are passed
-  pub passed_bits : ((k : ℕ) → at ≤ k → k < place → get_or items (offset + k) false ≡ not value)
+  pub passed_bits : ((k : ℕ) → at ≤ k → k < position → get_or items (offset + k) false ≡ not value)
       → (passed : ℕ) → passed ≤ buffered → ((i : ℕ) → i < passed → bit w i ≡ not value)
-      → (k : ℕ) → at ≤ k → k < place + passed → get_or items (offset + k) false ≡ not value
-  passed_bits before passed most others k l h = elim (cases_lt k place) [
+      → (k : ℕ) → at ≤ k → k < position + passed → get_or items (offset + k) false ≡ not value
+  passed_bits before passed most others k l h = elim (cases_lt k position) [
     | inl b ↦ before k l b
-    | inr b ↦ buffered_bit k (omega arith) (omega arith) ∙ others (k - place) (omega arith)
+    | inr b ↦ buffered_bit k (omega arith) (omega arith) ∙ others (k - position) (omega arith)
   ]
 
   -- the index is in this word
-  pub found_bit : at ≤ place → ((k : ℕ) → at ≤ k → k < place → get_or items (offset + k) false ≡ not value)
+  pub found_bit : at ≤ position → ((k : ℕ) → at ≤ k → k < position → get_or items (offset + k) false ≡ not value)
       → (passed : ℕ) → passed < buffered → ((i : ℕ) → i < passed → bit w i ≡ not value) → bit w passed ≡ value
-      → IsFirst items offset at end value (place + passed)
+      → IsFirst items offset at end value (position + passed)
   found_bit from before passed most others there =
-      let e : place + passed - place ≡ passed = omega arith in
+      let e : position + passed - position ≡ passed = omega arith in
       let within = read.within in
       record {
         from = omega arith;
         within = omega arith;
         others = passed_bits before passed (omega arith) others;
-        there = λ l. buffered_bit (place + passed) (omega arith) (omega arith) ∙ (ap (bit w) e ∙ there);
+        there = λ l. buffered_bit (position + passed) (omega arith) (omega arith) ∙ (ap (bit w) e ∙ there);
       }
 
   -- the bits left of it after that index
-  pub read_behind : (passed : ℕ) → passed < buffered → IsRead items offset end (place + passed) (w / 2 ^ passed) (buffered - passed)
-  read_behind passed most =
+  pub read_following : (passed : ℕ) → passed < buffered → IsRead items offset end (position + passed) (w / 2 ^ passed) (buffered - passed)
+  read_following passed most =
       let few = read.few in let within = read.within in
       record {
         few = omega arith;
         within = omega arith;
         same = λ i l.
-            let e : place + (passed + i) ≡ place + passed + i = omega arith in
-            bit_behind passed w i ∙ (read.same (passed + i) (omega arith) ∙ ap (λ t. get_or items (offset + t) false) e);
+            let e : position + (passed + i) ≡ position + passed + i = omega arith in
+            bit_following passed w i ∙ (read.same (passed + i) (omega arith) ∙ ap (λ t. get_or items (offset + t) false) e);
       }

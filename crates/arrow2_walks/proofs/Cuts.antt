@@ -70,12 +70,12 @@ same_before (c ∷ bs) (suc k) w x b h e f =
     same_before bs k w x b (omega arith) (subst (λ (n : ℕ). x ≡ get_or (insert (c ∷ bs) n w) (suc k) x) j e) f
 
 -- and it is the one after it, also where bitmap k is changed
-pub put_behind : (bs : List BitmapStorage) (k : ℕ) (w f x : BitmapStorage) → k < length bs → x ≡ get_or (set (insert bs (k + 1) w) k f) (k + 1) x → x ≡ w
-put_behind [] k w f x h e = grind arith
-put_behind (c ∷ bs) zero w f x h e = e
-put_behind (c ∷ bs) (suc k) w f x h e =
+pub put_following : (bs : List BitmapStorage) (k : ℕ) (w f x : BitmapStorage) → k < length bs → x ≡ get_or (set (insert bs (k + 1) w) k f) (k + 1) x → x ≡ w
+put_following [] k w f x h e = grind arith
+put_following (c ∷ bs) zero w f x h e = e
+put_following (c ∷ bs) (suc k) w f x h e =
     let j : suc k + 1 ≡ suc (k + 1) = omega arith in
-    put_behind bs k w f x (omega arith) (subst (λ (n : ℕ). x ≡ get_or (set (insert (c ∷ bs) n w) (suc k) f) n x) j e)
+    put_following bs k w f x (omega arith) (subst (λ (n : ℕ). x ≡ get_or (set (insert (c ∷ bs) n w) (suc k) f) n x) j e)
 
 abbrev piece : List Bool → ℕ → Piece
 piece items offset = record { items = items; offset = offset }

@@ -80,9 +80,9 @@ true_runs xs ((zero, n) ∷ ps) h =
       | zero ↦ λ m. refl
       | suc i ↦ λ m. let e : 0 + suc i ≡ suc i = omega arith in let f : 0 + i ≡ i = omega arith in rw e (ap (λ t. get_or xs t false) (sym f) ∙ r.set i (omega arith))
     ] l in
-    let behind : get_or (true ∷ xs) (0 + suc n) false ≡ false = let e : 0 + suc n ≡ suc n = omega arith in let f : 0 + n ≡ n = omega arith in rw e (ap (λ t. get_or xs t false) (sym f) ∙ r.unset_after) in
+    let following : get_or (true ∷ xs) (0 + suc n) false ≡ false = let e : 0 + suc n ≡ suc n = omega arith in let f : 0 + n ≡ n = omega arith in rw e (ap (λ t. get_or xs t false) (sym f) ∙ r.unset_after) in
     record {
-      maximal = (record { some = omega arith; set = trues; unset_before = λ j e. absurd (omega arith); unset_after = behind }, moved_all_true xs (0 + n) ps h.rising h.maximal.1);
+      maximal = (record { some = omega arith; set = trues; unset_before = λ j e. absurd (omega arith); unset_after = following }, moved_all_true xs (0 + n) ps h.rising h.maximal.1);
       rising = moved_past (0 + n) (0 + suc n) ps (omega arith) h.rising;
       all = λ k. elim k as (λ i. get_or (true ∷ xs) i false ≡ true → InRuns i ((0, suc n) ∷ map (moved 1) ps)) [
         | zero ↦ λ e. inl (omega arith, omega arith)

@@ -67,16 +67,16 @@ module _ {X : Type 0} where
       omega (arith, rest, s)
 
   -- the items that the runs of a mask cut out of a list with one item more at its start
-  behind : (x : X) (xs : List X) (ps : List (ℕ × ℕ)) → flat_map (λ (r : ℕ × ℕ). part (x ∷ xs) r.0 r.1) (map (moved 1) ps) ≡ flat_map (λ (r : ℕ × ℕ). part xs r.0 r.1) ps
-  behind x xs [] = refl
-  behind x xs (p ∷ ps) =
+  following : (x : X) (xs : List X) (ps : List (ℕ × ℕ)) → flat_map (λ (r : ℕ × ℕ). part (x ∷ xs) r.0 r.1) (map (moved 1) ps) ≡ flat_map (λ (r : ℕ × ℕ). part xs r.0 r.1) ps
+  following x xs [] = refl
+  following x xs (p ∷ ps) =
       let e : 1 + p.0 ≡ suc p.0 = omega arith in
-      ap (λ s. part (x ∷ xs) s p.1 ++ flat_map (λ (r : ℕ × ℕ). part (x ∷ xs) r.0 r.1) (map (moved 1) ps)) e ∙ ap (λ l. part xs p.0 p.1 ++ l) (behind x xs ps)
+      ap (λ s. part (x ∷ xs) s p.1 ++ flat_map (λ (r : ℕ × ℕ). part (x ∷ xs) r.0 r.1) (map (moved 1) ps)) e ∙ ap (λ l. part xs p.0 p.1 ++ l) (following x xs ps)
 
   in-front : (x : X) (xs : List X) (ps : List (ℕ × ℕ)) → flat_map (λ (r : ℕ × ℕ). part (x ∷ xs) r.0 r.1) (with_true ps) ≡ x ∷ flat_map (λ (r : ℕ × ℕ). part xs r.0 r.1) ps
   in-front x xs [] = refl
-  in-front x xs ((zero, n) ∷ ps) = ap (λ l. x ∷ (part xs 0 n ++ l)) (behind x xs ps)
-  in-front x xs ((suc s, n) ∷ ps) = ap (λ l. x ∷ l) (behind x xs ((suc s, n) ∷ ps))
+  in-front x xs ((zero, n) ∷ ps) = ap (λ l. x ∷ (part xs 0 n ++ l)) (following x xs ps)
+  in-front x xs ((suc s, n) ∷ ps) = ap (λ l. x ∷ l) (following x xs ((suc s, n) ∷ ps))
 
   -- the runs of a mask cut out the items that it selects
   pub selected-runs : (xs : List X) (ms : List Bool) → length ms ≡ length xs → flat_map (λ (r : ℕ × ℕ). part xs r.0 r.1) (runs ms) ≡ selected xs ms
@@ -85,7 +85,7 @@ module _ {X : Type 0} where
   selected-runs [] (m ∷ ms) e = absurd (omega (arith, e))
   selected-runs (x ∷ xs) [] e = absurd (omega (arith, e))
   selected-runs (x ∷ xs) (true ∷ ms) e = in-front x xs (runs ms) ∙ ap (λ l. x ∷ l) (selected-runs xs ms (omega (arith, e)))
-  selected-runs (x ∷ xs) (false ∷ ms) e = behind x xs (runs ms) ∙ selected-runs xs ms (omega (arith, e))
+  selected-runs (x ∷ xs) (false ∷ ms) e = following x xs (runs ms) ∙ selected-runs xs ms (omega (arith, e))
 
   -- of two lists one after the other
   pub non_null_values-append : (xs ys : List (Option X)) → non_null_values (xs ++ ys) ≡ non_null_values xs ++ non_null_values ys

@@ -1,4 +1,4 @@
--- A validity zip iterates over its slots where its parts iterate over lists of one length.
+-- A validity zip iterates over its slots where its parts iterate over lists of equal length.
 use Rattle.std.proofs.Common.{◌≡◌, ◌⊎◌, inl, inr, suc, List, [], ◌∷◌, ◌++◌, Bool, true, false, map, length, refl, sym, ap, ◌∙◌, subst, arith, add-one}
 use Rattle.std.specs.Prelude.{Option, Some, None, MatchOption, option_map}
 use Rattle.std.proofs.iter.runs.Made.{took}

@@ -6,7 +6,7 @@ use Rattle.arrow2_model.specs.Parts.{part}
 use Rattle.arrow2_walks.specs.Runs.{runs_from}
 use Rattle.arrow2_model.proofs.Parts.{get_or-part}
 use Rattle.arrow2_walks.proofs.RunSteps.{runs_from_start, runs_from_next, runs_from_end, runs_from_until, runs_from_last}
-use Rattle.arrow2_model.proofs.Walks.{length-part_bits}
+use Rattle.arrow2_model.proofs.Cursors.{length-part_bits}
 use Rattle.arrow2_walks.specs.Cursor.{IsFirst}
 
 module _ (bytes : List ℕ) (offset end : ℕ) where
@@ -34,8 +34,8 @@ module _ (bytes : List ℕ) (offset end : ℕ) where
       (λ e. runs_from_last (part (bits bytes) offset end) p q l (omega (arith, n, e)) set, λ m. runs_from_until (part (bits bytes) offset end) p q l set (get_or-part (bits bytes) offset end q false m ∙ f.there m))
 
   -- the item there is set, so the first one that is not set is after it
-  behind : (p q : ℕ) → p < end → get_or (bits bytes) (offset + p) false ≡ true → IsFirst (bits bytes) offset p end false q → p < q
-  behind p q m s f = let a = f.from in elim (cases_lt p q) [
+  following : (p q : ℕ) → p < end → get_or (bits bytes) (offset + p) false ≡ true → IsFirst (bits bytes) offset p end false q → p < q
+  following p q m s f = let a = f.from in elim (cases_lt p q) [
     | inl l ↦ l
     | inr g ↦ let e : q ≡ p = omega (arith, a, g) in absurd (true≢false (sym s ∙ (ap (λ t. get_or (bits bytes) (offset + t) false) (sym e) ∙ f.there (omega (arith, e, m)))))
   ]
@@ -48,7 +48,7 @@ module _ (bytes : List ℕ) (offset end : ℕ) where
         | inl l ↦ l
         | inr l ↦ let e : p ≡ end = omega (arith, w, l) in absurd (some e)
       ] in
-      let l = behind p q m (f.there m) g in
+      let l = following p q m (f.there m) g in
       let r = run_from p q h l g in
       sym (passed at p h f) ∙ elim (cases_lt q end) [
         | inl less ↦ r.1 less

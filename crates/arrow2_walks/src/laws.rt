@@ -11,9 +11,9 @@ ghost use Rattle.arrow2_walks.specs.Zips.{MatchZip, zip_validity_steps, either_s
 ghost use Rattle.arrow2_walks.specs.Slots.{slots_of_both, slots_of};
 
 /// Where values iterate over a list, and their validity over one of the same length, the two together iterate over
-/// their slots from both ends, and stay of one length. `view` maps an item to the list's, as for references.
+/// their slots from both ends, and stay of equal length. `view` maps an item to the list's, as for references.
 #[tactic(auto, using(crate::proofs::Slots::slots))]
-pub fn a_zip_walks_over_its_slots<I: Iterator, V: Iterator<Item = bool>, X>()
+pub fn a_zip_yields_its_slots<I: Iterator, V: Iterator<Item = bool>, X>()
     ensures first { (view : I.Item → X) (rest : I → List X) (valid : V → List Bool)
         (s t : ZipValidityIter I V) (r : Option (Option I.Item)) → HasEqualLengths rest valid s →
         zip_validity_steps (YieldsFirstBy view rest) (YieldsFirst valid) s r t →
@@ -28,11 +28,7 @@ pub fn a_zip_walks_over_its_slots<I: Iterator, V: Iterator<Item = bool>, X>()
 
 /// The same where the validity may be missing: then each value makes a slot of its own.
 #[tactic(auto, using(crate::proofs::Slots::slots))]
-pub fn a_zip_with_or_without_validity_walks_over_its_slots<
-    I: Iterator,
-    V: Iterator<Item = bool>,
-    X,
->()
+pub fn a_zip_with_or_without_validity_yields_its_slots<I: Iterator, V: Iterator<Item = bool>, X>()
     ensures first { (view : I.Item → X) (rest : I → List X) (valid : V → List Bool)
         (s t : ZipValidity I V) (r : Option (Option I.Item)) →
         MatchZip s (λ _. Unit {0}) (HasEqualLengths rest valid) →

@@ -31,11 +31,11 @@ const LENGTHS: [usize; 9] = [0, 1, 2, 63, 64, 65, 127, 129, 200];
 
 /// Returns the item at an index of the lists that the kernels are tried on, null at each index that `nulls` divides;
 /// with 0, none is null.
-fn item_at(place: usize, salt: usize, nulls: usize) -> Option<i64> {
-    if nulls > 0 && place.wrapping_add(salt) % nulls == 0 {
+fn item_at(position: usize, salt: usize, nulls: usize) -> Option<i64> {
+    if nulls > 0 && position.wrapping_add(salt) % nulls == 0 {
         return None;
     }
-    Some((place.wrapping_mul(salt) % 13) as i64 - 6)
+    Some((position.wrapping_mul(salt) % 13) as i64 - 6)
 }
 
 /// Returns the items at the indices below `len`.
@@ -43,8 +43,8 @@ fn listed(rt: &impl Abort, alloc: Global, len: usize, salt: usize, nulls: usize)
     ensures { length result.items ≡ len }
 {
     let mut items = Vec::new(alloc);
-    for place in 0..len {
-        ok(rt, items.push(item_at(place, salt, nulls)));
+    for position in 0..len {
+        ok(rt, items.push(item_at(position, salt, nulls)));
     }
     assert_that(rt, items.len() == len);
     items
@@ -107,7 +107,7 @@ fn results<F: Fn(i64, i64) -> bool>(
     items
 }
 
-/// Checks the six comparisons of two lists of one length.
+/// Checks the six comparisons of two lists of equal length.
 fn comparisons_agree(rt: &impl Abort, alloc: Global, left: &[Option<i64>], right: &[Option<i64>]) {
     let (a, b) = (array_of(rt, alloc, left, 5), array_of(rt, alloc, right, 66));
     are_compared(rt, alloc, (&a, left), (&b, right));
@@ -199,9 +199,9 @@ fn nulls_and_the_least_and_greatest_items_are_those_of_lists(rt: HostRuntime) {
 fn a_null_index_gives_a_null(rt: HostRuntime) {
     let alloc = rt.alloc();
     let array = array_of(&rt, alloc, &[Some(4), None, Some(6)], 2);
-    let places = [Some(2), None, Some(0), Some(1), Some(2)];
+    let positions = [Some(2), None, Some(0), Some(1), Some(2)];
     let mut indices = ok(&rt, MutablePrimitiveArray::<u8>::new(alloc));
-    ok(&rt, indices.extend_from_options(&places));
+    ok(&rt, indices.extend_from_options(&positions));
     let taken = take_by_array(&array, &ok(&rt, indices.freeze()));
     assert_array(&rt, alloc, taken, &[Some(6), None, Some(4), None, Some(6)]);
 }
@@ -221,7 +221,7 @@ fn a_null_in_a_mask_drops_the_item(rt: HostRuntime) {
 }
 
 /// Returns how many numbers were cast, or in which words they were refused.
-fn told_of(
+fn text_of_cast(
     alloc: Global,
     cast: Result<PrimitiveArray<u8>>,
 ) -> std::result::Result<String, AllocError> {
@@ -239,7 +239,7 @@ fn is_cast(rt: &impl Abort, alloc: Global, from: &[Option<i64>], to: &[Option<u8
     let cast = ok(rt, primitive_to_primitive::<i64, u8>(&array, data_type));
     assert_list(rt, cast.iter().collect(alloc), to);
     let cast = try_primitive_to_primitive::<i64, u8>(&array, copy);
-    assert_text(rt, told_of(alloc, cast), text);
+    assert_text(rt, text_of_cast(alloc, cast), text);
 }
 
 #[test]
@@ -403,7 +403,7 @@ fn are_texts(rt: &impl Abort, array: &Utf8Array<i32>, items: &[Option<&str>]) {
     }
 }
 
-/// Checks the kernels of texts on two lists of one length.
+/// Checks the kernels of texts on two lists of equal length.
 fn text_kernels_agree(
     rt: &impl Abort,
     alloc: Global,
@@ -496,7 +496,7 @@ fn without_first_booleans(rt: &impl Abort, array: BooleanArray, count: usize) ->
     array.sliced(count, len - count)
 }
 
-/// Checks the kernels of booleans on two lists of one length.
+/// Checks the kernels of booleans on two lists of equal length.
 fn boolean_kernels_agree(
     rt: &impl Abort,
     alloc: Global,

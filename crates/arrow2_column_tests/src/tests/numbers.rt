@@ -25,16 +25,16 @@ use std::alloc::{AllocError, Global};
 use std::process::Abort;
 
 /// Returns the item at an index of the lists that the kernels are tried on: every third is null.
-fn item_at(place: usize) -> Option<i64> {
-    if place % 3 == 1 {
+fn item_at(position: usize) -> Option<i64> {
+    if position % 3 == 1 {
         return None;
     }
-    Some((place % 251) as i64 - 100)
+    Some((position % 251) as i64 - 100)
 }
 
 /// Returns whether the mask is true at an index.
-fn is_kept(place: usize) -> bool {
-    place % 7 < 4 && place % 2 == 0
+fn is_kept(position: usize) -> bool {
+    position % 7 < 4 && position % 2 == 0
 }
 
 /// Returns the array of the items at the indices below `len`, a slice of a slice that begins after three nulls.
@@ -43,8 +43,8 @@ fn array_of(rt: &impl Abort, alloc: Global, len: usize) -> PrimitiveArray<i64>
 {
     let mut items = ok(rt, MutablePrimitiveArray::<i64>::new(alloc));
     ok(rt, items.extend_constant(3, None));
-    for place in 0..len {
-        ok(rt, items.push(item_at(place)));
+    for position in 0..len {
+        ok(rt, items.push(item_at(position)));
     }
     last_items(rt, ok(rt, items.freeze()), len)
 }
@@ -65,16 +65,20 @@ fn mask_of(rt: &impl Abort, alloc: Global, len: usize) -> Bitmap
     ensures { length (items_of result) ≡ len }
 {
     let whole = len.checked_add(3).expect(rt, "few items");
-    let mask = Bitmap::try_from_fn(alloc, whole, |place| place >= 3 && is_kept(place - 3));
+    let mask = Bitmap::try_from_fn(
+        alloc,
+        whole,
+        |position| position >= 3 && is_kept(position - 3),
+    );
     ok(rt, mask).sliced(3, len)
 }
 
 /// Returns the items that a test of their indices keeps.
 fn listed(rt: &impl Abort, alloc: Global, len: usize, only_kept: bool) -> Vec<Option<i64>> {
     let mut items = Vec::new(alloc);
-    for place in 0..len {
-        if !only_kept || is_kept(place) {
-            ok(rt, items.push(item_at(place)));
+    for position in 0..len {
+        if !only_kept || is_kept(position) {
+            ok(rt, items.push(item_at(position)));
         }
     }
     items

@@ -135,11 +135,11 @@ fn items_are_read_and_written(rt: HostRuntime) {
     let falses = [moved.null_count_range(1, 2), moved.null_count_range(4, 0)];
     has(&rt, &falses, &[1, 0]);
     is_left(&rt, alloc, moved, &items);
-    let mut room = ok(&rt, MutableBitmap::with_capacity(alloc, 100));
-    assert_that(&rt, room.is_empty());
-    assert_that(&rt, room.capacity() >= 100);
-    room.clear();
-    shows(&rt, alloc, &room, "[]");
+    let mut spare = ok(&rt, MutableBitmap::with_capacity(alloc, 100));
+    assert_that(&rt, spare.is_empty());
+    assert_that(&rt, spare.capacity() >= 100);
+    spare.clear();
+    shows(&rt, alloc, &spare, "[]");
 }
 
 #[test]

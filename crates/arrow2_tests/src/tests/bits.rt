@@ -78,7 +78,7 @@ fn single_bits_are_read_written_and_counted(rt: HostRuntime) {
 }
 
 #[test]
-fn bits_are_walked_from_both_ends(rt: HostRuntime) {
+fn bits_are_iterated_from_both_ends(rt: HostRuntime) {
     let alloc = rt.alloc();
     let mut bits = BitmapIter::new(&[0b01011011], 2, 4);
     has(&rt, &[bits.next(), bits.next_back()], &[Some(false); 2]);
@@ -99,16 +99,16 @@ fn bits_are_walked_from_both_ends(rt: HostRuntime) {
 fn has_words<B: BitChunk, I: BitChunkIterExact<B>>(
     rt: &impl Abort,
     alloc: Global,
-    mut walk: I,
+    mut chunks: I,
     word: Option<B>,
     rest: B,
     items: &[bool],
 ) {
-    assert_that(rt, walk.remainder() == rest);
-    assert_that(rt, walk.remainder_len() == items.len());
-    gives(rt, alloc, walk.remainder_iter(), items);
-    assert_that(rt, walk.next() == word);
-    assert_that(rt, walk.next().is_none());
+    assert_that(rt, chunks.remainder() == rest);
+    assert_that(rt, chunks.remainder_len() == items.len());
+    gives(rt, alloc, chunks.remainder_iter(), items);
+    assert_that(rt, chunks.next() == word);
+    assert_that(rt, chunks.next().is_none());
 }
 
 #[test]

@@ -86,10 +86,10 @@ fn only_an_unshared_buffer_is_written(rt: HostRuntime) {
 }
 
 /// Shows a fact for a caller of `try_from_iter`: the items of the iterator.
-fn collected(alloc: Global, walk: IntoIter<u32>) -> Result<Buffer<u32>>
-    ensures { IfOk result (λ buffer. buffer ≡ whole_buffer walk) }
+fn collected(alloc: Global, chunks: IntoIter<u32>) -> Result<Buffer<u32>>
+    ensures { IfOk result (λ buffer. buffer ≡ whole_buffer chunks) }
 {
-    Buffer::try_from_iter(alloc, walk)
+    Buffer::try_from_iter(alloc, chunks)
 }
 
 /// Checks that the call made a buffer of these items.
@@ -98,22 +98,30 @@ fn has_items(rt: &impl Abort, made: Result<Buffer<u32>>, items: &[u32]) {
 }
 
 #[test]
-fn a_walk_gives_each_item_once(rt: HostRuntime) {
+fn an_iterator_yields_each_item_once(rt: HostRuntime) {
     let alloc = rt.alloc();
-    let mut walk = IntoIter::new(buffer_of(&rt, alloc, &[1, 2, 3, 4]));
-    has(&rt, &[walk.next(), walk.next_back()], &[Some(1), Some(4)]);
-    has(&rt, &[walk.size_hint()], &[(2, Some(2))]);
+    let mut chunks = IntoIter::new(buffer_of(&rt, alloc, &[1, 2, 3, 4]));
+    has(
+        &rt,
+        &[chunks.next(), chunks.next_back()],
+        &[Some(1), Some(4)],
+    );
+    has(&rt, &[chunks.size_hint()], &[(2, Some(2))]);
     let text = "IntoIter { values: [1, 2, 3, 4], index: 1, end: 3 }";
-    shows(&rt, alloc, &walk, text);
-    let copy = ok(&rt, walk.clone());
+    shows(&rt, alloc, &chunks, text);
+    let copy = ok(&rt, chunks.clone());
     has_items(&rt, collected(alloc, copy), &[2, 3]);
-    has(&rt, &[walk.nth(usize::MAX), walk.next_back()], &[None; 2]);
-    let mut walk = buffer_of(&rt, alloc, &[1, 2, 3]).into_iter();
+    has(
+        &rt,
+        &[chunks.nth(usize::MAX), chunks.next_back()],
+        &[None; 2],
+    );
+    let mut chunks = buffer_of(&rt, alloc, &[1, 2, 3]).into_iter();
     let ended = [
-        walk.next(),
-        walk.nth(usize::MAX),
-        walk.next(),
-        walk.next_back(),
+        chunks.next(),
+        chunks.nth(usize::MAX),
+        chunks.next(),
+        chunks.next_back(),
     ];
     has(&rt, &ended, &[Some(1), None, None, None]);
 }

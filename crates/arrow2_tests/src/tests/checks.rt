@@ -89,8 +89,8 @@ pub(super) fn refuses<T: Drop>(rt: &impl Abort, alloc: Global, made: Result<T>, 
 }
 
 /// The call returned `Overflow`.
-pub(super) fn overflows<T: Drop>(rt: &impl Abort, answer: Result<T>) {
-    assert_that(rt, matches!(answer, Err(Error::Overflow)));
+pub(super) fn overflows<T: Drop>(rt: &impl Abort, outcome: Result<T>) {
+    assert_that(rt, matches!(outcome, Err(Error::Overflow)));
 }
 
 /// The bytes, in memory of their own.

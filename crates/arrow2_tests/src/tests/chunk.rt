@@ -18,7 +18,7 @@ fn words_answer_as_their_bits(rt: HostRuntime) {
 }
 
 #[test]
-fn bits_come_in_turn_and_by_place(rt: HostRuntime) {
+fn bits_come_in_turn_and_by_position(rt: HostRuntime) {
     let alloc = rt.alloc();
     has(&rt, &[BitChunk::bit(0b10110110u8, 1)], &[true]);
     let items = [false, false, false, false, true, false, false];

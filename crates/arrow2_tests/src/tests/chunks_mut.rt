@@ -22,14 +22,14 @@ fn clear(bytes: &mut [u8])
 }
 
 /// Sets the next chunk to zeros. The caller knows all of the iterator afterwards.
-fn clear_next<T>(walk: &mut BitChunksExactMut<'_, T>) -> bool
-    ensures { OnTrue result (walk.new ≡ past walk.old walk.old.size (replicate walk.old.size 0)) }
+fn clear_next<T>(chunks: &mut BitChunksExactMut<'_, T>) -> bool
+    ensures { OnTrue result (chunks.new ≡ past chunks.old chunks.old.size (replicate chunks.old.size 0)) }
 {
-    walk.change_next(|chunk| clear(chunk))
+    chunks.change_next(|chunk| clear(chunk))
 }
 
 /// Iterates over five bytes by chunks of two, and lends two of these. The last byte is the remainder.
-fn walk_of(bytes: &mut [u8]) -> BitChunksExactMut<'_, u16>
+fn iterator_over(bytes: &mut [u8]) -> BitChunksExactMut<'_, u16>
     requires { length bytes.old ≡ 5 }
 {
     BitChunksExactMut::new(bytes, 35)
@@ -38,38 +38,38 @@ fn walk_of(bytes: &mut [u8]) -> BitChunksExactMut<'_, u16>
 /// Bytes written to the chunks that `next_chunk` lends are in the bytes afterwards.
 fn writes_next_chunks(rt: &impl Abort, first: &[u8], second: &[u8], after: &[u8]) {
     let mut bytes = [1, 2, 3, 4, 5];
-    let mut walk = walk_of(&mut bytes);
-    write(walk.next_chunk().expect(rt, "a first chunk"), first);
-    let chunk = walk.next_chunk().expect(rt, "a second chunk");
+    let mut chunks = iterator_over(&mut bytes);
+    write(chunks.next_chunk().expect(rt, "a first chunk"), first);
+    let chunk = chunks.next_chunk().expect(rt, "a second chunk");
     has(rt, chunk, &[3, 4]);
     write(chunk, second);
-    assert_that(rt, walk.next_chunk().is_none());
-    assert_that(rt, walk.remainder_len() == 3);
-    has(rt, walk.remainder(), &[5]);
+    assert_that(rt, chunks.next_chunk().is_none());
+    assert_that(rt, chunks.remainder_len() == 3);
+    has(rt, chunks.remainder(), &[5]);
     has(rt, &bytes, after);
 }
 
 /// The same, by `change_next`.
 fn changes_next(rt: &impl Abort, first: &[u8], second: &[u8], after: &[u8]) {
     let mut bytes = [1, 2, 3, 4, 5];
-    let mut walk = walk_of(&mut bytes);
-    assert_that(rt, walk.change_next(|chunk| write(chunk, first)));
-    assert_that(rt, walk.change_next(|chunk| write(chunk, second)));
-    assert_that(rt, !clear_next(&mut walk));
+    let mut chunks = iterator_over(&mut bytes);
+    assert_that(rt, chunks.change_next(|chunk| write(chunk, first)));
+    assert_that(rt, chunks.change_next(|chunk| write(chunk, second)));
+    assert_that(rt, !clear_next(&mut chunks));
     has(rt, &bytes, after);
 }
 
 /// The same, by the iterator.
-fn writes_walked(rt: &impl Abort, first: &[u8], second: &[u8], after: &[u8]) {
+fn writes_iterated(rt: &impl Abort, first: &[u8], second: &[u8], after: &[u8]) {
     let mut bytes = [1, 2, 3, 4, 5];
-    let mut walk = walk_of(&mut bytes);
-    assert_that(rt, matches!(walk.size_hint(), (2, Some(2))));
-    write(walk.next().expect(rt, "a first chunk"), first);
-    let chunk = walk.next().expect(rt, "a second chunk");
+    let mut chunks = iterator_over(&mut bytes);
+    assert_that(rt, matches!(chunks.size_hint(), (2, Some(2))));
+    write(chunks.next().expect(rt, "a first chunk"), first);
+    let chunk = chunks.next().expect(rt, "a second chunk");
     has(rt, chunk, &[3, 4]);
     write(chunk, second);
-    assert_that(rt, walk.next().is_none());
-    has(rt, walk.remainder(), &[5]);
+    assert_that(rt, chunks.next().is_none());
+    has(rt, chunks.remainder(), &[5]);
     has(rt, &bytes, after);
 }
 
@@ -78,21 +78,21 @@ fn chunks_are_lent_to_be_written(rt: HostRuntime) {
     let after = &[7, 8, 9, 9, 5];
     writes_next_chunks(&rt, &[7, 8], &[9, 9], after);
     changes_next(&rt, &[7, 8], &[9, 9], after);
-    writes_walked(&rt, &[7, 8], &[9, 9], after);
+    writes_iterated(&rt, &[7, 8], &[9, 9], after);
     let after = &[0, 0, 3, 4, 5];
     writes_next_chunks(&rt, &[0, 0], &[3, 4], after);
     changes_next(&rt, &[0, 0], &[3, 4], after);
-    writes_walked(&rt, &[0, 0], &[3, 4], after);
+    writes_iterated(&rt, &[0, 0], &[3, 4], after);
 }
 
 #[test]
-fn a_walk_shows_its_bytes_and_its_place(rt: HostRuntime) {
+fn an_iterator_shows_its_bytes_and_its_position(rt: HostRuntime) {
     let mut bytes = [1, 2, 3, 4, 5];
-    let mut walk = walk_of(&mut bytes);
-    assert_that(&rt, clear_next(&mut walk));
-    walk.remainder().fill(9);
+    let mut chunks = iterator_over(&mut bytes);
+    assert_that(&rt, clear_next(&mut chunks));
+    chunks.remainder().fill(9);
     let text =
         "BitChunksExactMut { bytes: [0, 0, 3, 4], at: 2, size: 2, remainder: [9], remainder_len: 3, marker: PhantomData<_> }";
-    shows(&rt, rt.alloc(), &walk, text);
+    shows(&rt, rt.alloc(), &chunks, text);
     has(&rt, &bytes, &[0, 0, 3, 4, 9]);
 }

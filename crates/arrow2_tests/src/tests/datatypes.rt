@@ -147,7 +147,7 @@ fn three_fields(rt: &impl Abort, alloc: Global) -> Schema {
 }
 
 #[test]
-fn a_filter_goes_by_the_original_places(rt: HostRuntime) {
+fn a_filter_goes_by_the_original_indices(rt: HostRuntime) {
     let alloc = rt.alloc();
     let schema = three_fields(&rt, alloc);
     is_copied(&rt, &schema);

@@ -59,7 +59,7 @@ fn bits_and_words_are_appended_within_a_byte(rt: HostRuntime) {
 }
 
 #[test]
-fn a_value_is_appended_behind_spare_bits(rt: HostRuntime) {
+fn a_value_is_appended_after_spare_bits(rt: HostRuntime) {
     let mut grown = MutableBitmap::from_vec(bytes_of(&rt, rt.alloc(), &[85, 255, 255]), 12);
     ok(&rt, grown.extend_constant(4, false));
     let frozen = ok(&rt, Bitmap::try_from(grown));
@@ -69,7 +69,7 @@ fn a_value_is_appended_behind_spare_bits(rt: HostRuntime) {
 }
 
 #[test]
-fn room_is_made_and_given_back(rt: HostRuntime) {
+fn capacity_is_reserved_and_given_back(rt: HostRuntime) {
     let mut grown = grown_from(&rt, rt.alloc(), &[true; 3]);
     ok(&rt, grown.reserve(1000));
     assert_that(&rt, grown.capacity() >= 1003);

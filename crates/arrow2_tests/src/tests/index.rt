@@ -28,7 +28,7 @@ fn numbers_are_converted_where_they_fit(rt: HostRuntime) {
 }
 
 #[test]
-fn ranges_are_walked_forward(rt: HostRuntime) {
+fn ranges_are_iterated_forward(rt: HostRuntime) {
     let three: Vec<i8> = numbers(&rt, rt.alloc(), 0, 3);
     has(&rt, three.as_slice(), &[0, 1, 2]);
     let hint = IndexRange::new(-100i8, 100).size_hint();

@@ -8,7 +8,7 @@ use super::checks::{assert_that, bitmap_from, makes, ok, stores, thawed};
 use arrow2_bitmap::assign_ops::{binary_assign, unary_assign};
 use arrow2_bitmap::bitmap_ops::{binary, unary};
 use arrow2_bitmap::{Bitmap, MutableBitmap};
-use arrow2_kernels::tables::{binary_answers, unary_answers};
+use arrow2_kernels::truth_tables::{binary_outputs, unary_outputs};
 use arrow2_types::error::Result;
 use std::alloc::Global;
 use std::process::Abort;
@@ -26,7 +26,7 @@ fn only_left(lhs: &Bitmap, rhs: &Bitmap) -> Result<Bitmap>
     requires { count (items_of lhs.now) ≡ count (items_of rhs.now) }
     ensures { IfOk result (λ b. items_of b ≡ each 2 (items_of lhs.now ∷ items_of rhs.now ∷ [])) }
 {
-    binary(lhs, rhs, |x, y| binary_answers(2, x, y))
+    binary(lhs, rhs, |x, y| binary_outputs(2, x, y))
 }
 
 /// The same in place, at the width of a byte.
@@ -42,7 +42,7 @@ fn sums_of_bytes(lhs: &mut MutableBitmap, rhs: &Bitmap)
 fn flip(bitmap: &mut MutableBitmap)
     ensures { bitmap.new.items ≡ each 1 (bitmap.old.items ∷ []) }
 {
-    unary_assign(bitmap, |x: u16| unary_answers(1, x));
+    unary_assign(bitmap, |x: u16| unary_outputs(1, x));
 }
 
 /// A kernel of every zero word is true everywhere, and of every other word false: of these bits it is true.
@@ -56,7 +56,7 @@ fn is_zero(rt: &impl Abort, alloc: Global, bytes: &[u8], length: usize) {
 }
 
 #[test]
-fn spare_bits_and_words_behind_reach_no_function(rt: HostRuntime) {
+fn spare_bits_and_later_words_reach_no_function(rt: HostRuntime) {
     let alloc = rt.alloc();
     is_zero(&rt, alloc, &[0b11111000], 3);
     is_zero(&rt, alloc, &[0; 8], 64);

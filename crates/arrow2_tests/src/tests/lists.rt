@@ -50,8 +50,8 @@ pub(super) fn mixed(alloc: Global, lists: &[&[bool]], width: usize) -> Given
 pub(super) fn looked_up(alloc: Global, t: u8, a: &[bool], b: &[bool]) -> Given {
     let mut items = Vec::new(alloc);
     for (a, b) in a.iter().zip(b) {
-        let place = usize::from(*a) | usize::from(*b) << 1;
-        items.push((t >> (place % 8)) & 1 == 1)?;
+        let position = usize::from(*a) | usize::from(*b) << 1;
+        items.push((t >> (position % 8)) & 1 == 1)?;
     }
     Ok(items)
 }
@@ -73,25 +73,25 @@ pub(super) fn nulled(
 fn stored_byte(list: &[bool], offset: usize, spare: bool, index: usize) -> u8 {
     let mut byte = 0u8;
     for k in 0..8usize {
-        let place = index.wrapping_mul(8).wrapping_add(k).wrapping_sub(offset);
-        if *list.get(place).unwrap_or(&spare) {
+        let position = index.wrapping_mul(8).wrapping_add(k).wrapping_sub(offset);
+        if *list.get(position).unwrap_or(&spare) {
             byte |= 1 << k;
         }
     }
     byte
 }
 
-/// Returns bytes that hold a list from bit `offset` on, all other bits alike, those of `behind` more bytes too.
+/// Returns bytes that hold a list from bit `offset` on, all other bits alike, those of `following` more bytes too.
 pub(super) fn stored(
     alloc: Global,
     list: &[bool],
     offset: usize,
     spare: bool,
-    behind: usize,
+    following: usize,
 ) -> Result<Vec<u8>, AllocError> {
     let touched = offset.saturating_add(list.len()).div_ceil(8);
     let mut bytes = Vec::new(alloc);
-    for index in 0..touched.saturating_add(behind) {
+    for index in 0..touched.saturating_add(following) {
         bytes.push(stored_byte(list, offset, spare, index))?;
     }
     Ok(bytes)

@@ -115,8 +115,8 @@ fn shared_offsets_are_taken_back_where_nothing_is_sliced_off(rt: HostRuntime) {
 
 /// Offsets grow by the lengths of others, growing, to these.
 fn grow_by_others(rt: &impl Abort, mut own: Offsets<i32>, other: &Offsets<i32>, wanted: &[i32]) {
-    let answer = own.try_extend_from_self(other);
-    assert_that(rt, answer.is_ok());
+    let outcome = own.try_extend_from_self(other);
+    assert_that(rt, outcome.is_ok());
     assert_that(rt, own != *other);
     has(rt, own.as_slice(), wanted);
 }
@@ -131,8 +131,8 @@ fn grow_by_a_part(
 ) {
     assert_that(rt, other.len() > length);
     assert_that(rt, start < other.len() - length);
-    let answer = own.try_extend_from_slice(&other, start, length);
-    assert_that(rt, answer.is_ok());
+    let outcome = own.try_extend_from_slice(&other, start, length);
+    assert_that(rt, outcome.is_ok());
     has(rt, own.as_slice(), wanted);
 }
 
@@ -158,12 +158,12 @@ fn growth_by_others_and_by_empty_slots(rt: HostRuntime) {
 
 /// Offsets that hold one length of the greatest number less 1 grow by 1, and then by 0 alone.
 fn ends_at_its_greatest(rt: &impl Abort, mut large: Offsets<i64>) {
-    let answers = [
+    let results = [
         large.try_push(1).is_ok(),
         large.try_push(1).is_ok(),
         large.try_push(0).is_ok(),
     ];
-    has(rt, &answers, &[true, false, true]);
+    has(rt, &results, &[true, false, true]);
     overflows(rt, large.try_push(1));
     let greatest = 9223372036854775807;
     makes(rt, Ok(large), &[0, greatest - 1, greatest, greatest]);

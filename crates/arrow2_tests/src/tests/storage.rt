@@ -40,7 +40,7 @@ fn becomes(rt: &impl Abort, changed: MutableBitmap, list: Given) {
 }
 
 /// Iterates over the items from both ends.
-fn is_walked(rt: &impl Abort, (bitmap, list): Of) {
+fn is_iterated(rt: &impl Abort, (bitmap, list): Of) {
     assert_that(rt, bitmap.iter().rev().eq(list.iter().rev().copied()));
     let (mut inwards, mut items) = (bitmap.iter(), list.iter().copied());
     for _ in 0..list.len() {
@@ -202,29 +202,29 @@ fn is_collected(rt: &impl Abort, (bitmap, list): Of) {
 }
 
 /// Checks that an iterator over values with their validity gives these items.
-fn zip_tells_nulls(rt: &impl Abort, validity: &Bitmap, list: &[bool], items: &[Option<bool>]) {
+fn zip_has_nulls(rt: &impl Abort, validity: &Bitmap, list: &[bool], items: &[Option<bool>]) {
     assert_that(rt, validity.len() == list.len());
     let zip = ZipValidity::new_with_validity(list.iter().copied(), Some(validity));
     assert_that(rt, zip.eq(items.iter().copied()));
 }
 
 /// Checks that an array of values with their validity has these items.
-fn array_tells_nulls(rt: &impl Abort, validity: &Bitmap, values: &Bitmap, items: &[Option<bool>]) {
+fn array_has_nulls(rt: &impl Abort, validity: &Bitmap, values: &Bitmap, items: &[Option<bool>]) {
     let validity = ok(rt, validity.clone());
     let array = BooleanArray::try_new(ok(rt, values.clone()), Some(validity));
     assert_that(rt, ok(rt, array).iter().eq(items.iter().copied()));
 }
 
 /// Checks that values are null where the validity is false, in an iterator with it and in an array.
-fn tells_nulls(rt: &impl Abort, (validity, valid): Of, (values, list): Of) {
+fn both_have_nulls(rt: &impl Abort, (validity, valid): Of, (values, list): Of) {
     let items = ok(rt, lists::nulled(values.allocator(), list, valid));
-    zip_tells_nulls(rt, validity, list, items.as_slice());
-    array_tells_nulls(rt, validity, values, items.as_slice());
+    zip_has_nulls(rt, validity, list, items.as_slice());
+    array_has_nulls(rt, validity, values, items.as_slice());
 }
 
 /// Makes the calls on one bitmap.
 fn is_its_list(rt: &impl Abort, bitmap: Of) {
-    is_walked(rt, bitmap);
+    is_iterated(rt, bitmap);
     is_skipped(rt, bitmap);
     for start in 0..bitmap.1.len() + 1 {
         is_counted_from(rt, bitmap, start);
@@ -234,24 +234,24 @@ fn is_its_list(rt: &impl Abort, bitmap: Of) {
 }
 
 /// Makes the calls on two bitmaps.
-fn answers_beside(rt: &impl Abort, left: Of, right: Of) {
+fn pairs_agree(rt: &impl Abort, left: Of, right: Of) {
     goes_by_each_width(rt, left, right);
     goes_by_operators(rt, left, right);
-    tells_nulls(rt, left, right);
+    both_have_nulls(rt, left, right);
 }
 
-/// Stores the list from a bit offset on, all padding bits alike, those of `behind` more bytes too.
+/// Stores the list from a bit offset on, all padding bits alike, those of `following` more bytes too.
 fn stored(
     rt: &impl Abort,
     alloc: Global,
     list: &[bool],
     offset: usize,
     spare: bool,
-    behind: usize,
+    following: usize,
 ) -> Bitmap
     requires { offset < 16 }
 {
-    let bytes = ok(rt, lists::stored(alloc, list, offset, spare, behind));
+    let bytes = ok(rt, lists::stored(alloc, list, offset, spare, following));
     let whole = ok(rt, Bitmap::try_new(bytes, offset + list.len()));
     whole.sliced(offset, list.len())
 }
@@ -267,11 +267,11 @@ fn in_each_storage(rt: &impl Abort, alloc: Global, list: &[bool]) {
     let others = others.as_slice();
     let other = ok(rt, Bitmap::from_bools(alloc, others));
     for case in 0..48usize {
-        let (offset, spare, behind) = (case % 8, case / 8 % 2 == 1, case / 16);
-        let bitmap = stored(rt, alloc, list, offset, spare, behind);
+        let (offset, spare, following) = (case % 8, case / 8 % 2 == 1, case / 16);
+        let bitmap = stored(rt, alloc, list, offset, spare, following);
         is_its_list(rt, (&bitmap, list));
-        answers_beside(rt, (&bitmap, list), (&other, others));
-        answers_beside(rt, (&other, others), (&bitmap, list));
+        pairs_agree(rt, (&bitmap, list), (&other, others));
+        pairs_agree(rt, (&other, others), (&bitmap, list));
         let inputs = [&bitmap, &other, &bitmap, &other];
         goes_by_words(rt, inputs, [list, others, list, others]);
     }
@@ -287,12 +287,12 @@ fn at_each_offset(rt: &impl Abort, alloc: Global, length: usize) {
     for offset in 0..16 {
         let left = stored(rt, alloc, list, offset, true, 1);
         let alike = stored(rt, alloc, others, offset, true, 0);
-        answers_beside(rt, (&left, list), (&alike, others));
+        pairs_agree(rt, (&left, list), (&alike, others));
         if length <= 200 {
             is_appended(rt, (&left, list));
         }
         let apart = stored(rt, alloc, others, (offset * 5 + 3) % 16, true, 1);
-        answers_beside(rt, (&left, list), (&apart, others));
+        pairs_agree(rt, (&left, list), (&apart, others));
         let third = stored(rt, alloc, list, 15 - offset, true, 1);
         let inputs = [&left, &apart, &third, &alike];
         goes_by_words(rt, inputs, [list, others, list, others]);
@@ -306,7 +306,7 @@ fn is_stored(rt: &impl Abort, alloc: Global, list: Given) {
 }
 
 #[test]
-fn what_stands_behind_a_list_changes_no_answer(rt: HostRuntime) {
+fn what_follows_a_list_changes_no_result(rt: HostRuntime) {
     let alloc = rt.alloc();
     // The bits of a number below its highest one: each list of up to five items once.
     for number in 1..64u64 {
@@ -319,7 +319,7 @@ fn what_stands_behind_a_list_changes_no_answer(rt: HostRuntime) {
 }
 
 #[test]
-fn lists_answer_beside_each_other_at_each_length_and_offset(rt: HostRuntime) {
+fn pairs_of_lists_at_each_length_and_offset(rt: HostRuntime) {
     for length in 0..=600 {
         at_each_offset(&rt, rt.alloc(), length);
     }

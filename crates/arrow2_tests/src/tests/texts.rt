@@ -9,53 +9,58 @@ use std::convert::TryFrom;
 use std::process::Abort;
 
 /// The check of numbers and bytes returns this.
-fn is_told(rt: &impl Abort, offsets: &[i32], values: &[u8], answer: Result<(), BrokenTextArray>) {
-    assert_that(rt, try_check_offsets_and_utf8(offsets, values) == answer);
+fn is_checked(
+    rt: &impl Abort,
+    offsets: &[i32],
+    values: &[u8],
+    outcome: Result<(), BrokenTextArray>,
+) {
+    assert_that(rt, try_check_offsets_and_utf8(offsets, values) == outcome);
 }
 
 #[test]
 fn numbers_and_bytes_that_are_texts_pass(rt: HostRuntime) {
-    is_told(&rt, &[0], b"", Ok(()));
-    is_told(&rt, &[0, 2, 2, 5], b"abcde", Ok(()));
-    is_told(&rt, &[0, 3, 3, 6, 6], "a\u{e9}\u{20ac}".as_bytes(), Ok(()));
+    is_checked(&rt, &[0], b"", Ok(()));
+    is_checked(&rt, &[0, 2, 2, 5], b"abcde", Ok(()));
+    is_checked(&rt, &[0, 3, 3, 6, 6], "a\u{e9}\u{20ac}".as_bytes(), Ok(()));
     // Bytes before the first offset and after the last are not tested.
-    is_told(&rt, &[1, 3, 3], b"\xff\xc3\xa9\xff", Ok(()));
+    is_checked(&rt, &[1, 3, 3], b"\xff\xc3\xa9\xff", Ok(()));
 }
 
 #[test]
-fn the_first_fault_is_told(rt: HostRuntime) {
-    is_told(
+fn the_first_fault_is_named(rt: HostRuntime) {
+    is_checked(
         &rt,
         &[],
         b"",
         Err(BrokenTextArray::Offsets(BrokenRule::Empty)),
     );
-    is_told(
+    is_checked(
         &rt,
         &[0, 2, 1],
         b"a",
         Err(BrokenTextArray::Offsets(BrokenRule::Falling)),
     );
-    is_told(
+    is_checked(
         &rt,
         &[0, 1, 3],
         b"\xffb",
         Err(BrokenTextArray::Texts(BrokenTexts::PastTheValues)),
     );
-    is_told(
+    is_checked(
         &rt,
         &[0, 1, 2, 3],
         b"a\xffb",
         Err(BrokenTextArray::Texts(BrokenTexts::NotUtf8(1))),
     );
     // The whole is a text, and a slot ends inside a character; then one with no values begins there.
-    is_told(
+    is_checked(
         &rt,
         &[0, 1, 2, 3],
         b"a\xc3\xa9",
         Err(BrokenTextArray::Texts(BrokenTexts::NotUtf8(1))),
     );
-    is_told(
+    is_checked(
         &rt,
         &[0, 1, 2, 2],
         b"a\xc3\xa9",
@@ -64,8 +69,8 @@ fn the_first_fault_is_told(rt: HostRuntime) {
 }
 
 /// A test returns this.
-fn answers(rt: &impl Abort, told: Result<(), BrokenTexts>, answer: Result<(), BrokenTexts>) {
-    assert_that(rt, told == answer);
+fn results(rt: &impl Abort, stated: Result<(), BrokenTexts>, outcome: Result<(), BrokenTexts>) {
+    assert_that(rt, stated == outcome);
 }
 
 /// The values are texts, and this is that of slot 1.
@@ -76,18 +81,18 @@ fn is_text(rt: &impl Abort, offsets: &OffsetsBuffer<i64>, values: &[u8], text: &
 }
 
 #[test]
-fn wide_offsets_are_told_and_read(rt: HostRuntime) {
+fn wide_offsets_are_checked_and_read(rt: HostRuntime) {
     let numbers = ok(&rt, vec![in rt.alloc(); 1i64, 3, 6]);
     let offsets = ok(&rt, OffsetsBuffer::try_from(numbers));
     let values = "a\u{e9}\u{20ac}".as_bytes();
-    answers(&rt, try_check_utf8(&offsets, values), Ok(()));
-    answers(
+    results(&rt, try_check_utf8(&offsets, values), Ok(()));
+    results(
         &rt,
         try_check_utf8(&offsets, b"abc"),
         Err(BrokenTexts::PastTheValues),
     );
-    answers(&rt, try_check_offsets_bounds(&offsets, 6), Ok(()));
-    answers(
+    results(&rt, try_check_offsets_bounds(&offsets, 6), Ok(()));
+    results(
         &rt,
         try_check_offsets_bounds(&offsets, 5),
         Err(BrokenTexts::PastTheValues),

@@ -69,7 +69,7 @@ fn values_come(
 }
 
 #[test]
-fn values_come_beside_their_validity(rt: HostRuntime) {
+fn values_are_paired_with_their_validity(rt: HostRuntime) {
     let alloc = rt.alloc();
     let validity = [true, false, true];
     values_come(&rt, alloc, &validity, &[Some(1), None, Some(3)], false);
@@ -120,6 +120,6 @@ fn a_zip_is_iterated_from_both_ends(rt: HostRuntime) {
         &[both.next(), both.next()],
         &[Some(Some(1)), Some(None)],
     );
-    laws::a_zip_walks_over_its_slots::<Values, BitmapIter, u32>();
-    laws::a_zip_with_or_without_validity_walks_over_its_slots::<Values, BitmapIter, u32>();
+    laws::a_zip_yields_its_slots::<Values, BitmapIter, u32>();
+    laws::a_zip_with_or_without_validity_yields_its_slots::<Values, BitmapIter, u32>();
 }

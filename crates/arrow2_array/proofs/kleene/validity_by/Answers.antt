@@ -1,8 +1,8 @@
 use Rattle.std.proofs.Common.{◌∙◌, ap, replicate, true}
 use Rattle.arrow2_model.specs.Storage.{items_of}
 use Rattle.arrow2_validity.specs.OptionalValidity.{valid_items}
-use Rattle.arrow2_array.specs.Kleene.{beside_table, known_table}
-use Rattle.arrow2_array.proofs.Tables.{all_known, all_set, behind, beside, beside_left, beside_right, known}
+use Rattle.arrow2_array.specs.Kleene.{paired_table, known_table}
+use Rattle.arrow2_array.proofs.Tables.{all_known, all_set, following, paired, paired_left, paired_right, known}
 use Rattle.arrow2_array.proofs.kleene.validity_by.Goals as goal
 
 pub returns-in-None-None-clause-items : goal.returns-in-None-None-clause-items
@@ -25,8 +25,8 @@ returns-in_ok-ternary_table-in-None-Some-clause-items c =
     let ms = valid_items c.args.right_validity.now in
     let left = all_set ns xs (rw c.in-None-Some.is-0 at c.bitmap.ensures.items) c.requires.left_length in
     let right = rw c.in-None-Some.is-1 at c.bitmap-2.ensures.items in
-    c.known_by.ensures.items ∙ ((rw (c.known_beside-beside.ensures, right) at c.in_ok-ternary_table-in-None-Some.ensures.items)
-    ∙ beside_left (known_table o) (beside_table o) xs ns ys ms (behind o) c.requires.same_length left)
+    c.known_by.ensures.items ∙ ((rw (c.known_paired-paired.ensures, right) at c.in_ok-ternary_table-in-None-Some.ensures.items)
+    ∙ paired_left (known_table o) (paired_table o) xs ns ys ms (following o) c.requires.same_length left)
 
 pub returns-in_ok-ternary_table-in-Some-None-clause-items : goal.returns-in_ok-ternary_table-in-Some-None-clause-items
 returns-in_ok-ternary_table-in-Some-None-clause-items c =
@@ -37,5 +37,5 @@ returns-in_ok-ternary_table-in-Some-None-clause-items c =
     let ms = valid_items c.args.right_validity.now in
     let left = rw c.in-Some-None.is-0 at c.bitmap.ensures.items in
     let right = all_set ms ys (rw c.in-Some-None.is-1 at c.bitmap-2.ensures.items) c.requires.right_length in
-    c.known_by-in-Some-None.ensures.items ∙ ((rw (c.known_beside-beside.ensures, left) at c.in_ok-ternary_table-in-Some-None.ensures.items)
-    ∙ beside_right (known_table o) (beside_table o) xs ns ys ms (beside o) c.requires.same_length right)
+    c.known_by-in-Some-None.ensures.items ∙ ((rw (c.known_paired-paired.ensures, left) at c.in_ok-ternary_table-in-Some-None.ensures.items)
+    ∙ paired_right (known_table o) (paired_table o) xs ns ys ms (paired o) c.requires.same_length right)

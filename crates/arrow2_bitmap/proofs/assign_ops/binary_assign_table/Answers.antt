@@ -10,6 +10,6 @@ returns-then-offset-eq0-clause-items g c =
     let r = c.as_slice-offset.result in
     let b : List Bool = items_of c.args.rhs.now in
     let lr = shown_length r.0.now b r.1 r.2 c.as_slice-offset.ensures.inside c.as_slice-offset.ensures.items in
-    let beside = ap (λ (n : ℕ). take n (bits r.0.now)) (c.requires.same_length ∙ lr) ∙ shown_items r.0.now b r.1 r.2 c.if-offset-eq0.true c.as_slice-offset.ensures.items in
-    c.answer_beside.ensures.items
-    ∙ (ap (λ m. each c.args.t (m.items ∷ take (length m.items) (bits r.0.now) ∷ [])) c.lhs.view_is ∙ ap (λ ys. each c.args.t (c.args.lhs.now.items ∷ ys ∷ [])) beside)
+    let paired = ap (λ (n : ℕ). take n (bits r.0.now)) (c.requires.same_length ∙ lr) ∙ shown_items r.0.now b r.1 r.2 c.if-offset-eq0.true c.as_slice-offset.ensures.items in
+    c.apply_binary_table.ensures.items
+    ∙ (ap (λ m. each c.args.t (m.items ∷ take (length m.items) (bits r.0.now) ∷ [])) c.lhs.view_is ∙ ap (λ ys. each c.args.t (c.args.lhs.now.items ∷ ys ∷ [])) paired)

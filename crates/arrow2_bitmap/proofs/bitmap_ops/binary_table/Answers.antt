@@ -7,8 +7,8 @@ use Rattle.arrow2_bitmap.proofs.Lanes.{shown_items, shown_length}
 use Rattle.arrow2_bitmap.proofs.Packed.{packed_bytes}
 use Rattle.arrow2_bitmap.proofs.bitmap_ops.binary_table.Goals as goal
 
-pub returns-in_ok-answers-clause-items : goal.returns-in_ok-answers-clause-items
-returns-in_ok-answers-clause-items c =
+pub returns-in_ok-results-clause-items : goal.returns-in_ok-results-clause-items
+returns-in_ok-results-clause-items c =
     let l = c.as_slice-left_offset.result in
     let r = c.as_slice-right_offset.result in
     let a : List Bool = items_of c.args.lhs.now in
@@ -17,13 +17,13 @@ returns-in_ok-answers-clause-items c =
     let lr = shown_length r.0.now b r.1 r.2 c.as_slice-right_offset.ensures.inside c.as_slice-right_offset.ensures.items in
     let alike : l.2 ≡ r.2 = sym ll ∙ (c.requires.same_length ∙ lr) in
     let own = shown_items l.0.now a l.1 l.2 (omega (arith, c.if-left_offset-right_offset-eq0.true)) c.as_slice-left_offset.ensures.items in
-    let beside = ap (λ (n : ℕ). take n (bits r.0.now)) alike ∙ shown_items r.0.now b r.1 r.2 (omega (arith, c.if-left_offset-right_offset-eq0.true)) c.as_slice-right_offset.ensures.items in
+    let paired = ap (λ (n : ℕ). take n (bits r.0.now)) alike ∙ shown_items r.0.now b r.1 r.2 (omega (arith, c.if-left_offset-right_offset-eq0.true)) c.as_slice-right_offset.ensures.items in
     IfOk-weaker c.from_u8_vec.result _ _
-    (λ m e. e ∙ (c.in_ok-answers.ensures.items ∙ (ap (λ xs. each c.args.t (xs ∷ take l.2 (bits r.0.now) ∷ [])) own ∙ ap (λ ys. each c.args.t (a ∷ ys ∷ [])) beside)))
+    (λ m e. e ∙ (c.in_ok-results.ensures.items ∙ (ap (λ xs. each c.args.t (xs ∷ take l.2 (bits r.0.now) ∷ [])) own ∙ ap (λ ys. each c.args.t (a ∷ ys ∷ [])) paired)))
     c.from_u8_vec.ensures.items
 
-pub returns-in_ok-answers-clause-len : goal.returns-in_ok-answers-clause-len
-returns-in_ok-answers-clause-len c =
+pub returns-in_ok-results-clause-len : goal.returns-in_ok-results-clause-len
+returns-in_ok-results-clause-len c =
     let l = c.as_slice-left_offset.result in
     IfOk-weaker c.from_u8_vec.result _ _ (λ b e. e ∙ sym (shown_length l.0.now (items_of c.args.lhs.now) l.1 l.2 c.as_slice-left_offset.ensures.inside c.as_slice-left_offset.ensures.items)) c.from_u8_vec.ensures.len
 
@@ -35,8 +35,8 @@ map_binary-requires-clause-right c =
     let lr = shown_length r.0.now (items_of c.args.rhs.now) r.1 r.2 c.as_slice-right_offset.ensures.inside c.as_slice-right_offset.ensures.items in
     omega (arith, ll, lr, c.requires.same_length, c.as_slice-right_offset.ensures.inside)
 
-pub returns-in_ok-answers-clause-storage : goal.returns-in_ok-answers-clause-storage
-returns-in_ok-answers-clause-storage c =
+pub returns-in_ok-results-clause-storage : goal.returns-in_ok-results-clause-storage
+returns-in_ok-results-clause-storage c =
     IfOk-weaker c.from_u8_vec.result _ _
-    (packed_bytes c.in_ok-answers.answers.items c.as_slice-left_offset.result.2 c.in_ok-answers.ensures.canonical)
+    (packed_bytes c.in_ok-results.results.items c.as_slice-left_offset.result.2 c.in_ok-results.ensures.canonical)
     c.from_u8_vec.ensures.ok

@@ -30,14 +30,14 @@ returns-then-offset-eq0-clause-table g c t acts =
 pub returns-else-offset-eq0-clause-kernel : goal.returns-else-offset-eq0-clause-kernel
 returns-else-offset-eq0-clause-kernel g c f is =
     let items : List Bool = items_of c.args.lhs.now in
-    let walk = c.new-chunks-else-offset-eq0 in
+    let cursor = c.new-chunks-else-offset-eq0 in
     IfOk-weaker c.from_rows-else-offset-eq0.result _ _ (λ b h. h ∙ unary_is 64 f items)
     (c.from_rows-else-offset-eq0.ensures.kernel (λ xs. f (slice_index xs 0)) (items ∷ []) (λ x r fits post. ap (unnum 64) (is x r (fits 0) post))
-    (rows_of items walk.result.items c.as_slice-offset.result.2 (walk.ensures.items ∙ c.as_slice-offset.ensures.items) walk.ensures.count))
+    (rows_of items cursor.result.items c.as_slice-offset.result.2 (cursor.ensures.items ∙ c.as_slice-offset.ensures.items) cursor.ensures.count))
 
 pub returns-else-offset-eq0-clause-table : goal.returns-else-offset-eq0-clause-table
 returns-else-offset-eq0-clause-table g c t acts =
     let items : List Bool = items_of c.args.lhs.now in
-    let walk = c.new-chunks-else-offset-eq0 in
+    let cursor = c.new-chunks-else-offset-eq0 in
     c.from_rows-else-offset-eq0.ensures.table t (items ∷ []) (λ x r i fits h post. acts x r i (fits 0) h post)
-    (rows_of items walk.result.items c.as_slice-offset.result.2 (walk.ensures.items ∙ c.as_slice-offset.ensures.items) walk.ensures.count)
+    (rows_of items cursor.result.items c.as_slice-offset.result.2 (cursor.ensures.items ∙ c.as_slice-offset.ensures.items) cursor.ensures.count)

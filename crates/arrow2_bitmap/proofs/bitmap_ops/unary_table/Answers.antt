@@ -6,19 +6,19 @@ use Rattle.arrow2_bitmap.proofs.Lanes.{shown_items, shown_length}
 use Rattle.arrow2_bitmap.proofs.Packed.{packed_bytes}
 use Rattle.arrow2_bitmap.proofs.bitmap_ops.unary_table.Goals as goal
 
-pub returns-in_ok-answers-clause-items : goal.returns-in_ok-answers-clause-items
-returns-in_ok-answers-clause-items c =
+pub returns-in_ok-results-clause-items : goal.returns-in_ok-results-clause-items
+returns-in_ok-results-clause-items c =
     let shown = c.as_slice-offset.result in
     let own = shown_items shown.0.now (items_of c.args.lhs.now) shown.1 shown.2 c.if-offset-eq0.true c.as_slice-offset.ensures.items in
-    IfOk-weaker c.from_u8_vec.result _ _ (λ b e. e ∙ (c.in_ok-answers.ensures.items ∙ ap (λ xs. each c.args.t (xs ∷ [])) own)) c.from_u8_vec.ensures.items
+    IfOk-weaker c.from_u8_vec.result _ _ (λ b e. e ∙ (c.in_ok-results.ensures.items ∙ ap (λ xs. each c.args.t (xs ∷ [])) own)) c.from_u8_vec.ensures.items
 
-pub returns-in_ok-answers-clause-len : goal.returns-in_ok-answers-clause-len
-returns-in_ok-answers-clause-len c =
+pub returns-in_ok-results-clause-len : goal.returns-in_ok-results-clause-len
+returns-in_ok-results-clause-len c =
     let shown = c.as_slice-offset.result in
     IfOk-weaker c.from_u8_vec.result _ _ (λ b e. e ∙ sym (shown_length shown.0.now (items_of c.args.lhs.now) shown.1 shown.2 c.as_slice-offset.ensures.inside c.as_slice-offset.ensures.items)) c.from_u8_vec.ensures.len
 
-pub returns-in_ok-answers-clause-storage : goal.returns-in_ok-answers-clause-storage
-returns-in_ok-answers-clause-storage c =
+pub returns-in_ok-results-clause-storage : goal.returns-in_ok-results-clause-storage
+returns-in_ok-results-clause-storage c =
     IfOk-weaker c.from_u8_vec.result _ _
-    (packed_bytes c.in_ok-answers.answers.items c.as_slice-offset.result.2 c.in_ok-answers.ensures.canonical)
+    (packed_bytes c.in_ok-results.results.items c.as_slice-offset.result.2 c.in_ok-results.ensures.canonical)
     c.from_u8_vec.ensures.ok

@@ -16,6 +16,6 @@ returns-clause-bits g c =
     let bytes = c.args.bytes.now in
     let size = ap (λ n. 8 * n) c.SIZE.ensures ∙ g.met.T.BitChunk.size_law in
     let again = c.SIZE-2.ensures ∙ sym c.SIZE.ensures in
-    merged_word bytes c.SIZE.result w c.args.shift _ _ _ _ _ size g.met.T.BitChunk.width_bounds.0 c.requires.place c.requires.within (omega (arith, size))
+    merged_word bytes c.SIZE.result w c.args.shift _ _ _ _ _ size g.met.T.BitChunk.width_bounds.0 c.requires.position c.requires.within (omega (arith, size))
     c.from_ne_slice-low.ensures.bits (c.from_ne_slice-high.ensures.bits ∙ ap (λ n. bits (take (1 + n - 1) (drop 1 bytes))) again)
     c.down.ensures.bits c.up.ensures.bits c.bit_or.ensures.bits

@@ -4,5 +4,5 @@ use Rattle.arrow2_bits.proofs.chunks.word_from.Goals as goal
 
 pub returns : goal.returns
 returns c =
-    let offset = c.args.offset in let place = c.args.place in
-    bit_of_part c.args.bytes.now c.padded_chunk_at.result (offset / 8 + place / 8 + (offset % 8 + place % 8) / 8) ((offset % 8 + place % 8) % 8) offset place c.padded_chunk_at.ensures.number (omega (arith, c.requires)) (omega arith)
+    let offset = c.args.offset in let position = c.args.position in
+    bit_of_part c.args.bytes.now c.padded_chunk_at.result (offset / 8 + position / 8 + (offset % 8 + position % 8) / 8) ((offset % 8 + position % 8) % 8) offset position c.padded_chunk_at.ensures.number (omega (arith, c.requires)) (omega arith)

@@ -21,5 +21,5 @@ returns-clause-reads c =
     let whole : ℕ = c.args.first + c.div_ceil.result in
     let count : ℕ = (c.args.len - head) / 8 in
     let tail : ℕ = (c.args.len - head) % 8 in
-    let t = touched_in_three c.args.first c.args.start c.args.len head whole count tail c.requires.place (omega arith) (omega arith) (λ z. omega (arith, z)) (grind (arith, c.div_ceil.ensures)) (omega arith) (omega arith) in
+    let t = touched_in_three c.args.first c.args.start c.args.len head whole count tail c.requires.position (omega arith) (omega arith) (λ z. omega (arith, z)) (grind (arith, c.div_ceil.ensures)) (omega arith) (omega arith) in
     omega (arith, t, c.zeros_in_byte-zeros.ensures.reads, c.zeros_in_bytes.ensures.reads, c.zeros_in_byte-2.ensures.reads)

@@ -11,7 +11,7 @@ use Rattle.arrow2_bits.proofs.fmt.fmt.Goals.{then-left-length+in_ok-write_str-2,
 
 pub loop-byte-init : goal.loop-byte-init
 loop-byte-init g c = record {
-  place = omega arith;
+  position = omega arith;
   rest = omega arith;
   each = omega arith;
   last = omega arith;
@@ -30,9 +30,9 @@ loop-byte-preserved g c =
     let front = shown_front a.bytes.now a.offset a.length j in
     let here : c.min-here.result ≡ min (a.length - (8 * j - a.offset)) (8 - start) = c.min-here.ensures ∙ ap (λ n. min n (8 - start)) before.rest in
     let alone = shown_byte (get_or a.bytes.now j 0 ∷ []) start c.min-here.result 0 in
-    let byte = shown_byte_alone a.bytes.now (get_or a.bytes.now j 0) a.offset a.length j start c.min-here.result c.loop-byte-test.true refl c.requires.offset before.place here in
+    let byte = shown_byte_alone a.bytes.now (get_or a.bytes.now j 0) a.offset a.length j start c.min-here.result c.loop-byte-test.true refl c.requires.offset before.position here in
     record {
-      place = omega arith;
+      position = omega arith;
       rest = omega arith;
       each = omega arith;
       last = omega arith;

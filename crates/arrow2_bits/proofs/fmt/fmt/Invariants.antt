@@ -7,7 +7,7 @@ use Rattle.arrow2_bits.proofs.fmt.fmt.Given as goal
 -- the first j bytes are written, each of which holds a shown bit, and the other bits are left from the next byte's bit
 -- `start` on
 pub record IsFront {W : Type 0} (took : W → List ℕ → W → Type 0) (bytes : List ℕ) (offset len : ℕ) (old new : Formatter W) (j start left : ℕ) : Type 0 where
-  pub place : start ≡ offset - 8 * j
+  pub position : start ≡ offset - 8 * j
   pub rest : left ≡ len - (8 * j - offset)
   pub each : j ≤ len
   pub last : 8 * j < offset + len + 8

@@ -21,7 +21,7 @@ returns-in_default g c =
 pub returns-then-not-went_on : goal.returns-then-not-went_on
 returns-then-not-went_on g c =
     let one = Yields-more g.I.Iterator.next_gives c.args.source c.loop-item.items.items c.loop-item.source c.in-Some.item c.next.new.self c.loop-item.invariant.took c.in-Some.ensures.steps in
-    let held = c.push_reserved.ensures.items ∙ ap (λ (xs : List g.row.T.Denot). xs ++ c.in-Some.item ∷ []) c.make_room.ensures.items in
+    let held = c.push_reserved.ensures.items ∙ ap (λ (xs : List g.row.T.Denot). xs ++ c.in-Some.item ∷ []) c.grow_capacity.ensures.items in
     let came = subst (λ (xs : List g.row.T.Denot). Yields g.I.Iterator.next_gives c.args.source xs c.next.new.self) (sym held) one in
     let ended = c.filled-full.ensures.ended c.if-not-went_on.true c.args.source came in
     let ran = run_of_exit g.I.Iterator.next_gives c.args.source c.filled-full.result.0.items ended.0 ended.1 c.filled-full.new.source ended.2 in
@@ -30,7 +30,7 @@ returns-then-not-went_on g c =
 pub loop-item-preserved : goal.loop-item-preserved
 loop-item-preserved g c =
     let one = Yields-more g.I.Iterator.next_gives c.args.source c.loop-item.items.items c.loop-item.source c.in-Some.item c.next.new.self c.loop-item.invariant.took c.in-Some.ensures.steps in
-    let held = c.push_reserved.ensures.items ∙ ap (λ (xs : List g.row.T.Denot). xs ++ c.in-Some.item ∷ []) c.make_room.ensures.items in
+    let held = c.push_reserved.ensures.items ∙ ap (λ (xs : List g.row.T.Denot). xs ++ c.in-Some.item ∷ []) c.grow_capacity.ensures.items in
     let came = subst (λ (xs : List g.row.T.Denot). Yields g.I.Iterator.next_gives c.args.source xs c.next.new.self) (sym held) one in
     record {
       can = c.filled-full.ensures.can c.if-not-went_on.false;

@@ -137,12 +137,12 @@ lend_unshared_spec 𝓤 𝓛 𝓜 𝓡 wired T laws =
           (follows_then 𝓛 (shared_row (f.T-row T)) (stored.the_row (f.T-row T)) (Array (f.T-row T) 0) (rc_with_value a.0.now) (rewritten r.now start) a.0.ghost_name r.ghost_name s.ghost_name) $
           rewrite ! 0 (λ (items : List T.Denot). ‵ (follows (shared_row (f.T-row T)) (Array (f.T-row T) 0) a.0.ghost_name s.ghost_name (λ w. rc_with_value a.0.now (rewritten items start w)))) same refl $
           move ! (2 ∷ []) $ peeks ! Lent _ (shows 𝓛 Lent) s (v' ∷ []) (λ is'.
-          let room : Room (f.T-row T) (length s.now) = is'.0.1 in
+          let spare : Room (f.T-row T) (length s.now) = is'.0.1 in
           let lent : Val = slice_val s.ref_ptr (length s.now) in
           let there : v' ≡ lent = ap only is'.0.0 in
-          rewrite ! 0 (λ (u : Val). ‵ (Lent.own_val s (u ∷ []))) there refl $ lands_as ! there refl (tt, (tt, (record { fits = room.0 }, tt))) $
-          sets_last ! (agg ! (and_then ! (lit ! tt) (and_then ! (get ! refl) (no_more !)))) refl (tt, (record { fits = lit< tt }, ((tt, (record { fits = room.0 }, tt)), tt))) $
-          exec ! 𝓣.C 𝓣.Λ En (after 3 (function T).body) (at_ret En (W.post y)) $ sets ! (of_opd ! (get ! refl)) refl (tt, (record { fits = lit< tt }, ((tt, (record { fits = room.0 }, tt)), tt))) $
+          rewrite ! 0 (λ (u : Val). ‵ (Lent.own_val s (u ∷ []))) there refl $ lands_as ! there refl (tt, (tt, (record { fits = spare.0 }, tt))) $
+          sets_last ! (agg ! (and_then ! (lit ! tt) (and_then ! (get ! refl) (no_more !)))) refl (tt, (record { fits = lit< tt }, ((tt, (record { fits = spare.0 }, tt)), tt))) $
+          exec ! 𝓣.C 𝓣.Λ En (after 3 (function T).body) (at_ret En (W.post y)) $ sets ! (of_opd ! (get ! refl)) refl (tt, (record { fits = lit< tt }, ((tt, (record { fits = spare.0 }, tt)), tt))) $
           returns ! (look_at ! 0 refl) $ free_all ! refl $
           use1 𝓛 (‵ ((OP.the_row Lent).own_val (Some s) (live 1 (of_list (lent ∷ [])) ∷ []))) (Some-of 𝓛 Lent s lent) $
           suffices ! _ (ends_at 𝓛 (f.ended T) (stayed T) c y (live 1 (of_list (lent ∷ []))) (Some s) (tt, (tt, (tt, tt))) (tt, (tt, (tt, tt)))) $

@@ -6,5 +6,5 @@ use Rattle.arrow2_walks.specs.Selected.{selected}
 use Rattle.arrow2_compute.specs.Aggregates.{best_from}
 use Rattle.arrow2_compute.proofs.aggregate.best_of_word.Given as goal
 
-abbrev pub invariant-loop-place : goal.invariant-loop-place
-invariant-loop-place g l = best_from g.C.Choice.kept l.best (flat_map (λ place. part l.values place 1) l.place-iterator) ≡ best_from g.C.Choice.kept l.fn.best (selected l.values (unnum 64 l.word))
+abbrev pub invariant-loop-position : goal.invariant-loop-position
+invariant-loop-position g l = best_from g.C.Choice.kept l.best (flat_map (λ position. part l.values position 1) l.position-iterator) ≡ best_from g.C.Choice.kept l.fn.best (selected l.values (unnum 64 l.word))

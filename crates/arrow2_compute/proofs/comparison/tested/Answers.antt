@@ -9,11 +9,11 @@ use Rattle.arrow2_compute.proofs.comparison.tested.Goals as goal
 
 -- the results for the values, with the validity of the array
 pub returns-clause-items : goal.returns-clause-items
-returns-clause-items g c answer told =
+returns-clause-items g c outcome stated =
     let values = buffer_items c.args.array.now.values in
     let validity = valid_items c.args.array.now.validity in
     let is : c.as_slice.result.now ≡ values = c.as_slice.ensures ∙ ap buffer_items c.values-values.ensures.value in
-    let made : items_of c.in_ok-tested.tested ≡ map answer values = c.in_ok-tested.ensures.items answer (rw is told) ∙ ap (map answer) is in
+    let made : items_of c.in_ok-tested.tested ≡ map outcome values = c.in_ok-tested.ensures.items outcome (rw is stated) ∙ ap (map outcome) is in
     let copy : c.in_ok-clone.field-0 ≡ c.optional_validity-validity.result.now = search rules in
     let same = copy ∙ c.optional_validity-validity.ensures.value in
-    ap boolean_items c.from_parts.ensures ∙ (ap (λ items. zipped items (valid_items c.in_ok-clone.field-0)) made ∙ (ap (λ v. zipped (map answer values) (valid_items v)) same ∙ sym (map-zipped answer values validity)))
+    ap boolean_items c.from_parts.ensures ∙ (ap (λ items. zipped items (valid_items c.in_ok-clone.field-0)) made ∙ (ap (λ v. zipped (map outcome values) (valid_items v)) same ∙ sym (map-zipped outcome values validity)))

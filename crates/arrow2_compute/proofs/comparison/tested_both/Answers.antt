@@ -13,7 +13,7 @@ use Rattle.arrow2_compute.proofs.comparison.tested_both.Goals as goal
 
 -- what was returned for the values, with what is valid in both
 pub returns-clause-items : goal.returns-clause-items
-returns-clause-items g c answer told =
+returns-clause-items g c outcome stated =
     let xs = buffer_items c.args.lhs.now.values in
     let ys = buffer_items c.args.rhs.now.values in
     let vs = valid_items c.args.lhs.now.validity in
@@ -21,9 +21,9 @@ returns-clause-items g c answer told =
     let left : c.as_slice-left.result.now ≡ xs = c.as_slice-left.ensures ∙ ap buffer_items c.values-values.ensures.value in
     let right : c.as_slice-right.result.now ≡ ys = c.as_slice-right.ensures ∙ ap buffer_items c.values.ensures.value in
     let alike : length c.as_slice-left.result.now ≡ length c.as_slice-right.result.now = omega (arith, ap length c.as_slice-left.ensures, ap length c.as_slice-right.ensures, c.values-values.ensures.len, c.values.ensures.len, c.requires.same_length) in
-    let made : items_of c.in_ok-tested.tested ≡ zip2 answer c.as_slice-left.result.now c.as_slice-right.result.now =
-    tested-pairs c.as_slice-left.result.now c.as_slice-right.result.now (items_of c.in_ok-tested.tested) _ answer alike c.in_ok-tested.ensures.len c.in_ok-tested.ensures.answers told in
-    let same : zip2 answer c.as_slice-left.result.now c.as_slice-right.result.now ≡ zip2 answer xs ys = ap (λ l. zip2 answer l c.as_slice-right.result.now) left ∙ ap (zip2 answer xs) right in
+    let made : items_of c.in_ok-tested.tested ≡ zip2 outcome c.as_slice-left.result.now c.as_slice-right.result.now =
+    tested-pairs c.as_slice-left.result.now c.as_slice-right.result.now (items_of c.in_ok-tested.tested) _ outcome alike c.in_ok-tested.ensures.len c.in_ok-tested.ensures.results stated in
+    let same : zip2 outcome c.as_slice-left.result.now c.as_slice-right.result.now ≡ zip2 outcome xs ys = ap (λ l. zip2 outcome l c.as_slice-right.result.now) left ∙ ap (zip2 outcome xs) right in
     let one : valid_items c.optional_validity.result.now ≡ vs = ap valid_items c.optional_validity.ensures.value in
     let other : valid_items c.optional_validity-2.result.now ≡ ws = ap valid_items c.optional_validity-2.ensures.value in
     let long : length vs ≡ length ws = grind (arith, common_steps, one, other) in
@@ -32,4 +32,4 @@ returns-clause-items g c answer told =
     let valid : valid_items c.in_ok-validity.validity ≡ zip2 ◌&&◌ vs ws = c.in_ok-validity.ensures.items ∙ (known ∙ each-and vs ws long) in
     ap boolean_items c.from_parts.ensures
     ∙ (ap (λ items. zipped items (valid_items c.in_ok-validity.validity)) (made ∙ same)
-    ∙ (ap (zipped (zip2 answer xs ys)) valid ∙ sym (both-zipped answer xs ys vs ws)))
+    ∙ (ap (zipped (zip2 outcome xs ys)) valid ∙ sym (both-zipped outcome xs ys vs ws)))

@@ -46,8 +46,8 @@ returns-in_err-push_items-clause-only g c =
     let slots : length mask ≡ length lengths = c.requires.same_length ∙ (sym c.count-count.ensures.items ∙ c.count-count.ensures.slots) in
     let all = ap sum (selected-runs lengths mask slots) in
     let most = sum-selected lengths mask in
-    let room : kept.bytes + sum (part lengths c.in-Some.start c.in-Some.len) ≤ g.A.Binary.GREATEST = omega (arith, more, all, most, c.loop-start.invariant.bytes, c.count-count.ensures.fits) in
-    grind (arith, common_steps, counted, room)
+    let spare : kept.bytes + sum (part lengths c.in-Some.start c.in-Some.len) ≤ g.A.Binary.GREATEST = omega (arith, more, all, most, c.loop-start.invariant.bytes, c.count-count.ensures.fits) in
+    grind (arith, common_steps, counted, spare)
 
 pub returns-clause-items : goal.returns-clause-items
 returns-clause-items g c =

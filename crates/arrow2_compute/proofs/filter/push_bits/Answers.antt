@@ -10,7 +10,7 @@ use Rattle.arrow2_chunk.specs.Ones.{ones}
 use Rattle.arrow2_walks.specs.Selected.{selected}
 use Rattle.arrow2_walks.proofs.Left.{left-all, left-done}
 use Rattle.arrow2_compute.proofs.Filtered.{kept-fits, only-memory, part-whole}
-use Rattle.arrow2_compute.proofs.Selecting.{bit-at, cut-ones, places-inside, selected-max}
+use Rattle.arrow2_compute.proofs.Selecting.{bit-at, cut-ones, positions-inside, selected-max}
 use Rattle.arrow2_compute.proofs.filter.push_bits.Goals as goal
 
 pub returns-then-word-eq18446744073709551615-clause-ok : goal.returns-then-word-eq18446744073709551615-clause-ok
@@ -29,33 +29,33 @@ returns-then-word-eq18446744073709551615-clause-only c =
     let all : selected block (unnum 64 c.args.word) ≡ block = selected-max block c.args.word c.if-word-eq18446744073709551615.true (omega (arith, n)) in
     only-memory c.extend_from_slice.result _ c.extend_from_slice.ensures.overflow c.extend_from_slice.ensures.only (omega (arith, ap length (whole ∙ sym all), c.requires.fits))
 
-pub loop-place-init : goal.loop-place-init
-loop-place-init c =
-    let places : c.into_iter-place-iterator.result ≡ ones (unnum 64 c.args.word) = search rules in
+pub loop-position-init : goal.loop-position-init
+loop-position-init c =
+    let positions : c.into_iter-position-iterator.result ≡ ones (unnum 64 c.args.word) = search rules in
     record {
-      inside = places-inside c.args.word c.into_iter-place-iterator.result places;
-      done = ap (λ l. c.args.kept.now.items ++ flat_map (λ place. part (unnum 64 c.args.block) place 1) l) places ∙ ap (λ l. c.args.kept.now.items ++ l) (cut-ones (unnum 64 c.args.block) (unnum 64 c.args.word));
+      inside = positions-inside c.args.word c.into_iter-position-iterator.result positions;
+      done = ap (λ l. c.args.kept.now.items ++ flat_map (λ position. part (unnum 64 c.args.block) position 1) l) positions ∙ ap (λ l. c.args.kept.now.items ++ l) (cut-ones (unnum 64 c.args.block) (unnum 64 c.args.word));
     }
 
-pub loop-place-preserved : goal.loop-place-preserved
-loop-place-preserved c =
-    let before = c.loop-place.invariant in
+pub loop-position-preserved : goal.loop-position-preserved
+loop-position-preserved c =
+    let before = c.loop-position.invariant in
     let first = c.in-Some.ensures.steps in
-    let less : c.in-Some.place < 64 = subst (All (λ place. place < 64)) first before.inside 0 0 (omega arith) in
-    let here = bit-at c.args.block c.in-Some.place c.bit.result less c.bit.ensures in
+    let less : c.in-Some.position < 64 = subst (All (λ position. position < 64)) first before.inside 0 0 (omega arith) in
+    let here = bit-at c.args.block c.in-Some.position c.bit.result less c.bit.ensures in
     record {
-      inside = left-all (λ place. place < 64) first before.inside;
-      done = left-done (λ place. part (unnum 64 c.args.block) place 1) _ _ _ first (c.in_ok-push.ensures.ok ∙ ap (λ l. c.loop-place.kept.items ++ l) (sym here)) before.done;
+      inside = left-all (λ position. position < 64) first before.inside;
+      done = left-done (λ position. part (unnum 64 c.args.block) position 1) _ _ _ first (c.in_ok-push.ensures.ok ∙ ap (λ l. c.loop-position.kept.items ++ l) (sym here)) before.done;
     }
 
 -- no more is kept than a usize counts
 pub returns-in_err-push-clause-only : goal.returns-in_err-push-clause-only
 returns-in_err-push-clause-only c =
-    let before = c.loop-place.invariant in
+    let before = c.loop-position.invariant in
     let first = c.in-Some.ensures.steps in
-    let less : c.in-Some.place < 64 = subst (All (λ place. place < 64)) first before.inside 0 0 (omega arith) in
-    let here = bit-at c.args.block c.in-Some.place c.bit.result less c.bit.ensures in
-    let fits = kept-fits (λ place. part (unnum 64 c.args.block) place 1) _ _ _ _ _ first before.done in
+    let less : c.in-Some.position < 64 = subst (All (λ position. position < 64)) first before.inside 0 0 (omega arith) in
+    let here = bit-at c.args.block c.in-Some.position c.bit.result less c.bit.ensures in
+    let fits = kept-fits (λ position. part (unnum 64 c.args.block) position 1) _ _ _ _ _ first before.done in
     let whole = length-append c.args.kept.now.items (selected (unnum 64 c.args.block) (unnum 64 c.args.word)) in
-    let counted : length c.loop-place.kept.items + 1 < 2 ^ 64 = omega (arith, fits, whole, ap length here, c.requires.fits) in
+    let counted : length c.loop-position.kept.items + 1 < 2 ^ 64 = omega (arith, fits, whole, ap length here, c.requires.fits) in
     grind (arith, common_steps, counted)

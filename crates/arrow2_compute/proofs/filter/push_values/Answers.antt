@@ -6,7 +6,7 @@ use Rattle.arrow2_chunk.specs.Ones.{ones}
 use Rattle.arrow2_compute.proofs.Selecting.{cut-ones}
 use Rattle.arrow2_compute.proofs.filter.push_values.Goals as goal
 
-pub loop-place-init : goal.loop-place-init
-loop-place-init g c =
-    let places : c.into_iter-place-iterator.result ≡ ones (unnum 64 c.args.word) = search rules in
-    ap (λ l. c.args.kept.now.items ++ flat_map (λ place. part c.args.values.now place 1) l) places ∙ ap (λ l. c.args.kept.now.items ++ l) (cut-ones c.args.values.now (unnum 64 c.args.word))
+pub loop-position-init : goal.loop-position-init
+loop-position-init g c =
+    let positions : c.into_iter-position-iterator.result ≡ ones (unnum 64 c.args.word) = search rules in
+    ap (λ l. c.args.kept.now.items ++ flat_map (λ position. part c.args.values.now position 1) l) positions ∙ ap (λ l. c.args.kept.now.items ++ l) (cut-ones c.args.values.now (unnum 64 c.args.word))

@@ -5,5 +5,5 @@ use Rattle.arrow2_model.specs.Parts.{part}
 use Rattle.arrow2_walks.specs.Selected.{selected}
 use Rattle.arrow2_compute.proofs.filter.push_values.Given as goal
 
-abbrev pub invariant-loop-place : goal.invariant-loop-place
-invariant-loop-place g l = l.kept.items ++ flat_map (λ place. part l.values place 1) l.place-iterator ≡ l.fn.kept.items ++ selected l.values (unnum 64 l.word)
+abbrev pub invariant-loop-position : goal.invariant-loop-position
+invariant-loop-position g l = l.kept.items ++ flat_map (λ position. part l.values position 1) l.position-iterator ≡ l.fn.kept.items ++ selected l.values (unnum 64 l.word)

@@ -4,9 +4,9 @@ use Rattle.arrow2_model.specs.Storage.{items_of}
 use Rattle.arrow2_walks.specs.Selected.{chosen}
 use Rattle.arrow2_compute.proofs.if_then_else.chosen_values.Given as goal
 
-abbrev pub invariant-loop-place : goal.invariant-loop-place
-invariant-loop-place g l = record {
-  values : l.values.items ≡ chosen (take l.place (items_of l.mask)) (take l.place l.lhs) (take l.place l.rhs);
-  len : vec_len l.values ≡ l.place;
-  room : length (items_of l.mask) ≤ vec_capacity l.values;
+abbrev pub invariant-loop-position : goal.invariant-loop-position
+invariant-loop-position g l = record {
+  values : l.values.items ≡ chosen (take l.position (items_of l.mask)) (take l.position l.lhs) (take l.position l.rhs);
+  len : vec_len l.values ≡ l.position;
+  spare : length (items_of l.mask) ≤ vec_capacity l.values;
 }

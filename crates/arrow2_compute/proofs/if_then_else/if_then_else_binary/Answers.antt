@@ -18,15 +18,15 @@ returns-in_err-push_either-clause-overflow g c =
     let ms = items_of c.args.mask.now in
     let xs = binary_items (g.A.Binary.parts c.args.lhs.now) in
     let ys = binary_items (g.A.Binary.parts c.args.rhs.now) in
-    let place = c.loop-place.place in
-    let items = g.A.Binary.growing c.loop-place.items in
-    let few = length-chosen place ms (take place xs) (take place ys) in
-    let counted : length items.items + 1 < 2 ^ 64 = omega (arith, few, ap length c.loop-place.invariant.items, c.loop-place-test.true, c.len-place-end.ensures.items) in
-    let in_mask : place < length ms = omega (arith, c.loop-place-test.true, c.len-place-end.ensures.items) in
-    let more = ap (sum_by item_bytes) (chosen-more ms xs ys place in_mask (omega (arith, in_mask, c.requires.left)) (omega (arith, in_mask, c.requires.right))) in
-    let push = sum_by_push item_bytes (chosen (take place ms) (take place xs) (take place ys)) (if get_or ms place false then get_or xs place None else get_or ys place None) in
-    let most = chosen-fits item_bytes (place + 1) ms xs ys in
-    let bytes = c.loop-place.invariant.bytes ∙ ap (sum_by item_bytes) c.loop-place.invariant.items in
+    let position = c.loop-position.position in
+    let items = g.A.Binary.growing c.loop-position.items in
+    let few = length-chosen position ms (take position xs) (take position ys) in
+    let counted : length items.items + 1 < 2 ^ 64 = omega (arith, few, ap length c.loop-position.invariant.items, c.loop-position-test.true, c.len-position-end.ensures.items) in
+    let in_mask : position < length ms = omega (arith, c.loop-position-test.true, c.len-position-end.ensures.items) in
+    let more = ap (sum_by item_bytes) (chosen-more ms xs ys position in_mask (omega (arith, in_mask, c.requires.left)) (omega (arith, in_mask, c.requires.right))) in
+    let push = sum_by_push item_bytes (chosen (take position ms) (take position xs) (take position ys)) (if get_or ms position false then get_or xs position None else get_or ys position None) in
+    let most = chosen-fits item_bytes (position + 1) ms xs ys in
+    let bytes = c.loop-position.invariant.bytes ∙ ap (sum_by item_bytes) c.loop-position.invariant.items in
     grind (arith, common_steps, counted, more, push, most, bytes)
 
 pub returns-clause-fits : goal.returns-clause-fits
@@ -34,9 +34,9 @@ returns-clause-fits g c =
     let ms = items_of c.args.mask.now in
     let xs = binary_items (g.A.Binary.parts c.args.lhs.now) in
     let ys = binary_items (g.A.Binary.parts c.args.rhs.now) in
-    let place = c.loop-place.place in
-    let count = c.len-place-end.ensures.items in
-    let all : chosen (take place ms) (take place xs) (take place ys) ≡ chosen ms xs ys =
-    rw (take_all place ms (omega (arith, count, c.loop-place-test.false)), take_all place xs (omega (arith, count, c.loop-place-test.false, c.requires.left)), take_all place ys (omega (arith, count, c.loop-place-test.false, c.requires.right))) in
-    let bytes = c.loop-place.invariant.bytes ∙ ap (sum_by item_bytes) (c.loop-place.invariant.items ∙ all) in
-    of-ok c.freeze.result (sum_by item_bytes (chosen ms xs ys) ≤ g.A.Binary.GREATEST) (omega (arith, bytes, c.loop-place.invariant.fits))
+    let position = c.loop-position.position in
+    let count = c.len-position-end.ensures.items in
+    let all : chosen (take position ms) (take position xs) (take position ys) ≡ chosen ms xs ys =
+    rw (take_all position ms (omega (arith, count, c.loop-position-test.false)), take_all position xs (omega (arith, count, c.loop-position-test.false, c.requires.left)), take_all position ys (omega (arith, count, c.loop-position-test.false, c.requires.right))) in
+    let bytes = c.loop-position.invariant.bytes ∙ ap (sum_by item_bytes) (c.loop-position.invariant.items ∙ all) in
+    of-ok c.freeze.result (sum_by item_bytes (chosen ms xs ys) ≤ g.A.Binary.GREATEST) (omega (arith, bytes, c.loop-position.invariant.fits))

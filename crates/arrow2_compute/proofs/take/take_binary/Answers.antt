@@ -12,11 +12,11 @@ pub returns-in_err-push_item-clause-overflow : goal.returns-in_err-push_item-cla
 returns-in_err-push_item-clause-overflow g c =
     let items = λ (index : ℕ). slice_index_or (binary_items (g.A.Binary.parts c.args.array.now)) index None in
     let indices = c.args.indices.now in
-    let place = c.loop-index.index-index in
+    let position = c.loop-index.index-index in
     let taken = g.A.Binary.growing c.loop-index.taken in
-    let few : length taken.items ≡ length (take place indices) = ap length c.loop-index.invariant.items ∙ length-map (take place indices) items in
-    let counted : length taken.items + 1 < 2 ^ 64 = omega (arith, few, length-take place indices, c.loop-index-test.true) in
-    let most = taken-fits item_bytes items indices place 0 c.loop-index-test.true in
+    let few : length taken.items ≡ length (take position indices) = ap length c.loop-index.invariant.items ∙ length-map (take position indices) items in
+    let counted : length taken.items + 1 < 2 ^ 64 = omega (arith, few, length-take position indices, c.loop-index-test.true) in
+    let most = taken-fits item_bytes items indices position 0 c.loop-index-test.true in
     let bytes = c.loop-index.invariant.bytes ∙ ap (sum_by item_bytes) c.loop-index.invariant.items in
     grind (arith, common_steps, counted, most, bytes)
 

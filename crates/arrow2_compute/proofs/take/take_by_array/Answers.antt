@@ -3,8 +3,8 @@ use Rattle.std.proofs.lemmas.List.{length-map}
 use Rattle.std.proofs.Math.Seq.{take-length}
 use Rattle.arrow2_model.specs.Buffers.{buffer_items}
 use Rattle.arrow2_primitive.specs.Primitive.{primitive_items}
-use Rattle.arrow2_primitive.proofs.Growing.{beside}
-use Rattle.arrow2_compute.specs.Taken.{item_at}
+use Rattle.arrow2_primitive.proofs.Growing.{paired}
+use Rattle.arrow2_compute.specs.Take.{item_at}
 use Rattle.arrow2_compute.proofs.take.take_by_array.Goals as goal
 
 pub returns-clause-items : goal.returns-clause-items
@@ -15,4 +15,4 @@ returns-clause-items g c =
     let xs = made.field-0.items in
     let held : buffer_items c.in_ok-values.values ≡ xs = ap buffer_items c.in_ok-values.ensures ∙ take-length xs in
     ap primitive_items c.new.ensures
-    ∙ beside (map f indices) xs c.in_ok-values.values c.in_ok-make_mut.field-0.items c.in_ok-validity.validity made.ensures.items (made.ensures.len ∙ sym (length-map indices f)) held (c.in_ok-make_mut.ensures.ok ∙ c.in_ok-bits_by_array.ensures.items) c.in_ok-validity.ensures.none c.in_ok-validity.ensures.items
+    ∙ paired (map f indices) xs c.in_ok-values.values c.in_ok-make_mut.field-0.items c.in_ok-validity.validity made.ensures.items (made.ensures.len ∙ sym (length-map indices f)) held (c.in_ok-make_mut.ensures.ok ∙ c.in_ok-bits_by_array.ensures.items) c.in_ok-validity.ensures.none c.in_ok-validity.ensures.items

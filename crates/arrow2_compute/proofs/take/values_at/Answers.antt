@@ -1,7 +1,7 @@
 use Rattle.std.proofs.Common.{◌∙◌, ◌+◌, take, get_or, ap, sym, subst, arith}
 use Rattle.std.specs.List.{AllZip}
 use Rattle.arrow2_model.specs.Buffers.{buffer_items}
-use Rattle.arrow2_compute.specs.Taken.{IsItemAt}
+use Rattle.arrow2_compute.specs.Take.{IsItemAt}
 use Rattle.arrow2_compute.proofs.Converted.{zip-more}
 use Rattle.arrow2_compute.proofs.take.values_at.Goals as goal
 
@@ -9,12 +9,12 @@ pub loop-index-preserved : goal.loop-index-preserved
 loop-index-preserved g c =
     let R = IsItemAt (buffer_items c.args.values.now) in
     let indices = c.args.indices.now in
-    let place = c.loop-index.index-index in
+    let position = c.loop-index.index-index in
     let value = c.index-slots-index.result in
     let before = c.loop-index.invariant in
-    let here = ap (λ l. get_or l (get_or indices place 0) value) (sym c.as_slice-slots.ensures) ∙ sym c.index-slots-index.is in
+    let here = ap (λ l. get_or l (get_or indices position 0) value) (sym c.as_slice-slots.ensures) ∙ sym c.index-slots-index.is in
     record {
-      taken = subst (λ l. AllZip R (take (place + 1) indices) l) (sym c.push_reserved.ensures.items) (zip-more R indices c.loop-index.taken.items place 0 value c.loop-index-test.true before.taken here);
+      taken = subst (λ l. AllZip R (take (position + 1) indices) l) (sym c.push_reserved.ensures.items) (zip-more R indices c.loop-index.taken.items position 0 value c.loop-index-test.true before.taken here);
       len = c.push_reserved.ensures.len ∙ ap (λ n. n + 1) before.len;
-      room = omega (arith, c.push_reserved.ensures.capacity, before.room);
+      spare = omega (arith, c.push_reserved.ensures.capacity, before.spare);
     }

@@ -3,7 +3,7 @@ use Rattle.std.proofs.lemmas.List.{ext_get_or, length-set}
 use Rattle.arrow2_model.specs.Bits.{bits}
 use Rattle.arrow2_model.specs.Parts.{part}
 use Rattle.arrow2_model.proofs.Parts.{get_or-part}
-use Rattle.arrow2_model.proofs.Walks.{length-part_bits}
+use Rattle.arrow2_model.proofs.Cursors.{length-part_bits}
 use Rattle.arrow2_offset.proofs.Written.{one_more}
 use Rattle.arrow2_ffi.proofs.booleans.write_unpacked.Goals as goal
 

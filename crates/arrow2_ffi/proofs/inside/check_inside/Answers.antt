@@ -3,8 +3,8 @@ use Rattle.std.specs.Prelude.{ℤ, pos, negsuc, ◌<ℤ◌, ◌≤ℤ◌, slice_
 use Rattle.std.proofs.lemmas.Bool.{cases_lt}
 use Rattle.std.proofs.lemmas.Int.{ints}
 use Rattle.arrow2_offset.specs.Offsets.{AreOffsets}
-use Rattle.arrow2_offset.specs.Refused.{first_broken}
-use Rattle.arrow2_offset.proofs.Order.{offsets_told}
+use Rattle.arrow2_offset.specs.Refusals.{first_broken}
+use Rattle.arrow2_offset.proofs.Order.{offsets_stated}
 use Rattle.arrow2_ffi.specs.declared.codes.TheConstants.{ARROW2_SPEC_FALLING}
 use Rattle.arrow2_ffi.specs.Rules.{rule_code}
 use Rattle.arrow2_ffi.proofs.inside.check_inside.Goals as goal
@@ -16,23 +16,23 @@ not_negative (negsuc n) ys e h = omega (arith, e)
 -- numbers that break no earlier rule, and that never decrease, are offsets
 none_falls : {X : Type 0} (value : X → ℤ) (items : List X) → rule_code (first_broken (map value items)) ≡ ARROW2_SPEC_FALLING → ((k : ℕ) → k + 1 < length items → slice_index_or (map value items) k (pos 0) ≤ℤ slice_index_or (map value items) (k + 1) (pos 0)) → AreOffsets (map value items)
 none_falls value [] e up = absurd (omega (arith, e))
-none_falls value (x ∷ items) e up = offsets_told value (x ∷ items) x (λ none. omega (arith, none)) refl (not_negative (value x) (map value items) e) up
+none_falls value (x ∷ items) e up = offsets_stated value (x ∷ items) x (λ none. omega (arith, none)) refl (not_negative (value x) (map value items) e) up
 
 pub returns-then-code-eq-ARROW2_SPEC_FALLING : goal.returns-then-code-eq-ARROW2_SPEC_FALLING
 returns-then-code-eq-ARROW2_SPEC_FALLING g c =
     let v = g.O.Number.value in
     let items = c.args.offsets.now in
-    let told = c.in-Some.ensures.some in
+    let stated = c.in-Some.ensures.some in
     let is = c.if-code-eq-ARROW2_SPEC_FALLING.true in
     let inside : c.first_falling.result < length items =
     elim (cases_lt c.first_falling.result (length items)) [
       | inl low ↦ low
-      | inr all ↦ absurd (told.broken (none_falls v items (sym told.rule ∙ is) (λ k h. c.first_falling.ensures.before k (omega (arith, h, all)))))
+      | inr all ↦ absurd (stated.broken (none_falls v items (sym stated.rule ∙ is) (λ k h. c.first_falling.ensures.before k (omega (arith, h, all)))))
     ] in
     record {
-      ok = (λ e. absurd (told.other e), λ h. absurd (told.broken h.0));
-      broken = λ _. told.rule;
-      past = λ are _. absurd (told.broken are);
+      ok = (λ e. absurd (stated.other e), λ h. absurd (stated.broken h.0));
+      broken = λ _. stated.rule;
+      past = λ are _. absurd (stated.broken are);
       falling = λ _. c.first_falling.ensures.found inside;
       past_index = λ e. absurd (omega (arith, e, is));
       kept = λ no _. absurd (no is);

@@ -7,7 +7,7 @@ use Rattle.std.proofs.lemmas.Bool.{cases_lt}
 use Rattle.std.proofs.lemmas.Cmp.{int_ranked}
 use Rattle.std.proofs.lemmas.Int.{ints}
 use Rattle.std.proofs.lemmas.List.{get_or-map}
-use Rattle.arrow2_offset.proofs.Order.{lt_told}
+use Rattle.arrow2_offset.proofs.Order.{lt_stated}
 use Rattle.arrow2_ffi.proofs.inside.first_falling.Goals as goal
 
 ranked : (a b : ℤ) (r : Ordering) → MatchOrdering r (a <ℤ b) (a ≡ b) (b <ℤ a) → (a <ℤ b → ⊥) → b ≤ℤ a
@@ -35,8 +35,8 @@ loop-index-preserved g c =
     let i = c.loop-index.index in
     let items = c.args.offsets.now in
     let v = g.O.Number.value in
-    let told = lt_told v g.O.PartialOrd.partial_cmp _ _ c.lt.result (g.met.O.Number.order_law _ _ g.met.O.Integral.exact_law) c.lt.ensures in
-    let up = not_below (v c.index-offsets-index.result) (v c.index-offsets-index-in-loop-index.result) (λ h. let e : c.lt.result ≡ true = told.1 h in let no : ⊥ = cc in no) in
+    let stated = lt_stated v g.O.PartialOrd.partial_cmp _ _ c.lt.result (g.met.O.Number.order_law _ _ g.met.O.Integral.exact_law) c.lt.ensures in
+    let up = not_below (v c.index-offsets-index.result) (v c.index-offsets-index-in-loop-index.result) (λ h. let e : c.lt.result ≡ true = stated.1 h in let no : ⊥ = cc in no) in
     record {
       bound = omega (arith, c.loop-index-test.true);
       before = rises_next (map v items) i c.loop-index.auto.index c.loop-index.invariant.before (rw (get_or-map v items (i - 1) c.index-offsets-index-in-loop-index.result (pos 0) (omega (arith, c.loop-index-test.true)), get_or-map v items i c.index-offsets-index.result (pos 0) c.loop-index-test.true, ← c.index-offsets-index-in-loop-index.is, ← c.index-offsets-index.is) up);

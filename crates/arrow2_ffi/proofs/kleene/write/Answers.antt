@@ -1,11 +1,11 @@
 use Rattle.std.proofs.Common.{◌≡◌, ◌∙◌, ℕ, List, [], ◌∷◌, Bool, sym, length, rules}
 use Rattle.std.specs.Prelude.{Option}
 use Rattle.arrow2_model.specs.Tables.{each}
-use Rattle.arrow2_model.proofs.Walks.{length-part_bits}
+use Rattle.arrow2_model.proofs.Cursors.{length-part_bits}
 use Rattle.arrow2_walks.specs.Zipped.{zipped}
 use Rattle.arrow2_array.specs.Kleene.{by_items, TablesCompute}
 use Rattle.arrow2_array.proofs.Tables.{by_tables}
-use Rattle.arrow2_ffi.specs.declared.ranges.Bits.{Bits}
+use Rattle.arrow2_ffi.specs.declared.bits_input.Bits.{Bits}
 use Rattle.arrow2_ffi.specs.Ranges.{HasBits, first_bits}
 use Rattle.arrow2_ffi.proofs.WriteSteps.{wrote}
 use Rattle.arrow2_ffi.proofs.kleene.write.Goals as goal

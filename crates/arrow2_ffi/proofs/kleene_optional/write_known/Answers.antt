@@ -1,14 +1,14 @@
 use Rattle.std.proofs.Common.{◌≡◌, ◌∙◌, ap, length, sym, [], ◌∷◌}
 use Rattle.arrow2_model.specs.Tables.{each}
-use Rattle.arrow2_model.proofs.Walks.{length-part_bits}
-use Rattle.arrow2_array.proofs.Tables.{all_known, beside_left, beside_right}
+use Rattle.arrow2_model.proofs.Cursors.{length-part_bits}
+use Rattle.arrow2_array.proofs.Tables.{all_known, paired_left, paired_right}
 use Rattle.arrow2_ffi.specs.Ranges.{first_bits}
 use Rattle.arrow2_ffi.specs.Validities.{valid_items, validity_of}
 use Rattle.arrow2_ffi.proofs.OptionalKleene.{all_true, all_valid, given_items}
 use Rattle.arrow2_ffi.proofs.kleene_optional.write_known.Goals as goal
 
 pub returns-in-None-None : goal.returns-in-None-None
-returns-in-None-None g c beside =
+returns-in-None-None g c paired =
     let n = c.args.length in
     let l = c.args.left in
     let r = c.args.right in
@@ -19,12 +19,12 @@ returns-in-None-None g c beside =
     let left = all_valid l.validity xs n c.in-None-None.is-0 x in
     let right = all_valid r.validity ys n c.in-None-None.is-1 y in
     record {
-      items = c.write_two.ensures.items ∙ (all_true xs ys ∙ all_known g.row.KNOWN xs (valid_items (validity_of l.validity) n) ys (valid_items (validity_of r.validity) n) beside.both (x ∙ sym y) left right);
+      items = c.write_two.ensures.items ∙ (all_true xs ys ∙ all_known g.row.KNOWN xs (valid_items (validity_of l.validity) n) ys (valid_items (validity_of r.validity) n) paired.both (x ∙ sym y) left right);
       canonical = c.write_two.ensures.canonical;
     }
 
 pub returns-in-Some-None : goal.returns-in-Some-None
-returns-in-Some-None g c beside =
+returns-in-Some-None g c paired =
     let n = c.args.length in
     let l = c.args.left in
     let r = c.args.right in
@@ -35,12 +35,12 @@ returns-in-Some-None g c beside =
     let left = given_items l.validity _ n c.in-Some-None.is-0 in
     let right = all_valid r.validity ys n c.in-Some-None.is-1 y in
     record {
-      items = c.write_three-in-Some-None.ensures.items ∙ (ap (λ ns. each g.row.BESIDE (xs ∷ ns ∷ ys ∷ [])) left ∙ beside_right g.row.KNOWN g.row.BESIDE xs (valid_items (validity_of l.validity) n) ys (valid_items (validity_of r.validity) n) beside.second (x ∙ sym y) right);
+      items = c.write_three-in-Some-None.ensures.items ∙ (ap (λ ns. each g.row.PAIRED (xs ∷ ns ∷ ys ∷ [])) left ∙ paired_right g.row.KNOWN g.row.PAIRED xs (valid_items (validity_of l.validity) n) ys (valid_items (validity_of r.validity) n) paired.second (x ∙ sym y) right);
       canonical = c.write_three-in-Some-None.ensures.canonical;
     }
 
 pub returns-in-None-Some : goal.returns-in-None-Some
-returns-in-None-Some g c beside =
+returns-in-None-Some g c paired =
     let n = c.args.length in
     let l = c.args.left in
     let r = c.args.right in
@@ -51,12 +51,12 @@ returns-in-None-Some g c beside =
     let left = all_valid l.validity xs n c.in-None-Some.is-0 x in
     let right = given_items r.validity _ n c.in-None-Some.is-1 in
     record {
-      items = c.write_three.ensures.items ∙ (ap (λ ms. each g.row.BESIDE (ys ∷ ms ∷ xs ∷ [])) right ∙ beside_left g.row.KNOWN g.row.BESIDE xs (valid_items (validity_of l.validity) n) ys (valid_items (validity_of r.validity) n) beside.first (x ∙ sym y) left);
+      items = c.write_three.ensures.items ∙ (ap (λ ms. each g.row.PAIRED (ys ∷ ms ∷ xs ∷ [])) right ∙ paired_left g.row.KNOWN g.row.PAIRED xs (valid_items (validity_of l.validity) n) ys (valid_items (validity_of r.validity) n) paired.first (x ∙ sym y) left);
       canonical = c.write_three.ensures.canonical;
     }
 
 pub returns-in-Some-Some : goal.returns-in-Some-Some
-returns-in-Some-Some g c beside =
+returns-in-Some-Some g c paired =
     let n = c.args.length in
     let l = c.args.left in
     let r = c.args.right in

@@ -4,7 +4,7 @@ use Rattle.std.specs.List.{All}
 use Rattle.std.proofs.lemmas.List.{append_assoc}
 use Rattle.arrow2_model.specs.Bits.{bits, unnum}
 use Rattle.arrow2_model.specs.Parts.{part}
-use Rattle.arrow2_model.proofs.Walks.{length-part_bits}
+use Rattle.arrow2_model.proofs.Cursors.{length-part_bits}
 use Rattle.arrow2_chunk.specs.Ones.{ones}
 use Rattle.arrow2_ffi.specs.SetIndices.{ones_from}
 use Rattle.arrow2_ffi.proofs.IndexSteps.{below, front_below, from_index, none_from, word_step}
@@ -31,10 +31,10 @@ words-preserved c =
     let kept = c.words.invariant in
     let step = word_step c.args.bits.0.now c.args.bits.1 c.args.end c.requires.inside base held c.word_from.result c.masked-word.result (omega (arith, c.min-held.ensures, c.words-test.true)) (omega (arith, c.min-held.ensures)) c.word_from.ensures c.masked-word.ensures.bits in
     let all : take count indices ≡ take c.words.count c.words.indices ++ here = subst (λ r. IfNone r (take count indices ≡ take c.words.count c.words.indices ++ here)) c.in-None.is c.write_ones-written.ensures.all in
-    let room = c.write_ones-written.ensures.room in
+    let size = c.write_ones-written.ensures.size in
     record {
-      many = room ∙ kept.many;
-      few = omega (arith, room, c.write_ones-written.ensures.few);
+      many = size ∙ kept.many;
+      few = omega (arith, size, c.write_ones-written.ensures.few);
       inside = omega (arith, c.min-held.ensures, c.words-test.true);
       done =
           ap (λ (ps : List ℕ). ps ++ ones_from items (base + held)) all
@@ -54,18 +54,18 @@ returns-in-Some c =
     let kept = c.words.invariant in
     let size = length-part_bits c.args.bits.0.now c.args.bits.1 c.args.end c.requires.inside in
     let step = word_step c.args.bits.0.now c.args.bits.1 c.args.end c.requires.inside base held c.word_from.result c.masked-word.result (omega (arith, c.min-held.ensures, c.words-test.true)) (omega (arith, c.min-held.ensures)) c.word_from.ensures c.masked-word.ensures.bits in
-    let told = subst (λ r. IfSome r (λ next. (count ≡ length c.words.indices) × (others : List ℕ) × (take count indices ++ next ∷ others ≡ take c.words.count c.words.indices ++ here))) c.in-Some.is c.write_ones-written.ensures.next in
-    let behind : List ℕ = told.1 ++ ones_from items (base + held) in
-    let all : take count indices ++ next ∷ behind ≡ ones_from items c.args.at =
-    sym (append_assoc (take count indices) (next ∷ told.1) (ones_from items (base + held)))
-    ∙ (ap (λ (ps : List ℕ). ps ++ ones_from items (base + held)) told.2
+    let stated = subst (λ r. IfSome r (λ next. (count ≡ length c.words.indices) × (others : List ℕ) × (take count indices ++ next ∷ others ≡ take c.words.count c.words.indices ++ here))) c.in-Some.is c.write_ones-written.ensures.next in
+    let following : List ℕ = stated.1 ++ ones_from items (base + held) in
+    let all : take count indices ++ next ∷ following ≡ ones_from items c.args.at =
+    sym (append_assoc (take count indices) (next ∷ stated.1) (ones_from items (base + held)))
+    ∙ (ap (λ (ps : List ℕ). ps ++ ones_from items (base + held)) stated.2
     ∙ (append_assoc (take c.words.count c.words.indices) here (ones_from items (base + held))
     ∙ (ap (λ (ps : List ℕ). take c.words.count c.words.indices ++ ps) (sym step) ∙ kept.done))) in
-    let from = from_index items c.args.at next (take count indices) behind (omega (arith, size, c.requires.within)) (sym all) in
+    let from = from_index items c.args.at next (take count indices) following (omega (arith, size, c.requires.within)) (sym all) in
     record {
       items = ap (λ (ps : List ℕ). take count indices ++ ps) from.2 ∙ all;
-      most = omega (arith, told.0, kept.many);
-      last = λ h. let no : ⊥ = omega (arith, h, told.0, kept.many) in absurd no;
+      most = omega (arith, stated.0, kept.many);
+      last = λ h. let no : ⊥ = omega (arith, h, stated.0, kept.many) in absurd no;
       forth = from.0;
       goes_on = omega (arith, from.1, size);
     }

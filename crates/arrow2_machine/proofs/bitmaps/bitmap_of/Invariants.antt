@@ -5,5 +5,5 @@ use Rattle.arrow2_machine.proofs.bitmaps.bitmap_of.Given as goal
 abbrev pub invariant-loop-digit : goal.invariant-loop-digit
 invariant-loop-digit l = record {
   so_far : l.bitmap.items ≡ items_of_digits (take l.digit-index l.digits);
-  room : length l.digits ≤ l.bitmap.capacity;
+  spare : length l.digits ≤ l.bitmap.capacity;
 }

@@ -19,11 +19,11 @@ returns g c =
     let items = c.loop-word.chunks.items in
     let steps = c.in_default.ensures.steps in
     let rest = c.remainder_len-rest in
-    let behind = steps.rest ∙ steps.items in
-    let count = rest.ensures.rest ∙ ap length behind in
+    let following = steps.rest ∙ steps.items in
+    let count = rest.ensures.rest ∙ ap length following in
     elim c.if-rest-gt0.branch [
       | then-rest-gt0+in_ok-write_listed-2 b ↦
-          let one = last_word w rest.result _ _ items _ b.if-rest-gt0.true rest.ensures.short rest.ensures.rest behind b.masked-last.ensures.fits b.masked-last.ensures.bits b.remainder.ensures.rest in
+          let one = last_word w rest.result _ _ items _ b.if-rest-gt0.true rest.ensures.short rest.ensures.rest following b.masked-last.ensures.fits b.masked-last.ensures.bits b.remainder.ensures.rest in
           let said = c.requires.number b.masked-last.result b.number-then-rest-gt0.result b.number-then-rest-gt0.ensures in
           ap (λ o. o.items) b.out-is ∙ listed_last c.loop-word.out.items _ c.loop-word.first b.number-then-rest-gt0.result _ (one ∙ ap (λ n. n ∷ []) (sym said)) b.in_ok-write_listed-2.ensures ∙ c.loop-word.invariant
       | else-rest-gt0+then-first+in_ok-extend_from_slice b ↦

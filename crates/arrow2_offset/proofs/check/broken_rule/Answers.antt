@@ -3,7 +3,7 @@ use Rattle.std.specs.Prelude.{pos, ◌<ℤ◌}
 use Rattle.std.proofs.lemmas.Bool.Decides.{nat_tests}
 use Rattle.arrow2_offset.specs.Offsets.{last_of}
 use Rattle.arrow2_offset.proofs.Appending.{value_last, value_natural}
-use Rattle.arrow2_offset.proofs.Order.{lt_told, offsets_told}
+use Rattle.arrow2_offset.proofs.Order.{lt_stated, offsets_stated}
 use Rattle.arrow2_offset.proofs.check.broken_rule.Goals as goal
 
 pub to_usize-last-requires : goal.to_usize-last-requires
@@ -12,10 +12,10 @@ to_usize-last-requires g c =
     let items = c.args.offsets.now in
     let zero : v c.zero.result ≡ pos 0 = ap v c.zero.ensures ∙ g.met.O.Zero.zero_law g.met.O.Integral.exact_law in
     let some : length items ≡ 0 → ⊥ = λ e. grind (arith, nat_tests) in
-    let told = lt_told v g.O.PartialOrd.partial_cmp _ _ c.lt.result (g.met.O.Number.order_law _ _ g.met.O.Integral.exact_law) c.lt.ensures in
-    let natural : v c.index-offsets-0.result <ℤ pos 0 → ⊥ = λ h. let e : c.lt.result ≡ true = told.1 (rw zero h) in let no : ⊥ = cc in no in
+    let stated = lt_stated v g.O.PartialOrd.partial_cmp _ _ c.lt.result (g.met.O.Number.order_law _ _ g.met.O.Integral.exact_law) c.lt.ensures in
+    let natural : v c.index-offsets-0.result <ℤ pos 0 → ⊥ = λ h. let e : c.lt.result ≡ true = stated.1 (rw zero h) in let no : ⊥ = cc in no in
     let up : c.is_rising.result ≡ true = search rules in
-    let are = offsets_told v items c.index-offsets-0.result some c.index-offsets-0.is natural (c.is_rising.ensures.0 up) in
+    let are = offsets_stated v items c.index-offsets-0.result some c.index-offsets-0.is natural (c.is_rising.ensures.0 up) in
     value_natural v items c.index-offsets-offsets.result (length items - 1) are (omega (arith, some)) c.index-offsets-offsets.is
 
 pub returns-clause-none : goal.returns-clause-none
@@ -24,10 +24,10 @@ returns-clause-none g c =
     let items = c.args.offsets.now in
     let zero : v c.zero.result ≡ pos 0 = ap v c.zero.ensures ∙ g.met.O.Zero.zero_law g.met.O.Integral.exact_law in
     let some : length items ≡ 0 → ⊥ = λ e. grind (arith, nat_tests) in
-    let told = lt_told v g.O.PartialOrd.partial_cmp _ _ c.lt.result (g.met.O.Number.order_law _ _ g.met.O.Integral.exact_law) c.lt.ensures in
-    let natural : v c.index-offsets-0.result <ℤ pos 0 → ⊥ = λ h. let e : c.lt.result ≡ true = told.1 (rw zero h) in let no : ⊥ = cc in no in
+    let stated = lt_stated v g.O.PartialOrd.partial_cmp _ _ c.lt.result (g.met.O.Number.order_law _ _ g.met.O.Integral.exact_law) c.lt.ensures in
+    let natural : v c.index-offsets-0.result <ℤ pos 0 → ⊥ = λ h. let e : c.lt.result ≡ true = stated.1 (rw zero h) in let no : ⊥ = cc in no in
     let up : c.is_rising.result ≡ true = search rules in
-    let are = offsets_told v items c.index-offsets-0.result some c.index-offsets-0.is natural (c.is_rising.ensures.0 up) in
+    let are = offsets_stated v items c.index-offsets-0.result some c.index-offsets-0.is natural (c.is_rising.ensures.0 up) in
     let last : v c.index-offsets-offsets.result ≡ pos (last_of (map v items)) = value_last v items c.index-offsets-offsets.result (length items) are refl c.index-offsets-offsets.is in
     let fits = subst g.O.Number.fits last c.to_usize-last.ensures.fits in
     (are, (g.met.O.Offset.max_law (last_of (map v items))).0 fits)

@@ -6,5 +6,5 @@ abbrev pub invariant-loop-i : goal.invariant-loop-i
 invariant-loop-i l = record {
   items : l.wide.items ≡ take l.i l.fn.offsets;
   count : vec_len l.wide ≡ l.i;
-  room : vec_capacity l.wide ≡ length l.fn.offsets;
+  spare : vec_capacity l.wide ≡ length l.fn.offsets;
 }

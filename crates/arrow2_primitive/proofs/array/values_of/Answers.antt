@@ -13,5 +13,5 @@ loop-item-preserved g c =
     record {
       items = ap (λ xs. zipped xs (map is_some (take (k + 1) items))) c.push_reserved.ensures.items ∙ more;
       len = c.push_reserved.ensures.len ∙ ap (λ n. n + 1) before.len;
-      room = omega (arith, c.push_reserved.ensures.capacity, before.room);
+      spare = omega (arith, c.push_reserved.ensures.capacity, before.spare);
     }

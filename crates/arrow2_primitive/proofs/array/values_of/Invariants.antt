@@ -7,5 +7,5 @@ abbrev pub invariant-loop-item : goal.invariant-loop-item
 invariant-loop-item g l = record {
   items : zipped l.values.items (map is_some (take l.item-index l.items)) ≡ take l.item-index l.items;
   len : vec_len l.values ≡ l.item-index;
-  room : length l.items ≤ vec_capacity l.values;
+  spare : length l.items ≤ vec_capacity l.values;
 }

@@ -6,6 +6,6 @@ use Rattle.arrow2_validity.proofs.Printed.{Shows}
 use Rattle.arrow2_primitive.specs.Primitive.{primitive_items}
 use Rattle.arrow2_primitive.proofs.fmt.write_items.Given as goal
 
-abbrev pub invariant-loop-place : goal.invariant-loop-place
-invariant-loop-place g l = IsPlainFormatter l.fn.f
-    → Shows (item_output g.T.Debug.debug_output) g.W.Write.write_str_gives l.fn.f (Some (codes "[") ++? debug_items (item_output g.T.Debug.debug_output) [] (take l.place (primitive_items l.array))) l.f
+abbrev pub invariant-loop-position : goal.invariant-loop-position
+invariant-loop-position g l = IsPlainFormatter l.fn.f
+    → Shows (item_output g.T.Debug.debug_output) g.W.Write.write_str_gives l.fn.f (Some (codes "[") ++? debug_items (item_output g.T.Debug.debug_output) [] (take l.position (primitive_items l.array))) l.f

@@ -13,9 +13,9 @@ agree true false d e = sym (e.1 (d.0 refl))
 agree false true d e = d.1 (e.0 refl)
 agree false false d e = refl
 
-pub returns-clause-told : goal.returns-clause-told
-returns-clause-told g c =
+pub returns-clause-equality : goal.returns-clause-equality
+returns-clause-equality g c =
     let xs = binary_items c.args.slots.now in
     let ys = binary_items c.args.others.now in
-    let told = pointwise (option_eq (pointwise nat_eq)) xs ys in
-    agree c.same_items.result told c.same_items.ensures (lists_Decides (pointwise nat_eq) bytes_decides xs ys told refl)
+    let stated = pointwise (option_eq (pointwise nat_eq)) xs ys in
+    agree c.same_items.result stated c.same_items.ensures (lists_Decides (pointwise nat_eq) bytes_decides xs ys stated refl)

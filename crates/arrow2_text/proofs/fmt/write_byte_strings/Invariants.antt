@@ -7,6 +7,6 @@ use Rattle.arrow2_text.specs.ArrayTexts.{bytes_output}
 use Rattle.arrow2_text.specs.Binary.{binary_items}
 use Rattle.arrow2_text.proofs.fmt.write_byte_strings.Given as goal
 
-abbrev pub invariant-loop-place : goal.invariant-loop-place
-invariant-loop-place g l = IsPlainFormatter l.fn.f
-    → Shows (item_output bytes_output) g.W.Write.write_str_gives l.fn.f (Some (codes "[") ++? debug_items (item_output bytes_output) [] (take l.place (binary_items l.array))) l.f
+abbrev pub invariant-loop-position : goal.invariant-loop-position
+invariant-loop-position g l = IsPlainFormatter l.fn.f
+    → Shows (item_output bytes_output) g.W.Write.write_str_gives l.fn.f (Some (codes "[") ++? debug_items (item_output bytes_output) [] (take l.position (binary_items l.array))) l.f

@@ -6,6 +6,6 @@ use Rattle.arrow2_validity.proofs.Printed.{Shows}
 use Rattle.arrow2_text.specs.Binary.{binary_items}
 use Rattle.arrow2_text.proofs.fmt.write_texts.Given as goal
 
-abbrev pub invariant-loop-place : goal.invariant-loop-place
-invariant-loop-place g l = IsPlainFormatter l.fn.f
-    → Shows (item_output (λ text. Some text)) g.W.Write.write_str_gives l.fn.f (Some (codes "[") ++? debug_items (item_output (λ text. Some text)) [] (take l.place (binary_items l.array))) l.f
+abbrev pub invariant-loop-position : goal.invariant-loop-position
+invariant-loop-position g l = IsPlainFormatter l.fn.f
+    → Shows (item_output (λ text. Some text)) g.W.Write.write_str_gives l.fn.f (Some (codes "[") ++? debug_items (item_output (λ text. Some text)) [] (take l.position (binary_items l.array))) l.f

@@ -12,4 +12,4 @@ returns g c =
     let ns = lengths_of xs in
     let n = length-cut (drop (start_of xs) values) ns in
     let next = sum-take-step ns c.args.slot in
-    read-cut values (start_of xs) ns (slot_values xs values) c.args.slot c.place.result c.place-2.result refl (omega (arith, n, c.requires.below)) c.place.ensures (omega (arith, next, c.place.ensures, c.place-2.ensures))
+    read-cut values (start_of xs) ns (slot_values xs values) c.args.slot c.position.result c.position-2.result refl (omega (arith, n, c.requires.below)) c.position.ensures (omega (arith, next, c.position.ensures, c.position-2.ensures))

@@ -1,6 +1,6 @@
 use Rattle.std.proofs.Common.{arith}
 use Rattle.arrow2_model.specs.Bits.{bits}
-use Rattle.arrow2_walks.proofs.CursorSteps.{passed_bits, found_bit, read_behind}
+use Rattle.arrow2_walks.proofs.CursorSteps.{passed_bits, found_bit, read_following}
 use Rattle.arrow2_walks.proofs.cursor.find_bit.Goals as goal
 
 pub returns-then-passed-buffered-clause-first : goal.returns-then-passed-buffered-clause-first
@@ -12,7 +12,7 @@ returns-then-passed-buffered-clause-first c =
 
 pub returns-then-passed-buffered-clause-read : goal.returns-then-passed-buffered-clause-read
 returns-then-passed-buffered-clause-read c =
-    read_behind (bits c.args.bytes.now) c.args.offset c.args.at.index c.args.end c.words.index c.words.word c.words.buffered c.args.value c.words.invariant.read c.first_bit-passed.result c.if-passed-buffered.true
+    read_following (bits c.args.bytes.now) c.args.offset c.args.at.index c.args.end c.words.index c.words.word c.words.buffered c.args.value c.words.invariant.read c.first_bit-passed.result c.if-passed-buffered.true
 
 pub returns-then-buffered-eq0-clause-first : goal.returns-then-buffered-eq0-clause-first
 returns-then-buffered-eq0-clause-first c =

@@ -2,7 +2,7 @@ use Rattle.std.proofs.Common.{◌∙◌, ◌+◌, List, length, map, get_or, set
 use Rattle.std.proofs.lemmas.List.{length-map}
 use Rattle.arrow2_model.specs.Storage.{BitmapStorage, items_of}
 use Rattle.arrow2_walks.specs.Cuts.{Piece, piece_of, piece_at, joined}
-use Rattle.arrow2_walks.proofs.Cuts.{piece_is, same_before, put_behind, front_is, back_is, pieces_cut, cut_counted, joined-cut, paid-cut}
+use Rattle.arrow2_walks.proofs.Cuts.{piece_is, same_before, put_following, front_is, back_is, pieces_cut, cut_counted, joined-cut, paid-cut}
 use Rattle.arrow2_walks.proofs.pieces.cut_in_two.Goals as goal
 
 pub overflow_sub-rest : goal.overflow_sub-rest
@@ -21,7 +21,7 @@ pub slice_counted-requires-2 : goal.slice_counted-requires-2
 slice_counted-requires-2 c =
     let q = ap (λ (p : Piece). length p.items) (piece_is c.args.bitmaps.now.items c.args.p c.index.result.now c.requires.below c.index.ensures) in
     let w = ap (λ (b : BitmapStorage). length (items_of b)) c.in_ok-whole.ensures.cases in
-    let y = ap (λ (b : BitmapStorage). length (items_of b)) (put_behind c.args.bitmaps.now.items c.args.p c.in_ok-whole.whole c.slice_counted.new.self c.index_mut-2.result.now c.requires.below (c.index_mut-2.ensures.value ∙ ap (λ (xs : List BitmapStorage). get_or (set xs c.args.p c.slice_counted.new.self) (c.args.p + 1) c.index_mut-2.result.now) c.in_ok-insert.ensures.items)) in
+    let y = ap (λ (b : BitmapStorage). length (items_of b)) (put_following c.args.bitmaps.now.items c.args.p c.in_ok-whole.whole c.slice_counted.new.self c.index_mut-2.result.now c.requires.below (c.index_mut-2.ensures.value ∙ ap (λ (xs : List BitmapStorage). get_or (set xs c.args.p c.slice_counted.new.self) (c.args.p + 1) c.index_mut-2.result.now) c.in_ok-insert.ensures.items)) in
     record { inside = omega (arith, q, w, y, c.requires.inside, c.len.ensures.items) }
 
 pub returns-clause-ok : goal.returns-clause-ok
@@ -32,7 +32,7 @@ returns-clause-ok c =
     let same = c.in_ok-whole.ensures.cases in
     let size = c.len.ensures.items ∙ ap (λ (s : BitmapStorage). length (items_of s)) same in
     let x = same_before c.args.bitmaps.now.items c.args.p c.in_ok-whole.whole c.index_mut.result.now c.index.result.now c.requires.below (c.index_mut.ensures.value ∙ ap (λ (xs : List BitmapStorage). get_or xs c.args.p c.index_mut.result.now) c.in_ok-insert.ensures.items) c.index.ensures in
-    let y = put_behind c.args.bitmaps.now.items c.args.p c.in_ok-whole.whole c.slice_counted.new.self c.index_mut-2.result.now c.requires.below (c.index_mut-2.ensures.value ∙ ap (λ (xs : List BitmapStorage). get_or (set xs c.args.p c.slice_counted.new.self) (c.args.p + 1) c.index_mut-2.result.now) c.in_ok-insert.ensures.items) ∙ same in
+    let y = put_following c.args.bitmaps.now.items c.args.p c.in_ok-whole.whole c.slice_counted.new.self c.index_mut-2.result.now c.requires.below (c.index_mut-2.ensures.value ∙ ap (λ (xs : List BitmapStorage). get_or (set xs c.args.p c.slice_counted.new.self) (c.args.p + 1) c.index_mut-2.result.now) c.in_ok-insert.ensures.items) ∙ same in
     let first = front_is (piece_at (map piece_of bs) c.args.p) b c.index_mut.result.now c.slice_counted.new.self c.args.i q x c.slice_counted.ensures.items (ap (λ (s : BitmapStorage). s.offset) c.slice_counted.ensures.storage) in
     let second = back_is (piece_at (map piece_of bs) c.args.p) b c.index_mut-2.result.now c.slice_counted-2.new.self c.args.i c.len.result q y size c.slice_counted-2.ensures.items (ap (λ (s : BitmapStorage). s.offset) c.slice_counted-2.ensures.storage) in
     let put = ap (λ (xs : List BitmapStorage). map piece_of (set (set xs c.args.p c.slice_counted.new.self) (c.args.p + 1) c.slice_counted-2.new.self)) c.in_ok-insert.ensures.items in
@@ -47,7 +47,7 @@ returns-clause-reads c =
     let same = c.in_ok-whole.ensures.cases in
     let size = c.len.ensures.items ∙ ap (λ (s : BitmapStorage). length (items_of s)) same in
     let x = same_before c.args.bitmaps.now.items c.args.p c.in_ok-whole.whole c.index_mut.result.now c.index.result.now c.requires.below (c.index_mut.ensures.value ∙ ap (λ (xs : List BitmapStorage). get_or xs c.args.p c.index_mut.result.now) c.in_ok-insert.ensures.items) c.index.ensures in
-    let y = put_behind c.args.bitmaps.now.items c.args.p c.in_ok-whole.whole c.slice_counted.new.self c.index_mut-2.result.now c.requires.below (c.index_mut-2.ensures.value ∙ ap (λ (xs : List BitmapStorage). get_or (set xs c.args.p c.slice_counted.new.self) (c.args.p + 1) c.index_mut-2.result.now) c.in_ok-insert.ensures.items) ∙ same in
+    let y = put_following c.args.bitmaps.now.items c.args.p c.in_ok-whole.whole c.slice_counted.new.self c.index_mut-2.result.now c.requires.below (c.index_mut-2.ensures.value ∙ ap (λ (xs : List BitmapStorage). get_or (set xs c.args.p c.slice_counted.new.self) (c.args.p + 1) c.index_mut-2.result.now) c.in_ok-insert.ensures.items) ∙ same in
     let counted = cut_counted (piece_at (map piece_of bs) c.args.p) b c.index_mut.result.now c.index_mut-2.result.now c.args.i c.len.result c.args.reads.now c.slice_counted.new.reads c.slice_counted-2.new.reads q x y size c.slice_counted.ensures.reads c.slice_counted-2.ensures.reads in
     counted
 
@@ -59,7 +59,7 @@ returns-clause-joined c =
     let same = c.in_ok-whole.ensures.cases in
     let size = c.len.ensures.items ∙ ap (λ (s : BitmapStorage). length (items_of s)) same in
     let x = same_before c.args.bitmaps.now.items c.args.p c.in_ok-whole.whole c.index_mut.result.now c.index.result.now c.requires.below (c.index_mut.ensures.value ∙ ap (λ (xs : List BitmapStorage). get_or xs c.args.p c.index_mut.result.now) c.in_ok-insert.ensures.items) c.index.ensures in
-    let y = put_behind c.args.bitmaps.now.items c.args.p c.in_ok-whole.whole c.slice_counted.new.self c.index_mut-2.result.now c.requires.below (c.index_mut-2.ensures.value ∙ ap (λ (xs : List BitmapStorage). get_or (set xs c.args.p c.slice_counted.new.self) (c.args.p + 1) c.index_mut-2.result.now) c.in_ok-insert.ensures.items) ∙ same in
+    let y = put_following c.args.bitmaps.now.items c.args.p c.in_ok-whole.whole c.slice_counted.new.self c.index_mut-2.result.now c.requires.below (c.index_mut-2.ensures.value ∙ ap (λ (xs : List BitmapStorage). get_or (set xs c.args.p c.slice_counted.new.self) (c.args.p + 1) c.index_mut-2.result.now) c.in_ok-insert.ensures.items) ∙ same in
     let first = front_is (piece_at (map piece_of bs) c.args.p) b c.index_mut.result.now c.slice_counted.new.self c.args.i q x c.slice_counted.ensures.items (ap (λ (s : BitmapStorage). s.offset) c.slice_counted.ensures.storage) in
     let second = back_is (piece_at (map piece_of bs) c.args.p) b c.index_mut-2.result.now c.slice_counted-2.new.self c.args.i c.len.result q y size c.slice_counted-2.ensures.items (ap (λ (s : BitmapStorage). s.offset) c.slice_counted-2.ensures.storage) in
     let put = ap (λ (xs : List BitmapStorage). map piece_of (set (set xs c.args.p c.slice_counted.new.self) (c.args.p + 1) c.slice_counted-2.new.self)) c.in_ok-insert.ensures.items in
@@ -74,7 +74,7 @@ returns-clause-paid c =
     let same = c.in_ok-whole.ensures.cases in
     let size = c.len.ensures.items ∙ ap (λ (s : BitmapStorage). length (items_of s)) same in
     let x = same_before c.args.bitmaps.now.items c.args.p c.in_ok-whole.whole c.index_mut.result.now c.index.result.now c.requires.below (c.index_mut.ensures.value ∙ ap (λ (xs : List BitmapStorage). get_or xs c.args.p c.index_mut.result.now) c.in_ok-insert.ensures.items) c.index.ensures in
-    let y = put_behind c.args.bitmaps.now.items c.args.p c.in_ok-whole.whole c.slice_counted.new.self c.index_mut-2.result.now c.requires.below (c.index_mut-2.ensures.value ∙ ap (λ (xs : List BitmapStorage). get_or (set xs c.args.p c.slice_counted.new.self) (c.args.p + 1) c.index_mut-2.result.now) c.in_ok-insert.ensures.items) ∙ same in
+    let y = put_following c.args.bitmaps.now.items c.args.p c.in_ok-whole.whole c.slice_counted.new.self c.index_mut-2.result.now c.requires.below (c.index_mut-2.ensures.value ∙ ap (λ (xs : List BitmapStorage). get_or (set xs c.args.p c.slice_counted.new.self) (c.args.p + 1) c.index_mut-2.result.now) c.in_ok-insert.ensures.items) ∙ same in
     let first = front_is (piece_at (map piece_of bs) c.args.p) b c.index_mut.result.now c.slice_counted.new.self c.args.i q x c.slice_counted.ensures.items (ap (λ (s : BitmapStorage). s.offset) c.slice_counted.ensures.storage) in
     let second = back_is (piece_at (map piece_of bs) c.args.p) b c.index_mut-2.result.now c.slice_counted-2.new.self c.args.i c.len.result q y size c.slice_counted-2.ensures.items (ap (λ (s : BitmapStorage). s.offset) c.slice_counted-2.ensures.storage) in
     let put = ap (λ (xs : List BitmapStorage). map piece_of (set (set xs c.args.p c.slice_counted.new.self) (c.args.p + 1) c.slice_counted-2.new.self)) c.in_ok-insert.ensures.items in

@@ -19,6 +19,6 @@ returns-clause-items c =
     let one = ap (λ a. length (boolean_items a)) c.self.view_is in
     let two = ap (λ a. length (boolean_items a)) c.other.view_is in
     let same : length ys ≡ length xs = omega (arith, left, right, one, two, c.requires.same_length) in
-    let told = by_tables (values_table o) (known_table o) (kleene o) xs ns ys ms (spelled o) c.self.invariant same (c.other.invariant ∙ same) in
+    let stated = by_tables (values_table o) (known_table o) (kleene o) xs ns ys ms (spelled o) c.self.invariant same (c.other.invariant ∙ same) in
     rw (c.in_ok-values.ensures.items, c.in_ok-validity.ensures.items, c.values.ensures)
-    (told ∙ (ap (λ a. by_items (kleene o) (boolean_items a) (boolean_items (record { values = c.other.inside.values; validity = c.other.inside.validity }))) c.self.view_is ∙ ap (λ a. by_items (kleene o) (boolean_items c.args.self.now) (boolean_items a)) c.other.view_is))
+    (stated ∙ (ap (λ a. by_items (kleene o) (boolean_items a) (boolean_items (record { values = c.other.inside.values; validity = c.other.inside.validity }))) c.self.view_is ∙ ap (λ a. by_items (kleene o) (boolean_items c.args.self.now) (boolean_items a)) c.other.view_is))

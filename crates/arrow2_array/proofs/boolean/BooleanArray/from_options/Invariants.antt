@@ -4,5 +4,5 @@ use Rattle.arrow2_array.proofs.boolean.BooleanArray.from_options.Given as goal
 abbrev pub invariant-loop-item : goal.invariant-loop-item
 invariant-loop-item l = record {
   so_far : l.array.items ≡ take l.item-index l.items;
-  room : length l.items ≤ l.array.capacity;
+  spare : length l.items ≤ l.array.capacity;
 }

@@ -1,6 +1,6 @@
 use Rattle.std.proofs.Common.{sym, false, arith}
 use Rattle.std.proofs.lemmas.Option.{slice_get-get_or, slice_get_past}
-use Rattle.arrow2_model.proofs.Walks.{length-part_bits}
+use Rattle.arrow2_model.proofs.Cursors.{length-part_bits}
 use Rattle.arrow2_bitmap.proofs.immutable.Bitmap.get.Goals as goal
 
 pub returns-then-index-self : goal.returns-then-index-self

@@ -1,6 +1,6 @@
 use Rattle.std.proofs.Common.{◌≡◌, take, length, subst}
 use Rattle.arrow2_model.specs.Bits.{unnum}
-use Rattle.arrow2_model.specs.Words.{WordWalk, rest}
+use Rattle.arrow2_model.specs.Words.{WordCursor, rest}
 use Rattle.arrow2_bits.proofs.Spilled.{rest_of_word}
 use Rattle.arrow2_bits.proofs.chunk_iterator.BitChunks.remainder.Goals as goal
 
@@ -9,4 +9,4 @@ returns-clause-rest g c =
     let b = c.self.inside in
     let w = g.T.BitChunk.WIDTH in
     let x = g.T.BitChunk.number b.remainder in
-    subst (λ (s : WordWalk). take (length (rest w s.items)) (unnum w x) ≡ rest w s.items) c.self.view_is (rest_of_word b.bytes.now w b.shift b.count b.remainder_len x c.self.invariant)
+    subst (λ (s : WordCursor). take (length (rest w s.items)) (unnum w x) ≡ rest w s.items) c.self.view_is (rest_of_word b.bytes.now w b.shift b.count b.remainder_len x c.self.invariant)

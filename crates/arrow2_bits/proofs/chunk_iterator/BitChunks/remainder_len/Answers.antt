@@ -1,6 +1,6 @@
 use Rattle.std.proofs.Common.{◌∙◌, ap, sym, length, subst, ◌<◌, ◌^◌}
-use Rattle.arrow2_model.specs.Words.{WordWalk, rest}
-use Rattle.arrow2_bits.proofs.Spilled.{length_of_rest, walk_fits}
+use Rattle.arrow2_model.specs.Words.{WordCursor, rest}
+use Rattle.arrow2_bits.proofs.Spilled.{length_of_rest, cursor_fits}
 use Rattle.arrow2_bits.proofs.chunk_iterator.BitChunks.remainder_len.Goals as goal
 
 pub returns-clause-rest : goal.returns-clause-rest
@@ -12,4 +12,4 @@ returns-clause-rest g c =
 pub returns-clause-fits : goal.returns-clause-fits
 returns-clause-fits g c =
     let b = c.self.inside in
-    subst (λ (s : WordWalk). length s.items < 2 ^ 64) c.self.view_is (walk_fits b.bytes.now g.T.BitChunk.WIDTH b.shift b.count b.remainder_len (g.T.BitChunk.number b.remainder) c.self.invariant)
+    subst (λ (s : WordCursor). length s.items < 2 ^ 64) c.self.view_is (cursor_fits b.bytes.now g.T.BitChunk.WIDTH b.shift b.count b.remainder_len (g.T.BitChunk.number b.remainder) c.self.invariant)

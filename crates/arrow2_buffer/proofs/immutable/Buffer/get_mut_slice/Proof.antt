@@ -201,7 +201,7 @@ get_mut_slice_spec 𝓤 𝓛 𝓜 𝓡 wired T laws =
           nothing ! $ nothing ! $ fjoin ! $ join ! $ move ! (1 ∷ 0 ∷ []) $ join ! $ frame ! $ says ! tt $ done !)))))
       | Some s ↦ split ! $ split ! $ move ! (1 ∷ []) $ fpick ! (λ us. fsplit ! $ feq_l ! (λ e. fpick ! (λ vss. fsplit ! $ feq_l ! (λ e'. fsplit ! $ move ! (1 ∷ []) $ drop ! $
           peeks ! Lent _ (shows 𝓛 Lent) s vss.0 (λ is'.
-          let room : Room (f.T-row T) (length s.now) = is'.0.1 in let lent : Val = slice_val s.ref_ptr (length s.now) in
+          let spare : Room (f.T-row T) (length s.now) = is'.0.1 in let lent : Val = slice_val s.ref_ptr (length s.now) in
           let is : v ≡ live 1 (of_list (lent ∷ [])) = ap only e ∙ ap (λ ws. live 1 (of_list ws)) (e' ∙ ap (λ ws. ws ++ []) is'.0.0) in
           rewrite ! 0 (λ (us : List Val). ‵ (Lent.own_val s us)) is'.0.0 refl $ move ! (2 ∷ []) $ pick ! (λ ws. split3 ! $ drop ! $ move ! (1 ∷ []) $ heard ! _ (λ value.
           let back : List T.Denot → Z.Denot = λ w. rc_with_value a.storage (rewritten a.storage.value start w) in
@@ -213,7 +213,7 @@ get_mut_slice_spec 𝓤 𝓛 𝓜 𝓡 wired T laws =
           (closes_tie R Z Items (Good T laws 𝓛 rb ro a ok) (with T laws 𝓛 rb ro a ok) 𝓛 n κ (halves.left q) rb ro (ro + 0) γ δ (R.coded.code d) (Back T laws 𝓛 rb ro a ok) (fill T laws 𝓛 rb ro a ok) s.ghost_name (maybe.some back) long) $ await ! tt $ split ! $
           move ! (1 ∷ []) $ rewrite ! 0 (λ (u : BufferStorage T.Denot). ‵ (follows R Items γ s.ghost_name (λ w. record u { storage = rewritten u.storage u.offset w }))) seen refl $
           move ! (3 ∷ []) $ split3 ! $ move ! (4 ∷ 0 ∷ []) $ use2 𝓛 (‵ (flft κ q)) (𝓛.lfts.lft_join κ q) $ group ! 3 $
-          lands_as ! is refl (tt, (record { fits = lit< tt }, ((tt, (record { fits = room.0 }, tt)), tt))) $ returns ! (look_at ! 0 refl) $ free_all ! refl $ keep ! (0 ∷ 1 ∷ 2 ∷ []) $ move ! (2 ∷ []) $
+          lands_as ! is refl (tt, (record { fits = lit< tt }, ((tt, (record { fits = spare.0 }, tt)), tt))) $ returns ! (look_at ! 0 refl) $ free_all ! refl $ keep ! (0 ∷ 1 ∷ 2 ∷ []) $ move ! (2 ∷ []) $
           use1 𝓛 (‵ ((OP.the_row Lent).own_val (Some s) (live 1 (of_list (lent ∷ [])) ∷ []))) (Some-of 𝓛 Lent s lent) $
           suffices ! _ (ends_at 𝓛 (f.ended T) (stayed T) c y (live 1 (of_list (lent ∷ []))) (Some s) (tt, tt) (tt, tt)) $
           let same : end - start ≡ a.len = omega arith in

@@ -15,12 +15,12 @@ loop-index-preserved g c =
         omega (arith, held.0),
         length_stays now w.swap.new.self.items c.loop-index.kept n c.index.result.now w.swap.ensures.by_index ∙ held.1,
         back_stays now w.swap.new.self.items c.loop-index.kept n c.index.result.now held.0 w.swap.ensures.by_index ∙ back_same first now n held.2,
-        λ accepts answers. kept_more accepts first now w.swap.new.self.items c.loop-index.kept n c.index.result.now held.0 inside held.1 held.2 c.index.ensures (sym (answers n c.index.result true inside w.if-predicate.ensures)) w.swap.ensures.by_index (held.3 accepts answers),
+        λ accepts results. kept_more accepts first now w.swap.new.self.items c.loop-index.kept n c.index.result.now held.0 inside held.1 held.2 c.index.ensures (sym (results n c.index.result true inside w.if-predicate.ensures)) w.swap.ensures.by_index (held.3 accepts results),
       )
       | else-predicate w ↦ rw (w.kept-is, w.fields-is) (
         omega (arith, held.0),
         held.1,
         back_same first now n held.2,
-        λ accepts answers. kept_same accepts first now c.loop-index.kept n c.index.result.now inside held.2 c.index.ensures (sym (answers n c.index.result false inside w.if-predicate.ensures)) (held.3 accepts answers),
+        λ accepts results. kept_same accepts first now c.loop-index.kept n c.index.result.now inside held.2 c.index.ensures (sym (results n c.index.result false inside w.if-predicate.ensures)) (held.3 accepts results),
       )
     ]

@@ -2,7 +2,7 @@ use Rattle.std.proofs.Common.{◌+◌, ◌-◌, ◌∙◌, [], ◌∷◌, sym, a
 use Rattle.std.proofs.lemmas.List.{length-append}
 use Rattle.arrow2_offset.specs.Offsets.{lengths_of}
 use Rattle.arrow2_offset.proofs.Growing.{length_slots}
-use Rattle.arrow2_offset.proofs.Walk.{no_length, last_length}
+use Rattle.arrow2_offset.proofs.Cursor.{no_length, last_length}
 use Rattle.arrow2_offset.proofs.iterator.LengthsDoubleEndedIterator.next_back.Goals as goal
 
 pub returns-then-self-eq1-clause-steps : goal.returns-then-self-eq1-clause-steps

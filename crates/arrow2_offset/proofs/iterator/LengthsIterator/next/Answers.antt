@@ -1,6 +1,6 @@
 use Rattle.std.proofs.Common.{◌∙◌, ◌<◌, sym, ap, arith, rules, length, refl}
 use Rattle.std.proofs.lemmas.List.{length-map}
-use Rattle.arrow2_offset.proofs.Walk.{no_length, in_order, first_length}
+use Rattle.arrow2_offset.proofs.Cursor.{no_length, in_order, first_length}
 use Rattle.arrow2_offset.proofs.iterator.LengthsIterator.next.Goals as goal
 
 pub returns-then-self-eq1-clause-steps : goal.returns-then-self-eq1-clause-steps

@@ -15,4 +15,4 @@ returns g c =
     let d = pushed g.O.Number.value g.O.Offset.MAX c.self.inside.offsets.items c.push.new.self.items c.from_as_usize.result c.last_number-last.result c.args.length c.self.invariant.0 last c.in_ok-push.ensures.items c.from_as_usize.ensures (omega arith) in
     let v = c.self.inside.offsets in
     let n = length_slots g.O.Number.value v.items v.len c.self.invariant.0 v.ok.0 in
-    rw (← c.self.view_is) (grown (λ refusal. refusal) _ _ _ _ _ _ (omega (arith, n, v.ok.1)) (d.1, d.2) (omega arith) (omega arith))
+    rw (← c.self.view_is) (grown (λ error. error) _ _ _ _ _ _ (omega (arith, n, v.ok.1)) (d.1, d.2) (omega arith) (omega arith))

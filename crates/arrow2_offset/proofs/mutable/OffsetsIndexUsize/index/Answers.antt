@@ -6,15 +6,15 @@ use Rattle.arrow2_offset.proofs.Appending.{value_at}
 use Rattle.arrow2_offset.proofs.Growing.{length_slots}
 use Rattle.arrow2_offset.proofs.mutable.OffsetsIndexUsize.index.Goals as goal
 
-pub offset_bounds-as_slice-place : goal.offset_bounds-as_slice-place
-offset_bounds-as_slice-place g c =
+pub offset_bounds-as_slice-position : goal.offset_bounds-as_slice-position
+offset_bounds-as_slice-position g c =
     let items = c.as_slice.result.now in
     let n = length_slots g.O.Number.value items (length items) c.as_slice.ensures.valid refl in
     let lengths = ap length c.as_slice.ensures.lengths in
     omega (arith, n, lengths, c.requires)
 
-pub bounds-as_slice-place : goal.bounds-as_slice-place
-bounds-as_slice-place g c =
+pub bounds-as_slice-position : goal.bounds-as_slice-position
+bounds-as_slice-position g c =
     let items = c.as_slice.result.now in
     let n = length_slots g.O.Number.value items (length items) c.as_slice.ensures.valid refl in
     let lengths = ap length c.as_slice.ensures.lengths in
@@ -27,5 +27,5 @@ returns g c =
     let n = length_slots g.O.Number.value items (length items) c.as_slice.ensures.valid refl in
     let lengths = ap length c.as_slice.ensures.lengths in
     let start = ap start_of c.as_slice.ensures.offsets ∙ start_of-list o.start o.lengths in
-    value_at g.O.Number.value items c.index-as_slice-place.result c.args.place c.as_slice.ensures.valid (omega (arith, n, lengths, c.requires)) c.index-as_slice-place.is
-    ∙ (ap (λ s. pos (offset_at s (lengths_of (map g.O.Number.value items)) c.args.place)) start ∙ ap (λ ns. pos (offset_at o.start ns c.args.place)) c.as_slice.ensures.lengths)
+    value_at g.O.Number.value items c.index-as_slice-position.result c.args.position c.as_slice.ensures.valid (omega (arith, n, lengths, c.requires)) c.index-as_slice-position.is
+    ∙ (ap (λ s. pos (offset_at s (lengths_of (map g.O.Number.value items)) c.args.position)) start ∙ ap (λ ns. pos (offset_at o.start ns c.args.position)) c.as_slice.ensures.lengths)

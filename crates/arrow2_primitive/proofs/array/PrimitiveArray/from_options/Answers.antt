@@ -4,7 +4,7 @@ use Rattle.std.proofs.Math.Seq.{take-length}
 use Rattle.arrow2_model.specs.Buffers.{buffer_items}
 use Rattle.arrow2_model.specs.Storage.{items_of}
 use Rattle.arrow2_primitive.specs.Primitive.{primitive_items}
-use Rattle.arrow2_primitive.proofs.Growing.{beside}
+use Rattle.arrow2_primitive.proofs.Growing.{paired}
 use Rattle.arrow2_primitive.proofs.array.PrimitiveArray.from_options.Goals as goal
 
 pub returns-clause-items : goal.returns-clause-items
@@ -14,4 +14,4 @@ returns-clause-items g c =
     let is : buffer_items c.in_ok-values.values ≡ xs = ap buffer_items c.in_ok-values.ensures ∙ take-length xs in
     let valid : items_of c.in_ok-valid.valid ≡ map is_some c.args.items.now = c.in_ok-valid.ensures.items is_some (search rules) in
     ap primitive_items c.new.ensures
-    ∙ beside c.args.items.now xs c.in_ok-values.values c.in_ok-make_mut.field-0.items c.in_ok-validity.validity made.ensures.items made.ensures.len is (c.in_ok-make_mut.ensures.ok ∙ valid) c.in_ok-validity.ensures.none c.in_ok-validity.ensures.items
+    ∙ paired c.args.items.now xs c.in_ok-values.values c.in_ok-make_mut.field-0.items c.in_ok-validity.validity made.ensures.items made.ensures.len is (c.in_ok-make_mut.ensures.ok ∙ valid) c.in_ok-validity.ensures.none c.in_ok-validity.ensures.items

@@ -5,6 +5,6 @@ abbrev pub invariant-loop-item : goal.invariant-loop-item
 invariant-loop-item g l = record {
   items : l.self.items ≡ l.fn.self.items ++ take l.item-index l.items;
   data_type : l.self.data_type ≡ l.fn.self.data_type;
-  room : length l.fn.self.items + length l.items ≤ l.self.capacity;
+  spare : length l.fn.self.items + length l.items ≤ l.self.capacity;
   capacity : l.fn.self.capacity ≤ l.self.capacity;
 }

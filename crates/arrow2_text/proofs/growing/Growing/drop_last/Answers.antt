@@ -15,8 +15,8 @@ returns g c =
     let last : k + 1 ≡ length ns = omega (arith, held, c.len.ensures.valid, c.requires, c.self.invariant.2) in
     let start : c.start_end-start.result.0 ≡ s = omega (arith, c.start_end-start.ensures.start, c.self.invariant.0) in
     let left : c.truncate.new.self.items ≡ take s xs = c.truncate.ensures.items ∙ ap (λ j. take j xs) start in
-    let places : length ns - 1 ≡ k = omega (arith, last) in
-    let lengths : c.pop.new.self.lengths ≡ take k ns = c.pop.ensures.lengths ∙ ap (λ j. take j ns) places in
+    let positions : length ns - 1 ≡ k = omega (arith, last) in
+    let lengths : c.pop.new.self.lengths ≡ take k ns = c.pop.ensures.lengths ∙ ap (λ j. take j ns) positions in
     lost-last xs ns vs k c.args.self.now _ last c.self.invariant.1 c.self.invariant.2
     (ap (λ slots. slots.values) (sym c.self.view_is)) (ap (λ slots. slots.valid) (sym c.self.view_is)) (ap (λ slots. slots.bytes) (sym c.self.view_is))
     (ap (λ l. cut l c.pop.new.self.lengths) left ∙ ap (cut (take s xs)) lengths)

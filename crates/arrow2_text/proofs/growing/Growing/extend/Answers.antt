@@ -5,11 +5,11 @@ use Rattle.arrow2_model.proofs.Parts.{length-part}
 use Rattle.arrow2_offset.specs.Offsets.{lengths_of}
 use Rattle.arrow2_validity.specs.OptionalValidity.{valid_items}
 use Rattle.arrow2_text.specs.Binary.{binary_values}
-use Rattle.arrow2_text.proofs.RoomForSlots.{appended, not-appended, room-for}
+use Rattle.arrow2_text.proofs.CapacityForSlots.{appended, not-appended, capacity-for}
 use Rattle.arrow2_text.proofs.growing.Growing.extend.Goals as goal
 
-pub extend_within-requires-clause-room : goal.extend_within-requires-clause-room
-extend_within-requires-clause-room g c = room-for g.O.Offset.MAX c.args.self.now c.reserve_below.new.self c.args.len (length c.bytes_of-bytes.result.now) (length c.bytes_of-bytes.result.now) c.in_ok-reserve_below.field-0 refl c.in_ok-reserve_below.ensures
+pub extend_within-requires-clause-spare : goal.extend_within-requires-clause-spare
+extend_within-requires-clause-spare g c = capacity-for g.O.Offset.MAX c.args.self.now c.reserve_below.new.self c.args.len (length c.bytes_of-bytes.result.now) (length c.bytes_of-bytes.result.now) c.in_ok-reserve_below.field-0 refl c.in_ok-reserve_below.ensures
 
 pub returns : goal.returns
 returns g c =

@@ -7,17 +7,17 @@ pub returns : goal.returns
 returns g c =
     let old = c.self.inside.slots in
     let new = c.reserve.new.self in
-    let told = c.reserve.ensures in
-    let count : length (zipped old.values old.valid) ≡ length old.valid = length-zipped old.values old.valid told.same ∙ sym told.same in
+    let stated = c.reserve.ensures in
+    let count : length (zipped old.values old.valid) ≡ length old.valid = length-zipped old.values old.valid stated.same ∙ sym stated.same in
     rw (← c.self.view_is) (record {
-      items = ap (zipped new.values) told.valid ∙ ap (λ l. zipped l old.valid) told.values;
-      bytes = told.bytes;
-      data_type = told.data_type;
-      ok = rw count told.ok;
-      ok_bytes = told.ok_bytes;
-      overflow = rw count told.overflow;
-      only = told.only;
-      succeeds = rw count told.succeeds;
-      capacity = told.capacity;
-      byte_capacity = told.byte_capacity;
+      items = ap (zipped new.values) stated.valid ∙ ap (λ l. zipped l old.valid) stated.values;
+      bytes = stated.bytes;
+      data_type = stated.data_type;
+      ok = rw count stated.ok;
+      ok_bytes = stated.ok_bytes;
+      overflow = rw count stated.overflow;
+      only = stated.only;
+      succeeds = rw count stated.succeeds;
+      capacity = stated.capacity;
+      byte_capacity = stated.byte_capacity;
     })

@@ -3,7 +3,7 @@ use Rattle.std.specs.Prelude.{Option, ℕ}
 use Rattle.arrow2.specs.Binary.{BinaryParts, binary_items}
 use Rattle.arrow2.specs.Primitive.{primitive_items}
 use Rattle.arrow2.specs.Storage.{items_of}
-use Rattle.arrow2.specs.Taken.{IsInBoundsOrNull}
+use Rattle.arrow2.specs.Take.{IsInBoundsOrNull}
 use Rattle.arrow2_uses.proofs.Dictionaries.{All-selected}
 use Rattle.arrow2_uses.proofs.dictionary.Dictionary.filter.Goals as goal
 

@@ -3,7 +3,7 @@ use Rattle.std.specs.Prelude.{Option, ℕ}
 use Rattle.std.proofs.lemmas.List.{length-map, get_or-map}
 use Rattle.arrow2.specs.Binary.{binary_items}
 use Rattle.arrow2.specs.Primitive.{primitive_items}
-use Rattle.arrow2.specs.Taken.{IsInBoundsOrNull, item_at}
+use Rattle.arrow2.specs.Take.{IsInBoundsOrNull, item_at}
 use Rattle.arrow2_uses.proofs.dictionary.Dictionary.get.Goals as goal
 
 pub text_at-requires : goal.text_at-requires

@@ -2,7 +2,7 @@ use Rattle.std.proofs.Common.{All, List, length, sym, subst, pos}
 use Rattle.std.specs.Prelude.{Option, ℕ}
 use Rattle.arrow2.specs.Binary.{binary_items}
 use Rattle.arrow2.specs.Primitive.{primitive_items}
-use Rattle.arrow2.specs.Taken.{IsInBoundsOrNull}
+use Rattle.arrow2.specs.Take.{IsInBoundsOrNull}
 use Rattle.arrow2_uses.proofs.Dictionaries.{All-part}
 use Rattle.arrow2_uses.proofs.dictionary.Dictionary.slice.Goals as goal
 

@@ -1,5 +1,0 @@
--- An iterator may give more than is taken: items of a bitmap or of an array, lengths of offsets, bytes of texts.
-pub use Rattle.arrow2_bitmap.specs.Collected.{MayYieldTooMany}
-pub use Rattle.arrow2_offset.specs.Collected.{MayYieldMoreThan, MayYieldPast}
-pub use Rattle.arrow2_primitive.specs.Growth.{MayYieldTooManyItems}
-pub use Rattle.arrow2_text.specs.Growth.{MayYieldPastOffset}

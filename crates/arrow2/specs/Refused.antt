@@ -1,5 +1,0 @@
--- How lists and parts that are not accepted are refused, and the texts of the errors.
-pub use Rattle.arrow2_bitmap.specs.Refused.{bit_capacity, too_long}
-pub use Rattle.arrow2_offset.specs.Refused.{first_broken, rule_words, not_offsets_message, IsOutOfSpecOrOutOfMemory}
-pub use Rattle.arrow2_validity.specs.Refused.{unequal_lengths_message}
-pub use Rattle.arrow2_text.specs.Refused.{FailsOnlyWith, RefusesParts, past_the_values_message, other_binary_layout_message, other_text_layout_message, not_utf8}

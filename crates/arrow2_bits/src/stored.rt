@@ -1,0 +1,60 @@
+//! Bytes that are read only where the reads are counted.
+ghost use Rattle.std.specs.Prelude.{◌≡◌, ◌+◌, ◌≤◌, length};
+ghost use Rattle.arrow2_model.specs.Parts.{part};
+
+use crate::reads::Reads;
+use std::marker::Model;
+
+/// Bytes, and the number of reads counted so far, including those of the counter that it was made with.
+/// [`Stored::fetch`] alone reads them, and it counts each that it gives.
+#[derive(Drop)]
+pub struct Stored<'a> {
+    bytes: &'a [u8],
+    reads: Reads,
+}
+
+impl<'a> Model for Stored<'a> {
+    ghost use Rattle.arrow2_bits.specs.CountedBytes.{CountedBytes};
+
+    ghost Value = { CountedBytes };
+
+    ghost view = { λ s. record { bytes = s.bytes.now; reads = s.reads } };
+}
+
+impl<'a> Stored<'a> {
+    /// Returns the bytes, whose reads are counted on from those of `reads`.
+    pub fn new(bytes: &'a [u8], reads: Reads) -> Stored<'a>
+        ensures bytes { result.bytes ≡ bytes.entry.now }
+        ensures reads { result.reads ≡ reads }
+    {
+        Stored { bytes, reads }
+    }
+
+    /// Returns the number of bytes. Reads none.
+    pub fn len(&self) -> usize
+        ensures { result ≡ length self.now.bytes }
+    {
+        self.bytes.len()
+    }
+
+    /// Returns the `N` bytes from byte `i` on, for `N` reads. Requires that `N` bytes from byte `i` on are inside the
+    /// bytes.
+    pub fn fetch<const N: usize>(&mut self, i: usize) -> [u8; N]
+        requires inside { i + N ≤ length self.old.bytes }
+        ensures fetched { result ≡ part self.old.bytes i N }
+        ensures bytes { self.new.bytes ≡ self.old.bytes }
+        ensures reads { self.new.reads ≡ self.old.reads + N }
+    {
+        let mut fetched = [0; N];
+        fetched.copy_from_slice(&self.bytes[i..i + N]);
+        self.reads.add(N);
+        fetched
+    }
+
+    /// Returns the counter, which has counted every read.
+    pub fn into_reads(self) -> Reads
+        ensures { result ≡ self.entry.reads }
+    {
+        self.reads
+    }
+}

@@ -1,0 +1,6 @@
+use Rattle.std.proofs.Common.{refl, map}
+use Rattle.arrow2_ffi.proofs.OffsetCodes.{not_offsets}
+use Rattle.arrow2_ffi.proofs.offsets.calls.lengths.Goals as goal
+
+pub returns-in-Some : goal.returns-in-Some
+returns-in-Some g c = not_offsets (map g.O.Number.value c.args.offsets.now) c.in-Some.code c.in-Some.ensures.some refl

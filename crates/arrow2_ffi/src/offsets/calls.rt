@@ -1,0 +1,119 @@
+//! The bodies of the exports on offsets, for either width.
+ghost use Rattle.std.specs.Prelude.{◌≡◌, ◌≢◌, ◌+◌, ◌-◌, ◌<◌, ◌↔◌, ◌⊎◌, pos, map, length, IfNone, IfSome};
+ghost use Rattle.arrow2_offset.specs.Offsets.{AreOffsets, AreOffsetsUpTo, last_offset, lengths_of, offsets_list};
+ghost use Rattle.arrow2_model.specs.Parts.{part};
+ghost use Rattle.arrow2_offset.specs.Refusals.{first_broken};
+ghost use Rattle.arrow2_ffi.specs.OffsetWrites.{WritesFromOffsets, WritesFromOffsetsOr};
+ghost use Rattle.arrow2_ffi.specs.Rules.{rule_code, ReportsBrokenRule};
+
+use crate::codes::{
+    ARROW2_LENGTH, ARROW2_OK, ARROW2_OVERFLOW, ARROW2_RANGE, ARROW2_SPEC_EMPTY,
+    ARROW2_SPEC_FALLING, ARROW2_SPEC_NEGATIVE,
+};
+use arrow2_index::offset::Offset;
+use arrow2_offset::slices::{fits, last, write_lengths, write_part, write_sums};
+use arrow2_offset::{BrokenRule, broken_rule};
+
+/// Returns the code of the first rule that the numbers break, or `None` where they are offsets.
+pub(crate) fn refusal<O: Offset>(offsets: &[O]) -> Option<u32>
+    ensures none { IfNone result (AreOffsetsUpTo O.MAX (map O.value offsets.now)) }
+    ensures some { IfSome result (λ code. ReportsBrokenRule code (map O.value offsets.now)) }
+{
+    match broken_rule(offsets) {
+        None => None,
+        Some(BrokenRule::Empty) => Some(ARROW2_SPEC_EMPTY),
+        Some(BrokenRule::Negative) => Some(ARROW2_SPEC_NEGATIVE),
+        Some(BrokenRule::Falling) => Some(ARROW2_SPEC_FALLING),
+    }
+}
+
+/// Returns `ARROW2_OK` where the numbers are offsets, else the code of the first rule that they break.
+pub(crate) fn check<O: Offset>(offsets: &[O]) -> u32
+    ensures ok { result ≡ ARROW2_OK ↔ AreOffsets (map O.value offsets.now) }
+    ensures broken { result ≢ ARROW2_OK →
+        result ≡ rule_code (first_broken (map O.value offsets.now)) }
+{
+    refusal(offsets).unwrap_or(ARROW2_OK)
+}
+
+/// Writes how far each offset is from the next one.
+pub(crate) fn lengths<O: Offset>(offsets: &[O], lengths: &mut [usize]) -> u32
+    ensures { WritesFromOffsets (map O.value offsets.now) result
+        (length offsets.now ≢ length lengths.old + 1)
+        (lengths.new ≡ lengths_of (map O.value offsets.now)) (lengths.new ≡ lengths.old) }
+{
+    match refusal(offsets) {
+        Some(code) => code,
+        None => lengths_unchecked(offsets, lengths),
+    }
+}
+
+/// Writes how far each offset is from the next one, and tests no offset. Requires that the numbers are offsets.
+pub(crate) fn lengths_unchecked<O: Offset>(offsets: &[O], lengths: &mut [usize]) -> u32
+    requires are { AreOffsets (map O.value offsets.now) }
+    ensures { WritesFromOffsets (map O.value offsets.now) result
+        (length offsets.now ≢ length lengths.old + 1)
+        (lengths.new ≡ lengths_of (map O.value offsets.now)) (lengths.new ≡ lengths.old) }
+{
+    if offsets.len() - 1 != lengths.len() {
+        return ARROW2_LENGTH;
+    }
+    write_lengths(offsets, lengths);
+    ARROW2_OK
+}
+
+/// Writes the start; each number after it is the one before plus the next length.
+pub(crate) fn sums<O: Offset>(start: usize, lengths: &[usize], offsets: &mut [O]) -> u32
+    ensures length { result ≡ ARROW2_LENGTH ↔ (length offsets.old ≢ length lengths.now + 1) }
+    ensures overflow { result ≡ ARROW2_OVERFLOW ↔
+        ((result ≢ ARROW2_LENGTH) × (O.MAX < last_offset start lengths.now)) }
+    ensures only { (result ≡ ARROW2_OK) ⊎ (result ≡ ARROW2_LENGTH) ⊎ (result ≡ ARROW2_OVERFLOW) }
+    ensures ok { result ≡ ARROW2_OK → map O.value offsets.new
+        ≡ map pos (offsets_list start lengths.now) }
+    ensures refused { result ≢ ARROW2_OK → offsets.new ≡ offsets.old }
+{
+    if offsets.is_empty() || offsets.len() - 1 != lengths.len() {
+        return ARROW2_LENGTH;
+    }
+    if !fits::<O>(start, lengths) {
+        return ARROW2_OVERFLOW;
+    }
+    write_sums(start, lengths, offsets);
+    ARROW2_OK
+}
+
+/// Writes to each item `i` of `out` offset `from + i` minus offset `from`.
+pub(crate) fn rebase<O: Offset>(offsets: &[O], from: usize, out: &mut [O]) -> u32
+    ensures { WritesFromOffsetsOr ARROW2_RANGE (map O.value offsets.now) result
+        (length out.old ≡ 0) (length offsets.now < from + length out.old)
+        (map O.value out.new ≡ map pos
+        (offsets_list 0 (part (lengths_of (map O.value offsets.now)) from (length out.old - 1))))
+        (out.new ≡ out.old) }
+{
+    match refusal(offsets) {
+        Some(code) => code,
+        None => rebase_unchecked(offsets, from, out),
+    }
+}
+
+/// Writes to each item `i` of `out` offset `from + i` minus offset `from`, and tests no offset. Requires that the
+/// numbers are offsets.
+pub(crate) fn rebase_unchecked<O: Offset>(offsets: &[O], from: usize, out: &mut [O]) -> u32
+    requires are { AreOffsets (map O.value offsets.now) }
+    ensures { WritesFromOffsetsOr ARROW2_RANGE (map O.value offsets.now) result
+        (length out.old ≡ 0) (length offsets.now < from + length out.old)
+        (map O.value out.new ≡ map pos
+        (offsets_list 0 (part (lengths_of (map O.value offsets.now)) from (length out.old - 1))))
+        (out.new ≡ out.old) }
+{
+    if out.is_empty() {
+        return ARROW2_LENGTH;
+    }
+    if from > offsets.len() || out.len() > offsets.len() - from {
+        return ARROW2_RANGE;
+    }
+    // A number that is read is in the range of its type: so no offset is above `O::MAX`.
+    let _last = last(offsets);
+    write_part(offsets, from, out);
+    ARROW2_OK
+}

@@ -1,6 +1,0 @@
-pub mod Asked
-pub mod Buffer
-pub mod Filled
-pub mod Packing
-pub mod Pushed
-pub mod Whole

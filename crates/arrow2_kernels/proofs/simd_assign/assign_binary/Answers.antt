@@ -1,0 +1,17 @@
+use Rattle.std.proofs.Common.{◌∙◌, ◌*◌, ap, take, length, arith}
+use Rattle.std.proofs.lemmas.List.{take-take}
+use Rattle.arrow2_model.specs.Bits.{bits}
+use Rattle.arrow2_model.proofs.Bits.{length-bits}
+use Rattle.arrow2_kernels.proofs.LaneSteps.{take-each2}
+use Rattle.arrow2_kernels.proofs.simd_assign.assign_binary.Goals as goal
+
+pub returns-clause-items : goal.returns-clause-items
+returns-clause-items c =
+    let old = c.args.bytes.now in
+    let other = c.args.other.now in
+    let n = c.args.length in
+    let m = length-bits old in
+    let o = length-bits other in
+    let shorter = take-take n (8 * length old) (bits other) (omega (arith, c.requires.exact)) in
+    c.clear_spare.ensures.items ∙ (ap (take n) c.write_by_table.ensures
+    ∙ take-each2 c.args.t n (bits old) (bits other) (take (8 * length old) (bits other)) (omega (arith, m, c.requires.exact)) (omega (arith, o, c.requires.inside)) shorter)

@@ -1,0 +1,12 @@
+use Rattle.std.proofs.Common.{◌∙◌, ap, take, arith}
+use Rattle.arrow2_model.specs.Bits.{bits}
+use Rattle.arrow2_model.proofs.Bits.{length-bits}
+use Rattle.arrow2_kernels.proofs.LaneSteps.{take-each1}
+use Rattle.arrow2_kernels.proofs.simd_assign.assign_unary.Goals as goal
+
+pub returns-clause-items : goal.returns-clause-items
+returns-clause-items c =
+    let old = c.args.bytes.now in
+    let m = length-bits old in
+    c.clear_spare.ensures.items ∙ (ap (take c.args.length) c.write_by_unary_table.ensures
+    ∙ take-each1 c.args.t c.args.length (bits old) (omega (arith, m, c.requires.exact)))

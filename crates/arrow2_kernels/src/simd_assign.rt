@@ -1,0 +1,126 @@
+//! Replacing bytes by the outputs of a truth table, 32 bytes at a time.
+ghost use Rattle.std.specs.Prelude.{◌≡◌, ◌+◌, ◌*◌, ◌/◌, ◌%◌, ◌^◌, ◌<◌, ◌≤◌, [], ◌∷◌, slice_index, slice_set, take, length as length'};
+ghost use Rattle.arrow2_model.specs.Bits.{bits};
+ghost use Rattle.arrow2_model.specs.Canonical.{IsCanonical};
+ghost use Rattle.arrow2_model.specs.Tables.{each};
+
+use crate::simd::{binary_lanes, unary_lanes};
+use crate::truth_tables::{binary_outputs, unary_outputs};
+use std::simd::prelude::*;
+
+/// Replaces the first `length` bits by the outputs of table `t` for them and for those of `other`. Padding bits are
+/// false afterwards, whatever they were. Does not allocate. Requires exactly the bytes that `length` bits need, and at
+/// least that many in `other`.
+pub fn assign_binary(bytes: &mut [u8], other: &[u8], length: usize, t: u8)
+    requires exact { length' bytes.old ≡ (length + 7) / 8 }
+    requires inside { length ≤ 8 * length' other.now }
+    ensures canonical { IsCanonical bytes.new length }
+    ensures items { take length (bits bytes.new)
+        ≡ each t (take length (bits bytes.old) ∷ take length (bits other.now) ∷ []) }
+{
+    write_by_table(bytes, other, t);
+    clear_spare(bytes, length);
+}
+
+/// The same of a table of one input.
+pub fn assign_unary(bytes: &mut [u8], length: usize, t: u8)
+    requires exact { length' bytes.old ≡ (length + 7) / 8 }
+    ensures canonical { IsCanonical bytes.new length }
+    ensures items { take length (bits bytes.new) ≡ each t (take length (bits bytes.old) ∷ []) }
+{
+    write_by_unary_table(bytes, t);
+    clear_spare(bytes, length);
+}
+
+/// Replaces each bit of the bytes by its output, by a loop of the table's own.
+pub(crate) fn write_by_table(bytes: &mut [u8], other: &[u8], t: u8)
+    requires inside { length' bytes.old ≤ length' other.now }
+    ensures { bits bytes.new ≡ each t (bits bytes.old
+        ∷ take (8 * length' bytes.old) (bits other.now) ∷ []) }
+{
+    match t % 16 {
+        0 => write_binary(bytes, other, 0),
+        1 => write_binary(bytes, other, 1),
+        2 => write_binary(bytes, other, 2),
+        3 => write_binary(bytes, other, 3),
+        4 => write_binary(bytes, other, 4),
+        5 => write_binary(bytes, other, 5),
+        6 => write_binary(bytes, other, 6),
+        7 => write_binary(bytes, other, 7),
+        8 => write_binary(bytes, other, 8),
+        9 => write_binary(bytes, other, 9),
+        10 => write_binary(bytes, other, 10),
+        11 => write_binary(bytes, other, 11),
+        12 => write_binary(bytes, other, 12),
+        13 => write_binary(bytes, other, 13),
+        14 => write_binary(bytes, other, 14),
+        _ => write_binary(bytes, other, 15),
+    }
+}
+
+/// The same of a table of one input.
+fn write_by_unary_table(bytes: &mut [u8], t: u8)
+    ensures { bits bytes.new ≡ each t (bits bytes.old ∷ []) }
+{
+    match t % 4 {
+        0 => write_unary(bytes, 0),
+        1 => write_unary(bytes, 1),
+        2 => write_unary(bytes, 2),
+        _ => write_unary(bytes, 3),
+    }
+}
+
+/// Replaces each bit of the bytes by its output. 32 bytes go at once, and a plain loop takes the rest.
+#[inline(always)]
+fn write_binary(bytes: &mut [u8], other: &[u8], t: u8)
+    requires inside { length' bytes.old ≤ length' other.now }
+    ensures { bits bytes.new ≡ each t (bits bytes.old
+        ∷ take (8 * length' bytes.old) (bits other.now) ∷ []) }
+{
+    let whole = bytes.len() / 32;
+    for k in 0..whole {
+        let at = 32 * k;
+        let own = u8x32::from_slice(&bytes[at..]);
+        let paired = u8x32::from_slice(&other[at..]);
+        binary_lanes(u16::from(t), own, paired).copy_to_slice(&mut bytes[at..]);
+    }
+    for at in 32 * whole..bytes.len() {
+        bytes[at] = binary_outputs(u16::from(t), bytes[at], other[at]);
+    }
+}
+
+/// The same of a table of one input.
+#[inline(always)]
+fn write_unary(bytes: &mut [u8], t: u8)
+    ensures { bits bytes.new ≡ each t (bits bytes.old ∷ []) }
+{
+    let whole = bytes.len() / 32;
+    for k in 0..whole {
+        let at = 32 * k;
+        let own = u8x32::from_slice(&bytes[at..]);
+        unary_lanes(u16::from(t), own).copy_to_slice(&mut bytes[at..]);
+    }
+    for at in 32 * whole..bytes.len() {
+        bytes[at] = unary_outputs(u16::from(t), bytes[at]);
+    }
+}
+
+/// Clears the bits after the first `length`. Does not allocate. Requires exactly the bytes that `length` bits need.
+pub fn clear_spare(bytes: &mut [u8], length: usize)
+    requires exact { length' bytes.old ≡ (length + 7) / 8 }
+    ensures canonical { IsCanonical bytes.new length }
+    ensures items { take length (bits bytes.new) ≡ take length (bits bytes.old) }
+{
+    if length % 8 != 0 {
+        clear_last(bytes, length / 8, length % 8);
+    }
+}
+
+/// Keeps of byte `last` its lowest `count` bits. Requires that there is one, and for less than eight.
+fn clear_last(bytes: &mut [u8], last: usize, count: usize)
+    requires inside { last < length' bytes.old }
+    requires few { count < 8 }
+    ensures { bytes.new ≡ slice_set bytes.old last (slice_index bytes.old last % 2 ^ count) }
+{
+    bytes[last] %= 1 << count;
+}

@@ -1,0 +1,81 @@
+//! New lists from truth tables, 32 bytes at a time.
+ghost use Rattle.std.specs.Prelude.{◌≡◌, ◌+◌, ◌*◌, ◌/◌, ◌≤◌, [], ◌∷◌, ◌++◌, take, length as length', IfOk, OnOk, vec_len};
+ghost use Rattle.arrow2_model.specs.Bits.{bits};
+ghost use Rattle.arrow2_model.specs.Canonical.{IsCanonical};
+ghost use Rattle.arrow2_model.specs.Tables.{each};
+
+use crate::simd_assign::{assign_unary, clear_spare, write_by_table};
+use arrow2_bits::bytes_for;
+use std::alloc::{AllocError, Global};
+
+/// The number of bytes that are copied before their outputs are computed: they stay in the nearest cache.
+const BLOCK: usize = 4096;
+
+/// Returns the bytes of the outputs of table `t` for the first `length` bits of both: exactly the bytes that these
+/// need, with padding bits false. Allocates once. Requires that both hold `length` bits.
+///
+/// # Errors
+///
+/// If an allocation fails.
+pub fn map_binary(
+    alloc: Global,
+    left: &[u8],
+    right: &[u8],
+    length: usize,
+    t: u8,
+) -> Result<Vec<u8>, AllocError>
+    requires left { length ≤ 8 * length' left.now }
+    requires right { length ≤ 8 * length' right.now }
+    ensures canonical { IfOk result (λ v. IsCanonical v.items length) }
+    ensures items { IfOk result (λ v. take length (bits v.items)
+        ≡ each t (take length (bits left.now) ∷ take length (bits right.now) ∷ [])) }
+{
+    let count = bytes_for(length);
+    let mut bytes = Vec::with_capacity(alloc, count)?;
+    append_blocks(&mut bytes, &left[..count], &right[..count], t)?;
+    clear_spare(bytes.as_mut_slice(), length);
+    Ok(bytes)
+}
+
+/// The same of a table of one input.
+///
+/// # Errors
+///
+/// If an allocation fails.
+pub fn map_unary(alloc: Global, list: &[u8], length: usize, t: u8) -> Result<Vec<u8>, AllocError>
+    requires { length ≤ 8 * length' list.now }
+    ensures canonical { IfOk result (λ v. IsCanonical v.items length) }
+    ensures items { IfOk result (λ v. take length (bits v.items)
+        ≡ each t (take length (bits list.now) ∷ [])) }
+{
+    let mut bytes = Vec::from_slice(alloc, &list[..bytes_for(length)])?;
+    assign_unary(bytes.as_mut_slice(), length, t);
+    Ok(bytes)
+}
+
+/// Appends the outputs of table `t` for each bit of both to no bytes, a block at a time. Requires both to have the same
+/// number of bytes.
+fn append_blocks(bytes: &mut Vec<u8>, left: &[u8], right: &[u8], t: u8) -> Result<(), AllocError>
+    requires empty { bytes.old.items ≡ [] }
+    requires alike { length' left.now ≡ length' right.now }
+    ensures { OnOk result (bits bytes.new.items ≡ each t (bits left.now ∷ bits right.now ∷ [])) }
+{
+    let whole = left.len() / BLOCK;
+    for k in 0..whole {
+        let at = BLOCK * k;
+        append_binary(bytes, &left[at..at + BLOCK], &right[at..at + BLOCK], t)?;
+    }
+    append_binary(bytes, &left[BLOCK * whole..], &right[BLOCK * whole..], t)
+}
+
+/// Appends the outputs of table `t` for each bit of both. Requires both to have the same number of bytes.
+fn append_binary(bytes: &mut Vec<u8>, left: &[u8], right: &[u8], t: u8) -> Result<(), AllocError>
+    requires alike { length' left.now ≡ length' right.now }
+    ensures { OnOk result (bits bytes.new.items ≡ bits bytes.old.items
+        ++ each t (bits left.now ∷ bits right.now ∷ [])) }
+{
+    let at = bytes.len();
+    bytes.extend_from_slice(left)?;
+    write_by_table(&mut bytes[at..], right, t);
+    Ok(())
+}

@@ -1,0 +1,70 @@
+//! Truth tables as word functions: bit `a1 + 2 * a2 + 4 * a3 + 8 * a4` of a table is its output for inputs `a1` to
+//! `a4`. Bits of a table past its last output are not read.
+ghost use Rattle.std.specs.Prelude.{◌≡◌, ◌<◌, ◌^◌, ℕ, [], ◌∷◌, if◌then◌else◌};
+ghost use Rattle.arrow2_model.specs.Bits.{bit};
+ghost use Rattle.arrow2_model.specs.Tables.{answer};
+
+use arrow2_chunk::bit_chunk::BitChunk;
+
+/// Returns the outputs of a table of one input, bit by bit.
+pub fn unary_outputs<T: BitChunk>(table: u16, x: T) -> T
+    ensures results { (i : ℕ) → i < T.BitChunk.WIDTH →
+        bit (T.BitChunk.number result) i ≡ answer table (bit (T.BitChunk.number x) i ∷ []) }
+{
+    let yes = filled(x, BitChunk::bit(table, 1));
+    let no = filled(x, BitChunk::bit(table, 0));
+    chosen(x, yes, no)
+}
+
+/// Returns the outputs of a table of two inputs, bit by bit.
+pub fn binary_outputs<T: BitChunk>(table: u16, x: T, y: T) -> T
+    ensures results { (i : ℕ) → i < T.BitChunk.WIDTH →
+        bit (T.BitChunk.number result) i
+        ≡ answer table (bit (T.BitChunk.number x) i ∷ bit (T.BitChunk.number y) i ∷ []) }
+{
+    let yes = unary_outputs(table >> 2, x);
+    let no = unary_outputs(table, x);
+    chosen(y, yes, no)
+}
+
+/// Returns the outputs of a table of three inputs, bit by bit.
+pub fn ternary_outputs<T: BitChunk>(table: u16, x: T, y: T, z: T) -> T
+    ensures results { (i : ℕ) → i < T.BitChunk.WIDTH →
+        bit (T.BitChunk.number result) i
+        ≡ answer table (bit (T.BitChunk.number x) i ∷ bit (T.BitChunk.number y) i
+        ∷ bit (T.BitChunk.number z) i ∷ []) }
+{
+    let yes = binary_outputs(table >> 4, x, y);
+    let no = binary_outputs(table, x, y);
+    chosen(z, yes, no)
+}
+
+/// Returns the outputs of a table of four inputs, bit by bit.
+pub fn quaternary_outputs<T: BitChunk>(table: u16, x: T, y: T, z: T, v: T) -> T
+    ensures results { (i : ℕ) → i < T.BitChunk.WIDTH →
+        bit (T.BitChunk.number result) i
+        ≡ answer table (bit (T.BitChunk.number x) i ∷ bit (T.BitChunk.number y) i
+        ∷ bit (T.BitChunk.number z) i ∷ bit (T.BitChunk.number v) i ∷ []) }
+{
+    let yes = ternary_outputs(table >> 8, x, y, z);
+    let no = ternary_outputs(table, x, y, z);
+    chosen(v, yes, no)
+}
+
+/// Returns each bit of `yes` where `which` is set, and each bit of `no` where it is not.
+fn chosen<T: BitChunk>(which: T, yes: T, no: T) -> T
+    ensures { (i : ℕ) → i < T.BitChunk.WIDTH →
+        bit (T.BitChunk.number result) i
+        ≡ (if bit (T.BitChunk.number which) i then bit (T.BitChunk.number yes) i else bit
+        (T.BitChunk.number no) i) }
+{
+    yes.bit_and(which).bit_or(no.bit_and(which.bit_not()))
+}
+
+/// Returns the word each bit of which is `value`, of the type of `like`.
+fn filled<T: BitChunk>(like: T, value: bool) -> T
+    ensures { (i : ℕ) → i < T.BitChunk.WIDTH → bit (T.BitChunk.number result) i ≡ value }
+{
+    let zeros = like.bit_xor(like);
+    if value { zeros.bit_not() } else { zeros }
+}

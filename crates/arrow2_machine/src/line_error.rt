@@ -1,0 +1,94 @@
+//! Why a line is refused.
+ghost use Rattle.std.specs.Prelude.{◌≡◌};
+ghost use Rattle.arrow2_machine.specs.Replies.{refused_text};
+
+use arrow2::error::Error;
+use std::alloc::{AllocError, AllocFailed};
+
+/// Why a line is refused. It changes nothing then.
+#[derive(Clone, Copy, Debug, PartialEq, Eq)]
+pub enum LineError {
+    /// The line is no command.
+    Syntax,
+    /// A slot does not hold what the command requires.
+    Kind,
+    /// A range is not inside its list, or an offset is too great.
+    Range,
+    /// Two lists are not of equal length.
+    Length,
+    /// A length or an offset would pass the greatest number.
+    Overflow,
+}
+
+impl LineError {
+    /// Returns the reply to a refused line, without a line end.
+    pub fn text(self) -> &'static [u8]
+        ensures { result.now ≡ refused_text self }
+    {
+        match self {
+            LineError::Syntax => b"error syntax",
+            LineError::Kind => b"error kind",
+            LineError::Range => b"error range",
+            LineError::Length => b"error length",
+            LineError::Overflow => b"error overflow",
+        }
+    }
+}
+
+/// Why a command was not carried out.
+#[derive(Clone, Copy, Debug, PartialEq, Eq)]
+pub enum CommandError {
+    /// The machine refuses the line.
+    Refused(LineError),
+    /// An allocation failed.
+    OutOfMemory,
+}
+
+impl From<LineError> for CommandError {
+    ghost use Rattle.arrow2_machine.specs.declared.line_error.CommandError.TheVariants.{Refused};
+
+    ghost from_gives = { λ refusal error. error ≡ Refused refusal };
+
+    fn from(refusal: LineError) -> CommandError {
+        CommandError::Refused(refusal)
+    }
+}
+
+impl From<AllocError> for CommandError {
+    ghost use Rattle.arrow2_machine.specs.declared.line_error.CommandError.TheVariants.{OutOfMemory};
+
+    ghost from_gives = { λ _ error. error ≡ OutOfMemory };
+
+    fn from(_error: AllocError) -> CommandError {
+        CommandError::OutOfMemory
+    }
+}
+
+/// The value that could not be stored is dropped.
+impl<T: Drop> From<AllocFailed<T>> for CommandError {
+    ghost use Rattle.arrow2_machine.specs.declared.line_error.CommandError.TheVariants.{OutOfMemory};
+
+    ghost from_gives = { λ _ error. error ≡ OutOfMemory };
+
+    fn from(_error: AllocFailed<T>) -> CommandError {
+        CommandError::OutOfMemory
+    }
+}
+
+/// An overflow is refused, and an argument that does not fit is out of range; the other errors become an allocation
+/// that failed, since no call of the layer that a command makes returns them.
+impl From<Error> for CommandError {
+    ghost use Rattle.arrow2_machine.specs.Outcomes.{command_error};
+
+    ghost from_gives = { λ error given. given ≡ command_error error };
+
+    fn from(error: Error) -> CommandError {
+        match error {
+            Error::Overflow => CommandError::Refused(LineError::Overflow),
+            Error::InvalidArgumentError(_) | Error::OutOfSpec(_) => CommandError::Refused(
+                LineError::Range,
+            ),
+            _ => CommandError::OutOfMemory,
+        }
+    }
+}

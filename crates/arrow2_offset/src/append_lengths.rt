@@ -1,0 +1,130 @@
+//! Lengths appended to a vector of offsets.
+ghost use Rattle.std.specs.Prelude.{◌≡◌, ◌-◌, ◌<◌, ◌≤◌, length, map, take, OnOk, IsErrOf, vec_len, vec_capacity};
+ghost use Rattle.std.specs.Iterator.{IsFinite};
+ghost use Rattle.std.specs.Iterator.Runs.{WholeRun};
+ghost use Rattle.arrow2_offset.specs.Offsets.{AreOffsetsUpTo, last_of, lengths_of};
+ghost use Rattle.arrow2_offset.specs.Iterators.{MayYieldMoreThan, MayYieldPast};
+ghost use Rattle.arrow2_offset.specs.Growth.{GrowsByRun};
+ghost use Rattle.arrow2_offset.specs.Lengths.{LengthenedBy};
+ghost use Rattle.arrow2_offset.specs.NewOffsets.{made_of};
+ghost use Rattle.arrow2_types.specs.declared.growth_error.GrowthError.TheVariants as growth_error;
+
+use arrow2_index::offset::Offset;
+use arrow2_types::growth_error::GrowthError;
+use std::alloc::AllocError;
+use std::mem;
+
+/// The smallest capacity that is reserved, in lengths, so that one allocation is enough for a few lengths. Its block is
+/// a little smaller than the largest that glibc keeps cached.
+pub(crate) const LEAST_CAPACITY: usize = 120;
+
+/// The second capacity that is reserved, in lengths: the one after `LEAST_CAPACITY`.
+const SECOND_CAPACITY: usize = 512;
+
+/// Appends the lengths of an iterator that ends. If it returns an error, the appended lengths are removed again.
+/// Requires that the items are offsets. The iterator's size hint is not read.
+///
+/// # Errors
+///
+/// `Overflow`, which comes only where the last offset plus the sum of lengths that the iterator may give exceeds
+/// `O::MAX`, or `OutOfMemory`.
+pub(crate) fn append_lengths<O: Offset, I: Iterator<Item = usize> + Drop>(
+    offsets: &mut Vec<O>,
+    lengths: I,
+) -> Result<(), GrowthError>
+    requires valid { AreOffsetsUpTo O.MAX (map O.value offsets.old.items) }
+    requires can { I.can_next lengths }
+    requires ends { IsFinite (I.remaining lengths) }
+    ensures valid { AreOffsetsUpTo O.MAX (map O.value offsets.new.items) }
+    ensures grows { GrowsByRun O.MAX (λ error. error) result
+        (made_of (map O.value offsets.old.items) (vec_capacity offsets.old))
+        (made_of (map O.value offsets.new.items) (vec_capacity offsets.new))
+        I.next_gives lengths }
+{
+    let count = offsets.len();
+    let empty = Vec::new(*offsets.allocator());
+    let (grown, all) = appended(mem::replace(offsets, empty), lengths);
+    *offsets = grown;
+    if all.is_err() {
+        offsets.truncate(count);
+    }
+    all
+}
+
+/// Returns the offsets with the lengths of an iterator appended. Where it returns an error, the items after the old
+/// offsets are unspecified.
+///
+/// The vector is passed by value, so that its length stays in a register from item to item. The sums are exact and
+/// rise, so it is enough to test that they are offsets where capacity is reserved and at the end.
+#[inline(never)]
+fn appended<O: Offset, I: Iterator<Item = usize> + Drop>(
+    mut offsets: Vec<O>,
+    lengths: I,
+) -> (Vec<O>, Result<(), GrowthError>)
+    // The vector holds offsets, and the iterator ends.
+    requires valid { AreOffsetsUpTo O.MAX (map O.value offsets.items) }
+    requires can { I.can_next lengths }
+    requires ends { IsFinite (I.remaining lengths) }
+    // The offsets that were there stay; with `Ok` those of all lengths come after them.
+    ensures valid { OnOk result.1 (AreOffsetsUpTo O.MAX (map O.value result.0.items)) }
+    ensures front { take (length offsets.items) result.0.items ≡ offsets.items }
+    ensures ok { OnOk result.1 (WholeRun I.next_gives lengths (λ p.
+        LengthenedBy p.items (map O.value offsets.items) (map O.value result.0.items))) }
+    // `Overflow` comes only where lengths that the iterator may give pass `O::MAX`, `OutOfMemory` only where they may
+    // be more than the spare capacity.
+    ensures overflow { IsErrOf result.1 growth_error.Overflow →
+        MayYieldPast O.MAX (last_of (map O.value offsets.items)) I.next_gives lengths }
+    ensures out_of_memory { IsErrOf result.1 growth_error.OutOfMemory →
+        MayYieldMoreThan (vec_capacity offsets - 1
+        - length (lengths_of (map O.value offsets.items))) I.next_gives lengths }
+    // The capacity never falls.
+    ensures capacity { vec_capacity offsets ≤ vec_capacity result.0 }
+{
+    let greatest = O::MAX as u128;
+    let mut last = offsets[offsets.len() - 1].to_usize() as u128;
+    for length in lengths {
+        last += length as u128;
+        if offsets.len() == offsets.capacity() {
+            if last > greatest {
+                return (offsets, Err(GrowthError::Overflow));
+            }
+            let (reserved, outcome) = with_spare_capacity(offsets);
+            offsets = reserved;
+            if outcome.is_err() {
+                return (offsets, Err(GrowthError::OutOfMemory));
+            }
+        }
+        offsets.push_reserved(O::from_low_bits(last));
+    }
+    if last > greatest {
+        return (offsets, Err(GrowthError::Overflow));
+    }
+    (offsets, Ok(()))
+}
+
+/// Returns the offsets in a vector with spare capacity, unless the allocation fails.
+fn with_spare_capacity<O>(mut offsets: Vec<O>) -> (Vec<O>, Result<(), AllocError>)
+    ensures items { result.0.items ≡ offsets.items }
+    ensures capacity { vec_capacity offsets ≤ vec_capacity result.0 }
+    ensures ok { OnOk result.1 (vec_len result.0 < vec_capacity result.0) }
+{
+    let outcome = grow_capacity(&mut offsets);
+    (offsets, outcome)
+}
+
+/// Reserves capacity for `LEAST_CAPACITY` more lengths where there are fewer than that, else for four times the
+/// lengths, and at least for `SECOND_CAPACITY - LEAST_CAPACITY` more. There is one offset more than there are lengths.
+#[cold]
+#[inline(never)]
+fn grow_capacity<O>(offsets: &mut Vec<O>) -> Result<(), AllocError>
+    ensures items { offsets.new.items ≡ offsets.old.items }
+    ensures capacity { vec_capacity offsets.old ≤ vec_capacity offsets.new }
+    ensures ok { OnOk result (vec_len offsets.new < vec_capacity offsets.new) }
+{
+    let lengths = offsets.len().saturating_sub(1);
+    if lengths < LEAST_CAPACITY {
+        return offsets.reserve_exact(LEAST_CAPACITY);
+    }
+    let more = lengths.saturating_mul(3);
+    offsets.reserve_exact(more.max(SECOND_CAPACITY - LEAST_CAPACITY))
+}

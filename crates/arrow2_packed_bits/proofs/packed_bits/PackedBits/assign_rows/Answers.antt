@@ -1,0 +1,50 @@
+use Rattle.std.proofs.Common.{◌≡◌, ◌∙◌, ℕ, List, ◌∷◌, Bool, ap, sym, length, take, arith}
+use Rattle.arrow2_model.specs.Bits.{bits}
+use Rattle.arrow2_model.specs.Kernels.{word, words_at, joined, kernel}
+use Rattle.arrow2_model.specs.Rows.{AreRowsOf}
+use Rattle.arrow2_model.specs.Tables.{each}
+use Rattle.arrow2_model.proofs.Kernels.{table_word}
+use Rattle.arrow2_model.proofs.RowKernels.{rows_kernel, rows_table, acts_paired}
+use Rattle.arrow2_kernels.proofs.Written.{whole_written}
+use Rattle.arrow2_packed_bits.proofs.Buffer.{length_items}
+use Rattle.arrow2_packed_bits.proofs.packed_bits.PackedBits.assign_rows.Goals as goal
+
+-- the rows of the list itself and of those paired with it
+paired_own : (w n : ℕ) (own : List Bool) (lists : List (List Bool)) (row : ℕ → List ℕ) → length own ≡ n → ((j : ℕ) → row j ≡ words_at w lists j) → AreRowsOf w (own ∷ lists) (λ j. word w own j ∷ row j) n
+paired_own w n own lists row l are = (l, λ j. ap (λ r. word w own j ∷ r) (are j))
+
+pub returns-clause-kernel : goal.returns-clause-kernel
+returns-clause-kernel g c f lists is are =
+    let w : ℕ = g.T.BitChunk.WIDTH in
+    let b = c.self.inside in
+    let n : ℕ = b.length in
+    let own : List Bool = take n (bits b.bytes.items) in
+    let row : ℕ → List ℕ = g.S.WordRows.row_at c.args.rows in
+    let whole = whole_written b.bytes.items c.assign_rows.new.bytes b.bytes.len b.bytes.ok.0 (omega (arith, c.assign_rows.auto.bytes, c.as_mut_slice.ensures.len, b.bytes.ok.0)) in
+    ap (λ (bytes : List ℕ). take n (bits bytes)) whole
+    ∙ (c.assign_rows.ensures.items f is
+    ∙ (ap (λ (bytes : List ℕ). joined w (λ j. f (word w (take n (bits bytes)) j ∷ row j)) n) c.as_mut_slice.ensures.value
+    ∙ (rows_kernel w n f (own ∷ lists) (λ j. word w own j ∷ row j) (omega (arith, g.met.T.BitChunk.width_bounds)) (paired_own w n own lists row (length_items b.bytes.items n c.self.invariant) are)
+    ∙ ap (λ m. kernel w f (m.items ∷ lists)) c.self.view_is)))
+
+pub returns-clause-table : goal.returns-clause-table
+returns-clause-table g c t lists acts are =
+    let w : ℕ = g.T.BitChunk.WIDTH in
+    let b = c.self.inside in
+    let n : ℕ = b.length in
+    let own : List Bool = take n (bits b.bytes.items) in
+    let row : ℕ → List ℕ = g.S.WordRows.row_at c.args.rows in
+    let whole = whole_written b.bytes.items c.assign_rows.new.bytes b.bytes.len b.bytes.ok.0 (omega (arith, c.assign_rows.auto.bytes, c.as_mut_slice.ensures.len, b.bytes.ok.0)) in
+    ap (λ (bytes : List ℕ). take n (bits bytes)) whole
+    ∙ (c.assign_rows.ensures.items (table_word w t) (acts_paired w t g.S.WordRows.words g.T.BitChunk.number _ acts)
+    ∙ (ap (λ (bytes : List ℕ). joined w (λ j. table_word w t (word w (take n (bits bytes)) j ∷ row j)) n) c.as_mut_slice.ensures.value
+    ∙ (rows_table w n t (own ∷ lists) (λ j. word w own j ∷ row j) (omega (arith, g.met.T.BitChunk.width_bounds)) (paired_own w n own lists row (length_items b.bytes.items n c.self.invariant) are)
+    ∙ ap (λ m. each t (m.items ∷ lists)) c.self.view_is)))
+
+pub returns-clause-len : goal.returns-clause-len
+returns-clause-len g c =
+    let b = c.self.inside in
+    let n : ℕ = b.length in
+    let whole = whole_written b.bytes.items c.assign_rows.new.bytes b.bytes.len b.bytes.ok.0 (omega (arith, c.assign_rows.auto.bytes, c.as_mut_slice.ensures.len, b.bytes.ok.0)) in
+    ap (λ (bytes : List ℕ). length (take n (bits bytes))) whole
+    ∙ (length_items c.assign_rows.new.bytes n c.assign_rows.ensures.canonical ∙ (sym (length_items b.bytes.items n c.self.invariant) ∙ ap (λ m. length m.items) c.self.view_is))

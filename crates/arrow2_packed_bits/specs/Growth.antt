@@ -1,0 +1,33 @@
+-- The records of growth by bits.
+use Rattle.std.specs.Prelude.{◌≡◌, ◌+◌, ◌<◌, ◌≤◌, ◌^◌, ◌↔◌, ◌⊎◌, List, ◌++◌, Bool, length, Result, OnOk, OnErr, IsOk, IfErr, IsErrOf}
+use Rattle.arrow2_model.specs.Storage.{GrowingBitmap}
+use Rattle.arrow2_types.specs.declared.growth_error.GrowthError.{GrowthError}
+use Rattle.arrow2_types.specs.declared.growth_error.GrowthError.TheVariants.{Overflow, OutOfMemory}
+
+-- growth by these items, all of them or none. A failure is returned as an error
+pub record Appends {T E : Type 0} (as_error : GrowthError → E) (r : Result T E) (old new : GrowingBitmap) (more : List Bool) : Type 0 where
+  -- they come after the others
+  pub ok : OnOk r (new.items ≡ old.items ++ more)
+  -- a refusal leaves the items
+  pub err : OnErr r (new.items ≡ old.items)
+  -- a usize counts the items that were there
+  pub fits : length old.items < 2 ^ 64
+  -- and they are within the capacity
+  pub within_capacity : length old.items ≤ old.capacity
+  -- it overflows exactly where there would be more items than that
+  pub overflow : IsErrOf r (as_error Overflow) ↔ (2 ^ 64 ≤ length old.items + length more)
+  -- there is no other error but out of memory
+  pub only : IfErr r (λ e. (e ≡ as_error Overflow) ⊎ (e ≡ as_error OutOfMemory))
+  -- within the capacity it succeeds
+  pub succeeds : length old.items + length more ≤ old.capacity → IsOk r
+  -- the capacity never falls
+  pub capacity : old.capacity ≤ new.capacity
+
+-- these items are written after the others, and together they are not too many
+pub record Pushes {T E : Type 0} (r : Result T E) (old new : GrowingBitmap) (more : List Bool) : Type 0 where
+  -- they come after the others
+  pub ok : OnOk r (new.items ≡ old.items ++ more)
+  -- within the capacity it succeeds
+  pub succeeds : length old.items + length more ≤ old.capacity → IsOk r
+  -- the capacity never falls
+  pub capacity : old.capacity ≤ new.capacity

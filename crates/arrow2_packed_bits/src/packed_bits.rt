@@ -1,0 +1,434 @@
+//! Booleans packed into bytes, which grow.
+ghost use Rattle.std.specs.Prelude.{◌≡◌, ◌+◌, ◌-◌, ◌*◌, ◌/◌, ◌%◌, ◌<◌, ◌≤◌, ◌^◌, ◌↔◌, ◌⊎◌, ℕ, IsTrue, List, Bool, [], ◌∷◌, ◌++◌, true, false, slice_index_or, length, length as length', take, replicate, slice_set, min, OnOk, OnErr, IsOk, IfOk, IfNone, IsErrOf, MatchOption, vec_len, vec_capacity};
+ghost use Rattle.arrow2_model.specs.Bits.{bit, bits, unnum};
+ghost use Rattle.arrow2_model.specs.Canonical.{canonical_bytes, IsCanonical};
+ghost use Rattle.arrow2_model.specs.Kernels.{kernel, word, words_at};
+ghost use Rattle.arrow2_model.specs.Rows.{IsBitwiseOnOwnRows, ComputesOwnRows};
+ghost use Rattle.arrow2_model.specs.Tables.{each};
+ghost use Rattle.arrow2_packed_bits.specs.Growth.{Appends, Pushes};
+ghost use Rattle.arrow2_types.specs.declared.growth_error.GrowthError.TheVariants as growth_error;
+ghost use Rattle.std.specs.declared.alloc.Global.{Global};
+
+mod extend;
+
+use arrow2_bits::{bytes_for, is_set, set};
+use arrow2_chunk::bit_chunk::BitChunk;
+use arrow2_kernels::assign::assign_rows;
+use arrow2_kernels::rows::WordRows;
+use arrow2_kernels::simd_assign::{assign_binary, assign_unary};
+use arrow2_types::growth_error::GrowthError;
+use std::alloc::{AllocError, Global};
+use std::marker::Model;
+
+/// At index i the byte whose bits below i are set: read instead of a shift by a variable.
+const BELOW: [u8; 8] = [0, 1, 3, 7, 15, 31, 63, 127];
+
+/// At index i the byte whose other bits are set.
+const ABOVE: [u8; 8] = [255, 254, 252, 248, 240, 224, 192, 128];
+
+/// Booleans packed into bytes, which grow: contracts see the items and the capacity.
+///
+/// There is no spare byte, and every padding bit is false.
+#[derive(Drop)]
+pub struct PackedBits {
+    bytes: Vec<u8>,
+    length: usize,
+}
+
+impl Model for PackedBits {
+    ghost use Rattle.std.specs.Prelude.{◌-◌, ◌*◌, ◌^◌, vec_capacity, min, take};
+    ghost use Rattle.arrow2_model.specs.Bits.{bits};
+    ghost use Rattle.arrow2_model.specs.Canonical.{IsCanonical};
+    ghost use Rattle.arrow2_model.specs.Storage.{GrowingBitmap};
+
+    ghost Value = { GrowingBitmap };
+
+    ghost view = { λ b. record {
+      items = take b.length (bits b.bytes.items);
+      capacity = min (8 * vec_capacity b.bytes) (2 ^ 64 - 1);
+    } };
+
+    ghost invariant = { λ b. IsCanonical b.bytes.items b.length };
+}
+
+#[tactic(auto, using(crate::proofs::Buffer::buffers))]
+impl PackedBits {
+    /// Returns no items. Does not allocate.
+    pub fn new(alloc: Global) -> PackedBits
+        ensures { result.items ≡ [] }
+    {
+        PackedBits {
+            bytes: Vec::new(alloc),
+            length: 0,
+        }
+    }
+
+    /// Returns no items, with capacity for `capacity` of them.
+    ///
+    /// # Errors
+    ///
+    /// If an allocation fails.
+    pub fn with_capacity(alloc: Global, capacity: usize) -> Result<PackedBits, AllocError>
+        ensures items { IfOk result (λ b. b.items ≡ []) }
+        ensures capacity { IfOk result (λ b. capacity ≤ b.capacity) }
+    {
+        let bytes = Vec::with_capacity(alloc, bytes_for(capacity))?;
+        Ok(PackedBits { bytes, length: 0 })
+    }
+
+    /// Returns the first `length` bits of the bytes. Spare bytes are cut and padding bits cleared, in place, and the
+    /// capacity of the vector stays. Requires `length` to be at most eight times the number of bytes. Does not
+    /// allocate.
+    pub fn from_vec(bytes: Vec<u8>, length: usize) -> PackedBits
+        requires inside { length ≤ 8 * vec_len bytes }
+        ensures items { result.items ≡ take length (bits bytes.items) }
+        ensures len { length' result.items ≡ length }
+        ensures capacity { result.capacity ≡ min (8 * vec_capacity bytes) (2 ^ 64 - 1) }
+    {
+        let mut bytes = bytes;
+        cut(&mut bytes, length);
+        PackedBits { bytes, length }
+    }
+
+    /// Returns the number of items.
+    pub fn len(&self) -> usize
+        ensures { result ≡ length self.now.items }
+    {
+        self.length
+    }
+
+    /// Returns the capacity in items, at most `usize::MAX`.
+    pub fn capacity(&self) -> usize
+        ensures capacity { result ≡ self.now.capacity }
+        ensures within_capacity { length self.now.items ≤ result }
+    {
+        // The length is read for the facts that its type guarantees: a `usize` counts the items.
+        let _ = self.len();
+        self.bytes.capacity().saturating_mul(8)
+    }
+
+    /// Returns the allocator of the bytes.
+    pub fn allocator(&self) -> Global
+        ensures { (only : Global) → result ≡ only }
+    {
+        *self.bytes.allocator()
+    }
+
+    /// Returns the bytes of the items: exactly those that the items need, with padding bits false.
+    pub fn as_slice(&self) -> &[u8]
+        ensures bytes { result.now ≡ canonical_bytes self.now.items }
+        ensures items { take (length self.now.items) (bits result.now) ≡ self.now.items }
+        ensures len { length result.now ≡ (length self.now.items + 7) / 8 }
+    {
+        self.bytes.as_slice()
+    }
+
+    /// Returns the bytes of the items, and the number of items that they hold.
+    pub fn into_parts(self) -> (Vec<u8>, usize)
+        ensures bytes { result.0.items ≡ canonical_bytes self.items }
+        ensures items { take result.1 (bits result.0.items) ≡ self.items }
+        ensures len { result.1 ≡ length self.items }
+        ensures inside { result.1 ≤ 8 * vec_len result.0 }
+    {
+        let PackedBits { bytes, length } = self;
+        (bytes, length)
+    }
+
+    /// Reserves capacity for `additional` more items.
+    ///
+    /// # Errors
+    ///
+    /// `Overflow` exactly where they would be more than `usize::MAX`, else `OutOfMemory` alone.
+    pub fn reserve(&mut self, additional: usize) -> Result<(), GrowthError>
+        // The items stay, and `additional` more fit.
+        ensures items { self.new.items ≡ self.old.items }
+        ensures ok { OnOk result (length self.old.items + additional ≤ self.new.capacity) }
+        // Facts that the type guarantees.
+        ensures fits { length self.old.items < 2 ^ 64 }
+        ensures within_capacity { length self.old.items ≤ self.old.capacity }
+        // When each error comes, and when none does.
+        ensures overflow { IsErrOf result growth_error.Overflow ↔
+            (2 ^ 64 ≤ length self.old.items + additional) }
+        ensures succeeds { length self.old.items + additional ≤ self.old.capacity → IsOk result }
+        // The capacity never falls.
+        ensures capacity { self.old.capacity ≤ self.new.capacity }
+    {
+        let Some(total) = self.length.checked_add(additional) else {
+            return Err(GrowthError::Overflow);
+        };
+        self.bytes.reserve(bytes_for(total) - self.bytes.len())?;
+        Ok(())
+    }
+
+    /// Gives back unused capacity, where the allocator takes it.
+    pub fn shrink_to_fit(&mut self)
+        ensures items { self.new.items ≡ self.old.items }
+        ensures capacity { self.new.capacity ≤ self.old.capacity }
+    {
+        self.bytes.shrink_to_fit();
+    }
+
+    /// Takes all items off.
+    pub fn clear(&mut self)
+        ensures items { self.new.items ≡ [] }
+        ensures capacity { self.new.capacity ≡ self.old.capacity }
+    {
+        self.bytes.clear();
+        self.length = 0;
+    }
+
+    /// Adds one item. Below the capacity it does not allocate.
+    ///
+    /// # Errors
+    ///
+    /// `Overflow` exactly where there are `usize::MAX` items, else `OutOfMemory` alone. After either the items are as
+    /// before.
+    pub fn push(&mut self, item: bool) -> Result<(), GrowthError>
+        ensures { Appends (λ error. error) result self.old self.new (item ∷ []) }
+    {
+        if self.length == usize::MAX {
+            return Err(GrowthError::Overflow);
+        }
+        let position = self.length % 8;
+        if position == 0 {
+            self.bytes.push(u8::from(item))?;
+        } else {
+            self.bytes[self.length / 8] |= u8::from(item) << position;
+        }
+        self.length += 1;
+        Ok(())
+    }
+
+    /// Appends the first `count` items of `word`: the bits that fit into the last byte go there, and the others after
+    /// it. Padding bits stay false, whatever the word has after these items. Requires that `count` is at most 64, and
+    /// that all items are no more than `usize::MAX`.
+    ///
+    /// # Errors
+    ///
+    /// If an allocation fails. The items are as before then.
+    pub(crate) fn push_word(&mut self, word: u64, count: usize) -> Result<(), AllocError>
+        requires few { count ≤ 64 }
+        requires fits { length self.old.items + count < 2 ^ 64 }
+        ensures pushes { Pushes result self.old self.new (take count (unnum 64 word)) }
+        ensures err { OnErr result (self.new.items ≡ self.old.items) }
+    {
+        let word = BitChunk::masked(word, count);
+        let position = self.length % 8;
+        if position == 0 {
+            push_first(
+                &mut self.bytes,
+                &BitChunk::to_ne_bytes(word),
+                bytes_for(count),
+            )?;
+        } else {
+            let following = BitChunk::to_ne_bytes(BitChunk::down(word, 8 - position));
+            push_first(&mut self.bytes, &following, bytes_for(position + count) - 1)?;
+            let last = &mut self.bytes[self.length / 8];
+            *last = merged(*last, word, position);
+        }
+        self.length += count;
+        Ok(())
+    }
+
+    /// Appends all bits of `slice`. Requires that the items end a byte, where a bit is appended at all, and that all
+    /// items are no more than `usize::MAX`.
+    pub(crate) fn push_bytes(&mut self, slice: &[u8]) -> Result<(), AllocError>
+        requires whole { 0 < length' slice.now → length self.old.items % 8 ≡ 0 }
+        requires fits { length self.old.items + 8 * length' slice.now < 2 ^ 64 }
+        ensures pushes { Pushes result self.old self.new (bits slice.now) }
+        ensures err { OnErr result (self.new.items ≡ self.old.items) }
+    {
+        self.bytes.extend_from_slice(slice)?;
+        self.length += 8 * slice.len();
+        Ok(())
+    }
+
+    /// Appends false until there are `total` items. Requires that there are no more than that.
+    pub(crate) fn append_falses(&mut self, total: usize) -> Result<(), AllocError>
+        requires more { length self.old.items ≤ total }
+        ensures pushes { Pushes result self.old self.new
+            (replicate (total - length self.old.items) false) }
+        ensures err { OnErr result (self.new.items ≡ self.old.items) }
+    {
+        self.bytes.resize(bytes_for(total), 0)?;
+        self.length = total;
+        Ok(())
+    }
+
+    /// Appends true until there are `total` items: whole bytes, and then the bits before and after them are mended.
+    /// Requires that there are no more than that.
+    pub(crate) fn append_trues(&mut self, total: usize) -> Result<(), AllocError>
+        requires more { length self.old.items ≤ total }
+        ensures pushes { Pushes result self.old self.new
+            (replicate (total - length self.old.items) true) }
+        ensures err { OnErr result (self.new.items ≡ self.old.items) }
+    {
+        self.bytes.resize(bytes_for(total), u8::MAX)?;
+        set_above(&mut self.bytes, self.length);
+        cut(&mut self.bytes, total);
+        self.length = total;
+        Ok(())
+    }
+
+    /// Takes the last item off and gives it back, or `None` where there is none.
+    pub fn pop(&mut self) -> Option<bool>
+        ensures last { MatchOption result (self.old.items ≡ []) (λ item.
+            self.old.items ≡ self.new.items ++ item ∷ []) }
+        ensures none { IfNone result (self.new.items ≡ []) }
+        ensures capacity { self.new.capacity ≡ self.old.capacity }
+    {
+        let last = self.length.checked_sub(1)?;
+        let byte = self.bytes[last / 8];
+        self.bytes[last / 8] = byte & BELOW[last % 8];
+        self.bytes.truncate(bytes_for(last));
+        self.length = last;
+        Some(is_set(byte, last % 8))
+    }
+
+    /// Writes item `index`, and leaves every other. Requires that there is one.
+    pub fn set(&mut self, index: usize, value: bool)
+        requires below { index < length self.old.items }
+        ensures items { self.new.items ≡ slice_set self.old.items index value }
+        ensures capacity { self.new.capacity ≡ self.old.capacity }
+    {
+        let byte = &mut self.bytes[index / 8];
+        *byte = set(*byte, index % 8, value);
+    }
+
+    /// Replaces each word of the items by the result of `op` for it and the row of words at its index. Does not
+    /// allocate. Requires rows of the same number of items.
+    pub fn assign_rows<T: BitChunk, S: WordRows<T>, F: Fn(T, S::Row) -> T>(
+        &mut self,
+        rows: S,
+        op: F,
+    )
+        // `op` accepts each row, and each list of `rows` has as many items.
+        requires callable { F.IsAlwaysCallable op }
+        requires alike { S.alike rows }
+        requires length { S.length rows ≡ length' self.old.items }
+        // For every word function `f` that `op` computes of its own word and a row.
+        ensures kernel { (f : List ℕ → ℕ) (lists : List (List Bool)) →
+            ComputesOwnRows T.BitChunk.WIDTH S.words T.BitChunk.number (F.post op) f →
+            ((j : ℕ) → S.row_at rows j ≡ words_at T.BitChunk.WIDTH lists j) →
+            self.new.items ≡ kernel T.BitChunk.WIDTH f (self.old.items ∷ lists) }
+        // For every table `t` by which `op` acts on each bit.
+        ensures table { (t : ℕ) (lists : List (List Bool)) →
+            IsBitwiseOnOwnRows T.BitChunk.WIDTH S.words T.BitChunk.number (F.post op) t →
+            ((j : ℕ) → S.row_at rows j ≡ words_at T.BitChunk.WIDTH lists j) →
+            self.new.items ≡ each t (self.old.items ∷ lists) }
+        // The number of items and the capacity stay.
+        ensures len { length' self.new.items ≡ length' self.old.items }
+        ensures capacity { self.new.capacity ≡ self.old.capacity }
+    {
+        assign_rows(self.bytes.as_mut_slice(), self.length, rows, op);
+    }
+
+    /// Replaces each item by the output of table `t` for it and the bit of `other` at its index, 32 bytes at a time.
+    /// Does not allocate. Requires `other` to have one bit for each item.
+    pub fn apply_binary_table(&mut self, other: &[u8], t: u8)
+        requires inside { length self.old.items ≤ 8 * length other.now }
+        ensures items { self.new.items ≡ each t (self.old.items
+            ∷ take (length self.old.items) (bits other.now) ∷ []) }
+        ensures capacity { self.new.capacity ≡ self.old.capacity }
+    {
+        assign_binary(self.bytes.as_mut_slice(), other, self.length, t);
+    }
+
+    /// Replaces each item by the output of table `t` for it, 32 bytes at a time. Does not allocate.
+    pub fn apply_unary_table(&mut self, t: u8)
+        ensures items { self.new.items ≡ each t (self.old.items ∷ []) }
+        ensures capacity { self.new.capacity ≡ self.old.capacity }
+    {
+        assign_unary(self.bytes.as_mut_slice(), self.length, t);
+    }
+
+    /// Makes each item `value`. Does not allocate.
+    pub fn fill(&mut self, value: bool)
+        ensures items { self.new.items ≡ replicate (length self.old.items) value }
+        ensures capacity { self.new.capacity ≡ self.old.capacity }
+    {
+        fill_bytes(&mut self.bytes, if value { u8::MAX } else { 0 });
+        cut(&mut self.bytes, self.length);
+    }
+}
+
+/// Sets the bits of a byte after the first `length` bits, where these end within it. Requires that it is there.
+fn set_above(bytes: &mut Vec<u8>, length: usize)
+    requires inside { length ≤ 8 * length' bytes.old.items }
+    ensures kept { (k : ℕ) → (k < length) ⊎ (8 * ((length + 7) / 8) ≤ k) →
+        slice_index_or (bits bytes.new.items) k false ≡ slice_index_or (bits bytes.old.items) k false }
+    ensures written { (k : ℕ) → length ≤ k → k < 8 * ((length + 7) / 8) →
+        slice_index_or (bits bytes.new.items) k false ≡ true }
+    ensures len { length' bytes.new.items ≡ length' bytes.old.items }
+    ensures capacity { vec_capacity bytes.new ≡ vec_capacity bytes.old }
+{
+    if length % 8 != 0 {
+        let byte = &mut bytes[length / 8];
+        *byte |= ABOVE[length % 8];
+    }
+}
+
+/// Cuts everything after the first `length` bits: spare bytes, and padding bits of the last byte.
+fn cut(bytes: &mut Vec<u8>, length: usize)
+    requires { length ≤ 8 * vec_len bytes.old }
+    ensures canonical { IsCanonical bytes.new.items length }
+    ensures items { take length (bits bytes.new.items) ≡ take length (bits bytes.old.items) }
+    ensures capacity { vec_capacity bytes.new ≡ vec_capacity bytes.old }
+{
+    bytes.truncate(bytes_for(length));
+    if length % 8 != 0 {
+        bytes[length / 8] %= 1 << (length % 8);
+    }
+}
+
+/// A copy of the items.
+///
+/// # Errors
+///
+/// If an allocation fails.
+impl Clone for PackedBits {
+    ghost is_clone = { λ a b. b.items ≡ a.items };
+
+    fn clone(&self) -> std::result::Result<PackedBits, AllocError> {
+        let bytes = Vec::from_slice(*self.bytes.allocator(), self.bytes.as_slice())?;
+        Ok(PackedBits {
+            bytes,
+            length: self.length,
+        })
+    }
+}
+
+/// Makes each byte `byte`.
+fn fill_bytes(bytes: &mut Vec<u8>, byte: u8)
+    ensures items { bytes.new.items ≡ replicate (vec_len bytes.old) byte }
+    ensures capacity { vec_capacity bytes.new ≡ vec_capacity bytes.old }
+{
+    bytes.as_mut_slice().fill(byte);
+}
+
+/// Appends the first `count` of eight bytes. All of them, as most often, are one store. Requires that `count` is at
+/// most 8.
+fn push_first(bytes: &mut Vec<u8>, eight: &[u8; 8], count: usize) -> Result<(), AllocError>
+    requires { count ≤ 8 }
+    ensures ok { OnOk result (bytes.new.items ≡ bytes.old.items ++ take count eight.now) }
+    ensures err { OnErr result (bytes.new.items ≡ bytes.old.items) }
+    ensures succeeds { vec_len bytes.old + count ≤ vec_capacity bytes.old → IsOk result }
+    ensures capacity { vec_capacity bytes.old ≤ vec_capacity bytes.new }
+{
+    if count == 8 {
+        bytes.extend_from_slice(eight)
+    } else {
+        bytes.extend_from_slice(&eight[..count])
+    }
+}
+
+/// Returns the byte with the first items of `word` from bit `position` on. Requires that none of its bits is set there.
+fn merged(byte: u8, word: u64, position: usize) -> u8
+    requires position { position < 8 }
+    requires clear { (i : ℕ) → position ≤ i → i < 8 → bit byte i ≡ false }
+    ensures kept { (i : ℕ) → i < position → bit result i ≡ bit byte i }
+    ensures written { (i : ℕ) → position + i < 8 → bit result (position + i) ≡ bit word i }
+{
+    let low = BitChunk::to_ne_bytes(BitChunk::up(word, position));
+    BitChunk::bit_or(byte, low[0])
+}

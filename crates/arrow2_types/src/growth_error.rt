@@ -1,0 +1,49 @@
+//! Why a value does not grow, in one byte.
+ghost use Rattle.std.specs.Prelude.{◌≡◌};
+ghost use Rattle.arrow2_types.specs.Refusals.{error_of};
+ghost use Rattle.arrow2_types.specs.declared.growth_error.GrowthError.TheVariants.{OutOfMemory};
+
+use crate::error::Error;
+use std::alloc::{AllocError, AllocFailed};
+
+/// Why a value does not grow.
+///
+/// It is one byte, where an [`Error`] is many: a call inside a loop returns it, so that no wide error is written at
+/// each item. The public call makes the [`Error`] of it. Not in arrow2.
+#[derive(Drop)]
+pub enum GrowthError {
+    /// A length, a count or an offset would pass the greatest number of its type.
+    Overflow,
+    /// An allocation failed.
+    OutOfMemory,
+}
+
+/// Does not allocate.
+impl From<AllocError> for GrowthError {
+    ghost from_gives = { λ _ error. error ≡ OutOfMemory };
+
+    fn from(_error: AllocError) -> GrowthError {
+        GrowthError::OutOfMemory
+    }
+}
+
+/// The value that could not be stored is dropped. Does not allocate.
+impl<T: Drop> From<AllocFailed<T>> for GrowthError {
+    ghost from_gives = { λ _ error. error ≡ OutOfMemory };
+
+    fn from(_error: AllocFailed<T>) -> GrowthError {
+        GrowthError::OutOfMemory
+    }
+}
+
+/// Does not allocate.
+impl From<GrowthError> for Error {
+    ghost from_gives = { λ given e. e ≡ error_of given };
+
+    fn from(error: GrowthError) -> Error {
+        match error {
+            GrowthError::Overflow => Error::Overflow,
+            GrowthError::OutOfMemory => Error::OutOfMemory,
+        }
+    }
+}
