@@ -68,7 +68,7 @@ impl Machine {
     ///
     /// Where an allocation fails. The slots may have changed then.
     #[tactic(auto, unfolding(crate::specs::Machine::step))]
-    pub fn apply_unary_table(
+    pub fn answer(
         &mut self,
         alloc: Global,
         line: &[u8],
@@ -106,7 +106,7 @@ pub fn replies(alloc: Global, script: &[u8]) -> Result<Vec<u8>, AllocError>
     let mut rest = script;
     'lines: while !rest.is_empty() {
         let (line, others) = next_line(rest);
-        machine.apply_unary_table(alloc, line, &mut reply)?;
+        machine.answer(alloc, line, &mut reply)?;
         rest = others;
     }
     Ok(reply)
