@@ -1,4 +1,5 @@
 pub mod Columns
+pub mod Keys
 pub mod Nested
 pub mod Rulesets
 pub mod Runs

@@ -1,5 +1,5 @@
 //! An array of booleans, each of which may be null.
-ghost use Rattle.std.specs.Prelude.{◌≡◌, ◌+◌, ◌≤◌, ◌<◌, ◌↔◌, [], ◌∷◌, Bool, Option, Some, None, length as length', map, slice_index_or, option_map, OnOk, IsOk, IsNone, IfOk, IfErr, IfSome, IsTrue, MatchOption};
+ghost use Rattle.std.specs.Prelude.{◌≡◌, ◌+◌, ◌≤◌, ◌<◌, ◌↔◌, [], ◌∷◌, Bool, Option, Some, None, length, map, slice_index_or, option_map, OnOk, IsOk, IsNone, IfOk, IfErr, IfSome, IsTrue, MatchOption};
 ghost use Rattle.std.specs.Bool.{beq};
 ghost use Rattle.std.specs.Cmp.{partial_equiv_from_equiv, bool_eq_equiv, on_equiv};
 ghost use Rattle.std.specs.Cmp.Lexicographic.{pointwise, lists_equiv, options_equiv};
@@ -74,18 +74,18 @@ impl BooleanArray {
     pub fn try_new(values: Bitmap, validity: Option<Bitmap>) -> Result<BooleanArray>
         ensures ok { IfOk result (λ a. a ≡ record {
           values = values;
-          validity = record { len = length' (items_of values); bitmap = validity };
+          validity = record { len = length (items_of values); bitmap = validity };
         }) }
         ensures items { IfOk result (λ a. MatchOption validity
             (boolean_items a ≡ map (λ value. Some value) (items_of values))
             (λ v. boolean_items a ≡ zipped (items_of values) (items_of v))) }
-        ensures len { IfOk result (λ a. length' (boolean_items a) ≡ length' (items_of values)) }
-        ensures accepted { IsOk result ↔ ForSome validity (λ v. length' (items_of v)
-            ≡ length' (items_of values)) }
+        ensures len { IfOk result (λ a. length (boolean_items a) ≡ length (items_of values)) }
+        ensures accepted { IsOk result ↔ ForSome validity (λ v. length (items_of v)
+            ≡ length (items_of values)) }
         ensures refused { ForSome validity (λ v.
             IfErr result (λ e.
             IsInvalidArgumentOrOutOfMemory e
-            (unequal_lengths_message (length' (items_of v)) (length' (items_of values))))) }
+            (unequal_lengths_message (length (items_of v)) (length (items_of values))))) }
     {
         let validity = Validity::try_new(values.len(), validity)?;
         Ok(BooleanArray { values, validity })
@@ -94,15 +94,15 @@ impl BooleanArray {
     /// Returns the array of these values, each null where the validity is false. Without a validity none is null.
     /// Requires that the validity has the length of the values, where arrow2 panics. Does not allocate.
     pub fn new(values: Bitmap, validity: Option<Bitmap>) -> BooleanArray
-        requires same_length { ForSome validity (λ v. length' (items_of v) ≡ length' (items_of values)) }
+        requires same_length { ForSome validity (λ v. length (items_of v) ≡ length (items_of values)) }
         ensures value { result ≡ record {
           values = values;
-          validity = record { len = length' (items_of values); bitmap = validity };
+          validity = record { len = length (items_of values); bitmap = validity };
         } }
         ensures items { MatchOption validity
             (boolean_items result ≡ map (λ value. Some value) (items_of values))
             (λ v. boolean_items result ≡ zipped (items_of values) (items_of v)) }
-        ensures len { length' (boolean_items result) ≡ length' (items_of values) }
+        ensures len { length (boolean_items result) ≡ length (items_of values) }
     {
         let validity = Validity::new(values.len(), validity);
         BooleanArray { values, validity }
@@ -111,7 +111,7 @@ impl BooleanArray {
     /// Returns the array of these values, each null where the validity has an unset bit. Requires that both have equal
     /// lengths. Does not allocate. arrow2 has no such call.
     pub fn from_parts(values: Bitmap, validity: Validity) -> BooleanArray
-        requires same_length { length' (valid_items validity) ≡ length' (items_of values) }
+        requires same_length { length (valid_items validity) ≡ length (items_of values) }
         ensures { result ≡ record { values = values; validity = validity } }
     {
         BooleanArray { values, validity }
@@ -142,23 +142,23 @@ impl BooleanArray {
 
     /// Returns the number of items, nulls too.
     pub fn len(&self) -> usize
-        ensures items { result ≡ length' (boolean_items self.now) }
-        ensures values { result ≡ length' (items_of self.now.values) }
-        ensures validity { result ≡ length' (valid_items self.now.validity) }
+        ensures items { result ≡ length (boolean_items self.now) }
+        ensures values { result ≡ length (items_of self.now.values) }
+        ensures validity { result ≡ length (valid_items self.now.validity) }
     {
         self.values.len()
     }
 
     /// Returns whether it has no item.
     pub fn is_empty(&self) -> bool
-        ensures { IsTrue result ↔ (length' (boolean_items self.now) ≡ 0) }
+        ensures { IsTrue result ↔ (length (boolean_items self.now) ≡ 0) }
     {
         self.len() == 0
     }
 
     /// Returns item `index`, or `None` where it is null. Requires that it is below the length, where arrow2 panics.
     pub fn get(&self, index: usize) -> Option<bool>
-        requires below { index < length' (boolean_items self.now) }
+        requires below { index < length (boolean_items self.now) }
         ensures { result ≡ slice_index_or (boolean_items self.now) index None }
     {
         let value = self.values.get_bit(index);
@@ -167,7 +167,7 @@ impl BooleanArray {
 
     /// Returns the value at `index`, also under a null. Requires that it is below the length, where arrow2 panics.
     pub fn value(&self, index: usize) -> bool
-        requires below { index < length' (boolean_items self.now) }
+        requires below { index < length (boolean_items self.now) }
         ensures { slice_get (items_of self.now.values) index ≡ Some result }
     {
         self.values.get_bit(index)
@@ -175,7 +175,7 @@ impl BooleanArray {
 
     /// Returns whether item `index` is not null. Requires that it is below the length.
     pub fn is_valid(&self, index: usize) -> bool
-        requires below { index < length' (boolean_items self.now) }
+        requires below { index < length (boolean_items self.now) }
         ensures { result ≡ is_some (slice_index_or (boolean_items self.now) index None) }
     {
         self.validity.is_valid(index)
@@ -183,7 +183,7 @@ impl BooleanArray {
 
     /// Returns whether item `index` is null. Requires that it is below the length.
     pub fn is_null(&self, index: usize) -> bool
-        requires below { index < length' (boolean_items self.now) }
+        requires below { index < length (boolean_items self.now) }
         ensures { result ≡ is_none (slice_index_or (boolean_items self.now) index None) }
     {
         !self.is_valid(index)
@@ -194,7 +194,7 @@ impl BooleanArray {
         ensures value { result.now ≡ self.now.values }
         ensures items { zipped (items_of result.now) (map is_some (boolean_items self.now))
             ≡ boolean_items self.now }
-        ensures len { length' (items_of result.now) ≡ length' (boolean_items self.now) }
+        ensures len { length (items_of result.now) ≡ length (boolean_items self.now) }
     {
         &self.values
     }
@@ -213,7 +213,7 @@ impl BooleanArray {
     pub fn optional_validity(&self) -> &Validity
         ensures value { result.now ≡ self.now.validity }
         ensures items { valid_items result.now ≡ map is_some (boolean_items self.now) }
-        ensures len { length' (valid_items result.now) ≡ length' (boolean_items self.now) }
+        ensures len { length (valid_items result.now) ≡ length (boolean_items self.now) }
         ensures zipped { zipped (items_of self.now.values) (valid_items result.now)
             ≡ boolean_items self.now }
     {
@@ -227,27 +227,27 @@ impl BooleanArray {
         self.validity.null_count()
     }
 
-    /// Keeps `length` items from item `offset` on, over the same bytes. Requires that they are inside. Does not
+    /// Keeps `len` items from item `offset` on, over the same bytes. Requires that they are inside. Does not
     /// allocate.
-    pub fn slice(&mut self, offset: usize, length: usize)
-        requires inside { offset + length ≤ length' (boolean_items self.old) }
-        ensures items { boolean_items self.new ≡ part (boolean_items self.old) offset length }
-        ensures len { length' (boolean_items self.new) ≡ length }
-        ensures storage { self.new ≡ sliced_boolean self.old offset length }
+    pub fn slice(&mut self, offset: usize, len: usize)
+        requires inside { offset + len ≤ length (boolean_items self.old) }
+        ensures items { boolean_items self.new ≡ part (boolean_items self.old) offset len }
+        ensures len { length (boolean_items self.new) ≡ len }
+        ensures storage { self.new ≡ sliced_boolean self.old offset len }
     {
-        self.values.slice(offset, length);
-        self.validity.slice(offset, length);
+        self.values.slice(offset, len);
+        self.validity.slice(offset, len);
     }
 
-    /// Returns the `length` items from item `offset` on, over the same bytes. Requires that they are inside. Does not
+    /// Returns the `len` items from item `offset` on, over the same bytes. Requires that they are inside. Does not
     /// allocate.
-    pub fn sliced(mut self, offset: usize, length: usize) -> BooleanArray
-        requires inside { offset + length ≤ length' (boolean_items self) }
-        ensures items { boolean_items result ≡ part (boolean_items self) offset length }
-        ensures len { length' (boolean_items result) ≡ length }
-        ensures storage { result ≡ sliced_boolean self offset length }
+    pub fn sliced(mut self, offset: usize, len: usize) -> BooleanArray
+        requires inside { offset + len ≤ length (boolean_items self) }
+        ensures items { boolean_items result ≡ part (boolean_items self) offset len }
+        ensures len { length (boolean_items result) ≡ len }
+        ensures storage { result ≡ sliced_boolean self offset len }
     {
-        self.slice(offset, length);
+        self.slice(offset, len);
         self
     }
 
@@ -255,15 +255,15 @@ impl BooleanArray {
     /// arrow2 panics. Does not allocate.
     pub fn with_validity(self, validity: Option<Bitmap>) -> BooleanArray
         requires same_length { ForSome validity (λ v.
-            length' (items_of v) ≡ length' (items_of self.values)) }
+            length (items_of v) ≡ length (items_of self.values)) }
         ensures value { result ≡ record {
           values = self.values;
-          validity = record { len = length' (items_of self.values); bitmap = validity };
+          validity = record { len = length (items_of self.values); bitmap = validity };
         } }
         ensures items { MatchOption validity
             (boolean_items result ≡ map (λ value. Some value) (items_of self.values))
             (λ v. boolean_items result ≡ zipped (items_of self.values) (items_of v)) }
-        ensures len { length' (boolean_items result) ≡ length' (boolean_items self) }
+        ensures len { length (boolean_items result) ≡ length (boolean_items self) }
     {
         BooleanArray::new(self.values, validity)
     }
@@ -274,8 +274,8 @@ impl BooleanArray {
     pub fn into_inner(self) -> (Bitmap, Option<Bitmap>)
         ensures values { result.0 ≡ self.values }
         ensures validity { result.1 ≡ self.validity.bitmap }
-        ensures len { length' (items_of result.0) ≡ length' (boolean_items self) }
-        ensures same_length { ForSome result.1 (λ v. length' (items_of v) ≡ length' (items_of result.0)) }
+        ensures len { length (items_of result.0) ≡ length (boolean_items self) }
+        ensures same_length { ForSome result.1 (λ v. length (items_of v) ≡ length (items_of result.0)) }
     {
         (self.values, self.validity.into_bitmap())
     }
@@ -296,11 +296,11 @@ impl BooleanArray {
     ///
     /// `OutOfMemory` alone.
     pub fn and_kleene(&self, other: &BooleanArray) -> Result<BooleanArray>
-        requires same_length { length' (boolean_items self.now) ≡ length' (boolean_items other.now) }
+        requires same_length { length (boolean_items self.now) ≡ length (boolean_items other.now) }
         // The result, item by item.
         ensures items { IfOk result (λ a.
             boolean_items a ≡ by_items kleene_and (boolean_items self.now) (boolean_items other.now)) }
-        ensures len { IfOk result (λ a. length' (boolean_items a) ≡ length' (boolean_items self.now)) }
+        ensures len { IfOk result (λ a. length (boolean_items a) ≡ length (boolean_items self.now)) }
         // Its two parts: the values, also under nulls, and the validity.
         ensures values { IfOk result (λ a. items_of a.values
             ≡ each 8 (items_of self.now.values ∷ items_of other.now.values ∷ [])) }
@@ -326,11 +326,11 @@ impl BooleanArray {
     ///
     /// `OutOfMemory` alone.
     pub fn or_kleene(&self, other: &BooleanArray) -> Result<BooleanArray>
-        requires same_length { length' (boolean_items self.now) ≡ length' (boolean_items other.now) }
+        requires same_length { length (boolean_items self.now) ≡ length (boolean_items other.now) }
         // The result, item by item.
         ensures items { IfOk result (λ a.
             boolean_items a ≡ by_items kleene_or (boolean_items self.now) (boolean_items other.now)) }
-        ensures len { IfOk result (λ a. length' (boolean_items a) ≡ length' (boolean_items self.now)) }
+        ensures len { IfOk result (λ a. length (boolean_items a) ≡ length (boolean_items self.now)) }
         // Its two parts: the values, also under nulls, and the validity.
         ensures values { IfOk result (λ a. items_of a.values
             ≡ each 14 (items_of self.now.values ∷ items_of other.now.values ∷ [])) }
@@ -349,11 +349,11 @@ impl BooleanArray {
 
     /// Returns the result of the operator for both, item by item: by its tables.
     fn by_operator(&self, operator: Operator, other: &BooleanArray) -> Result<BooleanArray>
-        requires same_length { length' (boolean_items self.now) ≡ length' (boolean_items other.now) }
+        requires same_length { length (boolean_items self.now) ≡ length (boolean_items other.now) }
         // The result, item by item.
         ensures items { IfOk result (λ a. boolean_items a
             ≡ by_items (kleene operator) (boolean_items self.now) (boolean_items other.now)) }
-        ensures len { IfOk result (λ a. length' (boolean_items a) ≡ length' (boolean_items self.now)) }
+        ensures len { IfOk result (λ a. length (boolean_items a) ≡ length (boolean_items self.now)) }
         // Its two parts: the values, also under nulls, and the validity.
         ensures values { IfOk result (λ a. items_of a.values
             ≡ each (values_table operator) (items_of self.now.values ∷ items_of other.now.values ∷ [])) }
@@ -422,15 +422,9 @@ impl Eq for BooleanArray {
     ghost laws = { on_equiv boolean_items (lists_equiv (options_equiv bool_eq_equiv)) };
 }
 
-/// Returns whether two iterators of equal length yield the same items.
+/// Returns whether two iterators yield the same items.
 fn same_items(items: BooleanIter<'_>, others: BooleanIter<'_>) -> bool
-    requires same_length { length' items ≡ length' others }
     ensures { result ≡ pointwise (option_eq beq) items.entry others.entry }
 {
-    for (item, other) in items.zip(others) {
-        if item != other {
-            return false;
-        }
-    }
-    true
+    items.eq(others)
 }

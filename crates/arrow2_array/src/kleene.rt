@@ -1,5 +1,5 @@
 //! Which results of Kleene's logic are known, by truth tables.
-ghost use Rattle.std.specs.Prelude.{◌≡◌, ◌↔◌, [], ◌∷◌, length as length', Some, IsNone, IfOk, IfErr};
+ghost use Rattle.std.specs.Prelude.{◌≡◌, ◌↔◌, [], ◌∷◌, length, Some, IsNone, IfOk, IfErr};
 ghost use Rattle.arrow2_model.specs.Storage.{items_of};
 ghost use Rattle.arrow2_model.specs.Tables.{each};
 ghost use Rattle.arrow2_validity.specs.OptionalValidity.{valid_items};
@@ -83,14 +83,14 @@ pub(crate) fn validity_by(
     right_validity: &Validity,
 ) -> Result<Validity>
     // All four have equal lengths.
-    requires same_length { length' (items_of left.now) ≡ length' (items_of right.now) }
-    requires left_length { length' (valid_items left_validity.now) ≡ length' (items_of left.now) }
-    requires right_length { length' (valid_items right_validity.now) ≡ length' (items_of right.now) }
+    requires same_length { length (items_of left.now) ≡ length (items_of right.now) }
+    requires left_length { length (valid_items left_validity.now) ≡ length (items_of left.now) }
+    requires right_length { length (valid_items right_validity.now) ≡ length (items_of right.now) }
     // Which results are not null.
     ensures items { IfOk result (λ v. valid_items v
         ≡ each (known_table operator) (items_of left.now ∷ valid_items left_validity.now
         ∷ items_of right.now ∷ valid_items right_validity.now ∷ [])) }
-    ensures len { IfOk result (λ v. length' (valid_items v) ≡ length' (items_of left.now)) }
+    ensures len { IfOk result (λ v. length (valid_items v) ≡ length (items_of left.now)) }
     // It has no bitmap exactly where neither input has one.
     ensures bitmap { IfOk result (λ v. IsNone v.bitmap
         ↔ (IsNone left_validity.now.bitmap × IsNone right_validity.now.bitmap)) }
@@ -113,7 +113,7 @@ pub(crate) fn validity_by(
 /// Returns the validity of this bitmap, whose length it is.
 #[tactic(auto, using(arrow2_validity::proofs::ValidItems::validities))]
 fn known_by(len: usize, known: Bitmap) -> Validity
-    requires same_length { length' (items_of known) ≡ len }
+    requires same_length { length (items_of known) ≡ len }
     ensures items { valid_items result ≡ items_of known }
     ensures bitmap { result.bitmap ≡ Some known }
 {

@@ -78,8 +78,7 @@ pub fn unary_assign_table<W: BitChunk>(bitmap: &mut MutableBitmap, t: u8)
 /// `lhs` and `rhs` as 0 or 1. Reads the four lowest bits of `t`. Requires that both have equal lengths. Does not
 /// allocate.
 ///
-/// Goes by 32 bytes at a time where `rhs` begins at a whole byte, else by words of `W`. The list is the same for each
-/// `W`.
+/// Goes by 32 bytes at a time where `rhs` begins at a whole byte, else by words of `W`. The items do not depend on `W`.
 ///
 /// arrow2 has no such call.
 #[inline(always)]

@@ -1,5 +1,5 @@
 //! New bitmaps from word functions and truth tables, and the operators on shared bitmaps.
-ghost use Rattle.std.specs.Prelude.{◌≡◌, ℕ, List, Bool, [], ◌∷◌, length as length', replicate, IfOk, IfErr, IfSome, IsTrue, MatchResult, ◌⊎◌};
+ghost use Rattle.std.specs.Prelude.{◌≡◌, ℕ, List, Bool, [], ◌∷◌, length, replicate, IfOk, IfErr, IfSome, IsTrue, MatchResult, ◌⊎◌};
 ghost use Rattle.arrow2_model.specs.Kernels.{joined, kernel, unary_kernel, binary_kernel, ComputesUnary, ComputesBinary};
 ghost use Rattle.arrow2_model.specs.Storage.{items_of};
 ghost use Rattle.arrow2_model.specs.Tables.{each, IsBitwiseUnary, IsBitwiseBinary};
@@ -21,8 +21,8 @@ use std::alloc::Global;
 use std::convert::TryFrom;
 use std::ops::{BitAnd, BitOr, BitXor, Not};
 
-/// Applies `op` to each row of words, and returns a bitmap of the first `length` bits of the results. A row is the
-/// words at one index of several lists. Requires that all lists have `length` items, and that the `requires` of `op`
+/// Applies `op` to each row of words, and returns a bitmap of the first `len` bits of the results. A row is the
+/// words at one index of several lists. Requires that all lists have `len` items, and that the `requires` of `op`
 /// holds for every row.
 ///
 /// arrow2 has no such call.
@@ -32,41 +32,41 @@ use std::ops::{BitAnd, BitOr, BitXor, Not};
 /// `OutOfMemory` alone.
 pub fn from_rows<S: WordRows<u64>, F: Fn(S::Row) -> u64>(
     alloc: Global,
-    length: usize,
+    len: usize,
     rows: S,
     op: F,
 ) -> Result<Bitmap>
-    // `op` accepts each row, and each list of `rows` has `length` items.
+    // `op` accepts each row, and each list of `rows` has `len` items.
     requires callable { F.IsAlwaysCallable op }
     requires alike { S.alike rows }
-    requires length { S.length rows ≡ length }
+    requires len { S.len rows ≡ len }
     // For every word function `f` that `op` computes: the items are the bits of its results for the rows in their
-    // order, cut to `length`. Where the rows are those of `lists`, the items are `kernel 64 f lists`.
+    // order, cut to `len`. Where the rows are those of `lists`, the items are `kernel 64 f lists`.
     ensures items { (f : List ℕ → ℕ) → ComputesRows 64 S.words (λ x. x) (F.post op) f →
-        IfOk result (λ b. items_of b ≡ joined 64 (λ j. f (S.row_at rows j)) length) }
+        IfOk result (λ b. items_of b ≡ joined 64 (λ j. f (S.row_at rows j)) len) }
     ensures kernel { (f : List ℕ → ℕ) (lists : List (List Bool)) →
         ComputesRows 64 S.words (λ x. x) (F.post op) f →
-        AreRowsOf 64 lists (S.row_at rows) length →
+        AreRowsOf 64 lists (S.row_at rows) len →
         IfOk result (λ b. items_of b ≡ kernel 64 f lists) }
     // For every table `t` by which `op` acts on each bit: the outputs of `t` for the lists.
     ensures table { (t : ℕ) (lists : List (List Bool)) →
-        IsBitwiseOnRows 64 S.words (λ x. x) (F.post op) t → AreRowsOf 64 lists (S.row_at rows) length →
+        IsBitwiseOnRows 64 S.words (λ x. x) (F.post op) t → AreRowsOf 64 lists (S.row_at rows) len →
         IfOk result (λ b. items_of b ≡ each t lists) }
     // It is stored in canonical bytes, and the only error is `OutOfMemory`.
-    ensures len { IfOk result (λ b. length' (items_of b) ≡ length) }
+    ensures len { IfOk result (λ b. length (items_of b) ≡ len) }
     ensures storage { IfOk result (λ b. IsPacked b) }
     ensures only { IfErr result (λ e. e ≡ Error.OutOfMemory) }
 {
-    let bytes = map_rows(alloc, length, rows, op)?;
-    prove!(bytes_for(length) <= bytes.len());
-    Bitmap::from_u8_vec(bytes, length)
+    let bytes = map_rows(alloc, len, rows, op)?;
+    prove!(bytes_for(len) <= bytes.len());
+    Bitmap::from_u8_vec(bytes, len)
 }
 
 /// Returns the bitmap of the results of `op` for each word of 64 items. The last word is padded with false. Requires
 /// that the `requires` of `op` holds for every word.
 ///
-/// Differs from arrow2: padding bits don't reach `op`, nor does a word that begins after the last item. It returns no
-/// `Result`.
+/// Differs from arrow2: padding bits don't reach `op`, nor does a word that begins after the last item. arrow2's
+/// `unary` returns no `Result`.
 ///
 /// # Errors
 ///
@@ -80,7 +80,7 @@ pub fn unary<F: Fn(u64) -> u64>(lhs: &Bitmap, op: F) -> Result<Bitmap>
     ensures table { (t : ℕ) → IsBitwiseUnary 64 (λ x. x) (F.post op) t →
         IfOk result (λ b. items_of b ≡ each t (items_of lhs.now ∷ [])) }
     // It is stored in canonical bytes, and the only error is `OutOfMemory`.
-    ensures len { IfOk result (λ b. length' (items_of b) ≡ length' (items_of lhs.now)) }
+    ensures len { IfOk result (λ b. length (items_of b) ≡ length (items_of lhs.now)) }
     ensures storage { IfOk result (λ b. IsPacked b) }
     ensures only { IfErr result (λ e. e ≡ Error.OutOfMemory) }
 {
@@ -98,15 +98,15 @@ pub fn unary<F: Fn(u64) -> u64>(lhs: &Bitmap, op: F) -> Result<Bitmap>
 /// Returns the bitmap of the results of `op` for each two words of 64 items at one index. The last words are padded
 /// with false. Requires equal lengths, and that the `requires` of `op` holds for every two words.
 ///
-/// Differs from arrow2: padding bits don't reach `op`, nor do words that begin after the last item. It returns no
-/// `Result`.
+/// Differs from arrow2: padding bits don't reach `op`, nor do words that begin after the last item. arrow2's `binary`
+/// returns no `Result`.
 ///
 /// # Errors
 ///
 /// `OutOfMemory` alone.
 pub fn binary<F: Fn(u64, u64) -> u64>(lhs: &Bitmap, rhs: &Bitmap, op: F) -> Result<Bitmap>
     requires callable { F.IsAlwaysCallable op }
-    requires same_length { length' (items_of lhs.now) ≡ length' (items_of rhs.now) }
+    requires same_length { length (items_of lhs.now) ≡ length (items_of rhs.now) }
     // For every word function `f` that `op` computes.
     ensures kernel { (f : ℕ → ℕ → ℕ) → ComputesBinary 64 (λ x. x) (F.post op) f →
         IfOk result (λ b. items_of b ≡ binary_kernel 64 f (items_of lhs.now) (items_of rhs.now)) }
@@ -114,7 +114,7 @@ pub fn binary<F: Fn(u64, u64) -> u64>(lhs: &Bitmap, rhs: &Bitmap, op: F) -> Resu
     ensures table { (t : ℕ) → IsBitwiseBinary 64 (λ x. x) (F.post op) t →
         IfOk result (λ b. items_of b ≡ each t (items_of lhs.now ∷ items_of rhs.now ∷ [])) }
     // It is stored in canonical bytes, and the only error is `OutOfMemory`.
-    ensures len { IfOk result (λ b. length' (items_of b) ≡ length' (items_of lhs.now)) }
+    ensures len { IfOk result (λ b. length (items_of b) ≡ length (items_of lhs.now)) }
     ensures storage { IfOk result (λ b. IsPacked b) }
     ensures only { IfErr result (λ e. e ≡ Error.OutOfMemory) }
 {
@@ -143,7 +143,7 @@ pub fn binary<F: Fn(u64, u64) -> u64>(lhs: &Bitmap, rhs: &Bitmap, op: F) -> Resu
 #[inline(always)]
 pub fn unary_table(lhs: &Bitmap, t: u8) -> Result<Bitmap>
     ensures items { IfOk result (λ b. items_of b ≡ each t (items_of lhs.now ∷ [])) }
-    ensures len { IfOk result (λ b. length' (items_of b) ≡ length' (items_of lhs.now)) }
+    ensures len { IfOk result (λ b. length (items_of b) ≡ length (items_of lhs.now)) }
     ensures storage { IfOk result (λ b. IsPacked b) }
     ensures only { IfErr result (λ e. e ≡ Error.OutOfMemory) }
 {
@@ -168,10 +168,10 @@ pub fn unary_table(lhs: &Bitmap, t: u8) -> Result<Bitmap>
 /// `OutOfMemory` alone.
 #[inline(always)]
 pub fn binary_table(lhs: &Bitmap, rhs: &Bitmap, t: u8) -> Result<Bitmap>
-    requires same_length { length' (items_of lhs.now) ≡ length' (items_of rhs.now) }
+    requires same_length { length (items_of lhs.now) ≡ length (items_of rhs.now) }
     ensures items { IfOk result (λ b. items_of b
         ≡ each t (items_of lhs.now ∷ items_of rhs.now ∷ [])) }
-    ensures len { IfOk result (λ b. length' (items_of b) ≡ length' (items_of lhs.now)) }
+    ensures len { IfOk result (λ b. length (items_of b) ≡ length (items_of lhs.now)) }
     ensures storage { IfOk result (λ b. IsPacked b) }
     ensures only { IfErr result (λ e. e ≡ Error.OutOfMemory) }
 {
@@ -192,10 +192,10 @@ pub fn binary_table(lhs: &Bitmap, rhs: &Bitmap, t: u8) -> Result<Bitmap>
 ///
 /// `OutOfMemory` alone.
 pub fn and(lhs: &Bitmap, rhs: &Bitmap) -> Result<Bitmap>
-    requires same_length { length' (items_of lhs.now) ≡ length' (items_of rhs.now) }
+    requires same_length { length (items_of lhs.now) ≡ length (items_of rhs.now) }
     ensures items { IfOk result (λ b. items_of b
         ≡ each 8 (items_of lhs.now ∷ items_of rhs.now ∷ [])) }
-    ensures len { IfOk result (λ b. length' (items_of b) ≡ length' (items_of lhs.now)) }
+    ensures len { IfOk result (λ b. length (items_of b) ≡ length (items_of lhs.now)) }
     ensures storage { IfOk result (λ b. IsPacked b) }
     ensures only { IfErr result (λ e. e ≡ Error.OutOfMemory) }
 {
@@ -212,10 +212,10 @@ pub fn and(lhs: &Bitmap, rhs: &Bitmap) -> Result<Bitmap>
 ///
 /// `OutOfMemory` alone.
 pub fn or(lhs: &Bitmap, rhs: &Bitmap) -> Result<Bitmap>
-    requires same_length { length' (items_of lhs.now) ≡ length' (items_of rhs.now) }
+    requires same_length { length (items_of lhs.now) ≡ length (items_of rhs.now) }
     ensures items { IfOk result (λ b. items_of b
         ≡ each 14 (items_of lhs.now ∷ items_of rhs.now ∷ [])) }
-    ensures len { IfOk result (λ b. length' (items_of b) ≡ length' (items_of lhs.now)) }
+    ensures len { IfOk result (λ b. length (items_of b) ≡ length (items_of lhs.now)) }
     ensures storage { IfOk result (λ b. IsPacked b) }
     ensures only { IfErr result (λ e. e ≡ Error.OutOfMemory) }
 {
@@ -232,10 +232,10 @@ pub fn or(lhs: &Bitmap, rhs: &Bitmap) -> Result<Bitmap>
 ///
 /// `OutOfMemory` alone.
 pub fn xor(lhs: &Bitmap, rhs: &Bitmap) -> Result<Bitmap>
-    requires same_length { length' (items_of lhs.now) ≡ length' (items_of rhs.now) }
+    requires same_length { length (items_of lhs.now) ≡ length (items_of rhs.now) }
     ensures items { IfOk result (λ b. items_of b
         ≡ each 6 (items_of lhs.now ∷ items_of rhs.now ∷ [])) }
-    ensures len { IfOk result (λ b. length' (items_of b) ≡ length' (items_of lhs.now)) }
+    ensures len { IfOk result (λ b. length (items_of b) ≡ length (items_of lhs.now)) }
     ensures storage { IfOk result (λ b. IsPacked b) }
     ensures only { IfErr result (λ e. e ≡ Error.OutOfMemory) }
 {
@@ -251,7 +251,7 @@ pub fn xor(lhs: &Bitmap, rhs: &Bitmap) -> Result<Bitmap>
 impl<'a, 'b> BitAnd<&'b Bitmap> for &'a Bitmap {
     type Output = Result<Bitmap>;
 
-    ghost can_bitand = { λ a b. length' (items_of a.now) ≡ length' (items_of b.now) };
+    ghost can_bitand = { λ a b. length (items_of a.now) ≡ length (items_of b.now) };
 
     ghost bitand_gives = { λ a b r. MatchResult r (λ m. IsPacked m × (items_of m
         ≡ each 8 (items_of a.now ∷ items_of b.now ∷ []))) (λ e. e ≡ OutOfMemory) };
@@ -265,7 +265,7 @@ impl<'a, 'b> BitAnd<&'b Bitmap> for &'a Bitmap {
 impl<'a, 'b> BitOr<&'b Bitmap> for &'a Bitmap {
     type Output = Result<Bitmap>;
 
-    ghost can_bitor = { λ a b. length' (items_of a.now) ≡ length' (items_of b.now) };
+    ghost can_bitor = { λ a b. length (items_of a.now) ≡ length (items_of b.now) };
 
     ghost bitor_gives = { λ a b r. MatchResult r (λ m. IsPacked m × (items_of m
         ≡ each 14 (items_of a.now ∷ items_of b.now ∷ []))) (λ e. e ≡ OutOfMemory) };
@@ -279,7 +279,7 @@ impl<'a, 'b> BitOr<&'b Bitmap> for &'a Bitmap {
 impl<'a, 'b> BitXor<&'b Bitmap> for &'a Bitmap {
     type Output = Result<Bitmap>;
 
-    ghost can_bitxor = { λ a b. length' (items_of a.now) ≡ length' (items_of b.now) };
+    ghost can_bitxor = { λ a b. length (items_of a.now) ≡ length (items_of b.now) };
 
     ghost bitxor_gives = { λ a b r. MatchResult r (λ m. IsPacked m × (items_of m
         ≡ each 6 (items_of a.now ∷ items_of b.now ∷ []))) (λ e. e ≡ OutOfMemory) };
@@ -312,8 +312,8 @@ fn complement(bitmap: &Bitmap) -> Result<Bitmap>
 
 /// Returns whether the items of one of the two are all `value`. Reads no bits.
 fn one_is_all(lhs: &Bitmap, rhs: &Bitmap, value: bool) -> bool
-    ensures { IsTrue result → (items_of lhs.now ≡ replicate (length' (items_of lhs.now)) value)
-        ⊎ (items_of rhs.now ≡ replicate (length' (items_of rhs.now)) value) }
+    ensures { IsTrue result → (items_of lhs.now ≡ replicate (length (items_of lhs.now)) value)
+        ⊎ (items_of rhs.now ≡ replicate (length (items_of rhs.now)) value) }
 {
     are_all(lhs, value) || are_all(rhs, value)
 }
@@ -322,7 +322,7 @@ fn one_is_all(lhs: &Bitmap, rhs: &Bitmap, value: bool) -> bool
 #[tactic(auto, using(crate::proofs::Constant::constant))]
 pub(crate) fn are_all(bitmap: &Bitmap, value: bool) -> bool
     ensures { IsTrue result → items_of bitmap.now
-        ≡ replicate (length' (items_of bitmap.now)) value }
+        ≡ replicate (length (items_of bitmap.now)) value }
 {
     if value {
         bitmap.unset_bits() == 0
@@ -334,7 +334,7 @@ pub(crate) fn are_all(bitmap: &Bitmap, value: bool) -> bool
 /// Returns the value that all items have, if they have one. The number of unset bits is stored, so it reads no bits.
 fn value_of_all(bitmap: &Bitmap) -> Option<bool>
     ensures { IfSome result (λ value. items_of bitmap.now
-        ≡ replicate (length' (items_of bitmap.now)) value) }
+        ≡ replicate (length (items_of bitmap.now)) value) }
 {
     if are_all(bitmap, false) {
         Some(false)
@@ -345,15 +345,15 @@ fn value_of_all(bitmap: &Bitmap) -> Option<bool>
     }
 }
 
-/// Returns `length` items, all of them `value`.
-fn filled(alloc: Global, length: usize, value: bool) -> Result<Bitmap>
-    ensures items { IfOk result (λ b. items_of b ≡ replicate length value) }
+/// Returns `len` items, all of them `value`.
+fn filled(alloc: Global, len: usize, value: bool) -> Result<Bitmap>
+    ensures items { IfOk result (λ b. items_of b ≡ replicate len value) }
     ensures storage { IfOk result (λ b. IsPacked b) }
     ensures only { IfErr result (λ e. e ≡ Error.OutOfMemory) }
 {
     if value {
-        Bitmap::try_from(MutableBitmap::from_len_set(alloc, length)?)
+        Bitmap::try_from(MutableBitmap::from_len_set(alloc, len)?)
     } else {
-        Bitmap::new_zeroed(alloc, length)
+        Bitmap::new_zeroed(alloc, len)
     }
 }

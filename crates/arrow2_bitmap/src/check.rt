@@ -7,30 +7,30 @@ use arrow2_types::error::{Error, Result};
 use std::alloc::{AllocError, Global};
 
 /// Returns an error for a length in bits above eight times the number of bytes, with a text about `subject`.
-pub(crate) fn check_length(subject: &str, length: usize, bytes: &Vec<u8>) -> Result<()>
-    ensures accepted { IsOk result ↔ (length ≤ 8 * vec_len bytes.now) }
+pub(crate) fn check_length(subject: &str, len: usize, bytes: &Vec<u8>) -> Result<()>
+    ensures accepted { IsOk result ↔ (len ≤ 8 * vec_len bytes.now) }
     ensures refused { IfErr result (λ e.
-        IsInvalidArgumentOrOutOfMemory e (too_long subject.now length (vec_len bytes.now))) }
+        IsInvalidArgumentOrOutOfMemory e (too_long subject.now len (vec_len bytes.now))) }
 {
-    if length > bytes.len().saturating_mul(8) {
-        let text = refusal(*bytes.allocator(), subject, length, bytes.len())?;
+    if len > bytes.len().saturating_mul(8) {
+        let text = refusal(*bytes.allocator(), subject, len, bytes.len())?;
         return Err(Error::InvalidArgumentError(text));
     }
     Ok(())
 }
 
-/// Returns the text of the error that `length` bits are not inside `bytes` bytes.
+/// Returns the text of the error that `len` bits are not inside `bytes` bytes.
 #[tactic(auto, unfolding(crate::specs::Refusals::too_long))]
 fn refusal(
     alloc: Global,
     subject: &str,
-    length: usize,
+    len: usize,
     bytes: usize,
 ) -> std::result::Result<String, AllocError>
-    ensures { IfOk result (λ text. string_bytes text ≡ too_long subject.now length bytes) }
+    ensures { IfOk result (λ text. string_bytes text ≡ too_long subject.now len bytes) }
 {
     let bits = bytes.saturating_mul(8);
     format!(in alloc;
-        "{subject} of the bitmap ({length}) must be `<=` to the number of bytes times 8 ({bits})"
+        "{subject} of the bitmap ({len}) must be `<=` to the number of bytes times 8 ({bits})"
     )
 }

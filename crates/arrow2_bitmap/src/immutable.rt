@@ -1,5 +1,5 @@
 //! A bitmap over shared bytes.
-ghost use Rattle.std.specs.Prelude.{◌≡◌, ℕ, List, Bool, map, ◌+◌, ◌*◌, ◌/◌, ◌%◌, ◌<◌, ◌≤◌, ◌↔◌, [], false, length, length as length', replicate, slice_index_or, take, OnOk, IfOk, IfErr, IsTrue, Some, MatchResult, vec_len, codes, IsErrOf, ◌^◌, ◌⊎◌};
+ghost use Rattle.std.specs.Prelude.{◌≡◌, ℕ, List, Bool, map, ◌+◌, ◌*◌, ◌/◌, ◌%◌, ◌<◌, ◌≤◌, ◌↔◌, [], false, length, replicate, slice_index_or, take, OnOk, IfOk, IfErr, IsTrue, Some, MatchResult, vec_len, codes, IsErrOf, ◌^◌, ◌⊎◌};
 ghost use Rattle.std.specs.Bool.{beq};
 ghost use Rattle.std.specs.Ordering.{on};
 ghost use Rattle.std.specs.Cmp.{partial_equiv_from_equiv, bool_eq_equiv, on_equiv};
@@ -91,63 +91,63 @@ impl Bitmap {
         Bitmap::from_u8_vec(Vec::new(alloc), 0)
     }
 
-    /// Returns a bitmap of the first `length` bits of `bytes`. It keeps the whole vector.
+    /// Returns a bitmap of the first `len` bits of `bytes`. It keeps the whole vector.
     ///
     /// # Errors
     ///
-    /// `InvalidArgumentError` exactly if `length` is above eight times the number of bytes, or `OutOfMemory` if the
+    /// `InvalidArgumentError` exactly if `len` is above eight times the number of bytes, or `OutOfMemory` if the
     /// message cannot be allocated. Otherwise the only error is `OutOfMemory`. After an error the bytes are dropped.
-    pub fn try_new(bytes: Vec<u8>, length: usize) -> Result<Bitmap>
-        ensures accepted { OnOk result (length ≤ 8 * vec_len bytes) }
+    pub fn try_new(bytes: Vec<u8>, len: usize) -> Result<Bitmap>
+        ensures accepted { OnOk result (len ≤ 8 * vec_len bytes) }
         ensures ok { IfOk result (λ b. b ≡ record {
           bytes = bytes.items;
           offset = 0;
-          len = length;
+          len = len;
         }) }
-        ensures items { IfOk result (λ b. items_of b ≡ take length (bits bytes.items)) }
-        ensures len { IfOk result (λ b. length' (items_of b) ≡ length) }
-        ensures refused { 8 * vec_len bytes < length →
+        ensures items { IfOk result (λ b. items_of b ≡ take len (bits bytes.items)) }
+        ensures len { IfOk result (λ b. length (items_of b) ≡ len) }
+        ensures refused { 8 * vec_len bytes < len →
             IfErr result (λ e.
-            IsInvalidArgumentOrOutOfMemory e (too_long (codes "The offset + length") length (vec_len bytes))) }
-        ensures only { length ≤ 8 * vec_len bytes → IfErr result (λ e. e ≡ Error.OutOfMemory) }
+            IsInvalidArgumentOrOutOfMemory e (too_long (codes "The offset + length") len (vec_len bytes))) }
+        ensures only { len ≤ 8 * vec_len bytes → IfErr result (λ e. e ≡ Error.OutOfMemory) }
     {
-        check_length("The offset + length", length, &bytes)?;
-        Bitmap::from_u8_vec(bytes, length)
+        check_length("The offset + length", len, &bytes)?;
+        Bitmap::from_u8_vec(bytes, len)
     }
 
-    /// Returns a bitmap of the first `length` bits of `bytes`. It keeps the whole vector. Requires `length` to be at
+    /// Returns a bitmap of the first `len` bits of `bytes`. It keeps the whole vector. Requires `len` to be at
     /// most eight times the number of bytes; arrow2's documentation has the comparison the other way round.
     ///
     /// # Errors
     ///
     /// `OutOfMemory` alone. The bytes are then dropped.
-    pub fn from_u8_vec(bytes: Vec<u8>, length: usize) -> Result<Bitmap>
-        requires inside { length ≤ 8 * vec_len bytes }
+    pub fn from_u8_vec(bytes: Vec<u8>, len: usize) -> Result<Bitmap>
+        requires inside { len ≤ 8 * vec_len bytes }
         ensures ok { IfOk result (λ b. b ≡ record {
           bytes = bytes.items;
           offset = 0;
-          len = length;
+          len = len;
         }) }
-        ensures items { IfOk result (λ b. items_of b ≡ take length (bits bytes.items)) }
-        ensures len { IfOk result (λ b. length' (items_of b) ≡ length) }
+        ensures items { IfOk result (λ b. items_of b ≡ take len (bits bytes.items)) }
+        ensures len { IfOk result (λ b. length (items_of b) ≡ len) }
         ensures only { IfErr result (λ e. e ≡ Error.OutOfMemory) }
     {
-        prove!(bytes_for(length) <= bytes.len());
-        let unset_bits = count_zeros(bytes.as_slice(), 0, length);
-        Bitmap::from_counted(bytes, length, unset_bits)
+        prove!(bytes_for(len) <= bytes.len());
+        let unset_bits = count_zeros(bytes.as_slice(), 0, len);
+        Bitmap::from_counted(bytes, len, unset_bits)
     }
 
     /// Returns the same, where the number of unset bits is known.
-    pub(crate) fn from_counted(bytes: Vec<u8>, length: usize, unset_bits: usize) -> Result<Bitmap>
-        requires inside { length ≤ 8 * vec_len bytes }
-        requires counted { unset_bits ≡ falses (take length (bits bytes.items)) }
+    pub(crate) fn from_counted(bytes: Vec<u8>, len: usize, unset_bits: usize) -> Result<Bitmap>
+        requires inside { len ≤ 8 * vec_len bytes }
+        requires counted { unset_bits ≡ falses (take len (bits bytes.items)) }
         ensures ok { IfOk result (λ b. b ≡ record {
           bytes = bytes.items;
           offset = 0;
-          len = length;
+          len = len;
         }) }
-        ensures items { IfOk result (λ b. items_of b ≡ take length (bits bytes.items)) }
-        ensures len { IfOk result (λ b. length' (items_of b) ≡ length) }
+        ensures items { IfOk result (λ b. items_of b ≡ take len (bits bytes.items)) }
+        ensures len { IfOk result (λ b. length (items_of b) ≡ len) }
         ensures only { IfErr result (λ e. e ≡ Error.OutOfMemory) }
     {
         let alloc = *bytes.allocator();
@@ -155,43 +155,43 @@ impl Bitmap {
         Ok(Bitmap {
             bytes,
             offset: 0,
-            length,
+            length: len,
             unset_bits,
         })
     }
 
-    /// Returns a bitmap of the first `length` bits of a copy of `bytes`. It keeps the whole copy. Requires `length` to
+    /// Returns a bitmap of the first `len` bits of a copy of `bytes`. It keeps the whole copy. Requires `len` to
     /// be at most eight times the number of bytes; arrow2's documentation has the comparison the other way round.
     ///
     /// # Errors
     ///
     /// `OutOfMemory` alone.
-    pub fn from_u8_slice(alloc: Global, bytes: &[u8], length: usize) -> Result<Bitmap>
-        requires inside { length ≤ 8 * length' bytes.now }
-        ensures ok { IfOk result (λ b. b ≡ record { bytes = bytes.now; offset = 0; len = length }) }
-        ensures items { IfOk result (λ b. items_of b ≡ take length (bits bytes.now)) }
-        ensures len { IfOk result (λ b. length' (items_of b) ≡ length) }
+    pub fn from_u8_slice(alloc: Global, bytes: &[u8], len: usize) -> Result<Bitmap>
+        requires inside { len ≤ 8 * length bytes.now }
+        ensures ok { IfOk result (λ b. b ≡ record { bytes = bytes.now; offset = 0; len = len }) }
+        ensures items { IfOk result (λ b. items_of b ≡ take len (bits bytes.now)) }
+        ensures len { IfOk result (λ b. length (items_of b) ≡ len) }
         ensures only { IfErr result (λ e. e ≡ Error.OutOfMemory) }
     {
-        Bitmap::from_u8_vec(Vec::from_slice(alloc, bytes)?, length)
+        Bitmap::from_u8_vec(Vec::from_slice(alloc, bytes)?, len)
     }
 
-    /// Returns `length` items, all false.
+    /// Returns `len` items, all false.
     ///
     /// # Errors
     ///
     /// `OutOfMemory` alone.
-    pub fn new_zeroed(alloc: Global, length: usize) -> Result<Bitmap>
-        ensures items { IfOk result (λ b. items_of b ≡ replicate length false) }
+    pub fn new_zeroed(alloc: Global, len: usize) -> Result<Bitmap>
+        ensures items { IfOk result (λ b. items_of b ≡ replicate len false) }
         ensures storage { IfOk result (λ b. b ≡ record {
-          bytes = replicate ((length + 7) / 8) 0;
+          bytes = replicate ((len + 7) / 8) 0;
           offset = 0;
-          len = length;
+          len = len;
         }) }
         ensures only { IfErr result (λ e. e ≡ Error.OutOfMemory) }
     {
-        let zeros = vec![in alloc; 0u8; bytes_for(length)]?;
-        Bitmap::from_counted(zeros, length, length)
+        let zeros = vec![in alloc; 0u8; bytes_for(len)]?;
+        Bitmap::from_counted(zeros, len, len)
     }
 
     /// Returns the bitmap of the items.
@@ -229,7 +229,7 @@ impl Bitmap {
         Bitmap::try_from(MutableBitmap::try_from_iter(alloc, iter)?)
     }
 
-    /// Returns the bitmap of the results of `f` for each number below `length`, in order.
+    /// Returns the bitmap of the results of `f` for each number below `len`, in order.
     ///
     /// Packs 64 results at a time. Requires that `f` may be called at each of these numbers. arrow2 has no such call:
     /// it collects an iterator.
@@ -237,24 +237,24 @@ impl Bitmap {
     /// # Errors
     ///
     /// `OutOfMemory` alone.
-    pub fn try_from_fn<F: Fn(usize) -> bool>(alloc: Global, length: usize, f: F) -> Result<Bitmap>
-        requires callable { (index : ℕ) → index < length → F.pre f index }
+    pub fn try_from_fn<F: Fn(usize) -> bool>(alloc: Global, len: usize, f: F) -> Result<Bitmap>
+        requires callable { (index : ℕ) → index < len → F.pre f index }
         // Where `f` computes a function `test`.
-        ensures items { (test : ℕ → Bool) → ReturnsBelow length (F.post f) test →
-            IfOk result (λ b. items_of b ≡ map test (range_with_len 0 length)) }
+        ensures items { (test : ℕ → Bool) → ReturnsBelow len (F.post f) test →
+            IfOk result (λ b. items_of b ≡ map test (range_with_len 0 len)) }
         // For any `f`: each item is a result that the contract of `f` allows at its index.
-        ensures results { IfOk result (λ b. (index : ℕ) → index < length →
+        ensures results { IfOk result (λ b. (index : ℕ) → index < len →
             F.post f index (slice_index_or (items_of b) index false)) }
         // It is stored in canonical bytes, and the only error is `OutOfMemory`.
-        ensures len { IfOk result (λ b. length' (items_of b) ≡ length) }
+        ensures len { IfOk result (λ b. length (items_of b) ≡ len) }
         ensures storage { IfOk result (λ b. IsPacked b) }
         ensures only { IfErr result (λ e. e ≡ Error.OutOfMemory) }
     {
-        let bytes = pack_results(alloc, length, f)?;
-        Bitmap::try_from(MutableBitmap::from_vec(bytes, length))
+        let bytes = pack_results(alloc, len, f)?;
+        Bitmap::try_from(MutableBitmap::from_vec(bytes, len))
     }
 
-    /// Returns the bitmap of the results of `f` for each item, in order: that of a comparison, for example.
+    /// Returns the bitmap whose item i is the result of `f` for item i, of a comparison for example.
     ///
     /// Packs 64 results at a time. Requires that `f` may be called at each item. arrow2 has no such call: it collects
     /// an iterator.
@@ -268,10 +268,10 @@ impl Bitmap {
         ensures items { (test : T → Bool) → ReturnsOnEach items.now (F.post f) test →
             IfOk result (λ b. items_of b ≡ map test items.now) }
         // For any `f`: each item is a result that the contract of `f` allows at its index.
-        ensures results { IfOk result (λ b. (index : ℕ) → index < length' items.now →
+        ensures results { IfOk result (λ b. (index : ℕ) → index < length items.now →
             IsResultAt items.now (F.post f) index (slice_index_or (items_of b) index false)) }
         // It is stored in canonical bytes, and the only error is `OutOfMemory`.
-        ensures len { IfOk result (λ b. length' (items_of b) ≡ length' items.now) }
+        ensures len { IfOk result (λ b. length (items_of b) ≡ length items.now) }
         ensures storage { IfOk result (λ b. IsPacked b) }
         ensures only { IfErr result (λ e. e ≡ Error.OutOfMemory) }
     {
@@ -279,7 +279,7 @@ impl Bitmap {
             alloc,
             items.len(),
             |index|
-                requires inside { index < length' items.now }
+                requires inside { index < length items.now }
                 requires callable { IsCallableWithEach items.now (F.pre f) }
                 ensures { IsResultAt items.entry.now (F.post f) index result }
             { f(&items[index]) },
@@ -300,17 +300,17 @@ impl Bitmap {
         right: &[T],
         f: F,
     ) -> Result<Bitmap>
-        requires same_length { length' left.now ≡ length' right.now }
+        requires same_length { length left.now ≡ length right.now }
         requires callable { IsCallableWithPairs left.now right.now (F.pre f) }
         // Where `f` computes a function `test`.
         ensures items { (test : S → T → Bool) → ReturnsOnPairs left.now right.now (F.post f) test →
             IfOk result (λ b. items_of b ≡ zip2 test left.now right.now) }
         // For any `f`: each item is a result that the contract of `f` allows at its index.
-        ensures results { IfOk result (λ b. (index : ℕ) → index < length' left.now →
+        ensures results { IfOk result (λ b. (index : ℕ) → index < length left.now →
             IsPairResultAt left.now right.now (F.post f) index
             (slice_index_or (items_of b) index false)) }
         // It is stored in canonical bytes, and the only error is `OutOfMemory`.
-        ensures len { IfOk result (λ b. length' (items_of b) ≡ length' left.now) }
+        ensures len { IfOk result (λ b. length (items_of b) ≡ length left.now) }
         ensures storage { IfOk result (λ b. IsPacked b) }
         ensures only { IfErr result (λ e. e ≡ Error.OutOfMemory) }
     {
@@ -318,7 +318,7 @@ impl Bitmap {
             alloc,
             left.len(),
             |index|
-                requires inside { (index < length' left.now) × (index < length' right.now) }
+                requires inside { (index < length left.now) × (index < length right.now) }
                 requires callable { IsCallableWithPairs left.now right.now (F.pre f) }
                 ensures { IsPairResultAt left.entry.now right.entry.now (F.post f) index result }
             { f(&left[index], &right[index]) },
@@ -380,13 +380,13 @@ impl Bitmap {
     }
 
     /// Returns the bytes that hold its items, the bit of the first byte at which the items begin, and the number of
-    /// items. The bit is below 8. An empty bitmap that begins inside a byte gives that byte.
+    /// items. The bit is below 8. For an empty bitmap whose bit is above 0, the bytes are the one byte with that bit.
     pub fn as_slice(&self) -> (&[u8], usize, usize)
         ensures bytes { result.0.now ≡ part self.now.bytes (self.now.offset / 8)
             ((self.now.offset % 8 + self.now.len + 7) / 8) }
         ensures offset { result.1 ≡ self.now.offset % 8 }
         ensures len { result.2 ≡ self.now.len }
-        ensures inside { result.1 + result.2 ≤ 8 * length' result.0.now }
+        ensures inside { result.1 + result.2 ≤ 8 * length result.0.now }
         ensures fits { result.1 + result.2 < 2 ^ 64 }
         ensures items { part (bits result.0.now) result.1 result.2 ≡ items_of self.now }
     {
@@ -401,8 +401,9 @@ impl Bitmap {
     }
 
     /// Returns an iterator over the items by words of `T`, from the first item on. In the contract `spill` is the word
-    /// that its `remainder` returns: its lowest bits are the items after the last full word, above them are the bits
-    /// stored after those, in the byte with the last item (without a full word, in all bytes), then 0.
+    /// that `remainder` returns. Its lowest bits are the items after the last full word. Above them are the other bits
+    /// that are stored in the byte with the last item; where there is no full word, those of all bytes. The bits above
+    /// these are 0.
     pub fn chunks<T: BitChunk>(&self) -> BitChunks<'_, T>
         ensures items { result.items ≡ items_of self.now }
         ensures fits { length (items_of self.now) < 2 ^ 64 }
@@ -426,49 +427,49 @@ impl Bitmap {
         self.unset_bits()
     }
 
-    /// Returns how many of the `length` items from item `offset` on are false. Counts them anew. Requires that they are
+    /// Returns how many of the `len` items from item `offset` on are false. Counts them anew. Requires that they are
     /// inside. arrow2 also accepts a range that ends past the length, if its bits are inside the bytes.
-    pub fn null_count_range(&self, offset: usize, length: usize) -> usize
-        requires inside { offset + length ≤ length' (items_of self.now) }
-        ensures { result ≡ falses (part (items_of self.now) offset length) }
+    pub fn null_count_range(&self, offset: usize, len: usize) -> usize
+        requires inside { offset + len ≤ length (items_of self.now) }
+        ensures { result ≡ falses (part (items_of self.now) offset len) }
     {
-        prove!(offset <= self.length && length <= self.length - offset);
-        count_zeros(self.bytes.as_slice(), self.offset + offset, length)
+        prove!(offset <= self.length && len <= self.length - offset);
+        count_zeros(self.bytes.as_slice(), self.offset + offset, len)
     }
 
-    /// Keeps only the `length` items from item `offset` on, over the same bytes. Requires that they are inside. Does
+    /// Keeps only the `len` items from item `offset` on, over the same bytes. Requires that they are inside. Does
     /// not allocate.
-    pub fn slice(&mut self, offset: usize, length: usize)
-        requires inside { offset + length ≤ length' (items_of self.old) }
+    pub fn slice(&mut self, offset: usize, len: usize)
+        requires inside { offset + len ≤ length (items_of self.old) }
         ensures storage { self.new ≡ record {
           bytes = self.old.bytes;
           offset = self.old.offset + offset;
-          len = length;
+          len = len;
         } }
-        ensures items { items_of self.new ≡ part (items_of self.old) offset length }
-        ensures len { length' (items_of self.new) ≡ length }
+        ensures items { items_of self.new ≡ part (items_of self.old) offset len }
+        ensures len { length (items_of self.new) ≡ len }
     {
-        self.slice_counted(offset, length, &mut Reads::new());
+        self.slice_counted(offset, len, &mut Reads::new());
     }
 
     /// Slices as [`Bitmap::slice`] does, and adds to `reads` the number of bytes that it counts: at most `L / 16 + 4`,
     /// where `L` is the number of items that the bitmap had before it was sliced.
     ///
     /// arrow2 counts no reads.
-    pub fn slice_counted(&mut self, offset: usize, length: usize, reads: &mut Reads)
-        requires inside { offset + length ≤ length' (items_of self.old) }
+    pub fn slice_counted(&mut self, offset: usize, len: usize, reads: &mut Reads)
+        requires inside { offset + len ≤ length (items_of self.old) }
         ensures storage { self.new ≡ record {
           bytes = self.old.bytes;
           offset = self.old.offset + offset;
-          len = length;
+          len = len;
         } }
-        ensures items { items_of self.new ≡ part (items_of self.old) offset length }
-        ensures len { length' (items_of self.new) ≡ length }
+        ensures items { items_of self.new ≡ part (items_of self.old) offset len }
+        ensures len { length (items_of self.new) ≡ len }
         ensures reads { reads.new ≡ reads.old
-            + slice_reads self.old.offset (length' (items_of self.old)) offset length }
-        ensures bound { reads.new ≤ reads.old + length' (items_of self.old) / 16 + 4 }
+            + slice_reads self.old.offset (length (items_of self.old)) offset len }
+        ensures bound { reads.new ≤ reads.old + length (items_of self.old) / 16 + 4 }
     {
-        prove!(offset <= self.length && length <= self.length - offset);
+        prove!(offset <= self.length && len <= self.length - offset);
         let mut stored = Stored::new(self.bytes.as_slice(), mem::replace(reads, Reads::new()));
         let unset_bits = recount(
             &mut stored,
@@ -476,27 +477,27 @@ impl Bitmap {
             self.length,
             self.unset_bits,
             offset,
-            length,
+            len,
         );
         *reads = stored.into_reads();
         self.offset += offset;
-        self.length = length;
+        self.length = len;
         self.unset_bits = unset_bits;
     }
 
     /// Returns the same as [`Bitmap::slice`], by value.
-    pub fn sliced(self, offset: usize, length: usize) -> Bitmap
-        requires inside { offset + length ≤ length' (items_of self) }
+    pub fn sliced(self, offset: usize, len: usize) -> Bitmap
+        requires inside { offset + len ≤ length (items_of self) }
         ensures storage { result ≡ record {
           bytes = self.bytes;
           offset = self.offset + offset;
-          len = length;
+          len = len;
         } }
-        ensures items { items_of result ≡ part (items_of self) offset length }
-        ensures len { length' (items_of result) ≡ length }
+        ensures items { items_of result ≡ part (items_of self) offset len }
+        ensures len { length (items_of result) ≡ len }
     {
         let mut bitmap = self;
-        bitmap.slice(offset, length);
+        bitmap.slice(offset, len);
         bitmap
     }
 
@@ -506,7 +507,7 @@ impl Bitmap {
         ensures bytes { result.0.value ≡ self.bytes }
         ensures offset { result.1 ≡ self.offset }
         ensures len { result.2 ≡ self.len }
-        ensures inside { result.1 + result.2 ≤ 8 * length' result.0.value }
+        ensures inside { result.1 + result.2 ≤ 8 * length result.0.value }
         ensures fits { result.1 + result.2 < 2 ^ 64 }
         ensures unset_bits { result.3 ≡ falses (items_of self) }
     {
@@ -571,7 +572,7 @@ fn copied(bitmap: &Bitmap) -> Result<MutableBitmap>
     }
 }
 
-/// Returns a copy of items that begin with a byte, to be changed: the bytes at once.
+/// Returns a copy, which can be changed, of items that begin at a whole byte. Copies all bytes at once.
 fn copy_bytes(bitmap: &Bitmap) -> Result<MutableBitmap>
     requires { bitmap.now.offset % 8 ≡ 0 }
     ensures ok { IfOk result (λ m. m.items ≡ items_of bitmap.now) }

@@ -22,7 +22,8 @@ pub fn equal_items_freeze_to_equal_bytes()
         (m.items ≡ n.items) ↔ (a ≡ b) }
 {}
 
-/// A bitmap that grew by two lists grew by the one that they make together, wherever that is cut.
+/// Appending one list and then another appends their concatenation. So a list may be appended in two parts, cut at any
+/// index.
 pub fn two_appended_lists_are_one()
     ensures items { (old middle new : GrowingBitmap) (front back : List Bool) →
         middle.items ≡ old.items ++ front → new.items ≡ middle.items ++ back →

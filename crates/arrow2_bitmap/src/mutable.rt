@@ -1,5 +1,5 @@
 //! A bitmap that grows.
-ghost use Rattle.std.specs.Prelude.{◌≡◌, ◌+◌, ◌-◌, ◌*◌, ◌/◌, ◌<◌, ◌≤◌, ◌^◌, ◌↔◌, ◌⊎◌, [], ◌∷◌, ◌++◌, false, length, length as length', take, slice_index_or, slice_set, OnOk, IsOk, IfOk, IfErr, IsErrOf, IsTrue, IfNone, IfSome, IsNone, MatchOption, Some, codes, vec_len, vec_capacity, min, Bool, true, replicate};
+ghost use Rattle.std.specs.Prelude.{◌≡◌, ◌+◌, ◌-◌, ◌*◌, ◌/◌, ◌<◌, ◌≤◌, ◌^◌, ◌↔◌, ◌⊎◌, [], ◌∷◌, ◌++◌, false, length, take, slice_index_or, slice_set, OnOk, IsOk, IfOk, IfErr, IsErrOf, IsTrue, IfNone, IfSome, IsNone, MatchOption, Some, codes, vec_len, vec_capacity, min, Bool, true, replicate};
 ghost use Rattle.std.specs.Iterator.{IsFiniteIterable};
 ghost use Rattle.std.specs.Iterator.Runs.{WholeRun};
 ghost use Rattle.std.specs.Bool.{beq};
@@ -70,38 +70,38 @@ impl MutableBitmap {
         }
     }
 
-    /// Returns a bitmap of the first `length` bits of `bytes`, in their vector. It cuts spare bytes off, clears padding
-    /// bits and keeps the capacity. Does not allocate where the bytes have at least `length` bits. In arrow2 spare
+    /// Returns a bitmap of the first `len` bits of `bytes`, in their vector. It cuts spare bytes off, clears padding
+    /// bits and keeps the capacity. Does not allocate where the bytes have at least `len` bits. In arrow2 spare
     /// bytes stay, and `push` may write into the wrong byte.
     ///
     /// # Errors
     ///
-    /// `InvalidArgumentError` exactly if `length` is above eight times the number of bytes, or `OutOfMemory` if the
+    /// `InvalidArgumentError` exactly if `len` is above eight times the number of bytes, or `OutOfMemory` if the
     /// message cannot be allocated. There is no other error. After an error the bytes are dropped.
-    pub fn try_new(bytes: Vec<u8>, length: usize) -> Result<MutableBitmap>
-        ensures accepted { IsOk result ↔ (length ≤ 8 * vec_len bytes) }
-        ensures ok { IfOk result (λ m. m.items ≡ take length (bits bytes.items)) }
-        ensures len { IfOk result (λ m. length' m.items ≡ length) }
+    pub fn try_new(bytes: Vec<u8>, len: usize) -> Result<MutableBitmap>
+        ensures accepted { IsOk result ↔ (len ≤ 8 * vec_len bytes) }
+        ensures ok { IfOk result (λ m. m.items ≡ take len (bits bytes.items)) }
+        ensures len { IfOk result (λ m. length m.items ≡ len) }
         ensures capacity { IfOk result (λ m. m.capacity ≡ min (8 * vec_capacity bytes) (2 ^ 64 - 1)) }
         ensures refused { IfErr result (λ e.
-            IsInvalidArgumentOrOutOfMemory e (too_long (codes "The length") length (vec_len bytes))) }
+            IsInvalidArgumentOrOutOfMemory e (too_long (codes "The length") len (vec_len bytes))) }
     {
-        check_length("The length", length, &bytes)?;
-        Ok(MutableBitmap::from_vec(bytes, length))
+        check_length("The length", len, &bytes)?;
+        Ok(MutableBitmap::from_vec(bytes, len))
     }
 
-    /// Returns a bitmap of the first `length` bits of `bytes`, in their vector. It cuts spare bytes off, clears padding
-    /// bits and keeps the capacity. Requires `length` to be at most eight times the number of bytes. Does not allocate.
+    /// Returns a bitmap of the first `len` bits of `bytes`, in their vector. It cuts spare bytes off, clears padding
+    /// bits and keeps the capacity. Requires `len` to be at most eight times the number of bytes. Does not allocate.
     /// In arrow2 spare bytes stay, and `push` may write into the wrong byte.
-    pub fn from_vec(bytes: Vec<u8>, length: usize) -> MutableBitmap
-        requires inside { length ≤ 8 * vec_len bytes }
-        ensures items { result.items ≡ take length (bits bytes.items) }
-        ensures len { length' result.items ≡ length }
+    pub fn from_vec(bytes: Vec<u8>, len: usize) -> MutableBitmap
+        requires inside { len ≤ 8 * vec_len bytes }
+        ensures items { result.items ≡ take len (bits bytes.items) }
+        ensures len { length result.items ≡ len }
         ensures capacity { result.capacity ≡ min (8 * vec_capacity bytes) (2 ^ 64 - 1) }
     {
-        prove!(bytes_for(length) <= bytes.len());
+        prove!(bytes_for(len) <= bytes.len());
         MutableBitmap {
-            bits: PackedBits::from_vec(bytes, length),
+            bits: PackedBits::from_vec(bytes, len),
         }
     }
 
@@ -119,32 +119,32 @@ impl MutableBitmap {
         Ok(MutableBitmap { bits })
     }
 
-    /// Returns `length` items, all false.
+    /// Returns `len` items, all false.
     ///
     /// # Errors
     ///
     /// `OutOfMemory` alone.
     #[tactic(auto, using(arrow2_packed_bits::proofs::Filled::filling))]
-    pub fn from_len_zeroed(alloc: Global, length: usize) -> Result<MutableBitmap>
-        ensures ok { IfOk result (λ m. m.items ≡ replicate length false) }
+    pub fn from_len_zeroed(alloc: Global, len: usize) -> Result<MutableBitmap>
+        ensures ok { IfOk result (λ m. m.items ≡ replicate len false) }
         ensures only { IfErr result (λ e. e ≡ Error.OutOfMemory) }
     {
-        let zeros = filled(alloc, 0, bytes_for(length))?;
-        Ok(MutableBitmap::from_vec(zeros, length))
+        let zeros = filled(alloc, 0, bytes_for(len))?;
+        Ok(MutableBitmap::from_vec(zeros, len))
     }
 
-    /// Returns `length` items, all true.
+    /// Returns `len` items, all true.
     ///
     /// # Errors
     ///
     /// `OutOfMemory` alone.
     #[tactic(auto, using(arrow2_packed_bits::proofs::Filled::filling))]
-    pub fn from_len_set(alloc: Global, length: usize) -> Result<MutableBitmap>
-        ensures ok { IfOk result (λ m. m.items ≡ replicate length true) }
+    pub fn from_len_set(alloc: Global, len: usize) -> Result<MutableBitmap>
+        ensures ok { IfOk result (λ m. m.items ≡ replicate len true) }
         ensures only { IfErr result (λ e. e ≡ Error.OutOfMemory) }
     {
-        let ones = filled(alloc, u8::MAX, bytes_for(length))?;
-        Ok(MutableBitmap::from_vec(ones, length))
+        let ones = filled(alloc, u8::MAX, bytes_for(len))?;
+        Ok(MutableBitmap::from_vec(ones, len))
     }
 
     /// Returns the bitmap of the items of an iterator that ends, in its order.
@@ -212,7 +212,7 @@ impl MutableBitmap {
         Ok(())
     }
 
-    /// Appends the `length` bits from bit `offset` of `slice` on. Requires that they are inside. Within the capacity it
+    /// Appends the `len` bits from bit `offset` of `slice` on. Requires that they are inside. Within the capacity it
     /// does not allocate, else it allocates once, before it writes. arrow2 returns no `Result`, and copies the padding
     /// bits of the last byte.
     ///
@@ -220,11 +220,11 @@ impl MutableBitmap {
     ///
     /// `Overflow` exactly where the new length would pass `usize::MAX`, else `OutOfMemory` alone.
     /// After either the bitmap holds the items that it held.
-    pub fn extend_from_slice(&mut self, slice: &[u8], offset: usize, length: usize) -> Result<()>
-        requires inside { offset + length ≤ 8 * length' slice.now }
-        ensures { Appends error_of result self.old self.new (part (bits slice.now) offset length) }
+    pub fn extend_from_slice(&mut self, slice: &[u8], offset: usize, len: usize) -> Result<()>
+        requires inside { offset + len ≤ 8 * length slice.now }
+        ensures { Appends error_of result self.old self.new (part (bits slice.now) offset len) }
     {
-        self.bits.extend_from_slice(slice, offset, length)?;
+        self.bits.extend_from_slice(slice, offset, len)?;
         Ok(())
     }
 
@@ -459,7 +459,7 @@ impl<'a> IntoIterator for &'a MutableBitmap {
     }
 }
 
-/// Equality of the lists. Since the bytes are canonical, they are compared.
+/// Equality of the lists. It compares the bytes, which are equal exactly if the lists are.
 impl PartialEq for MutableBitmap {
     ghost eq = { on (λ m. m.items) (pointwise beq) };
 

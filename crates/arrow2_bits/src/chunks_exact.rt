@@ -1,5 +1,5 @@
 //! Iterates over bits by words from bit 0 on.
-ghost use Rattle.std.specs.Prelude.{◌≡◌, ◌*◌, ◌≤◌, ◌↔◌, length as length', take, Some, IfSome, IsTrue};
+ghost use Rattle.std.specs.Prelude.{◌≡◌, ◌*◌, ◌≤◌, ◌↔◌, length, take, Some, IfSome, IsTrue};
 ghost use Rattle.std.specs.Iterator.{item_count, UpTo};
 ghost use Rattle.std.specs.Iterator.SizeHint.{IsWithinCount};
 ghost use Rattle.arrow2_model.specs.Bits.{bits, unnum};
@@ -27,28 +27,28 @@ impl<'a, T: BitChunk> Model for BitChunksExact<'a, T> {
 }
 
 impl<'a, T: BitChunk> BitChunksExact<'a, T> {
-    /// Returns an iterator over the first `length` bits. Requires that they are inside the bytes.
-    pub fn new(bytes: &'a [u8], length: usize) -> BitChunksExact<'a, T>
-        requires { length ≤ 8 * length' bytes.now }
-        ensures items { result.items ≡ part (bits bytes.entry.now) 0 length }
-        ensures count { length' result.items ≡ length }
-        ensures spill { result.spill ≡ exact_spill T.BitChunk.SIZE bytes.entry.now length }
+    /// Returns an iterator over the first `len` bits. Requires that they are inside the bytes.
+    pub fn new(bytes: &'a [u8], len: usize) -> BitChunksExact<'a, T>
+        requires { len ≤ 8 * length bytes.now }
+        ensures items { result.items ≡ part (bits bytes.entry.now) 0 len }
+        ensures count { length result.items ≡ len }
+        ensures spill { result.spill ≡ exact_spill T.BitChunk.SIZE bytes.entry.now len }
     {
         BitChunksExact {
-            chunks: BitChunks::new(&bytes[..bytes_for(length)], 0, length),
+            chunks: BitChunks::new(&bytes[..bytes_for(len)], 0, len),
         }
     }
 
     /// Returns the number of full words still to come.
     pub fn len(&self) -> usize
-        ensures { result ≡ length' (full_words T.BitChunk.WIDTH self.now.items) }
+        ensures { result ≡ length (full_words T.BitChunk.WIDTH self.now.items) }
     {
         BitChunks::len(&self.chunks)
     }
 
     /// Returns whether no full word is still to come.
     pub fn is_empty(&self) -> bool
-        ensures { IsTrue result ↔ (length' (full_words T.BitChunk.WIDTH self.now.items) ≡ 0) }
+        ensures { IsTrue result ↔ (length (full_words T.BitChunk.WIDTH self.now.items) ≡ 0) }
     {
         BitChunksExact::len(self) == 0
     }
@@ -60,7 +60,7 @@ impl<'a, T: BitChunk> BitChunksExact<'a, T> {
     /// where there are fewer than 8 items.
     pub fn remainder(&self) -> T
         ensures spill { T.BitChunk.number result ≡ self.now.spill }
-        ensures rest { take (length' (rest T.BitChunk.WIDTH self.now.items))
+        ensures rest { take (length (rest T.BitChunk.WIDTH self.now.items))
             (unnum T.BitChunk.WIDTH (T.BitChunk.number result))
             ≡ rest T.BitChunk.WIDTH self.now.items }
     {
@@ -103,8 +103,8 @@ impl<'a, T: BitChunk> Iterator for BitChunksExact<'a, T> {
             full_words T.BitChunk.WIDTH s.items) self.now) }
         ensures upper { IfSome result.1 (UpTo (item_count (λ s.
             full_words T.BitChunk.WIDTH s.items) self.now)) }
-        ensures exact { (result.0 ≡ length' (full_words T.BitChunk.WIDTH self.now.items))
-            × (result.1 ≡ Some (length' (full_words T.BitChunk.WIDTH self.now.items))) }
+        ensures exact { (result.0 ≡ length (full_words T.BitChunk.WIDTH self.now.items))
+            × (result.1 ≡ Some (length (full_words T.BitChunk.WIDTH self.now.items))) }
     {
         self.chunks.size_hint()
     }

@@ -1,5 +1,5 @@
 //! Iterates over bytes by chunks that are borrowed mutably.
-ghost use Rattle.std.specs.Prelude.{◌≡◌, ℕ, ◌+◌, ◌-◌, ◌*◌, ◌/◌, ◌<◌, ◌≤◌, ◌↔◌, List, length as length', take, Some, IfSome, IsTrue, MatchOption};
+ghost use Rattle.std.specs.Prelude.{◌≡◌, ℕ, ◌+◌, ◌-◌, ◌*◌, ◌/◌, ◌<◌, ◌≤◌, ◌↔◌, List, length, take, Some, IfSome, IsTrue, MatchOption};
 ghost use Rattle.std.specs.Bool.{OnTrue, OnFalse};
 ghost use Rattle.std.specs.Borrow.{sem};
 ghost use Rattle.std.specs.Fn.{FnOnceReturnsAtMut, FnOnceTakesAtMut};
@@ -46,31 +46,31 @@ impl<'a, T> Model for BitChunksExactMut<'a, T> {
 }
 
 impl<'a, T: BitChunk> BitChunksExactMut<'a, T> {
-    /// Returns an iterator over the first `length` bits. Requires that they are inside the bytes, where arrow2 panics.
-    pub fn new(bytes: &'a mut [u8], length: usize) -> BitChunksExactMut<'a, T>
-        requires { length ≤ 8 * length' bytes.old }
+    /// Returns an iterator over the first `len` bits. Requires that they are inside the bytes, where arrow2 panics.
+    pub fn new(bytes: &'a mut [u8], len: usize) -> BitChunksExactMut<'a, T>
+        requires { len ≤ 8 * length bytes.old }
         // The full chunks, of which the first comes next.
         ensures bytes { result.bytes ≡ take
-            (T.NativeType.SIZE * (length / 8 / T.NativeType.SIZE)) bytes.old }
+            (T.NativeType.SIZE * (len / 8 / T.NativeType.SIZE)) bytes.old }
         ensures at { result.at ≡ 0 }
         ensures size { result.size ≡ T.NativeType.SIZE }
-        ensures left { chunks_left result ≡ length / 8 / T.NativeType.SIZE }
+        ensures left { chunks_left result ≡ len / 8 / T.NativeType.SIZE }
         // The bytes after them, and the number of their bits.
-        ensures remainder { let full = T.NativeType.SIZE * (length / 8 / T.NativeType.SIZE) in
-            result.remainder ≡ part bytes.old full ((length + 7) / 8 - full) }
+        ensures remainder { let full = T.NativeType.SIZE * (len / 8 / T.NativeType.SIZE) in
+            result.remainder ≡ part bytes.old full ((len + 7) / 8 - full) }
         ensures remainder_len { result.remainder_len
-            ≡ length - 8 * T.NativeType.SIZE * (length / 8 / T.NativeType.SIZE) }
+            ≡ len - 8 * T.NativeType.SIZE * (len / 8 / T.NativeType.SIZE) }
     {
         let size = T::SIZE;
-        let count = length / 8 / size;
-        let bytes = &mut bytes[..bytes_for(length)];
+        let count = len / 8 / size;
+        let bytes = &mut bytes[..bytes_for(len)];
         let (bytes, remainder) = bytes.split_at_mut(size * count);
         BitChunksExactMut {
             bytes,
             at: 0,
             size,
             remainder,
-            remainder_len: length - T::WIDTH * count,
+            remainder_len: len - T::WIDTH * count,
             marker: PhantomData,
         }
     }
@@ -109,7 +109,7 @@ impl<'a, T> BitChunksExactMut<'a, T> {
         ensures any { IsTrue result ↔ (0 < chunks_left self.old) }
         ensures written { OnTrue result ((written : List ℕ)
             × FnOnceReturnsAtMut F.FnOnce change (next_chunk self.old) tt written
-            × (length' written ≡ self.old.size)
+            × (length written ≡ self.old.size)
             × (self.new ≡ past self.old self.old.size written)) }
         ensures left { OnTrue result (chunks_left self.old ≡ chunks_left self.new + 1) }
         ensures ended { OnFalse result (self.new ≡ self.old) }
@@ -139,8 +139,8 @@ impl<'a, T> BitChunksExactMut<'a, T> {
 
     /// Returns the next chunk, to be written, and no bytes where none is left. The iterator moves past it.
     fn lend_next(&mut self) -> &mut [u8]
-        ensures some { (0 < length' result.now) ↔ (0 < chunks_left self.old) }
-        ensures len { length' result.now ≡ next_len self.old }
+        ensures some { (0 < length result.now) ↔ (0 < chunks_left self.old) }
+        ensures len { length result.now ≡ next_len self.old }
         ensures chunk { result.now ≡ part self.old.bytes self.old.at (next_len self.old) }
         ensures* writes_back { sem 𝓛 (LendsNext T.row self.entry result) }
     {
@@ -153,7 +153,7 @@ impl<'a, T> BitChunksExactMut<'a, T> {
     /// Returns the bytes from `start` up to `end`, to be written.
     fn part_mut(&mut self, start: usize, end: usize) -> &mut [u8]
         requires order { start ≤ end }
-        requires within { end ≤ length' self.old.bytes }
+        requires within { end ≤ length self.old.bytes }
         ensures* writes_back { sem 𝓛 (LendsPart T.row self.entry start result) }
         ensures bytes { result.now ≡ part self.old.bytes start (end - start) }
     {
@@ -173,7 +173,7 @@ impl<'a, T> BitChunksExactMut<'a, T> {
         ensures len { result ≡ next_len self.now }
         ensures some { (0 < result) ↔ (0 < chunks_left self.now) }
         ensures full { 0 < result → result ≡ self.now.size }
-        ensures inside { result ≤ length' self.now.bytes - self.now.at }
+        ensures inside { result ≤ length self.now.bytes - self.now.at }
     {
         if self.ahead() < self.size {
             0
@@ -184,7 +184,7 @@ impl<'a, T> BitChunksExactMut<'a, T> {
 
     /// Returns the number of bytes of the chunks still to come.
     fn ahead(&self) -> usize
-        ensures { result ≡ length' self.now.bytes - self.now.at }
+        ensures { result ≡ length self.now.bytes - self.now.at }
     {
         self.bytes.len().saturating_sub(self.at)
     }

@@ -1,5 +1,5 @@
 //! The text of bits: whole bytes, each from its highest bit to its lowest.
-ghost use Rattle.std.specs.Prelude.{◌≡◌, ◌+◌, ◌*◌, ◌<◌, ◌≤◌, ◌∷◌, [], length as count};
+ghost use Rattle.std.specs.Prelude.{◌≡◌, ◌+◌, ◌*◌, ◌<◌, ◌≤◌, ◌∷◌, [], length};
 ghost use Rattle.std.specs.Fmt.{WritesOnOk, WritesStyledOnOk};
 ghost use Rattle.arrow2_model.specs.Bits.{bit};
 ghost use Rattle.arrow2_model.specs.Shown.{is_shown, bit_character, shown_byte, shown};
@@ -8,11 +8,11 @@ ghost use Rattle.arrow2_bits.specs.Digits.{four_digits};
 use crate::is_set;
 use std::fmt;
 
-/// Writes the `length` bits from bit `offset` on: for each byte that holds one of them `0b` and its
+/// Writes the `len` bits from bit `offset` on: for each byte that holds one of them `0b` and its
 /// eight bits from the highest to the lowest, with `_` for a bit that is none of them, in brackets
 /// and joined by commas. No bits are `[]`. The formatter's options change nothing.
 ///
-/// Requires that `offset` is below 8, and that the bits are inside the bytes or that `length` is 0. arrow2 may print a
+/// Requires that `offset` is below 8, and that the bits are inside the bytes or that `len` is 0. arrow2 may print a
 /// byte after the bits instead of the last one.
 ///
 /// # Errors
@@ -21,24 +21,24 @@ use std::fmt;
 pub fn fmt<W: fmt::Write>(
     bytes: &[u8],
     offset: usize,
-    length: usize,
+    len: usize,
     f: &mut fmt::Formatter<W>,
 ) -> fmt::Result
     requires offset { offset < 8 }
-    requires inside { 0 < length → offset + length ≤ 8 * count bytes.now }
+    requires inside { 0 < len → offset + len ≤ 8 * length bytes.now }
     ensures writes { WritesOnOk W.write_str_gives f.old result
-        (shown bytes.now offset length) f.new }
+        (shown bytes.now offset len) f.new }
     ensures styled { WritesStyledOnOk W.write_str_gives f.old result
-        (shown bytes.now offset length) f.new }
+        (shown bytes.now offset len) f.new }
 {
     f.write_str("[")?;
     let mut start = offset;
-    let mut left = length;
+    let mut left = len;
     for byte in bytes {
         if left == 0 {
             break;
         }
-        if left < length {
+        if left < len {
             f.write_str(", ")?;
         }
         let here = left.min(8 - start);
@@ -84,34 +84,34 @@ fn write_whole_byte<W: fmt::Write>(byte: u8, f: &mut fmt::Formatter<W>) -> fmt::
     f.write_str(digits(byte % 16))
 }
 
-/// Writes the `length` bits from bit `start` on of one byte.
+/// Writes the `len` bits from bit `start` on of one byte.
 fn write_byte<W: fmt::Write>(
     byte: u8,
     start: usize,
-    length: usize,
+    len: usize,
     f: &mut fmt::Formatter<W>,
 ) -> fmt::Result
-    requires { start + length ≤ 8 }
+    requires { start + len ≤ 8 }
     ensures { WritesStyledOnOk W.write_str_gives f.old result
-        (shown_byte (byte ∷ []) start length 0) f.new }
+        (shown_byte (byte ∷ []) start len 0) f.new }
 {
-    if length == 8 {
+    if len == 8 {
         return write_whole_byte(byte, f);
     }
     f.write_str("0b")?;
     for i in (0..8).rev() {
-        f.write_char(character(byte, i, start, length))?;
+        f.write_char(character(byte, i, start, len))?;
     }
     Ok(())
 }
 
-/// Returns the character of bit `i` of a byte that shows the `length` bits from bit `start` on.
-fn character(byte: u8, i: usize, start: usize, length: usize) -> char
+/// Returns the character of bit `i` of a byte that shows the `len` bits from bit `start` on.
+fn character(byte: u8, i: usize, start: usize, len: usize) -> char
     requires bit { i < 8 }
-    requires inside { start + length ≤ 8 }
-    ensures { result ≡ bit_character (is_shown start length i) (bit byte i) }
+    requires inside { start + len ≤ 8 }
+    ensures { result ≡ bit_character (is_shown start len i) (bit byte i) }
 {
-    if i < start || start + length <= i {
+    if i < start || start + len <= i {
         '_'
     } else if is_set(byte, i) {
         '1'

@@ -1,5 +1,5 @@
 //! A list that is shared, cloned and sliced in constant time.
-ghost use Rattle.std.specs.Prelude.{◌≡◌, ◌≢◌, ◌+◌, ◌-◌, ◌^◌, ◌<◌, ◌≤◌, ◌↔◌, List, [], length, length as length', slice_index_or, IsTrue, IfOk, IfErr, IfSome, MatchResult, ⊤, vec_len, vec_capacity};
+ghost use Rattle.std.specs.Prelude.{◌≡◌, ◌≢◌, ◌+◌, ◌-◌, ◌^◌, ◌<◌, ◌≤◌, ◌↔◌, List, [], length, slice_index_or, IsTrue, IfOk, IfErr, IfSome, MatchResult, ⊤, vec_len, vec_capacity};
 ghost use Rattle.std.specs.Bool.{OnTrue, OnFalse};
 ghost use Rattle.std.specs.Borrow.{sem};
 ghost use Rattle.std.specs.Fmt.{debug_list};
@@ -129,34 +129,34 @@ impl<T> Buffer<T> {
         self.offset
     }
 
-    /// Keeps `length` items from item `offset` on, over the same storage. Does not allocate.
+    /// Keeps `len` items from item `offset` on, over the same storage. Does not allocate.
     ///
-    /// Requires that `offset + length` is at most [`Buffer::len`]; arrow2's documentation states a bound for the offset
+    /// Requires that `offset + len` is at most [`Buffer::len`]; arrow2's documentation states a bound for the offset
     /// alone.
-    pub fn slice(&mut self, offset: usize, length: usize)
-        requires inside { offset + length ≤ length' (buffer_items self.old) }
-        ensures items { buffer_items self.new ≡ part (buffer_items self.old) offset length }
-        ensures len { length' (buffer_items self.new) ≡ length }
+    pub fn slice(&mut self, offset: usize, len: usize)
+        requires inside { offset + len ≤ length (buffer_items self.old) }
+        ensures items { buffer_items self.new ≡ part (buffer_items self.old) offset len }
+        ensures len { length (buffer_items self.new) ≡ len }
         ensures storage { self.new ≡ record self.old {
           offset = self.old.offset + offset;
-          len = length;
+          len = len;
         } }
     {
-        prove!(offset <= self.len && length <= self.len - offset);
+        prove!(offset <= self.len && len <= self.len - offset);
         self.offset += offset;
-        self.len = length;
+        self.len = len;
     }
 
-    /// Returns the `length` items from item `offset` on, over the same storage. Does not allocate.
+    /// Returns the `len` items from item `offset` on, over the same storage. Does not allocate.
     ///
-    /// Requires that `offset + length` is at most [`Buffer::len`].
-    pub fn sliced(mut self, offset: usize, length: usize) -> Self
-        requires inside { offset + length ≤ length' (buffer_items self) }
-        ensures items { buffer_items result ≡ part (buffer_items self) offset length }
-        ensures len { length' (buffer_items result) ≡ length }
-        ensures storage { result ≡ record self { offset = self.offset + offset; len = length } }
+    /// Requires that `offset + len` is at most [`Buffer::len`].
+    pub fn sliced(mut self, offset: usize, len: usize) -> Self
+        requires inside { offset + len ≤ length (buffer_items self) }
+        ensures items { buffer_items result ≡ part (buffer_items self) offset len }
+        ensures len { length (buffer_items result) ≡ len }
+        ensures storage { result ≡ record self { offset = self.offset + offset; len = len } }
     {
-        self.slice(offset, length);
+        self.slice(offset, len);
         self
     }
 

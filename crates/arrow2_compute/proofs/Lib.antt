@@ -6,6 +6,7 @@ pub mod Masked
 pub mod Best
 pub mod Converted
 pub mod Weighed
+pub mod Keys
 mod Gathered
 mod Selecting
 mod Chosen

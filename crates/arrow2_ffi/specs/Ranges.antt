@@ -17,6 +17,10 @@ AreInside n (input ∷ inputs) = IsInside input.0 input.1 n × AreInside n input
 abbrev pub inputs_of : ℕ → List (List ℕ × ℕ) → List (List Bool)
 inputs_of n inputs = map (λ input. part (bits input.0) input.1 n) inputs
 
+-- both slices have the same number of items
+abbrev pub HaveEqualLengths : List ℕ → List ℕ → Type 0
+HaveEqualLengths l r = length l ≡ length r
+
 -- the bytes are exactly those that n bits need
 abbrev pub HasBytesForBits : List ℕ → ℕ → Type 0
 HasBytesForBits bytes n = length bytes ≡ (n + 7) / 8

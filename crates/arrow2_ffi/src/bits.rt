@@ -1,6 +1,6 @@
 //! Bits of bytes: counting, comparing, reading, writing and copying them. Bit `i` is bit `i % 8` of byte `i / 8`, the
 //! lowest first.
-ghost use Rattle.std.specs.Prelude.{◌≡◌, ◌*◌, ◌<◌, ◌↔◌, IsTrue, false, length as length', slice_index_or, slice_set};
+ghost use Rattle.std.specs.Prelude.{◌≡◌, ◌*◌, ◌<◌, ◌↔◌, IsTrue, false, length, slice_index_or, slice_set};
 ghost use Rattle.arrow2_model.specs.Bits.{bits};
 ghost use Rattle.arrow2_model.specs.Parts.{part, falses};
 ghost use Rattle.arrow2_ffi.specs.Ranges.{IsInside, HasBytesForBits};
@@ -61,7 +61,7 @@ pub extern "C" fn arrow2_equal_bits(
 /// `ARROW2_RANGE` exactly where it is not inside the bytes.
 #[unsafe(no_mangle)]
 pub extern "C" fn arrow2_get_bit(bytes: &[u8], index: usize, value: &mut bool) -> u32
-    ensures { WritesWhere ARROW2_RANGE result (index < 8 * length' bytes.now)
+    ensures { WritesWhere ARROW2_RANGE result (index < 8 * length bytes.now)
         (value.new ≡ slice_index_or (bits bytes.now) index false) (value.new ≡ value.old) }
 {
     if !has_bit(bytes, index) {
@@ -76,7 +76,7 @@ pub extern "C" fn arrow2_get_bit(bytes: &[u8], index: usize, value: &mut bool) -
 /// `ARROW2_RANGE` exactly where it is not inside the bytes.
 #[unsafe(no_mangle)]
 pub extern "C" fn arrow2_set_bit(bytes: &mut [u8], index: usize, value: bool) -> u32
-    ensures { WritesWhere ARROW2_RANGE result (index < 8 * length' bytes.old)
+    ensures { WritesWhere ARROW2_RANGE result (index < 8 * length bytes.old)
         (bits bytes.new ≡ slice_set (bits bytes.old) index value) (bytes.new ≡ bytes.old) }
 {
     if !has_bit(bytes, index) {

@@ -8,25 +8,25 @@ use arrow2_bits::bytes_for;
 #[derive(Clone, Copy)]
 pub(crate) struct Bits<'a>(pub(crate) &'a [u8], pub(crate) usize);
 
-/// Returns whether there are `length` bits.
-pub(crate) fn are_inside(bits: Bits<'_>, length: usize) -> bool
-    ensures { IsTrue result ↔ HasBits bits.entry length }
+/// Returns whether there are `len` bits.
+pub(crate) fn are_inside(bits: Bits<'_>, len: usize) -> bool
+    ensures { IsTrue result ↔ HasBits bits.entry len }
 {
-    bits.1 as u128 + length as u128 <= 8 * bits.0.len() as u128
+    bits.1 as u128 + len as u128 <= 8 * bits.0.len() as u128
 }
 
-/// Returns whether there are `length` bits of both.
-pub(crate) fn are_both_inside(first: Bits<'_>, second: Bits<'_>, length: usize) -> bool
-    ensures { IsTrue result ↔ (HasBits first.entry length × HasBits second.entry length) }
+/// Returns whether there are `len` bits of both.
+pub(crate) fn are_both_inside(first: Bits<'_>, second: Bits<'_>, len: usize) -> bool
+    ensures { IsTrue result ↔ (HasBits first.entry len × HasBits second.entry len) }
 {
-    are_inside(first, length) && are_inside(second, length)
+    are_inside(first, len) && are_inside(second, len)
 }
 
-/// Returns whether the bytes are exactly those that `length` bits need.
-pub(crate) fn hold(bytes: &[u8], length: usize) -> bool
-    ensures { IsTrue result ↔ HasBytesForBits bytes.now length }
+/// Returns whether the bytes are exactly those that `len` bits need.
+pub(crate) fn hold(bytes: &[u8], len: usize) -> bool
+    ensures { IsTrue result ↔ HasBytesForBits bytes.now len }
 {
-    bytes.len() == bytes_for(length)
+    bytes.len() == bytes_for(len)
 }
 
 /// Returns whether there is a bit `index`.

@@ -1,5 +1,5 @@
 //! Booleans, one byte each, read by words of 64 bits.
-ghost use Rattle.std.specs.Prelude.{◌∷◌, [], length as length'};
+ghost use Rattle.std.specs.Prelude.{◌∷◌, [], length};
 ghost use Rattle.arrow2_model.specs.Kernels.{word};
 
 use arrow2_chunk::bit_chunk::BitChunk;
@@ -18,7 +18,7 @@ impl<'a> WordRows<u64> for BoolWords<'a> {
 
     ghost words = { λ x. x ∷ [] };
 
-    ghost length = { λ s. length' s.items.now };
+    ghost len = { λ s. length s.items.now };
 
     ghost row_at = { λ s j. word 64 s.items.now j ∷ [] };
 

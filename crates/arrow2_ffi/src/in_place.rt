@@ -1,5 +1,5 @@
 //! Bits copied, and the outputs of truth tables for them, in memory of the caller.
-ghost use Rattle.std.specs.Prelude.{◌≡◌, ◌*◌, ◌<◌, ◌≤◌, ℕ, List, Bool, [], ◌∷◌, take, length as length'};
+ghost use Rattle.std.specs.Prelude.{◌≡◌, ◌*◌, ◌<◌, ◌≤◌, ℕ, List, Bool, [], ◌∷◌, take, length};
 ghost use Rattle.arrow2_model.specs.Bits.{bit, bits};
 ghost use Rattle.arrow2_model.specs.Canonical.{IsCanonical};
 ghost use Rattle.arrow2_model.specs.Kernels.{words_at};
@@ -16,73 +16,68 @@ use arrow2_kernels::rows::{OneList, Pair, WordRows, ZipRows};
 use arrow2_kernels::simd_assign::{assign_binary, clear_spare};
 use arrow2_kernels::truth_tables::{binary_outputs, quaternary_outputs, ternary_outputs};
 
-/// Returns the first `length` bits, word by word. Requires that they are inside.
-fn words(bits: Bits<'_>, length: usize) -> OneList<BitChunks<'_, u64>>
-    requires inside { HasBits bits length }
-    ensures items { result.chunks.items ≡ first_bits bits.entry length }
-    ensures count { length' result.chunks.items ≡ length }
+/// Returns the first `len` bits, word by word. Requires that they are inside.
+fn words(bits: Bits<'_>, len: usize) -> OneList<BitChunks<'_, u64>>
+    requires inside { HasBits bits len }
+    ensures items { result.chunks.items ≡ first_bits bits.entry len }
+    ensures count { length result.chunks.items ≡ len }
 {
     OneList {
-        chunks: BitChunks::new(bits.0, bits.1, length),
+        chunks: BitChunks::new(bits.0, bits.1, len),
     }
 }
 
-/// Replaces each word of the first `length` bits by the result of `op` for it and its row of words. Requires exactly
-/// the bytes that `length` bits need, and rows of `length` items.
+/// Replaces each word of the first `len` bits by the result of `op` for it and its row of words. Requires exactly
+/// the bytes that `len` bits need, and rows of `len` items.
 fn assign_outputs<S: WordRows<u64>, F: Fn(u64, S::Row) -> u64>(
     bytes: &mut [u8],
-    length: usize,
+    len: usize,
     rows: S,
     op: F,
 )
     requires callable { F.IsAlwaysCallable op }
     requires alike { S.alike rows }
-    requires length { S.length rows ≡ length }
-    requires exact { HasBytesForBits bytes.old length }
-    ensures canonical { IsCanonical bytes.new length }
+    requires len { S.len rows ≡ len }
+    requires exact { HasBytesForBits bytes.old len }
+    ensures canonical { IsCanonical bytes.new len }
     ensures items { (t : ℕ) (lists : List (List Bool)) →
         IsBitwiseOnOwnRows 64 S.words (λ x. x) (F.post op) t →
         ((j : ℕ) → S.row_at rows j ≡ words_at 64 lists j) →
-        take length (bits bytes.new) ≡ each t (take length (bits bytes.old) ∷ lists) }
+        take len (bits bytes.new) ≡ each t (take len (bits bytes.old) ∷ lists) }
 {
-    assign_rows(bytes, length, rows, op);
+    assign_rows(bytes, len, rows, op);
 }
 
-/// Returns the first `length` bits of both, word by word. Requires that they are inside.
-fn pair<'a>(first: Bits<'a>, second: Bits<'a>, length: usize) -> Pair<'a>
-    requires first { HasBits first length }
-    requires second { HasBits second length }
-    ensures left { result.lists.left.chunks.items ≡ first_bits first.entry length }
-    ensures right { result.lists.right.chunks.items ≡ first_bits second.entry length }
-    ensures left_count { length' result.lists.left.chunks.items ≡ length }
-    ensures right_count { length' result.lists.right.chunks.items ≡ length }
+/// Returns the first `len` bits of both, word by word. Requires that they are inside.
+fn pair<'a>(first: Bits<'a>, second: Bits<'a>, len: usize) -> Pair<'a>
+    requires first { HasBits first len }
+    requires second { HasBits second len }
+    ensures left { result.lists.left.chunks.items ≡ first_bits first.entry len }
+    ensures right { result.lists.right.chunks.items ≡ first_bits second.entry len }
+    ensures left_count { length result.lists.left.chunks.items ≡ len }
+    ensures right_count { length result.lists.right.chunks.items ≡ len }
 {
     Pair {
         lists: ZipRows {
-            left: words(first, length),
-            right: words(second, length),
+            left: words(first, len),
+            right: words(second, len),
         },
     }
 }
 
-/// Writes the outputs of table `T` for the first `length` bits of two inputs over `out`, from bit 0 on. Requires that
+/// Writes the outputs of table `T` for the first `len` bits of two inputs over `out`, from bit 0 on. Requires that
 /// these are inside, and that `out` has exactly the bytes that they need. Each table has a loop of its own.
-pub(crate) fn write_two<const T: u8>(
-    out: &mut [u8],
-    length: usize,
-    first: Bits<'_>,
-    second: Bits<'_>,
-)
-    requires exact { HasBytesForBits out.old length }
-    requires first { HasBits first length }
-    requires second { HasBits second length }
-    ensures { Stores out.new length
-        (each T (first_bits first.entry length ∷ first_bits second.entry length ∷ [])) }
+pub(crate) fn write_two<const T: u8>(out: &mut [u8], len: usize, first: Bits<'_>, second: Bits<'_>)
+    requires exact { HasBytesForBits out.old len }
+    requires first { HasBits first len }
+    requires second { HasBits second len }
+    ensures { Stores out.new len
+        (each T (first_bits first.entry len ∷ first_bits second.entry len ∷ [])) }
 {
     write_rows(
         out,
-        length,
-        pair(first, second, length),
+        len,
+        pair(first, second, len),
         |(x, y)| -> u64
             ensures { (i : ℕ) → i < 64 → bit result i ≡ answer T (bit x i ∷ bit y i ∷ []) }
         { binary_outputs(u16::from(T), x, y) },
@@ -92,23 +87,23 @@ pub(crate) fn write_two<const T: u8>(
 /// The same of a table of three inputs.
 pub(crate) fn write_three<const T: u8>(
     out: &mut [u8],
-    length: usize,
+    len: usize,
     first: Bits<'_>,
     second: Bits<'_>,
     third: Bits<'_>,
 )
-    requires exact { HasBytesForBits out.old length }
-    requires first { HasBits first length }
-    requires second { HasBits second length }
-    requires third { HasBits third length }
-    ensures { Stores out.new length (each T (first_bits first.entry length
-        ∷ first_bits second.entry length ∷ first_bits third.entry length ∷ [])) }
+    requires exact { HasBytesForBits out.old len }
+    requires first { HasBits first len }
+    requires second { HasBits second len }
+    requires third { HasBits third len }
+    ensures { Stores out.new len (each T (first_bits first.entry len
+        ∷ first_bits second.entry len ∷ first_bits third.entry len ∷ [])) }
 {
-    let left = pair(first, second, length);
-    let right = words(third, length);
+    let left = pair(first, second, len);
+    let right = words(third, len);
     write_rows(
         out,
-        length,
+        len,
         ZipRows { left, right },
         |((x, y), z)| -> u64
             ensures { (i : ℕ) → i < 64 → bit result i
@@ -120,26 +115,26 @@ pub(crate) fn write_three<const T: u8>(
 /// The same of a table of four inputs.
 pub(crate) fn write_four<const T: u16>(
     out: &mut [u8],
-    length: usize,
+    len: usize,
     first: Bits<'_>,
     second: Bits<'_>,
     third: Bits<'_>,
     fourth: Bits<'_>,
 )
-    requires exact { HasBytesForBits out.old length }
-    requires first { HasBits first length }
-    requires second { HasBits second length }
-    requires third { HasBits third length }
-    requires fourth { HasBits fourth length }
-    ensures { Stores out.new length (each T (first_bits first.entry length
-        ∷ first_bits second.entry length ∷ first_bits third.entry length
-        ∷ first_bits fourth.entry length ∷ [])) }
+    requires exact { HasBytesForBits out.old len }
+    requires first { HasBits first len }
+    requires second { HasBits second len }
+    requires third { HasBits third len }
+    requires fourth { HasBits fourth len }
+    ensures { Stores out.new len (each T (first_bits first.entry len
+        ∷ first_bits second.entry len ∷ first_bits third.entry len
+        ∷ first_bits fourth.entry len ∷ [])) }
 {
-    let left = pair(first, second, length);
-    let right = pair(third, fourth, length);
+    let left = pair(first, second, len);
+    let right = pair(third, fourth, len);
     write_rows(
         out,
-        length,
+        len,
         ZipRows { left, right },
         |((x, y), (z, v))| -> u64
             ensures { (i : ℕ) → i < 64 → bit result i
@@ -148,71 +143,65 @@ pub(crate) fn write_four<const T: u16>(
     );
 }
 
-/// Writes the first `length` bits over `out`, from bit 0 on. Requires that they are inside, and that `out` has exactly
+/// Writes the first `len` bits over `out`, from bit 0 on. Requires that they are inside, and that `out` has exactly
 /// the bytes that they need. It is inlined: a call would take a fifth of the time of 64 bytes.
 #[inline(always)]
-pub(crate) fn copy(bits: Bits<'_>, length: usize, out: &mut [u8])
-    requires inside { HasBits bits length }
-    requires exact { HasBytesForBits out.old length }
-    ensures { Stores out.new length (first_bits bits.entry length) }
+pub(crate) fn copy(bits: Bits<'_>, len: usize, out: &mut [u8])
+    requires inside { HasBits bits len }
+    requires exact { HasBytesForBits out.old len }
+    ensures { Stores out.new len (first_bits bits.entry len) }
 {
     if bits.1 % 8 == 0 {
-        copy_bytes(&bits.0[bits.1 / 8..], length, out);
+        copy_bytes(&bits.0[bits.1 / 8..], len, out);
     } else {
-        assign_rows(out, length, words(bits, length), |_own: u64, word| word);
+        assign_rows(out, len, words(bits, len), |_own: u64, word| word);
     }
 }
 
-/// Writes the first `length` bits of `bytes` over `out`, all bytes at once. Requires that they are inside, and that
+/// Writes the first `len` bits of `bytes` over `out`, all bytes at once. Requires that they are inside, and that
 /// `out` has exactly the bytes that they need.
-fn copy_bytes(bytes: &[u8], length: usize, out: &mut [u8])
-    requires inside { length ≤ 8 * length' bytes.now }
-    requires exact { HasBytesForBits out.old length }
-    ensures { Stores out.new length (take length (bits bytes.now)) }
+fn copy_bytes(bytes: &[u8], len: usize, out: &mut [u8])
+    requires inside { len ≤ 8 * length bytes.now }
+    requires exact { HasBytesForBits out.old len }
+    ensures { Stores out.new len (take len (bits bytes.now)) }
 {
     out.copy_from_slice(&bytes[..out.len()]);
-    clear_spare(out, length);
+    clear_spare(out, len);
 }
 
-/// Replaces the first `length` bits by the outputs of table `t` for them and those of the second input. Requires
-/// exactly the bytes that `length` bits need, and that those of the second input are inside.
-pub(crate) fn assign_two(bytes: &mut [u8], length: usize, second: Bits<'_>, t: u8)
-    requires exact { HasBytesForBits bytes.old length }
-    requires second { HasBits second length }
-    ensures { Stores bytes.new length
-        (each t (take length (bits bytes.old) ∷ first_bits second.entry length ∷ [])) }
+/// Replaces the first `len` bits by the outputs of table `t` for them and those of the second input. Requires
+/// exactly the bytes that `len` bits need, and that those of the second input are inside.
+pub(crate) fn assign_two(bytes: &mut [u8], len: usize, second: Bits<'_>, t: u8)
+    requires exact { HasBytesForBits bytes.old len }
+    requires second { HasBits second len }
+    ensures { Stores bytes.new len
+        (each t (take len (bits bytes.old) ∷ first_bits second.entry len ∷ [])) }
 {
     if second.1 % 8 == 0 {
-        assign_binary(bytes, &second.0[second.1 / 8..], length, t);
+        assign_binary(bytes, &second.0[second.1 / 8..], len, t);
     } else {
         assign_outputs(
             bytes,
-            length,
-            words(second, length),
+            len,
+            words(second, len),
             |x: u64, y| binary_outputs(u16::from(t), x, y),
         );
     }
 }
 
 /// The same of a table of three inputs.
-pub(crate) fn assign_three(
-    bytes: &mut [u8],
-    length: usize,
-    second: Bits<'_>,
-    third: Bits<'_>,
-    t: u8,
-)
-    requires exact { HasBytesForBits bytes.old length }
-    requires second { HasBits second length }
-    requires third { HasBits third length }
-    ensures { Stores bytes.new length (each t (take length (bits bytes.old)
-        ∷ first_bits second.entry length ∷ first_bits third.entry length ∷ [])) }
+pub(crate) fn assign_three(bytes: &mut [u8], len: usize, second: Bits<'_>, third: Bits<'_>, t: u8)
+    requires exact { HasBytesForBits bytes.old len }
+    requires second { HasBits second len }
+    requires third { HasBits third len }
+    ensures { Stores bytes.new len (each t (take len (bits bytes.old)
+        ∷ first_bits second.entry len ∷ first_bits third.entry len ∷ [])) }
 {
-    let left = words(second, length);
-    let right = words(third, length);
+    let left = words(second, len);
+    let right = words(third, len);
     assign_outputs(
         bytes,
-        length,
+        len,
         ZipRows { left, right },
         |x: u64, (y, z)| ternary_outputs(u16::from(t), x, y, z),
     );
@@ -221,30 +210,30 @@ pub(crate) fn assign_three(
 /// The same of a table of four inputs.
 pub(crate) fn assign_four(
     bytes: &mut [u8],
-    length: usize,
+    len: usize,
     second: Bits<'_>,
     third: Bits<'_>,
     fourth: Bits<'_>,
     t: u16,
 )
-    requires exact { HasBytesForBits bytes.old length }
-    requires second { HasBits second length }
-    requires third { HasBits third length }
-    requires fourth { HasBits fourth length }
-    ensures { Stores bytes.new length (each t (take length (bits bytes.old)
-        ∷ first_bits second.entry length ∷ first_bits third.entry length
-        ∷ first_bits fourth.entry length ∷ [])) }
+    requires exact { HasBytesForBits bytes.old len }
+    requires second { HasBits second len }
+    requires third { HasBits third len }
+    requires fourth { HasBits fourth len }
+    ensures { Stores bytes.new len (each t (take len (bits bytes.old)
+        ∷ first_bits second.entry len ∷ first_bits third.entry len
+        ∷ first_bits fourth.entry len ∷ [])) }
 {
-    let left = words(second, length);
-    let middle = words(third, length);
-    let right = words(fourth, length);
+    let left = words(second, len);
+    let middle = words(third, len);
+    let right = words(fourth, len);
     let two = ZipRows {
         left,
         right: middle,
     };
     assign_outputs(
         bytes,
-        length,
+        len,
         ZipRows { left: two, right },
         |x: u64, ((y, z), v)| quaternary_outputs(t, x, y, z, v),
     );

@@ -1,8 +1,8 @@
 //! The runs of set bits, each by its first index and its length.
-ghost use Rattle.std.specs.Prelude.{◌≡◌, ◌≤◌, length as length'};
+ghost use Rattle.std.specs.Prelude.{◌≡◌, ◌≤◌, length};
 ghost use Rattle.arrow2_model.specs.Bits.{bits};
 ghost use Rattle.arrow2_model.specs.Parts.{part};
-ghost use Rattle.arrow2_ffi.specs.Ranges.{IsInside, HasBits, first_bits};
+ghost use Rattle.arrow2_ffi.specs.Ranges.{HaveEqualLengths, IsInside, HasBits, first_bits};
 ghost use Rattle.arrow2_ffi.specs.RunWrites.{WritesRuns};
 ghost use Rattle.arrow2_ffi.specs.Writes.{Writes};
 
@@ -32,7 +32,7 @@ pub extern "C" fn arrow2_runs(
     // The first `count` of `starts` and `lengths`, then the runs from `at.new` on, are the runs from `at.old` on; where
     // the slices are not full, `at.new` is `length`.
     ensures { Writes result (IsInside bytes.now offset length × (at.old ≤ length))
-        (length' starts.old ≡ length' lengths.old)
+        (HaveEqualLengths starts.old lengths.old)
         (WritesRuns (part (bits bytes.now) offset length) count.new starts.old starts.new lengths.new
         at.old at.new length)
         ((starts.new ≡ starts.old) × (lengths.new ≡ lengths.old)
@@ -63,7 +63,7 @@ fn write_runs(
 ) -> (usize, usize)
     requires inside { HasBits bits end }
     requires within { at ≤ end }
-    requires alike { length' starts.old ≡ length' lengths.old }
+    requires alike { length starts.old ≡ length lengths.old }
     ensures { WritesRuns (first_bits bits.entry end) result.0 starts.old starts.new lengths.new
         at result.1 end }
 {

@@ -1,5 +1,5 @@
 //! The indices of set bits.
-ghost use Rattle.std.specs.Prelude.{◌≡◌, ◌+◌, ◌<◌, ◌≤◌, ◌^◌, ℕ, List, ◌∷◌, ◌++◌, map, take, length as length', IfNone, IfSome};
+ghost use Rattle.std.specs.Prelude.{◌≡◌, ◌+◌, ◌<◌, ◌≤◌, ◌^◌, ℕ, List, ◌∷◌, ◌++◌, map, take, length, IfNone, IfSome};
 ghost use Rattle.std.specs.List.{All};
 ghost use Rattle.arrow2_model.specs.Bits.{bits, unnum};
 ghost use Rattle.arrow2_model.specs.Parts.{part};
@@ -75,13 +75,13 @@ fn write_indices(bits: Bits<'_>, end: usize, at: usize, indices: &mut [usize]) -
 /// full or none is left. Returns how many indices there are then, and the first that did not fit. Requires capacity for
 /// `count` indices, and that each index fits a `usize`.
 fn write_ones(word: u64, base: usize, count: usize, indices: &mut [usize]) -> (usize, Option<usize>)
-    requires few { count ≤ length' indices.old }
+    requires few { count ≤ length indices.old }
     requires fit { All (λ index. index < 2 ^ 64) (map (λ k. base + k) (ones (unnum 64 word))) }
-    ensures size { length' indices.new ≡ length' indices.old }
-    ensures few { result.0 ≤ length' indices.old }
+    ensures size { length indices.new ≡ length indices.old }
+    ensures few { result.0 ≤ length indices.old }
     ensures all { IfNone result.1 (take result.0 indices.new
         ≡ take count indices.old ++ map (λ k. base + k) (ones (unnum 64 word))) }
-    ensures next { IfSome result.1 (λ next. (result.0 ≡ length' indices.old)
+    ensures next { IfSome result.1 (λ next. (result.0 ≡ length indices.old)
         × (others : List ℕ) × (take result.0 indices.new ++ next ∷ others
         ≡ take count indices.old ++ map (λ k. base + k) (ones (unnum 64 word)))) }
 {

@@ -15,21 +15,21 @@ pub(crate) fn given_validity(all_valid: bool, bytes: &[u8], offset: usize) -> Op
     Some(Bits(bytes, offset))
 }
 
-/// Returns whether the validity has a bit for each of `length` items.
-pub(crate) fn covers_items(validity: Option<Bits<'_>>, length: usize) -> bool
-    ensures { IsTrue result ↔ CoversItems (validity_of validity.entry) length }
+/// Returns whether the validity has a bit for each of `len` items.
+pub(crate) fn covers_items(validity: Option<Bits<'_>>, len: usize) -> bool
+    ensures { IsTrue result ↔ CoversItems (validity_of validity.entry) len }
 {
     match validity {
         None => true,
-        Some(bits) => are_inside(bits, length),
+        Some(bits) => are_inside(bits, len),
     }
 }
 
-/// Returns whether item `index` of `length` is not null.
-pub(crate) fn is_valid(validity: Option<Bits<'_>>, index: usize, length: usize) -> bool
-    requires covers { CoversItems (validity_of validity) length }
-    requires below { index < length }
-    ensures { result ≡ slice_index_or (valid_items (validity_of validity.entry) length) index
+/// Returns whether item `index` of `len` is not null.
+pub(crate) fn is_valid(validity: Option<Bits<'_>>, index: usize, len: usize) -> bool
+    requires covers { CoversItems (validity_of validity) len }
+    requires below { index < len }
+    ensures { result ≡ slice_index_or (valid_items (validity_of validity.entry) len) index
         false }
 {
     match validity {

@@ -1,5 +1,5 @@
 //! Replacing the words of bytes by the results of a word function.
-ghost use Rattle.std.specs.Prelude.{◌≡◌, ◌+◌, ◌-◌, ◌*◌, ◌/◌, ◌<◌, ◌≤◌, ◌^◌, ◌⊎◌, ℕ, List, ◌∷◌, false, take, length as length', slice_index_or};
+ghost use Rattle.std.specs.Prelude.{◌≡◌, ◌+◌, ◌-◌, ◌*◌, ◌/◌, ◌<◌, ◌≤◌, ◌^◌, ◌⊎◌, ℕ, List, ◌∷◌, false, take, length, slice_index_or};
 ghost use Rattle.arrow2_model.specs.Bits.{bit, bits};
 ghost use Rattle.arrow2_model.specs.Canonical.{IsCanonical};
 ghost use Rattle.arrow2_model.specs.Kernels.{word, joined};
@@ -9,24 +9,24 @@ use crate::rows::WordRows;
 use arrow2_chunk::bit_chunk::BitChunk;
 use std::convert::AsSlice;
 
-/// Replaces each word of the first `length` bits by the result of `op` for it and the row of words at its index.
+/// Replaces each word of the first `len` bits by the result of `op` for it and the row of words at its index.
 /// Padding bits are false afterwards, whatever they were, and whatever `op` sets there. Does not allocate. Requires
-/// exactly the bytes that `length` bits need, that all lists have `length` items, and that `op` accepts every word.
+/// exactly the bytes that `len` bits need, that all lists have `len` items, and that `op` accepts every word.
 pub fn assign_rows<T: BitChunk, S: WordRows<T>, F: Fn(T, S::Row) -> T>(
     bytes: &mut [u8],
-    length: usize,
+    len: usize,
     rows: S,
     op: F,
 )
     requires callable { F.IsAlwaysCallable op }
     requires alike { S.alike rows }
-    requires length { S.length rows ≡ length }
-    requires exact { length' bytes.old ≡ (length + 7) / 8 }
-    ensures canonical { IsCanonical bytes.new length }
+    requires len { S.len rows ≡ len }
+    requires exact { length bytes.old ≡ (len + 7) / 8 }
+    ensures canonical { IsCanonical bytes.new len }
     ensures items { (f : List ℕ → ℕ) →
         ComputesOwnRows T.BitChunk.WIDTH S.words T.BitChunk.number (F.post op) f →
-        take length (bits bytes.new) ≡ joined T.BitChunk.WIDTH (λ j.
-        f (word T.BitChunk.WIDTH (take length (bits bytes.old)) j ∷ S.row_at rows j)) length }
+        take len (bits bytes.new) ≡ joined T.BitChunk.WIDTH (λ j.
+        f (word T.BitChunk.WIDTH (take len (bits bytes.old)) j ∷ S.row_at rows j)) len }
 {
     let mut rows = rows;
     let mut at = 0;
@@ -35,18 +35,18 @@ pub fn assign_rows<T: BitChunk, S: WordRows<T>, F: Fn(T, S::Row) -> T>(
         put_word(bytes, at, T::SIZE, output);
         at += T::SIZE;
     }
-    let len = length - 8 * at;
-    if len > 0 {
+    let left = len - 8 * at;
+    if left > 0 {
         let count = bytes.len() - at;
-        let own = word_at::<T>(bytes, at, count).masked(len);
-        put_word(bytes, at, count, op(own, rows.rest_row()).masked(len));
+        let own = word_at::<T>(bytes, at, count).masked(left);
+        put_word(bytes, at, count, op(own, rows.rest_row()).masked(left));
     }
 }
 
 /// Returns the word whose first bytes are the `count` ones from byte `at` on. Requires that these are inside the bytes,
 /// and no more than a word has.
 fn word_at<T: BitChunk>(bytes: &[u8], at: usize, count: usize) -> T
-    requires inside { at + count ≤ length' bytes.now }
+    requires inside { at + count ≤ length bytes.now }
     requires most { count ≤ T.BitChunk.SIZE }
     ensures items { (i : ℕ) → i < 8 * count → bit (T.BitChunk.number result) i
         ≡ slice_index_or (bits bytes.now) (8 * at + i) false }
@@ -60,7 +60,7 @@ fn word_at<T: BitChunk>(bytes: &[u8], at: usize, count: usize) -> T
 /// Writes the first `count` bytes of the word from byte `at` on. Requires that these are inside the bytes, and no more
 /// than a word has.
 fn put_word<T: BitChunk>(bytes: &mut [u8], at: usize, count: usize, word: T)
-    requires inside { at + count ≤ length' bytes.old }
+    requires inside { at + count ≤ length bytes.old }
     requires most { count ≤ T.BitChunk.SIZE }
     ensures written { (i : ℕ) → i < 8 * count → slice_index_or (bits bytes.new) (8 * at + i) false
         ≡ bit (T.BitChunk.number word) i }
@@ -74,7 +74,7 @@ fn put_word<T: BitChunk>(bytes: &mut [u8], at: usize, count: usize, word: T)
 /// Replaces `bytes` by the bytes of `word`. Requires `bytes` to have exactly the bytes of a word. A single byte is
 /// stored by itself: as a copy, it keeps LLVM from making a loop over bytes wide.
 fn write_over(bytes: &mut [u8], word: &[u8])
-    requires size { length' word.now ≡ length' bytes.old }
+    requires size { length word.now ≡ length bytes.old }
     ensures { bytes.new ≡ word.now }
 {
     if word.len() == 1 {

@@ -1,5 +1,5 @@
 //! A list from the results of a word function: over bytes, or in new ones.
-ghost use Rattle.std.specs.Prelude.{◌≡◌, ◌+◌, ◌/◌, ℕ, List, Bool, take, IfOk, length as length'};
+ghost use Rattle.std.specs.Prelude.{◌≡◌, ◌+◌, ◌/◌, ℕ, List, Bool, take, IfOk, length};
 ghost use Rattle.arrow2_model.specs.Bits.{bits};
 ghost use Rattle.arrow2_model.specs.Canonical.{IsCanonical};
 ghost use Rattle.arrow2_model.specs.Kernels.{joined};
@@ -11,35 +11,35 @@ use crate::rows::WordRows;
 use arrow2_bits::bytes_for;
 use std::alloc::{AllocError, Global};
 
-/// Writes the results of `op` for each row of words over `bytes`, from bit 0 on, for lists of `length` items. Padding
-/// bits are false afterwards. Does not allocate. Requires exactly the bytes that `length` bits need, that all lists
-/// have `length` items, and that `op` accepts every row.
+/// Writes the results of `op` for each row of words over `bytes`, from bit 0 on, for lists of `len` items. Padding
+/// bits are false afterwards. Does not allocate. Requires exactly the bytes that `len` bits need, that all lists
+/// have `len` items, and that `op` accepts every row.
 pub fn write_rows<S: WordRows<u64>, F: Fn(S::Row) -> u64>(
     bytes: &mut [u8],
-    length: usize,
+    len: usize,
     rows: S,
     op: F,
 )
-    // `op` accepts each row, and each list of `rows` has `length` items.
+    // `op` accepts each row, and each list of `rows` has `len` items.
     requires callable { F.IsAlwaysCallable op }
     requires alike { S.alike rows }
-    requires length { S.length rows ≡ length }
-    requires exact { length' bytes.old ≡ (length + 7) / 8 }
+    requires len { S.len rows ≡ len }
+    requires exact { length bytes.old ≡ (len + 7) / 8 }
     // Padding bits are false.
-    ensures canonical { IsCanonical bytes.new length }
+    ensures canonical { IsCanonical bytes.new len }
     // For every word function `f` that `op` computes.
     ensures items { (f : List ℕ → ℕ) → ComputesRows 64 S.words (λ x. x) (F.post op) f →
-        take length (bits bytes.new) ≡ joined 64 (λ j. f (S.row_at rows j)) length }
+        take len (bits bytes.new) ≡ joined 64 (λ j. f (S.row_at rows j)) len }
     // For every table `t` by which `op` acts on each bit.
     ensures table { (t : ℕ) (lists : List (List Bool)) →
-        IsBitwiseOnRows 64 S.words (λ x. x) (F.post op) t → AreRowsOf 64 lists (S.row_at rows) length →
-        take length (bits bytes.new) ≡ each t lists }
+        IsBitwiseOnRows 64 S.words (λ x. x) (F.post op) t → AreRowsOf 64 lists (S.row_at rows) len →
+        take len (bits bytes.new) ≡ each t lists }
 {
-    assign_rows(bytes, length, rows, |_own: u64, row| op(row));
+    assign_rows(bytes, len, rows, |_own: u64, row| op(row));
 }
 
-/// Returns the bytes of the results of `op` for each row of words, for lists of `length` items: exactly the bytes that
-/// these need, with padding bits false. Allocates once. Requires that all lists have `length` items, and that `op`
+/// Returns the bytes of the results of `op` for each row of words, for lists of `len` items: exactly the bytes that
+/// these need, with padding bits false. Allocates once. Requires that all lists have `len` items, and that `op`
 /// accepts every row.
 ///
 /// # Errors
@@ -47,19 +47,19 @@ pub fn write_rows<S: WordRows<u64>, F: Fn(S::Row) -> u64>(
 /// If an allocation fails.
 pub fn map_rows<S: WordRows<u64>, F: Fn(S::Row) -> u64>(
     alloc: Global,
-    length: usize,
+    len: usize,
     rows: S,
     op: F,
 ) -> Result<Vec<u8>, AllocError>
     requires callable { F.IsAlwaysCallable op }
     requires alike { S.alike rows }
-    requires length { S.length rows ≡ length }
-    ensures canonical { IfOk result (λ v. IsCanonical v.items length) }
+    requires len { S.len rows ≡ len }
+    ensures canonical { IfOk result (λ v. IsCanonical v.items len) }
     ensures items { (f : List ℕ → ℕ) → ComputesRows 64 S.words (λ x. x) (F.post op) f →
-        IfOk result (λ v. take length (bits v.items)
-        ≡ joined 64 (λ j. f (S.row_at rows j)) length) }
+        IfOk result (λ v. take len (bits v.items)
+        ≡ joined 64 (λ j. f (S.row_at rows j)) len) }
 {
-    let mut bytes = vec![in alloc; 0u8; bytes_for(length)]?;
-    write_rows(bytes.as_mut_slice(), length, rows, op);
+    let mut bytes = vec![in alloc; 0u8; bytes_for(len)]?;
+    write_rows(bytes.as_mut_slice(), len, rows, op);
     Ok(bytes)
 }

@@ -1,5 +1,5 @@
 //! Lists of booleans zipped, read by words.
-ghost use Rattle.std.specs.Prelude.{◌≡◌, ◌+◌, ◌<◌, ◌++◌, ℕ, List, [], ◌∷◌, length as length'};
+ghost use Rattle.std.specs.Prelude.{◌≡◌, ◌+◌, ◌<◌, ◌++◌, ℕ, List, [], ◌∷◌, length};
 ghost use Rattle.arrow2_model.specs.Kernels.{word, AreWords};
 ghost use Rattle.arrow2_model.specs.Words.{WordCursor};
 ghost use Rattle.arrow2_model.specs.Rows.{GivesRow};
@@ -16,7 +16,7 @@ pub trait WordRows<B: BitChunk>: Drop {
     ghost words: { Self.Row → List ℕ };
 
     // Returns the number of items of each list still to come.
-    ghost length: { Self → ℕ };
+    ghost len: { Self → ℕ };
 
     // Row j of those still to come. Items past the end count as false.
     ghost row_at: { Self → ℕ → List ℕ };
@@ -28,13 +28,13 @@ pub trait WordRows<B: BitChunk>: Drop {
     fn next_row(&mut self) -> Option<Self::Row>
         requires { alike self.old }
         ensures alike { alike self.new }
-        ensures row { GivesRow B.BitChunk.WIDTH words (length self.old) (row_at self.old) result
-            (length self.new) (row_at self.new) };
+        ensures row { GivesRow B.BitChunk.WIDTH words (len self.old) (row_at self.old) result
+            (len self.new) (row_at self.new) };
 
     /// Returns the row of the remaining items, filled with false. Requires that they are fewer than a word has.
     fn rest_row(&self) -> Self::Row
         requires alike { alike self.now }
-        requires short { length self.now < B.BitChunk.WIDTH }
+        requires short { len self.now < B.BitChunk.WIDTH }
         ensures row { words result ≡ row_at self.now 0 }
         ensures fits { AreWords B.BitChunk.WIDTH (words result) };
 }
@@ -51,7 +51,7 @@ impl<B: BitChunk> WordRows<B> for NoList {
 
     ghost words = { λ r. [] };
 
-    ghost length = { λ s. s.left };
+    ghost len = { λ s. s.left };
 
     ghost row_at = { λ s j. [] };
 
@@ -80,7 +80,7 @@ impl<B: BitChunk, I: BitChunkIterExact<B> + Drop> WordRows<B> for OneList<I> {
 
     ghost words = { λ x. B.BitChunk.number x ∷ [] };
 
-    ghost length = { λ s. length' (I.cursor s.chunks).items };
+    ghost len = { λ s. length (I.cursor s.chunks).items };
 
     ghost row_at = { λ s j. word B.BitChunk.WIDTH (I.cursor s.chunks).items j ∷ [] };
 
@@ -109,11 +109,11 @@ impl<B: BitChunk, L: WordRows<B>, R: WordRows<B>> WordRows<B> for ZipRows<L, R> 
 
     ghost words = { λ r. L.words r.0 ++ R.words r.1 };
 
-    ghost length = { λ s. L.length s.left };
+    ghost len = { λ s. L.len s.left };
 
     ghost row_at = { λ s j. L.row_at s.left j ++ R.row_at s.right j };
 
-    ghost alike = { λ s. L.alike s.left × R.alike s.right × (L.length s.left ≡ R.length s.right) };
+    ghost alike = { λ s. L.alike s.left × R.alike s.right × (L.len s.left ≡ R.len s.right) };
 
     fn next_row(&mut self) -> Option<(L::Row, R::Row)> {
         let left = self.left.next_row()?;
@@ -138,12 +138,12 @@ impl<'a> WordRows<u64> for Pair<'a> {
 
     ghost words = { λ r. r.0 ∷ r.1 ∷ [] };
 
-    ghost length = { λ p. length' p.lists.left.chunks.items };
+    ghost len = { λ p. length p.lists.left.chunks.items };
 
     ghost row_at = { λ p j. word 64 p.lists.left.chunks.items j
         ∷ word 64 p.lists.right.chunks.items j ∷ [] };
 
-    ghost alike = { λ p. length' p.lists.left.chunks.items ≡ length' p.lists.right.chunks.items };
+    ghost alike = { λ p. length p.lists.left.chunks.items ≡ length p.lists.right.chunks.items };
 
     fn next_row(&mut self) -> Option<(u64, u64)> {
         self.lists.next_row()

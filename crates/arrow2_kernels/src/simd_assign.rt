@@ -1,5 +1,5 @@
 //! Replacing bytes by the outputs of a truth table, 32 bytes at a time.
-ghost use Rattle.std.specs.Prelude.{◌≡◌, ◌+◌, ◌*◌, ◌/◌, ◌%◌, ◌^◌, ◌<◌, ◌≤◌, [], ◌∷◌, slice_index, slice_set, take, length as length'};
+ghost use Rattle.std.specs.Prelude.{◌≡◌, ◌+◌, ◌*◌, ◌/◌, ◌%◌, ◌^◌, ◌<◌, ◌≤◌, [], ◌∷◌, slice_index, slice_set, take, length};
 ghost use Rattle.arrow2_model.specs.Bits.{bits};
 ghost use Rattle.arrow2_model.specs.Canonical.{IsCanonical};
 ghost use Rattle.arrow2_model.specs.Tables.{each};
@@ -8,35 +8,35 @@ use crate::simd::{binary_lanes, unary_lanes};
 use crate::truth_tables::{binary_outputs, unary_outputs};
 use std::simd::prelude::*;
 
-/// Replaces the first `length` bits by the outputs of table `t` for them and for those of `other`. Padding bits are
-/// false afterwards, whatever they were. Does not allocate. Requires exactly the bytes that `length` bits need, and at
+/// Replaces the first `len` bits by the outputs of table `t` for them and for those of `other`. Padding bits are
+/// false afterwards, whatever they were. Does not allocate. Requires exactly the bytes that `len` bits need, and at
 /// least that many in `other`.
-pub fn assign_binary(bytes: &mut [u8], other: &[u8], length: usize, t: u8)
-    requires exact { length' bytes.old ≡ (length + 7) / 8 }
-    requires inside { length ≤ 8 * length' other.now }
-    ensures canonical { IsCanonical bytes.new length }
-    ensures items { take length (bits bytes.new)
-        ≡ each t (take length (bits bytes.old) ∷ take length (bits other.now) ∷ []) }
+pub fn assign_binary(bytes: &mut [u8], other: &[u8], len: usize, t: u8)
+    requires exact { length bytes.old ≡ (len + 7) / 8 }
+    requires inside { len ≤ 8 * length other.now }
+    ensures canonical { IsCanonical bytes.new len }
+    ensures items { take len (bits bytes.new)
+        ≡ each t (take len (bits bytes.old) ∷ take len (bits other.now) ∷ []) }
 {
     write_by_table(bytes, other, t);
-    clear_spare(bytes, length);
+    clear_spare(bytes, len);
 }
 
 /// The same of a table of one input.
-pub fn assign_unary(bytes: &mut [u8], length: usize, t: u8)
-    requires exact { length' bytes.old ≡ (length + 7) / 8 }
-    ensures canonical { IsCanonical bytes.new length }
-    ensures items { take length (bits bytes.new) ≡ each t (take length (bits bytes.old) ∷ []) }
+pub fn assign_unary(bytes: &mut [u8], len: usize, t: u8)
+    requires exact { length bytes.old ≡ (len + 7) / 8 }
+    ensures canonical { IsCanonical bytes.new len }
+    ensures items { take len (bits bytes.new) ≡ each t (take len (bits bytes.old) ∷ []) }
 {
     write_by_unary_table(bytes, t);
-    clear_spare(bytes, length);
+    clear_spare(bytes, len);
 }
 
 /// Replaces each bit of the bytes by its output, by a loop of the table's own.
 pub(crate) fn write_by_table(bytes: &mut [u8], other: &[u8], t: u8)
-    requires inside { length' bytes.old ≤ length' other.now }
+    requires inside { length bytes.old ≤ length other.now }
     ensures { bits bytes.new ≡ each t (bits bytes.old
-        ∷ take (8 * length' bytes.old) (bits other.now) ∷ []) }
+        ∷ take (8 * length bytes.old) (bits other.now) ∷ []) }
 {
     match t % 16 {
         0 => write_binary(bytes, other, 0),
@@ -73,9 +73,9 @@ fn write_by_unary_table(bytes: &mut [u8], t: u8)
 /// Replaces each bit of the bytes by its output. 32 bytes go at once, and a plain loop takes the rest.
 #[inline(always)]
 fn write_binary(bytes: &mut [u8], other: &[u8], t: u8)
-    requires inside { length' bytes.old ≤ length' other.now }
+    requires inside { length bytes.old ≤ length other.now }
     ensures { bits bytes.new ≡ each t (bits bytes.old
-        ∷ take (8 * length' bytes.old) (bits other.now) ∷ []) }
+        ∷ take (8 * length bytes.old) (bits other.now) ∷ []) }
 {
     let whole = bytes.len() / 32;
     for k in 0..whole {
@@ -105,20 +105,20 @@ fn write_unary(bytes: &mut [u8], t: u8)
     }
 }
 
-/// Clears the bits after the first `length`. Does not allocate. Requires exactly the bytes that `length` bits need.
-pub fn clear_spare(bytes: &mut [u8], length: usize)
-    requires exact { length' bytes.old ≡ (length + 7) / 8 }
-    ensures canonical { IsCanonical bytes.new length }
-    ensures items { take length (bits bytes.new) ≡ take length (bits bytes.old) }
+/// Clears the bits after the first `len`. Does not allocate. Requires exactly the bytes that `len` bits need.
+pub fn clear_spare(bytes: &mut [u8], len: usize)
+    requires exact { length bytes.old ≡ (len + 7) / 8 }
+    ensures canonical { IsCanonical bytes.new len }
+    ensures items { take len (bits bytes.new) ≡ take len (bits bytes.old) }
 {
-    if length % 8 != 0 {
-        clear_last(bytes, length / 8, length % 8);
+    if len % 8 != 0 {
+        clear_last(bytes, len / 8, len % 8);
     }
 }
 
 /// Keeps of byte `last` its lowest `count` bits. Requires that there is one, and for less than eight.
 fn clear_last(bytes: &mut [u8], last: usize, count: usize)
-    requires inside { last < length' bytes.old }
+    requires inside { last < length bytes.old }
     requires few { count < 8 }
     ensures { bytes.new ≡ slice_set bytes.old last (slice_index bytes.old last % 2 ^ count) }
 {

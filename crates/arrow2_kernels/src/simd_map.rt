@@ -1,5 +1,5 @@
 //! New lists from truth tables, 32 bytes at a time.
-ghost use Rattle.std.specs.Prelude.{◌≡◌, ◌+◌, ◌*◌, ◌/◌, ◌≤◌, [], ◌∷◌, ◌++◌, take, length as length', IfOk, OnOk, vec_len};
+ghost use Rattle.std.specs.Prelude.{◌≡◌, ◌+◌, ◌*◌, ◌/◌, ◌≤◌, [], ◌∷◌, ◌++◌, take, length, IfOk, OnOk, vec_len};
 ghost use Rattle.arrow2_model.specs.Bits.{bits};
 ghost use Rattle.arrow2_model.specs.Canonical.{IsCanonical};
 ghost use Rattle.arrow2_model.specs.Tables.{each};
@@ -11,8 +11,8 @@ use std::alloc::{AllocError, Global};
 /// The number of bytes that are copied before their outputs are computed: they stay in the nearest cache.
 const BLOCK: usize = 4096;
 
-/// Returns the bytes of the outputs of table `t` for the first `length` bits of both: exactly the bytes that these
-/// need, with padding bits false. Allocates once. Requires that both hold `length` bits.
+/// Returns the bytes of the outputs of table `t` for the first `len` bits of both: exactly the bytes that these
+/// need, with padding bits false. Allocates once. Requires that both hold `len` bits.
 ///
 /// # Errors
 ///
@@ -21,19 +21,19 @@ pub fn map_binary(
     alloc: Global,
     left: &[u8],
     right: &[u8],
-    length: usize,
+    len: usize,
     t: u8,
 ) -> Result<Vec<u8>, AllocError>
-    requires left { length ≤ 8 * length' left.now }
-    requires right { length ≤ 8 * length' right.now }
-    ensures canonical { IfOk result (λ v. IsCanonical v.items length) }
-    ensures items { IfOk result (λ v. take length (bits v.items)
-        ≡ each t (take length (bits left.now) ∷ take length (bits right.now) ∷ [])) }
+    requires left { len ≤ 8 * length left.now }
+    requires right { len ≤ 8 * length right.now }
+    ensures canonical { IfOk result (λ v. IsCanonical v.items len) }
+    ensures items { IfOk result (λ v. take len (bits v.items)
+        ≡ each t (take len (bits left.now) ∷ take len (bits right.now) ∷ [])) }
 {
-    let count = bytes_for(length);
+    let count = bytes_for(len);
     let mut bytes = Vec::with_capacity(alloc, count)?;
     append_blocks(&mut bytes, &left[..count], &right[..count], t)?;
-    clear_spare(bytes.as_mut_slice(), length);
+    clear_spare(bytes.as_mut_slice(), len);
     Ok(bytes)
 }
 
@@ -42,14 +42,14 @@ pub fn map_binary(
 /// # Errors
 ///
 /// If an allocation fails.
-pub fn map_unary(alloc: Global, list: &[u8], length: usize, t: u8) -> Result<Vec<u8>, AllocError>
-    requires { length ≤ 8 * length' list.now }
-    ensures canonical { IfOk result (λ v. IsCanonical v.items length) }
-    ensures items { IfOk result (λ v. take length (bits v.items)
-        ≡ each t (take length (bits list.now) ∷ [])) }
+pub fn map_unary(alloc: Global, list: &[u8], len: usize, t: u8) -> Result<Vec<u8>, AllocError>
+    requires { len ≤ 8 * length list.now }
+    ensures canonical { IfOk result (λ v. IsCanonical v.items len) }
+    ensures items { IfOk result (λ v. take len (bits v.items)
+        ≡ each t (take len (bits list.now) ∷ [])) }
 {
-    let mut bytes = Vec::from_slice(alloc, &list[..bytes_for(length)])?;
-    assign_unary(bytes.as_mut_slice(), length, t);
+    let mut bytes = Vec::from_slice(alloc, &list[..bytes_for(len)])?;
+    assign_unary(bytes.as_mut_slice(), len, t);
     Ok(bytes)
 }
 
@@ -57,7 +57,7 @@ pub fn map_unary(alloc: Global, list: &[u8], length: usize, t: u8) -> Result<Vec
 /// number of bytes.
 fn append_blocks(bytes: &mut Vec<u8>, left: &[u8], right: &[u8], t: u8) -> Result<(), AllocError>
     requires empty { bytes.old.items ≡ [] }
-    requires alike { length' left.now ≡ length' right.now }
+    requires alike { length left.now ≡ length right.now }
     ensures { OnOk result (bits bytes.new.items ≡ each t (bits left.now ∷ bits right.now ∷ [])) }
 {
     let whole = left.len() / BLOCK;
@@ -70,7 +70,7 @@ fn append_blocks(bytes: &mut Vec<u8>, left: &[u8], right: &[u8], t: u8) -> Resul
 
 /// Appends the outputs of table `t` for each bit of both. Requires both to have the same number of bytes.
 fn append_binary(bytes: &mut Vec<u8>, left: &[u8], right: &[u8], t: u8) -> Result<(), AllocError>
-    requires alike { length' left.now ≡ length' right.now }
+    requires alike { length left.now ≡ length right.now }
     ensures { OnOk result (bits bytes.new.items ≡ bits bytes.old.items
         ++ each t (bits left.now ∷ bits right.now ∷ [])) }
 {

@@ -1,5 +1,5 @@
 //! The commands on boolean arrays: the effect of each on its slots, and its reply.
-ghost use Rattle.std.specs.Prelude.{◌≡◌, length as count_of, option_map, OnErr, IfOk};
+ghost use Rattle.std.specs.Prelude.{◌≡◌, length, option_map, OnErr, IfOk};
 ghost use Rattle.arrow2_machine.specs.BitmapOutcomes.{part_inside};
 ghost use Rattle.arrow2_machine.specs.Held.{at, array as array_in, Array};
 ghost use Rattle.arrow2_machine.specs.ArrayOutcomes.{after_new_array, array_text, null_count, after_array_slice, two_arrays, after_kleene, array_outcome};
@@ -112,7 +112,7 @@ fn two_boolean_arrays(
 ) -> Result<(&BooleanArray, &BooleanArray), LineError>
     ensures gives { Answers (λ a. (boolean_items a.0.now, boolean_items a.1.now)) result
         (two_arrays (at slots.now first) (at slots.now second)) }
-    ensures same_length { IfOk result (λ a. count_of (boolean_items a.0.now) ≡ count_of (boolean_items a.1.now)) }
+    ensures same_length { IfOk result (λ a. length (boolean_items a.0.now) ≡ length (boolean_items a.1.now)) }
 {
     let first = slots[first.get()].array()?;
     let second = slots[second.get()].array()?;

@@ -30,7 +30,7 @@ GrowsUpTo greatest as_error r old new more = Grows as_error (last_of_growing old
 
 -- growth by all lengths that an iterator gives, all of them or none, where the last offset may reach the greatest one
 -- and not pass it. A failure is returned as an error
-pub record GrowsByRun {S T E : Type 0} (greatest : ℕ) (as_error : GrowthError → E) (r : Result T E) (old new : GrowingOffsets) (steps : S → Option ℕ → S → Type 0) (lengths : S) : Type 0 where
+pub record GrowsByIterator {S T E : Type 0} (greatest : ℕ) (as_error : GrowthError → E) (r : Result T E) (old new : GrowingOffsets) (steps : S → Option ℕ → S → Type 0) (lengths : S) : Type 0 where
   -- its lengths come after the others, from the same start
   pub ok : OnOk r (WholeRun steps lengths (λ run. GrownBy run.items old new))
   -- the last offset does not pass the greatest one

@@ -4,7 +4,7 @@ ghost use Rattle.std.specs.Iterator.{IsFinite};
 ghost use Rattle.std.specs.Iterator.Runs.{WholeRun};
 ghost use Rattle.arrow2_offset.specs.Offsets.{AreOffsetsUpTo, last_of, lengths_of};
 ghost use Rattle.arrow2_offset.specs.Iterators.{MayYieldMoreThan, MayYieldPast};
-ghost use Rattle.arrow2_offset.specs.Growth.{GrowsByRun};
+ghost use Rattle.arrow2_offset.specs.Growth.{GrowsByIterator};
 ghost use Rattle.arrow2_offset.specs.Lengths.{LengthenedBy};
 ghost use Rattle.arrow2_offset.specs.NewOffsets.{made_of};
 ghost use Rattle.arrow2_types.specs.declared.growth_error.GrowthError.TheVariants as growth_error;
@@ -36,7 +36,7 @@ pub(crate) fn append_lengths<O: Offset, I: Iterator<Item = usize> + Drop>(
     requires can { I.can_next lengths }
     requires ends { IsFinite (I.remaining lengths) }
     ensures valid { AreOffsetsUpTo O.MAX (map O.value offsets.new.items) }
-    ensures grows { GrowsByRun O.MAX (λ error. error) result
+    ensures grows { GrowsByIterator O.MAX (λ error. error) result
         (made_of (map O.value offsets.old.items) (vec_capacity offsets.old))
         (made_of (map O.value offsets.new.items) (vec_capacity offsets.new))
         I.next_gives lengths }

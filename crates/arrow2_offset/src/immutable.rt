@@ -1,5 +1,5 @@
 //! Offsets that are shared.
-ghost use Rattle.std.specs.Prelude.{◌≡◌, ◌+◌, ◌-◌, ◌<◌, ◌≤◌, ◌↔◌, ⊤, [], ◌∷◌, length, length as count_of, map, sum, MatchResult, pos, slice_index_or, IfOk, IfErr, IsTrue, nat_eq};
+ghost use Rattle.std.specs.Prelude.{◌≡◌, ◌+◌, ◌-◌, ◌<◌, ◌≤◌, ◌↔◌, ⊤, [], ◌∷◌, length, map, sum, MatchResult, pos, slice_index_or, IfOk, IfErr, IsTrue, nat_eq};
 ghost use Rattle.std.specs.Ordering.{on, int_eq};
 ghost use Rattle.std.specs.Cmp.{partial_equiv_from_equiv, int_eq_equiv, on_equiv};
 ghost use Rattle.std.specs.Cmp.Lexicographic.{pointwise, lists_equiv};
@@ -121,7 +121,7 @@ impl<O: Offset> OffsetsBuffer<O> {
     pub fn as_slice(&self) -> &[O]
         ensures offsets { map O.value result.now ≡ buffer_items self.now }
         ensures valid { AreOffsets (buffer_items self.now) }
-        ensures spelled { buffer_items self.now
+        ensures by_lengths { buffer_items self.now
             ≡ map pos (offsets_list (start_of (buffer_items self.now))
             (lengths_of (buffer_items self.now))) }
         ensures fits { last_of (buffer_items self.now) ≤ O.MAX }
@@ -132,15 +132,15 @@ impl<O: Offset> OffsetsBuffer<O> {
         offsets
     }
 
-    /// Returns the offsets of `length` slots from slot `start` on: one more than there are slots. Requires that they
+    /// Returns the offsets of `len` slots from slot `start` on: one more than there are slots. Requires that they
     /// are inside.
-    pub(crate) fn offsets_of_slots(&self, start: usize, length: usize) -> &[O]
-        requires { start + length < count_of (buffer_items self.now) }
+    pub(crate) fn offsets_of_slots(&self, start: usize, len: usize) -> &[O]
+        requires { start + len < length (buffer_items self.now) }
         ensures valid { AreOffsets (map O.value result.now) }
         ensures lengths { lengths_of (map O.value result.now)
-            ≡ part (lengths_of (buffer_items self.now)) start length }
+            ≡ part (lengths_of (buffer_items self.now)) start len }
     {
-        &self.as_slice()[start..start + length + 1]
+        &self.as_slice()[start..start + len + 1]
     }
 
     /// Returns how far the last offset is above the first.
@@ -183,42 +183,42 @@ impl<O: Offset> OffsetsBuffer<O> {
         slot_span(self.as_slice(), index)
     }
 
-    /// Keeps `length` offsets from offset `offset` on, over the same storage. Does not allocate.
+    /// Keeps `len` offsets from the one at index `offset` on, over the same storage. Does not allocate.
     ///
-    /// Requires that `length` is above 0, and that they are inside: `offset + length` is at most
+    /// Requires that `len` is above 0, and that they are inside: `offset + len` is at most
     /// [`OffsetsBuffer::len`].
-    pub fn slice(&mut self, offset: usize, length: usize)
-        requires some { 0 < length }
-        requires inside { offset + length ≤ count_of (buffer_items self.old) }
-        ensures offsets { buffer_items self.new ≡ part (buffer_items self.old) offset length }
+    pub fn slice(&mut self, offset: usize, len: usize)
+        requires not_empty { 0 < len }
+        requires inside { offset + len ≤ length (buffer_items self.old) }
+        ensures offsets { buffer_items self.new ≡ part (buffer_items self.old) offset len }
         ensures storage { self.new ≡ record self.old {
           offset = self.old.offset + offset;
-          len = length;
+          len = len;
         } }
         ensures start { start_of (buffer_items self.new)
             ≡ offset_at (start_of (buffer_items self.old))
             (lengths_of (buffer_items self.old)) offset }
         ensures lengths { lengths_of (buffer_items self.new)
-            ≡ part (lengths_of (buffer_items self.old)) offset (length - 1) }
+            ≡ part (lengths_of (buffer_items self.old)) offset (len - 1) }
     {
-        prove!(length <= self.buffer.len());
-        self.buffer.slice(offset, length);
+        prove!(len <= self.buffer.len());
+        self.buffer.slice(offset, len);
     }
 
-    /// Returns the `length` offsets from offset `offset` on, over the same storage. Does not allocate.
+    /// Returns the `len` offsets from the one at index `offset` on, over the same storage. Does not allocate.
     ///
     /// Requires what [`OffsetsBuffer::slice`] requires. arrow2 has `slice` alone.
-    pub fn sliced(mut self, offset: usize, length: usize) -> Self
-        requires some { 0 < length }
-        requires inside { offset + length ≤ count_of (buffer_items self) }
-        ensures offsets { buffer_items result ≡ part (buffer_items self) offset length }
-        ensures storage { result ≡ record self { offset = self.offset + offset; len = length } }
+    pub fn sliced(mut self, offset: usize, len: usize) -> Self
+        requires not_empty { 0 < len }
+        requires inside { offset + len ≤ length (buffer_items self) }
+        ensures offsets { buffer_items result ≡ part (buffer_items self) offset len }
+        ensures storage { result ≡ record self { offset = self.offset + offset; len = len } }
         ensures start { start_of (buffer_items result)
             ≡ offset_at (start_of (buffer_items self)) (lengths_of (buffer_items self)) offset }
         ensures lengths { lengths_of (buffer_items result)
-            ≡ part (lengths_of (buffer_items self)) offset (length - 1) }
+            ≡ part (lengths_of (buffer_items self)) offset (len - 1) }
     {
-        self.slice(offset, length);
+        self.slice(offset, len);
         self
     }
 
@@ -262,7 +262,7 @@ impl<O: Offset> OffsetsBuffer<O> {
     }
 }
 
-/// The buffer itself, which is moved and not copied.
+/// Makes offsets of the buffer, without a copy.
 ///
 /// # Errors
 ///
@@ -282,12 +282,13 @@ impl<O: Offset> TryFrom<Buffer<O>> for OffsetsBuffer<O> {
     }
 }
 
-/// The whole vector, which is moved and not copied.
+/// Makes offsets of the whole vector, without a copy.
 ///
 /// # Errors
 ///
-/// `OutOfSpec` exactly where the items are not offsets, with the text of the rule that they break, or
-/// `OutOfMemory` if the message cannot be allocated; else `OutOfMemory` alone. The vector is then dropped.
+/// Where the items are not offsets: `OutOfSpec` with the text of the rule that they break, or `OutOfMemory` if that
+/// text cannot be allocated. Where they are offsets, `OutOfMemory` is the only error. After an error the vector is
+/// dropped.
 impl<O: Offset> TryFrom<Vec<O>> for OffsetsBuffer<O> {
     type Error = Error;
 
@@ -327,7 +328,7 @@ impl<O: Offset> TryFrom<Offsets<O>> for OffsetsBuffer<O> {
 impl<O: Offset> Index<usize> for OffsetsBuffer<O> {
     type Output = O;
 
-    ghost can_index = { λ b position. position < count_of (buffer_items b) };
+    ghost can_index = { λ b position. position < length (buffer_items b) };
 
     ghost index_gives = { λ b position offset.
         O.value offset ≡ slice_index_or (buffer_items b) position (pos 0) };
@@ -358,7 +359,7 @@ impl<O: Offset> PartialEq for OffsetsBuffer<O> {
     fn eq(&self, other: &Self) -> bool
         ensures value { result ≡ on buffer_items (pointwise int_eq) self.now other.now }
         ensures lists { IsTrue result ↔ (buffer_items self.now ≡ buffer_items other.now) }
-        ensures spelled { result ≡ pointwise nat_eq
+        ensures by_lengths { result ≡ pointwise nat_eq
             (offsets_list (start_of (buffer_items self.now)) (lengths_of (buffer_items self.now)))
             (offsets_list (start_of (buffer_items other.now))
             (lengths_of (buffer_items other.now))) }

@@ -1,5 +1,5 @@
 //! Offsets that grow.
-ghost use Rattle.std.specs.Prelude.{◌≡◌, ◌+◌, ◌-◌, ◌<◌, ◌≤◌, ◌^◌, ◌≤ℤ◌, ◌↔◌, ◌⊎◌, [], ◌∷◌, length, length as count_of, map, sum, take, pos, replicate, slice_index_or, unsigned_abs, OnOk, IsOk, IfOk, IfErr, IsErrOf, IsTrue, MatchOption, MatchResult, vec_capacity};
+ghost use Rattle.std.specs.Prelude.{◌≡◌, ◌+◌, ◌-◌, ◌<◌, ◌≤◌, ◌^◌, ◌≤ℤ◌, ◌↔◌, ◌⊎◌, [], ◌∷◌, length, map, sum, take, pos, replicate, slice_index_or, unsigned_abs, OnOk, IsOk, IfOk, IfErr, IsErrOf, IsTrue, MatchOption, MatchResult, vec_capacity};
 ghost use Rattle.std.specs.Iterator.{IsFinite, IsFiniteIterable};
 ghost use Rattle.std.specs.Iterator.Runs.{WholeRun};
 ghost use Rattle.std.specs.Ordering.{on};
@@ -10,7 +10,7 @@ ghost use Rattle.arrow2_model.specs.Parts.{part};
 ghost use Rattle.arrow2_model.specs.Buffers.{buffer_items};
 ghost use Rattle.arrow2_offset.specs.Offsets.{AreOffsets, offset_at, AreOffsetsUpTo, offsets_of, last_of_growing, start_of, lengths_of, slots, SameOffsets, GrownBy};
 ghost use Rattle.arrow2_offset.specs.Iterators.{MayYieldPast};
-ghost use Rattle.arrow2_offset.specs.Growth.{Grows, GrowsUpTo, GrowsByRun};
+ghost use Rattle.arrow2_offset.specs.Growth.{Grows, GrowsUpTo, GrowsByIterator};
 ghost use Rattle.arrow2_offset.specs.NewOffsets.{made_of};
 ghost use Rattle.arrow2_offset.specs.Refusals.{IsOutOfSpecOrOutOfMemory, not_offsets_message};
 ghost use Rattle.arrow2_types.specs.Refusals.{error_of};
@@ -79,19 +79,19 @@ impl<O: Offset> Offsets<O> {
         Offsets::with_capacity(alloc, 0)
     }
 
-    /// Returns `length` slots of length 0, from offset 0 on.
+    /// Returns `len` slots of length 0, from offset 0 on.
     ///
     /// # Errors
     ///
-    /// `Overflow` exactly where `length` is `usize::MAX`, since there is one offset more; else
+    /// `Overflow` exactly where `len` is `usize::MAX`, since there is one offset more; else
     /// `OutOfMemory` alone. arrow2 wraps there.
-    pub fn new_zeroed(alloc: Global, length: usize) -> Result<Self>
-        ensures ok { IfOk result (λ o. (o.start ≡ 0) × (o.lengths ≡ replicate length 0)) }
-        ensures overflow { IsErrOf result Error.Overflow ↔ (2 ^ 64 ≤ length + 1) }
+    pub fn new_zeroed(alloc: Global, len: usize) -> Result<Self>
+        ensures ok { IfOk result (λ o. (o.start ≡ 0) × (o.lengths ≡ replicate len 0)) }
+        ensures overflow { IsErrOf result Error.Overflow ↔ (2 ^ 64 ≤ len + 1) }
         ensures only { IfErr result (λ e. (e ≡ Error.Overflow) ⊎ (e ≡ Error.OutOfMemory)) }
     {
-        let mut offsets = Offsets::with_capacity(alloc, length)?;
-        offsets.extend_constant(length)?;
+        let mut offsets = Offsets::with_capacity(alloc, len)?;
+        offsets.extend_constant(len)?;
         Ok(offsets)
     }
 
@@ -122,7 +122,7 @@ impl<O: Offset> Offsets<O> {
     /// `Overflow`, which comes only where the iterator may give lengths whose sum passes `O::MAX`, or `OutOfMemory`.
     pub fn try_from_iter<I: IntoIterator<Item = usize>>(alloc: Global, iter: I) -> Result<Self>
         requires { IsFiniteIterable I.into_iter_gives I.IntoIter.can_next I.IntoIter.remaining iter }
-        // All items of a run of the iterator.
+        // The lengths are all items of one pass of the iterator, to its end.
         ensures ok { IfOk result (λ o. (it : I.IntoIter) × I.into_iter_gives iter it
             × WholeRun I.IntoIter.next_gives it (λ p. (o.start ≡ 0) × (o.lengths ≡ p.items))) }
         ensures fits { IfOk result (λ o. last_of_growing o ≤ O.MAX) }
@@ -175,7 +175,7 @@ impl<O: Offset> Offsets<O> {
         // The offsets stay, and `additional` more lengths fit.
         ensures items { SameOffsets self.old self.new }
         ensures ok { OnOk result (slots self.old + additional ≤ self.new.capacity) }
-        // The capacity never falls. The slots that there are fit in it: a fact of the type.
+        // The capacity never falls. The slots that it holds are within it, by the type's invariant.
         ensures capacity { self.old.capacity ≤ self.new.capacity }
         ensures within_capacity { slots self.old ≤ self.old.capacity }
         // When it succeeds, and which error can come.
@@ -205,14 +205,14 @@ impl<O: Offset> Offsets<O> {
     ///
     /// # Errors
     ///
-    /// `Overflow` exactly where the last offset would pass `O::MAX`, else `OutOfMemory` alone, also where a `usize`
-    /// cannot count the offsets. After either the offsets are as they were.
-    pub fn try_push(&mut self, length: O) -> Result<()>
-        requires { pos 0 ≤ℤ O.value length }
+    /// `Overflow` exactly where the last offset would pass `O::MAX`. Otherwise `OutOfMemory` is the only error, also
+    /// where a `usize` cannot count the offsets. After either the offsets are as they were.
+    pub fn try_push(&mut self, len: O) -> Result<()>
+        requires { pos 0 ≤ℤ O.value len }
         ensures { GrowsUpTo O.MAX error_of result self.old self.new
-            (unsigned_abs (O.value length) ∷ []) }
+            (unsigned_abs (O.value len) ∷ []) }
     {
-        self.push_length(length.to_usize())?;
+        self.push_length(len.to_usize())?;
         Ok(())
     }
 
@@ -220,12 +220,12 @@ impl<O: Offset> Offsets<O> {
     ///
     /// # Errors
     ///
-    /// `Overflow` exactly where the last offset would pass `O::MAX`, else `OutOfMemory` alone, also where a `usize`
-    /// cannot count the offsets. After either the offsets are as they were.
-    pub fn try_push_usize(&mut self, length: usize) -> Result<()>
-        ensures { GrowsUpTo O.MAX error_of result self.old self.new (length ∷ []) }
+    /// `Overflow` exactly where the last offset would pass `O::MAX`. Otherwise `OutOfMemory` is the only error, also
+    /// where a `usize` cannot count the offsets. After either the offsets are as they were.
+    pub fn try_push_usize(&mut self, len: usize) -> Result<()>
+        ensures { GrowsUpTo O.MAX error_of result self.old self.new (len ∷ []) }
     {
-        self.push_length(length)?;
+        self.push_length(len)?;
         Ok(())
     }
 
@@ -244,7 +244,7 @@ impl<O: Offset> Offsets<O> {
     ) -> Result<()>
         requires can { I.can_next lengths }
         requires ends { IsFinite (I.remaining lengths) }
-        ensures { GrowsByRun O.MAX error_of result self.old self.new I.next_gives lengths }
+        ensures { GrowsByIterator O.MAX error_of result self.old self.new I.next_gives lengths }
     {
         self.extend_lengths(lengths)?;
         Ok(())
@@ -265,9 +265,8 @@ impl<O: Offset> Offsets<O> {
         Ok(())
     }
 
-    /// Appends lengths of other offsets: as many as `length` states, from the one at index `start` on. Requires that
-    /// `length` is 0, or that `start + length` is below the number of the other's offsets. Within the capacity it does
-    /// not allocate.
+    /// Appends `len` lengths of other offsets, from the one at index `start` on. Requires that `len` is 0, or that
+    /// `start + len` is below the number of the other's offsets. Within the capacity it does not allocate.
     ///
     /// Differs from arrow2, which tests the other's last offset instead of the sum of the lengths.
     ///
@@ -279,19 +278,19 @@ impl<O: Offset> Offsets<O> {
         &mut self,
         other: &OffsetsBuffer<O>,
         start: usize,
-        length: usize,
+        len: usize,
     ) -> Result<()>
-        requires inside { (length ≡ 0) ⊎ (start + length < count_of (buffer_items other.now)) }
+        requires inside { (len ≡ 0) ⊎ (start + len < length (buffer_items other.now)) }
         ensures { GrowsUpTo O.MAX error_of result self.old self.new
-            (part (lengths_of (buffer_items other.now)) start length) }
+            (part (lengths_of (buffer_items other.now)) start len) }
     {
         // The number is read for the facts that the type guarantees: it is at most `O::MAX`, and the slots are within
         // the capacity.
         let _ = self.last_number();
-        if length == 0 {
+        if len == 0 {
             return Ok(());
         }
-        self.append(other.offsets_of_slots(start, length))?;
+        self.append(other.offsets_of_slots(start, len))?;
         Ok(())
     }
 
@@ -405,14 +404,14 @@ impl<O: Offset> Offsets<O> {
     }
 
     /// Appends one length. The error type is one byte in size.
-    fn push_length(&mut self, length: usize) -> std::result::Result<(), GrowthError>
-        ensures { GrowsUpTo O.MAX (λ error. error) result self.old self.new (length ∷ []) }
+    fn push_length(&mut self, len: usize) -> std::result::Result<(), GrowthError>
+        ensures { GrowsUpTo O.MAX (λ error. error) result self.old self.new (len ∷ []) }
     {
         let last = self.last_number();
-        if length > O::MAX - last {
+        if len > O::MAX - last {
             return Err(GrowthError::Overflow);
         }
-        self.offsets.push(O::from_as_usize(last + length))?;
+        self.offsets.push(O::from_as_usize(last + len))?;
         Ok(())
     }
 
@@ -427,15 +426,15 @@ impl<O: Offset> Offsets<O> {
         self.offsets.reserve(additional)
     }
 
-    /// Appends one length. Requires spare capacity for it, and that the last offset plus `length` is at most `O::MAX`.
-    fn push_within(&mut self, length: usize)
+    /// Appends one length. Requires spare capacity for it, and that the last offset plus `len` is at most `O::MAX`.
+    fn push_within(&mut self, len: usize)
         requires spare { slots self.old < self.old.capacity }
-        requires fits { last_of_growing self.old + length ≤ O.MAX }
-        ensures grown { GrownBy (length ∷ []) self.old self.new }
+        requires fits { last_of_growing self.old + len ≤ O.MAX }
+        ensures grown { GrownBy (len ∷ []) self.old self.new }
         ensures capacity { self.new.capacity ≡ self.old.capacity }
     {
         let last = self.last_number();
-        self.offsets.push_reserved(O::from_as_usize(last + length));
+        self.offsets.push_reserved(O::from_as_usize(last + len));
     }
 
     /// Keeps the first `count` slots.
@@ -455,7 +454,7 @@ impl<O: Offset> Offsets<O> {
     ) -> std::result::Result<(), GrowthError>
         requires can { I.can_next lengths }
         requires ends { IsFinite (I.remaining lengths) }
-        ensures { GrowsByRun O.MAX (λ error. error) result self.old self.new
+        ensures { GrowsByIterator O.MAX (λ error. error) result self.old self.new
             I.next_gives lengths }
     {
         append_lengths(&mut self.offsets, lengths)
@@ -480,7 +479,7 @@ impl<O: Offset> Offsets<O> {
     }
 }
 
-/// The vector itself, which is moved and not copied.
+/// Makes offsets of the vector, without a copy.
 ///
 /// # Errors
 ///

@@ -6,7 +6,7 @@ use crate::packing::word_of;
 use arrow2_chunk::bit_chunk::BitChunk;
 use std::alloc::{AllocError, Global};
 
-/// Returns the bytes of the results of `f` for each number below `length`, followed by padding bits. Allocates once,
+/// Returns the bytes of the results of `f` for each number below `len`, followed by padding bits. Allocates once,
 /// before it calls `f`. Requires that `f` may be called at each of these numbers.
 ///
 /// # Errors
@@ -14,20 +14,20 @@ use std::alloc::{AllocError, Global};
 /// If an allocation fails.
 pub fn pack_results<F: Fn(usize) -> bool>(
     alloc: Global,
-    length: usize,
+    len: usize,
     f: F,
 ) -> Result<Vec<u8>, AllocError>
-    requires callable { (k : ℕ) → k < length → F.pre f k }
-    ensures enough { IfOk result (λ bytes. length ≤ 8 * vec_len bytes) }
-    ensures results { IfOk result (λ bytes. (k : ℕ) → k < length →
+    requires callable { (k : ℕ) → k < len → F.pre f k }
+    ensures enough { IfOk result (λ bytes. len ≤ 8 * vec_len bytes) }
+    ensures results { IfOk result (λ bytes. (k : ℕ) → k < len →
         F.post f k (slice_index_or (bits bytes.items) k false)) }
 {
-    let mut bytes = Vec::with_capacity(alloc, 8 * (length / 64) + 8)?;
-    for block in 0..length / 64 {
+    let mut bytes = Vec::with_capacity(alloc, 8 * (len / 64) + 8)?;
+    for block in 0..len / 64 {
         let word = word_of(&block_of(64 * block, 64, &f));
         bytes.extend_from_slice(&BitChunk::to_ne_bytes(word))?;
     }
-    let last = word_of(&block_of(64 * (length / 64), length % 64, &f));
+    let last = word_of(&block_of(64 * (len / 64), len % 64, &f));
     bytes.extend_from_slice(&BitChunk::to_ne_bytes(last))?;
     Ok(bytes)
 }

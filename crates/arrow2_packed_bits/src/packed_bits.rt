@@ -1,5 +1,5 @@
 //! Booleans packed into bytes, which grow.
-ghost use Rattle.std.specs.Prelude.{◌≡◌, ◌+◌, ◌-◌, ◌*◌, ◌/◌, ◌%◌, ◌<◌, ◌≤◌, ◌^◌, ◌↔◌, ◌⊎◌, ℕ, IsTrue, List, Bool, [], ◌∷◌, ◌++◌, true, false, slice_index_or, length, length as length', take, replicate, slice_set, min, OnOk, OnErr, IsOk, IfOk, IfNone, IsErrOf, MatchOption, vec_len, vec_capacity};
+ghost use Rattle.std.specs.Prelude.{◌≡◌, ◌+◌, ◌-◌, ◌*◌, ◌/◌, ◌%◌, ◌<◌, ◌≤◌, ◌^◌, ◌↔◌, ◌⊎◌, ℕ, IsTrue, List, Bool, [], ◌∷◌, ◌++◌, true, false, slice_index_or, length, take, replicate, slice_set, min, OnOk, OnErr, IsOk, IfOk, IfNone, IsErrOf, MatchOption, vec_len, vec_capacity};
 ghost use Rattle.arrow2_model.specs.Bits.{bit, bits, unnum};
 ghost use Rattle.arrow2_model.specs.Canonical.{canonical_bytes, IsCanonical};
 ghost use Rattle.arrow2_model.specs.Kernels.{kernel, word, words_at};
@@ -76,18 +76,18 @@ impl PackedBits {
         Ok(PackedBits { bytes, length: 0 })
     }
 
-    /// Returns the first `length` bits of the bytes. Spare bytes are cut and padding bits cleared, in place, and the
-    /// capacity of the vector stays. Requires `length` to be at most eight times the number of bytes. Does not
+    /// Returns the first `len` bits of the bytes. Spare bytes are cut and padding bits cleared, in place, and the
+    /// capacity of the vector stays. Requires `len` to be at most eight times the number of bytes. Does not
     /// allocate.
-    pub fn from_vec(bytes: Vec<u8>, length: usize) -> PackedBits
-        requires inside { length ≤ 8 * vec_len bytes }
-        ensures items { result.items ≡ take length (bits bytes.items) }
-        ensures len { length' result.items ≡ length }
+    pub fn from_vec(bytes: Vec<u8>, len: usize) -> PackedBits
+        requires inside { len ≤ 8 * vec_len bytes }
+        ensures items { result.items ≡ take len (bits bytes.items) }
+        ensures len { length result.items ≡ len }
         ensures capacity { result.capacity ≡ min (8 * vec_capacity bytes) (2 ^ 64 - 1) }
     {
         let mut bytes = bytes;
-        cut(&mut bytes, length);
-        PackedBits { bytes, length }
+        cut(&mut bytes, len);
+        PackedBits { bytes, length: len }
     }
 
     /// Returns the number of items.
@@ -233,8 +233,8 @@ impl PackedBits {
     /// Appends all bits of `slice`. Requires that the items end a byte, where a bit is appended at all, and that all
     /// items are no more than `usize::MAX`.
     pub(crate) fn push_bytes(&mut self, slice: &[u8]) -> Result<(), AllocError>
-        requires whole { 0 < length' slice.now → length self.old.items % 8 ≡ 0 }
-        requires fits { length self.old.items + 8 * length' slice.now < 2 ^ 64 }
+        requires whole { 0 < length slice.now → length self.old.items % 8 ≡ 0 }
+        requires fits { length self.old.items + 8 * length slice.now < 2 ^ 64 }
         ensures pushes { Pushes result self.old self.new (bits slice.now) }
         ensures err { OnErr result (self.new.items ≡ self.old.items) }
     {
@@ -305,7 +305,7 @@ impl PackedBits {
         // `op` accepts each row, and each list of `rows` has as many items.
         requires callable { F.IsAlwaysCallable op }
         requires alike { S.alike rows }
-        requires length { S.length rows ≡ length' self.old.items }
+        requires len { S.len rows ≡ length self.old.items }
         // For every word function `f` that `op` computes of its own word and a row.
         ensures kernel { (f : List ℕ → ℕ) (lists : List (List Bool)) →
             ComputesOwnRows T.BitChunk.WIDTH S.words T.BitChunk.number (F.post op) f →
@@ -317,7 +317,7 @@ impl PackedBits {
             ((j : ℕ) → S.row_at rows j ≡ words_at T.BitChunk.WIDTH lists j) →
             self.new.items ≡ each t (self.old.items ∷ lists) }
         // The number of items and the capacity stay.
-        ensures len { length' self.new.items ≡ length' self.old.items }
+        ensures len { length self.new.items ≡ length self.old.items }
         ensures capacity { self.new.capacity ≡ self.old.capacity }
     {
         assign_rows(self.bytes.as_mut_slice(), self.length, rows, op);
@@ -352,32 +352,32 @@ impl PackedBits {
     }
 }
 
-/// Sets the bits of a byte after the first `length` bits, where these end within it. Requires that it is there.
-fn set_above(bytes: &mut Vec<u8>, length: usize)
-    requires inside { length ≤ 8 * length' bytes.old.items }
-    ensures kept { (k : ℕ) → (k < length) ⊎ (8 * ((length + 7) / 8) ≤ k) →
+/// Sets the bits of a byte after the first `len` bits, where these end within it. Requires that it is there.
+fn set_above(bytes: &mut Vec<u8>, len: usize)
+    requires inside { len ≤ 8 * length bytes.old.items }
+    ensures kept { (k : ℕ) → (k < len) ⊎ (8 * ((len + 7) / 8) ≤ k) →
         slice_index_or (bits bytes.new.items) k false ≡ slice_index_or (bits bytes.old.items) k false }
-    ensures written { (k : ℕ) → length ≤ k → k < 8 * ((length + 7) / 8) →
+    ensures written { (k : ℕ) → len ≤ k → k < 8 * ((len + 7) / 8) →
         slice_index_or (bits bytes.new.items) k false ≡ true }
-    ensures len { length' bytes.new.items ≡ length' bytes.old.items }
+    ensures len { length bytes.new.items ≡ length bytes.old.items }
     ensures capacity { vec_capacity bytes.new ≡ vec_capacity bytes.old }
 {
-    if length % 8 != 0 {
-        let byte = &mut bytes[length / 8];
-        *byte |= ABOVE[length % 8];
+    if len % 8 != 0 {
+        let byte = &mut bytes[len / 8];
+        *byte |= ABOVE[len % 8];
     }
 }
 
-/// Cuts everything after the first `length` bits: spare bytes, and padding bits of the last byte.
-fn cut(bytes: &mut Vec<u8>, length: usize)
-    requires { length ≤ 8 * vec_len bytes.old }
-    ensures canonical { IsCanonical bytes.new.items length }
-    ensures items { take length (bits bytes.new.items) ≡ take length (bits bytes.old.items) }
+/// Cuts everything after the first `len` bits: spare bytes, and padding bits of the last byte.
+fn cut(bytes: &mut Vec<u8>, len: usize)
+    requires { len ≤ 8 * vec_len bytes.old }
+    ensures canonical { IsCanonical bytes.new.items len }
+    ensures items { take len (bits bytes.new.items) ≡ take len (bits bytes.old.items) }
     ensures capacity { vec_capacity bytes.new ≡ vec_capacity bytes.old }
 {
-    bytes.truncate(bytes_for(length));
-    if length % 8 != 0 {
-        bytes[length / 8] %= 1 << (length % 8);
+    bytes.truncate(bytes_for(len));
+    if len % 8 != 0 {
+        bytes[len / 8] %= 1 << (len % 8);
     }
 }
 

@@ -1,5 +1,5 @@
 //! Equality of arrays.
-ghost use Rattle.std.specs.Prelude.{◌≡◌, ◌↔◌, ◌&&◌, IsTrue, length};
+ghost use Rattle.std.specs.Prelude.{◌≡◌, ◌↔◌, ◌&&◌, IsTrue};
 ghost use Rattle.std.specs.Bool.{Decides};
 ghost use Rattle.std.specs.Cmp.{and_per, on_per};
 ghost use Rattle.std.specs.Cmp.Lexicographic.{pointwise, lists_per};
@@ -45,15 +45,9 @@ fn same_items<T: NativeType>(array: &PrimitiveArray<T>, other: &PrimitiveArray<T
     array.len() == other.len() && same_each(array.iter(), other.iter())
 }
 
-/// Returns whether two iterators of as many items yield the same.
+/// Returns whether two iterators yield the same items.
 fn same_each<T: NativeType>(items: PrimitiveIter<'_, T>, others: PrimitiveIter<'_, T>) -> bool
-    requires same_length { length items ≡ length others }
     ensures { result ≡ pointwise (option_eq T.eq) items.entry others.entry }
 {
-    for (item, other) in items.zip(others) {
-        if item != other {
-            return false;
-        }
-    }
-    true
+    items.eq(others)
 }

@@ -1,5 +1,5 @@
 //! New bitmaps from three and four bitmaps: word functions, and truth tables.
-ghost use Rattle.std.specs.Prelude.{◌≡◌, ℕ, [], ◌∷◌, length as length', IfOk, IfErr};
+ghost use Rattle.std.specs.Prelude.{◌≡◌, ℕ, [], ◌∷◌, length, IfOk, IfErr};
 ghost use Rattle.arrow2_model.specs.Kernels.{ternary_kernel, quaternary_kernel, ComputesTernary, ComputesQuaternary};
 ghost use Rattle.arrow2_model.specs.Storage.{items_of};
 ghost use Rattle.arrow2_model.specs.Tables.{each, IsBitwiseTernary, IsBitwiseQuaternary};
@@ -26,8 +26,8 @@ pub fn ternary<F: Fn(u64, u64, u64) -> u64>(
     op: F,
 ) -> Result<Bitmap>
     requires callable { F.IsAlwaysCallable op }
-    requires same_length2 { length' (items_of a1.now) ≡ length' (items_of a2.now) }
-    requires same_length3 { length' (items_of a1.now) ≡ length' (items_of a3.now) }
+    requires same_length2 { length (items_of a1.now) ≡ length (items_of a2.now) }
+    requires same_length3 { length (items_of a1.now) ≡ length (items_of a3.now) }
     // For every word function `f` that `op` computes.
     ensures kernel { (f : ℕ → ℕ → ℕ → ℕ) → ComputesTernary 64 (λ x. x) (F.post op) f →
         IfOk result (λ b.
@@ -37,7 +37,7 @@ pub fn ternary<F: Fn(u64, u64, u64) -> u64>(
         IfOk result (λ b.
         items_of b ≡ each t (items_of a1.now ∷ items_of a2.now ∷ items_of a3.now ∷ [])) }
     // It is stored in canonical bytes, and the only error is `OutOfMemory`.
-    ensures len { IfOk result (λ b. length' (items_of b) ≡ length' (items_of a1.now)) }
+    ensures len { IfOk result (λ b. length (items_of b) ≡ length (items_of a1.now)) }
     ensures storage { IfOk result (λ b. IsPacked b) }
     ensures only { IfErr result (λ e. e ≡ Error.OutOfMemory) }
 {
@@ -77,9 +77,9 @@ pub fn quaternary<F: Fn(u64, u64, u64, u64) -> u64>(
     op: F,
 ) -> Result<Bitmap>
     requires callable { F.IsAlwaysCallable op }
-    requires same_length2 { length' (items_of a1.now) ≡ length' (items_of a2.now) }
-    requires same_length3 { length' (items_of a1.now) ≡ length' (items_of a3.now) }
-    requires same_length4 { length' (items_of a1.now) ≡ length' (items_of a4.now) }
+    requires same_length2 { length (items_of a1.now) ≡ length (items_of a2.now) }
+    requires same_length3 { length (items_of a1.now) ≡ length (items_of a3.now) }
+    requires same_length4 { length (items_of a1.now) ≡ length (items_of a4.now) }
     // For every word function `f` that `op` computes.
     ensures kernel { (f : ℕ → ℕ → ℕ → ℕ → ℕ) → ComputesQuaternary 64 (λ x. x) (F.post op) f →
         IfOk result (λ b.
@@ -91,7 +91,7 @@ pub fn quaternary<F: Fn(u64, u64, u64, u64) -> u64>(
         items_of b ≡ each t (items_of a1.now ∷ items_of a2.now ∷ items_of a3.now
         ∷ items_of a4.now ∷ [])) }
     // It is stored in canonical bytes, and the only error is `OutOfMemory`.
-    ensures len { IfOk result (λ b. length' (items_of b) ≡ length' (items_of a1.now)) }
+    ensures len { IfOk result (λ b. length (items_of b) ≡ length (items_of a1.now)) }
     ensures storage { IfOk result (λ b. IsPacked b) }
     ensures only { IfErr result (λ e. e ≡ Error.OutOfMemory) }
 {
@@ -130,11 +130,11 @@ fn pair<'a>(left: &'a Bitmap, right: &'a Bitmap) -> Pair<'a>
 ///
 /// `OutOfMemory` alone.
 pub fn ternary_table(a1: &Bitmap, a2: &Bitmap, a3: &Bitmap, t: u8) -> Result<Bitmap>
-    requires same_length2 { length' (items_of a1.now) ≡ length' (items_of a2.now) }
-    requires same_length3 { length' (items_of a1.now) ≡ length' (items_of a3.now) }
+    requires same_length2 { length (items_of a1.now) ≡ length (items_of a2.now) }
+    requires same_length3 { length (items_of a1.now) ≡ length (items_of a3.now) }
     ensures items { IfOk result (λ b. items_of b
         ≡ each t (items_of a1.now ∷ items_of a2.now ∷ items_of a3.now ∷ [])) }
-    ensures len { IfOk result (λ b. length' (items_of b) ≡ length' (items_of a1.now)) }
+    ensures len { IfOk result (λ b. length (items_of b) ≡ length (items_of a1.now)) }
     ensures storage { IfOk result (λ b. IsPacked b) }
     ensures only { IfErr result (λ e. e ≡ Error.OutOfMemory) }
 {
@@ -156,14 +156,14 @@ pub fn quaternary_table(
     a4: &Bitmap,
     t: u16,
 ) -> Result<Bitmap>
-    requires same_length2 { length' (items_of a1.now) ≡ length' (items_of a2.now) }
-    requires same_length3 { length' (items_of a1.now) ≡ length' (items_of a3.now) }
-    requires same_length4 { length' (items_of a1.now) ≡ length' (items_of a4.now) }
+    requires same_length2 { length (items_of a1.now) ≡ length (items_of a2.now) }
+    requires same_length3 { length (items_of a1.now) ≡ length (items_of a3.now) }
+    requires same_length4 { length (items_of a1.now) ≡ length (items_of a4.now) }
     // The outputs of the table, item by item.
     ensures items { IfOk result (λ b. items_of b
         ≡ each t (items_of a1.now ∷ items_of a2.now ∷ items_of a3.now ∷ items_of a4.now ∷ [])) }
     // It is stored in canonical bytes, and the only error is `OutOfMemory`.
-    ensures len { IfOk result (λ b. length' (items_of b) ≡ length' (items_of a1.now)) }
+    ensures len { IfOk result (λ b. length (items_of b) ≡ length (items_of a1.now)) }
     ensures storage { IfOk result (λ b. IsPacked b) }
     ensures only { IfErr result (λ e. e ≡ Error.OutOfMemory) }
 {

@@ -1,5 +1,5 @@
 //! A column of one's own: texts that repeat, each stored once, by two of arrow2's arrays.
-ghost use Rattle.std.specs.Prelude.{◌≡◌, ◌+◌, ◌<◌, ◌≤◌, ◌⊎◌, All, None, pos, length as length', map, slice_index_or, IfOk, IfErr};
+ghost use Rattle.std.specs.Prelude.{◌≡◌, ◌+◌, ◌<◌, ◌≤◌, ◌⊎◌, All, None, pos, length, map, slice_index_or, IfOk, IfErr};
 ghost use Rattle.std.specs.Option.{option_copied};
 ghost use Rattle.arrow2.specs.Binary.{binary_items};
 ghost use Rattle.arrow2.specs.Parts.{part};
@@ -35,12 +35,12 @@ impl Model for Dictionary {
         (primitive_items d.keys) };
 }
 
-#[tactic(auto, using(crate::proofs::Dictionaries::dictionaries))]
+#[tactic(auto, using(arrow2::proofs::Keys::keys))]
 impl Dictionary {
     /// Returns the column of the texts at these keys, null where the key is. Requires that each key that is not null is
     /// below the number of texts.
     pub fn new(keys: PrimitiveArray<u32>, texts: Utf8Array<i32>) -> Dictionary
-        requires inside { All (IsInBoundsOrNull (λ key. pos key) (length' (binary_items texts)))
+        requires inside { All (IsInBoundsOrNull (λ key. pos key) (length (binary_items texts)))
             (primitive_items keys) }
         ensures { result ≡ map (item_at (λ key. pos key) (binary_items texts)) (primitive_items keys) }
     {
@@ -49,25 +49,25 @@ impl Dictionary {
 
     /// Returns the number of items.
     pub fn len(&self) -> usize
-        ensures { result ≡ length' self.now }
+        ensures { result ≡ length self.now }
     {
         self.keys.len()
     }
 
     /// Returns item `index`, `None` where it is null. Requires that it is below the length.
     pub fn get(&self, index: usize) -> Option<&str>
-        requires below { index < length' self.now }
+        requires below { index < length self.now }
         ensures { option_copied result ≡ slice_index_or self.now index None }
     {
         text_at(&self.texts, self.keys.get(index))
     }
 
-    /// Keeps `length` items from item `offset` on. Requires that they are inside.
-    pub fn slice(&mut self, offset: usize, length: usize)
-        requires inside { offset + length ≤ length' self.old }
-        ensures { self.new ≡ part self.old offset length }
+    /// Keeps `len` items from item `offset` on. Requires that they are inside.
+    pub fn slice(&mut self, offset: usize, len: usize)
+        requires inside { offset + len ≤ length self.old }
+        ensures { self.new ≡ part self.old offset len }
     {
-        self.keys.slice(offset, length);
+        self.keys.slice(offset, len);
     }
 
     /// Returns the items at whose index the mask is true. Requires that the mask has as many items as the column.
@@ -76,7 +76,7 @@ impl Dictionary {
     ///
     /// `OutOfMemory` alone.
     pub fn filter(&self, mask: &Bitmap) -> Result<Dictionary>
-        requires same_length { length' (items_of mask.now) ≡ length' self.now }
+        requires same_length { length (items_of mask.now) ≡ length self.now }
         ensures ok { IfOk result (λ d. d ≡ selected self.now (items_of mask.now)) }
         ensures only { IfErr result (λ e. e ≡ Error.OutOfMemory) }
     {
@@ -104,7 +104,7 @@ impl Dictionary {
 
 /// Returns the text at a key, `None` where the key is null. Requires that it is below the number of texts.
 fn text_at(texts: &Utf8Array<i32>, key: Option<u32>) -> Option<&str>
-    requires inside { IsInBoundsOrNull (λ key. pos key) (length' (binary_items texts.now)) key }
+    requires inside { IsInBoundsOrNull (λ key. pos key) (length (binary_items texts.now)) key }
     ensures { option_copied result ≡ item_at (λ key. pos key) (binary_items texts.now) key }
 {
     match key {

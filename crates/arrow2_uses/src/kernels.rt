@@ -7,8 +7,8 @@ ghost use Rattle.arrow2.specs.Tables.{each};
 use arrow2::bitmap::{Bitmap, MutableBitmap, binary_assign_table, binary_table, unary};
 use arrow2::error::{Error, Result};
 
-/// Returns where the first is true and the second is not, by the truth table whose only set bit is the one for true and
-/// false.
+/// Returns a bitmap that is true where the first is true and the second is false, by the truth table whose only set bit
+/// is that of the inputs true and false.
 ///
 /// # Errors
 ///

@@ -59,8 +59,8 @@ fn length_of(text: Option<&str>) -> Option<u64>
     }
 }
 
-/// Returns list `index` of the lists that offsets cut a column of texts into: a slice, over the same storage. Requires
-/// that there is such a list, and that the offsets stay inside the column.
+/// The offsets cut a column of texts into lists. Returns the list at `index`, as a slice of the column over the same
+/// storage. Requires that there is such a list, and that the offsets stay inside the column.
 ///
 /// # Errors
 ///

@@ -1,11 +1,12 @@
 -- Items that may be null, compared: one by one, and lists of them.
-use Rattle.std.proofs.Common.{◌≡◌, ◌⊎◌, inl, inr, List, [], ◌∷◌, length, map, Bool, true, false, Option, Some, None, refl, sym, true≢false, rules, arith}
-use Rattle.std.specs.Prelude.{not}
+use Rattle.std.proofs.Common.{◌≡◌, List, [], ◌∷◌, map, Bool, true, false, Option, Some, None, refl, sym, ap, ◌∙◌, true≢false, rules}
+use Rattle.std.specs.Prelude.{IfSome, MatchOption}
 use Rattle.std.specs.Bool.{Decides}
 use Rattle.std.specs.Cmp.{IsPartialEquivalence}
 use Rattle.std.specs.Cmp.Lexicographic.{pointwise}
+use Rattle.std.specs.Iterator.{Yields, YieldsFirst, YieldsThen}
+use Rattle.std.specs.List.{AllZip}
 use Rattle.std.specs.Option.{option_eq}
-use Rattle.std.proofs.lemmas.Bool.{not-false, not-true}
 use Rattle.std.proofs.lemmas.Slice.Eq.{slice_eq-Decides}
 
 module _ {K : Type 0} {E : K → K → Bool} (e : IsPartialEquivalence E) where
@@ -46,18 +47,18 @@ module _ {X : Type 0} (E : X → X → Bool) where
     pub lists_Decides : (xs ys : List (Option X)) (r : Bool) → r ≡ pointwise (option_eq E) xs ys → Decides r (xs ≡ ys)
     lists_Decides xs ys r e = slice_eq-Decides options_Decides xs ys r e
 
-  -- the first items differ
-  pub unequal-next : (xs ys others more : List (Option X)) (x y : Option X) → xs ≡ x ∷ others → ys ≡ y ∷ more → true ≡ not (option_eq E x y) → false ≡ pointwise (option_eq E) xs ys
-  unequal-next xs ys others more x y e f h = rw (e, f, not-true (option_eq E x y) (sym h)) refl
-
-  -- the first items are equal
-  pub equal-next : (xs ys others more : List (Option X)) (x y : Option X) → xs ≡ x ∷ others → ys ≡ y ∷ more → false ≡ not (option_eq E x y) → pointwise (option_eq E) xs ys ≡ pointwise (option_eq E) others more
-  equal-next xs ys others more x y e f h = rw (e, f, not-false (option_eq E x y) (sym h)) refl
-
-  -- lists of one length end together
-  pub equal-ended : (xs ys : List (Option X)) → length xs ≡ length ys → ((u : List (Option X)) × ((xs ≡ []) × (u ≡ []))) ⊎ ((u : List (Option X)) × ((ys ≡ []) × (u ≡ []))) → pointwise (option_eq E) xs ys ≡ true
-  equal-ended [] [] same end = refl
-  equal-ended [] (y ∷ ys) same end = absurd (omega (arith, same))
-  equal-ended (x ∷ xs) [] same end = absurd (omega (arith, same))
-  equal-ended (x ∷ xs) (y ∷ ys) same (inl e) = let never = e.1.0 in cc
-  equal-ended (x ∷ xs) (y ∷ ys) same (inr e) = let never = e.1.0 in cc
+-- std's `eq` of two iterators, of which xs and ys are equal item by item and the next results end the comparison
+module _ {S T X : Type 0} (ours : S → List X) (theirs : T → List X) (E : X → X → Bool) where
+  pub eq-compares : (xs ys : List X) (s u : S) (t v : T) (o p : Option X) (r : Bool) → YieldsThen (YieldsFirst ours) s xs o u → YieldsThen (YieldsFirst theirs) t ys p v → AllZip (λ x y. E x y ≡ true) xs ys
+      → MatchOption o (MatchOption p (r ≡ true) (λ _. r ≡ false)) (λ x. (r ≡ false) × IfSome p (λ y. E x y ≡ false)) → r ≡ pointwise E (ours s) (theirs t)
+  eq-compares [] [] s u t v None None r a b same is = rw (ap ours a.1 ∙ a.2.0, ap theirs b.1 ∙ b.2.0) is
+  eq-compares [] [] s u t v None (Some y) r a b same is = rw (ap ours a.1 ∙ a.2.0, ap theirs b.1 ∙ b.2) is
+  eq-compares [] [] s u t v (Some x) None r a b same is = rw (ap ours a.1 ∙ a.2, ap theirs b.1 ∙ b.2.0) is.0
+  eq-compares [] [] s u t v (Some x) (Some y) r a b same is = rw (ap ours a.1 ∙ a.2, ap theirs b.1 ∙ b.2, is.1) is.0
+  eq-compares [] (y ∷ ys) s u t v o p r a b same is = absurd same
+  eq-compares (x ∷ xs) [] s u t v o p r a b same is = absurd same
+  eq-compares (x ∷ xs) (y ∷ ys) s u t v o p r a b same is =
+      let m : (j : S) × (ours s ≡ x ∷ ours j) × Yields (YieldsFirst ours) j xs a.0 = a.1 in
+      let n : (j : T) × (theirs t ≡ y ∷ theirs j) × Yields (YieldsFirst theirs) j ys b.0 = b.1 in
+      let rest = eq-compares xs ys m.0 u n.0 v o p r (a.0, m.2, a.2) (b.0, n.2, b.2) same.1 is in
+      rw (m.1, n.1, same.0) rest

@@ -1,5 +1,5 @@
 //! Worked examples of bitmaps, and storage that shows.
-ghost use Rattle.std.specs.Prelude.{◌≡◌, IfOk, length as count};
+ghost use Rattle.std.specs.Prelude.{◌≡◌, IfOk, length};
 ghost use Rattle.arrow2_model.specs.Storage.{items_of};
 
 use super::checks::{assert_that, bytes_of, gives, has, makes, ok, refuses, shows, stores};
@@ -11,11 +11,11 @@ use std::alloc::Global;
 use std::convert::TryFrom;
 use std::process::Abort;
 
-/// The first `length` bits of the bytes, in memory of its own.
-fn bitmap_of(rt: &impl Abort, alloc: Global, bytes: &[u8], length: usize) -> Bitmap
-    ensures len { count (items_of result) ≡ length }
+/// The first `len` bits of the bytes, in memory of its own.
+fn bitmap_of(rt: &impl Abort, alloc: Global, bytes: &[u8], len: usize) -> Bitmap
+    ensures len { length (items_of result) ≡ len }
 {
-    ok(rt, Bitmap::try_new(bytes_of(rt, alloc, bytes), length))
+    ok(rt, Bitmap::try_new(bytes_of(rt, alloc, bytes), len))
 }
 
 /// The bitmap without its last item, which was true.

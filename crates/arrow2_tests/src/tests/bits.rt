@@ -1,5 +1,5 @@
 //! Worked examples of bits and of iterators by words, and their printed texts.
-ghost use Rattle.std.specs.Prelude.{◌≡◌, ◌+◌, ◌*◌, ◌<◌, ◌≤◌, length as count};
+ghost use Rattle.std.specs.Prelude.{◌≡◌, ◌+◌, ◌*◌, ◌<◌, ◌≤◌, length};
 
 use super::checks::{assert_that, gives, has, ok, shows};
 use arrow2_bits::chunk_iterator::{BitChunkIterExact, BitChunks};
@@ -16,27 +16,23 @@ use std::process::Abort;
 struct Bits<'a> {
     bytes: &'a [u8],
     offset: usize,
-    length: usize,
+    len: usize,
     ghost within: { offset < 8 },
-    ghost inside: { 0 < length → offset + length ≤ 8 * count bytes.now },
+    ghost inside: { 0 < len → offset + len ≤ 8 * length bytes.now },
 }
 
 impl<'a> Bits<'a> {
-    fn new(bytes: &'a [u8], offset: usize, length: usize) -> Bits<'a>
+    fn new(bytes: &'a [u8], offset: usize, len: usize) -> Bits<'a>
         requires within { offset < 8 }
-        requires inside { 0 < length → offset + length ≤ 8 * count bytes.now }
+        requires inside { 0 < len → offset + len ≤ 8 * length bytes.now }
     {
-        Bits {
-            bytes,
-            offset,
-            length,
-        }
+        Bits { bytes, offset, len }
     }
 }
 
 impl<'a> fmt::Debug for Bits<'a> {
     fn fmt<W: fmt::Write>(&self, f: &mut fmt::Formatter<W>) -> fmt::Result {
-        arrow2_bits::fmt::fmt(self.bytes, self.offset, self.length, f)
+        arrow2_bits::fmt::fmt(self.bytes, self.offset, self.len, f)
     }
 }
 

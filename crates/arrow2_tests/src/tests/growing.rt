@@ -1,5 +1,5 @@
 //! Growth by many items at once.
-ghost use Rattle.std.specs.Prelude.{◌+◌, ◌*◌, ◌≤◌, length as count};
+ghost use Rattle.std.specs.Prelude.{◌+◌, ◌*◌, ◌≤◌, length};
 
 use super::checks::{assert_that, bytes_of, gives, has, ok, overflows, shows, stores};
 use arrow2_bitmap::{Bitmap, MutableBitmap};
@@ -20,12 +20,12 @@ fn extended(
     items: &[bool],
     bytes: &[u8],
     offset: usize,
-    length: usize,
+    len: usize,
 ) -> MutableBitmap
-    requires inside { offset + length ≤ 8 * count bytes.now }
+    requires inside { offset + len ≤ 8 * length bytes.now }
 {
     let mut grown = grown_from(rt, alloc, items);
-    let done = grown.extend_from_slice(bytes, offset, length);
+    let done = grown.extend_from_slice(bytes, offset, len);
     assert_that(rt, done.is_ok());
     grown
 }

@@ -1,5 +1,5 @@
 //! Worked examples of kernels, and callers of their clauses.
-ghost use Rattle.std.specs.Prelude.{◌≡◌, ◌+◌, ◌%◌, ◌^◌, [], ◌∷◌, length as count, IfOk};
+ghost use Rattle.std.specs.Prelude.{◌≡◌, ◌+◌, ◌%◌, ◌^◌, [], ◌∷◌, length, IfOk};
 ghost use Rattle.arrow2_model.specs.Kernels.{unary_kernel, binary_kernel};
 ghost use Rattle.arrow2_model.specs.Storage.{items_of};
 ghost use Rattle.arrow2_model.specs.Tables.{each};
@@ -23,7 +23,7 @@ fn next_words(bitmap: &Bitmap) -> Result<Bitmap>
 
 /// A caller whose function acts bit by bit knows each item.
 fn only_left(lhs: &Bitmap, rhs: &Bitmap) -> Result<Bitmap>
-    requires { count (items_of lhs.now) ≡ count (items_of rhs.now) }
+    requires { length (items_of lhs.now) ≡ length (items_of rhs.now) }
     ensures { IfOk result (λ b. items_of b ≡ each 2 (items_of lhs.now ∷ items_of rhs.now ∷ [])) }
 {
     binary(lhs, rhs, |x, y| binary_outputs(2, x, y))
@@ -31,7 +31,7 @@ fn only_left(lhs: &Bitmap, rhs: &Bitmap) -> Result<Bitmap>
 
 /// The same in place, at the width of a byte.
 fn sums_of_bytes(lhs: &mut MutableBitmap, rhs: &Bitmap)
-    requires { count lhs.old.items ≡ count (items_of rhs.now) }
+    requires { length lhs.old.items ≡ length (items_of rhs.now) }
     ensures { lhs.new.items
         ≡ binary_kernel 8 (λ x y. (x + y) % 2 ^ 8) lhs.old.items (items_of rhs.now) }
 {
@@ -46,13 +46,13 @@ fn flip(bitmap: &mut MutableBitmap)
 }
 
 /// A kernel of every zero word is true everywhere, and of every other word false: of these bits it is true.
-fn is_zero(rt: &impl Abort, alloc: Global, bytes: &[u8], length: usize) {
-    assert_that(rt, length <= 64);
+fn is_zero(rt: &impl Abort, alloc: Global, bytes: &[u8], len: usize) {
+    assert_that(rt, len <= 64);
     assert_that(rt, bytes.len() <= 8);
-    assert_that(rt, length <= 8 * bytes.len());
-    let bitmap = ok(rt, Bitmap::from_u8_slice(alloc, bytes, length));
+    assert_that(rt, len <= 8 * bytes.len());
+    let bitmap = ok(rt, Bitmap::from_u8_slice(alloc, bytes, len));
     let made = unary(&bitmap, |x| if x == 0 { u64::MAX } else { 0 });
-    makes(rt, alloc, made, &[true; 64][..length]);
+    makes(rt, alloc, made, &[true; 64][..len]);
 }
 
 #[test]
@@ -63,9 +63,9 @@ fn spare_bits_and_later_words_reach_no_function(rt: HostRuntime) {
     is_zero(&rt, alloc, &[], 0);
 }
 
-/// Returns a bitmap of `length` unset bits.
-fn falses(rt: &impl Abort, alloc: Global, length: usize) -> MutableBitmap {
-    ok(rt, MutableBitmap::from_len_zeroed(alloc, length))
+/// Returns a bitmap of `len` unset bits.
+fn falses(rt: &impl Abort, alloc: Global, len: usize) -> MutableBitmap {
+    ok(rt, MutableBitmap::from_len_zeroed(alloc, len))
 }
 
 #[test]

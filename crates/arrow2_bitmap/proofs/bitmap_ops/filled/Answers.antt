@@ -9,5 +9,5 @@ returns-in_ok-from_len_set-clause-storage c =
 
 pub returns-else-value-clause-storage : goal.returns-else-value-clause-storage
 returns-else-value-clause-storage c =
-    let n = c.args.length in
+    let n = c.args.len in
     IfOk-weaker c.new_zeroed.result _ _ (packed_bytes (replicate ((n + 7) / 8) 0) n (canonical_zeros n)) c.new_zeroed.ensures.storage

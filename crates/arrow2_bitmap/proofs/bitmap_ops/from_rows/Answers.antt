@@ -11,16 +11,16 @@ returns-clause-items g c f is =
 
 pub returns-clause-kernel : goal.returns-clause-kernel
 returns-clause-kernel g c f lists is are =
-    IfOk-weaker c.from_u8_vec.result _ _ (λ b e. e ∙ (c.in_ok-bytes.ensures.items f is ∙ rows_kernel 64 c.args.length f lists (g.S.WordRows.row_at c.args.rows) (omega arith) are)) c.from_u8_vec.ensures.items
+    IfOk-weaker c.from_u8_vec.result _ _ (λ b e. e ∙ (c.in_ok-bytes.ensures.items f is ∙ rows_kernel 64 c.args.len f lists (g.S.WordRows.row_at c.args.rows) (omega arith) are)) c.from_u8_vec.ensures.items
 
 pub returns-clause-table : goal.returns-clause-table
 returns-clause-table g c t lists acts are =
     IfOk-weaker c.from_u8_vec.result _ _
-    (λ b e. e ∙ (c.in_ok-bytes.ensures.items (table_word 64 t) (acts_rows 64 t g.S.WordRows.words (λ x. x) _ acts) ∙ rows_table 64 c.args.length t lists (g.S.WordRows.row_at c.args.rows) (omega arith) are))
+    (λ b e. e ∙ (c.in_ok-bytes.ensures.items (table_word 64 t) (acts_rows 64 t g.S.WordRows.words (λ x. x) _ acts) ∙ rows_table 64 c.args.len t lists (g.S.WordRows.row_at c.args.rows) (omega arith) are))
     c.from_u8_vec.ensures.items
 
 pub returns-clause-storage : goal.returns-clause-storage
 returns-clause-storage g c =
     IfOk-weaker c.from_u8_vec.result _ _
-    (packed_bytes c.in_ok-bytes.bytes.items c.args.length c.in_ok-bytes.ensures.canonical)
+    (packed_bytes c.in_ok-bytes.bytes.items c.args.len c.in_ok-bytes.ensures.canonical)
     c.from_u8_vec.ensures.ok

@@ -14,4 +14,4 @@ pub record IsFront {W : Type 0} (took : W → List ℕ → W → Type 0) (bytes 
   pub text : IsFlush old → HasWrittenStyled took old (shown_front bytes offset len j) new
 
 abbrev pub invariant-loop-byte : goal.invariant-loop-byte
-invariant-loop-byte g l = IsFront g.W.Write.write_str_gives l.bytes l.offset l.length l.fn.f l.f l.byte-index l.start l.left
+invariant-loop-byte g l = IsFront g.W.Write.write_str_gives l.bytes l.offset l.len l.fn.f l.f l.byte-index l.start l.left

@@ -14,7 +14,7 @@ paired_own w n own lists row l are = (l, λ j. ap (λ r. word w own j ∷ r) (ar
 
 pub returns-clause-items : goal.returns-clause-items
 returns-clause-items g c t lists acts are =
-    let n : ℕ = c.args.length in
+    let n : ℕ = c.args.len in
     let bytes : List ℕ = c.args.bytes.now in
     let own : List Bool = take n (bits bytes) in
     let row : ℕ → List ℕ = g.S.WordRows.row_at c.args.rows in

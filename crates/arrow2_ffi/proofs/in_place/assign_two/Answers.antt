@@ -6,7 +6,7 @@ use Rattle.arrow2_ffi.proofs.in_place.assign_two.Goals as goal
 
 pub returns-then-second-eq0 : goal.returns-then-second-eq0
 returns-then-second-eq0 c =
-    let n : ℕ = c.args.length in
+    let n : ℕ = c.args.len in
     let other : List ℕ = c.args.second.0.now in
     let at : ℕ = c.args.second.1 in
     let following = part-bits-part other (at / 8) (length other - at / 8) 0 n at (omega (arith, c.requires.second)) (omega (arith, c.requires.second, c.if-second-eq0.true)) (omega (arith, c.if-second-eq0.true)) in

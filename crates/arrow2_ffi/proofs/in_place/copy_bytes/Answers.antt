@@ -5,7 +5,7 @@ use Rattle.arrow2_ffi.proofs.in_place.copy_bytes.Goals as goal
 
 pub returns : goal.returns
 returns c =
-    let n : ℕ = c.args.length in
+    let n : ℕ = c.args.len in
     record {
       items = c.clear_spare.ensures.items ∙ (ap (λ (b : List ℕ). take n (bits b)) c.copy_from_slice.ensures.after
           ∙ front_items c.args.bytes.now (length c.args.out.now) n c.requires.inside c.requires.exact);

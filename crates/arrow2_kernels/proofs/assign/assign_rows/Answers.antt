@@ -10,7 +10,7 @@ loop-row-preserved g c =
     let size : ℕ = g.T.NativeType.SIZE in
     let at : ℕ = c.loop-row.at in
     let q : ℕ = at / size in
-    let n : ℕ = c.args.length in
+    let n : ℕ = c.args.len in
     let old = c.args.bytes.now in
     let bytes = c.loop-row.bytes in
     let after = c.put_word.new.bytes in
@@ -44,33 +44,33 @@ loop-row-preserved g c =
           (before.done f h));
     }
 
-pub returns-then-len-gt0-clause-canonical : goal.returns-then-len-gt0-clause-canonical
-returns-then-len-gt0-clause-canonical g c =
+pub returns-then-left-gt0-clause-canonical : goal.returns-then-left-gt0-clause-canonical
+returns-then-left-gt0-clause-canonical g c =
     let w : ℕ = g.T.BitChunk.WIDTH in
     let at : ℕ = c.loop-row.at in
-    let n : ℕ = c.args.length in
+    let n : ℕ = c.args.len in
     let len : ℕ = n - 8 * at in
     let count : ℕ = length c.loop-row.bytes - at in
-    let after = c.put_word-then-len-gt0.new.bytes in
+    let after = c.put_word-then-left-gt0.new.bytes in
     let wide = g.met.T.BitChunk.size_law in
     let before = c.loop-row.invariant in
     let short = c.in_default.ensures.row.0 in
-    let size : length after ≡ (n + 7) / 8 = omega (arith, c.put_word-then-len-gt0.auto.bytes, before.size, c.requires.exact) in
+    let size : length after ≡ (n + 7) / 8 = omega (arith, c.put_word-then-left-gt0.auto.bytes, before.size, c.requires.exact) in
     rest_canonical w (g.T.BitChunk.number c.op.result) (g.T.BitChunk.number c.masked.result) len (8 * at) count n after
     (omega (arith, before.left, short)) (omega (arith, before.left)) (omega (arith, before.left, before.size, c.requires.exact, size)) (omega (arith, before.left, short, wide, before.size, c.requires.exact)) size
-    c.masked.ensures.bits c.put_word-then-len-gt0.ensures.written (λ k. (c.type_inv.bytes k).fits)
+    c.masked.ensures.bits c.put_word-then-left-gt0.ensures.written (λ k. (c.type_inv.bytes k).fits)
 
-pub returns-then-len-gt0-clause-items : goal.returns-then-len-gt0-clause-items
-returns-then-len-gt0-clause-items g c f h =
+pub returns-then-left-gt0-clause-items : goal.returns-then-left-gt0-clause-items
+returns-then-left-gt0-clause-items g c f h =
     let w : ℕ = g.T.BitChunk.WIDTH in
     let size : ℕ = g.T.NativeType.SIZE in
     let at : ℕ = c.loop-row.at in
     let q : ℕ = at / size in
-    let n : ℕ = c.args.length in
+    let n : ℕ = c.args.len in
     let len : ℕ = n - 8 * at in
     let old = c.args.bytes.now in
     let bytes = c.loop-row.bytes in
-    let after = c.put_word-then-len-gt0.new.bytes in
+    let after = c.put_word-then-left-gt0.new.bytes in
     let wide = g.met.T.BitChunk.size_law in
     let bounds = g.met.T.BitChunk.width_bounds in
     let before = c.loop-row.invariant in
@@ -78,11 +78,11 @@ returns-then-len-gt0-clause-items g c f h =
     let pos : 8 * at ≡ w * q = position_now w size at wide before.whole in
     let word_of : ℕ → ℕ = λ j. f (word w (take n (bits old)) j ∷ g.S.WordRows.row_at c.args.rows j) in
     let row : g.S.WordRows.words c.rest_row.result ≡ g.S.WordRows.row_at c.args.rows q = c.rest_row.ensures.row ∙ (c.in_default.ensures.row.2 0 ∙ (before.ahead 0 ∙ ap (g.S.WordRows.row_at c.args.rows) (omega arith))) in
-    let own = own_rest w (g.T.BitChunk.number c.word_at-then-len-gt0.result) (g.T.BitChunk.number c.masked-own.result) len q n (8 * at) old bytes pos (omega (arith, before.left)) (omega (arith, before.left, short)) (omega (arith, c.requires.exact))
-    c.masked-own.ensures.fits c.masked-own.ensures.bits (λ i i<. c.word_at-then-len-gt0.ensures.items i (omega (arith, i<, before.left, before.size, c.requires.exact))) before.kept in
-    done_all w n word_of after (omega (arith, bounds)) (omega (arith, c.put_word-then-len-gt0.auto.bytes, before.size, c.requires.exact))
+    let own = own_rest w (g.T.BitChunk.number c.word_at-then-left-gt0.result) (g.T.BitChunk.number c.masked-own.result) len q n (8 * at) old bytes pos (omega (arith, before.left)) (omega (arith, before.left, short)) (omega (arith, c.requires.exact))
+    c.masked-own.ensures.fits c.masked-own.ensures.bits (λ i i<. c.word_at-then-left-gt0.ensures.items i (omega (arith, i<, before.left, before.size, c.requires.exact))) before.kept in
+    done_all w n word_of after (omega (arith, bounds)) (omega (arith, c.put_word-then-left-gt0.auto.bytes, before.size, c.requires.exact))
     (done_rest w (g.T.BitChunk.number c.op.result) (g.T.BitChunk.number c.masked.result) len q (8 * at) n word_of bytes after (omega (arith, bounds)) pos (omega (arith, before.left)) (omega (arith, before.left, short)) c.masked.ensures.bits
-    (λ i i<. c.put_word-then-len-gt0.ensures.written i (omega (arith, i<, before.left, before.size, c.requires.exact))) (λ k k<. c.put_word-then-len-gt0.ensures.kept k (inl k<))
+    (λ i i<. c.put_word-then-left-gt0.ensures.written i (omega (arith, i<, before.left, before.size, c.requires.exact))) (λ k k<. c.put_word-then-left-gt0.ensures.kept k (inl k<))
     (h c.masked-own.result c.rest_row.result c.op.result c.masked-own.ensures.fits c.rest_row.ensures.fits c.op.ensures
     ∙ (ap (λ (x : ℕ). unnum w (f (x ∷ g.S.WordRows.words c.rest_row.result))) own ∙ ap (λ (r : List ℕ). unnum w (f (word w (take n (bits old)) q ∷ r))) row))
     (before.done f h))
@@ -90,11 +90,11 @@ returns-then-len-gt0-clause-items g c f h =
 pub returns-clause-canonical : goal.returns-clause-canonical
 returns-clause-canonical g c =
     let before = c.loop-row.invariant in
-    whole_canonical c.loop-row.bytes c.args.length (omega (arith, before.left, before.size, c.requires.exact)) before.fits
+    whole_canonical c.loop-row.bytes c.args.len (omega (arith, before.left, before.size, c.requires.exact)) before.fits
 
 pub returns-clause-items : goal.returns-clause-items
 returns-clause-items g c f h =
     let before = c.loop-row.invariant in
     let bounds = g.met.T.BitChunk.width_bounds in
-    let end : 8 * c.loop-row.at ≡ c.args.length = omega (arith, before.left) in
-    done_all g.T.BitChunk.WIDTH c.args.length _ c.loop-row.bytes (omega (arith, bounds)) (omega (arith, before.size, c.requires.exact)) (λ k k<. before.done f h k (omega (arith, end, k<)))
+    let end : 8 * c.loop-row.at ≡ c.args.len = omega (arith, before.left) in
+    done_all g.T.BitChunk.WIDTH c.args.len _ c.loop-row.bytes (omega (arith, bounds)) (omega (arith, before.size, c.requires.exact)) (λ k k<. before.done f h k (omega (arith, end, k<)))

@@ -12,12 +12,12 @@ invariant-loop-row g l = record {
   size : length l.bytes ≡ length l.fn.bytes;
   fits : (k : ℕ) → slice_index l.bytes k < 256;
   whole : l.at % g.T.NativeType.SIZE ≡ 0;
-  left : g.S.WordRows.length l.rows + 8 * l.at ≡ l.length;
+  left : g.S.WordRows.len l.rows + 8 * l.at ≡ l.len;
   ahead : (j : ℕ) → g.S.WordRows.row_at l.rows j ≡ g.S.WordRows.row_at l.fn.rows (l.at / g.T.NativeType.SIZE + j);
   kept : Kept l.fn.bytes l.bytes (8 * l.at);
   done : (f : List ℕ → ℕ) → ComputesOwnRows g.T.BitChunk.WIDTH g.S.WordRows.words g.T.BitChunk.number (goal.F-post g l.op) f
-      → Done g.T.BitChunk.WIDTH (λ j. f (word g.T.BitChunk.WIDTH (take l.length (bits l.fn.bytes)) j ∷ g.S.WordRows.row_at l.fn.rows j)) l.bytes (8 * l.at);
+      → Done g.T.BitChunk.WIDTH (λ j. f (word g.T.BitChunk.WIDTH (take l.len (bits l.fn.bytes)) j ∷ g.S.WordRows.row_at l.fn.rows j)) l.bytes (8 * l.at);
 }
 
 abbrev pub decreases-loop-row : goal.decreases-loop-row
-decreases-loop-row g l = g.S.WordRows.length l.rows
+decreases-loop-row g l = g.S.WordRows.len l.rows

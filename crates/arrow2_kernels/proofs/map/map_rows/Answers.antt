@@ -7,4 +7,4 @@ pub returns-clause-items : goal.returns-clause-items
 returns-clause-items g c f is =
     let v = c.in_ok-bytes.bytes in
     let whole = whole_written v.items c.write_rows.new.bytes v.len (search rules) (omega (arith, c.write_rows.auto.bytes, c.as_mut_slice.ensures.len)) in
-    ap (λ (b : List ℕ). take c.args.length (bits b)) whole ∙ c.write_rows.ensures.items f is
+    ap (λ (b : List ℕ). take c.args.len (bits b)) whole ∙ c.write_rows.ensures.items f is

@@ -9,4 +9,4 @@ returns-clause-items g c f is = c.assign_rows.ensures.items (λ xs. f (drop 1 xs
 pub returns-clause-table : goal.returns-clause-table
 returns-clause-table g c t lists acts are =
     c.assign_rows.ensures.items (λ xs. table_word 64 t (drop 1 xs)) (λ x row r fits words post. acts_rows 64 t g.S.WordRows.words (λ x. x) _ acts row r words (search rules))
-    ∙ rows_table 64 c.args.length t lists (g.S.WordRows.row_at c.args.rows) (omega arith) are
+    ∙ rows_table 64 c.args.len t lists (g.S.WordRows.row_at c.args.rows) (omega arith) are

@@ -9,7 +9,7 @@ pub returns-clause-items : goal.returns-clause-items
 returns-clause-items c =
     let old = c.args.bytes.now in
     let other = c.args.other.now in
-    let n = c.args.length in
+    let n = c.args.len in
     let m = length-bits old in
     let o = length-bits other in
     let shorter = take-take n (8 * length old) (bits other) (omega (arith, c.requires.exact)) in

@@ -8,7 +8,7 @@ use Rattle.arrow2_kernels.proofs.simd_map.map_unary.Goals as goal
 pub returns-clause-items : goal.returns-clause-items
 returns-clause-items c =
     let v = c.in_ok-bytes.bytes in
-    let n = c.args.length in
+    let n = c.args.len in
     let whole = whole_written v.items c.assign_unary.new.bytes v.len (search rules) (omega (arith, c.assign_unary.auto.bytes, c.as_mut_slice.ensures.len)) in
     ap (λ (b : List ℕ). take n (bits b)) whole
     ∙ (c.assign_unary.ensures.items

@@ -16,5 +16,5 @@ pub returns-clause-results : goal.returns-clause-results
 returns-clause-results g c =
     let before = c.loop-block.invariant in
     let k = c.loop-block.block in
-    let ended : k ≡ c.args.length / 64 = omega (arith, c.loop-block-test.false, c.loop-block.auto.block-end) in
-    λ j h. each-word (λ i b. g.F.Fn.post c.args.f (i, tt) b) c.loop-block.bytes.items c.extend_from_slice-2.new.self.items c.to_ne_bytes-2.result c.block_of-2.result k (c.args.length % 64) c.word_of-last.result before.size c.block_of-2.ensures.size c.word_of-last.ensures c.to_ne_bytes-2.ensures.bits c.in_ok-extend_from_slice-2.ensures.items before.done (rw ended c.block_of-2.ensures.results) j (omega (arith, h, ended))
+    let ended : k ≡ c.args.len / 64 = omega (arith, c.loop-block-test.false, c.loop-block.auto.block-end) in
+    λ j h. each-word (λ i b. g.F.Fn.post c.args.f (i, tt) b) c.loop-block.bytes.items c.extend_from_slice-2.new.self.items c.to_ne_bytes-2.result c.block_of-2.result k (c.args.len % 64) c.word_of-last.result before.size c.block_of-2.ensures.size c.word_of-last.ensures c.to_ne_bytes-2.ensures.bits c.in_ok-extend_from_slice-2.ensures.items before.done (rw ended c.block_of-2.ensures.results) j (omega (arith, h, ended))

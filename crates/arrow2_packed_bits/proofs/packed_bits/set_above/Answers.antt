@@ -14,12 +14,12 @@ changed bytes n x k some inside is same =
     let size = length-set bytes (n / 8) y in
     get_or-bits_at (set bytes (n / 8) y) k false (omega (arith, size, same)) ∙ ap (λ b. bit b (k % 8)) (ap (λ j. get_or (set bytes (n / 8) y) j 0) same ∙ get_or-set_same bytes (n / 8) y 0 (omega arith))
 
-pub returns-then-length-ne0-clause-kept : goal.returns-then-length-ne0-clause-kept
-returns-then-length-ne0-clause-kept c k where_ =
-    let bytes = c.args.bytes.now.items in let n = c.args.length in let x = c.index_mut-byte.result.now in
+pub returns-then-len-ne0-clause-kept : goal.returns-then-len-ne0-clause-kept
+returns-then-len-ne0-clause-kept c k where_ =
+    let bytes = c.args.bytes.now.items in let n = c.args.len in let x = c.index_mut-byte.result.now in
     let y : ℕ = bit_or x (get_or above (n % 8) 0) in
     let size = length-set bytes (n / 8) y in
-    let some : 0 < n % 8 = omega (arith, c.if-length-ne0.true) in
+    let some : 0 < n % 8 = omega (arith, c.if-len-ne0.true) in
     elim (cases_lt k (8 * length bytes)) [
       | inr past ↦ get_or_past (bits (set bytes (n / 8) y)) k false (omega (arith, length-bits (set bytes (n / 8) y), size, past)) ∙ sym (get_or_past (bits bytes) k false (omega (arith, length-bits bytes, past)))
       | inl lt ↦ elim (cases_eq (k / 8) (n / 8)) [
@@ -34,9 +34,9 @@ returns-then-length-ne0-clause-kept c k where_ =
       ]
     ]
 
-pub returns-then-length-ne0-clause-written : goal.returns-then-length-ne0-clause-written
-returns-then-length-ne0-clause-written c k from to =
-    let bytes = c.args.bytes.now.items in let n = c.args.length in let x = c.index_mut-byte.result.now in
-    let some : 0 < n % 8 = omega (arith, c.if-length-ne0.true) in
+pub returns-then-len-ne0-clause-written : goal.returns-then-len-ne0-clause-written
+returns-then-len-ne0-clause-written c k from to =
+    let bytes = c.args.bytes.now.items in let n = c.args.len in let x = c.index_mut-byte.result.now in
+    let some : 0 < n % 8 = omega (arith, c.if-len-ne0.true) in
     let same : k / 8 ≡ n / 8 = omega (arith, some, from, to) in
     changed bytes n x k some c.requires.inside c.index_mut-byte.ensures.value same ∙ above_set x (n % 8) (k % 8) (omega (arith, from, same)) (omega arith)

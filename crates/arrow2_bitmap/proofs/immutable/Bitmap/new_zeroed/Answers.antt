@@ -13,12 +13,12 @@ falses-replicate n = sum_by-replicate (λ x. cond (not x) 1 0) n false
 pub from_counted-requires-clause-counted : goal.from_counted-requires-clause-counted
 from_counted-requires-clause-counted c =
     let zeros = c.in_ok-zeros.ensures.items_if_clones_equal (λ y same. same) in
-    let items = ap (λ s. take c.args.length (bits s)) zeros ∙ front-zeros c.bytes_for.result c.args.length (omega (arith, c.bytes_for.ensures)) in
-    let count = ap falses items ∙ falses-replicate c.args.length in
+    let items = ap (λ s. take c.args.len (bits s)) zeros ∙ front-zeros c.bytes_for.result c.args.len (omega (arith, c.bytes_for.ensures)) in
+    let count = ap falses items ∙ falses-replicate c.args.len in
     omega (arith, count)
 
 pub returns-clause-items : goal.returns-clause-items
 returns-clause-items c =
     let zeros = c.in_ok-zeros.ensures.items_if_clones_equal (λ y same. same) in
-    let items = ap (λ s. take c.args.length (bits s)) zeros ∙ front-zeros c.bytes_for.result c.args.length (omega (arith, c.bytes_for.ensures)) in
+    let items = ap (λ s. take c.args.len (bits s)) zeros ∙ front-zeros c.bytes_for.result c.args.len (omega (arith, c.bytes_for.ensures)) in
     subst (λ (t : List Bool). IfOk c.from_counted.result (λ b. items_of b ≡ t)) items c.from_counted.ensures.items

@@ -7,7 +7,7 @@ use Rattle.arrow2_bitmap.proofs.immutable.Bitmap.try_from_fn.Goals as goal
 
 pub returns-clause-items : goal.returns-clause-items
 returns-clause-items g c =
-    let n : ℕ = c.args.length in
+    let n : ℕ = c.args.len in
     let items = c.from_vec.result.items in
     let packed = bits c.in_ok-bytes.bytes.items in
     let stated : (k : ℕ) → k < n → g.F.Fn.post c.args.f (k, tt) (get_or items k false) = λ k h. subst (λ (bit : Bool). g.F.Fn.post c.args.f (k, tt) bit) (sym (ap (λ l. get_or l k false) c.from_vec.ensures.items ∙ get_or-take n packed k false h)) (c.in_ok-bytes.ensures.results k h) in

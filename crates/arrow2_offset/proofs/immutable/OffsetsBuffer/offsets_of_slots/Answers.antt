@@ -6,5 +6,5 @@ use Rattle.arrow2_offset.proofs.immutable.OffsetsBuffer.offsets_of_slots.Goals a
 pub returns : goal.returns
 returns g c =
     let s = c.as_slice in
-    let d = slice_of g.O.Number.value s.result.now _ (buffer_items c.args.self.now) c.args.start (c.args.start + c.args.length + 1 - c.args.start) c.args.length s.ensures.offsets s.ensures.valid refl (omega arith) c.requires in
+    let d = slice_of g.O.Number.value s.result.now _ (buffer_items c.args.self.now) c.args.start (c.args.start + c.args.len + 1 - c.args.start) c.args.len s.ensures.offsets s.ensures.valid refl (omega arith) c.requires in
     record { valid = d.0; lengths = d.1 }

@@ -13,5 +13,5 @@ returns g c =
     record {
       value = d.0;
       lists = d.1;
-      spelled = spelled_same g.O.Number.value g.O.PartialEq.eq (λ x y. g.met.O.Number.eq_law x y g.met.O.Integral.exact_law) c.as_slice.result.now c.as_slice-2.result.now own others (offsets_list (start_of own) (lengths_of own)) (offsets_list (start_of others) (lengths_of others)) c.eq.result c.eq.ensures a.offsets a.spelled b.offsets b.spelled;
+      by_lengths = spelled_same g.O.Number.value g.O.PartialEq.eq (λ x y. g.met.O.Number.eq_law x y g.met.O.Integral.exact_law) c.as_slice.result.now c.as_slice-2.result.now own others (offsets_list (start_of own) (lengths_of own)) (offsets_list (start_of others) (lengths_of others)) c.eq.result c.eq.ensures a.offsets a.by_lengths b.offsets b.by_lengths;
     }
