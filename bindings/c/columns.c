@@ -25,8 +25,8 @@ static uint32_t nulls_of_column(const struct ArrowSchema *schema, const struct A
     return arrow2_bits_null_count(validity_of_column(schema, batch, k), (size_t)batch->length, nulls);
 }
 
-/* Writes which rows are valid in columns `j` and `k` of a checked batch over `both`, of `count` bytes, which must be
- * arrow2_bytes_for(batch->length). */
+/* Sets bit i of `both` if row i is valid in columns `j` and `k` of a checked batch, else clears it. `count` is the size
+ * of `both`, which must be arrow2_bytes_for(batch->length). */
 static uint32_t valid_in_both(const struct ArrowSchema *schema, const struct ArrowArray *batch, int64_t j, int64_t k,
                               uint8_t *both, size_t count) {
     size_t rows = (size_t)batch->length;

@@ -1,13 +1,14 @@
-/* Bits with fewer arguments, and checks of whole arrays of the Arrow C data interface: inline functions on top of the
- * library, which you still link.
+/* Inline functions on top of the library, which you still link: functions on bits that take fewer arguments, and checks
+ * of whole arrays of the Arrow C data interface.
  *
- * Each test of bits, offsets, texts and indices, except of slots of unions, is a call of the library, and proved.
- * The walk over the tree of an array is written by hand here (docs/BINDINGS.md, which the package has too).
+ * The contents of buffers (bits, offsets, texts and indices) are tested by calls of the library, which are proved. The
+ * exception is the slots of unions, which code of this header tests. The code that traverses the tree of an array is
+ * written by hand here (docs/BINDINGS.md, which the package has too).
  *
  * The interface does not state the number of bytes of a buffer. `arrow2_array_check` trusts that each buffer has the
- * bytes that format, length, offset and last offset require. `arrow2_array_check_sized` is given the number of bytes of
- * each buffer, and reads nothing outside them. Both trust that every pointer that is not NULL is what the interface
- * says. */
+ * bytes that format, length, offset and last offset require. `arrow2_array_check_sized` gets the number of bytes of
+ * each buffer, and reads nothing outside these bytes. Both functions trust that every pointer that is not NULL points
+ * to what the interface specifies. */
 #ifndef ARROW2_C_DATA_H
 #define ARROW2_C_DATA_H
 
@@ -71,16 +72,16 @@ struct ArrowArrayStream {
 
 /* ---- Bits
  *
- * Bits have three members: `bytes` points to the bytes, `bytes_len` is how many bytes there are, and `offset` is the
- * bit at which the bits begin. For a raw bitmap fill them by hand. arrow2_bits_of and arrow2_bits_of_column fill them
- * from an array that was checked.
+ * `struct arrow2_bits` has three members: `bytes` points to the bytes, `bytes_len` is the number of bytes, and `offset`
+ * is the bit of the bytes at which the bits begin. For a raw bitmap set the members by hand. arrow2_bits_of and
+ * arrow2_bits_of_column set them from an array that was checked.
  *
- * Rules, next to those of arrow2_proved.h:
+ * Rules, in addition to those of arrow2_proved.h:
  * - Each `arrow2_bits_*` function that returns a code makes at most one call of the library, which its comment names,
  *   and returns the code of that call. Without a call it returns ARROW2_OK or ARROW2_LENGTH.
- * - A pointer to bytes that is NULL has 0 bytes, whatever `bytes_len`, `out_len`, `values_len` or `validity_len` is.
- *   Where bytes are needed, the result is ARROW2_RANGE for an input, and ARROW2_LENGTH for an output.
- * - The exception is a validity: there NULL means that there is no validity bitmap, so no item is null. It is `(struct
+ * - A NULL pointer to bytes counts as 0 bytes, whatever `bytes_len`, `out_len`, `values_len` or `validity_len` is. If
+ *   the call needs bytes there, the result is ARROW2_RANGE for an input, and ARROW2_LENGTH for an output.
+ * - The exception is a validity: there NULL means that there is no validity bitmap, so no item is null. Pass `(struct
  *   arrow2_bits){NULL, 0, 0}`, in C++ `arrow2_bits{nullptr, 0, 0}`. The functions that accept this are
  *   arrow2_bits_null_count, arrow2_bits_and_validity, and for their validity arguments arrow2_bits_and_kleene and
  *   arrow2_bits_or_kleene.
@@ -93,15 +94,15 @@ struct arrow2_bits {
     size_t offset;
 };
 
-/* The number of items of a slice: 0 where its pointer is NULL. */
+/* Returns the number of items of a slice: 0 if its pointer is NULL, else `count`. */
 static inline size_t arrow2_c_count(const void *pointer, size_t count) { return pointer ? count : 0; }
 
-/* The number of bytes that hold `bits` bits, which `out_len` must be: (bits + 7) / 8, computed as if in unlimited
- * integers. */
+/* Returns (bits + 7) / 8, without overflow: the number of bytes that hold `bits` bits. It is the `out_len` of an output
+ * of `bits` bits. */
 static inline size_t arrow2_bytes_for(size_t bits) { return bits / 8 + (bits % 8 != 0); }
 
-/* Writes to `*nulls` how many of `length` items are null by a validity. Calls arrow2_count_zeros. Without a validity
- * bitmap it makes no call, writes 0 and returns ARROW2_OK. */
+/* Writes to `*nulls` how many of the `length` items are null by `validity`. Calls arrow2_count_zeros. Without a
+ * validity bitmap it makes no call, writes 0 and returns ARROW2_OK. */
 static inline uint32_t arrow2_bits_null_count(struct arrow2_bits validity, size_t length, size_t *nulls) {
     if (!validity.bytes) {
         *nulls = 0;
@@ -152,9 +153,9 @@ static inline uint32_t arrow2_bits_not(struct arrow2_bits bits, size_t length, u
                               arrow2_c_count(out, out_len));
 }
 
-/* Writes to `out`, for each of `length` items, whether it is valid by both validities, either of which may be missing.
+/* Writes to `out`, for each of `length` items, whether it is valid by both validities. Either validity may be missing.
  * Calls arrow2_binary_table, arrow2_copy_bits or arrow2_unary_assign_table. `out` has arrow2_bytes_for(length) bytes,
- * and padding bits become 0, also where both are missing.
+ * and padding bits become 0, also where both validities are missing.
  * ARROW2_RANGE: a validity was passed, and its bits are not inside its bytes. Else ARROW2_LENGTH: `out` has the
  * wrong size. */
 static inline uint32_t arrow2_bits_and_validity(struct arrow2_bits left, struct arrow2_bits right, size_t length,
@@ -177,10 +178,10 @@ static inline uint32_t arrow2_bits_and_validity(struct arrow2_bits left, struct 
     return arrow2_unary_assign_table(out, count, length, 1); /* NOT of zeros */
 }
 
-/* Kleene's AND of two boolean columns. Calls arrow2_and_kleene_optional. Either column may have no validity bitmap.
- * `values` and `validity` get the result. Each has arrow2_bytes_for(length) bytes; `values_len` and `validity_len` must
- * both be this number. Both are always written, also where neither column has a validity, so neither may be NULL unless
- * `length` is 0.
+/* Computes Kleene's AND of two boolean columns. Calls arrow2_and_kleene_optional. Either column may have no validity
+ * bitmap. `values` and `validity` get the result. Each has arrow2_bytes_for(length) bytes; `values_len` and
+ * `validity_len` must both be this number. Both outputs are always written, also where neither column has a validity,
+ * so neither output may be NULL unless `length` is 0.
  * ARROW2_RANGE: bits of a value, or of a validity that was passed, are not inside their bytes. Else ARROW2_LENGTH:
  * `values` or `validity` has the wrong size. */
 static inline uint32_t arrow2_bits_and_kleene(struct arrow2_bits left, struct arrow2_bits left_validity,
@@ -195,7 +196,8 @@ static inline uint32_t arrow2_bits_and_kleene(struct arrow2_bits left, struct ar
         length, values, arrow2_c_count(values, values_len), validity, arrow2_c_count(validity, validity_len));
 }
 
-/* Kleene's OR of two boolean columns. Calls arrow2_or_kleene_optional. Arguments as of arrow2_bits_and_kleene. */
+/* Computes Kleene's OR of two boolean columns. Calls arrow2_or_kleene_optional. The arguments are those of
+ * arrow2_bits_and_kleene. */
 static inline uint32_t arrow2_bits_or_kleene(struct arrow2_bits left, struct arrow2_bits left_validity,
                                              struct arrow2_bits right, struct arrow2_bits right_validity, size_t length,
                                              uint8_t *values, size_t values_len, uint8_t *validity,
@@ -208,13 +210,13 @@ static inline uint32_t arrow2_bits_or_kleene(struct arrow2_bits left, struct arr
         length, values, arrow2_c_count(values, values_len), validity, arrow2_c_count(validity, validity_len));
 }
 
-/* The bits of buffer `index` of an array that was checked, from the array's own offset on. Buffer 0 is the validity,
- * except in a union, where it is the types. Buffer 1 of a boolean array is its values. Ask for no other buffer: for any
- * other, `bytes_len` of the result may be greater than the number of bytes that the buffer has. If `length` is 0 the
- * check has not tested the pointer: do not use the result unless the producer set a real one. A null array has no
- * buffer, and each of its items is null. So test the format before you take a validity, as `columns.c` of the examples
- * does. If `index` is negative or not below `n_buffers`, or the buffer is NULL, the result has `bytes` NULL,
- * `bytes_len` 0 and `offset` 0.
+/* Returns the bits of buffer `index` of an array that was checked, from the array's own offset on. Buffer 0 is the
+ * validity, except in a union, where it is the types. Buffer 1 of a boolean array is its values. Do not call this
+ * function for any other buffer: there `bytes_len` of the result may be greater than the number of bytes that the
+ * buffer has. If `length` is 0 the check has not tested the pointer: do not use the result unless the producer set a
+ * valid pointer. A null array has no buffer, and each of its items is null. So test the format before you take a
+ * validity, as `columns.c` of the examples does. If `index` is negative or not below `n_buffers`, or the buffer is
+ * NULL, the result has `bytes` NULL, `bytes_len` 0 and `offset` 0.
  *
  * Only the array's own offset is applied. For a column of a batch call arrow2_bits_of_column. */
 static inline struct arrow2_bits arrow2_bits_of(const struct ArrowArray *array, int index) {
@@ -228,12 +230,13 @@ static inline struct arrow2_bits arrow2_bits_of(const struct ArrowArray *array, 
     return bits;
 }
 
-/* The bits of buffer `index` of column `column` of a batch that was checked, from row 0 of the batch on. A batch is a
- * struct: its row i is item `batch->offset + i` of each column, so the batch's offset is added to the column's own. The
- * same serves for the children of a sparse union. If there is no such column or buffer, the result is the one that
- * arrow2_bits_of returns where there is no buffer. Used as a validity, it means that no item is null.
+/* Returns the bits of buffer `index` of column `column` of a batch that was checked, from row 0 of the batch on. A
+ * batch is a struct: its row i is item `batch->offset + i` of each column, so the batch's offset is added to the
+ * column's own offset. This function also serves for the children of a sparse union. If there is no such column or
+ * buffer, the result is the same as that of arrow2_bits_of where there is no buffer. Used as a validity, this result
+ * means that no item is null.
  *
- * The validity of the struct itself is not applied. It is arrow2_bits_of(batch, 0). */
+ * The validity of the struct itself is not applied: arrow2_bits_of(batch, 0) returns it. */
 static inline struct arrow2_bits arrow2_bits_of_column(const struct ArrowArray *batch, int64_t column, int index) {
     struct arrow2_bits bits = {NULL, 0, 0};
     if (column < 0 || column >= batch->n_children) {
@@ -246,7 +249,7 @@ static inline struct arrow2_bits arrow2_bits_of_column(const struct ArrowArray *
 
 /* ---- Checks of whole arrays */
 
-/* The codes that the check of an array returns, next to those of arrow2_proved.h. */
+/* The codes that the check of an array returns, in addition to those of arrow2_proved.h. */
 /* A pointer that the array needs is NULL. */
 #define ARROW2_C_NULL 32u
 /* The schema or the array was released. */
@@ -270,14 +273,14 @@ static inline struct arrow2_bits arrow2_bits_of_column(const struct ArrowArray *
 #define ARROW2_C_UNION_OFFSET 41u
 /* An array is ARROW2_C_MAX_DEPTH levels below the root, or the tree has more arrays than ARROW2_C_MAX_ARRAYS. */
 #define ARROW2_C_TOO_LARGE 42u
-/* A buffer of numbers of several bytes, which the check reads, is not aligned. */
+/* A buffer of 16-, 32- or 64-bit numbers that the check has to read is not aligned. */
 #define ARROW2_C_UNALIGNED 43u
-/* There are more or fewer sizes than buffers in the tree. Only arrow2_array_check_sized returns it. */
+/* There are more or fewer sizes than buffers in the tree. Only arrow2_array_check_sized returns this code. */
 #define ARROW2_C_SIZES 44u
 
 #define ARROW2_C_MAX_DEPTH 64
 #define ARROW2_C_MAX_ARRAYS 1048576
-/* More bytes than any buffer has: the size of a buffer whose size is not known. */
+/* Stands for the size of a buffer where the size is not known; no real buffer is this large. */
 #define ARROW2_C_MAX_BYTES ((size_t)1 << 56)
 /* More bytes than the longest path needs. */
 #define ARROW2_C_PATH 1280
@@ -289,9 +292,10 @@ static inline struct arrow2_bits arrow2_bits_of_column(const struct ArrowArray *
  * The step to a dictionary is `dictionary`. A `/` stands between two steps: `struct.3/list.0` is child 0 of a list,
  * which is child 3 of a struct.
  *
- * `slot` is the slot of that array, or -1 where the rule is about no slot. It counts from 0 at `array->offset`. An
- * offset of binary, utf8, a list or a map that breaks a rule belongs to the slot that ends at it, the first offset
- * to slot 0. An offset of a dense union belongs to its own slot. */
+ * `slot` is the slot at which the refused array breaks the rule, or -1 if the rule is about no slot. Slots are counted
+ * from 0 at `array->offset`. If an offset of a binary, utf8, list or map array breaks a rule, the slot is the one that
+ * ends at this offset; for the first offset it is slot 0. In a dense union each slot has its own offset, and `slot` is
+ * the slot of the offset that breaks the rule. */
 struct arrow2_where {
     char path[ARROW2_C_PATH];
     int64_t slot;
@@ -311,9 +315,9 @@ enum arrow2_c_kind {
     ARROW2_C_KIND_DENSE_UNION
 };
 
-/* The layout that a format describes: `size` is the number of bytes of a value, of bytes of an offset, or of items
- * of a slot; `index` is the format letter of an integer, else 0; `types` is the list of types of a union, else NULL;
- * `children` is the number of children, or -1 for any number. */
+/* The layout that a format describes: `size` is, depending on `kind`, the bytes per value, the bytes per offset, or the
+ * items per slot; `index` is the format letter of an integer, else 0; `types` is the list of types of a union, else
+ * NULL; `children` is the number of children, or -1 for any number. */
 struct arrow2_c_layout {
     enum arrow2_c_kind kind;
     size_t size;
@@ -336,7 +340,8 @@ struct arrow2_c_tree {
 
 /* ---- Formats */
 
-/* Reads a number without a sign, at most 2^31 - 1, and moves past it; false where there is none. */
+/* Reads a number without a sign, at most 2^31 - 1, and moves `*at` past it. Returns false if there is no such
+ * number. */
 static inline bool arrow2_c_number(const char **at, size_t *number) {
     const char *digit = *at;
     size_t sum = 0;
@@ -364,7 +369,8 @@ static inline struct arrow2_c_layout arrow2_c_layout_of(enum arrow2_c_kind kind,
     return layout;
 }
 
-/* The bytes of a decimal, `d:precision,scale` or `d:precision,scale,bits`; 0 where it is none. */
+/* Returns the number of bytes of a decimal, `d:precision,scale` or `d:precision,scale,bits`, or 0 if the format is not
+ * one of these two. */
 static inline size_t arrow2_c_decimal(const char *at) {
     size_t precision, scale, bits = 128;
     if (!arrow2_c_number(&at, &precision) || precision == 0 || *at++ != ',') {
@@ -386,7 +392,8 @@ static inline size_t arrow2_c_decimal(const char *at) {
     return *at == 0 && known ? bits / 8 : 0;
 }
 
-/* The bytes of a value of a date, a time, a timestamp, a duration or an interval; 0 where it is none. */
+/* Returns the number of bytes of a value of a date, a time, a timestamp, a duration or an interval, or 0 if the format
+ * is none of these. */
 static inline size_t arrow2_c_temporal(const char *format) {
     static const struct {
         char format[4];
@@ -405,7 +412,8 @@ static inline size_t arrow2_c_temporal(const char *format) {
     return 0;
 }
 
-/* Returns the number of types of a union, each from 0 to 127 and none twice; -1 where this is no list of them. */
+/* Returns the number of types of a union, or -1 if the text is not a list of types. Each type is from 0 to 127, and no
+ * type occurs twice. */
 static inline int64_t arrow2_c_types(const char *at) {
     bool named[128] = {false};
     size_t type;
@@ -428,7 +436,7 @@ static inline int64_t arrow2_c_types(const char *at) {
     }
 }
 
-/* Reads a format that begins with `+`; false where it is not known. */
+/* Reads a format that begins with `+`. Returns false if the format is not known. */
 static inline bool arrow2_c_nested(const char *format, struct arrow2_c_layout *layout) {
     if (strcmp(format, "+l") == 0 || strcmp(format, "+L") == 0) {
         *layout = arrow2_c_layout_of(ARROW2_C_KIND_LIST, format[1] == 'l' ? 4 : 8, 2, 1);
@@ -457,7 +465,7 @@ static inline bool arrow2_c_nested(const char *format, struct arrow2_c_layout *l
     return false;
 }
 
-/* Reads a format of one letter; false where it is not known. */
+/* Reads a format of one letter. Returns false if the format is not known. */
 static inline bool arrow2_c_letter(char letter, struct arrow2_c_layout *layout) {
     static const char letters[] = "cCsSiIlLefg";
     static const size_t sizes[] = {1, 1, 2, 2, 4, 4, 8, 8, 2, 4, 8};
@@ -478,7 +486,7 @@ static inline bool arrow2_c_letter(char letter, struct arrow2_c_layout *layout) 
     }
 }
 
-/* Reads a format; false where it is not known. */
+/* Reads a format. Returns false if the format is not known. */
 static inline bool arrow2_c_read_format(const char *format, struct arrow2_c_layout *layout) {
     if (format[0] == 0) {
         return false;
@@ -510,7 +518,8 @@ static inline const char *arrow2_c_kind_name(enum arrow2_c_kind kind) {
 
 /* ---- Where the check is */
 
-/* Writes where the check is, and returns the code. */
+/* If `tree->where` is not NULL, writes there `slot` and the path of the array that the check has reached. Returns
+ * `code`. */
 static inline uint32_t arrow2_c_refuse(const struct arrow2_c_tree *tree, uint32_t code, int64_t slot) {
     if (!tree->where) {
         return code;
@@ -533,14 +542,14 @@ static inline uint32_t arrow2_c_refuse(const struct arrow2_c_tree *tree, uint32_
     return code;
 }
 
-/* The same, where the code is an error. */
+/* The same if `code` is an error; else only returns `code`. */
 static inline uint32_t arrow2_c_unless_ok(const struct arrow2_c_tree *tree, uint32_t code, int64_t slot) {
     return code == ARROW2_OK ? code : arrow2_c_refuse(tree, code, slot);
 }
 
 /* ---- One array */
 
-/* A buffer, its size, and the array's length and offset, whose signs were tested. */
+/* A buffer, its size, and the array's length and offset, which were tested not to be negative. */
 struct arrow2_c_buffer {
     const void *bytes;
     size_t size;
@@ -548,7 +557,7 @@ struct arrow2_c_buffer {
     size_t length;
 };
 
-/* Whether the pointers and numbers of an array and its schema can be read at all. */
+/* Checks the head of an array and its schema: whether their pointers and numbers can be read at all. */
 static inline uint32_t arrow2_c_check_head(const struct ArrowSchema *schema, const struct ArrowArray *array) {
     if (!schema || !array) {
         return ARROW2_C_NULL;
@@ -566,14 +575,16 @@ static inline uint32_t arrow2_c_check_head(const struct ArrowSchema *schema, con
     return ARROW2_OK;
 }
 
-/* Goes to child `index` of an array, named by the format of the array; with -1 to its dictionary. */
+/* Moves `tree` to child `index` of an array, or with -1 to its dictionary. The kind of the array gives the name of a
+ * step to a child. */
 static inline void arrow2_c_enter(struct arrow2_c_tree *tree, enum arrow2_c_kind kind, int64_t index) {
     tree->kinds[tree->depth] = index < 0 ? "dictionary" : arrow2_c_kind_name(kind);
     tree->children[tree->depth] = index;
     tree->depth++;
 }
 
-/* Whether there are the buffers, sizes and children that the format has, and a dictionary of both or of none. */
+/* Checks whether there are the buffers, sizes and children that the format requires, and whether array and schema both
+ * have a dictionary or both have none. */
 static inline uint32_t arrow2_c_check_counts(struct arrow2_c_tree *tree, const struct arrow2_c_layout *layout,
                                              const struct ArrowSchema *schema, const struct ArrowArray *array) {
     int64_t children = layout->children < 0 ? schema->n_children : layout->children;
@@ -598,7 +609,8 @@ static inline uint32_t arrow2_c_check_counts(struct arrow2_c_tree *tree, const s
     return ARROW2_OK;
 }
 
-/* Whether each child can be read at all, so that its length can be read. If one cannot, `tree` is left at it. */
+/* Checks the head of each child and of the dictionary, so that their lengths can be read. If a head is refused, `tree`
+ * is left at that child or dictionary. */
 static inline uint32_t arrow2_c_check_heads(struct arrow2_c_tree *tree, enum arrow2_c_kind kind,
                                             const struct ArrowSchema *schema, const struct ArrowArray *array) {
     for (int64_t i = 0; i < array->n_children; i++) {
@@ -630,8 +642,8 @@ static inline struct arrow2_c_buffer arrow2_c_buffer_of(const struct arrow2_c_tr
     return buffer;
 }
 
-/* Whether a buffer from which `count` items of `width` bytes are read is there and aligned. If nothing is read, any
- * pointer will do. */
+/* Tests the pointer of a buffer from which `count` items of `width` bytes will be read: whether it is aligned and not
+ * NULL. If nothing is read, any pointer will do. */
 static inline uint32_t arrow2_c_check_pointer(const void *bytes, size_t count, size_t width) {
     if (count == 0 || width == 0) {
         return ARROW2_OK;
@@ -663,8 +675,8 @@ static inline uint32_t arrow2_c_check_values(struct arrow2_c_buffer values, bool
     return code != ARROW2_OK ? code : arrow2_c_check_pointer(values.bytes, values.length, bits ? 1 : width > 0);
 }
 
-/* Whether a buffer has offsets, of `width` bytes each, into `items` items. `slot` becomes the slot at which they are
- * not, and `last` the last offset. Of an array of no item no offset is read. */
+/* Whether a buffer has offsets, of `width` bytes each, into `items` items. If an offset is wrong, `*slot` becomes its
+ * slot. `*last` becomes the last offset. If the array has no items, no offset is read. */
 static inline uint32_t arrow2_c_check_offsets(struct arrow2_c_buffer offsets, size_t width, size_t items, int64_t *slot,
                                               size_t *last) {
     *last = 0;
@@ -716,7 +728,8 @@ static inline uint32_t arrow2_c_check_bytes(struct arrow2_c_buffer offsets, stru
     return code;
 }
 
-/* Whether the indices that are not null are below the length of the dictionary, by the letter of their type. */
+/* Checks whether the indices that are not null are inside the dictionary, which has `items` items. `letter` is the
+ * format of the indices. */
 static inline uint32_t arrow2_c_check_indices(struct arrow2_c_buffer indices, struct arrow2_c_buffer validity,
                                               char letter, size_t width, size_t items, int64_t *slot) {
     size_t first = 0, n = indices.length, o = indices.offset;
@@ -761,8 +774,8 @@ static inline void arrow2_c_read_types(const char *at, int64_t child_of[128]) {
     }
 }
 
-/* Whether each slot of a union has a type of the format, and with offsets points into its child, at no item before that
- * of an earlier slot of the same type. */
+/* Checks whether the format names each slot's type. For a dense union, which has offsets, also checks whether each
+ * offset is inside its child and not below the offset of an earlier slot of the same type. */
 static inline uint32_t arrow2_c_check_union(struct arrow2_c_buffer types, const struct arrow2_c_buffer *offsets,
                                             const char *named, const struct ArrowArray *array, int64_t *slot) {
     int64_t child_of[128];
@@ -804,8 +817,8 @@ static inline uint32_t arrow2_c_check_union_buffers(const struct arrow2_c_tree *
     return code != ARROW2_OK ? code : arrow2_c_check_union(types, dense ? &offsets : NULL, named, array, slot);
 }
 
-/* Whether each child has the items that its parent needs of it: `of_a_slot` for each slot, including those before the
- * offset. If one has not, `tree` is left at it. */
+/* Checks whether each child has the items that its parent needs: `of_a_slot` items for each slot, including the slots
+ * before the offset. If a child has too few, `tree` is left at that child. */
 static inline uint32_t arrow2_c_check_lengths(struct arrow2_c_tree *tree, enum arrow2_c_kind kind, size_t of_a_slot,
                                               const struct ArrowArray *array) {
     for (int64_t i = 0; i < array->n_children; i++) {
@@ -818,7 +831,7 @@ static inline uint32_t arrow2_c_check_lengths(struct arrow2_c_tree *tree, enum a
     return ARROW2_OK;
 }
 
-/* Whether the child of a map is a struct of two. */
+/* Whether the child of a map is a struct of two children. */
 static inline bool arrow2_c_is_entries(const struct ArrowSchema *entries) {
     return strcmp(entries->format, "+s") == 0 && entries->n_children == 2;
 }
@@ -839,7 +852,8 @@ static inline uint32_t arrow2_c_check_flat(const struct arrow2_c_tree *tree, con
                                   (size_t)array->dictionary->length, slot);
 }
 
-/* Whether the array's own buffers are right. Its counts and its children's heads must have been found right before. */
+/* Whether the array's own buffers are right. Requires that its counts and its children's heads have passed their
+ * checks. */
 static inline uint32_t arrow2_c_check_content(struct arrow2_c_tree *tree, const struct arrow2_c_layout *layout,
                                               const struct ArrowSchema *schema, const struct ArrowArray *array,
                                               int64_t *slot) {
@@ -867,7 +881,8 @@ static inline uint32_t arrow2_c_check_content(struct arrow2_c_tree *tree, const 
     }
 }
 
-/* Whether an array is right, apart from its children and its dictionary. If it is not, `tree` is left at it. */
+/* Checks whether an array is right, apart from its children and its dictionary. If not, `tree` is left at the array
+ * that is refused. */
 static inline uint32_t arrow2_c_check_own(struct arrow2_c_tree *tree, const struct arrow2_c_layout *layout,
                                           const struct ArrowSchema *schema, const struct ArrowArray *array,
                                           int64_t *slot) {
@@ -885,7 +900,7 @@ static inline uint32_t arrow2_c_check_own(struct arrow2_c_tree *tree, const stru
     return code != ARROW2_OK ? code : arrow2_c_check_content(tree, layout, schema, array, slot);
 }
 
-/* Whether an array whose head was checked is right, and all below it. */
+/* Checks whether an array, whose head was checked, and all arrays below it are right. */
 static inline uint32_t arrow2_c_check_tree(struct arrow2_c_tree *tree, const struct ArrowSchema *schema,
                                            const struct ArrowArray *array) {
     struct arrow2_c_layout layout;
@@ -917,7 +932,8 @@ static inline uint32_t arrow2_c_check_tree(struct arrow2_c_tree *tree, const str
     return code;
 }
 
-/* Whether a whole tree is right, and has as many buffers as there are sizes, if there are sizes. */
+/* Checks whether a whole tree is right. If `sizes` is not NULL, also checks whether the tree has exactly `sizes_len`
+ * buffers. */
 static inline uint32_t arrow2_c_check_root(const struct ArrowSchema *schema, const struct ArrowArray *array,
                                            const size_t *sizes, size_t sizes_len, struct arrow2_where *where) {
     struct arrow2_c_tree tree;
@@ -941,27 +957,28 @@ static inline uint32_t arrow2_c_check_root(const struct ArrowSchema *schema, con
  * first rule that is broken. docs/BINDINGS.md has the order of the rules, what is not tested, and where the check is
  * stricter than Arrow; for example, the bytes of a null slot of a text must be UTF-8 too.
  *
- * The codes are those above, and of arrow2_proved.h ARROW2_RANGE (a buffer is too short), ARROW2_NULLS,
+ * The codes are those above, and these of arrow2_proved.h: ARROW2_RANGE (a buffer is too short), ARROW2_NULLS,
  * ARROW2_SPEC_NEGATIVE, ARROW2_SPEC_FALLING, ARROW2_PAST, ARROW2_UTF8 and ARROW2_INDEX.
  *
  * Schema and array stay the caller's, whatever the code is: nothing in them is changed, kept or released. The caller
- * releases both, also after a refusal: `if (array.release) array.release(&array);`, since with ARROW2_C_RELEASED it may
- * be NULL.
+ * releases both, also after a refusal: `if (array.release) array.release(&array);`, since with ARROW2_C_RELEASED
+ * `release` may be NULL.
  *
- * With ARROW2_OK offsets and indices that are read are aligned. Plain values may not be: read an int64 column through
- * `int64_t *` only where its pointer is a multiple of 8, else by memcpy.
+ * If the code is ARROW2_OK, all offsets and indices that the check read are aligned. Plain values are possibly not
+ * aligned: read an int64 column through `int64_t *` only where its pointer is a multiple of 8, else by memcpy.
  *
- * If the code is not ARROW2_OK and `where` is not NULL, `*where` is written; else it stays as it was. Nothing is
- * read past the bytes that format, length, offset and last offset require. A buffer is taken to have 2^56 bytes:
- * what would need more is refused, with ARROW2_PAST for an offset into binary or utf8 bytes, else with ARROW2_RANGE. */
+ * If the code is not ARROW2_OK and `where` is not NULL, `*where` is written; else it stays as it was. Nothing is read
+ * past the bytes that format, length, offset and last offset require. Since the sizes of buffers are not known, 2^56
+ * bytes are taken as the size of each. An array that would need a larger buffer is refused, with ARROW2_PAST for an
+ * offset into binary or utf8 bytes, else with ARROW2_RANGE. */
 static inline uint32_t arrow2_array_check(const struct ArrowSchema *schema, const struct ArrowArray *array,
                                           struct arrow2_where *where) {
     return arrow2_c_check_root(schema, array, NULL, 0, where);
 }
 
-/* The same with the number of bytes of each buffer of the tree, outside of which nothing is read. The order of the
- * sizes is depth first: those of an array's buffers, then those of its children in order, then those of its dictionary.
- * A NULL buffer takes a size too, usually 0.
+/* The same check with sizes: `sizes` has the number of bytes of each buffer of the tree. Nothing outside these bytes is
+ * read. The order of the sizes is depth first: the sizes of an array's own buffers, then those of its children in
+ * order, then those of its dictionary. A NULL buffer takes a size too, usually 0.
  *
  * - Values, and types and offsets of a union, need the bytes of offset + length items, also where `length` is 0 and
  *   where the buffer is NULL. An int32 array of length 0 and offset 5 needs 20 bytes of values: with NULL and the size
@@ -970,8 +987,8 @@ static inline uint32_t arrow2_array_check(const struct ArrowSchema *schema, cons
  * - Offsets of binary, utf8, lists and maps need the bytes of offset + length + 1 offsets. The buffer of the bytes of
  *   binary and utf8 needs the bytes up to the last offset. If `length` is 0 neither size is used.
  *
- * NULL `sizes` is an empty list, whatever `sizes_len` is: any tree that has a buffer is refused, with ARROW2_C_SIZES
- * unless an earlier rule is broken. To check without sizes call arrow2_array_check.
+ * NULL `sizes` counts as an empty list, whatever `sizes_len` is: any tree that has a buffer is refused, with
+ * ARROW2_C_SIZES unless an earlier rule is broken. To check without sizes call arrow2_array_check.
  * ARROW2_C_SIZES: there are more or fewer sizes than buffers. */
 static inline uint32_t arrow2_array_check_sized(const struct ArrowSchema *schema, const struct ArrowArray *array,
                                                 const size_t *sizes, size_t sizes_len, struct arrow2_where *where) {

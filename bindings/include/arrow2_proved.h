@@ -4,12 +4,13 @@
  *
  * Rules for every call. A call tests its numbers and returns a code; only the four `_unchecked` calls do not test their
  * offsets. Breaking a rule about pointers, alignment, overlap, bools or threads is undefined behaviour.
- * - A slice is a pointer and its number of items. NULL with 0 is safe, but not for `_unchecked` offsets. Any other
- *   pointer must lead to that many items, and be aligned for their type, also with 0 items.
+ * - A slice is a pointer and its number of items. NULL with 0 items is safe, except as `offsets` of the `_unchecked`
+ *   calls. Any other pointer must point to the given number of items. It must be aligned for their type, even where
+ *   that number is 0.
  * - A pointer to a single value (`zeros`, `equal`, `value`, `at`, `count`, `index`, `slot`) must not be NULL.
- * - NULL never means that a validity is missing. Where one may be missing, the call has an argument that states it:
- *   `all_valid`, `left_all_valid`, `right_all_valid`. Without a validity bitmap pass NULL, 0, 0, true for pointer,
- *   count, offset and this argument. Every other call needs the bitmap.
+ * - NULL never means that a validity is missing. A call that accepts a missing validity has an argument that states
+ *   whether it is missing: `all_valid`, `left_all_valid`, `right_all_valid`. Without a validity bitmap pass NULL, 0, 0,
+ *   true for pointer, number of bytes, offset and this argument. Every other call needs the bitmap.
  * - An output must not overlap any other argument, input or output. `bytes` of the *_assign_table calls and of
  *   arrow2_set_bit, and `*at`, are outputs too. Inputs may overlap each other.
  * - Every `bool` in memory that a call gets must hold 0 or 1 when the call begins: an input, each item of a slice, and
@@ -17,16 +18,17 @@
  *   initialised, except `*at`, and `bytes` of the *_assign_table calls and of arrow2_set_bit.
  * - Other threads may read the memory that a call reads. Until the call returns, no other thread may write that memory,
  *   and none may read or write the memory that the call writes.
- * - Bit i of bytes is bit i % 8 of byte i / 8, the lowest first. Offsets and lengths of bits are in bits, and may be
- *   any numbers. Those of other slices are in items.
- * - The `length` bits from bit `offset` on are inside `bytes` if offset + length <= 8 * bytes_len. This is computed as
- *   if in unlimited integers, so a huge offset gives ARROW2_RANGE and never wraps. It is tested for length 0 too:
- *   offset 5, length 0 in 0 bytes is ARROW2_RANGE. Bit `index` is inside if index < 8 * bytes_len.
+ * - Bit i of bytes is bit i % 8 of byte i / 8, the lowest first. Offsets and lengths of bits are in bits. Each may have
+ *   any value: where the bits are not inside the bytes, the code is ARROW2_RANGE. Lengths of slices of numbers are in
+ *   items.
+ * - The `length` bits from bit `offset` on are inside `bytes` if offset + length <= 8 * bytes_len. This condition is
+ *   computed as if in unlimited integers, so a huge offset gives ARROW2_RANGE and never wraps. The condition is tested
+ *   for length 0 too: offset 5, length 0 in 0 bytes is ARROW2_RANGE. Bit `index` is inside if index < 8 * bytes_len.
  * - An output of bits is exactly (length + 7) / 8 bytes, computed as if in unlimited integers: arrow2_bytes_for of
- *   arrow2_c_data.h returns it. The bits are written from bit 0 on, and padding bits become 0. The same holds in place,
- *   for `bytes` of the *_assign_table calls.
+ *   arrow2_c_data.h returns this number. The bits are written from bit 0 on, and padding bits become 0. The same holds
+ *   for `bytes` of the in-place calls, *_assign_table.
  * - The result is one of the codes below. On any error nothing is written, except `*index` or `*slot` of a check, with
- *   the codes that its comment names. No check writes them with ARROW2_OK.
+ *   the codes that its comment names. A check that returns ARROW2_OK writes neither.
  * - Nothing is kept between calls, no call allocates, and calls may run on several threads at once. Nothing is made
  *   that has to be freed. */
 #ifndef ARROW2_PROVED_H
@@ -49,7 +51,7 @@ extern "C" {
 
 /* The call succeeded. */
 #define ARROW2_OK 0u
-/* An index or a range is not inside, or a truth-table number is too large: above 3, 15 or 255 for one, two or three
+/* An index or a range is out of bounds, or a truth-table number is too large: above 3, 15 or 255 for one, two or three
  * inputs. */
 #define ARROW2_RANGE 1u
 /* An output slice is not exactly the required size (bits: (length + 7) / 8), `starts_len` differs from
@@ -80,8 +82,8 @@ extern "C" {
  * ARROW2_RANGE: they are not inside the bytes. */
 uint32_t arrow2_count_zeros(const uint8_t *bytes, size_t bytes_len, size_t offset, size_t length, size_t *zeros);
 
-/* Writes to `equal` whether the `length` bits of `left` from bit `left_offset` on are those of `right` from bit
- * `right_offset` on. ARROW2_RANGE: either is not inside its bytes. */
+/* Writes to `equal` whether the `length` bits of `left` from bit `left_offset` on equal the `length` bits of `right`
+ * from bit `right_offset` on. ARROW2_RANGE: the bits of `left` or of `right` are not inside their bytes. */
 uint32_t arrow2_equal_bits(const uint8_t *left, size_t left_len, size_t left_offset, const uint8_t *right,
                            size_t right_len, size_t right_offset, size_t length, bool *equal);
 
@@ -107,10 +109,10 @@ uint32_t arrow2_copy_bits(const uint8_t *bytes, size_t bytes_len, size_t offset,
 
 /* ---- Truth tables
  *
- * Bit a1 + 2 * a2 + 4 * a3 + 8 * a4 of `table` is its output for inputs a1 to a4. Of two inputs 8 is AND, 14 OR, 6 XOR;
- * of one input 1 is NOT. Each input is `length` bits from its offset on.
- * ARROW2_RANGE: a table of one input is above 3, of two above 15, of three above 255, or an input is not inside its
- * bytes. Else ARROW2_LENGTH: `out` has the wrong size. */
+ * The bits of `table` are the outputs: for inputs a1 to a4, each 0 or 1, the output is bit a1 + 2 * a2 + 4 * a3 + 8 *
+ * a4. With two inputs, the table of AND is 8, of OR 14 and of XOR 6. With one input, the table of NOT is 1. Each input
+ * is `length` bits from its offset on. ARROW2_RANGE: the table is above 3 for one input, above 15 for two, above 255
+ * for three, or an input is not inside its bytes. Else ARROW2_LENGTH: `out` has the wrong size. */
 
 uint32_t arrow2_unary_table(const uint8_t *bytes, size_t bytes_len, size_t offset, size_t length, uint16_t table,
                             uint8_t *out, size_t out_len);
@@ -149,10 +151,11 @@ uint32_t arrow2_quaternary_assign_table(uint8_t *bytes, size_t bytes_len, const 
 
 /* ---- Kleene's logic
  *
- * Values with their validity: an item is null where its validity bit is not set. Of both sides `length` items are
- * read. `values` and `validity` get the result. Each is exactly (length + 7) / 8 bytes, and both are always written.
- * Each bit of `values` is the operator applied to the two value bits, also where the result is null. ARROW2_RANGE:
- * bits of any of the four are not inside. Else ARROW2_LENGTH: `values` or `validity` has the wrong size. */
+ * Each side has values and their validity: an item is null where its validity bit is not set. The calls read `length`
+ * items of both sides. `values` and `validity` get the result. Each is exactly (length + 7) / 8 bytes, and both are
+ * always written. Each bit of `values` is the operator applied to the two value bits, also where the result is null.
+ * ARROW2_RANGE: the bits of any of the four inputs (values and validity of both sides) are not inside their bytes. Else
+ * ARROW2_LENGTH: `values` or `validity` has the wrong size. */
 
 /* AND: false where either is false, else null where either is null, else true. */
 uint32_t arrow2_and_kleene(const uint8_t *left, size_t left_len, size_t left_offset, const uint8_t *left_validity,
@@ -192,20 +195,20 @@ uint32_t arrow2_or_kleene_optional(const uint8_t *left, size_t left_len, size_t 
  * length. */
 uint32_t arrow2_pack(const bool *items, size_t items_len, uint8_t *out, size_t out_len);
 
-/* Writes the `out_len` bits from bit `offset` on, as booleans. ARROW2_RANGE: they are not inside. */
+/* Writes to `out` the `out_len` bits from bit `offset` on, as booleans. ARROW2_RANGE: they are not inside the bytes. */
 uint32_t arrow2_unpack(const uint8_t *bytes, size_t bytes_len, size_t offset, bool *out, size_t out_len);
 
 /* ---- Runs and indices of set bits */
 
 /* Finds the runs of set bits in a range, the `length` bits from bit `offset` on. Bits of the range are counted from
- * `offset`. The search begins at bit `*at` of the range: set `*at` to 0 before the first call. Run k is `lengths[k]`
- * bits from bit `starts[k]` of the range on. A run that begins before `*at` is found from `*at` on. The call stops when
- * the slices are full or no run is left. It writes to `*count` how many runs it has written, and to `*at` where the
- * next call goes on. If `*count < starts_len`, all runs are done, and `*at` equals `length`. The items of `starts` and
- * `lengths` from `*count` on may have been written too. For all runs, call again until `*count` is below `starts_len`,
- * which must be at least 1. If it is 0, `*count` becomes 0, and `*at` may stay as it was.
- * ARROW2_RANGE: the range is not inside the bytes, or `*at` is above `length`. Else ARROW2_LENGTH: `starts_len` is
- * not `lengths_len`. */
+ * `offset`. The search begins at bit `*at` of the range: set `*at` to 0 before the first call. Run k begins at bit
+ * `starts[k]` of the range and has `lengths[k]` bits. If `*at` is inside a run, only the part of that run from `*at` on
+ * is reported. The call stops when the slices are full or no run is left. It writes to `*count` how many runs it has
+ * written, and to `*at` where the next call goes on. If `*count < starts_len`, all runs are done, and `*at` equals
+ * `length`. The items of `starts` and `lengths` from `*count` on may have been written too. For all runs, call again
+ * until `*count` is below `starts_len`, which must be at least 1. If `starts_len` is 0, `*count` becomes 0, and it is
+ * possible that `*at` stays as it was. ARROW2_RANGE: the range is not inside the bytes, or `*at` is above `length`.
+ * Else ARROW2_LENGTH: `starts_len` is not `lengths_len`. */
 uint32_t arrow2_runs(const uint8_t *bytes, size_t bytes_len, size_t offset, size_t length, size_t *at, size_t *starts,
                      size_t starts_len, size_t *lengths, size_t lengths_len, size_t *count);
 
@@ -214,18 +217,18 @@ uint32_t arrow2_runs(const uint8_t *bytes, size_t bytes_len, size_t offset, size
  * set, and the indices rise. The call stops when `indices` is full or no set bit is left. It writes to `*count` how
  * many indices it has written, and to `*at` where the next call goes on. If `*count < indices_len`, all set bits are
  * done, and `*at` equals `length`. The items of `indices` from `*count` on may have been written too. For all set bits,
- * call again until `*count` is below `indices_len`, which must be at least 1. If it is 0, `*count` becomes 0, `*at` may
- * change, and no further call ends the search.
- * ARROW2_RANGE: the range is not inside the bytes, or `*at` is above `length`. */
+ * call again until `*count` is below `indices_len`, which must be at least 1. If `indices_len` is 0, `*count` becomes 0
+ * and `*at` may change; `*count` is then never below `indices_len`. ARROW2_RANGE: the range is not inside the bytes, or
+ * `*at` is above `length`. */
 uint32_t arrow2_set_indices(const uint8_t *bytes, size_t bytes_len, size_t offset, size_t length, size_t *at,
                             size_t *indices, size_t indices_len, size_t *count);
 
 /* ---- Offsets of 32 and of 64 bits
  *
- * Offsets are at least one number, none negative and none below the one before it. Slot i spans from offset i to offset
- * i + 1. If the numbers are not offsets, each call on them but the `_unchecked` ones returns one of these codes, before
- * any other. ARROW2_SPEC_EMPTY: there is no number. ARROW2_SPEC_NEGATIVE: the first is negative. ARROW2_SPEC_FALLING:
- * the first is not negative, and some number is below the one before it.
+ * "Offsets" are a list of one or more numbers: none is negative, and none is below the one before it. Slot i spans from
+ * offset i to offset i + 1. If the numbers are not offsets, each call that takes them, except the `_unchecked` ones,
+ * returns one of the next three codes, before any other. ARROW2_SPEC_EMPTY: there is no number. ARROW2_SPEC_NEGATIVE:
+ * the first is negative. ARROW2_SPEC_FALLING: the first is not negative, and some number is below the one before it.
  *
  * The four `_unchecked` calls test no offset. Their numbers must be offsets, so there must be at least one; else the
  * behaviour is undefined, and memory outside `offsets` may be read. They return their other codes in the same cases
@@ -246,7 +249,7 @@ uint32_t arrow2_offsets32_lengths_unchecked(const int32_t *offsets, size_t offse
 uint32_t arrow2_offsets64_lengths_unchecked(const int64_t *offsets, size_t offsets_len, size_t *out,
                                             size_t out_len);
 
-/* Writes `start`; each number after it is the one before plus the next length.
+/* out[0] becomes `start`, and out[i + 1] becomes out[i] + lengths[i].
  * ARROW2_LENGTH: `out_len` is not `lengths_len + 1`. Else ARROW2_OVERFLOW: the exact sum of `start` and all lengths
  * is above 2147483647 for 32 bits, or above 9223372036854775807 for 64. */
 uint32_t arrow2_offsets32_from_lengths(size_t start, const size_t *lengths, size_t lengths_len, int32_t *out,
@@ -262,15 +265,15 @@ uint32_t arrow2_offsets32_rebase(const int32_t *offsets, size_t offsets_len, siz
 uint32_t arrow2_offsets64_rebase(const int64_t *offsets, size_t offsets_len, size_t from, int64_t *out,
                                  size_t out_len);
 
-/* The same of numbers that must be offsets, so there must be at least one; else the behaviour is undefined.
- * ARROW2_LENGTH and ARROW2_RANGE as above. */
+/* The same without a test of the offsets. The numbers must be offsets, so there must be at least one; else the
+ * behaviour is undefined. ARROW2_LENGTH and ARROW2_RANGE as above. */
 uint32_t arrow2_offsets32_rebase_unchecked(const int32_t *offsets, size_t offsets_len, size_t from, int32_t *out,
                                            size_t out_len);
 uint32_t arrow2_offsets64_rebase_unchecked(const int64_t *offsets, size_t offsets_len, size_t from, int64_t *out,
                                            size_t out_len);
 
 /* Writes the same numbers in the other width. ARROW2_LENGTH: `out` has another length than `offsets`.
- * Else, where they are narrowed, ARROW2_OVERFLOW: the last one is above 2147483647. */
+ * Else, for arrow2_offsets_narrow only, ARROW2_OVERFLOW: the last offset is above 2147483647. */
 uint32_t arrow2_offsets_widen(const int32_t *offsets, size_t offsets_len, int64_t *out, size_t out_len);
 uint32_t arrow2_offsets_narrow(const int64_t *offsets, size_t offsets_len, int32_t *out, size_t out_len);
 
@@ -278,42 +281,44 @@ uint32_t arrow2_offsets_narrow(const int64_t *offsets, size_t offsets_len, int32
  *
  * Each returns ARROW2_OK exactly where its condition holds, else the code of the first rule that is broken, in the
  * order in which its codes are named. `*index` is written with ARROW2_SPEC_FALLING and ARROW2_PAST, as a position in
- * `offsets`, and with ARROW2_UTF8, as a slot. `*slot` is written with ARROW2_INDEX. With any other code, ARROW2_OK too,
- * neither is written. */
+ * `offsets`, and with ARROW2_UTF8, as a slot. `*slot` is written with ARROW2_INDEX. With any other code, including
+ * ARROW2_OK, neither is written. */
 
-/* Whether the `length` bits from bit `offset` on are inside `bytes`, and exactly `null_count` of them are 0; with -1
- * the count is not checked. It does not accept a missing validity: NULL, 0 bytes and a length above 0 are ARROW2_RANGE.
- * Where there is no validity bitmap make no call: `null_count` is right if it is 0 or -1.
+/* Checks whether the `length` bits from bit `offset` on are inside `bytes`, and exactly `null_count` of them are 0. If
+ * `null_count` is -1, it is not checked. The call does not accept a missing validity: NULL, 0 bytes and a length above
+ * 0 give ARROW2_RANGE. Without a validity bitmap make no call: `null_count` is right if it is 0 or -1.
  * ARROW2_RANGE: they are not inside. ARROW2_NULLS: `null_count` is neither -1 nor the number of bits that are 0. */
 uint32_t arrow2_validity_check(const uint8_t *bytes, size_t bytes_len, size_t offset, size_t length,
                                int64_t null_count);
 
-/* `bytes` is a number of bytes. The first returns ARROW2_OK if offset + length <= 8 * bytes, the second if
- * (offset + length) * width <= bytes; else ARROW2_RANGE. All is computed as if in unlimited integers, and tested for
- * length 0 too. Values of width 0 always fit. */
+/* `bytes` is a number of bytes. arrow2_bits_check returns ARROW2_OK if offset + length <= 8 * bytes,
+ * arrow2_values_check if (offset + length) * width <= bytes; else they return ARROW2_RANGE. Both conditions are
+ * computed as if in unlimited integers, and are tested for length 0 too. Values of width 0 always fit. */
 uint32_t arrow2_bits_check(size_t bytes, size_t offset, size_t length);
 uint32_t arrow2_values_check(size_t bytes, size_t width, size_t offset, size_t length);
 
-/* Whether the numbers are offsets, and none is above `items`. ARROW2_SPEC_EMPTY, ARROW2_SPEC_NEGATIVE,
+/* Checks whether the numbers are offsets, and none is above `items`. ARROW2_SPEC_EMPTY, ARROW2_SPEC_NEGATIVE,
  * ARROW2_SPEC_FALLING: they are not offsets. ARROW2_PAST: the last one is above `items`.
- * `*index` is a position in `offsets`: with ARROW2_SPEC_FALLING that of the first number below the one before it, with
- * ARROW2_PAST that of the first number above `items`. */
+ * `*index` is a position in `offsets`: with ARROW2_SPEC_FALLING the position of the first number that is below the one
+ * before it, with ARROW2_PAST the position of the first number above `items`. */
 uint32_t arrow2_offsets32_check_inside(const int32_t *offsets, size_t offsets_len, size_t items, size_t *index);
 uint32_t arrow2_offsets64_check_inside(const int64_t *offsets, size_t offsets_len, size_t items, size_t *index);
 
-/* Whether the numbers are offsets, none is above `values_len`, and the values of each slot, from its offset to the
- * next, are UTF-8. Codes and `*index` as above, with `values_len` as `items`. Then ARROW2_UTF8: a slot is not UTF-8;
- * `*index` is the first such slot. */
+/* Checks whether the numbers are offsets, none is above `values_len`, and the values of each slot, from its offset to
+ * the next, are UTF-8. The codes and `*index` are as above, with `values_len` as `items`. Else ARROW2_UTF8: a slot is
+ * not UTF-8; `*index` is the first such slot. */
 uint32_t arrow2_texts32_check(const int32_t *offsets, size_t offsets_len, const uint8_t *values, size_t values_len,
                               size_t *index);
 uint32_t arrow2_texts64_check(const int64_t *offsets, size_t offsets_len, const uint8_t *values, size_t values_len,
                               size_t *index);
 
-/* Whether each index is at least 0 and below `items`, or null: index k is null if bit `validity_offset` + k of the
- * validity is 0. If `all_valid` is true none is null: pointer, number of bytes and offset of the validity are not read,
- * and ARROW2_RANGE never comes from them. The rule for slices still holds for them: pass NULL, 0, 0.
+/* Checks whether each index that is not null is at least 0 and below `items`. Index k is null if bit
+ * `validity_offset` + k of the validity is 0. If `all_valid` is true, no index is null: pointer, number of bytes and
+ * offset of the validity are not read, and ARROW2_RANGE never comes from them. The rule for slices still holds for
+ * them: pass NULL, 0, 0.
  * ARROW2_RANGE: the `indices_len` bits from bit `validity_offset` on are not inside the validity. ARROW2_INDEX: an
- * index that is not null is negative or not below `items`; `*slot` is the first such, counted from 0. */
+ * index that is not null is negative or not below `items`; `*slot` is the position of the first such index, counted
+ * from 0. */
 uint32_t arrow2_indices_i8_check(const int8_t *indices, size_t indices_len, const uint8_t *validity,
                                  size_t validity_len, size_t validity_offset, bool all_valid, size_t items,
                                  size_t *slot);

@@ -17,11 +17,11 @@ pub fn count_zeros(bytes: &[u8], offset: usize, length: usize) -> Result<usize, 
     Ok(zeros)
 }
 
-/// Whether the `length` bits of both are the same.
+/// Returns whether the `length` bits of `left` and of `right` are the same.
 ///
 /// # Errors
 ///
-/// [`Error::Range`] exactly where those of either are not inside its bytes.
+/// [`Error::Range`] exactly where the bits of `left` or of `right` are not inside their bytes.
 #[inline]
 pub fn equal_bits(left: Bits<'_>, right: Bits<'_>, length: usize) -> Result<bool, Error> {
     let mut equal = false;
@@ -41,7 +41,7 @@ pub fn equal_bits(left: Bits<'_>, right: Bits<'_>, length: usize) -> Result<bool
     Ok(equal)
 }
 
-/// Whether bit `index` is set.
+/// Returns whether bit `index` is set.
 ///
 /// # Errors
 ///
@@ -54,7 +54,7 @@ pub fn get_bit(bytes: &[u8], index: usize) -> Result<bool, Error> {
     Ok(value)
 }
 
-/// Returns whether bit `index` is set, as [`get_bit`] does, by code that the compiler puts in place of the call.
+/// Returns whether bit `index` is set, as [`get_bit`] does, by code that the compiler can inline.
 ///
 /// It is not proved: tests compare it with [`get_bit`].
 ///
@@ -78,12 +78,12 @@ pub fn set_bit(bytes: &mut [u8], index: usize, value: bool) -> Result<(), Error>
     to_result(unsafe { sys::arrow2_set_bit(bytes.as_mut_ptr(), bytes.len(), index, value) })
 }
 
-/// Copies the `length` bits from bit `offset` on over `out`, from bit 0 on. Padding bits become 0.
+/// Copies the `length` bits from bit `offset` on to `out`, from bit 0 on. Padding bits of `out` become 0.
 ///
 /// # Errors
 ///
-/// [`Error::Range`] exactly where they are not inside the bytes, else [`Error::Length`] exactly where `out` has
-/// not [`crate::bytes_for`] that many bytes.
+/// [`Error::Range`] exactly where they are not inside the bytes, else [`Error::Length`] exactly where `out` does not
+/// have [`crate::bytes_for`]`(length)` bytes.
 #[inline]
 pub fn copy_bits(bytes: &[u8], offset: usize, length: usize, out: &mut [u8]) -> Result<(), Error> {
     // SAFETY: the slices are borrowed for the call, one of them alone, and it keeps neither.

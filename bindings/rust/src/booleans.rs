@@ -8,18 +8,18 @@ use crate::sys;
 ///
 /// # Errors
 ///
-/// [`Error::Length`] exactly where `out` has not [`crate::bytes_for`] that many bytes.
+/// [`Error::Length`] exactly where `out` does not have [`crate::bytes_for`]`(items.len())` bytes.
 #[inline]
 pub fn pack(items: &[bool], out: &mut [u8]) -> Result<(), Error> {
     // SAFETY: the slices are borrowed for the call, `out` alone, and it keeps none.
     to_result(unsafe { sys::arrow2_pack(items.as_ptr(), items.len(), out.as_mut_ptr(), out.len()) })
 }
 
-/// Fills `out` with bits, as booleans.
+/// Writes the first `out.len()` of the bits to `out`, as booleans.
 ///
 /// # Errors
 ///
-/// [`Error::Range`] exactly where they are not inside.
+/// [`Error::Range`] exactly where these bits are not inside their bytes.
 #[inline]
 pub fn unpack(bits: Bits<'_>, out: &mut [bool]) -> Result<(), Error> {
     let Bits { bytes, offset } = bits;

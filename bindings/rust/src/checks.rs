@@ -4,7 +4,8 @@ use crate::Bits;
 use crate::error::{Error, ErrorAt, to_result, to_result_at};
 use crate::sys;
 
-/// Checks that the `length` bits are inside, and that `null_count` of them are 0; with -1 it checks no count.
+/// Checks that the `length` bits are inside the bytes, and that exactly `null_count` of them are 0. If `null_count` is
+/// -1, it is not checked.
 ///
 /// # Errors
 ///
@@ -17,7 +18,7 @@ pub fn check_validity(validity: Bits<'_>, length: usize, null_count: i64) -> Res
     to_result(unsafe { sys::arrow2_validity_check(bytes.as_ptr(), bytes.len(), offset, length, null_count) })
 }
 
-/// Whether this number of bytes has `length` bits from bit `offset` on.
+/// Checks whether `bytes` bytes have `length` bits from bit `offset` on.
 ///
 /// # Errors
 ///
@@ -28,7 +29,7 @@ pub fn check_bits(bytes: usize, offset: usize, length: usize) -> Result<(), Erro
     to_result(unsafe { sys::arrow2_bits_check(bytes, offset, length) })
 }
 
-/// Whether this number of bytes has `length` values of `width` bytes from value `offset` on.
+/// Checks whether `bytes` bytes have `length` values of `width` bytes from value `offset` on.
 ///
 /// # Errors
 ///
@@ -43,14 +44,15 @@ mod sealed {
     pub trait Sealed {}
 }
 
-/// A whole number that points into a dictionary.
+/// An integer that is an index into a dictionary.
 pub trait Index: sealed::Sealed + Copy {
-    /// Whether each index that is not null is at least 0 and below `items`. Without a validity none is null.
+    /// Checks whether each index that is not null is at least 0 and below `items`. Without a validity no index is null.
     ///
     /// # Errors
     ///
-    /// [`Error::Range`] exactly where the validity has no bit for each, else [`Error::Index`] with the first index
-    /// that is not, exactly where there is one.
+    /// [`Error::Range`] exactly where the validity does not have a bit for each index, else [`Error::Index`] exactly
+    /// where an index that is not null is negative or not below `items`. [`Error::Index`] comes with the position of
+    /// the first such index.
     fn check_indices(indices: &[Self], validity: Option<Bits<'_>>, items: usize) -> Result<(), ErrorAt>;
 }
 

@@ -6,11 +6,12 @@ use core::fmt;
 /// Why a call refused. Nothing was written.
 #[derive(Clone, Copy, Debug, PartialEq, Eq)]
 pub enum Error {
-    /// An index or a range is not inside, or a truth-table number is too large: above 3, 15 or 255 for one, two or
+    /// An index or a range is out of bounds, or a truth-table number is too large: above 3, 15 or 255 for one, two or
     /// three inputs.
     Range,
-    /// An output slice is not exactly the required size (of bits [`crate::bytes_for`] bytes), the two slices of runs or
-    /// of a widen or narrow call differ in length, or the output of a rebase call is empty.
+    /// An output slice is not exactly the required size (for bits, the number of bytes that [`crate::bytes_for`]
+    /// returns), the two output slices of runs or the two slices of a widen or narrow call differ in length, or the
+    /// output of a rebase call is empty.
     Length,
     /// A number is above the greatest offset: `i32::MAX` or `i64::MAX`.
     Overflow,
@@ -37,8 +38,8 @@ pub enum Error {
 pub struct ErrorAt {
     /// Why.
     pub error: Error,
-    /// With [`Error::FallingOffsets`] and [`Error::PastOffset`] the position of the offset; with
-    /// [`Error::NotUtf8`] and [`Error::Index`] the slot; else 0.
+    /// Where. With [`Error::FallingOffsets`] and [`Error::PastOffset`] it is the position of the offset. With
+    /// [`Error::NotUtf8`] and [`Error::Index`] it is the slot. With any other error it is 0.
     pub at: usize,
 }
 
@@ -70,7 +71,7 @@ impl fmt::Display for Error {
 
 impl core::error::Error for Error {}
 
-/// The error of a code of the library.
+/// Turns a code of the library into a result.
 #[inline]
 pub(crate) fn to_result(code: u32) -> Result<(), Error> {
     if code == sys::ARROW2_OK { Ok(()) } else { Err(error_of(code)) }
@@ -95,7 +96,7 @@ fn error_of(code: u32) -> Error {
     }
 }
 
-/// The same of a check, which writes where.
+/// The same for the code of a check, which also writes where it refused: `at`.
 #[inline]
 pub(crate) fn to_result_at(code: u32, at: usize) -> Result<(), ErrorAt> {
     to_result(code).map_err(|error| ErrorAt { error, at })

@@ -20,8 +20,9 @@ macro_rules! operator {
         ///
         /// # Errors
         ///
-        /// [`Error::Range`] exactly where bits of any of the four are not inside, else [`Error::Length`] exactly
-        /// where `values` or `validity` has not [`crate::bytes_for`] that many bytes.
+        /// [`Error::Range`] exactly where the bits of the values or of the validity of either side are not inside their
+        /// bytes, else [`Error::Length`] exactly where the output `values` or `validity` does not have
+        /// [`crate::bytes_for`]`(length)` bytes.
         #[inline]
         pub fn $name(
             left: Nullable<'_>,
@@ -84,8 +85,9 @@ macro_rules! optional_operator {
         ///
         /// # Errors
         ///
-        /// [`Error::Range`] exactly where bits of any that are there are not inside, else [`Error::Length`] exactly
-        /// where `values` or `validity` has not [`crate::bytes_for`] that many bytes.
+        /// [`Error::Range`] exactly where the bits of the values of either side, or of a validity that is not missing,
+        /// are not inside their bytes, else [`Error::Length`] exactly where the output `values` or `validity` does not
+        /// have [`crate::bytes_for`]`(length)` bytes.
         #[inline]
         pub fn $name(
             left: OptionalNullable<'_>,
@@ -126,14 +128,13 @@ macro_rules! optional_operator {
 }
 
 optional_operator!(
-    /// Writes, item by item, whether both are true, as [`and_kleene`] does, where either side may have no validity.
+    /// Writes AND, item by item, as [`and_kleene`] does. Either side may have no validity.
     and_kleene_optional,
     arrow2_and_kleene_optional
 );
 
 optional_operator!(
-    /// Writes, item by item, whether one is true, or both, as [`or_kleene`] does, where either side may have no
-    /// validity.
+    /// Writes OR, item by item, as [`or_kleene`] does. Either side may have no validity.
     or_kleene_optional,
     arrow2_or_kleene_optional
 );

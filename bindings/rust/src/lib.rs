@@ -1,10 +1,10 @@
-//! The memory layer under Apache Arrow arrays, over slices that are the caller's: bits, truth tables, offsets.
+//! The memory layer under Apache Arrow arrays: bits, truth tables and offsets, in slices of the caller.
 //!
-//! The library that it calls is proved (`docs/BINDINGS.md`); this crate is by hand. It adds the guarantees of Rust's
-//! slices: no pointer is null, and a slice that is written overlaps none that is read.
+//! The library that this crate calls is proved (`docs/BINDINGS.md`); the crate itself is written by hand. The crate
+//! adds the guarantees of Rust's slices: no pointer is null, and a slice that is written overlaps none that is read.
 //!
 //! Bit `i` of bytes is bit `i % 8` of byte `i / 8`, the lowest first. Lengths and offsets of bits are in bits, and may
-//! be any numbers. A call that refuses writes nothing. Only `c_data` allocates; none panics.
+//! be any numbers. A call that refuses writes nothing. Only `c_data` allocates; no call panics.
 //!
 //! ```
 //! use arrow2_proved::{Bits, binary_table, count_zeros};
@@ -54,11 +54,11 @@ pub use tables::{
 pub struct Bits<'a> {
     /// The bytes.
     pub bytes: &'a [u8],
-    /// The bit at which they begin.
+    /// The bit of the bytes at which the bits begin.
     pub offset: usize,
 }
 
-/// Returns the number of bytes that hold this number of bits: an eighth, rounded up.
+/// Returns the number of bytes that hold `bits` bits: an eighth, rounded up.
 #[must_use]
 pub const fn bytes_for(bits: usize) -> usize {
     bits.div_ceil(8)

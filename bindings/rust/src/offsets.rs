@@ -9,30 +9,30 @@ mod sealed {
         ///
         /// # Safety
         ///
-        /// The numbers are offsets.
+        /// The numbers must be offsets.
         unsafe fn lengths_unchecked(offsets: &[Self], out: &mut [usize]) -> u32;
 
-        /// Writes some of the offsets, each less the first of them.
+        /// Writes `offsets[from + i] - offsets[from]` to each item `i` of `out`, without a test of the offsets.
         ///
         /// # Safety
         ///
-        /// The numbers are offsets.
+        /// The numbers must be offsets.
         unsafe fn rebase_unchecked(offsets: &[Self], from: usize, out: &mut [Self]) -> u32;
     }
 }
 
-/// A number that an offset may be: `i32` or `i64`.
+/// The type of an offset: `i32` or `i64`.
 ///
-/// Offsets are at least one number, none negative and none below the one before it. Slot `i` spans from offset `i` to
-/// offset `i + 1`. If the numbers are not offsets, each call on them returns, before any other error,
-/// [`Error::NoOffset`]: there is no number; [`Error::NegativeOffset`]: the first is negative;
+/// Offsets are a list of one or more numbers: none is negative, and none is below the one before it. Slot `i` spans
+/// from offset `i` to offset `i + 1`. If the numbers are not offsets, each call on them returns one of these errors,
+/// before any other. [`Error::NoOffset`]: there is no number. [`Error::NegativeOffset`]: the first is negative.
 /// [`Error::FallingOffsets`]: the first is not negative, and some number is below the one before it.
 pub trait Offset: sealed::Sealed + Copy {
-    /// Whether the numbers are offsets.
+    /// Checks whether the numbers are offsets.
     ///
     /// # Errors
     ///
-    /// The first rule that they break.
+    /// The error of the first rule that the numbers break.
     fn check(offsets: &[Self]) -> Result<(), Error>;
 
     /// Writes the length of each slot.
@@ -42,12 +42,12 @@ pub trait Offset: sealed::Sealed + Copy {
     /// As [`Offset::check`], else [`Error::Length`] exactly where `out.len() + 1` is not `offsets.len()`.
     fn lengths(offsets: &[Self], out: &mut [usize]) -> Result<(), Error>;
 
-    /// Writes `start`; each number after it is the one before plus the next length.
+    /// Sets `out[0]` to `start`, and each `out[i + 1]` to `out[i] + lengths[i]`.
     ///
     /// # Errors
     ///
-    /// [`Error::Length`] exactly where `out.len()` is not `lengths.len() + 1`, else [`Error::Overflow`] exactly
-    /// where `start` and all lengths together are above `i32::MAX` or `i64::MAX`.
+    /// [`Error::Length`] exactly where `out.len()` is not `lengths.len() + 1`, else [`Error::Overflow`] exactly where
+    /// the exact sum of `start` and all lengths is above the greatest offset, `i32::MAX` or `i64::MAX`.
     fn from_lengths(start: usize, lengths: &[usize], out: &mut [Self]) -> Result<(), Error>;
 
     /// Writes `offsets[from + i] - offsets[from]` to each item `i` of `out`.
@@ -58,21 +58,21 @@ pub trait Offset: sealed::Sealed + Copy {
     /// where `from + out.len()` is above `offsets.len()`.
     fn rebase(offsets: &[Self], from: usize, out: &mut [Self]) -> Result<(), Error>;
 
-    /// Whether the numbers are offsets, and none is above `items`.
+    /// Checks whether the numbers are offsets, and none is above `items`.
     ///
     /// # Errors
     ///
     /// As [`Offset::check`], else [`Error::PastOffset`] exactly where the last number is above `items`.
     /// [`Error::FallingOffsets`] comes with the index of the first number that is below the one before it,
-    /// [`Error::PastOffset`] with that of the first number above `items`.
+    /// [`Error::PastOffset`] with the index of the first number above `items`.
     fn check_inside(offsets: &[Self], items: usize) -> Result<(), ErrorAt>;
 
-    /// Whether the numbers are offsets, none is above `values.len()`, and the values of each slot are UTF-8.
+    /// Checks whether the numbers are offsets, none is above `values.len()`, and the values of each slot are UTF-8.
     ///
     /// # Errors
     ///
-    /// As [`Offset::check_inside`] with `values.len()` as `items`, else [`Error::NotUtf8`] with the first slot that
-    /// is not UTF-8, exactly where there is one.
+    /// As [`Offset::check_inside`] with `values.len()` as `items`, else [`Error::NotUtf8`] exactly where a slot is not
+    /// UTF-8. [`Error::NotUtf8`] comes with the first such slot.
     fn check_texts(offsets: &[Self], values: &[u8]) -> Result<(), ErrorAt>;
 }
 
@@ -161,16 +161,16 @@ offset!(
     arrow2_texts64_check
 );
 
-/// Numbers that were found to be offsets, so that no call tests them again.
+/// Numbers that were found to be offsets. The methods of this type do not test them again.
 #[derive(Clone, Copy, Debug, PartialEq, Eq)]
 pub struct CheckedOffsets<'a, O>(&'a [O]);
 
 impl<'a, O: Offset> CheckedOffsets<'a, O> {
-    /// Returns the numbers as offsets.
+    /// Checks the numbers, and returns them as offsets.
     ///
     /// # Errors
     ///
-    /// The first rule that they break.
+    /// The error of the first rule that the numbers break.
     #[inline]
     pub fn new(offsets: &'a [O]) -> Result<Self, Error> {
         O::check(offsets)?;

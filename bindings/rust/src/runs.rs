@@ -7,13 +7,13 @@ use crate::sys;
 /// Finds the runs of set bits among `length` bits, which are counted from `bits.offset`. The search begins at bit `at`:
 /// set it to 0 before the first call. Run `k` is `lengths[k]` bits from bit `starts[k]` on. The call stops when the
 /// slices are full or no run is left. Returns how many runs it wrote, and moves `at` to where the next call goes on. If
-/// it wrote fewer than fit, all runs are done, and `at` is `length`. For all runs, call again until then; the slices
-/// must have at least one item.
+/// it wrote fewer than `starts.len()` runs, all runs are done, and `at` is `length`. To get all runs, call again until
+/// then; the slices must have at least one item.
 ///
 /// # Errors
 ///
-/// [`Error::Range`] exactly where the bits are not inside or `at` is above `length`, else [`Error::Length`] exactly
-/// where `starts` and `lengths` have not equally many items.
+/// [`Error::Range`] exactly where the bits are not inside their bytes or `at` is above `length`, else [`Error::Length`]
+/// exactly where `starts` and `lengths` differ in length.
 #[inline]
 pub fn runs(
     bits: Bits<'_>,

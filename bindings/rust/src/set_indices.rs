@@ -5,13 +5,14 @@ use crate::error::{Error, to_result};
 use crate::sys;
 
 /// Finds the set bits among `length` bits, which are counted from `bits.offset`. The search begins at bit `at`: set it
-/// to 0 before the first call. Writes their indices, rising, until `indices` is full or no set bit is left. Returns how
-/// many it wrote, and moves `at` to where the next call goes on. If it wrote fewer than fit, all set bits are done, and
-/// `at` is `length`. For all set bits, call again until then; `indices` must have at least one item.
+/// to 0 before the first call. Writes the indices of the set bits, rising, until `indices` is full or no set bit is
+/// left. Returns how many indices it wrote, and moves `at` to where the next call goes on. If it wrote fewer than
+/// `indices.len()` indices, all set bits are done, and `at` is `length`. To get all set bits, call again until then;
+/// `indices` must have at least one item.
 ///
 /// # Errors
 ///
-/// [`Error::Range`] exactly where the bits are not inside or `at` is above `length`.
+/// [`Error::Range`] exactly where the bits are not inside their bytes or `at` is above `length`.
 #[inline]
 pub fn set_indices(bits: Bits<'_>, length: usize, at: &mut usize, indices: &mut [usize]) -> Result<usize, Error> {
     let mut count = 0;

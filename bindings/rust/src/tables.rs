@@ -22,8 +22,8 @@ pub const XOR: u16 = 0b0110;
 ///
 /// # Errors
 ///
-/// [`Error::Range`] exactly where `table` is above 3 or the bits are not inside, else [`Error::Length`] exactly
-/// where `out` has not [`crate::bytes_for`] that many bytes.
+/// [`Error::Range`] exactly where `table` is above 3 or the bits are not inside their bytes, else [`Error::Length`]
+/// exactly where `out` does not have [`crate::bytes_for`]`(length)` bytes.
 #[inline]
 pub fn unary_table(input: Bits<'_>, length: usize, table: u16, out: &mut [u8]) -> Result<(), Error> {
     let Bits { bytes, offset } = input;
@@ -33,11 +33,12 @@ pub fn unary_table(input: Bits<'_>, length: usize, table: u16, out: &mut [u8]) -
     })
 }
 
-/// The same of two inputs.
+/// The same for two inputs.
 ///
 /// # Errors
 ///
-/// As [`unary_table`], but where `table` is above 15.
+/// [`Error::Range`] exactly where `table` is above 15 or the bits of an input are not inside their bytes, else
+/// [`Error::Length`] as in [`unary_table`].
 #[inline]
 pub fn binary_table(first: Bits<'_>, second: Bits<'_>, length: usize, table: u16, out: &mut [u8]) -> Result<(), Error> {
     // SAFETY: the slices are borrowed for the call, `out` alone, and it keeps none.
@@ -57,11 +58,12 @@ pub fn binary_table(first: Bits<'_>, second: Bits<'_>, length: usize, table: u16
     })
 }
 
-/// The same of three inputs.
+/// The same for three inputs.
 ///
 /// # Errors
 ///
-/// As [`unary_table`], but where `table` is above 255.
+/// [`Error::Range`] exactly where `table` is above 255 or the bits of an input are not inside their bytes, else
+/// [`Error::Length`] as in [`unary_table`].
 #[inline]
 pub fn ternary_table(
     first: Bits<'_>,
@@ -91,11 +93,12 @@ pub fn ternary_table(
     })
 }
 
-/// The same of four inputs.
+/// The same for four inputs.
 ///
 /// # Errors
 ///
-/// As [`unary_table`], but every table will do.
+/// [`Error::Range`] exactly where the bits of an input are not inside their bytes, since every `table` is valid, else
+/// [`Error::Length`] as in [`unary_table`].
 #[inline]
 pub fn quaternary_table(
     first: Bits<'_>,
@@ -129,23 +132,24 @@ pub fn quaternary_table(
     })
 }
 
-/// Replaces the first `length` bits of `bytes` by the outputs of `table` for them. Padding bits become 0.
+/// Replaces the first `length` bits of `bytes` with the outputs of `table` for these bits. Padding bits become 0.
 ///
 /// # Errors
 ///
-/// [`Error::Range`] exactly where `table` is above 3, else [`Error::Length`] exactly where `bytes` has not
-/// [`crate::bytes_for`] that many bytes.
+/// [`Error::Range`] exactly where `table` is above 3, else [`Error::Length`] exactly where `bytes` does not have
+/// [`crate::bytes_for`]`(length)` bytes.
 #[inline]
 pub fn unary_assign_table(bytes: &mut [u8], length: usize, table: u16) -> Result<(), Error> {
     // SAFETY: the slice is borrowed for the call, alone, and it does not keep it.
     to_result(unsafe { sys::arrow2_unary_assign_table(bytes.as_mut_ptr(), bytes.len(), length, table) })
 }
 
-/// The same of two inputs: the first `length` bits of `bytes`, and `length` bits of `second`.
+/// The same for two inputs: the first `length` bits of `bytes`, and `length` bits of `second`.
 ///
 /// # Errors
 ///
-/// As [`unary_assign_table`], but where `table` is above 15 or bits of `second` are not inside.
+/// [`Error::Range`] exactly where `table` is above 15 or the bits of `second` are not inside their bytes, else
+/// [`Error::Length`] as in [`unary_assign_table`].
 #[inline]
 pub fn binary_assign_table(bytes: &mut [u8], second: Bits<'_>, length: usize, table: u16) -> Result<(), Error> {
     // SAFETY: the slices are borrowed for the call, `bytes` alone, and it keeps none.
@@ -162,11 +166,12 @@ pub fn binary_assign_table(bytes: &mut [u8], second: Bits<'_>, length: usize, ta
     })
 }
 
-/// The same of three inputs.
+/// The same for three inputs.
 ///
 /// # Errors
 ///
-/// As [`unary_assign_table`], but where `table` is above 255 or bits of the others are not inside.
+/// [`Error::Range`] exactly where `table` is above 255 or the bits of `second` or `third` are not inside their bytes,
+/// else [`Error::Length`] as in [`unary_assign_table`].
 #[inline]
 pub fn ternary_assign_table(
     bytes: &mut [u8],
@@ -192,11 +197,12 @@ pub fn ternary_assign_table(
     })
 }
 
-/// The same of four inputs.
+/// The same for four inputs.
 ///
 /// # Errors
 ///
-/// As [`unary_assign_table`], but every table will do, and where bits of the others are not inside.
+/// [`Error::Range`] exactly where the bits of `second`, `third` or `fourth` are not inside their bytes, since every
+/// `table` is valid, else [`Error::Length`] as in [`unary_assign_table`].
 #[inline]
 pub fn quaternary_assign_table(
     bytes: &mut [u8],
