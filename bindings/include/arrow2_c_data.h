@@ -8,7 +8,7 @@
  * The interface does not state the number of bytes of a buffer. `arrow2_array_check` trusts that each buffer has the
  * bytes that format, length, offset and last offset require. `arrow2_array_check_sized` gets the number of bytes of
  * each buffer, and reads nothing outside these bytes. Both functions trust that every pointer that is not NULL points
- * to what the interface specifies. */
+ * to what the interface specifies, except buffers that may be anything (docs/BINDINGS.md lists them). */
 #ifndef ARROW2_C_DATA_H
 #define ARROW2_C_DATA_H
 
@@ -102,7 +102,8 @@ static inline size_t arrow2_c_count(const void *pointer, size_t count) { return 
 static inline size_t arrow2_bytes_for(size_t bits) { return bits / 8 + (bits % 8 != 0); }
 
 /* Writes to `*nulls` how many of the `length` items are null by `validity`. Calls arrow2_count_zeros. Without a
- * validity bitmap it makes no call, writes 0 and returns ARROW2_OK. */
+ * validity bitmap it makes no call, writes 0 and returns ARROW2_OK. So do not call it for a null array (format `n`),
+ * which has no validity bitmap, though each of its items is null. */
 static inline uint32_t arrow2_bits_null_count(struct arrow2_bits validity, size_t length, size_t *nulls) {
     if (!validity.bytes) {
         *nulls = 0;
@@ -119,8 +120,8 @@ static inline uint32_t arrow2_bits_equal(struct arrow2_bits left, struct arrow2_
                              arrow2_c_count(right.bytes, right.bytes_len), right.offset, length, equal);
 }
 
-/* Writes the outputs of a table of two inputs over `out`, which has arrow2_bytes_for(length) bytes. Calls
- * arrow2_binary_table. It does not accept a missing validity. */
+/* Applies a truth table to each two bits, and writes the results to `out`, which has arrow2_bytes_for(length) bytes.
+ * Calls arrow2_binary_table. It does not accept a missing validity. */
 static inline uint32_t arrow2_bits_table(struct arrow2_bits left, struct arrow2_bits right, size_t length,
                                          uint16_t table, uint8_t *out, size_t out_len) {
     return arrow2_binary_table(left.bytes, arrow2_c_count(left.bytes, left.bytes_len), left.offset, right.bytes,
@@ -146,7 +147,7 @@ static inline uint32_t arrow2_bits_xor(struct arrow2_bits left, struct arrow2_bi
     return arrow2_bits_table(left, right, length, 6, out, out_len);
 }
 
-/* Writes NOT of the `length` bits over `out`, which has arrow2_bytes_for(length) bytes. Calls arrow2_unary_table. It
+/* Writes NOT of the `length` bits to `out`, which has arrow2_bytes_for(length) bytes. Calls arrow2_unary_table. It
  * does not accept a missing validity. */
 static inline uint32_t arrow2_bits_not(struct arrow2_bits bits, size_t length, uint8_t *out, size_t out_len) {
     return arrow2_unary_table(bits.bytes, arrow2_c_count(bits.bytes, bits.bytes_len), bits.offset, length, 1, out,
@@ -180,8 +181,8 @@ static inline uint32_t arrow2_bits_and_validity(struct arrow2_bits left, struct 
 
 /* Computes Kleene's AND of two boolean columns. Calls arrow2_and_kleene_optional. Either column may have no validity
  * bitmap. `values` and `validity` get the result. Each has arrow2_bytes_for(length) bytes; `values_len` and
- * `validity_len` must both be this number. Both outputs are always written, also where neither column has a validity,
- * so neither output may be NULL unless `length` is 0.
+ * `validity_len` must both be this number. Both outputs are written, also where neither column has a validity. A NULL
+ * output counts as 0 bytes, so it has the wrong size unless `length` is 0.
  * ARROW2_RANGE: bits of a value, or of a validity that was passed, are not inside their bytes. Else ARROW2_LENGTH:
  * `values` or `validity` has the wrong size. */
 static inline uint32_t arrow2_bits_and_kleene(struct arrow2_bits left, struct arrow2_bits left_validity,
@@ -213,9 +214,10 @@ static inline uint32_t arrow2_bits_or_kleene(struct arrow2_bits left, struct arr
 /* Returns the bits of buffer `index` of an array that was checked, from the array's own offset on. Buffer 0 is the
  * validity, except in a union, where it is the types. Buffer 1 of a boolean array is its values. Do not call this
  * function for any other buffer: there `bytes_len` of the result may be greater than the number of bytes that the
- * buffer has. If `length` is 0 the check has not tested the pointer: do not use the result unless the producer set a
- * valid pointer. A null array has no buffer, and each of its items is null. So test the format before you take a
- * validity, as `columns.c` of the examples does. If `index` is negative or not below `n_buffers`, or the buffer is
+ * buffer has. If `length` is 0, the check accepts any pointer to values or types: do not use the result unless the
+ * producer set a valid pointer. The pointer of a validity must be NULL or point to the bytes of offset + length bits,
+ * also if `length` is 0. A null array has no buffer, and each of its items is null. So test the format before you take
+ * a validity, as `columns.c` of the examples does. If `index` is negative or not below `n_buffers`, or the buffer is
  * NULL, the result has `bytes` NULL, `bytes_len` 0 and `offset` 0.
  *
  * Only the array's own offset is applied. For a column of a batch call arrow2_bits_of_column. */
@@ -329,7 +331,7 @@ struct arrow2_c_layout {
 
 struct arrow2_c_tree {
     struct arrow2_where *where;
-    const size_t *sizes; /* NULL for arrow2_array_check alone, where no size is known */
+    const size_t *sizes; /* NULL only in a call of arrow2_array_check, which knows no sizes */
     size_t sizes_len;
     size_t next_size;
     size_t arrays;
@@ -668,7 +670,8 @@ static inline uint32_t arrow2_c_check_validity(const struct arrow2_c_tree *tree,
                                  buffer.offset, buffer.length, array->null_count);
 }
 
-/* Whether a buffer has the array's values: of one bit each where `bits` is true, else of `width` bytes. */
+/* Checks that a buffer is long enough for the array's values, and not NULL where it must not be. A value is one bit
+ * where `bits` is true, else `width` bytes. */
 static inline uint32_t arrow2_c_check_values(struct arrow2_c_buffer values, bool bits, size_t width) {
     uint32_t code = bits ? arrow2_bits_check(values.size, values.offset, values.length)
                          : arrow2_values_check(values.size, width, values.offset, values.length);

@@ -1,6 +1,7 @@
 /* Functions that work on bits, offsets, texts and indices in the caller's memory, in the layout of Apache Arrow arrays.
- * The library is written in Rattle, a language whose programs are proved. The contract of each call is proved
- * (docs/BINDINGS.md, which the package has too); this header is written by hand.
+ * The library is written in Rattle, a language whose programs are proved. The contract of each call of the library is
+ * proved (docs/BINDINGS.md, which the package has too). This header is written by hand, with its inline function
+ * arrow2_get_bit_inline, which is not proved.
  *
  * Rules for every call. A call tests its numbers and returns a code; only the four `_unchecked` calls do not test their
  * offsets. Breaking a rule about pointers, alignment, overlap, bools or threads is undefined behaviour.
@@ -19,8 +20,8 @@
  * - Other threads may read the memory that a call reads. Until the call returns, no other thread may write that memory,
  *   and none may read or write the memory that the call writes.
  * - Bit i of bytes is bit i % 8 of byte i / 8, the lowest first. Offsets and lengths of bits are in bits. Each may have
- *   any value: where the bits are not inside the bytes, the code is ARROW2_RANGE. Lengths of slices of numbers are in
- *   items.
+ *   any value: where the bits are not inside the bytes, the code is ARROW2_RANGE (of the bits that an in-place call
+ *   changes, ARROW2_LENGTH). Lengths of slices of numbers are in items.
  * - The `length` bits from bit `offset` on are inside `bytes` if offset + length <= 8 * bytes_len. This condition is
  *   computed as if in unlimited integers, so a huge offset gives ARROW2_RANGE and never wraps. The condition is tested
  *   for length 0 too: offset 5, length 0 in 0 bytes is ARROW2_RANGE. Bit `index` is inside if index < 8 * bytes_len.
@@ -57,7 +58,8 @@ extern "C" {
 /* An output slice is not exactly the required size (bits: (length + 7) / 8), `starts_len` differs from
  * `lengths_len`, the two slices of a widen or narrow call differ in length, or `out` of a rebase call has no item. */
 #define ARROW2_LENGTH 2u
-/* A number is above the greatest offset: 2147483647 of 32 bits, 9223372036854775807 of 64 bits. */
+/* A number is above the greatest offset: 2147483647 for offsets of 32 bits, 9223372036854775807 for offsets of 64
+ * bits. */
 #define ARROW2_OVERFLOW 3u
 /* An allocation failed. No call of this version returns it. */
 #define ARROW2_MEMORY 4u
@@ -79,7 +81,7 @@ extern "C" {
 /* ---- Bits */
 
 /* Writes to `zeros` how many of the `length` bits from bit `offset` on are not set.
- * ARROW2_RANGE: they are not inside the bytes. */
+ * ARROW2_RANGE: these bits are not inside the bytes. */
 uint32_t arrow2_count_zeros(const uint8_t *bytes, size_t bytes_len, size_t offset, size_t length, size_t *zeros);
 
 /* Writes to `equal` whether the `length` bits of `left` from bit `left_offset` on equal the `length` bits of `right`
@@ -87,7 +89,7 @@ uint32_t arrow2_count_zeros(const uint8_t *bytes, size_t bytes_len, size_t offse
 uint32_t arrow2_equal_bits(const uint8_t *left, size_t left_len, size_t left_offset, const uint8_t *right,
                            size_t right_len, size_t right_offset, size_t length, bool *equal);
 
-/* Writes to `value` whether bit `index` is set. ARROW2_RANGE: it is not inside the bytes. */
+/* Writes to `value` whether bit `index` is set. ARROW2_RANGE: the bit is not inside the bytes. */
 uint32_t arrow2_get_bit(const uint8_t *bytes, size_t bytes_len, size_t index, bool *value);
 
 /* The same as an inline function. It is written by hand and not proved: tests compare it with arrow2_get_bit. */
@@ -99,11 +101,12 @@ static inline uint32_t arrow2_get_bit_inline(const uint8_t *bytes, size_t bytes_
     return ARROW2_OK;
 }
 
-/* Writes `value` to bit `index`, and leaves every other bit as it was. ARROW2_RANGE: it is not inside the bytes. */
+/* Writes `value` to bit `index`, and leaves every other bit as it was. ARROW2_RANGE: the bit is not inside the
+ * bytes. */
 uint32_t arrow2_set_bit(uint8_t *bytes, size_t bytes_len, size_t index, bool value);
 
 /* Copies the `length` bits that begin at bit `offset` to `out`, from bit 0 on.
- * ARROW2_RANGE: they are not inside the bytes. Else ARROW2_LENGTH: `out` has the wrong size. */
+ * ARROW2_RANGE: these bits are not inside the bytes. Else ARROW2_LENGTH: `out` has the wrong size. */
 uint32_t arrow2_copy_bits(const uint8_t *bytes, size_t bytes_len, size_t offset, size_t length, uint8_t *out,
                           size_t out_len);
 
@@ -191,11 +194,12 @@ uint32_t arrow2_or_kleene_optional(const uint8_t *left, size_t left_len, size_t 
 
 /* ---- Booleans, one byte each, 0 or 1 */
 
-/* Writes the booleans as bits over `out`, which has (items_len + 7) / 8 bytes. ARROW2_LENGTH: it has another
- * length. */
+/* Writes the booleans as bits to `out`, which has (items_len + 7) / 8 bytes. ARROW2_LENGTH: `out` has the wrong
+ * size. */
 uint32_t arrow2_pack(const bool *items, size_t items_len, uint8_t *out, size_t out_len);
 
-/* Writes to `out` the `out_len` bits from bit `offset` on, as booleans. ARROW2_RANGE: they are not inside the bytes. */
+/* Writes to `out` the `out_len` bits from bit `offset` on, as booleans. ARROW2_RANGE: these bits are not inside the
+ * bytes. */
 uint32_t arrow2_unpack(const uint8_t *bytes, size_t bytes_len, size_t offset, bool *out, size_t out_len);
 
 /* ---- Runs and indices of set bits */
@@ -206,9 +210,9 @@ uint32_t arrow2_unpack(const uint8_t *bytes, size_t bytes_len, size_t offset, bo
  * is reported. The call stops when the slices are full or no run is left. It writes to `*count` how many runs it has
  * written, and to `*at` where the next call goes on. If `*count < starts_len`, all runs are done, and `*at` equals
  * `length`. The items of `starts` and `lengths` from `*count` on may have been written too. For all runs, call again
- * until `*count` is below `starts_len`, which must be at least 1. If `starts_len` is 0, `*count` becomes 0, and it is
- * possible that `*at` stays as it was. ARROW2_RANGE: the range is not inside the bytes, or `*at` is above `length`.
- * Else ARROW2_LENGTH: `starts_len` is not `lengths_len`. */
+ * until `*count` is below `starts_len`, which must be at least 1. If `starts_len` is 0, `*count` becomes 0, which is
+ * never below `starts_len`, and `*at` may or may not change. ARROW2_RANGE: the range is not inside the bytes, or `*at`
+ * is above `length`. Else ARROW2_LENGTH: `starts_len` is not `lengths_len`. */
 uint32_t arrow2_runs(const uint8_t *bytes, size_t bytes_len, size_t offset, size_t length, size_t *at, size_t *starts,
                      size_t starts_len, size_t *lengths, size_t lengths_len, size_t *count);
 
@@ -217,9 +221,9 @@ uint32_t arrow2_runs(const uint8_t *bytes, size_t bytes_len, size_t offset, size
  * set, and the indices rise. The call stops when `indices` is full or no set bit is left. It writes to `*count` how
  * many indices it has written, and to `*at` where the next call goes on. If `*count < indices_len`, all set bits are
  * done, and `*at` equals `length`. The items of `indices` from `*count` on may have been written too. For all set bits,
- * call again until `*count` is below `indices_len`, which must be at least 1. If `indices_len` is 0, `*count` becomes 0
- * and `*at` may change; `*count` is then never below `indices_len`. ARROW2_RANGE: the range is not inside the bytes, or
- * `*at` is above `length`. */
+ * call again until `*count` is below `indices_len`, which must be at least 1. If `indices_len` is 0, `*count` becomes
+ * 0, which is never below `indices_len`, and `*at` may or may not change. ARROW2_RANGE: the range is not inside the
+ * bytes, or `*at` is above `length`. */
 uint32_t arrow2_set_indices(const uint8_t *bytes, size_t bytes_len, size_t offset, size_t length, size_t *at,
                             size_t *indices, size_t indices_len, size_t *count);
 
@@ -231,8 +235,8 @@ uint32_t arrow2_set_indices(const uint8_t *bytes, size_t bytes_len, size_t offse
  * the first is negative. ARROW2_SPEC_FALLING: the first is not negative, and some number is below the one before it.
  *
  * The four `_unchecked` calls test no offset. Their numbers must be offsets, so there must be at least one; else the
- * behaviour is undefined, and memory outside `offsets` may be read. They return their other codes in the same cases
- * as the calls without `_unchecked`. */
+ * behaviour is undefined, and memory outside `offsets` may be read. They never return one of the three codes above.
+ * ARROW2_LENGTH and, from the two rebase calls, ARROW2_RANGE come in the same cases as without `_unchecked`. */
 
 /* Returns ARROW2_OK if the numbers are offsets. */
 uint32_t arrow2_offsets32_check(const int32_t *offsets, size_t offsets_len);
@@ -242,8 +246,8 @@ uint32_t arrow2_offsets64_check(const int64_t *offsets, size_t offsets_len);
 uint32_t arrow2_offsets32_lengths(const int32_t *offsets, size_t offsets_len, size_t *out, size_t out_len);
 uint32_t arrow2_offsets64_lengths(const int64_t *offsets, size_t offsets_len, size_t *out, size_t out_len);
 
-/* The same without a test of the offsets. The numbers must be such that arrow2_offsets32_check or
- * arrow2_offsets64_check returns ARROW2_OK; else the behaviour is undefined. ARROW2_LENGTH as above. */
+/* The same without a test of the offsets. The numbers must be offsets: arrow2_offsets32_check or arrow2_offsets64_check
+ * must return ARROW2_OK for them. Else the behaviour is undefined. ARROW2_LENGTH as above. */
 uint32_t arrow2_offsets32_lengths_unchecked(const int32_t *offsets, size_t offsets_len, size_t *out,
                                             size_t out_len);
 uint32_t arrow2_offsets64_lengths_unchecked(const int64_t *offsets, size_t offsets_len, size_t *out,
@@ -279,15 +283,17 @@ uint32_t arrow2_offsets_narrow(const int64_t *offsets, size_t offsets_len, int32
 
 /* ---- Checks of arrays that somebody else made
  *
- * Each returns ARROW2_OK exactly where its condition holds, else the code of the first rule that is broken, in the
- * order in which its codes are named. `*index` is written with ARROW2_SPEC_FALLING and ARROW2_PAST, as a position in
- * `offsets`, and with ARROW2_UTF8, as a slot. `*slot` is written with ARROW2_INDEX. With any other code, including
- * ARROW2_OK, neither is written. */
+ * Each returns ARROW2_OK exactly where its condition holds. Else it returns the code of the first rule that is broken.
+ * The rules are tested in the order in which the comment of the call names their codes. `*index` is written with
+ * ARROW2_SPEC_FALLING and ARROW2_PAST, as a position in `offsets`, and with ARROW2_UTF8, as a slot. `*slot` is written
+ * with ARROW2_INDEX. With any other code, including ARROW2_OK, neither is written. */
 
 /* Checks whether the `length` bits from bit `offset` on are inside `bytes`, and exactly `null_count` of them are 0. If
  * `null_count` is -1, it is not checked. The call does not accept a missing validity: NULL, 0 bytes and a length above
- * 0 give ARROW2_RANGE. Without a validity bitmap make no call: `null_count` is right if it is 0 or -1.
- * ARROW2_RANGE: they are not inside. ARROW2_NULLS: `null_count` is neither -1 nor the number of bits that are 0. */
+ * 0 give ARROW2_RANGE. Without a validity bitmap make no call: `null_count` is right if it is 0 or -1. The exception is
+ * an array of the null type (format `n`): it has no validity bitmap, and counts all its items as null. Do not pass its
+ * `null_count` to this call: it is right if it is the length of the array or -1.
+ * ARROW2_RANGE: the bits are not inside. ARROW2_NULLS: `null_count` is neither -1 nor the number of bits that are 0. */
 uint32_t arrow2_validity_check(const uint8_t *bytes, size_t bytes_len, size_t offset, size_t length,
                                int64_t null_count);
 

@@ -4,7 +4,7 @@ use crate::Bits;
 use crate::error::{Error, to_result};
 use crate::sys;
 
-/// Writes the booleans as bits over `out`, from bit 0 on. Padding bits become 0.
+/// Writes the booleans as bits to `out`, from bit 0 on. Padding bits become 0.
 ///
 /// # Errors
 ///

@@ -1,4 +1,4 @@
--- How lists and parts that are not accepted are refused, and the texts of the errors.
+-- The errors for lists and parts that are refused, and their messages.
 pub use Rattle.arrow2_bitmap.specs.Refusals.{bit_capacity, too_long}
 pub use Rattle.arrow2_offset.specs.Refusals.{first_broken, rule_words, not_offsets_message, IsOutOfSpecOrOutOfMemory}
 pub use Rattle.arrow2_validity.specs.Refusals.{unequal_lengths_message}

@@ -1,4 +1,5 @@
-//! Arrays: values together with their validity, shared and growing; and tests of parts that are to become an array.
+//! Arrays, which are values together with their validity: shared ones, and ones that grow. Checks of the parts of an
+//! array.
 
 pub mod specification;
 

@@ -1,5 +1,5 @@
-//! Lists of booleans kept as bits: shared ones, and ones that grow; word functions on them, in new memory and in place;
-//! and bitmaps in pieces.
+//! Bitmaps, which store booleans as bits: shared ones, and ones that grow. Functions on bitmaps by words and by truth
+//! tables, which write to new memory or in place. Bitmaps cut into pieces.
 
 pub mod utils;
 

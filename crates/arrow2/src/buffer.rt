@@ -1,4 +1,4 @@
-//! Lists that several arrays share, cloned and sliced without a copy.
+//! Buffers: lists that several arrays share, and that are cloned and sliced without a copy.
 
 pub use arrow2_buffer::bytes::Bytes;
 pub use arrow2_buffer::{Buffer, IntoIter};

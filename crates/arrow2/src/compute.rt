@@ -1,4 +1,5 @@
-//! Functions of whole arrays: each module has one of them, as in arrow2.
+//! Functions on whole arrays. The modules have the names that they have in arrow2, except that `binary`, with the trait
+//! `Binary`, is new.
 
 pub use arrow2_compute::{
     aggregate, binary, boolean, cast, comparison, concatenate, filter, if_then_else, take,

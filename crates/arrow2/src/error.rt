@@ -1,3 +1,3 @@
-//! The errors of a call of the layer.
+//! The errors that calls of the layer return.
 
 pub use arrow2_types::error::{Error, Result};

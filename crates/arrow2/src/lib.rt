@@ -1,8 +1,8 @@
-//! The memory layer under Apache Arrow arrays, under the paths that arrow2 has: bitmaps, buffers and offsets, the types
-//! of their values, data types and errors. This crate has re-exports alone.
+//! The memory layer under Apache Arrow arrays: bitmaps, buffers, offsets and arrays, functions on arrays, the types of
+//! values, data types and errors. This crate only re-exports other crates, at the paths that arrow2 has.
 //!
-//! The definitions that contracts cite are passed on too: a caller's clauses name `Rattle.arrow2.specs.Parts` and the
-//! others.
+//! The definitions that contracts cite are re-exported too, so that a caller's clauses can name
+//! `Rattle.arrow2.specs.Parts` and the other modules of `Rattle.arrow2.specs`.
 //!
 //! # Examples
 //!

@@ -1,4 +1,5 @@
-//! Where the values of binary, text and list arrays begin: offsets that grow, and offsets that are shared.
+//! Offsets, which are where the values of binary, text and list arrays begin: offsets that grow, and offsets that are
+//! shared.
 
 pub use arrow2_index::offset::Offset;
 pub use arrow2_offset::{BrokenRule, Lengths, Offsets, OffsetsBuffer, broken_rule};

@@ -1,4 +1,4 @@
-//! The types of values in buffers, index numbers, and words of bits.
+//! The types of the values in buffers, of indices, and of words of bits.
 
 pub use arrow2_chunk::{BitChunk, BitChunkIter, BitChunkOnes};
 pub use arrow2_composite::interval::{days_ms, months_days_ns};

@@ -23,13 +23,14 @@ kleene_or None (Some true) = Some true
 kleene_or None (Some false) = None
 kleene_or None None = None
 
--- item by item, on lists of equal length
+-- the results of f for the items at each index of two lists
 abbrev pub by_items : (Option Bool → Option Bool → Option Bool) → List (Option Bool) → List (Option Bool) → List (Option Bool)
 by_items f [] ys = []
 by_items f (x ∷ xs) [] = []
 by_items f (x ∷ xs) (y ∷ ys) = f x y ∷ by_items f xs ys
 
--- table t gives the value of f for two items, and table known whether there is one: of values a, b with validities n, m
+-- for two items, of values a and b with validities n and m: table t gives the value of f's result, and table `known`
+-- gives whether this result is not null
 abbrev pub TablesCompute : ℕ → ℕ → (Option Bool → Option Bool → Option Bool) → Type 0
 TablesCompute t known f = (a n b m : Bool) → slot (answer t (a ∷ b ∷ [])) (answer known (a ∷ n ∷ b ∷ m ∷ [])) ≡ f (slot a n) (slot b m)
 
@@ -38,7 +39,8 @@ abbrev pub kleene : Operator → Option Bool → Option Bool → Option Bool
 kleene And = kleene_and
 kleene Or = kleene_or
 
--- its tables: of the value, of whether it is known, and of the same with an item that is not null
+-- the tables of an operator: for the value, for whether the value is known, and for whether it is known if one of the
+-- two items is not null
 abbrev pub values_table : Operator → ℕ
 values_table And = 8
 values_table Or = 14

@@ -32,8 +32,8 @@ use std::marker::Model;
 /// Contracts see its values and its validity; `boolean_items` is the list of its items. Slices and clones share the
 /// bytes of both.
 ///
-/// Differs from arrow2, whose array has a logical type too: `Boolean`, or an extension of it. An array is not `Send`,
-/// and there is no trait `Array`.
+/// Differs from arrow2, whose array has a logical type too: `Boolean`, or an extension of it. An array here is not
+/// `Send`, and there is no trait `Array`.
 ///
 /// # Examples
 ///
@@ -65,7 +65,8 @@ impl Model for BooleanArray {
 
 #[tactic(auto, using(crate::proofs::Items::booleans))]
 impl BooleanArray {
-    /// Returns the array of these values, each null where the validity is false. Without a validity none is null.
+    /// Returns the array of these values. An item is null where the validity is false; without a validity, no item is
+    /// null.
     ///
     /// # Errors
     ///
@@ -91,8 +92,9 @@ impl BooleanArray {
         Ok(BooleanArray { values, validity })
     }
 
-    /// Returns the array of these values, each null where the validity is false. Without a validity none is null.
-    /// Requires that the validity has the length of the values, where arrow2 panics. Does not allocate.
+    /// Returns the array of these values. An item is null where the validity is false; without a validity, no item is
+    /// null. Requires that the validity, if there is one, has the length of the values; arrow2 panics if it does not.
+    /// Does not allocate.
     pub fn new(values: Bitmap, validity: Option<Bitmap>) -> BooleanArray
         requires same_length { ForSome validity (λ v. length (items_of v) ≡ length (items_of values)) }
         ensures value { result ≡ record {
@@ -108,7 +110,7 @@ impl BooleanArray {
         BooleanArray { values, validity }
     }
 
-    /// Returns the array of these values, each null where the validity has an unset bit. Requires that both have equal
+    /// Returns the array of these values. An item is null where the validity is false. Requires that both have equal
     /// lengths. Does not allocate. arrow2 has no such call.
     pub fn from_parts(values: Bitmap, validity: Validity) -> BooleanArray
         requires same_length { length (valid_items validity) ≡ length (items_of values) }
@@ -156,7 +158,8 @@ impl BooleanArray {
         self.len() == 0
     }
 
-    /// Returns item `index`, or `None` where it is null. Requires that it is below the length, where arrow2 panics.
+    /// Returns item `index`, or `None` where it is null. Requires that `index` is below the length; arrow2 panics if it
+    /// is not.
     pub fn get(&self, index: usize) -> Option<bool>
         requires below { index < length (boolean_items self.now) }
         ensures { result ≡ slice_index_or (boolean_items self.now) index None }
@@ -165,7 +168,8 @@ impl BooleanArray {
         self.validity.is_valid(index).then_some(value)
     }
 
-    /// Returns the value at `index`, also under a null. Requires that it is below the length, where arrow2 panics.
+    /// Returns the value at `index`, also under a null. Requires that `index` is below the length; arrow2 panics if it
+    /// is not.
     pub fn value(&self, index: usize) -> bool
         requires below { index < length (boolean_items self.now) }
         ensures { slice_get (items_of self.now.values) index ≡ Some result }
@@ -173,7 +177,7 @@ impl BooleanArray {
         self.values.get_bit(index)
     }
 
-    /// Returns whether item `index` is not null. Requires that it is below the length.
+    /// Returns whether item `index` is not null. Requires that `index` is below the length.
     pub fn is_valid(&self, index: usize) -> bool
         requires below { index < length (boolean_items self.now) }
         ensures { result ≡ is_some (slice_index_or (boolean_items self.now) index None) }
@@ -181,7 +185,7 @@ impl BooleanArray {
         self.validity.is_valid(index)
     }
 
-    /// Returns whether item `index` is null. Requires that it is below the length.
+    /// Returns whether item `index` is null. Requires that `index` is below the length.
     pub fn is_null(&self, index: usize) -> bool
         requires below { index < length (boolean_items self.now) }
         ensures { result ≡ is_none (slice_index_or (boolean_items self.now) index None) }
@@ -199,7 +203,7 @@ impl BooleanArray {
         &self.values
     }
 
-    /// Returns the validity bitmap. Where there is none, no item is null.
+    /// Returns the validity bitmap, or `None` where there is none: then no item is null.
     pub fn validity(&self) -> Option<&Bitmap>
         ensures value { option_map (λ b. b.now) result ≡ self.now.validity.bitmap }
         ensures items { MatchOption result (nulls (boolean_items self.now) ≡ 0) (λ b.
@@ -220,15 +224,15 @@ impl BooleanArray {
         &self.validity
     }
 
-    /// Returns the number of nulls. The validity keeps it, so nothing is counted.
+    /// Returns the number of nulls. The validity stores it, so the call reads no bits.
     pub fn null_count(&self) -> usize
         ensures { result ≡ nulls (boolean_items self.now) }
     {
         self.validity.null_count()
     }
 
-    /// Keeps `len` items from item `offset` on, over the same bytes. Requires that they are inside. Does not
-    /// allocate.
+    /// Keeps only the `len` items from item `offset` on, over the same bytes. Requires that `offset + len` is at most
+    /// the length. Does not allocate.
     pub fn slice(&mut self, offset: usize, len: usize)
         requires inside { offset + len ≤ length (boolean_items self.old) }
         ensures items { boolean_items self.new ≡ part (boolean_items self.old) offset len }
@@ -239,8 +243,8 @@ impl BooleanArray {
         self.validity.slice(offset, len);
     }
 
-    /// Returns the `len` items from item `offset` on, over the same bytes. Requires that they are inside. Does not
-    /// allocate.
+    /// Returns the `len` items from item `offset` on, over the same bytes. Requires that `offset + len` is at most the
+    /// length. Does not allocate.
     pub fn sliced(mut self, offset: usize, len: usize) -> BooleanArray
         requires inside { offset + len ≤ length (boolean_items self) }
         ensures items { boolean_items result ≡ part (boolean_items self) offset len }
@@ -251,8 +255,8 @@ impl BooleanArray {
         self
     }
 
-    /// Returns the array of the same values with another validity. Requires that it has the length of the values, where
-    /// arrow2 panics. Does not allocate.
+    /// Returns the array of the same values with another validity. Requires that the validity, if there is one, has the
+    /// length of the values; arrow2 panics if it does not. Does not allocate.
     pub fn with_validity(self, validity: Option<Bitmap>) -> BooleanArray
         requires same_length { ForSome validity (λ v.
             length (items_of v) ≡ length (items_of self.values)) }
@@ -287,10 +291,11 @@ impl BooleanArray {
         BooleanIter::new(self)
     }
 
-    /// Returns, item by item, whether both are true: false where one of them is false, and null where that is not
-    /// known. The values are `and` of the values, also under nulls. Requires that both have equal lengths.
+    /// Returns, item by item, whether both are true, by Kleene's logic: false where one of the two is false, else null
+    /// where one is null, else true. The values of the result are `and` of the values of both arrays, also under nulls.
+    /// Requires that both have equal lengths.
     ///
-    /// In arrow2 it is `compute::boolean_kleene::and`, which refuses other lengths.
+    /// In arrow2 it is `compute::boolean_kleene::and`, which refuses unequal lengths.
     ///
     /// # Errors
     ///
@@ -317,10 +322,11 @@ impl BooleanArray {
         self.by_operator(Operator::And, other)
     }
 
-    /// Returns, item by item, whether one is true, or both: true where one of them is true, and null where that is not
-    /// known. The values are `or` of the values, also under nulls. Requires that both have equal lengths.
+    /// Returns, item by item, whether one or both are true, by Kleene's logic: true where one of the two is true, else
+    /// null where one is null, else false. The values of the result are `or` of the values of both arrays, also under
+    /// nulls. Requires that both have equal lengths.
     ///
-    /// In arrow2 it is `compute::boolean_kleene::or`, which refuses other lengths.
+    /// In arrow2 it is `compute::boolean_kleene::or`, which refuses unequal lengths.
     ///
     /// # Errors
     ///
@@ -347,7 +353,8 @@ impl BooleanArray {
         self.by_operator(Operator::Or, other)
     }
 
-    /// Returns the result of the operator for both, item by item: by its tables.
+    /// Returns, item by item, the result of the operator for the items of both arrays. Uses the truth tables of the
+    /// operator.
     fn by_operator(&self, operator: Operator, other: &BooleanArray) -> Result<BooleanArray>
         requires same_length { length (boolean_items self.now) ≡ length (boolean_items other.now) }
         // The result, item by item.
@@ -403,7 +410,7 @@ impl Clone for BooleanArray {
     }
 }
 
-/// Equality of the items: nulls are equal, whatever values are under them.
+/// Two arrays are equal exactly if their items are. Nulls are equal, whatever values are under them.
 impl PartialEq for BooleanArray {
     ghost eq = { on boolean_items (pointwise (option_eq beq)) };
 

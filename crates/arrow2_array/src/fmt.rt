@@ -7,8 +7,8 @@ ghost use Rattle.arrow2_array.specs.Items.{boolean_items};
 use crate::boolean::BooleanArray;
 use std::fmt;
 
-/// Writes the items in brackets after the name of the type, `None` where one is null, as
-/// `BooleanArray[true, None, false]`. Formatter flags are ignored.
+/// Writes the name of the type and then the items in brackets, a null as `None`: for example `BooleanArray[true, None,
+/// false]`. Formatter flags are ignored.
 impl fmt::Debug for BooleanArray {
     ghost debug_output = { λ a. Some (array_text (boolean_items a)) };
 

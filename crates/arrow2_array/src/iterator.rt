@@ -44,7 +44,7 @@ impl<'a> BooleanIter<'a> {
     }
 }
 
-/// The same items still to come. Does not allocate.
+/// Returns an iterator with the same items still to come. Does not allocate.
 impl<'a> Clone for BooleanIter<'a> {
     ghost is_clone = { λ i copy. copy ≡ i };
 

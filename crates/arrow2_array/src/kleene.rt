@@ -10,26 +10,28 @@ use arrow2_tables::bitmap_ops::{quaternary_table, ternary_table};
 use arrow2_types::error::{Error, Result};
 use arrow2_validity::Validity;
 
-/// Whether both values are true: bit `left + 2 * right`.
+/// The truth table of `and` on two values: bit `left + 2 * right`.
 pub const AND_VALUES: u8 = 0b1000;
 
-/// And whether one is, or both.
+/// The truth table of `or` on two values, by the same bit.
 pub const OR_VALUES: u8 = 0b1110;
 
-/// For which items it is known whether both are true: bit `left + 2 * left_validity + 4 * right + 8 * right_validity`.
+/// The truth table of which results of `and` are known: bit
+/// `left + 2 * left_validity + 4 * right + 8 * right_validity`.
 ///
-/// Read from the left, the four rows are those of a right item that is true, false, null over true, null over false; in
-/// each, the left item goes through the same four.
+/// From the left, the four groups of bits are for a right item that is true, false, null over true, and null over
+/// false. Within each group, the left item goes through the same four cases.
 pub const AND_KNOWN: u16 = 0b1100_1111_0100_0100;
 
-/// And for which it is known whether one is true, or both.
+/// The truth table of which results of `or` are known, by the same bit.
 pub const OR_KNOWN: u16 = 0b1111_1100_1000_1000;
 
-/// For which items it is known whether both are true, where one of them is not null: bit
-/// `value + 2 * validity + 4 * other` of an item and of the value that the other one has.
+/// The truth table of which results of `and` are known, where one of the two items is not null: bit
+/// `value + 2 * validity + 4 * other`. Here `other` is the value of the item that is not null, and `value` and
+/// `validity` are those of the other item.
 pub const AND_KNOWN_PAIRED: u8 = 0b1100_1111;
 
-/// And for which it is known whether one is true, or both.
+/// The truth table of which results of `or` are known in that case, by the same bit.
 pub const OR_KNOWN_PAIRED: u8 = 0b1111_1100;
 
 /// An operator of Kleene's logic.
@@ -37,7 +39,7 @@ pub const OR_KNOWN_PAIRED: u8 = 0b1111_1100;
 pub(crate) enum Operator {
     /// Whether both are true.
     And,
-    /// Whether one is true, or both.
+    /// Whether one or both are true.
     Or,
 }
 
@@ -62,7 +64,7 @@ impl Operator {
         }
     }
 
-    /// Returns the same where one of the two is not null.
+    /// Returns the table of which results are known, where one of the two items is not null.
     fn known_paired(self) -> u8
         ensures { result ≡ paired_table self }
     {
@@ -73,8 +75,8 @@ impl Operator {
     }
 }
 
-/// Returns for which items of two arrays the result is known, by the table of three inputs where one has no validity
-/// bitmap. Where neither has one, the result has none.
+/// Returns which results of the operator for the items of two arrays are known. Uses the table of three inputs where
+/// one array has no validity bitmap. Where neither has one, the returned validity has none.
 pub(crate) fn validity_by(
     operator: Operator,
     left: &Bitmap,
@@ -110,7 +112,7 @@ pub(crate) fn validity_by(
     }
 }
 
-/// Returns the validity of this bitmap, whose length it is.
+/// Returns the validity of `len` items by this bitmap. Requires that the bitmap has `len` items.
 #[tactic(auto, using(arrow2_validity::proofs::ValidItems::validities))]
 fn known_by(len: usize, known: Bitmap) -> Validity
     requires same_length { length (items_of known) ≡ len }

@@ -18,11 +18,11 @@ use std::marker::Model;
 /// An array of booleans that grows.
 ///
 /// Contracts see its items and its capacity. A call that appends has one clause, the record `AppendsBooleans` of
-/// `specs/Growth.antt`: the items after `Ok` and after an error, when each error comes, and that it succeeds within the
-/// capacity.
+/// `specs/Growth.antt`: the items after `Ok` and after an error, when each error comes, and that the call succeeds
+/// within the capacity.
 ///
-/// Differs from arrow2: its validity is always there, and [`MutableBooleanArray::freeze`] leaves it out where no item
-/// is null. Before `freeze` no call reads or sets an item, but for [`MutableBooleanArray::pop`].
+/// Differs from arrow2: the validity is always stored, and [`MutableBooleanArray::freeze`] leaves it out where no item
+/// is null. Before `freeze`, only [`MutableBooleanArray::pop`] returns an item, and no call sets one.
 #[derive(Drop)]
 pub struct MutableBooleanArray {
     values: MutableBitmap,
@@ -56,7 +56,7 @@ impl MutableBooleanArray {
         }
     }
 
-    /// Returns an array without items, with capacity for `capacity` of them.
+    /// Returns an array without items, with capacity for `capacity` items.
     ///
     /// # Errors
     ///
@@ -98,8 +98,8 @@ impl MutableBooleanArray {
     ///
     /// # Errors
     ///
-    /// `Overflow` exactly where the length and `additional` pass `usize::MAX` together, else `OutOfMemory` alone. After
-    /// both the array holds the items that it held.
+    /// `Overflow` exactly where the length plus `additional` would pass `usize::MAX`, else `OutOfMemory` alone. After
+    /// either error, the array holds the items that it held.
     pub fn reserve(&mut self, additional: usize) -> Result<()>
         // The items stay, and `additional` more fit.
         ensures items { self.new.items ≡ self.old.items }
@@ -121,8 +121,8 @@ impl MutableBooleanArray {
     ///
     /// # Errors
     ///
-    /// `Overflow` exactly where the length is `usize::MAX`, else `OutOfMemory` alone. After either the array holds the
-    /// items that it held.
+    /// `Overflow` exactly where the length is `usize::MAX`, else `OutOfMemory` alone. After either error, the array
+    /// holds the items that it held.
     pub fn push(&mut self, item: Option<bool>) -> Result<()>
         ensures { AppendsBooleans result self.old self.new (item ∷ []) }
     {
@@ -136,8 +136,8 @@ impl MutableBooleanArray {
     ///
     /// # Errors
     ///
-    /// `Overflow` exactly where the length is `usize::MAX`, else `OutOfMemory` alone. After either the array holds the
-    /// items that it held.
+    /// `Overflow` exactly where the length is `usize::MAX`, else `OutOfMemory` alone. After either error, the array
+    /// holds the items that it held.
     pub fn push_null(&mut self) -> Result<()>
         ensures { AppendsBooleans result self.old self.new (None ∷ []) }
     {
@@ -148,8 +148,8 @@ impl MutableBooleanArray {
     ///
     /// # Errors
     ///
-    /// `Overflow` exactly where the new length would pass `usize::MAX`, else `OutOfMemory` alone. After either the
-    /// array holds the items that it held.
+    /// `Overflow` exactly where the new length would pass `usize::MAX`, else `OutOfMemory` alone. After either error,
+    /// the array holds the items that it held.
     pub fn extend_constant(&mut self, additional: usize, item: Option<bool>) -> Result<()>
         ensures { AppendsBooleans result self.old self.new (replicate additional item) }
     {
@@ -161,12 +161,13 @@ impl MutableBooleanArray {
     }
 
     /// Appends the `len` items of another array from item `start` on, whatever values are under its nulls. Requires
-    /// that they are inside. Within the capacity it does not allocate. In arrow2 it is `GrowableBoolean::extend`.
+    /// that `start + len` is at most the other array's length. Within the capacity it does not allocate. In arrow2 it
+    /// is `GrowableBoolean::extend`.
     ///
     /// # Errors
     ///
-    /// `Overflow` exactly where the new length would pass `usize::MAX`, else `OutOfMemory` alone. After either the
-    /// array holds the items that it held.
+    /// `Overflow` exactly where the new length would pass `usize::MAX`, else `OutOfMemory` alone. After either error,
+    /// the array holds the items that it held.
     pub fn extend_from_array(
         &mut self,
         array: &BooleanArray,
@@ -184,9 +185,9 @@ impl MutableBooleanArray {
         Ok(())
     }
 
-    /// Takes the last item off and returns it, or `None` where there is none.
+    /// Removes the last item and returns it, or returns `None` where there is none.
     ///
-    /// Differs from arrow2, which returns the same for an array without items as for a null.
+    /// Differs from arrow2, which returns `None` both for a null and for an array without items.
     pub fn pop(&mut self) -> Option<Option<bool>>
         ensures last { MatchOption result (self.old.items ≡ []) (λ item.
             self.old.items ≡ self.new.items ++ item ∷ []) }

@@ -69,7 +69,7 @@ pub extern "C" fn bench_bitmaps(
     }
 }
 
-/// The last byte of a copy that is to be changed.
+/// The last byte of a copy that can be changed.
 fn make_mut(bitmap: &Bitmap) -> Result<usize> {
     let copy = bitmap.clone()?.make_mut()?;
     match copy.as_slice().last() {
@@ -121,7 +121,7 @@ fn slices(bitmap: &Bitmap) -> Result<usize> {
     Ok(sum)
 }
 
-/// Counts the unset bits of a new bitmap, the negation of a bitmap.
+/// Counts the unset bits of a new bitmap, the complement of a bitmap.
 fn not(bitmap: &Bitmap) -> Result<usize> {
     Ok((!bitmap)?.unset_bits())
 }
@@ -181,7 +181,7 @@ fn equal(left: &Bitmap, right: &Bitmap) -> Result<usize> {
     Ok(usize::from(left == right))
 }
 
-/// Counts the unset bits of the intersection of two bitmaps, a new one. 0 where they differ in length.
+/// Counts the unset bits of a new bitmap, the intersection of two bitmaps. Returns 0 where the lengths differ.
 fn both(left: &Bitmap, right: &Bitmap) -> Result<usize> {
     if left.len() != right.len() {
         return Ok(0);
@@ -189,7 +189,7 @@ fn both(left: &Bitmap, right: &Bitmap) -> Result<usize> {
     Ok(and(left, right)?.unset_bits())
 }
 
-/// The same of the union.
+/// The same for the union.
 fn either(left: &Bitmap, right: &Bitmap) -> Result<usize> {
     if left.len() != right.len() {
         return Ok(0);
@@ -197,7 +197,7 @@ fn either(left: &Bitmap, right: &Bitmap) -> Result<usize> {
     Ok((left | right)?.unset_bits())
 }
 
-/// The same of the symmetric difference.
+/// The same for the symmetric difference.
 fn one(left: &Bitmap, right: &Bitmap) -> Result<usize> {
     if left.len() != right.len() {
         return Ok(0);

@@ -64,7 +64,7 @@ fn added_up(buffer: Buffer<u64>) -> usize {
     sum as usize
 }
 
-/// Mixes the items, each by reference.
+/// Mixes the items into one number, each by reference.
 fn mixed(buffer: Buffer<u64>) -> usize {
     let mut all = 0u64;
     for item in buffer.as_slice() {

@@ -132,7 +132,7 @@ fn iter_nth(bitmap: &Bitmap, step: &usize) -> Result<usize> {
     Ok(ones)
 }
 
-/// Mixes the counts of the pieces of a bitmap. Each piece is halved in turn, from the first one on.
+/// Mixes the counts of the pieces of a bitmap into one number. Each piece is halved in turn, from the first one on.
 fn pieces(whole: &Bitmap, cuts: &usize) -> Result<usize> {
     let mut pieces = Pieces::new(whole.allocator(), whole.clone()?)?;
     let mut position = 0usize;

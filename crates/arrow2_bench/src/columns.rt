@@ -12,8 +12,8 @@ use arrow2_primitive::{MutablePrimitiveArray, PrimitiveArray};
 use arrow2_types::error::Result;
 use std::alloc::Global;
 
-/// Calls on prefixes of a column and of the mask, whose length each run chooses. The column has no nulls where its
-/// validity has no byte.
+/// Calls on prefixes of a column and of the mask, whose length each run chooses. If `validity` is empty, the column has
+/// no nulls.
 #[unsafe(no_mangle)]
 pub extern "C" fn bench_columns(
     alloc: Global,
@@ -78,7 +78,8 @@ fn on_columns<F: Fn(&PrimitiveArray<i64>, &Bitmap) -> Result<usize>>(
     })
 }
 
-/// The column of these values, whose nulls are the bits that are not set. No byte of validity: no null.
+/// The column of these values, null where the bits of the validity are not set. Without a byte of validity no item is
+/// null.
 fn column(alloc: Global, values: &[i64], validity: &[u8]) -> Result<PrimitiveArray<i64>> {
     let validity = if validity.is_empty() {
         None
@@ -102,7 +103,7 @@ fn filtered(column: &PrimitiveArray<i64>, mask: &Bitmap) -> Result<usize> {
     last_and_count(&filter(column, mask)?)
 }
 
-/// Returns the number of items and, where the last one is not null, its distance from 0, added up.
+/// Returns the number of items, plus the absolute value of the last one if it is not null.
 fn last_and_count(column: &PrimitiveArray<i64>) -> Result<usize> {
     let Some(last) = column.len().checked_sub(1) else {
         return Ok(0);
@@ -134,7 +135,7 @@ fn least(column: &PrimitiveArray<i64>, _: &Bitmap) -> Result<usize> {
     }
 }
 
-/// The lowest bits of how far the sum is from 0.
+/// The lowest bits of the absolute value of the sum.
 fn added_up(column: &PrimitiveArray<i64>, _: &Bitmap) -> Result<usize> {
     Ok((sum(column).unsigned_abs() % (1 << 64)) as usize)
 }
@@ -160,8 +161,8 @@ pub extern "C" fn bench_take(
     })
 }
 
-/// Builds columns of a prefix of the options, whose length each run chooses: a value where the item at its index is
-/// true.
+/// Builds columns of a prefix of the options, whose length each run chooses. An option has a value where the item at
+/// its index is true.
 #[unsafe(no_mangle)]
 pub extern "C" fn bench_options(
     alloc: Global,

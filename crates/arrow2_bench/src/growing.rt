@@ -59,8 +59,7 @@ pub fn pop(alloc: Global, bytes: &[u8], length: usize) -> Result<usize> {
     Ok(ones)
 }
 
-/// Sets the items of a prefix anew, one by one, whose length each run chooses, and counts the items that are false
-/// then.
+/// Sets each item of a prefix, whose length each run chooses, and counts the items that are false then.
 #[unsafe(no_mangle)]
 pub extern "C" fn bench_set(alloc: Global, bytes: &[u8], items: &[bool], runs: &[usize]) -> usize {
     let Ok(made) = growing(alloc, bytes, items.len()) else {
@@ -188,21 +187,21 @@ fn change_by<F: Fn(&mut MutableBitmap, &Bitmap)>(
     }
 }
 
-/// Inverts the items that are set in the other bitmap. Leaves all where they differ in length.
+/// Inverts the items that are set in the other bitmap. Changes nothing where the lengths differ.
 fn xor_assign<T: BitChunk>(own: &mut MutableBitmap, other: &Bitmap) {
     if own.len() == other.len() {
         binary_assign::<T, _>(own, other, |x, y| x.bit_xor(y));
     }
 }
 
-/// Leaves the items that are set in the other bitmap too. Leaves all where they differ in length.
+/// Unsets the items that are not set in the other bitmap. Changes nothing where the lengths differ.
 fn and_assign(own: &mut MutableBitmap, other: &Bitmap) {
     if own.len() == other.len() {
         *own &= other;
     }
 }
 
-/// Sets the items that are those of the other bitmap. Leaves all where they differ in length.
+/// Sets each item to whether it equals the item of the other bitmap. Changes nothing where the lengths differ.
 fn equal_by_table(own: &mut MutableBitmap, other: &Bitmap) {
     if own.len() == other.len() {
         binary_assign_table::<u64>(own, other, 0b1001);

@@ -19,13 +19,13 @@ pub extern "C" fn bench_slot(alloc: Global, call: &[u8], slots: &[usize], runs: 
     }
 }
 
-/// The last of the offsets of lengths.
+/// The last of the offsets that have these lengths.
 fn try_from_lengths(alloc: Global, slots: &[usize]) -> Result<usize> {
     let offsets = Offsets::<i64>::try_from_lengths(alloc, slots.iter().copied())?;
     Ok(*offsets.last() as usize)
 }
 
-/// Returns the last of the offsets of lengths, with capacity for all of them beforehand.
+/// Returns the last of the offsets that have these lengths. Reserves capacity for all of them first.
 fn extend_from_lengths(alloc: Global, slots: &[usize]) -> Result<usize> {
     let mut offsets = Offsets::<i64>::with_capacity(alloc, slots.len())?;
     offsets.try_extend_from_lengths(slots.iter().copied())?;
@@ -46,7 +46,7 @@ pub extern "C" fn bench_longs(alloc: Global, call: &[u8], items: &[i64], runs: &
     }
 }
 
-/// The last of the offsets of lengths that are pushed one by one, without those below 0.
+/// The last of the offsets to which these lengths are pushed one by one, except the negative ones.
 fn try_push(alloc: Global, slots: &[i64]) -> Result<usize> {
     let mut offsets = Offsets::<i64>::new(alloc)?;
     for slot in slots {
@@ -80,7 +80,7 @@ fn buffer<O: Offset>(alloc: Global, items: &[O]) -> Result<OffsetsBuffer<O>> {
     OffsetsBuffer::try_from(Vec::from_slice(alloc, items)?)
 }
 
-/// Mixes where slots of one buffer of offsets start and end.
+/// Mixes the starts and ends of slots of one buffer of offsets into one number.
 fn start_ends(alloc: Global, items: &[i64], positions: &[usize]) -> usize {
     let Ok(offsets) = buffer(alloc, items) else {
         return 0;
@@ -88,7 +88,7 @@ fn start_ends(alloc: Global, items: &[i64], positions: &[usize]) -> usize {
     on_each(positions, |position| start_end(&offsets, *position))
 }
 
-/// Mixes where a slot starts and ends. 0 where there is no such slot.
+/// Mixes the start and the end of a slot into one number. Returns 0 where there is no such slot.
 fn start_end(offsets: &OffsetsBuffer<i64>, position: usize) -> Result<usize> {
     if offsets.len_proxy() <= position {
         return Ok(0);
@@ -154,7 +154,7 @@ fn lengths(offsets: &OffsetsBuffer<i64>) -> Result<usize> {
     Ok(sum)
 }
 
-/// The last of new offsets to which all lengths of these are appended.
+/// The last of new offsets to which all lengths of these offsets are appended.
 fn extend_from_slice(other: &OffsetsBuffer<i64>) -> Result<usize> {
     let mut offsets = Offsets::<i64>::new(other.buffer().allocator())?;
     offsets.try_extend_from_slice(other, 0, other.len() - 1)?;

@@ -8,10 +8,10 @@ use arrow2_tables::bitmap_ops::{quaternary_table, ternary_table};
 use arrow2_types::error::Result;
 use std::alloc::Global;
 
-/// The second input where the first is set, and else the third.
+/// The table of the second input where the first is set, and of the third where it is not.
 const CHOICE: u8 = 0b1101_1000;
 
-/// For which items it is known whether two values, each before its validity, are both true.
+/// The table of the validity of Kleene's AND. Its inputs are two values, each followed by its validity.
 const KNOWN: u16 = 0b1100_1111_0100_0100;
 
 /// Calls on bitmaps of the parts of four bytes.
@@ -65,7 +65,7 @@ fn inputs(alloc: Global, all: &[&[u8]], parts: &[Part]) -> Result<Vec<Bitmap>> {
     Ok(inputs)
 }
 
-/// Counts the false items of a new bitmap by a table of the first three inputs. 0 where they differ in length.
+/// Counts the false items of a new bitmap by a table of the first three inputs. Returns 0 where the lengths differ.
 fn ternary(inputs: &[Bitmap]) -> Result<usize> {
     let [first, second, third, ..] = inputs else {
         return Ok(0);
@@ -76,7 +76,7 @@ fn ternary(inputs: &[Bitmap]) -> Result<usize> {
     Ok(ternary_table(first, second, third, CHOICE)?.unset_bits())
 }
 
-/// The same of four inputs.
+/// The same for four inputs.
 fn quaternary(inputs: &[Bitmap]) -> Result<usize> {
     let [first, second, third, fourth] = inputs else {
         return Ok(0);
@@ -88,8 +88,8 @@ fn quaternary(inputs: &[Bitmap]) -> Result<usize> {
     Ok(quaternary_table(first, second, third, fourth, KNOWN)?.unset_bits())
 }
 
-/// Makes new arrays of Kleene's `and` of the arrays at the same index: values before their validity. No bytes of a
-/// validity make arrays without one.
+/// Makes new arrays: AND, by Kleene's logic, of the arrays at the same index. The bytes of values come before those of
+/// their validity. Without bytes of a validity the arrays have none.
 fn on_arrays(alloc: Global, all: &[&[u8]; 4], parts: &[Part], runs: &[usize]) -> usize {
     let Ok(left) = arrays(alloc, all[0], all[1], parts) else {
         return 0;
@@ -119,7 +119,7 @@ fn arrays(
     Ok(arrays)
 }
 
-/// Counts the values that are false, and the items that are null. 0 where the arrays differ in length.
+/// Counts the values that are false, and the items that are null. Returns 0 where the lengths differ.
 fn and_kleene(left: &BooleanArray, right: &BooleanArray) -> Result<usize> {
     if left.len() != right.len() {
         return Ok(0);

@@ -32,7 +32,7 @@ pub extern "C" fn bench_texts(
     sum.unwrap_or(0)
 }
 
-/// Makes all texts anew for each run, and adds up how many there are.
+/// Makes the column of all texts again for each run, and adds up their numbers.
 fn made(alloc: Global, bytes: &[u8], offsets: &[i64], runs: &[usize]) -> Result<usize> {
     let mut sum = 0usize;
     for _ in runs {
@@ -51,7 +51,7 @@ fn pushed(alloc: Global, bytes: &[u8], offsets: &[i64], runs: &[usize]) -> Resul
     Ok(sum)
 }
 
-/// Counts the texts that are not the first one, for each run.
+/// Counts the texts that differ from the first one, for each run.
 fn compared_each(alloc: Global, bytes: &[u8], offsets: &[i64], runs: &[usize]) -> Result<usize> {
     let whole = texts(alloc, bytes, offsets)?;
     let mut sum = 0usize;
@@ -87,7 +87,7 @@ fn built(texts: &Utf8Array<i64>) -> Result<usize> {
     Ok(copy.freeze()?.values().len())
 }
 
-/// Counts the texts that are not the first one.
+/// Counts the texts that differ from the first one.
 fn compared(texts: &Utf8Array<i64>) -> Result<usize> {
     if texts.is_empty() {
         return Ok(0);

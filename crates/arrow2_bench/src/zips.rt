@@ -36,7 +36,7 @@ pub extern "C" fn bench_zips(
     }
 }
 
-/// Adds up the numbers that are valid. 0 where the bitmap has another length.
+/// Adds up the numbers that are valid. Returns 0 where the bitmap has another length.
 fn zip(numbers: &[u64], validity: &Bitmap) -> Result<usize> {
     if numbers.len() != validity.len() {
         return Ok(0);
@@ -44,7 +44,7 @@ fn zip(numbers: &[u64], validity: &Bitmap) -> Result<usize> {
     Ok(added_up(ZipValidity::new_with_validity(numbers.iter().copied(), Some(validity))))
 }
 
-/// The same by the iterator that always has a validity.
+/// The same with the iterator that always has a validity.
 fn zip_iter(numbers: &[u64], validity: &Bitmap) -> Result<usize> {
     if numbers.len() != validity.len() {
         return Ok(0);
@@ -77,7 +77,7 @@ fn zip_nth(alloc: Global, numbers: &[u64], bytes: &[u8], steps: &[usize]) -> usi
     on_each(steps, |step| by_steps(numbers, &validity, *step))
 }
 
-/// Adds up the numbers of each `step`th slot that are valid. 0 where the bitmap has another length.
+/// Adds up the numbers of each `step`th slot that are valid. Returns 0 where the bitmap has another length.
 fn by_steps(numbers: &[u64], validity: &Bitmap, step: usize) -> Result<usize> {
     let Some(skipped) = step.checked_sub(1) else {
         return Ok(0);

@@ -1,7 +1,7 @@
--- The items of an iterator that are too many for a length.
+-- Iterators that may give more items than a length counts.
 use Rattle.std.specs.Prelude.{◌≡◌, ◌-◌, ◌^◌, List, Bool, Option, Some, length}
 use Rattle.std.specs.Iterator.{YieldsThen}
 
--- 2 ^ 64 - 1 items came, and one more
+-- the iterator may give 2 ^ 64 - 1 items, and then one more
 abbrev pub MayYieldTooMany : {S : Type 0} → (S → Option Bool → S → Type 0) → S → Type 0
 MayYieldTooMany {S} steps s = (xs : List Bool) × (x : Bool) × (t : S) × YieldsThen steps s xs (Some x) t × (length xs ≡ 2 ^ 64 - 1)

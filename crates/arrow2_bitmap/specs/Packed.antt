@@ -1,4 +1,4 @@
--- Bitmaps that are stored with nothing else.
+-- Bitmaps that are stored in their canonical bytes, from bit 0 on.
 use Rattle.std.specs.Prelude.{◌≡◌, List, Bool, length}
 use Rattle.arrow2_model.specs.Canonical.{canonical_bytes}
 use Rattle.arrow2_model.specs.Storage.{BitmapStorage, items_of}
@@ -7,6 +7,6 @@ use Rattle.arrow2_model.specs.Storage.{BitmapStorage, items_of}
 abbrev pub packed_storage : List Bool → BitmapStorage
 packed_storage items = record { bytes = canonical_bytes items; offset = 0; len = length items }
 
--- a bitmap is stored so
+-- a bitmap is stored as `packed_storage` of its items
 abbrev pub IsPacked : BitmapStorage → Type 0
 IsPacked b = b ≡ packed_storage (items_of b)

@@ -2,7 +2,7 @@
 use Rattle.std.specs.Prelude.{◌≡◌, ◌<◌, ℕ, List, Bool, length, slice_index_or}
 use denote.Ref.{Bor}
 
--- every result at one of the first n numbers is that of test
+-- every result for a number below n is that of test
 abbrev pub ReturnsBelow : ℕ → (ℕ → Bool → Type 0) → (ℕ → Bool) → Type 0
 ReturnsBelow n returns test = (index : ℕ) (result : Bool) → index < n → returns index result → result ≡ test index
 
@@ -11,18 +11,18 @@ module _ {X : Type 0} (items : List X) where
   abbrev pub IsCallableWithEach : (Bor X → Type 0) → Type 0
   IsCallableWithEach may = (index : ℕ) (item : Bor X) → index < length items → slice_index_or items index item.now ≡ item.now → may item
 
-  -- every result at an item of a list is that of test
+  -- every result for an item of a list is that of test
   abbrev pub ReturnsOnEach : (Bor X → Bool → Type 0) → (X → Bool) → Type 0
   ReturnsOnEach returns test = (index : ℕ) (item : Bor X) (result : Bool) → index < length items → slice_index_or items index item.now ≡ item.now → returns item result → result ≡ test item.now
 
-  -- this was returned for the item at an index
+  -- the function may return this result for the item at an index
   pub record IsResultAt (returns : Bor X → Bool → Type 0) (index : ℕ) (result : Bool) : Type 0 where
     pub item : Bor X
     pub is_item : slice_index_or items index item.now ≡ item.now
     pub returned : returns item result
 
 module _ {X Y : Type 0} (xs : List X) (ys : List Y) where
-  -- the same of each item of one list and the item of another at its index
+  -- the same for each item of one list and the item at the same index of the other list
   abbrev pub IsCallableWithPairs : (Bor X → Bor Y → Type 0) → Type 0
   IsCallableWithPairs may = (index : ℕ) (x : Bor X) (y : Bor Y) → index < length xs → slice_index_or xs index x.now ≡ x.now → slice_index_or ys index y.now ≡ y.now → may x y
 

@@ -21,7 +21,7 @@ use std::ops::{BitAnd, BitAndAssign, BitOr, BitOrAssign, BitXor, BitXorAssign, N
 /// Differs from arrow2: padding bits don't reach `op`, and are false afterwards.
 pub fn unary_assign<T: BitChunk, F: Fn(T) -> T>(bitmap: &mut MutableBitmap, op: F)
     requires callable { F.IsAlwaysCallable op }
-    // For every word function `f` that `op` computes.
+    // If the results of `op` are those of a mathematical function `f` on words:
     ensures kernel { (f : ℕ → ℕ) → ComputesUnary T.BitChunk.WIDTH T.BitChunk.number (F.post op) f →
         bitmap.new.items ≡ unary_kernel T.BitChunk.WIDTH f bitmap.old.items }
     // For every table `t` by which `op` acts on each bit.
@@ -34,15 +34,15 @@ pub fn unary_assign<T: BitChunk, F: Fn(T) -> T>(bitmap: &mut MutableBitmap, op: 
     bitmap.bits.assign_rows(rows, |own: T, _none: ()| op(own));
 }
 
-/// Replaces each word of `T` by the result of `op` for it and the word of `rhs` at its index. The last words are padded
-/// with false, and bits that `op` sets in the padding are cleared. Does not allocate. Requires equal lengths, and that
-/// the `requires` of `op` holds for every two words.
+/// Replaces each word of `T` by the result of `op` for it and the word of `rhs` at the same index. The last words are
+/// padded with false, and bits that `op` sets in the padding are cleared. Does not allocate. Requires equal lengths,
+/// and that the `requires` of `op` holds for every two words.
 ///
 /// Differs from arrow2: padding bits don't reach `op`, and are false afterwards.
 pub fn binary_assign<T: BitChunk, F: Fn(T, T) -> T>(lhs: &mut MutableBitmap, rhs: &Bitmap, op: F)
     requires callable { F.IsAlwaysCallable op }
     requires same_length { length lhs.old.items ≡ length (items_of rhs.now) }
-    // For every word function `f` that `op` computes.
+    // If the results of `op` are those of a mathematical function `f` on words:
     ensures kernel { (f : ℕ → ℕ → ℕ) → ComputesBinary T.BitChunk.WIDTH T.BitChunk.number (F.post op) f →
         lhs.new.items ≡ binary_kernel T.BitChunk.WIDTH f lhs.old.items (items_of rhs.now) }
     // For every table `t` by which `op` acts on each bit.
@@ -61,10 +61,11 @@ pub fn binary_assign<T: BitChunk, F: Fn(T, T) -> T>(lhs: &mut MutableBitmap, rhs
     }
 }
 
-/// Replaces each item by the output of the truth table `t`: bit `a` of `t`, where `a` is the item as 0 or 1. Reads the
-/// two lowest bits of `t`. Does not allocate.
+/// Replaces each item by the output of the truth table `t`: bit `a` of `t`, where `a` is the item as 0 or 1. Reads only
+/// the two lowest bits of `t`. Does not allocate.
 ///
-/// `W` is not used, since the call goes by 32 bytes at a time. `W` is there so that all calls in place name a width.
+/// The type parameter `W` is not used: the call goes by 32 bytes at a time, whatever `W` is. It is there because each
+/// public function of this module has a word type.
 ///
 /// arrow2 has no such call.
 pub fn unary_assign_table<W: BitChunk>(bitmap: &mut MutableBitmap, t: u8)
@@ -75,10 +76,11 @@ pub fn unary_assign_table<W: BitChunk>(bitmap: &mut MutableBitmap, t: u8)
 }
 
 /// Replaces each item by the output of the truth table `t`: bit `a + 2 * b` of `t`, where `a` and `b` are the items of
-/// `lhs` and `rhs` as 0 or 1. Reads the four lowest bits of `t`. Requires that both have equal lengths. Does not
+/// `lhs` and `rhs` as 0 or 1. Reads only the four lowest bits of `t`. Requires that both have equal lengths. Does not
 /// allocate.
 ///
-/// Goes by 32 bytes at a time where `rhs` begins at a whole byte, else by words of `W`. The items do not depend on `W`.
+/// Goes by 32 bytes at a time where `rhs` begins at a byte boundary, else by words of `W`. The result does not depend
+/// on `W`.
 ///
 /// arrow2 has no such call.
 #[inline(always)]
@@ -95,8 +97,8 @@ pub fn binary_assign_table<W: BitChunk>(lhs: &mut MutableBitmap, rhs: &Bitmap, t
     }
 }
 
-/// Item by item, whether both are true. Does not allocate. Requires that both have equal lengths. arrow2 implements it
-/// on `&mut MutableBitmap`.
+/// Replaces each item by whether it and the item of `rhs` at the same index are both true. Does not allocate. Requires
+/// that both bitmaps have equal lengths. arrow2 implements the operator on `&mut MutableBitmap`.
 impl<'a> BitAndAssign<&'a Bitmap> for MutableBitmap {
     ghost can_bitand_assign = { λ m b. length m.items ≡ length (items_of b.now) };
 
@@ -108,7 +110,7 @@ impl<'a> BitAndAssign<&'a Bitmap> for MutableBitmap {
     }
 }
 
-/// Item by item, whether both are true. Does not allocate. Requires that both have equal lengths.
+/// Returns, item by item, whether both are true. Does not allocate. Requires that both have equal lengths.
 impl<'a> BitAnd<&'a Bitmap> for MutableBitmap {
     type Output = MutableBitmap;
 
@@ -124,8 +126,8 @@ impl<'a> BitAnd<&'a Bitmap> for MutableBitmap {
     }
 }
 
-/// Item by item, whether one is true, or both. Does not allocate. Requires that both have equal lengths. arrow2
-/// implements it on `&mut MutableBitmap`.
+/// Replaces each item by whether it or the item of `rhs` at the same index, or both, are true. Does not allocate.
+/// Requires that both bitmaps have equal lengths. arrow2 implements the operator on `&mut MutableBitmap`.
 impl<'a> BitOrAssign<&'a Bitmap> for MutableBitmap {
     ghost can_bitor_assign = { λ m b. length m.items ≡ length (items_of b.now) };
 
@@ -137,7 +139,7 @@ impl<'a> BitOrAssign<&'a Bitmap> for MutableBitmap {
     }
 }
 
-/// Item by item, whether one is true, or both. Does not allocate. Requires that both have equal lengths.
+/// Returns, item by item, whether one or both are true. Does not allocate. Requires that both have equal lengths.
 impl<'a> BitOr<&'a Bitmap> for MutableBitmap {
     type Output = MutableBitmap;
 
@@ -153,8 +155,8 @@ impl<'a> BitOr<&'a Bitmap> for MutableBitmap {
     }
 }
 
-/// Item by item, whether one is true, and not both. Does not allocate. Requires that both have equal lengths. arrow2
-/// implements it on `&mut MutableBitmap`.
+/// Replaces each item by whether exactly one of it and the item of `rhs` at the same index is true. Does not allocate.
+/// Requires that both bitmaps have equal lengths. arrow2 implements the operator on `&mut MutableBitmap`.
 impl<'a> BitXorAssign<&'a Bitmap> for MutableBitmap {
     ghost can_bitxor_assign = { λ m b. length m.items ≡ length (items_of b.now) };
 
@@ -166,7 +168,7 @@ impl<'a> BitXorAssign<&'a Bitmap> for MutableBitmap {
     }
 }
 
-/// Item by item, whether one is true, and not both. Does not allocate. Requires that both have equal lengths.
+/// Returns, item by item, whether exactly one is true. Does not allocate. Requires that both have equal lengths.
 impl<'a> BitXor<&'a Bitmap> for MutableBitmap {
     type Output = MutableBitmap;
 
@@ -182,7 +184,7 @@ impl<'a> BitXor<&'a Bitmap> for MutableBitmap {
     }
 }
 
-/// Item by item, whether it is false. Does not allocate.
+/// Returns each item inverted. Does not allocate.
 impl Not for MutableBitmap {
     type Output = MutableBitmap;
 
@@ -195,7 +197,7 @@ impl Not for MutableBitmap {
     }
 }
 
-/// Item by item, whether both are true. Where `rhs` is true everywhere, nothing is written.
+/// Replaces each item by whether both are true. Writes nothing where every item of `rhs` is true.
 fn and_assign(lhs: &mut MutableBitmap, rhs: &Bitmap)
     requires same_length { length lhs.old.items ≡ length (items_of rhs.now) }
     ensures items { lhs.new.items ≡ each 8 (lhs.old.items ∷ items_of rhs.now ∷ []) }
@@ -208,7 +210,7 @@ fn and_assign(lhs: &mut MutableBitmap, rhs: &Bitmap)
     }
 }
 
-/// Item by item, whether one is true, or both. Where `rhs` is false everywhere, nothing is written.
+/// Replaces each item by whether one or both are true. Writes nothing where every item of `rhs` is false.
 fn or_assign(lhs: &mut MutableBitmap, rhs: &Bitmap)
     requires same_length { length lhs.old.items ≡ length (items_of rhs.now) }
     ensures items { lhs.new.items ≡ each 14 (lhs.old.items ∷ items_of rhs.now ∷ []) }
@@ -221,7 +223,7 @@ fn or_assign(lhs: &mut MutableBitmap, rhs: &Bitmap)
     }
 }
 
-/// Item by item, whether one is true, and not both.
+/// Replaces each item by whether exactly one is true.
 fn xor_assign(lhs: &mut MutableBitmap, rhs: &Bitmap)
     requires same_length { length lhs.old.items ≡ length (items_of rhs.now) }
     ensures items { lhs.new.items ≡ each 6 (lhs.old.items ∷ items_of rhs.now ∷ []) }
@@ -230,7 +232,7 @@ fn xor_assign(lhs: &mut MutableBitmap, rhs: &Bitmap)
     binary_assign_table::<u64>(lhs, rhs, 0b0110);
 }
 
-/// Item by item, whether it is false.
+/// Inverts each item.
 fn not_assign(bitmap: &mut MutableBitmap)
     ensures items { bitmap.new.items ≡ each 1 (bitmap.old.items ∷ []) }
     ensures capacity { bitmap.new.capacity ≡ bitmap.old.capacity }

@@ -40,8 +40,9 @@ pub fn from_rows<S: WordRows<u64>, F: Fn(S::Row) -> u64>(
     requires callable { F.IsAlwaysCallable op }
     requires alike { S.alike rows }
     requires len { S.len rows ≡ len }
-    // For every word function `f` that `op` computes: the items are the bits of its results for the rows in their
-    // order, cut to `len`. Where the rows are those of `lists`, the items are `kernel 64 f lists`.
+    // If the results of `op` are those of a mathematical function `f` on words: the items are the bits of the results
+    // of `f` for the rows, in their order, cut to `len`. Where the rows are those of `lists`, `kernel 64 f lists` are
+    // the items.
     ensures items { (f : List ℕ → ℕ) → ComputesRows 64 S.words (λ x. x) (F.post op) f →
         IfOk result (λ b. items_of b ≡ joined 64 (λ j. f (S.row_at rows j)) len) }
     ensures kernel { (f : List ℕ → ℕ) (lists : List (List Bool)) →
@@ -52,7 +53,7 @@ pub fn from_rows<S: WordRows<u64>, F: Fn(S::Row) -> u64>(
     ensures table { (t : ℕ) (lists : List (List Bool)) →
         IsBitwiseOnRows 64 S.words (λ x. x) (F.post op) t → AreRowsOf 64 lists (S.row_at rows) len →
         IfOk result (λ b. items_of b ≡ each t lists) }
-    // It is stored in canonical bytes, and the only error is `OutOfMemory`.
+    // The new bitmap is stored in canonical bytes, and the only error is `OutOfMemory`.
     ensures len { IfOk result (λ b. length (items_of b) ≡ len) }
     ensures storage { IfOk result (λ b. IsPacked b) }
     ensures only { IfErr result (λ e. e ≡ Error.OutOfMemory) }
@@ -65,21 +66,21 @@ pub fn from_rows<S: WordRows<u64>, F: Fn(S::Row) -> u64>(
 /// Returns the bitmap of the results of `op` for each word of 64 items. The last word is padded with false. Requires
 /// that the `requires` of `op` holds for every word.
 ///
-/// Differs from arrow2: padding bits don't reach `op`, nor does a word that begins after the last item. arrow2's
-/// `unary` returns no `Result`.
+/// Differs from arrow2: `op` sees false in place of the padding bits, and is not called for words that hold no item.
+/// arrow2's `unary` returns no `Result`.
 ///
 /// # Errors
 ///
 /// `OutOfMemory` alone.
 pub fn unary<F: Fn(u64) -> u64>(lhs: &Bitmap, op: F) -> Result<Bitmap>
     requires callable { F.IsAlwaysCallable op }
-    // For every word function `f` that `op` computes.
+    // If the results of `op` are those of a mathematical function `f` on words:
     ensures kernel { (f : ℕ → ℕ) → ComputesUnary 64 (λ x. x) (F.post op) f →
         IfOk result (λ b. items_of b ≡ unary_kernel 64 f (items_of lhs.now)) }
     // For every table `t` by which `op` acts on each bit.
     ensures table { (t : ℕ) → IsBitwiseUnary 64 (λ x. x) (F.post op) t →
         IfOk result (λ b. items_of b ≡ each t (items_of lhs.now ∷ [])) }
-    // It is stored in canonical bytes, and the only error is `OutOfMemory`.
+    // The new bitmap is stored in canonical bytes, and the only error is `OutOfMemory`.
     ensures len { IfOk result (λ b. length (items_of b) ≡ length (items_of lhs.now)) }
     ensures storage { IfOk result (λ b. IsPacked b) }
     ensures only { IfErr result (λ e. e ≡ Error.OutOfMemory) }
@@ -95,11 +96,11 @@ pub fn unary<F: Fn(u64) -> u64>(lhs: &Bitmap, op: F) -> Result<Bitmap>
     }
 }
 
-/// Returns the bitmap of the results of `op` for each two words of 64 items at one index. The last words are padded
+/// Returns the bitmap of the results of `op` for the two words of 64 items at each index. The last words are padded
 /// with false. Requires equal lengths, and that the `requires` of `op` holds for every two words.
 ///
-/// Differs from arrow2: padding bits don't reach `op`, nor do words that begin after the last item. arrow2's `binary`
-/// returns no `Result`.
+/// Differs from arrow2: `op` sees false in place of the padding bits, and is not called for words that hold no item.
+/// arrow2's `binary` returns no `Result`.
 ///
 /// # Errors
 ///
@@ -107,13 +108,13 @@ pub fn unary<F: Fn(u64) -> u64>(lhs: &Bitmap, op: F) -> Result<Bitmap>
 pub fn binary<F: Fn(u64, u64) -> u64>(lhs: &Bitmap, rhs: &Bitmap, op: F) -> Result<Bitmap>
     requires callable { F.IsAlwaysCallable op }
     requires same_length { length (items_of lhs.now) ≡ length (items_of rhs.now) }
-    // For every word function `f` that `op` computes.
+    // If the results of `op` are those of a mathematical function `f` on words:
     ensures kernel { (f : ℕ → ℕ → ℕ) → ComputesBinary 64 (λ x. x) (F.post op) f →
         IfOk result (λ b. items_of b ≡ binary_kernel 64 f (items_of lhs.now) (items_of rhs.now)) }
     // For every table `t` by which `op` acts on each bit.
     ensures table { (t : ℕ) → IsBitwiseBinary 64 (λ x. x) (F.post op) t →
         IfOk result (λ b. items_of b ≡ each t (items_of lhs.now ∷ items_of rhs.now ∷ [])) }
-    // It is stored in canonical bytes, and the only error is `OutOfMemory`.
+    // The new bitmap is stored in canonical bytes, and the only error is `OutOfMemory`.
     ensures len { IfOk result (λ b. length (items_of b) ≡ length (items_of lhs.now)) }
     ensures storage { IfOk result (λ b. IsPacked b) }
     ensures only { IfErr result (λ e. e ≡ Error.OutOfMemory) }
@@ -132,8 +133,9 @@ pub fn binary<F: Fn(u64, u64) -> u64>(lhs: &Bitmap, rhs: &Bitmap, op: F) -> Resu
     )
 }
 
-/// Returns, item by item, the output of the truth table `t`: bit `a` of `t`, where `a` is the item as 0 or 1. Reads the
-/// two lowest bits of `t`. Goes by 32 bytes at a time where the items begin at a whole byte, else by words.
+/// Returns, item by item, the output of the truth table `t`: bit `a` of `t`, where `a` is the item as 0 or 1. Reads
+/// only the two lowest bits of `t`. Goes by 32 bytes at a time where the items begin at a byte boundary, else by words
+/// of 64 bits.
 ///
 /// arrow2 has no such call.
 ///
@@ -158,8 +160,8 @@ pub fn unary_table(lhs: &Bitmap, t: u8) -> Result<Bitmap>
 }
 
 /// Returns, item by item, the output of the truth table `t`: bit `a + 2 * b` of `t`, where `a` and `b` are the items of
-/// `lhs` and `rhs` as 0 or 1. Reads the four lowest bits of `t`. Requires that both have equal lengths. Goes by 32
-/// bytes at a time where both begin at a whole byte, else by words.
+/// `lhs` and `rhs` as 0 or 1. Reads only the four lowest bits of `t`. Requires that both have equal lengths. Goes by 32
+/// bytes at a time where both begin at a byte boundary, else by words of 64 bits.
 ///
 /// arrow2 has no such call.
 ///
@@ -186,7 +188,7 @@ pub fn binary_table(lhs: &Bitmap, rhs: &Bitmap, t: u8) -> Result<Bitmap>
     }
 }
 
-/// Item by item, whether both are true. Requires that both have equal lengths. arrow2 returns no `Result`.
+/// Returns, item by item, whether both are true. Requires that both have equal lengths. arrow2 returns no `Result`.
 ///
 /// # Errors
 ///
@@ -206,7 +208,8 @@ pub fn and(lhs: &Bitmap, rhs: &Bitmap) -> Result<Bitmap>
     }
 }
 
-/// Item by item, whether one is true, or both. Requires that both have equal lengths. arrow2 returns no `Result`.
+/// Returns, item by item, whether one or both are true. Requires that both have equal lengths. arrow2 returns no
+/// `Result`.
 ///
 /// # Errors
 ///
@@ -226,7 +229,8 @@ pub fn or(lhs: &Bitmap, rhs: &Bitmap) -> Result<Bitmap>
     }
 }
 
-/// Item by item, whether one is true, and not both. Requires that both have equal lengths. arrow2 returns no `Result`.
+/// Returns, item by item, whether exactly one is true. Requires that both have equal lengths. arrow2 returns no
+/// `Result`.
 ///
 /// # Errors
 ///
@@ -247,7 +251,7 @@ pub fn xor(lhs: &Bitmap, rhs: &Bitmap) -> Result<Bitmap>
     }
 }
 
-/// [`and`], with its `Result`, where arrow2 has none.
+/// Does what [`and`] does. arrow2's operator returns no `Result`.
 impl<'a, 'b> BitAnd<&'b Bitmap> for &'a Bitmap {
     type Output = Result<Bitmap>;
 
@@ -261,7 +265,7 @@ impl<'a, 'b> BitAnd<&'b Bitmap> for &'a Bitmap {
     }
 }
 
-/// [`or`], with its `Result`, where arrow2 has none.
+/// Does what [`or`] does. arrow2's operator returns no `Result`.
 impl<'a, 'b> BitOr<&'b Bitmap> for &'a Bitmap {
     type Output = Result<Bitmap>;
 
@@ -275,7 +279,7 @@ impl<'a, 'b> BitOr<&'b Bitmap> for &'a Bitmap {
     }
 }
 
-/// [`xor`], with its `Result`, where arrow2 has none.
+/// Does what [`xor`] does. arrow2's operator returns no `Result`.
 impl<'a, 'b> BitXor<&'b Bitmap> for &'a Bitmap {
     type Output = Result<Bitmap>;
 
@@ -289,7 +293,7 @@ impl<'a, 'b> BitXor<&'b Bitmap> for &'a Bitmap {
     }
 }
 
-/// Item by item, whether it is false. arrow2 returns no `Result`.
+/// Returns each item inverted. arrow2 returns no `Result`.
 impl<'a> Not for &'a Bitmap {
     type Output = Result<Bitmap>;
 
@@ -301,7 +305,7 @@ impl<'a> Not for &'a Bitmap {
     }
 }
 
-/// Item by item, whether it is false.
+/// Returns each item inverted.
 fn complement(bitmap: &Bitmap) -> Result<Bitmap>
     ensures items { IfOk result (λ b. items_of b ≡ each 1 (items_of bitmap.now ∷ [])) }
     ensures storage { IfOk result (λ b. IsPacked b) }
@@ -310,7 +314,7 @@ fn complement(bitmap: &Bitmap) -> Result<Bitmap>
     unary_table(bitmap, 0b01)
 }
 
-/// Returns whether the items of one of the two are all `value`. Reads no bits.
+/// Returns whether all items of one of the two are `value`. Reads no bits.
 fn one_is_all(lhs: &Bitmap, rhs: &Bitmap, value: bool) -> bool
     ensures { IsTrue result → (items_of lhs.now ≡ replicate (length (items_of lhs.now)) value)
         ⊎ (items_of rhs.now ≡ replicate (length (items_of rhs.now)) value) }
@@ -318,7 +322,7 @@ fn one_is_all(lhs: &Bitmap, rhs: &Bitmap, value: bool) -> bool
     are_all(lhs, value) || are_all(rhs, value)
 }
 
-/// Returns whether the items are all `value`. The number of unset bits is stored, so it reads no bits.
+/// Returns whether all items are `value`. The number of unset bits is stored, so the call reads no bits.
 #[tactic(auto, using(crate::proofs::Constant::constant))]
 pub(crate) fn are_all(bitmap: &Bitmap, value: bool) -> bool
     ensures { IsTrue result → items_of bitmap.now
@@ -331,7 +335,8 @@ pub(crate) fn are_all(bitmap: &Bitmap, value: bool) -> bool
     }
 }
 
-/// Returns the value that all items have, if they have one. The number of unset bits is stored, so it reads no bits.
+/// Returns the value that all items have, or `None` if they differ. The number of unset bits is stored, so the call
+/// reads no bits.
 fn value_of_all(bitmap: &Bitmap) -> Option<bool>
     ensures { IfSome result (λ value. items_of bitmap.now
         ≡ replicate (length (items_of bitmap.now)) value) }
@@ -345,7 +350,7 @@ fn value_of_all(bitmap: &Bitmap) -> Option<bool>
     }
 }
 
-/// Returns `len` items, all of them `value`.
+/// Returns a bitmap of `len` items, all of them `value`.
 fn filled(alloc: Global, len: usize, value: bool) -> Result<Bitmap>
     ensures items { IfOk result (λ b. items_of b ≡ replicate len value) }
     ensures storage { IfOk result (λ b. IsPacked b) }

@@ -6,7 +6,7 @@ ghost use Rattle.arrow2_bitmap.specs.Refusals.{too_long};
 use arrow2_types::error::{Error, Result};
 use std::alloc::{AllocError, Global};
 
-/// Returns an error for a length in bits above eight times the number of bytes, with a text about `subject`.
+/// Returns an error if `len` is above eight times the number of bytes. The message names `subject`.
 pub(crate) fn check_length(subject: &str, len: usize, bytes: &Vec<u8>) -> Result<()>
     ensures accepted { IsOk result ↔ (len ≤ 8 * vec_len bytes.now) }
     ensures refused { IfErr result (λ e.
@@ -19,7 +19,7 @@ pub(crate) fn check_length(subject: &str, len: usize, bytes: &Vec<u8>) -> Result
     Ok(())
 }
 
-/// Returns the text of the error that `len` bits are not inside `bytes` bytes.
+/// Returns the message that refuses `len` bits in `bytes` bytes.
 #[tactic(auto, unfolding(crate::specs::Refusals::too_long))]
 fn refusal(
     alloc: Global,

@@ -41,7 +41,7 @@ use std::rc::Rc;
 use std::{fmt, mem};
 
 /// A bitmap over shared bytes: contracts see the bytes, the bit at which its items begin, and the number of items.
-/// Slices and clones share the bytes by an `Rc`, so all of them are on one thread. arrow2 has an `Arc`.
+/// Slices and clones share the bytes through an `Rc`, so all of them stay on one thread. arrow2 has an `Arc`.
 ///
 /// # Examples
 ///
@@ -91,12 +91,12 @@ impl Bitmap {
         Bitmap::from_u8_vec(Vec::new(alloc), 0)
     }
 
-    /// Returns a bitmap of the first `len` bits of `bytes`. It keeps the whole vector.
+    /// Returns a bitmap of the first `len` bits of `bytes`. The bitmap keeps the whole vector.
     ///
     /// # Errors
     ///
-    /// `InvalidArgumentError` exactly if `len` is above eight times the number of bytes, or `OutOfMemory` if the
-    /// message cannot be allocated. Otherwise the only error is `OutOfMemory`. After an error the bytes are dropped.
+    /// Where `len` is above eight times the number of bytes: `InvalidArgumentError`, or `OutOfMemory` if the message
+    /// cannot be allocated. Where it is not, `OutOfMemory` is the only error. After an error the bytes are dropped.
     pub fn try_new(bytes: Vec<u8>, len: usize) -> Result<Bitmap>
         ensures accepted { OnOk result (len ≤ 8 * vec_len bytes) }
         ensures ok { IfOk result (λ b. b ≡ record {
@@ -115,7 +115,7 @@ impl Bitmap {
         Bitmap::from_u8_vec(bytes, len)
     }
 
-    /// Returns a bitmap of the first `len` bits of `bytes`. It keeps the whole vector. Requires `len` to be at
+    /// Returns a bitmap of the first `len` bits of `bytes`. The bitmap keeps the whole vector. Requires `len` to be at
     /// most eight times the number of bytes; arrow2's documentation has the comparison the other way round.
     ///
     /// # Errors
@@ -137,7 +137,9 @@ impl Bitmap {
         Bitmap::from_counted(bytes, len, unset_bits)
     }
 
-    /// Returns the same, where the number of unset bits is known.
+    /// Returns the bitmap that [`Bitmap::from_u8_vec`] returns, but does not count its unset bits: the caller passes
+    /// their number as `unset_bits`. Requires `len` to be at most eight times the number of bytes, and `unset_bits` to
+    /// be the number of unset bits among the first `len`.
     pub(crate) fn from_counted(bytes: Vec<u8>, len: usize, unset_bits: usize) -> Result<Bitmap>
         requires inside { len ≤ 8 * vec_len bytes }
         requires counted { unset_bits ≡ falses (take len (bits bytes.items)) }
@@ -160,8 +162,8 @@ impl Bitmap {
         })
     }
 
-    /// Returns a bitmap of the first `len` bits of a copy of `bytes`. It keeps the whole copy. Requires `len` to
-    /// be at most eight times the number of bytes; arrow2's documentation has the comparison the other way round.
+    /// Returns a bitmap of the first `len` bits of a copy of `bytes`. The bitmap keeps the whole copy. Requires `len`
+    /// to be at most eight times the number of bytes; arrow2's documentation has the comparison the other way round.
     ///
     /// # Errors
     ///
@@ -176,7 +178,7 @@ impl Bitmap {
         Bitmap::from_u8_vec(Vec::from_slice(alloc, bytes)?, len)
     }
 
-    /// Returns `len` items, all false.
+    /// Returns a bitmap of `len` items, all false.
     ///
     /// # Errors
     ///
@@ -207,21 +209,21 @@ impl Bitmap {
         Bitmap::try_from(MutableBitmap::from_bools(alloc, items)?)
     }
 
-    /// Returns the bitmap of the items of an iterator that ends, in its order.
+    /// Returns the bitmap of the items of an iterator, in its order. Requires that the iterator ends.
     ///
-    /// Stands for arrow2's `FromIterator`, which allocates by the size hint. Here it is not read.
+    /// Stands for arrow2's `FromIterator`, which allocates by the size hint. Here the size hint is not read.
     ///
     /// # Errors
     ///
-    /// `Overflow`, only if the iterator may yield more than `usize::MAX` items, or `OutOfMemory`.
+    /// `Overflow` or `OutOfMemory`. `Overflow` is possible only if the iterator may yield more than `usize::MAX` items.
     pub fn try_from_iter<I: IntoIterator<Item = bool>>(alloc: Global, iter: I) -> Result<Bitmap>
         requires { IsFiniteIterable I.into_iter_gives I.IntoIter.can_next I.IntoIter.remaining iter }
-        // All items of a run of the iterator.
+        // The items are a whole sequence, from first to last, that the contract of the iterator allows it to yield.
         ensures items { IfOk result (λ b. (it : I.IntoIter) × I.into_iter_gives iter it
             × WholeRun I.IntoIter.next_gives it (λ p. items_of b ≡ p.items)) }
         ensures storage { IfOk result (λ b. IsPacked b) }
         ensures fits { IfOk result (λ b. length (items_of b) < 2 ^ 64) }
-        // `Overflow` comes only where a run may have too many items.
+        // `Overflow` comes only where the iterator may yield too many items.
         ensures overflow { IsErrOf result Error.Overflow →
             (it : I.IntoIter) × I.into_iter_gives iter it × MayYieldTooMany I.IntoIter.next_gives it }
         ensures only { IfErr result (λ e. (e ≡ Error.Overflow) ⊎ (e ≡ Error.OutOfMemory)) }
@@ -231,7 +233,7 @@ impl Bitmap {
 
     /// Returns the bitmap of the results of `f` for each number below `len`, in order.
     ///
-    /// Packs 64 results at a time. Requires that `f` may be called at each of these numbers. arrow2 has no such call:
+    /// Packs 64 results at a time. Requires that `f` may be called with each of these numbers. arrow2 has no such call:
     /// it collects an iterator.
     ///
     /// # Errors
@@ -245,7 +247,7 @@ impl Bitmap {
         // For any `f`: each item is a result that the contract of `f` allows at its index.
         ensures results { IfOk result (λ b. (index : ℕ) → index < len →
             F.post f index (slice_index_or (items_of b) index false)) }
-        // It is stored in canonical bytes, and the only error is `OutOfMemory`.
+        // The new bitmap is stored in canonical bytes, and the only error is `OutOfMemory`.
         ensures len { IfOk result (λ b. length (items_of b) ≡ len) }
         ensures storage { IfOk result (λ b. IsPacked b) }
         ensures only { IfErr result (λ e. e ≡ Error.OutOfMemory) }
@@ -254,9 +256,9 @@ impl Bitmap {
         Bitmap::try_from(MutableBitmap::from_vec(bytes, len))
     }
 
-    /// Returns the bitmap whose item i is the result of `f` for item i, of a comparison for example.
+    /// Returns the bitmap of the results of `f` for each item of a slice, in order. `f` is a comparison, for example.
     ///
-    /// Packs 64 results at a time. Requires that `f` may be called at each item. arrow2 has no such call: it collects
+    /// Packs 64 results at a time. Requires that `f` may be called with each item. arrow2 has no such call: it collects
     /// an iterator.
     ///
     /// # Errors
@@ -270,7 +272,7 @@ impl Bitmap {
         // For any `f`: each item is a result that the contract of `f` allows at its index.
         ensures results { IfOk result (λ b. (index : ℕ) → index < length items.now →
             IsResultAt items.now (F.post f) index (slice_index_or (items_of b) index false)) }
-        // It is stored in canonical bytes, and the only error is `OutOfMemory`.
+        // The new bitmap is stored in canonical bytes, and the only error is `OutOfMemory`.
         ensures len { IfOk result (λ b. length (items_of b) ≡ length items.now) }
         ensures storage { IfOk result (λ b. IsPacked b) }
         ensures only { IfErr result (λ e. e ≡ Error.OutOfMemory) }
@@ -286,10 +288,10 @@ impl Bitmap {
         )
     }
 
-    /// Returns the bitmap of the results of `f` for each item of one slice and the item of another at its index.
+    /// Returns the bitmap of the results of `f` for the two items at each index of two slices, in order.
     ///
-    /// Packs 64 results at a time. Requires equal lengths, and that `f` may be called at each pair. arrow2
-    /// has no such call: it collects an iterator.
+    /// Packs 64 results at a time. Requires equal lengths, and that `f` may be called with each pair. arrow2 has no
+    /// such call: it collects an iterator.
     ///
     /// # Errors
     ///
@@ -309,7 +311,7 @@ impl Bitmap {
         ensures results { IfOk result (λ b. (index : ℕ) → index < length left.now →
             IsPairResultAt left.now right.now (F.post f) index
             (slice_index_or (items_of b) index false)) }
-        // It is stored in canonical bytes, and the only error is `OutOfMemory`.
+        // The new bitmap is stored in canonical bytes, and the only error is `OutOfMemory`.
         ensures len { IfOk result (λ b. length (items_of b) ≡ length left.now) }
         ensures storage { IfOk result (λ b. IsPacked b) }
         ensures only { IfErr result (λ e. e ≡ Error.OutOfMemory) }
@@ -369,8 +371,8 @@ impl Bitmap {
         }
     }
 
-    /// Returns item `index`. Requires that it is below the length. arrow2 also accepts an index past the length, if its
-    /// bit is inside the bytes.
+    /// Returns item `index`. Requires that `index` is below the length. arrow2 also accepts an index past the length,
+    /// if its bit is inside the bytes.
     pub fn get_bit(&self, index: usize) -> bool
         requires below { index < length (items_of self.now) }
         ensures { result ≡ slice_index_or (items_of self.now) index false }
@@ -379,8 +381,8 @@ impl Bitmap {
         get_bit(self.bytes.as_slice(), self.offset + index)
     }
 
-    /// Returns the bytes that hold its items, the bit of the first byte at which the items begin, and the number of
-    /// items. The bit is below 8. For an empty bitmap whose bit is above 0, the bytes are the one byte with that bit.
+    /// Returns the bytes that hold its items, the bit offset of the first item in these bytes (below 8), and the number
+    /// of items. For an empty bitmap, the slice has no byte where the bit offset is 0, and one byte otherwise.
     pub fn as_slice(&self) -> (&[u8], usize, usize)
         ensures bytes { result.0.now ≡ part self.now.bytes (self.now.offset / 8)
             ((self.now.offset % 8 + self.now.len + 7) / 8) }
@@ -400,10 +402,10 @@ impl Bitmap {
         )
     }
 
-    /// Returns an iterator over the items by words of `T`, from the first item on. In the contract `spill` is the word
-    /// that `remainder` returns. Its lowest bits are the items after the last full word. Above them are the other bits
-    /// that are stored in the byte with the last item; where there is no full word, those of all bytes. The bits above
-    /// these are 0.
+    /// Returns an iterator over the items by words of `T`, from the first item on. In the contract, `spill` is the word
+    /// that `remainder` returns. Its lowest bits are the items after the last full word. The bits above are stored
+    /// bits. If there is a full word, they end with the byte of the last item; if there is none, they go on to the end
+    /// of the bytes. Bits that do not fit in the word are left out. All other bits of the word are 0.
     pub fn chunks<T: BitChunk>(&self) -> BitChunks<'_, T>
         ensures items { result.items ≡ items_of self.now }
         ensures fits { length (items_of self.now) < 2 ^ 64 }
@@ -427,8 +429,9 @@ impl Bitmap {
         self.unset_bits()
     }
 
-    /// Returns how many of the `len` items from item `offset` on are false. Counts them anew. Requires that they are
-    /// inside. arrow2 also accepts a range that ends past the length, if its bits are inside the bytes.
+    /// Returns how many of the `len` items from item `offset` on are false. Counts them at each call; no clause states
+    /// how many bytes it reads. Requires that `offset + len` is at most the length. arrow2 also accepts a range that
+    /// ends past the length, if its bits are inside the bytes.
     pub fn null_count_range(&self, offset: usize, len: usize) -> usize
         requires inside { offset + len ≤ length (items_of self.now) }
         ensures { result ≡ falses (part (items_of self.now) offset len) }
@@ -437,8 +440,8 @@ impl Bitmap {
         count_zeros(self.bytes.as_slice(), self.offset + offset, len)
     }
 
-    /// Keeps only the `len` items from item `offset` on, over the same bytes. Requires that they are inside. Does
-    /// not allocate.
+    /// Keeps only the `len` items from item `offset` on, over the same bytes. Requires that `offset + len` is at most
+    /// the length. Does not allocate.
     pub fn slice(&mut self, offset: usize, len: usize)
         requires inside { offset + len ≤ length (items_of self.old) }
         ensures storage { self.new ≡ record {
@@ -452,8 +455,9 @@ impl Bitmap {
         self.slice_counted(offset, len, &mut Reads::new());
     }
 
-    /// Slices as [`Bitmap::slice`] does, and adds to `reads` the number of bytes that it counts: at most `L / 16 + 4`,
-    /// where `L` is the number of items that the bitmap had before it was sliced.
+    /// Slices as [`Bitmap::slice`] does, and adds to `reads` the number of bytes that the call counts as read while it
+    /// counts false items: at most `L / 16 + 4`, where `L` is the number of items before the call. It is not proved
+    /// that the call reads no further byte.
     ///
     /// arrow2 counts no reads.
     pub fn slice_counted(&mut self, offset: usize, len: usize, reads: &mut Reads)
@@ -485,7 +489,8 @@ impl Bitmap {
         self.unset_bits = unset_bits;
     }
 
-    /// Returns the same as [`Bitmap::slice`], by value.
+    /// Returns the `len` items from item `offset` on, over the same bytes. Requires that `offset + len` is at most the
+    /// length. Does not allocate.
     pub fn sliced(self, offset: usize, len: usize) -> Bitmap
         requires inside { offset + len ≤ length (items_of self) }
         ensures storage { result ≡ record {
@@ -514,11 +519,12 @@ impl Bitmap {
         (self.bytes, self.offset, self.length, self.unset_bits)
     }
 
-    /// Returns, on the right, a bitmap that can be changed in place, if nobody shares the bytes and the items begin at
-    /// bit 0. Otherwise returns the bitmap as it was, on the left. Does not allocate.
+    /// Returns `Right` of a bitmap that can be changed in place, if the items begin at bit 0 and nobody shares the
+    /// bytes. Otherwise returns `Left` of the bitmap as it was. Does not allocate.
     ///
-    /// It is proved that the left side is the bitmap as it was, and that the right side has the same items and comes
-    /// only where they begin at bit 0. It is not proved that the right side comes whenever nobody shares the bytes.
+    /// It is proved that `Left` has the bitmap as it was, and that `Right` has the same items and comes only where they
+    /// begin at bit 0. It is not proved that `Right` comes whenever the items begin at bit 0 and nobody shares the
+    /// bytes.
     pub fn into_mut(self) -> Either<Bitmap, MutableBitmap>
         ensures { MatchEither result (λ b. b ≡ self) (λ m. (self.offset ≡ 0)
             × (m.items ≡ items_of self)) }
@@ -543,8 +549,8 @@ impl Bitmap {
         }
     }
 
-    /// Returns a bitmap with the same items that can be changed: over the same bytes if [`Bitmap::into_mut`] gives the
-    /// right side, otherwise a copy. arrow2 returns no `Result`.
+    /// Returns a bitmap that can be changed, with the same items: over the same bytes if [`Bitmap::into_mut`] returns
+    /// `Right`, otherwise over a copy. arrow2 returns no `Result`.
     ///
     /// # Errors
     ///
@@ -560,7 +566,7 @@ impl Bitmap {
     }
 }
 
-/// Returns a copy of the items, to be changed. Allocates once.
+/// Returns a bitmap that grows, with a copy of the items. Allocates once.
 fn copied(bitmap: &Bitmap) -> Result<MutableBitmap>
     ensures ok { IfOk result (λ m. m.items ≡ items_of bitmap.now) }
     ensures only { IfErr result (λ e. e ≡ Error.OutOfMemory) }
@@ -572,7 +578,8 @@ fn copied(bitmap: &Bitmap) -> Result<MutableBitmap>
     }
 }
 
-/// Returns a copy, which can be changed, of items that begin at a whole byte. Copies all bytes at once.
+/// Returns a bitmap that grows, with a copy of the items. Requires that they begin at a byte boundary. Copies all bytes
+/// at once.
 fn copy_bytes(bitmap: &Bitmap) -> Result<MutableBitmap>
     requires { bitmap.now.offset % 8 ≡ 0 }
     ensures ok { IfOk result (λ m. m.items ≡ items_of bitmap.now) }
@@ -583,7 +590,7 @@ fn copy_bytes(bitmap: &Bitmap) -> Result<MutableBitmap>
     Ok(MutableBitmap::from_vec(bytes, length))
 }
 
-/// Returns a copy of the items, to be changed, by words of 64 bits.
+/// Returns a bitmap that grows, with a copy of the items. Copies 64 bits at a time.
 fn copy_items(bitmap: &Bitmap) -> Result<MutableBitmap>
     ensures ok { IfOk result (λ m. m.items ≡ items_of bitmap.now) }
     ensures only { IfErr result (λ e. e ≡ Error.OutOfMemory) }
@@ -610,7 +617,7 @@ impl<'a> IntoIterator for &'a Bitmap {
     }
 }
 
-/// Equality of the lists, whatever their bytes, offset or padding bits are.
+/// Two bitmaps are equal exactly if their items are, whatever their bytes, bit offsets and padding bits are.
 impl PartialEq for Bitmap {
     ghost eq = { on items_of (pointwise beq) };
 
@@ -650,7 +657,8 @@ impl Clone for Bitmap {
     }
 }
 
-/// Keeps the bytes. The only error is `OutOfMemory`, and the items are then dropped; arrow2 has `From`, and aborts.
+/// Makes a bitmap over the same bytes. The only error is `OutOfMemory`, after which the items are dropped. arrow2 has
+/// `From`, which aborts if memory runs out.
 impl TryFrom<MutableBitmap> for Bitmap {
     type Error = Error;
 
@@ -663,7 +671,8 @@ impl TryFrom<MutableBitmap> for Bitmap {
     }
 }
 
-/// The text of the bits of [`Bitmap::as_slice`] by [`arrow2_bits::fmt::fmt`].
+/// Writes the items as [`arrow2_bits::fmt::fmt`] does for the bytes, the bit offset and the length that
+/// [`Bitmap::as_slice`] returns.
 impl fmt::Debug for Bitmap {
     ghost debug_output = { λ b. Some (shown
         (part b.bytes (b.offset / 8) ((b.offset % 8 + b.len + 7) / 8)) (b.offset % 8) b.len) };

@@ -8,7 +8,7 @@ use crate::immutable::Bitmap;
 use std::alloc::AllocError;
 use std::marker::Model;
 
-/// The items of a [`Bitmap`] that are still to come, from both ends.
+/// An iterator over the items of a [`Bitmap`], from both ends: contracts see the list of the items still to come.
 ///
 /// Differs from arrow2: `nth` is the standard library's, over `next`.
 #[derive(Debug, Drop)]
@@ -87,8 +87,8 @@ impl DoubleEndedIterator for IntoIter {
     }
 }
 
-/// The same items still to come, over the same bytes. Does not allocate: in the code it fails only if the reference
-/// count would overflow.
+/// Returns an iterator with the same items still to come, over the same bytes. Does not allocate: in the code it fails
+/// only if the reference count would overflow.
 impl Clone for IntoIter {
     ghost is_clone = { λ i copy. copy ≡ i };
 

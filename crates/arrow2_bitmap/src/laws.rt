@@ -1,4 +1,4 @@
-//! Laws of the bytes of bitmaps that grow. Each function is its law and nothing else.
+//! Laws of the bytes of bitmaps that grow. The contract of each function is a law, and its body is empty.
 ghost use Rattle.std.specs.Prelude.{◌≡◌, ◌↔◌, ◌++◌, ℕ, List, Bool, length, take, drop};
 ghost use Rattle.arrow2_model.specs.Canonical.{canonical_bytes};
 ghost use Rattle.arrow2_bitmap.specs.Packed.{packed_storage};
@@ -11,8 +11,8 @@ pub fn bytes_tell_growing_bitmaps_apart()
         (m.items ≡ n.items) ↔ (canonical_bytes m.items ≡ canonical_bytes n.items) }
 {}
 
-/// A frozen bitmap has the items of the one that grew. Two growing bitmaps are equal exactly if they are frozen to
-/// equal storage: to equal bytes, which begin at bit 0, and equal lengths.
+/// A bitmap frozen from one that grows has the same items. Two growing bitmaps are equal exactly if they are frozen to
+/// equal storage: equal bytes and equal lengths, with the items from bit 0 on.
 #[tactic(auto, using(crate::proofs::Bytes::canonical))]
 pub fn equal_items_freeze_to_equal_bytes()
     ensures items { (m : GrowingBitmap) (a : BitmapStorage) →

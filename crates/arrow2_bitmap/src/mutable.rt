@@ -33,8 +33,8 @@ use std::marker::Model;
 
 /// A bitmap that grows: contracts see its items and its capacity.
 ///
-/// Its bytes are always exactly those that its items need, and padding bits are false. In arrow2 spare bytes and
-/// padding bits of a vector that was handed in stay.
+/// Its bytes are always exactly those that its items need, and padding bits are false. arrow2 keeps the spare bytes and
+/// the padding bits of a vector that it is given.
 ///
 /// # Examples
 ///
@@ -70,14 +70,14 @@ impl MutableBitmap {
         }
     }
 
-    /// Returns a bitmap of the first `len` bits of `bytes`, in their vector. It cuts spare bytes off, clears padding
-    /// bits and keeps the capacity. Does not allocate where the bytes have at least `len` bits. In arrow2 spare
-    /// bytes stay, and `push` may write into the wrong byte.
+    /// Returns a bitmap of the first `len` bits of `bytes`, over the same vector. Cuts spare bytes off, clears padding
+    /// bits and keeps the capacity. Does not allocate where the bytes have at least `len` bits. In arrow2 spare bytes
+    /// stay, and `push` may write into the wrong byte.
     ///
     /// # Errors
     ///
-    /// `InvalidArgumentError` exactly if `len` is above eight times the number of bytes, or `OutOfMemory` if the
-    /// message cannot be allocated. There is no other error. After an error the bytes are dropped.
+    /// Where `len` is above eight times the number of bytes: `InvalidArgumentError`, or `OutOfMemory` if the message
+    /// cannot be allocated. Where it is not, there is no error. After an error the bytes are dropped.
     pub fn try_new(bytes: Vec<u8>, len: usize) -> Result<MutableBitmap>
         ensures accepted { IsOk result ↔ (len ≤ 8 * vec_len bytes) }
         ensures ok { IfOk result (λ m. m.items ≡ take len (bits bytes.items)) }
@@ -90,9 +90,9 @@ impl MutableBitmap {
         Ok(MutableBitmap::from_vec(bytes, len))
     }
 
-    /// Returns a bitmap of the first `len` bits of `bytes`, in their vector. It cuts spare bytes off, clears padding
-    /// bits and keeps the capacity. Requires `len` to be at most eight times the number of bytes. Does not allocate.
-    /// In arrow2 spare bytes stay, and `push` may write into the wrong byte.
+    /// Returns a bitmap of the first `len` bits of `bytes`, over the same vector. Cuts spare bytes off, clears padding
+    /// bits and keeps the capacity. Requires `len` to be at most eight times the number of bytes. Does not allocate. In
+    /// arrow2 spare bytes stay, and `push` may write into the wrong byte.
     pub fn from_vec(bytes: Vec<u8>, len: usize) -> MutableBitmap
         requires inside { len ≤ 8 * vec_len bytes }
         ensures items { result.items ≡ take len (bits bytes.items) }
@@ -119,7 +119,7 @@ impl MutableBitmap {
         Ok(MutableBitmap { bits })
     }
 
-    /// Returns `len` items, all false.
+    /// Returns a bitmap of `len` items, all false.
     ///
     /// # Errors
     ///
@@ -133,7 +133,7 @@ impl MutableBitmap {
         Ok(MutableBitmap::from_vec(zeros, len))
     }
 
-    /// Returns `len` items, all true.
+    /// Returns a bitmap of `len` items, all true.
     ///
     /// # Errors
     ///
@@ -147,23 +147,23 @@ impl MutableBitmap {
         Ok(MutableBitmap::from_vec(ones, len))
     }
 
-    /// Returns the bitmap of the items of an iterator that ends, in its order.
+    /// Returns the bitmap of the items of an iterator, in its order. Requires that the iterator ends.
     ///
-    /// Stands for arrow2's `FromIterator`, which allocates by the size hint. Here it is not read.
+    /// Stands for arrow2's `FromIterator`, which allocates by the size hint. Here the size hint is not read.
     ///
     /// # Errors
     ///
-    /// `Overflow`, only if the iterator may yield more than `usize::MAX` items, or `OutOfMemory`.
+    /// `Overflow` or `OutOfMemory`. `Overflow` is possible only if the iterator may yield more than `usize::MAX` items.
     pub fn try_from_iter<I: IntoIterator<Item = bool>>(
         alloc: Global,
         iter: I,
     ) -> Result<MutableBitmap>
         requires { IsFiniteIterable I.into_iter_gives I.IntoIter.can_next I.IntoIter.remaining iter }
-        // All items of a run of the iterator.
+        // The items are a whole sequence, from first to last, that the contract of the iterator allows it to yield.
         ensures items { IfOk result (λ m. (it : I.IntoIter) × I.into_iter_gives iter it
             × WholeRun I.IntoIter.next_gives it (λ p. m.items ≡ p.items)) }
         ensures fits { IfOk result (λ m. length m.items < 2 ^ 64) }
-        // `Overflow` comes only where a run may have too many items.
+        // `Overflow` comes only where the iterator may yield too many items.
         ensures overflow { IsErrOf result Error.Overflow →
             (it : I.IntoIter) × I.into_iter_gives iter it × MayYieldTooMany I.IntoIter.next_gives it }
         ensures only { IfErr result (λ e. (e ≡ Error.Overflow) ⊎ (e ≡ Error.OutOfMemory)) }
@@ -184,13 +184,12 @@ impl MutableBitmap {
         Ok(MutableBitmap::from_vec(packed(alloc, items)?, items.len()))
     }
 
-    /// Adds one item at the end. Below the capacity it does not allocate. arrow2 returns no `Result`, and its length
-    /// may wrap.
+    /// Appends one item. Below the capacity it does not allocate. arrow2 returns no `Result`, and its length may wrap.
     ///
     /// # Errors
     ///
-    /// `Overflow` exactly where the length is `usize::MAX`, else `OutOfMemory` alone.
-    /// After either the bitmap holds the items that it held.
+    /// `Overflow` exactly where the length is `usize::MAX`, else `OutOfMemory` alone. After either error, the bitmap
+    /// holds the items that it held.
     pub fn push(&mut self, value: bool) -> Result<()>
         ensures { Appends error_of result self.old self.new (value ∷ []) }
     {
@@ -203,8 +202,8 @@ impl MutableBitmap {
     ///
     /// # Errors
     ///
-    /// `Overflow` exactly where the new length would pass `usize::MAX`, else `OutOfMemory` alone.
-    /// After either the bitmap holds the items that it held.
+    /// `Overflow` exactly where the new length would pass `usize::MAX`, else `OutOfMemory` alone. After either error,
+    /// the bitmap holds the items that it held.
     pub fn extend_constant(&mut self, additional: usize, value: bool) -> Result<()>
         ensures { Appends error_of result self.old self.new (replicate additional value) }
     {
@@ -212,14 +211,14 @@ impl MutableBitmap {
         Ok(())
     }
 
-    /// Appends the `len` bits from bit `offset` of `slice` on. Requires that they are inside. Within the capacity it
-    /// does not allocate, else it allocates once, before it writes. arrow2 returns no `Result`, and copies the padding
-    /// bits of the last byte.
+    /// Appends the `len` bits from bit `offset` of `slice` on. Requires that `offset + len` is at most eight times the
+    /// number of bytes. Within the capacity it does not allocate, else it allocates once, before it writes. arrow2
+    /// returns no `Result`, and copies the padding bits of the last byte.
     ///
     /// # Errors
     ///
-    /// `Overflow` exactly where the new length would pass `usize::MAX`, else `OutOfMemory` alone.
-    /// After either the bitmap holds the items that it held.
+    /// `Overflow` exactly where the new length would pass `usize::MAX`, else `OutOfMemory` alone. After either error,
+    /// the bitmap holds the items that it held.
     pub fn extend_from_slice(&mut self, slice: &[u8], offset: usize, len: usize) -> Result<()>
         requires inside { offset + len ≤ 8 * length slice.now }
         ensures { Appends error_of result self.old self.new (part (bits slice.now) offset len) }
@@ -233,8 +232,8 @@ impl MutableBitmap {
     ///
     /// # Errors
     ///
-    /// `Overflow` exactly where the new length would pass `usize::MAX`, else `OutOfMemory` alone.
-    /// After either the bitmap holds the items that it held.
+    /// `Overflow` exactly where the new length would pass `usize::MAX`, else `OutOfMemory` alone. After either error,
+    /// the bitmap holds the items that it held.
     pub fn extend_from_bools(&mut self, items: &[bool]) -> Result<()>
         ensures { Appends error_of result self.old self.new items.now }
     {
@@ -247,8 +246,8 @@ impl MutableBitmap {
     ///
     /// # Errors
     ///
-    /// `Overflow` exactly where the new length would pass `usize::MAX`, else `OutOfMemory` alone.
-    /// After either the bitmap holds the items that it held.
+    /// `Overflow` exactly where the new length would pass `usize::MAX`, else `OutOfMemory` alone. After either error,
+    /// the bitmap holds the items that it held.
     pub fn extend_from_bitmap(&mut self, bitmap: &Bitmap) -> Result<()>
         ensures { Appends error_of result self.old self.new (items_of bitmap.now) }
     {
@@ -261,11 +260,11 @@ impl MutableBitmap {
     ///
     /// # Errors
     ///
-    /// `Overflow` exactly where the length and `additional` pass `usize::MAX` together, else `OutOfMemory` alone.
-    /// After either the bitmap holds the items that it held.
+    /// `Overflow` exactly where the length plus `additional` would pass `usize::MAX`, else `OutOfMemory` alone. After
+    /// either error, the bitmap holds the items that it held.
     pub fn reserve(&mut self, additional: usize) -> Result<()>
-        // The items stay, and `additional` more fit; that the capacity holds the items (`within_capacity`) is a fact of
-        // the type.
+        // The items stay, and `additional` more fit. `within_capacity` holds for every `MutableBitmap`: the length is
+        // at most the capacity.
         ensures items { self.new.items ≡ self.old.items }
         ensures ok { OnOk result (length self.old.items + additional ≤ self.new.capacity) }
         ensures within_capacity { length self.old.items ≤ self.old.capacity }
@@ -294,7 +293,7 @@ impl MutableBitmap {
         Ok(())
     }
 
-    /// Returns the items as a validity: a bitmap that keeps the bytes, or `None` where no item is false.
+    /// Returns the items as a validity bitmap over the same bytes, or `None` where no item is false.
     ///
     /// Stands for arrow2's `From<MutableBitmap>` for `Option<Bitmap>`.
     ///
@@ -317,7 +316,7 @@ impl MutableBitmap {
         Ok(Some(Bitmap::from_counted(bytes, length, unset_bits)?))
     }
 
-    /// Takes the last item off and gives it back, or `None` where there is none.
+    /// Removes the last item and returns it, or returns `None` where there is none.
     pub fn pop(&mut self) -> Option<bool>
         ensures last { MatchOption result (self.old.items ≡ []) (λ item.
             self.old.items ≡ self.new.items ++ item ∷ []) }
@@ -327,8 +326,8 @@ impl MutableBitmap {
         self.bits.pop()
     }
 
-    /// Returns item `index`. Requires that it is below the length. arrow2 also accepts an index past the length, if its
-    /// bit is inside the bytes.
+    /// Returns item `index`. Requires that `index` is below the length. arrow2 also accepts an index past the length,
+    /// if its bit is inside the bytes.
     pub fn get(&self, index: usize) -> bool
         requires below { index < length self.now.items }
         ensures { result ≡ slice_index_or self.now.items index false }
@@ -337,8 +336,8 @@ impl MutableBitmap {
         get_bit(self.as_slice(), index)
     }
 
-    /// Writes item `index`, and leaves every other. Requires that it is below the length. arrow2 also accepts an index
-    /// past the length, if its bit is inside the bytes.
+    /// Sets item `index` to `value`. No other item changes. Requires that `index` is below the length. arrow2 also
+    /// accepts an index past the length, if its bit is inside the bytes.
     pub fn set(&mut self, index: usize, value: bool)
         requires below { index < length self.old.items }
         ensures items { self.new.items ≡ slice_set self.old.items index value }
@@ -348,7 +347,7 @@ impl MutableBitmap {
         self.bits.set(index, value);
     }
 
-    /// Takes all items off.
+    /// Removes all items. The capacity stays.
     pub fn clear(&mut self)
         ensures items { self.new.items ≡ [] }
         ensures capacity { self.new.capacity ≡ self.old.capacity }
@@ -364,7 +363,7 @@ impl MutableBitmap {
         BitmapIter::within(self.as_slice(), 0, self.len())
     }
 
-    /// Returns the capacity in items, at most `usize::MAX`, where arrow2's may wrap.
+    /// Returns the capacity in items, at most `usize::MAX`. arrow2's capacity may wrap.
     pub fn capacity(&self) -> usize
         ensures capacity { result ≡ self.now.capacity }
         ensures within_capacity { length self.now.items ≤ result }
@@ -396,7 +395,7 @@ impl MutableBitmap {
         self.len() == 0
     }
 
-    /// Returns the number of unset bits. Counts them anew.
+    /// Returns the number of unset bits. Counts them at each call.
     pub fn unset_bits(&self) -> usize
         ensures { result ≡ falses self.now.items }
     {
@@ -459,7 +458,7 @@ impl<'a> IntoIterator for &'a MutableBitmap {
     }
 }
 
-/// Equality of the lists. It compares the bytes, which are equal exactly if the lists are.
+/// Two bitmaps are equal exactly if their items are. Compares the lengths, then the bytes.
 impl PartialEq for MutableBitmap {
     ghost eq = { on (λ m. m.items) (pointwise beq) };
 
@@ -484,7 +483,7 @@ fn filled(alloc: Global, byte: u8, count: usize) -> std::result::Result<Vec<u8>,
     vec![in alloc; byte; count]
 }
 
-/// The text of its bytes from bit 0 on by [`arrow2_bits::fmt::fmt`].
+/// Writes the items as [`arrow2_bits::fmt::fmt`] does, from bit 0 of the first byte on.
 impl fmt::Debug for MutableBitmap {
     ghost debug_output = { λ m. Some (shown (canonical_bytes m.items) 0 (length m.items)) };
 

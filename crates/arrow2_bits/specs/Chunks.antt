@@ -3,7 +3,7 @@ use Rattle.std.specs.Prelude.{◌≡◌, ℕ, ◌+◌, ◌*◌, ◌<◌, ◌≤�
 use Rattle.arrow2_model.specs.Bits.{bits, unnum}
 use Rattle.arrow2_model.specs.Parts.{part}
 
--- the next of count words begins at bit shift, tail bits come after them, and the lowest bits of a word are these
+-- count words are still to come, from bit shift on; tail bits come after these words, and are the lowest bits of `word`
 pub record IsChunkCursor (w : ℕ) (bytes : List ℕ) (shift count tail word : ℕ) : Type 0 where
   pub position : shift < 8
   pub within : shift + (w * count + tail) ≤ 8 * length bytes

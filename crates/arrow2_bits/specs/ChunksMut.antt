@@ -4,8 +4,8 @@ use Rattle.std.specs.Borrow.{MutBor}
 use Rattle.arrow2_model.specs.Buffers.{overwritten}
 use Rattle.arrow2_model.specs.Parts.{part}
 
--- the iterator: the bytes of its chunks, the index of the next chunk there, the number of bytes of a chunk, the bytes
--- after the chunks, and how many bits of those count
+-- the iterator: the bytes of its chunks, the index of the next chunk in them, the number of bytes of a chunk, the bytes
+-- of the remainder, and the number of bits of the remainder
 pub record ChunkCursorMut : Type 0 where
   pub bytes : List ℕ
   pub at : ℕ
@@ -25,11 +25,12 @@ next_chunk cursor = part cursor.bytes cursor.at cursor.size
 abbrev pub next_len : ChunkCursorMut → ℕ
 next_len cursor = if nat_le cursor.size (length cursor.bytes - cursor.at) then cursor.size else 0
 
--- the iterator past its next n bytes, with these written over them
+-- the iterator moved past its next n bytes, over which `written` is written
 abbrev pub past : ChunkCursorMut → ℕ → List ℕ → ChunkCursorMut
 past cursor n written = record cursor { bytes = overwritten cursor.bytes cursor.at written; at = cursor.at + n }
 
--- one step of the iterator: the next chunk is given up, with the bytes before it
+-- one call of `next`: it returns the next chunk, and the iterator keeps neither this chunk nor the bytes before it; or
+-- no chunk is left, and the iterator stays as it was
 abbrev pub GivesChunk : ChunkCursorMut → Option (MutBor (List ℕ)) → ChunkCursorMut → Type 0
 GivesChunk s r t = MatchOption r ((chunks_left s ≡ 0) × (t ≡ s))
     (λ x. (x.now ≡ next_chunk s) × (chunks_left s ≡ chunks_left t + 1) × (t ≡ record s { bytes = drop s.size (drop s.at s.bytes); at = 0 }))

@@ -16,26 +16,27 @@ use std::marker::Model;
 ///
 /// Differs from arrow2: it needs no `TrustedLen`.
 pub trait BitChunkIterExact<B: BitChunk>: Iterator<Item = B> {
-    // The items still to come, those of the remainder included, and the word of the remainder.
+    // The items still to come, including those of the remainder, and the word of the remainder.
     ghost cursor: { Self → WordCursor };
 
-    /// Returns the word in which the remainder stands. The bits after it are not masked: the padding bits of the byte
-    /// that holds the last item, or everything that is stored there where a [`BitChunks`] has no full word. So mask it
-    /// to [`BitChunkIterExact::remainder_len`] bits.
+    /// Returns the word that holds the remainder in its lowest bits. The bits above the remainder are not masked. They
+    /// are the padding bits of the byte that holds the last item; where a [`BitChunks`] was made of fewer bits than a
+    /// word has, they are whatever bits are stored after the remainder. So mask the word to
+    /// [`BitChunkIterExact::remainder_len`] bits.
     fn remainder(&self) -> B
         ensures spill { B.BitChunk.number result ≡ (cursor self.now).spill }
         ensures rest { take (length (rest B.BitChunk.WIDTH (cursor self.now).items))
             (unnum B.BitChunk.WIDTH (B.BitChunk.number result))
             ≡ rest B.BitChunk.WIDTH (cursor self.now).items };
 
-    /// Returns the number of items of the remainder: fewer than a word. The number of all items still to come fits a
-    /// `usize`.
+    /// Returns the number of items of the remainder: fewer than a word has. The number of all items still to come fits
+    /// a `usize`.
     fn remainder_len(&self) -> usize
         ensures rest { result ≡ length (rest B.BitChunk.WIDTH (cursor self.now).items) }
         ensures short { result < B.BitChunk.WIDTH }
         ensures fits { length (cursor self.now).items < 2 ^ 64 };
 
-    /// The items of the remainder.
+    /// Returns an iterator over the items of the remainder.
     final fn remainder_iter(&self) -> BitChunkIter<B>
         ensures { result ≡ rest B.BitChunk.WIDTH (cursor self.now).items }
     {
@@ -103,16 +104,17 @@ impl<'a, T: BitChunk> BitChunks<'a, T> {
         }
     }
 
-    /// Returns the number of full words still to come. In arrow2 one fewer, where any is left.
+    /// Returns the number of full words still to come. arrow2's result is one fewer where any full word is left.
     pub fn len(&self) -> usize
         ensures { result ≡ length (full_words T.BitChunk.WIDTH self.now.items) }
     {
         self.count
     }
 
-    /// Returns the word in which the remainder stands. The bits after it are not masked: the padding bits of the byte
-    /// that holds the last item, or everything that is stored there where there is no full word. So mask it to
-    /// [`BitChunks::remainder_len`] bits.
+    /// Returns the word that holds the remainder in its lowest bits. The bits above the remainder are not masked. They
+    /// are the padding bits of the byte that holds the last item; where the iterator was made of fewer bits than a word
+    /// has, they are whatever bits are stored after the remainder. So mask the word to [`BitChunks::remainder_len`]
+    /// bits.
     pub fn remainder(&self) -> T
         ensures spill { T.BitChunk.number result ≡ self.now.spill }
         ensures rest { take (length (rest T.BitChunk.WIDTH self.now.items))
@@ -122,8 +124,8 @@ impl<'a, T: BitChunk> BitChunks<'a, T> {
         self.remainder
     }
 
-    /// Returns the number of items of the remainder: fewer than a word. The number of all items still to come fits a
-    /// `usize`.
+    /// Returns the number of items of the remainder: fewer than a word has. The number of all items still to come fits
+    /// a `usize`.
     pub fn remainder_len(&self) -> usize
         ensures rest { result ≡ length (rest T.BitChunk.WIDTH self.now.items) }
         ensures short { result < T.BitChunk.WIDTH }
@@ -188,8 +190,8 @@ impl<'a, T: BitChunk> ExactSizeIterator for BitChunks<'a, T> {
     }
 }
 
-/// Returns the bytes of the remainder: all of them where it begins at the first, else those from byte `start` up to the
-/// one that holds the last of `len` bits from bit `shift` on.
+/// Returns the bytes in which the remainder is stored: all bytes where `start` is 0, else those from byte `start` up to
+/// the byte that holds the last of the `len` bits from bit `shift` on.
 fn spilled(bytes: &[u8], shift: usize, len: usize, start: usize) -> &[u8]
     requires position { shift < 8 }
     requires within { shift + len ≤ 8 * length bytes.now }

@@ -8,7 +8,7 @@ use arrow2_chunk::bit_chunk::BitChunk;
 /// Returns the word of the bits from bit `shift` on. Requires that the bits are inside the bytes, and that `shift` is
 /// below 8.
 ///
-/// It takes one load where `shift` is 0, else two that overlap, two shifts and an or.
+/// Takes one load where `shift` is 0, else two loads that overlap, two shifts and an or.
 pub(crate) fn chunk_at<T: BitChunk>(bytes: &[u8], shift: usize) -> T
     requires position { shift < 8 }
     requires within { shift + T.BitChunk.WIDTH ≤ 8 * length bytes.now }
@@ -39,8 +39,8 @@ pub(crate) fn padded_chunk_at<T: BitChunk>(bytes: &[u8], shift: usize) -> T
     chunk_at(&padded, shift)
 }
 
-/// Returns the word of the bits from bit `offset + position` on, where bits past the bytes count as false. Their sum
-/// need not fit a `usize`. Requires that the first is inside.
+/// Returns the word of the bits from bit `offset + position` on, where bits past the bytes count as false. The sum need
+/// not fit a `usize`. Requires that the first bit is inside the bytes.
 pub fn word_from(bytes: &[u8], offset: usize, position: usize) -> u64
     requires { offset + position < 8 * length bytes.now }
     ensures { (i : ℕ) → i < 64 →

@@ -53,11 +53,11 @@ impl<'a, T: BitChunk> BitChunksExact<'a, T> {
         BitChunksExact::len(self) == 0
     }
 
-    /// Returns the word in which the remainder stands. The bits after it are the padding bits of the byte that holds
-    /// the last item, and then false, so mask it to [`BitChunkIterExact::remainder_len`] bits.
+    /// Returns the word that holds the remainder in its lowest bits. The bits above the remainder are the padding bits
+    /// of the byte that holds the last item, then false. So mask the word to [`BitChunkIterExact::remainder_len`] bits.
     ///
-    /// It is 0 where the items fill whole words, and may be 0 elsewhere too. arrow2's documentation states: exactly
-    /// where there are fewer than 8 items.
+    /// The word is 0 where the items fill whole words, and may be 0 elsewhere too. arrow2's documentation states that
+    /// it is 0 exactly where there are fewer than 8 items.
     pub fn remainder(&self) -> T
         ensures spill { T.BitChunk.number result ≡ self.now.spill }
         ensures rest { take (length (rest T.BitChunk.WIDTH self.now.items))

@@ -13,10 +13,10 @@ use arrow2_chunk::bit_chunk::BitChunk;
 use std::marker::{Model, PhantomData};
 use std::mem;
 
-/// The iterator over the first bits of bytes by mutable chunks, each with the bytes of one `T`.
+/// An iterator over the first bits of bytes by mutable chunks, each of `T::SIZE` bytes.
 ///
-/// Contracts see the bytes of all its chunks as they were written up to now, the index of the next chunk there, and the
-/// bytes of the remainder.
+/// Contracts see the bytes of the chunks as written so far, the index of the next chunk in these bytes, the number of
+/// bytes of a chunk, the bytes of the remainder, and the number of bits of the remainder.
 #[derive(Debug, Drop)]
 pub struct BitChunksExactMut<'a, T> {
     bytes: &'a mut [u8],
@@ -46,10 +46,10 @@ impl<'a, T> Model for BitChunksExactMut<'a, T> {
 }
 
 impl<'a, T: BitChunk> BitChunksExactMut<'a, T> {
-    /// Returns an iterator over the first `len` bits. Requires that they are inside the bytes, where arrow2 panics.
+    /// Returns an iterator over the first `len` bits. Requires that they are inside the bytes; arrow2 panics otherwise.
     pub fn new(bytes: &'a mut [u8], len: usize) -> BitChunksExactMut<'a, T>
         requires { len ≤ 8 * length bytes.old }
-        // The full chunks, of which the first comes next.
+        // The bytes of the full chunks. The first chunk comes next.
         ensures bytes { result.bytes ≡ take
             (T.NativeType.SIZE * (len / 8 / T.NativeType.SIZE)) bytes.old }
         ensures at { result.at ≡ 0 }
@@ -79,13 +79,13 @@ impl<'a, T: BitChunk> BitChunksExactMut<'a, T> {
 impl<'a, T> BitChunksExactMut<'a, T> {
     ghost use Rattle.arrow2_bits.specs.LentChunk.{LendsBytes, LendsPart, LendsNext, LendsNextIf, LendsRemainder};
 
-    /// Returns the next chunk, to be written, or `None` where none is left. Afterwards the iterator is past the chunk
-    /// and holds the bytes that were written there, and every other byte is as it was.
+    /// Returns the next chunk as a mutable slice, or `None` where no chunk is left. Afterwards the iterator is past the
+    /// chunk and holds the bytes that were written through the slice, and every other byte is as it was.
     ///
-    /// A caller that is proved uses [`BitChunksExactMut::change_next`], since it learns nothing of a loan inside an
-    /// `Option`.
+    /// A caller with a contract of its own uses [`BitChunksExactMut::change_next`], since the prover knows nothing of a
+    /// `&mut` inside an `Option`.
     ///
-    /// arrow2 has the iterator alone.
+    /// arrow2 has only the iterator's `next`.
     pub fn next_chunk(&mut self) -> Option<&mut [u8]>
         ensures* writes_back { sem 𝓛 (LendsNextIf T.row self.entry result) }
         ensures chunk { MatchOption result (chunks_left self.old ≡ 0) (λ r.
@@ -99,10 +99,10 @@ impl<'a, T> BitChunksExactMut<'a, T> {
     }
 
     /// Changes the next chunk in place by `change`, and returns whether there was one. Afterwards the iterator is past
-    /// the chunk, and every other byte is as it was. Requires that `change` may be called on the chunk, where there is
-    /// one.
+    /// the chunk, and every other byte is as it was. If there is a next chunk, requires that `change` may be called on
+    /// it.
     ///
-    /// arrow2 has the iterator alone.
+    /// arrow2 has only the iterator's `next`.
     pub fn change_next<F: FnOnce(&mut [u8])>(&mut self, change: F) -> bool
         requires { 0 < chunks_left self.old →
             FnOnceTakesAtMut F.FnOnce change (next_chunk self.old) }
@@ -121,7 +121,7 @@ impl<'a, T> BitChunksExactMut<'a, T> {
         true
     }
 
-    /// Returns the bytes after the chunks up to the one that holds the last bit, to be written.
+    /// Returns the remainder as a mutable slice: the bytes after the chunks, up to the byte that holds the last bit.
     pub fn remainder(&mut self) -> &mut [u8]
         ensures bytes { result.now ≡ self.old.remainder }
         ensures* writes_back { sem 𝓛 (LendsRemainder T.row self.entry result) }
@@ -129,7 +129,7 @@ impl<'a, T> BitChunksExactMut<'a, T> {
         &mut *self.remainder
     }
 
-    /// Returns the number of bits of the remainder: fewer than a chunk. arrow2 takes `&mut self`.
+    /// Returns the number of bits of the remainder: fewer than a chunk has. arrow2 takes `&mut self`.
     pub fn remainder_len(&self) -> usize
         ensures bits { result ≡ self.now.remainder_len }
         ensures short { result < 8 * self.now.size }
@@ -137,7 +137,8 @@ impl<'a, T> BitChunksExactMut<'a, T> {
         self.remainder_len
     }
 
-    /// Returns the next chunk, to be written, and no bytes where none is left. The iterator moves past it.
+    /// Returns the next chunk as a mutable slice, or an empty slice where no chunk is left. The iterator moves past the
+    /// chunk.
     fn lend_next(&mut self) -> &mut [u8]
         ensures some { (0 < length result.now) ↔ (0 < chunks_left self.old) }
         ensures len { length result.now ≡ next_len self.old }
@@ -150,7 +151,7 @@ impl<'a, T> BitChunksExactMut<'a, T> {
         self.part_mut(start, start + size)
     }
 
-    /// Returns the bytes from `start` up to `end`, to be written.
+    /// Returns the bytes of the chunks from byte `start` up to byte `end`, as a mutable slice.
     fn part_mut(&mut self, start: usize, end: usize) -> &mut [u8]
         requires order { start ≤ end }
         requires within { end ≤ length self.old.bytes }
@@ -160,7 +161,7 @@ impl<'a, T> BitChunksExactMut<'a, T> {
         &mut self.bytes_mut()[start..end]
     }
 
-    /// Returns the bytes of all chunks, to be written.
+    /// Returns the bytes of the chunks as a mutable slice.
     fn bytes_mut(&mut self) -> &mut [u8]
         ensures bytes { result.now ≡ self.old.bytes }
         ensures* writes_back { sem 𝓛 (LendsBytes T.row self.entry result) }
@@ -168,7 +169,7 @@ impl<'a, T> BitChunksExactMut<'a, T> {
         &mut *self.bytes
     }
 
-    /// Returns the number of bytes that are lent next: a chunk, or none at the end.
+    /// Returns the number of bytes that are lent next: those of a chunk, or 0 at the end.
     fn next_len(&self) -> usize
         ensures len { result ≡ next_len self.now }
         ensures some { (0 < result) ↔ (0 < chunks_left self.now) }

@@ -10,8 +10,8 @@ use crate::stored::Stored;
 use arrow2_chunk::bit_chunk::BitChunk;
 use std::simd::prelude::*;
 
-/// Returns how many of the `len` bits from bit `offset` on are not set. Requires that they are inside the bytes, or
-/// that `len` is 0; arrow2's documentation also excludes ranges that end with the bytes.
+/// Returns how many of the `len` bits from bit `offset` on are not set. Unless `len` is 0, requires that they are
+/// inside the bytes. arrow2's documentation also excludes a range that ends where the bytes end.
 pub fn count_zeros(bytes: &[u8], offset: usize, len: usize) -> usize
     requires { 0 < len → offset + len ≤ 8 * length bytes.now }
     ensures { result ≡ falses (part (bits bytes.now) offset len) }
@@ -19,8 +19,8 @@ pub fn count_zeros(bytes: &[u8], offset: usize, len: usize) -> usize
     count_zeros_counted(&mut Stored::new(bytes, Reads::new()), offset, len)
 }
 
-/// Returns the same as [`count_zeros`], of bytes whose reads are counted: it fetches each byte that holds one of the
-/// bits, once. Requires that the bits are inside the bytes, or that `len` is 0. arrow2 counts no reads.
+/// Returns the same as [`count_zeros`], for bytes whose reads are counted. Each byte that holds one of the bits is
+/// fetched once. Unless `len` is 0, requires that the bits are inside the bytes. arrow2 counts no reads.
 pub fn count_zeros_counted(stored: &mut Stored<'_>, offset: usize, len: usize) -> usize
     requires inside { 0 < len → offset + len ≤ 8 * length stored.old.bytes }
     ensures zeros { result ≡ falses (part (bits stored.old.bytes) offset len) }
@@ -30,12 +30,13 @@ pub fn count_zeros_counted(stored: &mut Stored<'_>, offset: usize, len: usize) -
     zeros_from(stored, offset / 8, offset % 8, len)
 }
 
-/// Returns how many of the `count` bits from bit `offset + start` on are not set, as [`count_zeros_counted`] does, for
-/// at most `len / 16 + 4` reads. Here `unset` is how many of the `len` bits from bit `offset` on are not set.
+/// Returns how many of the `count` bits from bit `offset + start` on are not set, as [`count_zeros_counted`] does, but
+/// reads at most `len / 16 + 4` bytes. Requires that the `len` bits from bit `offset` on are inside the bytes, that the
+/// `count` bits are among them, and that `unset` of the `len` bits are not set.
 ///
-/// It counts the bits of the slice where they are fewer than half of all, rounded down. Else it counts the head and the
-/// tail around them and subtracts those, and counts nothing where the slice is the whole. Requires that the `len` bits
-/// are inside the bytes, and the others among them. arrow2 has it inside the slice of a bitmap.
+/// Where `count` is `len`, reads no byte and returns `unset`. Where `count` is below `len / 2`, counts among the
+/// `count` bits. Else counts among the bits before and after them, and subtracts both counts from `unset`. arrow2 does
+/// this inside `slice` of a bitmap.
 pub fn recount(
     stored: &mut Stored<'_>,
     offset: usize,
@@ -68,7 +69,8 @@ pub fn recount(
     unset - (head + tail)
 }
 
-/// Returns how many of the `len` bits from bit `offset + start` on are not set. Their sum need not fit a `usize`.
+/// Returns how many of the `len` bits from bit `offset + start` on are not set. `offset + start` need not fit a
+/// `usize`.
 fn zeros_after(stored: &mut Stored<'_>, offset: usize, start: usize, len: usize) -> usize
     requires inside { offset + start + len ≤ 8 * length stored.old.bytes }
     ensures zeros { result ≡ falses (part (bits stored.old.bytes) (offset + start) len) }
@@ -99,7 +101,8 @@ fn zeros_from(stored: &mut Stored<'_>, first: usize, start: usize, len: usize) -
     zeros + zeros_in_byte(stored, whole + count, 0, (len - head) % 8)
 }
 
-/// Returns how many of the `len` bits from bit `start` of byte `at` on are not set, all in that byte.
+/// Returns how many of the `len` bits from bit `start` of byte `at` on are not set. Requires that all of them are in
+/// that byte.
 fn zeros_in_byte(stored: &mut Stored<'_>, at: usize, start: usize, len: usize) -> usize
     requires within { start + len ≤ 8 }
     requires some { 0 < len → at < length stored.old.bytes }
@@ -115,8 +118,8 @@ fn zeros_in_byte(stored: &mut Stored<'_>, at: usize, start: usize, len: usize) -
     len - shown.count_ones() as usize
 }
 
-/// Returns how many bits of the `count` bytes from byte `first` on are not set. Counts 64 bytes at a step, and then by
-/// words, the widest first.
+/// Returns how many bits of the `count` bytes from byte `first` on are not set. Counts 64 bytes at each step, and then
+/// the rest by words, the widest first.
 fn zeros_in_bytes(stored: &mut Stored<'_>, first: usize, count: usize) -> usize
     requires fits { first + count < 2 ^ 64 }
     requires few { 8 * count < 2 ^ 64 }
@@ -133,8 +136,9 @@ fn zeros_in_bytes(stored: &mut Stored<'_>, first: usize, count: usize) -> usize
     8 * count - ones
 }
 
-/// Returns how many bits of the `pairs` pairs of 32 bytes from byte `first` on are set. One block at a step takes
-/// longer than a word at a step does.
+/// Returns how many bits of the `pairs` pairs of blocks from byte `first` on are set, where a block has 32 bytes.
+/// Counts two blocks at each step, since a loop with one block at each step takes longer than a loop with one word at
+/// each step.
 fn ones_in_blocks(stored: &mut Stored<'_>, first: usize, pairs: usize) -> usize
     requires fits { first + 64 * pairs < 2 ^ 64 }
     requires few { 8 * (64 * pairs) < 2 ^ 64 }
@@ -171,12 +175,12 @@ fn ones_in_words<T: BitChunk, const N: usize>(
     first: usize,
     words: usize,
 ) -> usize
-    // The words are inside the bytes, and no number of theirs overflows.
+    // The words are inside the bytes, and neither the index of their end nor the number of their bits overflows.
     requires width { T.BitChunk.WIDTH ≡ 8 * N }
     requires fits { first + N * words < 2 ^ 64 }
     requires few { 8 * (N * words) < 2 ^ 64 }
     requires inside { first + N * words ≤ length stored.old.bytes }
-    // The set bits are those that are not unset.
+    // The set bits and the unset bits are all bits.
     ensures ones { result + falses (part (bits stored.old.bytes) (8 * first) (8 * (N * words)))
         ≡ 8 * (N * words) }
     // The bytes stay, and each is counted as read once.

@@ -6,10 +6,10 @@ ghost use Rattle.arrow2_model.specs.Parts.{part};
 use crate::chunk_iterator::BitChunks;
 use arrow2_chunk::bit_chunk::BitChunk;
 
-/// Returns whether the `len` bits of `left` from bit `left_offset` on are those of `right` from bit `right_offset` on,
-/// by words of 64 bits. Requires that both are inside the bytes.
+/// Returns whether the `len` bits of `left` from bit `left_offset` on equal the `len` bits of `right` from bit
+/// `right_offset` on. Compares 64 bits at a time. Requires that the bits are inside `left` and `right`.
 ///
-/// arrow2 has it inside the equality of bitmaps.
+/// arrow2 does this inside `==` of bitmaps.
 pub fn same_bits(
     left: &[u8],
     left_offset: usize,

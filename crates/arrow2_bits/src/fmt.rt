@@ -8,16 +8,17 @@ ghost use Rattle.arrow2_bits.specs.Digits.{four_digits};
 use crate::is_set;
 use std::fmt;
 
-/// Writes the `len` bits from bit `offset` on: for each byte that holds one of them `0b` and its
-/// eight bits from the highest to the lowest, with `_` for a bit that is none of them, in brackets
-/// and joined by commas. No bits are `[]`. The formatter's options change nothing.
+/// Writes the `len` bits from bit `offset` on, byte by byte. Each byte that holds one of these bits is written as `0b`
+/// and its eight bits, from the highest to the lowest, with `_` for a bit that is not one of these. The bytes are
+/// joined by commas and enclosed in brackets. Where `len` is 0, the text is `[]`. The formatter's options change
+/// nothing.
 ///
-/// Requires that `offset` is below 8, and that the bits are inside the bytes or that `len` is 0. arrow2 may print a
-/// byte after the bits instead of the last one.
+/// Requires that `offset` is below 8 and, unless `len` is 0, that the bits are inside the bytes. arrow2 may print a
+/// byte after the bits in place of their last byte.
 ///
 /// # Errors
 ///
-/// That of the formatter's writer.
+/// Any error of the formatter's writer.
 pub fn fmt<W: fmt::Write>(
     bytes: &[u8],
     offset: usize,
@@ -49,7 +50,7 @@ pub fn fmt<W: fmt::Write>(
     f.write_str("]")
 }
 
-/// Returns the digits of four bits, from the highest to the lowest. Requires that the number is below 16.
+/// Returns the digits of the four bits of `half`, from the highest to the lowest. Requires that `half` is below 16.
 #[tactic(auto, unfolding(arrow2_model::specs::Bits::bit))]
 fn digits(half: u8) -> &'static str
     requires { half < 16 }
@@ -75,7 +76,7 @@ fn digits(half: u8) -> &'static str
     }
 }
 
-/// Writes one byte, all bits of which are shown.
+/// Writes one byte with all its bits shown.
 fn write_whole_byte<W: fmt::Write>(byte: u8, f: &mut fmt::Formatter<W>) -> fmt::Result
     ensures { WritesStyledOnOk W.write_str_gives f.old result (shown_byte (byte ∷ []) 0 8 0) f.new }
 {
@@ -84,7 +85,7 @@ fn write_whole_byte<W: fmt::Write>(byte: u8, f: &mut fmt::Formatter<W>) -> fmt::
     f.write_str(digits(byte % 16))
 }
 
-/// Writes the `len` bits from bit `start` on of one byte.
+/// Writes one byte: its `len` bits from bit `start` on, and `_` for each other bit.
 fn write_byte<W: fmt::Write>(
     byte: u8,
     start: usize,
@@ -105,7 +106,7 @@ fn write_byte<W: fmt::Write>(
     Ok(())
 }
 
-/// Returns the character of bit `i` of a byte that shows the `len` bits from bit `start` on.
+/// Returns the character for bit `i` of a byte whose `len` bits from bit `start` on are shown: `_` for any other bit.
 fn character(byte: u8, i: usize, start: usize, len: usize) -> char
     requires bit { i < 8 }
     requires inside { start + len ≤ 8 }

@@ -11,7 +11,8 @@ use std::marker::Model;
 
 /// An iterator over bits: contracts see it as the list of the items still to come.
 ///
-/// Its `nth` is the standard library's over `next`, and goes to the end; arrow2's adds to the index without a test.
+/// `nth` is the standard library's, which calls `next` and stops at the end; arrow2's adds to the index without a test
+/// for overflow.
 #[derive(Debug, Drop)]
 pub struct BitmapIter<'a> {
     bytes: &'a [u8],
@@ -51,8 +52,8 @@ impl<'a> BitmapIter<'a> {
         }
     }
 
-    /// Returns the same iterator, whose bit index is one number, so that the compiler adds nothing at an item. Also
-    /// requires that the index after the last bit fits a `usize`.
+    /// Returns the same iterator as [`BitmapIter::new`], but keeps bit offset and index as one number, so that no item
+    /// costs an addition of both. Requires that the bits are inside the bytes, and that `offset + len` fits a `usize`.
     pub fn within(bytes: &'a [u8], offset: usize, len: usize) -> BitmapIter<'a>
         requires inside { offset + len ≤ 8 * length bytes.now }
         requires fits { offset + len < 2 ^ 64 }
@@ -67,7 +68,7 @@ impl<'a> BitmapIter<'a> {
     }
 }
 
-/// The same items still to come. Does not allocate.
+/// Returns an iterator over the same items still to come. Does not allocate.
 impl<'a> Clone for BitmapIter<'a> {
     ghost is_clone = { λ i copy. copy ≡ i };
 
@@ -126,8 +127,8 @@ impl<'a> ExactSizeIterator for BitmapIter<'a> {
     }
 }
 
-/// Returns bit `offset + i`. Most iterators have offset 0, which the compiler tests once for a whole loop. Requires
-/// that it is inside the bytes.
+/// Returns bit `offset + i`. Requires that this bit is inside the bytes. Most iterators have offset 0, which the
+/// compiler tests once for a whole loop.
 fn bit_at(bytes: &[u8], offset: usize, i: usize) -> bool
     requires { offset + i < 8 * length bytes.now }
     ensures { result ≡ slice_index_or (bits bytes.now) (offset + i) false }

@@ -21,10 +21,11 @@ pub use equal::same_bits;
 pub use reads::Reads;
 pub use stored::Stored;
 
-/// At index i the byte whose bit i alone is clear: read instead of a shift by a variable.
+/// At index i, the byte with bit i clear and every other bit set. Reading it replaces a shift by a variable.
 const KEPT: [u8; 8] = [254, 253, 251, 247, 239, 223, 191, 127];
 
-/// The byte to be written at bit i: at index i zero, at index 8 + i the byte whose bit i alone is set.
+/// What `set` writes at bit i. For false, at index i: zero. For true, at index 8 + i: the byte with bit i set and every
+/// other bit clear.
 const WRITTEN: [u8; 16] = [0, 0, 0, 0, 0, 0, 0, 0, 1, 2, 4, 8, 16, 32, 64, 128];
 
 /// Returns whether bit `i` of the byte is set. Requires that `i` is below 8.
@@ -43,7 +44,7 @@ pub fn set(byte: u8, i: usize, value: bool) -> u8
     (byte & KEPT[i]) | WRITTEN[8 * usize::from(value) + i]
 }
 
-/// Returns bit `i` of the bytes. Requires that `i` is below eight times their number.
+/// Returns bit `i` of the bytes. Requires that `i` is below eight times the number of bytes.
 pub fn get_bit(bytes: &[u8], i: usize) -> bool
     requires { i < 8 * length bytes.now }
     ensures { result ≡ slice_index_or (bits bytes.now) i false }
@@ -51,8 +52,8 @@ pub fn get_bit(bytes: &[u8], i: usize) -> bool
     is_set(bytes[i / 8], i % 8)
 }
 
-/// Returns bit `offset + i` of the bytes. Their sum need not fit a `usize`. Requires that it is below eight times their
-/// number.
+/// Returns bit `offset + i` of the bytes. Requires that `offset + i` is below eight times the number of bytes. The sum
+/// need not fit a `usize`.
 pub fn get_bit_from(bytes: &[u8], offset: usize, i: usize) -> bool
     requires { offset + i < 8 * length bytes.now }
     ensures { result ≡ slice_index_or (bits bytes.now) (offset + i) false }
@@ -62,7 +63,7 @@ pub fn get_bit_from(bytes: &[u8], offset: usize, i: usize) -> bool
 }
 
 /// Writes bit `i` of the bytes, and leaves every other bit as it was. Requires that `i` is below eight times the number
-/// of bytes; arrow2's documentation requires `i` below an eighth of it.
+/// of bytes; arrow2's documentation requires `i` below an eighth of that number.
 pub fn set_bit(bytes: &mut [u8], i: usize, value: bool)
     requires { i < 8 * length bytes.old }
     ensures { bits bytes.new ≡ slice_set (bits bytes.old) i value }
@@ -70,8 +71,8 @@ pub fn set_bit(bytes: &mut [u8], i: usize, value: bool)
     bytes[i / 8] = set(bytes[i / 8], i % 8, value);
 }
 
-/// Returns the number of bytes that hold `bits` bits: an eighth, rounded up. Exact for every number of bits; arrow2's
-/// result is one short for the seven greatest, from `usize::MAX - 6` on.
+/// Returns the number of bytes that `bits` bits need: `bits / 8`, rounded up. The result is exact for every number of
+/// bits; arrow2's is 1 too low from `usize::MAX - 6` on.
 pub fn bytes_for(bits: usize) -> usize
     ensures { result ≡ (bits + 7) / 8 }
 {

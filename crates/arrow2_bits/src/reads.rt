@@ -4,8 +4,8 @@ ghost use Rattle.std.specs.Prelude.{◌≡◌, ◌+◌};
 use arrow2_counter::Counter;
 use std::marker::Model;
 
-/// A counter of the bytes that were read: contracts see the number. It takes no bytes when the program runs, and none
-/// is made of another, so that no read is counted twice or left out.
+/// Counts the bytes that were read: contracts see the number. It takes no bytes when the program runs. It cannot be
+/// copied or cloned, since a copy could count a read twice, or leave one out.
 #[derive(Drop)]
 pub struct Reads {
     counter: Counter,
@@ -20,7 +20,7 @@ impl Model for Reads {
 }
 
 impl Reads {
-    /// Returns a counter of no reads.
+    /// Returns a counter at 0 reads.
     pub fn new() -> Reads
         ensures { result ≡ 0 }
     {

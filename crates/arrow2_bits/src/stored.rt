@@ -1,12 +1,12 @@
-//! Bytes that are read only where the reads are counted.
+//! Bytes whose reads are counted.
 ghost use Rattle.std.specs.Prelude.{◌≡◌, ◌+◌, ◌≤◌, length};
 ghost use Rattle.arrow2_model.specs.Parts.{part};
 
 use crate::reads::Reads;
 use std::marker::Model;
 
-/// Bytes, and the number of reads counted so far, including those of the counter that it was made with.
-/// [`Stored::fetch`] alone reads them, and it counts each that it gives.
+/// Bytes, and the number of reads counted so far, which includes the reads of the counter that was passed to
+/// [`Stored::new`]. Only [`Stored::fetch`] reads the bytes, and it counts each byte that it returns.
 #[derive(Drop)]
 pub struct Stored<'a> {
     bytes: &'a [u8],
@@ -22,7 +22,7 @@ impl<'a> Model for Stored<'a> {
 }
 
 impl<'a> Stored<'a> {
-    /// Returns the bytes, whose reads are counted on from those of `reads`.
+    /// Returns the bytes, with a counter of their reads that goes on from `reads`.
     pub fn new(bytes: &'a [u8], reads: Reads) -> Stored<'a>
         ensures bytes { result.bytes ≡ bytes.entry.now }
         ensures reads { result.reads ≡ reads }
@@ -30,15 +30,14 @@ impl<'a> Stored<'a> {
         Stored { bytes, reads }
     }
 
-    /// Returns the number of bytes. Reads none.
+    /// Returns the number of bytes. Reads no byte.
     pub fn len(&self) -> usize
         ensures { result ≡ length self.now.bytes }
     {
         self.bytes.len()
     }
 
-    /// Returns the `N` bytes from byte `i` on, for `N` reads. Requires that `N` bytes from byte `i` on are inside the
-    /// bytes.
+    /// Returns the `N` bytes from byte `i` on, and counts `N` reads. Requires that these bytes are inside.
     pub fn fetch<const N: usize>(&mut self, i: usize) -> [u8; N]
         requires inside { i + N ≤ length self.old.bytes }
         ensures fetched { result ≡ part self.old.bytes i N }

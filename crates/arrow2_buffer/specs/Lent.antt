@@ -1,4 +1,4 @@
--- The state of storage once it, or a part of it, was lent to be written and is back.
+-- The state of storage after a loan of it, or of a part of it, has ended.
 use Rattle.std.specs.Prelude.{ℕ, List, length}
 use Rattle.std.specs.Borrow.{Lends, LendsIf, MutBor, Fml, Array}
 use Rattle.std.specs.List.{refill}
@@ -21,14 +21,16 @@ rewritten items i others = refill (length items) items (overwritten items i othe
 abbrev pub shared_row : RattleType → RattleType
 shared_row T = owned.the_row (the_row T) heap.the_row ghosts
 
--- r is the storage of a sole owner, which ends as the items written through r, or as it was where r is none
+-- r is the storage of a sole owner: after the loan, the storage is the items written through r; where r is none, it is
+-- as it was
 abbrev pub LendsOwned : (T : RattleType) → MutBor (Rc (List T.Denot) Global) → Option (MutBor (List T.Denot)) → Fml
 LendsOwned T shared r = LendsIf (shared_row T) (the_row T) shared r (rc_with_value shared.now) shared.now
 
--- r is the part of the storage from index i on: the storage ends with the items written through r in its place
+-- r is the part of the storage from index i on: after the loan, the storage has the items written through r in its
+-- place
 abbrev pub LendsPart : (T : RattleType) → MutBor (List T.Denot) → ℕ → MutBor (List T.Denot) → Fml
 LendsPart T storage i r = Lends (the_row T) (Array T 0) storage r (rewritten storage.now i)
 
--- the same of the storage of a sole owner, which ends as it was where r is none
+-- the same of the storage of a sole owner, which is as it was where r is none
 abbrev pub LendsOwnedPart : (T : RattleType) → MutBor (Rc (List T.Denot) Global) → ℕ → Option (MutBor (List T.Denot)) → Fml
 LendsOwnedPart T shared i r = LendsIf (shared_row T) (Array T 0) shared r (λ others. rc_with_value shared.now (rewritten shared.now.value i others)) shared.now

@@ -42,9 +42,9 @@ impl<T> Bytes<T> {
         self.items.as_slice()
     }
 
-    /// Returns the vector that it holds. Does not allocate.
+    /// Returns the vector that holds the items. Does not allocate.
     ///
-    /// Stands for arrow2's `get_vec`, which only that crate can call.
+    /// Replaces arrow2's `get_vec`, which only that crate can call.
     pub fn into_vec(self) -> Vec<T>
         ensures { result.items ≡ self }
     {
@@ -52,16 +52,16 @@ impl<T> Bytes<T> {
         items
     }
 
-    /// Returns the allocator of its own.
+    /// Returns the allocator of the vector.
     ///
-    /// arrow2 has no such call: its allocator has no value.
+    /// arrow2 has no such call, since its allocator is not a value.
     pub fn allocator(&self) -> Global
         ensures { (only : Global) → result ≡ only }
     {
         *self.items.allocator()
     }
 
-    /// Returns the storage, to be written, where `shared` is its only owner.
+    /// Returns the storage as a mutable reference if `shared` is its only owner, otherwise `None`.
     pub(crate) fn get_mut(shared: &mut Rc<Bytes<T>>) -> Option<&mut Bytes<T>>
         ensures* writes_back { sem 𝓛 (LendsOwned T.row shared.entry result) }
         ensures value { IfSome result (λ bytes. bytes.now ≡ shared.old.value) }
@@ -69,7 +69,7 @@ impl<T> Bytes<T> {
         Rc::get_mut(shared)
     }
 
-    /// Returns the items from `start` up to `end`, to be written.
+    /// Returns the items from `start` up to `end` as a mutable slice.
     pub(crate) fn part_mut(&mut self, start: usize, end: usize) -> &mut [T]
         requires order { start ≤ end }
         requires within { end ≤ length self.old }

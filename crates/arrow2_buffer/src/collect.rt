@@ -5,17 +5,17 @@ ghost use Rattle.std.specs.Iterator.{IsFinite, Yields, YieldsThen, size};
 
 use std::alloc::{AllocError, Global};
 
-/// The least capacity that is reserved: of items of eight bytes a little less than the largest block that glibc keeps
-/// at hand.
+/// The first capacity that is reserved, in items. For items of eight bytes, it is a little less than the largest block
+/// that glibc keeps in its cache of each thread.
 const LEAST_CAPACITY: usize = 120;
 
-/// The capacity after the first.
+/// The second capacity that is reserved, in items.
 const SECOND_CAPACITY: usize = 512;
 
-/// Returns the items of an iterator that ends, in its order. Does not read its size hint.
+/// Returns the items of an iterator that ends, in order. Does not read its size hint.
 ///
-/// It takes one item, reserves capacity, and then fills that capacity in a loop of its own in which the capacity stays,
-/// so that the compiler can vectorize it.
+/// Takes one item, reserves capacity, and then fills this capacity in a loop of its own. The capacity does not change
+/// in that loop, so the compiler can vectorize it.
 pub(crate) fn collected<T: Drop, I: Iterator<Item = T>>(
     alloc: Global,
     source: I,
@@ -46,12 +46,12 @@ fn filled<T: Drop, I: Iterator<Item = T>>(items: Vec<T>, source: &mut I) -> (Vec
     // The iterator can be advanced, and ends.
     requires can { I.can_next source.old }
     requires ends { IsFinite (I.remaining source.old) }
-    // Where it may yield more, that is still so, and it has come no further from its end.
+    // Where the iterator may yield more, it can still be advanced, ends, and is no further from its end than before.
     ensures can { result.1 ≡ true → I.can_next source.new }
     ensures ends { result.1 ≡ true → IsFinite (I.remaining source.new) }
     ensures nearer { result.1 ≡ true →
         size (I.remaining source.new) ≤ size (I.remaining source.old) }
-    // The items are those that it yielded, after those before; where the second part is false it ended.
+    // The items that it yielded are appended; where the second part of the result is false, it ended after these items.
     ensures more { result.1 ≡ true → (it : I) → Yields I.next_gives it items.items source.old →
         Yields I.next_gives it result.0.items source.new }
     ensures ended { result.1 ≡ false → (it : I) → Yields I.next_gives it items.items source.old →
@@ -69,7 +69,8 @@ fn filled<T: Drop, I: Iterator<Item = T>>(items: Vec<T>, source: &mut I) -> (Vec
     }
 }
 
-/// Reserves four times the capacity.
+/// Reserves `LEAST_CAPACITY` for an empty vector. Else reserves capacity for three times the length more, and for at
+/// least `SECOND_CAPACITY - LEAST_CAPACITY` items more.
 fn grow_capacity<T>(items: &mut Vec<T>) -> Result<(), AllocError>
     ensures items { items.new.items ≡ items.old.items }
     ensures ok { OnOk result (vec_len items.new < vec_capacity items.new) }

@@ -35,8 +35,8 @@ use std::slice::Iter;
 /// It is a part of the storage that an `Rc` holds: clones and slices share that storage, and do not allocate. Lengths
 /// and offsets count items.
 ///
-/// Differs from arrow2: it shares by `Rc` and not across threads, and the slice of its items is
-/// [`Buffer::as_slice`], since there is no `Deref` to a slice.
+/// Differs from arrow2: it shares by `Rc` and not across threads, and [`Buffer::as_slice`] returns the slice of its
+/// items, since there is no `Deref` to a slice.
 ///
 /// # Examples
 ///
@@ -83,9 +83,9 @@ impl<T> Buffer<T> {
         self.len
     }
 
-    /// Returns the allocator of its storage: a new buffer can be made with it.
+    /// Returns the allocator of the buffer's storage, which can be used to make a new buffer.
     ///
-    /// In arrow2 an allocator has no value.
+    /// arrow2 has no such call, since its allocator is not a value.
     pub fn allocator(&self) -> Global
         ensures { (only : Global) → result ≡ only }
     {
@@ -99,7 +99,7 @@ impl<T> Buffer<T> {
         self.len == 0
     }
 
-    /// Returns whether the storage holds more than its items.
+    /// Returns whether the storage holds more items than the buffer has.
     pub fn is_sliced(&self) -> bool
         ensures sliced { IsTrue result ↔ (buffer_items self.now ≢ self.now.storage) }
         ensures whole { OnFalse result (buffer_items self.now ≡ self.now.storage) }
@@ -122,7 +122,7 @@ impl<T> Buffer<T> {
         self.as_slice().iter()
     }
 
-    /// Returns the number of items of the storage before the first item.
+    /// Returns the number of items of the storage that come before the buffer's first item.
     pub fn offset(&self) -> usize
         ensures { result ≡ self.now.offset }
     {
@@ -160,9 +160,9 @@ impl<T> Buffer<T> {
         self
     }
 
-    /// Returns the items, to be written, if nobody else shares the storage; otherwise `None`. Does not allocate.
-    /// Afterwards the buffer holds the items that were written there, and the rest of the storage is as it was. No
-    /// clause states when it returns the items.
+    /// Returns the items as a mutable slice if nobody else shares the storage, otherwise `None`. Does not allocate.
+    /// Afterwards the buffer holds the items that were written through the slice, and the rest of the storage is as it
+    /// was. No clause states when the result is `Some`.
     ///
     /// A caller with a contract of its own uses [`Buffer::change_slice`], since the prover knows nothing of a `&mut`
     /// inside an `Option`.
@@ -175,8 +175,8 @@ impl<T> Buffer<T> {
         lend_unshared(&mut self.storage, start, end)
     }
 
-    /// Changes the items in place by `change` if nobody else shares the storage, and returns whether it did. No clause
-    /// states when it does. Does not allocate. Requires that `change` may be called on the items.
+    /// Changes the items in place by `change` if nobody else shares the storage, and returns whether it changed them.
+    /// No clause states when the result is true. Does not allocate. Requires that `change` may be called on the items.
     ///
     /// arrow2 has [`Buffer::get_mut_slice`] alone.
     pub fn change_slice<F: FnOnce(&mut [T])>(&mut self, change: F) -> bool
@@ -193,7 +193,7 @@ impl<T> Buffer<T> {
         change_unshared(&mut self.storage, start, end, change)
     }
 
-    /// Returns the whole storage, the index of the first item there, and the number of items.
+    /// Returns the whole storage, the index of the buffer's first item in it, and the number of items of the buffer.
     pub fn into_inner(self) -> (Rc<Bytes<T>>, usize, usize)
         ensures storage { (result.0.value ≡ self.storage) × (result.1 ≡ self.offset)
             × (result.2 ≡ self.len) }
@@ -202,11 +202,12 @@ impl<T> Buffer<T> {
         (self.storage, self.offset, self.len)
     }
 
-    /// Returns the vector, on the right, if nobody shares the storage and nothing is sliced off; otherwise the buffer
-    /// as it was, on the left. Does not allocate.
+    /// Returns the vector as `Right` if nobody else shares the storage and nothing is sliced off, otherwise the buffer
+    /// as it was, as `Left`. Does not allocate.
     ///
     /// It is proved that the left side is the buffer as it was, and that the right side has the same items and comes
-    /// only if nothing is sliced off. It is not proved that the right side comes whenever nobody shares the storage.
+    /// only if nothing is sliced off. It is not proved that the right side comes whenever nobody else shares the
+    /// storage and nothing is sliced off.
     ///
     /// Differs from arrow2, which gives the whole vector of a sliced buffer.
     pub fn into_mut(self) -> Either<Self, Vec<T>>
@@ -232,7 +233,7 @@ impl<T> Buffer<T> {
     }
 }
 
-/// Returns the items from `start` up to `end`, to be written, where no one else shares them.
+/// Returns the items from `start` up to `end` as a mutable slice if nobody else shares the storage, otherwise `None`.
 fn lend_unshared<T>(shared: &mut Rc<Bytes<T>>, start: usize, end: usize) -> Option<&mut [T]>
     requires order { start ≤ end }
     requires within { end ≤ length shared.old.value }
@@ -245,7 +246,8 @@ fn lend_unshared<T>(shared: &mut Rc<Bytes<T>>, start: usize, end: usize) -> Opti
     }
 }
 
-/// Changes the items from `start` up to `end` in place where no one else shares them, and returns whether it did.
+/// Changes the items from `start` up to `end` in place by `change` if nobody else shares the storage, and returns
+/// whether it changed them.
 fn change_unshared<T, F: FnOnce(&mut [T])>(
     shared: &mut Rc<Bytes<T>>,
     start: usize,
@@ -284,9 +286,9 @@ impl<T: Drop> Buffer<T> {
         Buffer::try_from(Vec::new(alloc))
     }
 
-    /// Returns the items of an iterator that ends, in its order. Its size hint is not read.
+    /// Returns a buffer of the items of an iterator that ends, in order. Does not read the size hint.
     ///
-    /// Stands for arrow2's `FromIterator`.
+    /// Replaces arrow2's `FromIterator`.
     ///
     /// # Errors
     ///
@@ -303,7 +305,7 @@ impl<T: Drop> Buffer<T> {
     }
 }
 
-/// The whole vector, which is moved and not copied.
+/// Returns a buffer of the whole vector, which is moved and not copied.
 ///
 /// # Errors
 ///
@@ -326,7 +328,7 @@ impl<T: Drop> TryFrom<Vec<T>> for Buffer<T> {
     }
 }
 
-/// Returns the item at an index. Requires that there is one.
+/// Returns the item at an index. Requires that the index is below [`Buffer::len`].
 impl<T> Index<usize> for Buffer<T> {
     type Output = T;
 
@@ -339,13 +341,14 @@ impl<T> Index<usize> for Buffer<T> {
     }
 }
 
-/// Buffers are equal where their lists are, by the items' own equality, whatever their storage is.
+/// Two buffers are equal where their lists of items are equal by the items' own `==`, whatever their storage is.
 impl<T: PartialEq> PartialEq for Buffer<T> {
     ghost eq = { on buffer_items (pointwise T.eq) };
 
     ghost laws = { on_per buffer_items (lists_per T.laws) };
 
-    /// Where the items' own equality is equality, this is equality of the lists.
+    /// Where `==` of any two items is true exactly if they are the same, `==` of two buffers is true exactly if their
+    /// lists of items are the same.
     fn eq(&self, other: &Self) -> bool
         ensures items { result ≡ pointwise T.eq (buffer_items self.now) (buffer_items other.now) }
         ensures same { ((x y : T) → Decides (T.eq x y) (x ≡ y)) →
@@ -359,7 +362,7 @@ impl<T: Eq> Eq for Buffer<T> {
     ghost laws = { on_equiv buffer_items (lists_equiv T.Eq.laws) };
 }
 
-/// The text of [`Buffer::as_slice`].
+/// Prints the text of [`Buffer::as_slice`].
 impl<T: fmt::Debug> fmt::Debug for Buffer<T> {
     ghost debug_output = { λ b. debug_list T.debug_output (buffer_items b) };
 
@@ -368,8 +371,8 @@ impl<T: fmt::Debug> fmt::Debug for Buffer<T> {
     }
 }
 
-/// The same storage, offset and length. Does not allocate: in the code it fails only if the reference count would
-/// overflow.
+/// Returns a buffer of the same storage, offset and length. Does not allocate: it fails only if the reference count
+/// would overflow, which no clause states.
 impl<T: Drop> Clone for Buffer<T> {
     ghost is_clone = { λ b copy. copy ≡ b };
 

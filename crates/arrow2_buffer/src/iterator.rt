@@ -8,9 +8,9 @@ use crate::immutable::Buffer;
 use std::alloc::AllocError;
 use std::marker::Model;
 
-/// The items of a [`Buffer`] that are still to come, from both ends.
+/// An iterator over the items of a [`Buffer`], from both ends: contracts see the list of the items still to come.
 ///
-/// Differs from arrow2: it has a public name, and `nth` is the standard library's, over `next`.
+/// Differs from arrow2: it has a public name, and `nth` is the standard library's, which calls `next`.
 #[derive(Debug, Drop)]
 pub struct IntoIter<T: Copy> {
     values: Buffer<T>,
@@ -93,8 +93,8 @@ impl<T: Copy> ExactSizeIterator for IntoIter<T> {
     }
 }
 
-/// The same items still to come. Does not allocate: in the code it fails only if the buffer's reference count would
-/// overflow.
+/// Returns an iterator over the same items still to come. Does not allocate: it fails only if the buffer's reference
+/// count would overflow, which no clause states.
 impl<T: Copy> Clone for IntoIter<T> {
     ghost is_clone = { λ i copy. copy ≡ i };
 

@@ -15,16 +15,16 @@ use num_traits::PrimInt;
 
 /// A word: a list of `WIDTH` bits, the lowest first.
 ///
-/// Differs from arrow2: `to_ne_bytes` and `from_ne_bytes` are little-endian always, and the calls on bits replace the
-/// operators of each type.
+/// Differs from arrow2: `to_ne_bytes` and `from_ne_bytes` are always little-endian, and calls such as `bit_and` replace
+/// the operators of each type.
 ///
-/// At a type like `u64`, `word.to_ne_bytes()` is u64's own call, whose contract speaks of other things: write
-/// `BitChunk::to_ne_bytes(word)`.
+/// For a `word` of a type such as `u64`, `word.to_ne_bytes()` calls the type's own method, which has another contract.
+/// Write `BitChunk::to_ne_bytes(word)` instead.
 pub trait BitChunk: PrimInt + NativeType {
     // The number of bits of a word.
     ghost WIDTH: { ℕ };
 
-    // The number of a word, whose list of bits is `unnum WIDTH` of it.
+    // The number of a word. The list of the word's bits is `unnum WIDTH` of that number.
     ghost number: { Self → ℕ };
 
     /// The number of bits of a word.
@@ -43,7 +43,7 @@ pub trait BitChunk: PrimInt + NativeType {
         ensures fits { number result < 2 ^ WIDTH }
         ensures value { number result ≡ natural_from Self.SIZE (Self.Bytes.items bytes) };
 
-    /// Returns the word whose bytes these are in little-endian order. Requires exactly the bytes of a word.
+    /// Returns the word with these bytes in little-endian order. Requires exactly the bytes of a word.
     fn from_ne_slice(bytes: &[u8]) -> Self
         requires { length bytes.now ≡ Self.SIZE }
         ensures fits { number result < 2 ^ WIDTH }
@@ -54,46 +54,46 @@ pub trait BitChunk: PrimInt + NativeType {
         requires { i < WIDTH }
         ensures { result ≡ bit (number self) i };
 
-    /// Returns the lowest `len` bits, and false above them. Requires that `len` is at most `WIDTH`.
+    /// Returns the lowest `len` bits of the word, with false above them. Requires that `len` is at most `WIDTH`.
     fn masked(self, len: usize) -> Self
         requires { len ≤ WIDTH }
         ensures fits { number result < 2 ^ WIDTH }
         ensures bits { unnum WIDTH (number result)
             ≡ take len (unnum WIDTH (number self)) ++ replicate (WIDTH - len) false };
 
-    /// Returns the bits that both words have.
+    /// Returns the bits that are set in both words.
     fn bit_and(self, other: Self) -> Self
         ensures fits { number result < 2 ^ WIDTH }
         ensures bits { unnum WIDTH (number result)
             ≡ zip2 (λ a b. a && b) (unnum WIDTH (number self)) (unnum WIDTH (number other)) };
 
-    /// Returns the bits that one of the words has, or both.
+    /// Returns the bits that are set in at least one of the words.
     fn bit_or(self, other: Self) -> Self
         ensures fits { number result < 2 ^ WIDTH }
         ensures bits { unnum WIDTH (number result)
             ≡ zip2 (λ a b. a || b) (unnum WIDTH (number self)) (unnum WIDTH (number other)) };
 
-    /// Returns the bits that one of the words has, and not both.
+    /// Returns the bits that are set in exactly one of the words.
     fn bit_xor(self, other: Self) -> Self
         ensures fits { number result < 2 ^ WIDTH }
         ensures bits { unnum WIDTH (number result)
             ≡ zip2 xor (unnum WIDTH (number self)) (unnum WIDTH (number other)) };
 
-    /// Returns the bits that the word lacks.
+    /// Returns the word with each bit inverted.
     fn bit_not(self) -> Self
         ensures fits { number result < 2 ^ WIDTH }
         ensures bits { unnum WIDTH (number result) ≡ map not (unnum WIDTH (number self)) };
 
-    /// Moves bit `i` to `i + k`: bits that leave the word are dropped, and false comes in. Requires that `k` is below
-    /// `WIDTH`.
+    /// Returns the word with each bit `i` moved to `i + k`. Bits that leave the word are dropped, and the lowest `k`
+    /// bits are false. Requires that `k` is below `WIDTH`.
     fn up(self, k: usize) -> Self
         requires { k < WIDTH }
         ensures fits { number result < 2 ^ WIDTH }
         ensures bits { unnum WIDTH (number result)
             ≡ replicate k false ++ take (WIDTH - k) (unnum WIDTH (number self)) };
 
-    /// Moves bit `i` to `i - k`: bits that leave the word are dropped, and false comes in. Requires that `k` is below
-    /// `WIDTH`.
+    /// Returns the word with each bit `i` moved to `i - k`. Bits that leave the word are dropped, and the highest `k`
+    /// bits are false. Requires that `k` is below `WIDTH`.
     fn down(self, k: usize) -> Self
         requires { k < WIDTH }
         ensures fits { number result < 2 ^ WIDTH }
@@ -106,7 +106,7 @@ pub trait BitChunk: PrimInt + NativeType {
         ensures { ones (unnum WIDTH (number self))
             ≡ result ∷ drop 1 (ones (unnum WIDTH (number self))) };
 
-    /// Returns the word without its lowest set bit, where it has one.
+    /// Returns the word with its lowest set bit cleared, or the word as it is where no bit is set.
     fn without_first_one(self) -> Self
         ensures fits { number result < 2 ^ WIDTH }
         ensures ones { ones (unnum WIDTH (number result))

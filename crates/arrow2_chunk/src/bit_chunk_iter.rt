@@ -71,8 +71,8 @@ impl<T: BitChunk> Iterator for BitChunkIter<T> {
     }
 }
 
-/// An iterator over the indices of the set bits of a word, rising: contracts see the list of those still to come. Each
-/// step goes to the next set bit at once.
+/// An iterator over the indices of the set bits of a word, in rising order: contracts see the list of the indices still
+/// to come. Each step goes straight to the next set bit.
 #[derive(Drop)]
 pub struct BitChunkOnes<T: BitChunk> {
     value: T,

@@ -1,6 +1,6 @@
-//! Properties of `arrow2` that no contract states: each item at its path, the examples of its docs, that calls of
-//! arrays and kernels succeed, the texts of their errors, and kernels compared with plain loops at many lengths. This
-//! crate has nothing but tests: a crate with tests of its own is proved once more with them.
+//! Properties of `arrow2` that no contract states: that each item is at its path, that the examples of its docs run,
+//! that calls of arrays and kernels succeed, which texts their errors have, and that kernels agree with plain loops at
+//! many lengths. This crate has only tests: a crate that has tests is proved once more together with them.
 #![tactic(auto)]
 
 #[cfg(test)]

@@ -41,7 +41,7 @@ impl days_ms {
     }
 }
 
-/// As `1d -1ms`.
+/// Prints the interval in the form `1d -1ms`.
 impl fmt::Display for days_ms {
     ghost output = { λ x. Some (signed_decimal x.0
         ++ (codes "d " ++ (signed_decimal x.1 ++ codes "ms"))) };
@@ -51,7 +51,8 @@ impl fmt::Display for days_ms {
     }
 }
 
-/// Each part negated. Requires that neither part is the least `i32`, for which arrow2's overflows.
+/// Returns the interval with each part negated. Requires that neither part is `i32::MIN`, where arrow2's negation
+/// overflows.
 impl Neg for days_ms {
     type Output = days_ms;
 
@@ -169,7 +170,7 @@ impl months_days_ns {
     }
 }
 
-/// As `1m 2d 3ns`.
+/// Prints the interval in the form `1m 2d 3ns`.
 impl fmt::Display for months_days_ns {
     ghost output = { λ x. Some (signed_decimal x.0
         ++ (codes "m " ++ (signed_decimal x.1
@@ -180,7 +181,8 @@ impl fmt::Display for months_days_ns {
     }
 }
 
-/// Each part negated. Requires that no part is the least of its type, for which arrow2's overflows.
+/// Returns the interval with each part negated. Requires that no part is the least number of its type, where arrow2's
+/// negation overflows.
 impl Neg for months_days_ns {
     type Output = months_days_ns;
 

@@ -1,4 +1,4 @@
-//! Laws of equality, order and hash. Each function is its law and nothing else.
+//! Laws of equality, order and hash. The contract of each function is a law, and its body is empty.
 ghost use Rattle.std.specs.Prelude.{◌≡◌, IsTrue, ℤ};
 ghost use Rattle.std.specs.Ordering.{is_eq};
 ghost use Rattle.arrow2_composite.specs.declared.interval.days_ms.{days_ms};
@@ -17,7 +17,7 @@ pub fn equal_spans_hash_alike()
         ⟦<months_days_ns as Hash>⟧.hash_input a ≡ ⟦<months_days_ns as Hash>⟧.hash_input b }
 {}
 
-/// Numbers of 256 bits that are equal are neither below the other, and hash alike; others are ordered.
+/// Two numbers of 256 bits are equal exactly where `cmp` returns `Equal`. Equal numbers hash alike.
 pub fn equality_order_and_hash_of_wide_numbers_agree()
     ensures order { (a b : ℤ) → ⟦<i256 as PartialEq>⟧.eq a b ≡ is_eq (⟦<i256 as Ord>⟧.cmp a b) }
     ensures hash { (a b : ℤ) → IsTrue (⟦<i256 as PartialEq>⟧.eq a b) →

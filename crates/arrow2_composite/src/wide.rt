@@ -20,7 +20,7 @@ use std::hash::{Hash, Hasher};
 use std::marker::Model;
 use std::ops::Neg;
 
-/// A signed number of 256 bits: contracts see the number. It equals, hashes and is ordered by that number.
+/// A signed number of 256 bits: contracts see the number. Equality, order and hash are those of that number.
 ///
 /// Differs from arrow2: the words are private, `to_le_bytes` has the lowest byte first, and negation is
 /// exact.
@@ -57,7 +57,7 @@ impl i256 {
         i256 { high: hi, low: lo }
     }
 
-    /// Returns the two words that the number is made of, the higher one first.
+    /// Returns the two words of the number, the higher one first.
     pub fn into_words(self) -> (i128, i128)
         ensures { words_value result.0 result.1 ≡ self }
     {
@@ -65,7 +65,7 @@ impl i256 {
     }
 }
 
-/// The number 0.
+/// Returns the number 0.
 impl Default for i256 {
     ghost is_default = { λ n. n ≡ pos 0 };
 
@@ -131,7 +131,7 @@ impl Hash for i256 {
     }
 }
 
-/// The number negated. Requires that it is not the least one, which has no opposite.
+/// Returns the number negated. Requires that the number is not -2^255, whose negation does not fit the type.
 #[tactic(auto, using(arrow2_model::proofs::Words256::words256))]
 impl Neg for i256 {
     type Output = i256;

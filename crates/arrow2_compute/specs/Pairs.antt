@@ -1,17 +1,17 @@
--- What is made of two items, one of each of two arrays.
+-- Results for two items, one of each of two arrays.
 use Rattle.std.specs.Prelude.{◌≡◌, ℕ, List, Bool, Option, Some, None, slice_index_or}
 
--- what f makes of both, and None where one of them is null
+-- the result of f for both items, and None where one of them is null
 abbrev pub of_both : {X Y Z : Type 0} → (X → Y → Z) → Option X → Option Y → Option Z
 of_both f None y = None
 of_both f (Some x) None = None
 of_both f (Some x) (Some y) = Some (f x y)
 
--- whatever a test returns for two items is `test` of both
+-- whatever a closure returns for two items is the result of `test` for them
 abbrev pub AlwaysReturns : {X Y : Type 0} → (X → Y → Bool → Type 0) → (X → Y → Bool) → Type 0
 AlwaysReturns {X} {Y} returns test = (x : X) (y : Y) (result : Bool) → returns x y result → result ≡ test x y
 
--- this was returned for the items of two lists at an index
+-- the result that a closure returned for the items of two lists at an index
 pub record IsTestedAt {X Y : Type 0} (xs : List X) (ys : List Y) (returns : X → Y → Bool → Type 0) (index : ℕ) (result : Bool) : Type 0 where
   pub left : X
   pub right : Y

@@ -1,4 +1,4 @@
--- Items of arrays of byte strings and of texts, and how many bytes they have.
+-- Items of arrays of byte strings and of texts, and the number of their bytes.
 use Rattle.std.specs.Prelude.{ℕ, ◌+◌, List, [], ◌∷◌, ◌++◌, Option, None, Result, flat_map, length, slice_index_or, sum, sum_by}
 use Rattle.std.specs.Option.{option_map_or}
 use Rattle.arrow2_model.specs.Buffers.{buffer_items}
@@ -7,11 +7,11 @@ use Rattle.arrow2_text.specs.Binary.{BinaryParts, binary_items}
 use Rattle.arrow2_text.specs.Growth.{AppendsBinary, GrowingBinary}
 use Rattle.arrow2_types.specs.declared.error.Error.{Error}
 
--- how many bytes an item has: none where it is null
+-- the number of bytes of an item, 0 where it is null
 abbrev pub item_bytes : Option (List ℕ) → ℕ
 item_bytes item = option_map_or length item 0
 
--- how many bytes the slots of an array have, under nulls too
+-- the number of bytes of the slots of an array, under nulls too
 abbrev pub slot_bytes : BinaryParts → ℕ
 slot_bytes a = sum (lengths_of (buffer_items a.offsets))
 
@@ -19,11 +19,11 @@ slot_bytes a = sum (lengths_of (buffer_items a.offsets))
 abbrev pub binary_item : BinaryParts → ℕ → Option (List ℕ)
 binary_item a index = slice_index_or (binary_items a) index None
 
--- the items of an array, and those of others after them
+-- the items of an array, followed by the items of other arrays
 abbrev pub joined_items : {X : Type 0} → (X → BinaryParts) → BinaryParts → List X → List (Option (List ℕ))
 joined_items parts first others = binary_items first ++ flat_map (λ array. binary_items (parts array)) others
 
--- how many bytes the slots of all these arrays have, under nulls too
+-- the number of bytes of the slots of all these arrays, under nulls too
 abbrev pub joined_bytes : {X : Type 0} → (X → BinaryParts) → BinaryParts → List X → ℕ
 joined_bytes parts first others = slot_bytes first + sum_by (λ array. slot_bytes (parts array)) others
 

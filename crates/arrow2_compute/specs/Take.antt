@@ -1,7 +1,7 @@
 -- Items at indices that may be null.
 use Rattle.std.specs.Prelude.{◌≡◌, ◌≤ℤ◌, ◌<ℤ◌, ℕ, ℤ, pos, List, Option, Some, None, map, slice_index_or, unsigned_abs}
 
--- an index is null, or an index below n: `value` is the whole number that it stands for
+-- an index is null, or at least 0 and below n: `value` gives the whole number that it stands for
 abbrev pub IsInBoundsOrNull : {I : Type 0} → (I → ℤ) → ℕ → Option I → Type 0
 IsInBoundsOrNull value n None = Unit {0}
 IsInBoundsOrNull value n (Some index) = (pos 0 ≤ℤ value index) × (value index <ℤ pos n)
@@ -11,7 +11,7 @@ abbrev pub item_at : {I X : Type 0} → (I → ℤ) → List (Option X) → Opti
 item_at value items None = None
 item_at value items (Some index) = slice_index_or items (unsigned_abs (value index)) None
 
--- the items at indices, in their order
+-- the items at indices, in the order of the indices
 abbrev pub items_at : {I X : Type 0} → (I → ℤ) → List (Option X) → List (Option I) → List (Option X)
 items_at value items indices = map (item_at value items) indices
 

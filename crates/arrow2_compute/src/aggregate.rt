@@ -1,4 +1,4 @@
-//! What is made of all items of an array.
+//! Aggregates of all items of an array: the sum, the least item and the greatest item.
 ghost use Rattle.std.specs.Prelude.{◌≡◌, ◌<◌, ◌≤◌, ◌+◌, ◌-◌, ◌*◌, ◌^◌, ◌≤ℤ◌, ◌+ℤ◌, [], ◌∷◌, None, ℤ, length, pos, negsuc, IsTrue};
 ghost use Rattle.std.specs.Option.{option_map_or};
 ghost use Rattle.std.specs.Ordering.{is_le, is_ge, ord_min, ord_max};
@@ -14,18 +14,18 @@ use arrow2_chunk::bit_chunk_iter::BitChunkOnes;
 use arrow2_primitive::PrimitiveArray;
 use arrow2_types::native::NativeType;
 
-/// A native type of whole numbers of at most 64 bits, whose sums fit 128 bits, however many they are.
+/// A native type of whole numbers of at most 64 bits. The sum of the values of any slice fits an `i128`.
 pub trait WholeNumber: NativeType {
     // The number that a value stands for.
     ghost integer: { Self → ℤ };
 
-    /// Returns the number in 128 bits.
+    /// Returns the number as an `i128`.
     fn to_i128(self) -> i128
         ensures value { result ≡ integer self }
         ensures low { negsuc (2 ^ 63 - 1) ≤ℤ result }
         ensures high { result ≤ℤ pos (2 ^ 64 - 1) };
 
-    /// Returns how many values there are: fewer than 2⁶³, since each takes a byte of memory or more.
+    /// Returns the number of values. It is below 2⁶³, since each value takes a byte of memory or more.
     fn count(values: &[Self]) -> usize
         ensures value { result ≡ length values.now }
         ensures few { result < 2 ^ 63 };
@@ -127,9 +127,9 @@ impl WholeNumber for u64 {
     }
 }
 
-/// Returns the sum of the items that are not null, exactly: 0 where there is none. Does not allocate.
+/// Returns the exact sum of the items that are not null, or 0 where each item is null. Does not allocate.
 ///
-/// Differs from arrow2, whose sum is of the items' own type and wraps, and is `None` where no item is left.
+/// Differs from arrow2, whose sum has the type of the items and wraps, and is `None` where each item is null.
 #[tactic(auto, using(crate::proofs::Sums::sums))]
 pub fn sum<T: WholeNumber>(array: &PrimitiveArray<T>) -> i128
     ensures { result ≡ sum_of_non_null T.integer (primitive_items array.now) }
@@ -141,7 +141,7 @@ pub fn sum<T: WholeNumber>(array: &PrimitiveArray<T>) -> i128
     total
 }
 
-/// Returns a sum of `count` items with one item more, which adds nothing where it is null.
+/// Returns `total`, a sum of `count` items, plus one more item. A null adds nothing.
 fn with_item<T: WholeNumber>(total: i128, item: Option<T>, count: usize) -> i128
     requires few { count < 2 ^ 63 }
     requires low { pos 0 ≤ℤ (total +ℤ pos (count * 2 ^ 63)) }
@@ -156,12 +156,12 @@ fn with_item<T: WholeNumber>(total: i128, item: Option<T>, count: usize) -> i128
     }
 }
 
-/// Which of two values is kept.
+/// A choice between two values.
 trait Choice<T> {
     // The one that is kept.
     ghost kept: { T → T → T };
 
-    /// Returns the one that is kept.
+    /// Returns the value that is kept.
     fn of_two(first: T, second: T) -> T
         ensures { result ≡ kept first second };
 }
@@ -188,7 +188,7 @@ impl<T: NativeType + Ord> Choice<T> for Greater {
     }
 }
 
-/// Returns the least of the items that are not null, or `None` where there is none. Does not allocate.
+/// Returns the least of the items that are not null, or `None` where each item is null. Does not allocate.
 ///
 /// Stands for arrow2's `min_primitive`, which takes floats too.
 pub fn min<T: NativeType + Ord>(array: &PrimitiveArray<T>) -> Option<T>
@@ -197,7 +197,7 @@ pub fn min<T: NativeType + Ord>(array: &PrimitiveArray<T>) -> Option<T>
     best_item::<T, Lesser>(array)
 }
 
-/// Returns the greatest of the items that are not null, or `None` where there is none. Does not allocate.
+/// Returns the greatest of the items that are not null, or `None` where each item is null. Does not allocate.
 ///
 /// Stands for arrow2's `max_primitive`, which takes floats too.
 pub fn max<T: NativeType + Ord>(array: &PrimitiveArray<T>) -> Option<T>
@@ -206,7 +206,7 @@ pub fn max<T: NativeType + Ord>(array: &PrimitiveArray<T>) -> Option<T>
     best_item::<T, Greater>(array)
 }
 
-/// Returns what is kept of the items that are not null, or `None` where there is none.
+/// Returns the value that the choice keeps of all items that are not null, or `None` where each item is null.
 fn best_item<T: NativeType, C: Choice<T>>(array: &PrimitiveArray<T>) -> Option<T>
     ensures { result ≡ best_from C.kept None (non_null_values (primitive_items array.now)) }
 {
@@ -217,8 +217,8 @@ fn best_item<T: NativeType, C: Choice<T>>(array: &PrimitiveArray<T>) -> Option<T
     }
 }
 
-/// Returns what is kept of the values that are valid, word by word of the validity. Requires that both have equal
-/// lengths.
+/// Returns the value that the choice keeps of all valid values, or `None` where none is valid. Reads the validity word
+/// by word. Requires that both have equal lengths.
 fn best_valid<T: NativeType, C: Choice<T>>(values: &[T], validity: &Bitmap) -> Option<T>
     requires same_length { length (items_of validity.now) ≡ length values.now }
     ensures { result ≡ best_from C.kept None (selected values.entry.now (items_of validity.now)) }
@@ -235,7 +235,8 @@ fn best_valid<T: NativeType, C: Choice<T>>(values: &[T], validity: &Bitmap) -> O
     best_of_word::<T, C>(best, values, last)
 }
 
-/// Returns what is kept of `best` and of those of at most 64 values at whose index the bit of the word is set.
+/// Returns the value that the choice keeps of `best`, if there is one, and of the values at whose index the bit of the
+/// word is set. Requires at most 64 values.
 #[tactic(auto, using(crate::proofs::Best::best, crate::proofs::Selecting::selecting))]
 fn best_of_word<T: NativeType, C: Choice<T>>(best: Option<T>, values: &[T], word: u64) -> Option<T>
     requires few { length values.now ≤ 64 }
@@ -253,7 +254,7 @@ fn best_of_word<T: NativeType, C: Choice<T>>(best: Option<T>, values: &[T], word
     best
 }
 
-/// Returns what is kept of `best` and of these values.
+/// Returns the value that the choice keeps of `best`, if there is one, and of these values.
 #[tactic(auto, using(crate::proofs::Best::best))]
 fn best_of<T: NativeType, C: Choice<T>>(best: Option<T>, values: &[T]) -> Option<T>
     ensures { result ≡ best_from C.kept best values.now }
@@ -268,7 +269,7 @@ fn best_of<T: NativeType, C: Choice<T>>(best: Option<T>, values: &[T]) -> Option
     Some(best)
 }
 
-/// Returns what is kept of `best`, where it is there, and of a value.
+/// Returns the value that the choice keeps of `best`, if there is one, and of `value`.
 fn better<T: NativeType, C: Choice<T>>(best: Option<T>, value: T) -> T
     ensures { result ≡ option_map_or (λ other. C.kept other value) best value }
 {

@@ -1,4 +1,4 @@
-//! Arrays of byte strings and of texts, by what kernels need of them.
+//! A trait for arrays of byte strings and of texts, with the calls that kernels need.
 ghost use Rattle.std.specs.Prelude.{◌≡◌, ◌+◌, ◌<◌, ◌≤◌, [], ℕ, length, IfOk, IfErr};
 ghost use Rattle.arrow2_compute.specs.Sizes.{AppendsItem, binary_item, slot_bytes};
 ghost use Rattle.arrow2_model.specs.Parts.{part};
@@ -9,9 +9,9 @@ use arrow2_index::offset::Offset;
 use arrow2_text::{BinaryArray, MutableBinaryArray, MutableUtf8Array, Utf8Array};
 use arrow2_types::error::{Error, Result};
 
-/// An array of byte strings or of texts, with offsets of 32 or 64 bits. One set of kernels serves all of these.
+/// An array of byte strings or of texts, with offsets of 32 or 64 bits. One set of kernels serves all four types.
 pub trait Binary: Drop {
-    // What contracts see of it.
+    // What contracts see of the array.
     ghost parts: { Self → BinaryParts };
 
     // The greatest offset.
@@ -20,7 +20,7 @@ pub trait Binary: Drop {
     /// The type of the array that grows, which `freeze` turns into this array.
     type Growing: Drop;
 
-    // What contracts see of that.
+    // What contracts see of the array that grows.
     ghost growing: { Self.Growing → GrowingBinary };
 
     /// Returns the number of items, nulls too.
@@ -39,23 +39,24 @@ pub trait Binary: Drop {
         ensures data_type { IfOk result (λ a. (growing a).data_type ≡ (parts self.now).data_type) }
         ensures only { IfErr result (λ e. e ≡ Error.OutOfMemory) };
 
-    /// Appends item `index` of an array. Requires that it is below the length.
+    /// Appends item `index` of `array`. Requires that `index` is below the length of `array`.
     ///
     /// # Errors
     ///
     /// `Overflow` exactly if the last offset would pass the greatest one or the length is `usize::MAX`. Otherwise the
-    /// only error is `OutOfMemory`. After an error it holds the items that it held.
+    /// only error is `OutOfMemory`. After an error, `grown` holds the items that it held.
     fn push_item(grown: &mut Self::Growing, array: &Self, index: usize) -> Result<()>
         requires below { index < length (binary_items (parts array.now)) }
         ensures { AppendsItem GREATEST result (growing grown.old) (growing grown.new)
             (binary_item (parts array.now) index) };
 
-    /// Appends the `len` items of an array from item `start` on, with the bytes under nulls. Requires that they are
-    /// inside.
+    /// Appends the `len` items of `array` from item `start` on. The bytes under nulls are copied too: contracts state
+    /// their number. Requires that `start + len` is at most the length of `array`.
     ///
     /// # Errors
     ///
-    /// As of `push_item`.
+    /// `Overflow` exactly if the last offset would pass the greatest one or the new length would pass `usize::MAX`.
+    /// Otherwise the only error is `OutOfMemory`. After an error, `grown` holds the items that it held.
     fn push_items(grown: &mut Self::Growing, array: &Self, start: usize, len: usize) -> Result<()>
         requires inside { start + len ≤ length (binary_items (parts array.now)) }
         ensures { AppendsBinary GREATEST result (growing grown.old) (growing grown.new)

@@ -18,12 +18,12 @@ use arrow2_validity::Validity;
 use std::alloc::Global;
 use std::convert::TryFrom;
 
-/// An array whose items may be null, of any type: what arrow2 has as `dyn Array`.
+/// An array of any type, whose items may be null. In arrow2 it is `dyn Array`.
 pub trait Nullable {
-    // Item by item whether it is not null.
+    // For each item, whether it is not null.
     ghost known: { Self → List Bool };
 
-    /// Returns which items are not null.
+    /// Returns the validity of the items.
     fn known(&self) -> &Validity
         ensures { valid_items result.now ≡ known self.now };
 
@@ -93,8 +93,8 @@ pub fn is_null<A: Nullable>(array: &A) -> Result<BooleanArray>
     Ok(BooleanArray::new(nulls, None))
 }
 
-/// Returns, item by item, whether it is not null. No item of the result is null. Where the array has a validity bitmap,
-/// the values of the result share its bytes.
+/// Returns, item by item, whether the item is not null. The result has no nulls. Where the array has a validity bitmap,
+/// the result shares the bytes of this bitmap, which no clause states.
 ///
 /// # Errors
 ///
@@ -108,7 +108,7 @@ pub fn is_not_null<A: Nullable>(array: &A) -> Result<BooleanArray>
     Ok(BooleanArray::new(known, None))
 }
 
-/// Returns the bitmap of which items are null.
+/// Returns a bitmap whose true items are those that are null.
 fn nulls_of(alloc: Global, validity: &Validity) -> Result<Bitmap>
     ensures items { IfOk result (λ b. items_of b ≡ map not (valid_items validity.now)) }
     ensures only { IfErr result (λ e. e ≡ Error.OutOfMemory) }
@@ -119,7 +119,7 @@ fn nulls_of(alloc: Global, validity: &Validity) -> Result<Bitmap>
     }
 }
 
-/// Returns the bitmap of which items are not null.
+/// Returns a bitmap whose true items are those that are not null.
 fn known_of(alloc: Global, validity: &Validity) -> Result<Bitmap>
     ensures items { IfOk result (λ b. items_of b ≡ valid_items validity.now) }
     ensures only { IfErr result (λ e. e ≡ Error.OutOfMemory) }

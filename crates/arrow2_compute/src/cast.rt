@@ -1,4 +1,4 @@
-//! Numbers of one type as those of another.
+//! Casts of numbers from one native type to another.
 ghost use Rattle.std.specs.Prelude.{◌≡◌, ℕ, IfOk, IfErr, IsOk, MatchBool, OnOk, All};
 ghost use Rattle.std.specs.List.{AllZip};
 ghost use Rattle.arrow2_types.specs.Refusals.{IsInvalidArgumentOrOutOfMemory};
@@ -15,8 +15,9 @@ use num_traits::PrimInt;
 use std::alloc::Global;
 use std::rc::Rc;
 
-/// Returns the same numbers as another type, null where that type does not have the number, and where the item is null.
-/// Requires that the physical type of `data_type` is that of `O`.
+/// Returns an array of the same numbers with values of type `O`. An item of the result is null where the item of
+/// `array` is null, or where its number does not fit `O`. Requires that the physical type of `data_type` is that of
+/// `O`.
 ///
 /// Differs from arrow2, which takes floats too.
 ///
@@ -41,15 +42,15 @@ pub fn primitive_to_primitive<I: NativeType + PrimInt, O: NativeType + PrimInt>(
     numbers.freeze()
 }
 
-/// Returns the same numbers as another type, null where the item is null. Requires that the physical type of
-/// `data_type` is that of `O`.
+/// Returns an array of the same numbers with values of type `O`. An item of the result is null where the item of
+/// `array` is null. Requires that the physical type of `data_type` is that of `O`.
 ///
-/// It goes over the numbers twice: first to see that they fit, before anything is allocated. arrow2 has no such call.
+/// Reads the numbers twice: first it checks that all of them fit, then it allocates and casts. arrow2 has no such call.
 ///
 /// # Errors
 ///
 /// `InvalidArgumentError` exactly if the number of an item does not fit `O`, or `OutOfMemory` if the message cannot be
-/// allocated; the message names the first such item. Otherwise the only error is `OutOfMemory`.
+/// allocated; the message has the index of the first such item. Otherwise the only error is `OutOfMemory`.
 pub fn try_primitive_to_primitive<I: NativeType + PrimInt, O: NativeType + PrimInt>(
     array: &PrimitiveArray<I>,
     data_type: Rc<DataType>,
@@ -69,7 +70,7 @@ pub fn try_primitive_to_primitive<I: NativeType + PrimInt, O: NativeType + PrimI
     primitive_to_primitive(array, data_type)
 }
 
-/// Refuses an array one of whose numbers the other type lacks.
+/// Returns an error if the number of an item does not fit `O`.
 fn check_fits<I: NativeType + PrimInt, O: NativeType + PrimInt>(
     array: &PrimitiveArray<I>,
 ) -> Result<()>
@@ -87,7 +88,7 @@ fn check_fits<I: NativeType + PrimInt, O: NativeType + PrimInt>(
     Ok(())
 }
 
-/// Returns whether the other type has the number, or there is none.
+/// Returns whether the item is null or its number fits `O`.
 fn item_fits<I: NativeType + PrimInt, O: NativeType + PrimInt>(item: Option<I>) -> bool
     ensures { MatchBool result (Fits I.value O.fits item) (¬ (Fits I.value O.fits item)) }
 {
@@ -97,7 +98,7 @@ fn item_fits<I: NativeType + PrimInt, O: NativeType + PrimInt>(item: Option<I>) 
     }
 }
 
-/// Returns the same number as another type, or `None` where that type does not have it, and where there is none.
+/// Returns the same number as an `O`, or `None` where the item is null, or where its number does not fit `O`.
 fn cast_item<I: NativeType + PrimInt, O: NativeType + PrimInt>(item: Option<I>) -> Option<O>
     ensures { IsCast I.value O.value O.fits item result }
 {
@@ -107,7 +108,7 @@ fn cast_item<I: NativeType + PrimInt, O: NativeType + PrimInt>(item: Option<I>) 
     }
 }
 
-/// Returns the error that names an item whose number the other type lacks.
+/// Returns the error that names the index of an item whose number does not fit.
 #[tactic(auto, unfolding(crate::specs::Casts::not_fitting_message))]
 fn misfit(alloc: Global, index: usize) -> Error
     ensures { IsInvalidArgumentOrOutOfMemory result (not_fitting_message index) }

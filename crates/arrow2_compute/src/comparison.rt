@@ -1,4 +1,4 @@
-//! Comparisons of items, null where an item is null.
+//! Comparisons of items. A result is null where an item is null.
 ghost use Rattle.std.specs.Prelude.{◌≡◌, ◌<◌, [], Bool, length, map, not, option_map, IfOk, IfErr};
 ghost use Rattle.std.specs.Ordering.{partial_lt, partial_le, partial_gt, partial_ge};
 ghost use Rattle.std.specs.Simd.Lanes.{zip2};
@@ -14,8 +14,9 @@ use arrow2_primitive::PrimitiveArray;
 use arrow2_types::error::{Error, Result};
 use arrow2_types::native::NativeType;
 
-/// Returns, item by item, what a test returns for the value, and null where the item is null. Requires that the test
-/// may be called at each value, also under a null.
+/// Returns, item by item, the result of `test` for the value, and null where the item is null. The contract states this
+/// where the contract of `test` fixes its result for each value. Requires that `test` may be called with each stored
+/// value, also under a null.
 ///
 /// # Errors
 ///
@@ -36,7 +37,7 @@ pub fn tested<T: NativeType, F: Fn(&T) -> bool>(
     Ok(BooleanArray::from_parts(tested, validity.clone()?))
 }
 
-/// Returns, item by item, whether it equals the scalar, and null where it is null.
+/// Returns, item by item, whether the value equals the scalar, and null where the item is null.
 ///
 /// # Errors
 ///
@@ -49,7 +50,7 @@ pub fn eq_scalar<T: NativeType>(array: &PrimitiveArray<T>, scalar: T) -> Result<
     tested(array, |value| *value == scalar)
 }
 
-/// Returns, item by item, whether it differs from the scalar, and null where it is null.
+/// Returns, item by item, whether the value differs from the scalar, and null where the item is null.
 ///
 /// # Errors
 ///
@@ -62,7 +63,7 @@ pub fn neq_scalar<T: NativeType>(array: &PrimitiveArray<T>, scalar: T) -> Result
     tested(array, |value| *value != scalar)
 }
 
-/// Returns, item by item, whether it is below the scalar, and null where it is null.
+/// Returns, item by item, whether the value is below the scalar, and null where the item is null.
 ///
 /// # Errors
 ///
@@ -78,7 +79,7 @@ pub fn lt_scalar<T: NativeType + PartialOrd>(
     tested(array, |value| *value < scalar)
 }
 
-/// Returns, item by item, whether it is at most the scalar, and null where it is null.
+/// Returns, item by item, whether the value is at most the scalar, and null where the item is null.
 ///
 /// # Errors
 ///
@@ -94,7 +95,7 @@ pub fn lt_eq_scalar<T: NativeType + PartialOrd>(
     tested(array, |value| *value <= scalar)
 }
 
-/// Returns, item by item, whether it is above the scalar, and null where it is null.
+/// Returns, item by item, whether the value is above the scalar, and null where the item is null.
 ///
 /// # Errors
 ///
@@ -110,7 +111,7 @@ pub fn gt_scalar<T: NativeType + PartialOrd>(
     tested(array, |value| *value > scalar)
 }
 
-/// Returns, item by item, whether it is at least the scalar, and null where it is null.
+/// Returns, item by item, whether the value is at least the scalar, and null where the item is null.
 ///
 /// # Errors
 ///
@@ -126,8 +127,9 @@ pub fn gt_eq_scalar<T: NativeType + PartialOrd>(
     tested(array, |value| *value >= scalar)
 }
 
-/// Returns, index by index, what a test returns for the values of both, and null where an item of either is null.
-/// Requires that both have equal lengths, and that the test may be called at any two values.
+/// Returns, index by index, the result of `test` for the values of both arrays, and null where either item is null. The
+/// contract states this where the contract of `test` fixes its result for every two values. Requires that both have
+/// equal lengths, and that `test` may be called with any two values.
 ///
 /// # Errors
 ///

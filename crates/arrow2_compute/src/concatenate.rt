@@ -1,4 +1,4 @@
-//! Arrays one after the other.
+//! The items of several arrays, one after the other.
 ghost use Rattle.std.specs.Prelude.{◌≡◌, ◌+◌, ◌<◌, ◌≤◌, ◌^◌, ◌⊎◌, ◌++◌, length, IfOk, IfErr, IsErrOf, OnOk};
 ghost use Rattle.std.specs.List.{flat_map};
 ghost use Rattle.arrow2_array.specs.Items.{boolean_items};
@@ -12,14 +12,14 @@ use arrow2_primitive::{MutablePrimitiveArray, PrimitiveArray};
 use arrow2_types::error::{Error, Result};
 use arrow2_types::native::NativeType;
 
-/// Returns the items of `first` and of these arrays, one after the other, with the logical type of `first`.
+/// Returns the items of `first` and then of each of `others`, one after the other, with the logical type of `first`.
 ///
 /// Differs from arrow2: the first array is a parameter of its own, so there is at least one. Logical types are not
 /// compared.
 ///
 /// # Errors
 ///
-/// `OutOfMemory`, or `Overflow` only if a `usize` cannot count the items.
+/// `Overflow` or `OutOfMemory`. `Overflow` is possible only if a `usize` cannot count the items.
 #[tactic(auto, using(crate::proofs::Filtered::joining))]
 pub fn concatenate<T: NativeType>(
     first: &PrimitiveArray<T>,
@@ -40,15 +40,15 @@ pub fn concatenate<T: NativeType>(
     joined.freeze()
 }
 
-/// Returns the byte strings or texts of `first` and of these arrays, one after the other, with the logical type of
-/// `first`.
+/// Returns the byte strings or texts of `first` and then of each of `others`, one after the other, with the logical
+/// type of `first`.
 ///
 /// In arrow2 it is `concatenate`.
 ///
 /// # Errors
 ///
-/// `OutOfMemory`, or `Overflow` only if the slots of all arrays, those under nulls too, have more bytes than the
-/// greatest offset, or a `usize` cannot count the items: then never `Ok`.
+/// If the slots of all arrays together, null slots too, have more bytes than the greatest offset, or if a `usize`
+/// cannot count the items: `Overflow` or `OutOfMemory`, never `Ok`. Otherwise the only error is `OutOfMemory`.
 #[tactic(auto, using(crate::proofs::Filtered::joining))]
 pub fn concatenate_binary<A: Binary>(first: &A, others: &[&A]) -> Result<A>
     ensures items { IfOk result (λ a.
@@ -70,13 +70,13 @@ pub fn concatenate_binary<A: Binary>(first: &A, others: &[&A]) -> Result<A>
     A::freeze(joined)
 }
 
-/// Returns the booleans of `first` and of these arrays, one after the other.
+/// Returns the booleans of `first` and then of each of `others`, one after the other.
 ///
 /// In arrow2 it is `concatenate`.
 ///
 /// # Errors
 ///
-/// `OutOfMemory`, or `Overflow` only if a `usize` cannot count the items.
+/// `Overflow` or `OutOfMemory`. `Overflow` is possible only if a `usize` cannot count the items.
 #[tactic(auto, using(crate::proofs::Filtered::joining))]
 pub fn concatenate_boolean(first: &BooleanArray, others: &[&BooleanArray]) -> Result<BooleanArray>
     ensures items { IfOk result (λ a. boolean_items a

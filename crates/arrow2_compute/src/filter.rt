@@ -27,7 +27,7 @@ use std::convert::TryFrom;
 
 /// Returns the items at whose index the mask is true. Requires that both have equal lengths.
 ///
-/// Differs from arrow2: the mask is a bitmap, in which no item is null.
+/// Differs from arrow2: the mask is a bitmap, which has no nulls.
 ///
 /// # Errors
 ///
@@ -66,7 +66,7 @@ fn selected_values<T: NativeType>(
     Ok(kept)
 }
 
-/// Appends those of at most 64 values at whose index the bit of the word is set.
+/// Appends the values at whose index the bit of the word is set. Requires at most 64 values.
 #[tactic(auto, using(crate::proofs::Selecting::selecting))]
 fn push_values<T: NativeType>(
     kept: &mut Vec<T>,
@@ -87,7 +87,7 @@ fn push_values<T: NativeType>(
     Ok(())
 }
 
-/// Returns which of the items at whose index the mask is true are not null. Requires that both have equal lengths.
+/// Returns the validity of the items at whose index the mask is true. Requires that both have equal lengths.
 fn selected_validity(validity: &Validity, mask: &Bitmap) -> Result<Validity>
     requires same_length { length (items_of mask.now) ≡ length (valid_items validity.now) }
     ensures items { IfOk result (λ v. valid_items v
@@ -121,7 +121,8 @@ fn selected_bits(bitmap: &Bitmap, mask: &Bitmap) -> Result<Bitmap>
     Bitmap::try_from(kept)
 }
 
-/// Appends the bits of a block at whose index the bit of the word is set. Requires that a `usize` counts all bits.
+/// Appends the bits of `block` at whose index the bit of `word` is set. Requires that the new length does not pass
+/// `usize::MAX`.
 #[tactic(auto, using(crate::proofs::Selecting::selecting))]
 fn push_bits(kept: &mut MutableBitmap, block: u64, word: u64) -> Result<()>
     requires fits { length kept.old.items + length (selected (unnum 64 block) (unnum 64 word)) < 2 ^ 64 }
@@ -137,7 +138,8 @@ fn push_bits(kept: &mut MutableBitmap, block: u64, word: u64) -> Result<()>
     Ok(())
 }
 
-/// Returns the items at whose index the mask is `Some(true)`. Requires that both have equal lengths.
+/// Returns the items at whose index the mask is `Some(true)`: a null of the mask counts as false. Requires that both
+/// have equal lengths.
 ///
 /// In arrow2 it is `filter`.
 ///
@@ -157,7 +159,7 @@ pub fn filter_by_array<T: NativeType>(
     filter(array, &true_items(mask)?)
 }
 
-/// Returns, item by item, whether it is true, and not null.
+/// Returns, for each item of the mask, whether it is true and not null.
 fn true_items(mask: &BooleanArray) -> Result<Bitmap>
     ensures items { IfOk result (λ b. items_of b ≡ map is_true (boolean_items mask.now)) }
     ensures only { IfErr result (λ e. e ≡ Error.OutOfMemory) }

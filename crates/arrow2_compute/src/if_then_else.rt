@@ -23,7 +23,7 @@ use std::convert::TryFrom;
 /// Returns, index by index, the item of `lhs` where the mask is true, and that of `rhs` elsewhere, with the logical
 /// type of `lhs`. Requires that all three have equal lengths.
 ///
-/// Differs from arrow2: the mask is a bitmap, in which no item is null.
+/// Differs from arrow2: the mask is a bitmap, which has no nulls.
 ///
 /// # Errors
 ///
@@ -73,8 +73,8 @@ fn either<T: NativeType>(is_left: bool, left: T, right: T) -> T
     if is_left { left } else { right }
 }
 
-/// Returns, index by index, whether the item of `lhs` is not null where the mask is true, and that of `rhs` elsewhere.
-/// Requires that all three have equal lengths.
+/// Returns, index by index, the validity of the item of `lhs` where the mask is true, and of the item of `rhs`
+/// elsewhere. Requires that all three have equal lengths.
 fn chosen_validity(mask: &Bitmap, lhs: &Validity, rhs: &Validity) -> Result<Validity>
     requires left { length (items_of mask.now) ≡ length (valid_items lhs.now) }
     requires right { length (items_of mask.now) ≡ length (valid_items rhs.now) }
@@ -91,7 +91,7 @@ fn chosen_validity(mask: &Bitmap, lhs: &Validity, rhs: &Validity) -> Result<Vali
     }
 }
 
-/// Returns the validity that these bits are.
+/// Returns the validity whose bitmap these bits are.
 fn by_bits(bits: Bitmap) -> Validity
     ensures items { valid_items result ≡ items_of bits }
     ensures len { result.len ≡ length (items_of bits) }
@@ -121,7 +121,8 @@ fn chosen_bits(mask: &Bitmap, lhs: &Bitmap, rhs: &Bitmap) -> Result<Bitmap>
 ///
 /// # Errors
 ///
-/// `OutOfMemory`, or `Overflow` only if the chosen items have more bytes than the greatest offset: then never `Ok`.
+/// If the chosen items together have more bytes than the greatest offset: `Overflow` or `OutOfMemory`, never `Ok`.
+/// Otherwise the only error is `OutOfMemory`.
 #[tactic(auto, using(crate::proofs::Weighed::weighed))]
 pub fn if_then_else_binary<A: Binary>(mask: &Bitmap, lhs: &A, rhs: &A) -> Result<A>
     // The mask has an item for each slot of both arrays.
@@ -145,7 +146,8 @@ pub fn if_then_else_binary<A: Binary>(mask: &Bitmap, lhs: &A, rhs: &A) -> Result
     A::freeze(items)
 }
 
-/// Appends item `position` of `lhs` where `is_left`, else that of `rhs`. Requires that it is below the length of both.
+/// Appends item `position` of `lhs` where `is_left`, else item `position` of `rhs`. Requires that `position` is below
+/// the length of both.
 fn push_either<A: Binary>(
     grown: &mut A::Growing,
     is_left: bool,

@@ -1,4 +1,4 @@
-//! Functions of whole arrays.
+//! Functions on whole arrays.
 #![tactic(auto)]
 
 pub mod aggregate;

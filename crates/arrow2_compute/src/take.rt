@@ -23,9 +23,9 @@ use arrow2_validity::Validity;
 use std::alloc::AllocError;
 use std::convert::TryFrom;
 
-/// Returns the items at these indices, in their order. Requires that each is below the length.
+/// Returns the items at these indices, in the order of the indices. Requires that each index is below the length.
 ///
-/// Differs from arrow2: the indices are numbers, none of which is null.
+/// Differs from arrow2: the indices are a slice of numbers, which has no nulls.
 ///
 /// # Errors
 ///
@@ -46,7 +46,7 @@ pub fn take<T: NativeType>(
     Ok(PrimitiveArray::new(data_type, values, validity.into_bitmap()))
 }
 
-/// Returns the stored values at these indices, those under nulls too. Requires that each is below the length.
+/// Returns the stored values at these indices, those under nulls too. Requires that each index is below the length.
 fn values_at<T: NativeType>(
     values: &Buffer<T>,
     indices: &[usize],
@@ -62,7 +62,7 @@ fn values_at<T: NativeType>(
     Ok(taken)
 }
 
-/// Returns which of the items at these indices are not null. Requires that each index is below the length.
+/// Returns the validity of the items at these indices. Requires that each index is below the length.
 fn validity_at(validity: &Validity, indices: &[usize]) -> Result<Validity>
     requires inside { All (λ index. index < length (valid_items validity.now)) indices.now }
     ensures items { IfOk result (λ v. valid_items v
@@ -76,7 +76,7 @@ fn validity_at(validity: &Validity, indices: &[usize]) -> Result<Validity>
     Ok(Validity::new(indices.len(), Some(bits_at(bitmap, indices)?)))
 }
 
-/// Returns the items of a bitmap at these indices. Requires that each is below the length.
+/// Returns the items of a bitmap at these indices. Requires that each index is below the length.
 fn bits_at(bitmap: &Bitmap, indices: &[usize]) -> Result<Bitmap>
     requires inside { All (λ index. index < length (items_of bitmap.now)) indices.now }
     ensures items { IfOk result (λ b. items_of b
@@ -94,8 +94,8 @@ fn bits_at(bitmap: &Bitmap, indices: &[usize]) -> Result<Bitmap>
     )
 }
 
-/// Returns the items at the indices that an array has, in their order: null where the index is null. The number stored
-/// under a null is not read. Requires that each index that is not null is below the length.
+/// Returns, for each index in `indices`, the item at this index, and null where the index is null. The number stored
+/// under a null index has no effect. Requires that each index is null, or at least 0 and below the length.
 ///
 /// In arrow2 it is `take`.
 ///
@@ -118,8 +118,8 @@ pub fn take_by_array<T: NativeType, I: Index>(
     Ok(PrimitiveArray::new(data_type, values, validity))
 }
 
-/// Returns the values of the items at the indices of an array, and one that is not specified in place of a null.
-/// Requires that each index that is not null is below the length.
+/// Returns, for each index in `indices`, the value of the item at this index. Where the index or the item is null, the
+/// value is not specified. Requires that each index is null, or at least 0 and below the length.
 fn values_by_array<T: NativeType, I: Index>(
     array: &PrimitiveArray<T>,
     indices: &PrimitiveArray<I>,
@@ -138,8 +138,8 @@ fn values_by_array<T: NativeType, I: Index>(
     Ok(taken)
 }
 
-/// Returns whether the items at the indices of an array are not null. Requires that each index that is not null is
-/// below the length.
+/// Returns, for each index in `indices`, whether the item at this index is not null, and false where the index is null.
+/// Requires that each index is null, or at least 0 and below the length.
 fn bits_by_array<T: NativeType, I: Index>(
     array: &PrimitiveArray<T>,
     indices: &PrimitiveArray<I>,
@@ -161,7 +161,8 @@ fn bits_by_array<T: NativeType, I: Index>(
     )
 }
 
-/// Returns the item at an index, null where the index is. Requires that it is below the length.
+/// Returns the item at an index, or null where the index is null. Requires that the index is null, or at least 0 and
+/// below the length.
 fn item_at<T: NativeType, I: Index>(array: &PrimitiveArray<T>, index: Option<I>) -> Option<T>
     requires inside { IsInBoundsOrNull I.value (length (primitive_items array.now)) index }
     ensures { result ≡ item_at I.value (primitive_items array.now) index }
@@ -172,13 +173,15 @@ fn item_at<T: NativeType, I: Index>(array: &PrimitiveArray<T>, index: Option<I>)
     }
 }
 
-/// Returns the byte strings or texts at these indices, in their order. Requires that each is below the length.
+/// Returns the byte strings or texts at these indices, in the order of the indices. Requires that each index is below
+/// the length.
 ///
 /// In arrow2 it is `take`, whose indices are an array.
 ///
 /// # Errors
 ///
-/// `OutOfMemory`, or `Overflow` only if the items taken have more bytes than the greatest offset: then never `Ok`.
+/// If the taken items together have more bytes than the greatest offset: `Overflow` or `OutOfMemory`, never `Ok`.
+/// Otherwise the only error is `OutOfMemory`.
 #[tactic(auto, using(crate::proofs::Weighed::weighed))]
 pub fn take_binary<A: Binary>(array: &A, indices: &[usize]) -> Result<A>
     requires inside { All (λ index. index < length (binary_items (A.parts array.now))) indices.now }
@@ -198,7 +201,7 @@ pub fn take_binary<A: Binary>(array: &A, indices: &[usize]) -> Result<A>
     A::freeze(taken)
 }
 
-/// Returns the booleans at these indices, in their order. Requires that each is below the length.
+/// Returns the booleans at these indices, in the order of the indices. Requires that each index is below the length.
 ///
 /// In arrow2 it is `take`, whose indices are an array.
 ///

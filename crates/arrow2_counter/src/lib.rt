@@ -1,4 +1,4 @@
-//! Counts for contracts alone, which take no bytes when the program runs.
+//! Counters that only contracts can read. They take no bytes when the program runs.
 #![tactic(auto)]
 
 ghost use Rattle.std.specs.Prelude.{◌≡◌, ◌+◌, ℕ};
@@ -32,8 +32,8 @@ impl Tally {
     }
 }
 
-/// How often something came: contracts see the number, and no code can read it. It takes no bytes when the program
-/// runs, and none is made of another, so that nothing is counted twice.
+/// Counts how often something happened: contracts see the number, and no code can read it. It takes no bytes when the
+/// program runs. It cannot be copied or cloned, so nothing is counted twice.
 #[derive(Drop)]
 pub struct Counter {
     tally: Tally,

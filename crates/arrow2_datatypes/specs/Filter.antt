@@ -4,14 +4,14 @@ use Rattle.std.specs.List.{enumerate_from}
 use denote.Ref.{Bor}
 use Rattle.arrow2_datatypes.specs.declared.field.Field.{Field}
 
--- a predicate may be called with each index of a list and the field there
+-- a predicate may be called with each index of a list and the field at that index
 abbrev pub IsCallableWithFields : (ℕ → Bor Field → Type 0) → List Field → Type 0
 IsCallableWithFields may fields = (index : ℕ) (field : Bor Field) → index < length fields → slice_index_or fields index field.now ≡ field.now → may index field
 
--- every result at one of the first n indices and a field is that of accepts
+-- every result for one of the first n indices and a field is the result of `accepts`
 abbrev pub ReturnsOnFields : ℕ → (ℕ → Bor Field → Bool → Type 0) → (ℕ → Field → Bool) → Type 0
 ReturnsOnFields n results accepts = (index : ℕ) (field : Bor Field) (answer : Bool) → index < n → results index field answer → answer ≡ accepts index field.now
 
--- the items that are accepted, each by its index in the list and by itself, in order
+-- the items for which `accepts` is true, given the index of the item and the item, in order
 abbrev pub accepted : {X : Type 0} → (ℕ → X → Bool) → List X → List X
 accepted {X} accepts items = map (λ (p : ℕ × X). p.1) (filter (λ p. accepts p.0 p.1) (enumerate_from 0 items))

@@ -1,4 +1,4 @@
--- Which type belongs to which: a line a row.
+-- The layout of each logical type, and the logical type of each native type: one line for each case.
 use Rattle.arrow2_types.specs.declared.primitive.PrimitiveType.{PrimitiveType}
 use Rattle.arrow2_types.specs.declared.primitive.PrimitiveType.TheVariants as Primitive
 use Rattle.arrow2_datatypes.specs.declared.physical_type.IntegerType.{IntegerType}
@@ -48,12 +48,12 @@ physical (Decimal precision scale) = Physical.Primitive Primitive.Int128
 physical (Decimal256 precision scale) = Physical.Primitive Primitive.Int256
 physical (Extension' name position inner metadata) = physical inner
 
--- the logical type of extensions
+-- a type without its extensions
 abbrev pub logical : DataType → DataType
 logical (Extension' name position inner metadata) = logical inner
 logical t = t
 
--- the whole-number type of an integer type
+-- the logical type of an integer type
 abbrev pub of_integer : IntegerType → DataType
 of_integer Integer.Int8 = Int8
 of_integer Integer.Int16 = Int16
@@ -64,7 +64,7 @@ of_integer Integer.UInt16 = UInt16
 of_integer Integer.UInt32 = UInt32
 of_integer Integer.UInt64 = UInt64
 
--- the type of an array of a native type, unless another is given
+-- the logical type of an array of a native type, unless another one is given
 abbrev pub of_primitive : PrimitiveType → DataType
 of_primitive Primitive.Int8 = Int8
 of_primitive Primitive.Int16 = Int16

@@ -19,19 +19,19 @@ use std::collections::BTreeMap;
 #[cycle(types)]
 #[derive(Debug, Clone, PartialEq, Eq, Hash, Drop)]
 pub struct Field {
-    /// Its name.
+    /// The name.
     pub name: String,
     /// Its logical type.
     pub data_type: DataType,
-    /// Whether it may have nulls.
+    /// Whether the column may have nulls.
     pub is_nullable: bool,
     /// The metadata of the field.
     pub metadata: Metadata,
 }
 
 impl Field {
-    /// Returns a field with no metadata. Does not allocate: `alloc` is for the metadata to come, where arrow2 takes
-    /// none.
+    /// Returns a field with no metadata. Does not allocate: the map of the metadata keeps `alloc` for later. arrow2's
+    /// `new` takes no allocator.
     pub fn new(alloc: Global, name: String, data_type: DataType, is_nullable: bool) -> Field
         ensures name { result.name ≡ name }
         ensures data_type { result.data_type ≡ data_type }

@@ -1,4 +1,4 @@
-//! Laws of the type tables. Each function is its law and nothing else.
+//! Laws of the type tables. The contract of each function is a law, and its body is empty.
 ghost use Rattle.std.specs.Prelude.{◌≡◌, IsTrue};
 ghost use Rattle.arrow2_types.specs.declared.primitive.PrimitiveType.{PrimitiveType};
 ghost use Rattle.arrow2_datatypes.specs.declared.DataType.{DataType};
@@ -9,19 +9,19 @@ use crate::{DataType, Field, PhysicalType};
 use std::cmp::PartialEq;
 use std::hash::Hash;
 
-/// The type of an array of a native type is laid out as that native type.
+/// The logical type that belongs to a native type has the layout of that native type.
 #[tactic(auto, using(crate::proofs::Tables::tables))]
 pub fn a_native_type_is_laid_out_as_itself()
     ensures { (p : PrimitiveType) → physical (of_primitive p) ≡ PhysicalType.Primitive p }
 {}
 
-/// A type and its logical type, without its extensions, have the same layout.
+/// A type has the same layout with and without its extensions.
 #[tactic(auto, using(crate::proofs::Tables::tables))]
 pub fn extensions_are_laid_out_as_what_they_extend()
     ensures { (t : DataType) → physical (logical t) ≡ physical t }
 {}
 
-/// The logical type of a type is no extension: it is its own logical type.
+/// A type from which the extensions were removed has no more of them: to remove them again changes nothing.
 #[tactic(auto, using(crate::proofs::Tables::tables))]
 pub fn a_logical_type_is_its_own()
     ensures { (t : DataType) → logical (logical t) ≡ logical t }

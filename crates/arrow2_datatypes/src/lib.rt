@@ -18,14 +18,14 @@ pub use schema::Schema;
 use std::collections::BTreeMap;
 use std::rc::Rc;
 
-/// The metadata of a field or a schema: texts under names.
+/// The metadata of a field or a schema: a text for each key.
 pub type Metadata = BTreeMap<String, String>;
 
-/// A schema that several own, all of them on one thread: an `Rc`, where arrow2 has an `Arc`.
+/// A schema with several owners, all on one thread: an `Rc`, where arrow2 has an `Arc`.
 pub type SchemaRef = Rc<Schema>;
 
-/// A logical type: the meaning of the values of an array. Each has one [`PhysicalType`], which specifies its layout. An
-/// extension gives a type a name and a text of its own, and is otherwise the type that it extends.
+/// A logical type: the meaning of the values of an array. Each logical type has one [`PhysicalType`], which specifies
+/// the layout. An extension adds a name and optional metadata to a type, and has the layout of that type.
 #[cycle(types)]
 #[derive(Debug, Clone, PartialEq, Eq, Hash, Drop)]
 pub enum DataType {
@@ -55,12 +55,13 @@ pub enum DataType {
     Float32,
     /// Floats of 64 bits.
     Float64,
-    /// Points in time, as 64-bit counts of a unit since the start of 1970 in UTC. With a time zone, by its name or as
-    /// an offset such as `+07:30`, they are shown in that zone; without one they have no zone.
+    /// Points in time, as 64-bit counts of a unit since the start of 1970. The text, if there is one, is the time zone
+    /// in which they are shown: its name, or an offset such as `+07:30`. They are then counted from the start of 1970
+    /// in UTC. Without a text, they have no time zone.
     Timestamp(TimeUnit, Option<String>),
     /// Days since the start of 1970, in 32 bits.
     Date32,
-    /// Milliseconds since the start of 1970, in 64 bits: whole days.
+    /// Days since the start of 1970, counted in milliseconds, in 64 bits.
     Date64,
     /// Times since midnight in seconds or milliseconds, in 32 bits.
     Time32(TimeUnit),
@@ -86,17 +87,18 @@ pub enum DataType {
     FixedSizeList(Box<Field>, usize),
     /// Lists of the field's type, with offsets of 64 bits.
     LargeList(Box<Field>),
-    /// One value of each field.
+    /// Structs: each has one value for each field.
     Struct(Vec<Field>),
-    /// A value of one of the fields each. The numbers, if any, name the fields in turn.
+    /// Unions: each value belongs to one of the fields. The numbers, if there are any, are the type ids of the fields,
+    /// in the order of the fields.
     Union(Vec<Field>, Option<Vec<i32>>, UnionMode),
     /// Lists of pairs of a key and a value: the field is a `Struct` of these two. The flag states whether the keys are
     /// sorted.
     Map(Box<Field>, bool),
-    /// Indices of an integer type into values of a type. The flag states whether these are sorted.
+    /// Indices of an integer type into values of a type. The flag states whether the values are sorted.
     Dictionary(IntegerType, Box<DataType>, bool),
-    /// Decimals in 128 bits, by their precision, which is the number of digits, and their scale, which is the number of
-    /// digits after the point: 999.99 has precision 5 and scale 2.
+    /// Decimals in 128 bits. The first number is their precision, the number of digits; the second is their scale, the
+    /// number of digits after the point. 999.99 has precision 5 and scale 2.
     Decimal(usize, usize),
     /// The same in 256 bits.
     Decimal256(usize, usize),
@@ -107,9 +109,9 @@ pub enum DataType {
 /// How the fields of a union are laid out.
 #[derive(Debug, Clone, Copy, PartialEq, Eq, Hash)]
 pub enum UnionMode {
-    /// Each field has only the values that are its own.
+    /// The array of a field has only the values that belong to that field.
     Dense,
-    /// Each field is as long as the union.
+    /// The array of each field has the length of the union.
     Sparse,
 }
 
@@ -138,7 +140,8 @@ pub enum IntervalUnit {
 }
 
 impl DataType {
-    /// Returns the layout of its values: for an extension, that of the type that it extends.
+    /// Returns the physical type, which is the layout of the values. An extension has the physical type of the type
+    /// that it extends.
     pub fn to_physical_type(&self) -> PhysicalType
         ensures { result ≡ physical self.now }
     {
@@ -186,7 +189,8 @@ impl DataType {
         }
     }
 
-    /// Returns the type itself, or its logical type, without all its extensions. It is never an extension.
+    /// Returns the type without its extensions: the type itself if it is no extension, else the type that is left when
+    /// each extension is removed. The result is never an extension.
     pub fn to_logical_type(&self) -> &DataType
         ensures { result.now ≡ logical self.now }
     {
@@ -197,7 +201,7 @@ impl DataType {
     }
 }
 
-/// The integers of this type.
+/// The type of the same name.
 impl From<IntegerType> for DataType {
     ghost from_gives = { λ integer t. t ≡ of_integer integer };
 
@@ -215,8 +219,9 @@ impl From<IntegerType> for DataType {
     }
 }
 
-/// A type whose values are laid out so: that of the same name where there is one, decimals of 32 digits and scale 32
-/// for the numbers of 128 and 256 bits, and intervals for the spans of time.
+/// The logical type that belongs to a native type: the type of the same name where there is one, a decimal of precision
+/// 32 and scale 32 for `Int128` and for `Int256`, and the interval of the same layout for `DaysMs` and for
+/// `MonthDayNano`.
 impl From<PrimitiveType> for DataType {
     ghost from_gives = { λ primitive t. t ≡ of_primitive primitive };
 
@@ -268,14 +273,15 @@ impl UnionMode {
     }
 }
 
-/// Returns the extension that a field's metadata names: the text under `ARROW:extension:name`, and the one under
-/// `ARROW:extension:metadata` where it is there. `None` where the name is not there, whatever else is.
+/// Returns the extension in the metadata of a field: its name, which is the text under `ARROW:extension:name`, and its
+/// metadata, which is the text under `ARROW:extension:metadata` if there is one. Returns `None` where there is no name,
+/// also where there is a text under `ARROW:extension:metadata`.
 ///
 /// arrow2 returns no `Result`.
 ///
 /// # Errors
 ///
-/// `OutOfMemory` alone, and only where the name is there.
+/// `OutOfMemory` alone, and only where there is a name.
 pub fn get_extension(metadata: &Metadata) -> Result<Option<(String, Option<String>)>>
     ensures ok { IfOk result (λ found. texts found ≡ extension metadata.now) }
     ensures succeeds { get_by_text metadata.now (codes "ARROW:extension:name") ≡ None →

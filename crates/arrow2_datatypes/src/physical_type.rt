@@ -1,20 +1,20 @@
-//! How arrays are laid out.
+//! The layouts of arrays.
 ghost use Rattle.std.specs.Prelude.{◌≡◌, ◌↔◌, IsTrue};
 
 pub use arrow2_types::primitive::PrimitiveType;
 
-/// How the values of an array are laid out in memory. Several logical types may share one.
+/// The layout of the values of an array in memory. Several logical types may have the same physical type.
 #[derive(Debug, Clone, Copy, PartialEq, Eq, Hash)]
 pub enum PhysicalType {
     /// No buffer at all.
     Null,
-    /// One bit a value.
+    /// One bit for each value.
     Boolean,
     /// Values of a native type, one after the other.
     Primitive(PrimitiveType),
     /// Bytes of any length, with offsets of 32 bits.
     Binary,
-    /// Equally many bytes each.
+    /// Byte strings of equal length.
     FixedSizeBinary,
     /// Bytes of any length, with offsets of 64 bits.
     LargeBinary,
@@ -24,13 +24,13 @@ pub enum PhysicalType {
     LargeUtf8,
     /// Lists of any length, with offsets of 32 bits.
     List,
-    /// Lists of equally many items.
+    /// Lists of equal length.
     FixedSizeList,
     /// Lists of any length, with offsets of 64 bits.
     LargeList,
-    /// An array a field.
+    /// One array for each field.
     Struct,
-    /// An array a field, and for each value which of them holds it.
+    /// One array for each field, and for each value the field that holds it.
     Union,
     /// Lists of pairs of a key and a value.
     Map,

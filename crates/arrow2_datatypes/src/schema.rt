@@ -8,7 +8,7 @@ use crate::{Field, Metadata};
 use std::alloc::Global;
 use std::collections::BTreeMap;
 
-/// Fields in order, with their common metadata.
+/// The fields of a table in order, and the metadata of the schema.
 ///
 /// # Examples
 ///
@@ -31,7 +31,7 @@ pub struct Schema {
 impl Schema {
     /// Returns the schema of these fields, with no metadata. Does not allocate.
     ///
-    /// Stands for arrow2's `From`, and with no fields for its `Default`.
+    /// Stands for arrow2's `From<Vec<Field>>`, and with an empty vector for its `Default`.
     pub fn from_fields(alloc: Global, fields: Vec<Field>) -> Schema
         ensures fields { result.fields ≡ fields }
         ensures metadata { IsEmpty result.metadata }
@@ -42,7 +42,7 @@ impl Schema {
         }
     }
 
-    /// Returns the same fields with this metadata instead of its own.
+    /// Returns the schema of the same fields with this metadata in place of its own.
     pub fn with_metadata(self, metadata: Metadata) -> Schema
         ensures fields { result.fields ≡ self.fields }
         ensures metadata { result.metadata ≡ metadata }
@@ -53,9 +53,9 @@ impl Schema {
         }
     }
 
-    /// Returns the schema of the fields that the predicate accepts, in order. The predicate gets the index of each
-    /// field and the field. The metadata stays. Does not allocate. Requires that the predicate may be called with each
-    /// index and the field there.
+    /// Returns the schema of the fields that the predicate accepts, in order, with the same metadata. Calls the
+    /// predicate with the index of each field and the field. Requires that the predicate may be called with each index
+    /// and the field at that index. Does not allocate.
     pub fn filter<F: Fn(usize, &Field) -> bool>(self, predicate: F) -> Schema
         requires { IsCallableWithFields (F.pre predicate) self.fields.items }
         ensures fields { (accepts : ℕ → Field → Bool) →

@@ -1,4 +1,4 @@
--- Offsets together with the items that they cut: the code of a check, and the index that it writes.
+-- Offsets together with what they index: the code of a check, and the index that it writes.
 use Rattle.std.specs.Prelude.{◌≡◌, ◌≢◌, ℕ, ◌+◌, ◌-◌, ◌<◌, ◌≤◌, ◌↔◌, ℤ, pos, ◌<ℤ◌, ◌≤ℤ◌, List, length, slice_index_or}
 use Rattle.arrow2_offset.specs.Offsets.{AreOffsets, last_of}
 use Rattle.arrow2_offset.specs.Refusals.{first_broken}
@@ -25,7 +25,7 @@ pub record ChecksOffsets (code : ℕ) (xs : List ℤ) (n old new : ℕ) : Type 0
   pub ok : (code ≡ ARROW2_OK) ↔ (AreOffsets xs × (last_of xs ≤ n))
   -- for numbers that are not offsets, `code` is that of the rule which they break first
   pub broken : ¬ AreOffsets xs → code ≡ rule_code (first_broken xs)
-  -- for offsets of which the last one is above n, `code` is ARROW2_PAST
+  -- for offsets whose last one is above n, `code` is ARROW2_PAST
   pub past : AreOffsets xs → n < last_of xs → code ≡ ARROW2_PAST
   -- with ARROW2_SPEC_FALLING, `new` is the index of the first number that is below the one before it
   pub falling : code ≡ ARROW2_SPEC_FALLING → IsFirstFalling xs new
@@ -36,7 +36,8 @@ pub record ChecksOffsets (code : ℕ) (xs : List ℤ) (n old new : ℕ) : Type 0
 
 -- the code of a check that numbers are offsets, and that the values of each slot are UTF-8
 pub record ChecksTexts (code : ℕ) (xs : List ℤ) (values : List ℕ) (old new : ℕ) : Type 0 where
-  -- `code` is ARROW2_OK exactly where the numbers are offsets, and are texts of the values
+  -- `code` is ARROW2_OK exactly where the numbers are offsets, none is above the number of values, and the values of
+  -- each slot are UTF-8
   pub ok : (code ≡ ARROW2_OK) ↔ (AreOffsets xs × AreTexts xs values)
   -- with ARROW2_UTF8 the numbers are offsets, none is above the number of values, and `new` is the first slot whose
   -- values are not UTF-8

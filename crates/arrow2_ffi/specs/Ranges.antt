@@ -25,10 +25,10 @@ HaveEqualLengths l r = length l ≡ length r
 abbrev pub HasBytesForBits : List ℕ → ℕ → Type 0
 HasBytesForBits bytes n = length bytes ≡ (n + 7) / 8
 
--- the first n bits of the bits `b`, which are bytes and the bit at which they begin
+-- the first n of the bits `b`, which are bytes and the bit at which they begin
 abbrev pub first_bits : Bits → ℕ → List Bool
 first_bits b n = part (bits b.0.now) b.1 n
 
--- the bits `b` are at least n: n bits from their first bit on are inside their bytes
+-- the first n of the bits `b` are inside their bytes
 abbrev pub HasBits : Bits → ℕ → Type 0
 HasBits b n = IsInside b.0.now b.1 n

@@ -1,5 +1,5 @@
-//! Truth tables in place: the first input is the bits from bit 0 on of bytes that have exactly the length it needs, and
-//! the outputs are written over it. Padding bits become 0, whatever they were.
+//! Truth tables in place: the first input is the first `length` bits of `bytes`, and the outputs are written over it.
+//! `bytes` must have exactly the number of bytes that hold `length` bits. Padding bits become 0, whatever they were.
 ghost use Rattle.std.specs.Prelude.{[], ◌∷◌};
 ghost use Rattle.arrow2_ffi.specs.Writes.{WritesTableInPlace};
 
@@ -10,8 +10,8 @@ use arrow2_kernels::simd_assign::assign_unary;
 
 /// Replaces the first `length` bits by the outputs of a table of one input.
 ///
-/// `ARROW2_RANGE` exactly where the table is above 3, else `ARROW2_LENGTH` exactly where the bytes are not exactly
-/// those that the bits need.
+/// Returns `ARROW2_RANGE` exactly where the table is above 3, else `ARROW2_LENGTH` exactly where `bytes` does not have
+/// exactly the bytes that hold `length` bits.
 #[unsafe(no_mangle)]
 pub extern "C" fn arrow2_unary_assign_table(bytes: &mut [u8], length: usize, table: u16) -> u32
     // A table of one input is below 2 ^ 2.
@@ -27,11 +27,11 @@ pub extern "C" fn arrow2_unary_assign_table(bytes: &mut [u8], length: usize, tab
     ARROW2_OK
 }
 
-/// Replaces the first `length` bits by the outputs of a table of two inputs for them and for `length` bits of the
-/// second input.
+/// Replaces the first `length` bits by the outputs of a table of two inputs for them and for the `length` bits of the
+/// second input from its offset on.
 ///
-/// `ARROW2_RANGE` exactly where the table is above 15 or bits are not inside, else `ARROW2_LENGTH` exactly where the
-/// bytes are not exactly those that the bits need.
+/// Returns `ARROW2_RANGE` exactly where the table is above 15 or the bits of the second input are not inside its bytes,
+/// else `ARROW2_LENGTH` exactly where `bytes` does not have exactly the bytes that hold `length` bits.
 #[unsafe(no_mangle)]
 pub extern "C" fn arrow2_binary_assign_table(
     bytes: &mut [u8],
@@ -55,10 +55,10 @@ pub extern "C" fn arrow2_binary_assign_table(
     ARROW2_OK
 }
 
-/// The same of a table of three inputs.
+/// The same for a table of three inputs.
 ///
-/// `ARROW2_RANGE` exactly where the table is above 255 or bits are not inside, else `ARROW2_LENGTH` exactly where the
-/// bytes are not exactly those that the bits need.
+/// Returns `ARROW2_RANGE` exactly where the table is above 255 or the bits of the second or third input are not inside
+/// its bytes, else `ARROW2_LENGTH` exactly where `bytes` does not have exactly the bytes that hold `length` bits.
 #[unsafe(no_mangle)]
 pub extern "C" fn arrow2_ternary_assign_table(
     bytes: &mut [u8],
@@ -85,10 +85,10 @@ pub extern "C" fn arrow2_ternary_assign_table(
     ARROW2_OK
 }
 
-/// The same of a table of four inputs.
+/// The same for a table of four inputs.
 ///
-/// `ARROW2_RANGE` exactly where bits are not inside, else `ARROW2_LENGTH` exactly where the bytes are not exactly those
-/// that the bits need.
+/// Returns `ARROW2_RANGE` exactly where the bits of the second, third or fourth input are not inside its bytes, else
+/// `ARROW2_LENGTH` exactly where `bytes` does not have exactly the bytes that hold `length` bits.
 #[unsafe(no_mangle)]
 pub extern "C" fn arrow2_quaternary_assign_table(
     bytes: &mut [u8],

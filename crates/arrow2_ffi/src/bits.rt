@@ -12,7 +12,7 @@ use crate::in_place::copy;
 
 /// Writes to `zeros` how many of the `length` bits from bit `offset` on are not set.
 ///
-/// `ARROW2_RANGE` exactly where they are not inside the bytes.
+/// Returns `ARROW2_RANGE` exactly where these bits are not inside the bytes.
 #[unsafe(no_mangle)]
 pub extern "C" fn arrow2_count_zeros(
     bytes: &[u8],
@@ -30,10 +30,10 @@ pub extern "C" fn arrow2_count_zeros(
     ARROW2_OK
 }
 
-/// Writes to `equal` whether the `length` bits of `left` from bit `left_offset` on are those of `right` from bit
-/// `right_offset` on.
+/// Writes to `equal` whether the `length` bits of `left` from bit `left_offset` on equal the `length` bits of `right`
+/// from bit `right_offset` on.
 ///
-/// `ARROW2_RANGE` exactly where either is not inside its bytes.
+/// Returns `ARROW2_RANGE` exactly where the bits of `left` or of `right` are not inside their bytes.
 #[unsafe(no_mangle)]
 pub extern "C" fn arrow2_equal_bits(
     left: &[u8],
@@ -58,7 +58,7 @@ pub extern "C" fn arrow2_equal_bits(
 
 /// Writes to `value` whether bit `index` is set.
 ///
-/// `ARROW2_RANGE` exactly where it is not inside the bytes.
+/// Returns `ARROW2_RANGE` exactly where the bit is not inside the bytes.
 #[unsafe(no_mangle)]
 pub extern "C" fn arrow2_get_bit(bytes: &[u8], index: usize, value: &mut bool) -> u32
     ensures { WritesWhere ARROW2_RANGE result (index < 8 * length bytes.now)
@@ -73,7 +73,7 @@ pub extern "C" fn arrow2_get_bit(bytes: &[u8], index: usize, value: &mut bool) -
 
 /// Writes `value` to bit `index`, and leaves every other bit as it was.
 ///
-/// `ARROW2_RANGE` exactly where it is not inside the bytes.
+/// Returns `ARROW2_RANGE` exactly where the bit is not inside the bytes.
 #[unsafe(no_mangle)]
 pub extern "C" fn arrow2_set_bit(bytes: &mut [u8], index: usize, value: bool) -> u32
     ensures { WritesWhere ARROW2_RANGE result (index < 8 * length bytes.old)
@@ -86,11 +86,11 @@ pub extern "C" fn arrow2_set_bit(bytes: &mut [u8], index: usize, value: bool) ->
     ARROW2_OK
 }
 
-/// Copies the `length` bits that begin at bit `offset` to `out`, from bit 0 on. `out` must have exactly the bytes that
-/// hold them, and its padding bits become 0.
+/// Copies the `length` bits that begin at bit `offset` to `out`, from bit 0 on. `out` must have exactly the number of
+/// bytes that hold these bits. Its padding bits become 0.
 ///
-/// `ARROW2_RANGE` exactly where they are not inside the bytes, else `ARROW2_LENGTH` exactly where `out` has another
-/// length.
+/// Returns `ARROW2_RANGE` exactly where the bits are not inside the bytes, else `ARROW2_LENGTH` exactly where `out` has
+/// another length.
 #[unsafe(no_mangle)]
 pub extern "C" fn arrow2_copy_bits(
     bytes: &[u8],

@@ -1,4 +1,4 @@
-//! Booleans, one byte each, read by words of 64 bits.
+//! Reads booleans, one byte each, as words of 64 bits.
 ghost use Rattle.std.specs.Prelude.{◌∷◌, [], length};
 ghost use Rattle.arrow2_model.specs.Kernels.{word};
 
@@ -6,10 +6,10 @@ use arrow2_chunk::bit_chunk::BitChunk;
 use arrow2_kernels::rows::WordRows;
 use arrow2_packed_bits::packing::{padded, word_of};
 
-/// Booleans, each 64 of which are a row of one word.
+/// Booleans, read as rows of one word: each row has the next 64 of them.
 #[derive(Drop)]
 pub(crate) struct BoolWords<'a> {
-    /// Those still to come.
+    /// The booleans that were not read yet.
     pub(crate) items: &'a [bool],
 }
 

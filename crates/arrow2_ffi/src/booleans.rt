@@ -1,4 +1,4 @@
-//! Booleans, one byte each, as bits and back.
+//! Converts booleans, one byte each, to bits and back.
 ghost use Rattle.std.specs.Prelude.{◌≡◌, length};
 ghost use Rattle.arrow2_model.specs.Bits.{bits};
 ghost use Rattle.arrow2_model.specs.Parts.{part};
@@ -11,10 +11,10 @@ use crate::codes::{ARROW2_LENGTH, ARROW2_OK, ARROW2_RANGE};
 use arrow2_bits::get_bit_from;
 use arrow2_kernels::assign::assign_rows;
 
-/// Writes the booleans as bits to `out`, from bit 0 on. `out` must have exactly the bytes that hold them, and its
-/// padding bits become 0.
+/// Writes the booleans as bits to `out`, from bit 0 on. `out` must have exactly the number of bytes that hold these
+/// bits. Its padding bits become 0.
 ///
-/// `ARROW2_LENGTH` exactly where `out` has another length.
+/// Returns `ARROW2_LENGTH` exactly where `out` has another length.
 #[unsafe(no_mangle)]
 pub extern "C" fn arrow2_pack(items: &[bool], out: &mut [u8]) -> u32
     ensures { WritesWhere ARROW2_LENGTH result (HasBytesForBits out.old (length items.now))
@@ -27,9 +27,9 @@ pub extern "C" fn arrow2_pack(items: &[bool], out: &mut [u8]) -> u32
     ARROW2_OK
 }
 
-/// Fills `out` with the bits from bit `offset` on, as booleans.
+/// Fills `out` with booleans: the bits from bit `offset` on, one for each item of `out`.
 ///
-/// `ARROW2_RANGE` exactly where they are not inside the bytes.
+/// Returns `ARROW2_RANGE` exactly where these bits are not inside the bytes.
 #[unsafe(no_mangle)]
 pub extern "C" fn arrow2_unpack(bytes: &[u8], offset: usize, out: &mut [bool]) -> u32
     ensures { WritesWhere ARROW2_RANGE result (IsInside bytes.now offset (length out.old))
@@ -43,7 +43,7 @@ pub extern "C" fn arrow2_unpack(bytes: &[u8], offset: usize, out: &mut [bool]) -
     ARROW2_OK
 }
 
-/// Writes the booleans as bits, by words. Requires exactly the bytes that hold them.
+/// Writes the booleans as bits, word by word. Requires that `out` has exactly the bytes that hold them.
 fn write_packed(items: &[bool], out: &mut [u8])
     requires exact { HasBytesForBits out.old (length items.now) }
     ensures { Stores out.new (length items.now) items.now }
@@ -56,7 +56,7 @@ fn write_packed(items: &[bool], out: &mut [u8])
     );
 }
 
-/// Fills `out` with bits, as booleans. Requires that they are inside.
+/// Fills `out` with the first bits, as booleans. Requires that these bits are inside their bytes.
 fn write_unpacked(bits: Bits<'_>, out: &mut [bool])
     requires inside { HasBits bits (length out.old) }
     ensures { out.new ≡ first_bits bits.entry (length out.old) }

@@ -1,4 +1,5 @@
-//! Whether buffers have the bits and bytes that an array needs, and a validity has the declared number of nulls.
+//! Checks that buffers have the bits and bytes that an array needs, and that a validity has the declared number of
+//! nulls.
 ghost use Rattle.std.specs.Prelude.{◌≡◌, ◌≢◌, ◌+◌, ◌*◌, ◌≤◌, ◌↔◌, ◌⊎◌, pos, negsuc};
 ghost use Rattle.arrow2_model.specs.Bits.{bits};
 ghost use Rattle.arrow2_model.specs.Parts.{part, falses};
@@ -7,11 +8,13 @@ ghost use Rattle.arrow2_ffi.specs.Ranges.{IsInside};
 use crate::bits_input::{Bits, are_inside};
 use crate::codes::{ARROW2_NULLS, ARROW2_OK, ARROW2_RANGE};
 
-/// Checks that the `length` bits from bit `offset` on are inside, and that `null_count` of them are not set; with -1
-/// the count is not checked.
+/// Checks that the `length` bits from bit `offset` on are inside the bytes, and that exactly `null_count` of them are
+/// not set. If `null_count` is -1, it is not checked. The call does not accept a missing validity: an empty slice has
+/// no bits. An array of the null type (format `n`) has no validity bitmap and counts all its items as null, so its
+/// `null_count` must not be passed to this call.
 ///
-/// `ARROW2_RANGE` exactly where they are not inside the bytes, else `ARROW2_NULLS` exactly where `null_count` is
-/// neither -1 nor the number of zeros.
+/// Returns `ARROW2_RANGE` exactly where these bits are not inside the bytes, else `ARROW2_NULLS` exactly where
+/// `null_count` is neither -1 nor the number of zeros.
 #[unsafe(no_mangle)]
 pub extern "C" fn arrow2_validity_check(
     bytes: &[u8],
@@ -34,9 +37,9 @@ pub extern "C" fn arrow2_validity_check(
     ARROW2_OK
 }
 
-/// Returns whether `bytes` bytes have `length` bits from bit `offset` on.
+/// Checks that the `length` bits from bit `offset` on are inside `bytes` bytes.
 ///
-/// `ARROW2_RANGE` exactly where they do not.
+/// Returns `ARROW2_RANGE` exactly where they are not.
 #[unsafe(no_mangle)]
 pub extern "C" fn arrow2_bits_check(bytes: usize, offset: usize, length: usize) -> u32
     ensures ok { result ≡ ARROW2_OK ↔ (offset + length ≤ 8 * bytes) }
@@ -48,9 +51,10 @@ pub extern "C" fn arrow2_bits_check(bytes: usize, offset: usize, length: usize) 
     ARROW2_OK
 }
 
-/// Returns whether `bytes` bytes have `length` values of `width` bytes each from value `offset` on.
+/// Checks that the `length` values from value `offset` on, of `width` bytes each, are inside `bytes` bytes. Values of
+/// width 0 always are.
 ///
-/// `ARROW2_RANGE` exactly where they do not.
+/// Returns `ARROW2_RANGE` exactly where they are not.
 #[unsafe(no_mangle)]
 pub extern "C" fn arrow2_values_check(
     bytes: usize,

@@ -1,17 +1,18 @@
-//! The codes that an export returns. With any code but [`ARROW2_OK`] nothing was written, except the index or slot of
-//! the first fault, which a check that has one writes with `ARROW2_SPEC_FALLING`, `ARROW2_PAST`, `ARROW2_UTF8` or
-//! `ARROW2_INDEX`.
+//! The codes that an export returns. With any code but [`ARROW2_OK`] nothing was written, with one exception: a check
+//! that has an argument `index` or `slot` writes the first fault there, with `ARROW2_SPEC_FALLING`, `ARROW2_PAST`,
+//! `ARROW2_UTF8` or `ARROW2_INDEX`.
 
 /// The call succeeded.
 pub const ARROW2_OK: u32 = 0;
 
-/// An index or a range is not inside, or the number of a truth table is too large.
+/// An index or a range is out of bounds, or the number of a truth table is too large.
 pub const ARROW2_RANGE: u32 = 1;
 
-/// An output slice does not have exactly the items that the call needs, or two paired slices differ in length.
+/// An output slice does not have exactly the number of items that the call needs, or two paired slices differ in
+/// length. In a rebase call: `out` has no item.
 pub const ARROW2_LENGTH: u32 = 2;
 
-/// A number is above the greatest offset: 2147483647 of 32 bits, 9223372036854775807 of 64 bits.
+/// A number is above the greatest offset: 2147483647 for 32 bits, 9223372036854775807 for 64 bits.
 pub const ARROW2_OVERFLOW: u32 = 3;
 
 /// An allocation failed. No call allocates, so none returns it.

@@ -1,14 +1,15 @@
-//! Offsets together with the items that they cut: values, or bytes that are texts.
+//! Checks of offsets together with what they index: items, or bytes that must be UTF-8.
 ghost use Rattle.std.specs.Prelude.{length};
 ghost use Rattle.arrow2_ffi.specs.Cuts.{ChecksOffsets, ChecksTexts};
 
 use crate::inside::{check_inside, check_texts};
 
-/// Returns whether the numbers are offsets of 32 bits, none of which is above `items`.
+/// Checks that the numbers are offsets of 32 bits, and none is above `items`.
 ///
-/// The code of `arrow2_offsets32_check` where the numbers are not offsets, else `ARROW2_PAST` exactly where the last
-/// one is above `items`. `ARROW2_SPEC_FALLING` writes the index of the first number that is below the one before it,
-/// `ARROW2_PAST` that of the first number above `items`. No other code writes `index`.
+/// Returns the code of `arrow2_offsets32_check` where the numbers are not offsets, else `ARROW2_PAST` exactly where the
+/// last one is above `items`. With `ARROW2_SPEC_FALLING` writes to `index` the index of the first number that is below
+/// the one before it, with `ARROW2_PAST` the index of the first number above `items`. With any other code `index` stays
+/// as it was.
 #[unsafe(no_mangle)]
 pub extern "C" fn arrow2_offsets32_check_inside(
     offsets: &[i32],
@@ -20,7 +21,7 @@ pub extern "C" fn arrow2_offsets32_check_inside(
     check_inside(offsets, items, index)
 }
 
-/// The same of offsets of 64 bits.
+/// The same for offsets of 64 bits.
 #[unsafe(no_mangle)]
 pub extern "C" fn arrow2_offsets64_check_inside(
     offsets: &[i64],
@@ -35,8 +36,8 @@ pub extern "C" fn arrow2_offsets64_check_inside(
 /// Checks that the numbers are offsets of 32 bits, none is above the number of values, and the values of each slot,
 /// from its offset to the next, are UTF-8.
 ///
-/// Codes and index as of `arrow2_offsets32_check_inside` with the number of values as `items`; else `ARROW2_UTF8`
-/// exactly where a slot is not UTF-8, which writes the first such slot.
+/// Returns the codes and writes the index of `arrow2_offsets32_check_inside` with the number of values as `items`. Else
+/// returns `ARROW2_UTF8` exactly where the values of a slot are not UTF-8, and writes the first such slot to `index`.
 #[unsafe(no_mangle)]
 pub extern "C" fn arrow2_texts32_check(offsets: &[i32], values: &[u8], index: &mut usize) -> u32
     ensures { ChecksTexts result offsets.now values.now index.old index.new }
@@ -44,7 +45,7 @@ pub extern "C" fn arrow2_texts32_check(offsets: &[i32], values: &[u8], index: &m
     check_texts(offsets, values, index)
 }
 
-/// The same of offsets of 64 bits.
+/// The same for offsets of 64 bits.
 #[unsafe(no_mangle)]
 pub extern "C" fn arrow2_texts64_check(offsets: &[i64], values: &[u8], index: &mut usize) -> u32
     ensures { ChecksTexts result offsets.now values.now index.old index.new }

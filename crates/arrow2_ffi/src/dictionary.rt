@@ -1,4 +1,4 @@
-//! The indices of a dictionary: which of them count, by a validity, and whether these are below its length.
+//! Checks of the indices of a dictionary array: each index that is not null must be below the length of the dictionary.
 ghost use Rattle.std.specs.Prelude.{map, pos};
 ghost use Rattle.arrow2_ffi.specs.Indices.{ChecksIndices};
 ghost use Rattle.arrow2_ffi.specs.Validities.{given_validity};
@@ -6,12 +6,13 @@ ghost use Rattle.arrow2_ffi.specs.Validities.{given_validity};
 use crate::indexed::check;
 use crate::validities::given_validity;
 
-/// Checks that each index that is not null is at least 0 and below `items`. With `all_valid` none is null, and of the
-/// validity nothing is read.
+/// Checks that each index that is not null is at least 0 and below `items`. If `all_valid` is true, no index is null,
+/// and nothing of the validity is read.
 ///
-/// `ARROW2_RANGE` exactly where `all_valid` is false and the validity has fewer bits from bit `validity_offset` on than
-/// there are indices, else `ARROW2_INDEX` exactly where one that is not null is negative or not below `items`, which
-/// writes to `slot` the first such. No other code writes `slot`.
+/// Returns `ARROW2_RANGE` exactly where `all_valid` is false and the bits from bit `validity_offset` on, one for each
+/// index, are not inside the validity. Else returns `ARROW2_INDEX` exactly where an index that is not null is negative
+/// or not below `items`, and writes the position of the first such index to `slot`. With any other code `slot` stays as
+/// it was.
 #[unsafe(no_mangle)]
 pub extern "C" fn arrow2_indices_i8_check(
     indices: &[i8],
@@ -28,7 +29,7 @@ pub extern "C" fn arrow2_indices_i8_check(
     check(indices, validity, items, slot)
 }
 
-/// The same of indices of type `u8`.
+/// The same for indices of type `u8`.
 #[unsafe(no_mangle)]
 pub extern "C" fn arrow2_indices_u8_check(
     indices: &[u8],
@@ -45,7 +46,7 @@ pub extern "C" fn arrow2_indices_u8_check(
     check(indices, validity, items, slot)
 }
 
-/// The same of indices of type `i16`.
+/// The same for indices of type `i16`.
 #[unsafe(no_mangle)]
 pub extern "C" fn arrow2_indices_i16_check(
     indices: &[i16],
@@ -62,7 +63,7 @@ pub extern "C" fn arrow2_indices_i16_check(
     check(indices, validity, items, slot)
 }
 
-/// The same of indices of type `u16`.
+/// The same for indices of type `u16`.
 #[unsafe(no_mangle)]
 pub extern "C" fn arrow2_indices_u16_check(
     indices: &[u16],
@@ -79,7 +80,7 @@ pub extern "C" fn arrow2_indices_u16_check(
     check(indices, validity, items, slot)
 }
 
-/// The same of indices of type `i32`.
+/// The same for indices of type `i32`.
 #[unsafe(no_mangle)]
 pub extern "C" fn arrow2_indices_i32_check(
     indices: &[i32],
@@ -96,7 +97,7 @@ pub extern "C" fn arrow2_indices_i32_check(
     check(indices, validity, items, slot)
 }
 
-/// The same of indices of type `u32`.
+/// The same for indices of type `u32`.
 #[unsafe(no_mangle)]
 pub extern "C" fn arrow2_indices_u32_check(
     indices: &[u32],
@@ -113,7 +114,7 @@ pub extern "C" fn arrow2_indices_u32_check(
     check(indices, validity, items, slot)
 }
 
-/// The same of indices of type `i64`.
+/// The same for indices of type `i64`.
 #[unsafe(no_mangle)]
 pub extern "C" fn arrow2_indices_i64_check(
     indices: &[i64],
@@ -130,7 +131,7 @@ pub extern "C" fn arrow2_indices_i64_check(
     check(indices, validity, items, slot)
 }
 
-/// The same of indices of type `u64`.
+/// The same for indices of type `u64`.
 #[unsafe(no_mangle)]
 pub extern "C" fn arrow2_indices_u64_check(
     indices: &[u64],

@@ -1,4 +1,4 @@
-//! Bits copied, and the outputs of truth tables for them, in memory of the caller.
+//! Copies bits and writes the outputs of truth tables, in the caller's memory.
 ghost use Rattle.std.specs.Prelude.{◌≡◌, ◌*◌, ◌<◌, ◌≤◌, ℕ, List, Bool, [], ◌∷◌, take, length};
 ghost use Rattle.arrow2_model.specs.Bits.{bit, bits};
 ghost use Rattle.arrow2_model.specs.Canonical.{IsCanonical};
@@ -16,7 +16,7 @@ use arrow2_kernels::rows::{OneList, Pair, WordRows, ZipRows};
 use arrow2_kernels::simd_assign::{assign_binary, clear_spare};
 use arrow2_kernels::truth_tables::{binary_outputs, quaternary_outputs, ternary_outputs};
 
-/// Returns the first `len` bits, word by word. Requires that they are inside.
+/// Returns the first `len` bits, word by word. Requires that they are inside their bytes.
 fn words(bits: Bits<'_>, len: usize) -> OneList<BitChunks<'_, u64>>
     requires inside { HasBits bits len }
     ensures items { result.chunks.items ≡ first_bits bits.entry len }
@@ -27,8 +27,8 @@ fn words(bits: Bits<'_>, len: usize) -> OneList<BitChunks<'_, u64>>
     }
 }
 
-/// Replaces each word of the first `len` bits by the result of `op` for it and its row of words. Requires exactly
-/// the bytes that `len` bits need, and rows of `len` items.
+/// Replaces each word of the first `len` bits by the result of `op` for the word and its row of words. Requires that
+/// `bytes` has exactly the bytes that `len` bits need, and that the rows have `len` items.
 fn assign_outputs<S: WordRows<u64>, F: Fn(u64, S::Row) -> u64>(
     bytes: &mut [u8],
     len: usize,
@@ -48,7 +48,7 @@ fn assign_outputs<S: WordRows<u64>, F: Fn(u64, S::Row) -> u64>(
     assign_rows(bytes, len, rows, op);
 }
 
-/// Returns the first `len` bits of both, word by word. Requires that they are inside.
+/// Returns the first `len` bits of both, word by word. Requires that they are inside their bytes.
 fn pair<'a>(first: Bits<'a>, second: Bits<'a>, len: usize) -> Pair<'a>
     requires first { HasBits first len }
     requires second { HasBits second len }
@@ -66,7 +66,8 @@ fn pair<'a>(first: Bits<'a>, second: Bits<'a>, len: usize) -> Pair<'a>
 }
 
 /// Writes the outputs of table `T` for the first `len` bits of two inputs over `out`, from bit 0 on. Requires that
-/// these are inside, and that `out` has exactly the bytes that they need. Each table has a loop of its own.
+/// these bits are inside their bytes, and that `out` has exactly the bytes that `len` bits need. The compiler makes one
+/// loop for each table.
 pub(crate) fn write_two<const T: u8>(out: &mut [u8], len: usize, first: Bits<'_>, second: Bits<'_>)
     requires exact { HasBytesForBits out.old len }
     requires first { HasBits first len }
@@ -84,7 +85,7 @@ pub(crate) fn write_two<const T: u8>(out: &mut [u8], len: usize, first: Bits<'_>
     );
 }
 
-/// The same of a table of three inputs.
+/// The same for a table of three inputs.
 pub(crate) fn write_three<const T: u8>(
     out: &mut [u8],
     len: usize,
@@ -112,7 +113,7 @@ pub(crate) fn write_three<const T: u8>(
     );
 }
 
-/// The same of a table of four inputs.
+/// The same for a table of four inputs.
 pub(crate) fn write_four<const T: u16>(
     out: &mut [u8],
     len: usize,
@@ -143,8 +144,8 @@ pub(crate) fn write_four<const T: u16>(
     );
 }
 
-/// Writes the first `len` bits over `out`, from bit 0 on. Requires that they are inside, and that `out` has exactly
-/// the bytes that they need. It is inlined: a call would take a fifth of the time of 64 bytes.
+/// Writes the first `len` bits over `out`, from bit 0 on. Requires that they are inside their bytes, and that `out` has
+/// exactly the bytes that they need. The function is inlined: for 64 bytes a call would take a fifth of the time.
 #[inline(always)]
 pub(crate) fn copy(bits: Bits<'_>, len: usize, out: &mut [u8])
     requires inside { HasBits bits len }
@@ -169,8 +170,9 @@ fn copy_bytes(bytes: &[u8], len: usize, out: &mut [u8])
     clear_spare(out, len);
 }
 
-/// Replaces the first `len` bits by the outputs of table `t` for them and those of the second input. Requires
-/// exactly the bytes that `len` bits need, and that those of the second input are inside.
+/// Replaces the first `len` bits by the outputs of table `t` for them and the first `len` bits of the second input.
+/// Requires that `bytes` has exactly the bytes that `len` bits need, and that the bits of the second input are inside
+/// their bytes.
 pub(crate) fn assign_two(bytes: &mut [u8], len: usize, second: Bits<'_>, t: u8)
     requires exact { HasBytesForBits bytes.old len }
     requires second { HasBits second len }
@@ -189,7 +191,7 @@ pub(crate) fn assign_two(bytes: &mut [u8], len: usize, second: Bits<'_>, t: u8)
     }
 }
 
-/// The same of a table of three inputs.
+/// The same for a table of three inputs.
 pub(crate) fn assign_three(bytes: &mut [u8], len: usize, second: Bits<'_>, third: Bits<'_>, t: u8)
     requires exact { HasBytesForBits bytes.old len }
     requires second { HasBits second len }
@@ -207,7 +209,7 @@ pub(crate) fn assign_three(bytes: &mut [u8], len: usize, second: Bits<'_>, third
     );
 }
 
-/// The same of a table of four inputs.
+/// The same for a table of four inputs.
 pub(crate) fn assign_four(
     bytes: &mut [u8],
     len: usize,

@@ -8,7 +8,7 @@ use crate::codes::{ARROW2_INDEX, ARROW2_OK, ARROW2_RANGE};
 use crate::validities::{covers_items, is_valid};
 use arrow2_index::index::Index;
 
-/// Returns whether each item is null or an index below `items`. Writes the first that is neither.
+/// Checks that each item is null or an index below `items`. Writes to `slot` the first item that is neither.
 pub(crate) fn check<I: Index>(
     indices: &[I],
     validity: Option<Bits<'_>>,

@@ -1,5 +1,5 @@
-//! Offsets together with the items that they cut, for either width: whether they are inside, and whether they cut
-//! texts.
+//! Checks of offsets of either width together with what they index: that none is above the number of items, and that
+//! the bytes of each slot are UTF-8.
 ghost use Rattle.std.specs.Prelude.{◌≡◌, ◌+◌, ◌-◌, ◌<◌, ◌≤◌, ◌<ℤ◌, ◌≤ℤ◌, ℕ, pos, map, length, slice_index_or};
 ghost use Rattle.arrow2_offset.specs.Offsets.{AreOffsets, last_of};
 ghost use Rattle.arrow2_ffi.specs.Cuts.{IsFirstFalling, IsFirstPast, ChecksOffsets, ChecksTexts};
@@ -10,8 +10,8 @@ use arrow2_index::offset::Offset;
 use arrow2_offset::slices::last;
 use arrow2_utf8::{BrokenTextArray, BrokenTexts, try_check_offsets_and_utf8};
 
-/// Returns whether the numbers are offsets, none of which is above `items`. Writes the index of the first number that
-/// falls or is past them.
+/// Checks that the numbers are offsets, and none is above `items`. With `ARROW2_SPEC_FALLING` writes the index of the
+/// first number that is below the one before it, with `ARROW2_PAST` the index of the first number above `items`.
 pub(crate) fn check_inside<O: Offset>(offsets: &[O], items: usize, index: &mut usize) -> u32
     ensures { ChecksOffsets result (map O.value offsets.now) items index.old index.new }
 {
@@ -28,8 +28,8 @@ pub(crate) fn check_inside<O: Offset>(offsets: &[O], items: usize, index: &mut u
     ARROW2_OK
 }
 
-/// Returns whether the numbers are offsets, none is past the values, and the values of each slot are UTF-8. Writes the
-/// index of the first number that falls or is past them, or the first slot that is not UTF-8.
+/// Checks that the numbers are offsets, none is above the number of values, and the values of each slot are UTF-8.
+/// Writes the index that `check_inside` writes, or with `ARROW2_UTF8` the first slot that is not UTF-8.
 pub(crate) fn check_texts<O: Offset>(offsets: &[O], values: &[u8], index: &mut usize) -> u32
     ensures { ChecksTexts result (map O.value offsets.now) values.now index.old index.new }
 {
@@ -46,7 +46,7 @@ pub(crate) fn check_texts<O: Offset>(offsets: &[O], values: &[u8], index: &mut u
     }
 }
 
-/// Returns the index of the first number that is below the one before it, or the number of numbers.
+/// Returns the index of the first number that is below the one before it, or the length of `offsets` if there is none.
 fn first_falling<O: Offset>(offsets: &[O]) -> usize
     ensures before { (k : ℕ) → k + 1 < result → slice_index_or (map O.value offsets.now) k (pos 0)
         ≤ℤ slice_index_or (map O.value offsets.now) (k + 1) (pos 0) }
@@ -61,7 +61,7 @@ fn first_falling<O: Offset>(offsets: &[O]) -> usize
     offsets.len()
 }
 
-/// Returns the index of the first offset that is past `items` items. Requires that the last one is.
+/// Returns the index of the first offset that is above `items`. Requires that the last offset is above `items`.
 fn first_past<O: Offset>(offsets: &[O], items: usize) -> usize
     requires are { AreOffsets (map O.value offsets.now) }
     requires past { items < last_of (map O.value offsets.now) }

@@ -1,8 +1,8 @@
 //! Kleene's logic on values with their validity: an item is null where its validity bit is not set.
 //!
-//! The values of the result are written over `values` and its validity over `validity`, from bit 0 on. Both must have
-//! exactly the bytes that hold them, and their padding bits become 0. A value is the operator applied to the two
-//! values, also where the result is null.
+//! The values of the result are written over `values` and its validity over `validity`, from bit 0 on. Both slices must
+//! have exactly the number of bytes that hold `length` bits. Their padding bits become 0. Each value of the result is
+//! the operator applied to the two values, also where the result is null.
 ghost use Rattle.std.specs.Prelude.{Bool, Option};
 ghost use Rattle.arrow2_array.specs.Kleene.{TablesCompute};
 ghost use Rattle.arrow2_ffi.specs.Kleene.{WritesKleene, WritesKleeneAnd, WritesKleeneOr, input, input_of};
@@ -21,8 +21,9 @@ struct Nullable<'a> {
 
 /// Writes AND, item by item: false where either is false, else null where either is null, else true.
 ///
-/// `ARROW2_RANGE` exactly where bits of any of the four are not inside, else `ARROW2_LENGTH` exactly where `values` or
-/// `validity` does not have exactly the bytes that hold the items.
+/// Returns `ARROW2_RANGE` exactly where the bits of any of the four inputs (values and validity of both sides) are not
+/// inside their bytes, else `ARROW2_LENGTH` exactly where `values` or `validity` does not have exactly the bytes that
+/// hold the items.
 #[unsafe(no_mangle)]
 pub extern "C" fn arrow2_and_kleene(
     left: &[u8],
@@ -55,8 +56,9 @@ pub extern "C" fn arrow2_and_kleene(
 
 /// Writes OR, item by item: true where either is true, else null where either is null, else false.
 ///
-/// `ARROW2_RANGE` exactly where bits of any of the four are not inside, else `ARROW2_LENGTH` exactly where `values` or
-/// `validity` does not have exactly the bytes that hold the items.
+/// Returns `ARROW2_RANGE` exactly where the bits of any of the four inputs (values and validity of both sides) are not
+/// inside their bytes, else `ARROW2_LENGTH` exactly where `values` or `validity` does not have exactly the bytes that
+/// hold the items.
 #[unsafe(no_mangle)]
 pub extern "C" fn arrow2_or_kleene(
     left: &[u8],
@@ -87,7 +89,7 @@ pub extern "C" fn arrow2_or_kleene(
     write::<OR_VALUES, OR_KNOWN>(left, right, length, values, validity)
 }
 
-/// Writes the values by table `VALUES` of two inputs, and the validity by table `KNOWN` of four.
+/// Writes the values by table `VALUES` of two inputs, and the validity by table `KNOWN` of four inputs.
 fn write<const VALUES: u8, const KNOWN: u16>(
     left: Nullable<'_>,
     right: Nullable<'_>,

@@ -1,4 +1,4 @@
-//! Kleene's logic where either side may have no validity: then none of its items is null.
+//! Kleene's logic where either side may have no validity: then no item of that side is null.
 //!
 //! A validity that is missing needs no bytes.
 ghost use Rattle.std.specs.Prelude.{Bool, Option, [], ◌∷◌, ◌↔◌, IsTrue};
@@ -16,7 +16,7 @@ use arrow2_array::kleene::{
     AND_KNOWN, AND_KNOWN_PAIRED, AND_VALUES, OR_KNOWN, OR_KNOWN_PAIRED, OR_VALUES,
 };
 
-/// The table of two inputs that is true of any.
+/// The table of two inputs whose output is true for all inputs.
 const ALWAYS: u8 = 0b1111;
 
 /// Values, and their validity where some may be null.
@@ -26,11 +26,12 @@ struct Side<'a> {
     validity: Option<Bits<'a>>,
 }
 
-/// Writes, item by item, whether both are true, as `arrow2_and_kleene` does. Where `left_all_valid` is true no item of
-/// the left side is null, and `left_validity` and its offset are ignored; likewise of the right side.
+/// Writes AND, item by item, as `arrow2_and_kleene` does. If `left_all_valid` is true, no item of the left side is
+/// null, and `left_validity` and its offset are ignored. The same holds for the right side.
 ///
-/// `ARROW2_RANGE` exactly where bits of values or of a validity that is not ignored are not inside, else
-/// `ARROW2_LENGTH` exactly where `values` or `validity` has other than the bytes that the items need.
+/// Returns `ARROW2_RANGE` exactly where the bits of values, or of a validity that is not ignored, are not inside their
+/// bytes, else `ARROW2_LENGTH` exactly where `values` or `validity` does not have exactly the bytes that hold the
+/// items.
 #[unsafe(no_mangle)]
 pub extern "C" fn arrow2_and_kleene_optional(
     left: &[u8],
@@ -63,10 +64,10 @@ pub extern "C" fn arrow2_and_kleene_optional(
     write::<AND_VALUES, AND_KNOWN, AND_KNOWN_PAIRED>(left, right, length, values, validity)
 }
 
-/// Writes, item by item, whether one is true, or both, as `arrow2_or_kleene` does. Where `left_all_valid` is true no
-/// item of the left side is null, and `left_validity` and its offset are ignored; likewise of the right side.
+/// Writes OR, item by item, as `arrow2_or_kleene` does. If `left_all_valid` is true, no item of the left side is null,
+/// and `left_validity` and its offset are ignored. The same holds for the right side.
 ///
-/// Codes as of `arrow2_and_kleene_optional`.
+/// Returns the codes of `arrow2_and_kleene_optional`, in the same cases.
 #[unsafe(no_mangle)]
 pub extern "C" fn arrow2_or_kleene_optional(
     left: &[u8],
@@ -99,8 +100,7 @@ pub extern "C" fn arrow2_or_kleene_optional(
     write::<OR_VALUES, OR_KNOWN, OR_KNOWN_PAIRED>(left, right, length, values, validity)
 }
 
-/// Writes the values by table `VALUES` of two inputs, and the validity by table `KNOWN` of four, or by `PAIRED` of
-/// three.
+/// Writes the values by table `VALUES` of two inputs, and the validity as `write_known` does.
 fn write<const VALUES: u8, const KNOWN: u16, const PAIRED: u8>(
     left: Side<'_>,
     right: Side<'_>,
@@ -123,15 +123,16 @@ fn write<const VALUES: u8, const KNOWN: u16, const PAIRED: u8>(
     ARROW2_OK
 }
 
-/// Returns whether values and validity have `length` bits.
+/// Returns whether the first `length` bits of the values, and of the validity if there is one, are inside their bytes.
 fn is_inside(side: Side<'_>, length: usize) -> bool
     ensures { IsTrue result ↔ IsWholeInside length (optional_of side.entry) }
 {
     are_inside(side.values, length) && covers_items(side.validity, length)
 }
 
-/// Writes which answers are known: by table `KNOWN` of values and validities, and where one side has no validity by
-/// table `PAIRED`, whose inputs are value and validity of the other side and the value of this one.
+/// Writes which results are not null. Where both sides have a validity, uses table `KNOWN` of both values and
+/// validities. Where only one side has a validity, uses table `PAIRED`: its inputs are value and validity of that side,
+/// then the value of the other side. Where neither has one, no result is null.
 fn write_known<const KNOWN: u16, const PAIRED: u8>(
     out: &mut [u8],
     length: usize,

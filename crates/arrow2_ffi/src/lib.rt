@@ -1,4 +1,4 @@
-//! The layer's loops for programs that are not Rattle: a static library over memory that is the caller's.
+//! The layer's loops for programs in other languages than Rattle: a static library that works in the caller's memory.
 #![tactic(auto)]
 
 pub mod assign_tables;

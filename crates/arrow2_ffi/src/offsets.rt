@@ -1,5 +1,5 @@
-//! Offsets of 32 and of 64 bits: where the value of each slot begins. There is one offset more than slots, none is
-//! negative, and none is below the one before it.
+//! Offsets of 32 and of 64 bits: where the value of each slot begins. There is one more offset than there are slots. No
+//! offset is negative, and none is below the one before it.
 ghost use Rattle.std.specs.Prelude.{◌≡◌, ◌≢◌, ◌+◌, ◌<◌, ◌↔◌, ◌⊎◌, pos, map, length};
 ghost use Rattle.arrow2_offset.specs.Offsets.{AreOffsets, last_offset, offsets_list};
 ghost use Rattle.arrow2_offset.specs.Refusals.{first_broken};
@@ -25,10 +25,10 @@ pub extern "C" fn arrow2_offsets32_check(offsets: &[i32]) -> u32
     check(offsets)
 }
 
-/// Writes how far each offset of 32 bits is from the next one: one length for each slot.
+/// Writes the length of each slot to `out`: how far its offset, of 32 bits, is from the next one.
 ///
-/// The code of `arrow2_offsets32_check` where the numbers are not offsets, else `ARROW2_LENGTH` exactly where the
-/// number of items of `out` is not that of `offsets` minus 1.
+/// Returns the code of `arrow2_offsets32_check` where the numbers are not offsets, else `ARROW2_LENGTH` exactly where
+/// the number of items of `out` is not that of `offsets` minus 1.
 #[unsafe(no_mangle)]
 pub extern "C" fn arrow2_offsets32_lengths(offsets: &[i32], out: &mut [usize]) -> u32
     ensures { WritesLengths offsets.now (length out.old) result out.old out.new }
@@ -36,11 +36,11 @@ pub extern "C" fn arrow2_offsets32_lengths(offsets: &[i32], out: &mut [usize]) -
     lengths(offsets, out)
 }
 
-/// Writes how far each offset of 32 bits is from the next one, as `arrow2_offsets32_lengths` does, and tests no offset.
-/// Requires that the numbers are offsets, as `arrow2_offsets32_check` tests, so at least one. With other numbers the
-/// behaviour is undefined: memory outside `offsets` may be read.
+/// Writes the length of each slot to `out`, as `arrow2_offsets32_lengths` does, and tests no offset. Requires that the
+/// numbers are offsets, as `arrow2_offsets32_check` tests, so there is at least one. With other numbers the behaviour
+/// is undefined: memory outside `offsets` may be read.
 ///
-/// `ARROW2_LENGTH` exactly where the number of items of `out` is not that of `offsets` minus 1.
+/// Returns `ARROW2_LENGTH` exactly where the number of items of `out` is not that of `offsets` minus 1.
 #[unsafe(no_mangle)]
 pub extern "C" fn arrow2_offsets32_lengths_unchecked(offsets: &[i32], out: &mut [usize]) -> u32
     requires are { AreOffsets offsets.now }
@@ -49,10 +49,10 @@ pub extern "C" fn arrow2_offsets32_lengths_unchecked(offsets: &[i32], out: &mut 
     lengths_unchecked(offsets, out)
 }
 
-/// Writes `start`; each number after it is the one before plus the next length. They are offsets of 32 bits.
+/// Writes offsets of 32 bits to `out`: first `start`, then for each length the offset before it plus this length.
 ///
-/// `ARROW2_LENGTH` exactly where the number of items of `out` is not that of `lengths` plus 1, else `ARROW2_OVERFLOW`
-/// exactly where `start` and all lengths, added up exactly, are above 2147483647.
+/// Returns `ARROW2_LENGTH` exactly where the number of items of `out` is not that of `lengths` plus 1, else
+/// `ARROW2_OVERFLOW` exactly where `start` and all lengths, added up exactly, are above 2147483647.
 #[unsafe(no_mangle)]
 pub extern "C" fn arrow2_offsets32_from_lengths(
     start: usize,
@@ -69,11 +69,12 @@ pub extern "C" fn arrow2_offsets32_from_lengths(
     sums(start, lengths, out)
 }
 
-/// Sets `out[i]` to `offsets[from + i] - offsets[from]`, of 32 bits. So the written offsets begin at
-/// 0, and each slot has the length that it had.
+/// Sets `out[i]` to `offsets[from + i] - offsets[from]`, of 32 bits, for each item `i` of `out`. So the written offsets
+/// begin at 0, and each slot keeps its length.
 ///
-/// The code of `arrow2_offsets32_check` where the numbers are not offsets, else `ARROW2_LENGTH` exactly where `out` has
-/// no item, else `ARROW2_RANGE` exactly where `from` plus the number of items of `out` is above that of `offsets`.
+/// Returns the code of `arrow2_offsets32_check` where the numbers are not offsets, else `ARROW2_LENGTH` exactly where
+/// `out` has no item, else `ARROW2_RANGE` exactly where `from` plus the number of items of `out` is above that of
+/// `offsets`.
 #[unsafe(no_mangle)]
 pub extern "C" fn arrow2_offsets32_rebase(offsets: &[i32], from: usize, out: &mut [i32]) -> u32
     ensures { WritesRebased offsets.now from (length out.old) result out.new (out.new ≡ out.old) }
@@ -82,11 +83,11 @@ pub extern "C" fn arrow2_offsets32_rebase(offsets: &[i32], from: usize, out: &mu
 }
 
 /// Fills `out` with offsets of 32 bits, as `arrow2_offsets32_rebase` does, and tests no offset. Requires that the
-/// numbers are offsets, as `arrow2_offsets32_check` tests, so at least one. With other numbers the behaviour is
-/// undefined: memory outside `offsets` may be read.
+/// numbers are offsets, as `arrow2_offsets32_check` tests, so there is at least one. With other numbers the behaviour
+/// is undefined: memory outside `offsets` may be read.
 ///
-/// `ARROW2_LENGTH` exactly where `out` has no item, else `ARROW2_RANGE` exactly where `from` plus the number of items
-/// of `out` is above that of `offsets`.
+/// Returns `ARROW2_LENGTH` exactly where `out` has no item, else `ARROW2_RANGE` exactly where `from` plus the number of
+/// items of `out` is above that of `offsets`.
 #[unsafe(no_mangle)]
 pub extern "C" fn arrow2_offsets32_rebase_unchecked(
     offsets: &[i32],
@@ -112,10 +113,10 @@ pub extern "C" fn arrow2_offsets64_check(offsets: &[i64]) -> u32
     check(offsets)
 }
 
-/// Writes how far each offset of 64 bits is from the next one: one length for each slot.
+/// Writes the length of each slot to `out`: how far its offset, of 64 bits, is from the next one.
 ///
-/// The code of `arrow2_offsets64_check` where the numbers are not offsets, else `ARROW2_LENGTH` exactly where the
-/// number of items of `out` is not that of `offsets` minus 1.
+/// Returns the code of `arrow2_offsets64_check` where the numbers are not offsets, else `ARROW2_LENGTH` exactly where
+/// the number of items of `out` is not that of `offsets` minus 1.
 #[unsafe(no_mangle)]
 pub extern "C" fn arrow2_offsets64_lengths(offsets: &[i64], out: &mut [usize]) -> u32
     ensures { WritesLengths offsets.now (length out.old) result out.old out.new }
@@ -123,11 +124,11 @@ pub extern "C" fn arrow2_offsets64_lengths(offsets: &[i64], out: &mut [usize]) -
     lengths(offsets, out)
 }
 
-/// Writes how far each offset of 64 bits is from the next one, as `arrow2_offsets64_lengths` does, and tests no offset.
-/// Requires that the numbers are offsets, as `arrow2_offsets64_check` tests, so at least one. With other numbers the
-/// behaviour is undefined: memory outside `offsets` may be read.
+/// Writes the length of each slot to `out`, as `arrow2_offsets64_lengths` does, and tests no offset. Requires that the
+/// numbers are offsets, as `arrow2_offsets64_check` tests, so there is at least one. With other numbers the behaviour
+/// is undefined: memory outside `offsets` may be read.
 ///
-/// `ARROW2_LENGTH` exactly where the number of items of `out` is not that of `offsets` minus 1.
+/// Returns `ARROW2_LENGTH` exactly where the number of items of `out` is not that of `offsets` minus 1.
 #[unsafe(no_mangle)]
 pub extern "C" fn arrow2_offsets64_lengths_unchecked(offsets: &[i64], out: &mut [usize]) -> u32
     requires are { AreOffsets offsets.now }
@@ -136,10 +137,10 @@ pub extern "C" fn arrow2_offsets64_lengths_unchecked(offsets: &[i64], out: &mut 
     lengths_unchecked(offsets, out)
 }
 
-/// Writes `start`; each number after it is the one before plus the next length. They are offsets of 64 bits.
+/// Writes offsets of 64 bits to `out`: first `start`, then for each length the offset before it plus this length.
 ///
-/// `ARROW2_LENGTH` exactly where the number of items of `out` is not that of `lengths` plus 1, else `ARROW2_OVERFLOW`
-/// exactly where `start` and all lengths, added up exactly, are above 9223372036854775807.
+/// Returns `ARROW2_LENGTH` exactly where the number of items of `out` is not that of `lengths` plus 1, else
+/// `ARROW2_OVERFLOW` exactly where `start` and all lengths, added up exactly, are above 9223372036854775807.
 #[unsafe(no_mangle)]
 pub extern "C" fn arrow2_offsets64_from_lengths(
     start: usize,
@@ -156,11 +157,12 @@ pub extern "C" fn arrow2_offsets64_from_lengths(
     sums(start, lengths, out)
 }
 
-/// Sets `out[i]` to `offsets[from + i] - offsets[from]`, of 64 bits. So the written offsets begin at
-/// 0, and each slot has the length that it had.
+/// Sets `out[i]` to `offsets[from + i] - offsets[from]`, of 64 bits, for each item `i` of `out`. So the written offsets
+/// begin at 0, and each slot keeps its length.
 ///
-/// The code of `arrow2_offsets64_check` where the numbers are not offsets, else `ARROW2_LENGTH` exactly where `out` has
-/// no item, else `ARROW2_RANGE` exactly where `from` plus the number of items of `out` is above that of `offsets`.
+/// Returns the code of `arrow2_offsets64_check` where the numbers are not offsets, else `ARROW2_LENGTH` exactly where
+/// `out` has no item, else `ARROW2_RANGE` exactly where `from` plus the number of items of `out` is above that of
+/// `offsets`.
 #[unsafe(no_mangle)]
 pub extern "C" fn arrow2_offsets64_rebase(offsets: &[i64], from: usize, out: &mut [i64]) -> u32
     ensures { WritesRebased offsets.now from (length out.old) result out.new (out.new ≡ out.old) }
@@ -169,11 +171,11 @@ pub extern "C" fn arrow2_offsets64_rebase(offsets: &[i64], from: usize, out: &mu
 }
 
 /// Fills `out` with offsets of 64 bits, as `arrow2_offsets64_rebase` does, and tests no offset. Requires that the
-/// numbers are offsets, as `arrow2_offsets64_check` tests, so at least one. With other numbers the behaviour is
-/// undefined: memory outside `offsets` may be read.
+/// numbers are offsets, as `arrow2_offsets64_check` tests, so there is at least one. With other numbers the behaviour
+/// is undefined: memory outside `offsets` may be read.
 ///
-/// `ARROW2_LENGTH` exactly where `out` has no item, else `ARROW2_RANGE` exactly where `from` plus the number of items
-/// of `out` is above that of `offsets`.
+/// Returns `ARROW2_LENGTH` exactly where `out` has no item, else `ARROW2_RANGE` exactly where `from` plus the number of
+/// items of `out` is above that of `offsets`.
 #[unsafe(no_mangle)]
 pub extern "C" fn arrow2_offsets64_rebase_unchecked(
     offsets: &[i64],

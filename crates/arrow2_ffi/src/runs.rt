@@ -11,14 +11,14 @@ use crate::codes::{ARROW2_LENGTH, ARROW2_OK, ARROW2_RANGE};
 use arrow2_walks::cursor::{BitCursor, find_bit};
 
 /// Finds the runs of set bits among the `length` bits from bit `offset` on. Indices are relative to `offset`: index 0
-/// is bit `offset`. The search begins at index `at`, and a run that begins before is found from there on. Writes the
-/// index at which each run begins to `starts` and its length to `lengths`, until the slices are full or no run is left.
-/// Writes to `count` how many runs it wrote, and to `at` where the next call goes on. All runs are found once `count`
-/// is below the length of the slices; where that is 0, no call goes on. What the slices hold from `count` on is not
-/// specified.
+/// is bit `offset`. The search begins at index `at`. If `at` is inside a run, only the part of that run from `at` on is
+/// found. Writes to `starts` the index at which each run begins, and to `lengths` its length in bits, until the slices
+/// are full or no run is left. Writes to `count` how many runs it wrote, and to `at` where the next call goes on. All
+/// runs are found once `count` is below the length of the slices, which must be at least 1: with slices of length 0
+/// `count` is always 0, and `at` may stay as it was. What the slices hold from `count` on is not specified.
 ///
-/// `ARROW2_RANGE` exactly where the bits are not inside, or `at` is above `length`; else `ARROW2_LENGTH` exactly where
-/// `starts` and `lengths` differ in length.
+/// Returns `ARROW2_RANGE` exactly where the bits are not inside, or `at` is above `length`; else `ARROW2_LENGTH`
+/// exactly where `starts` and `lengths` differ in length.
 #[unsafe(no_mangle)]
 pub extern "C" fn arrow2_runs(
     bytes: &[u8],
@@ -51,9 +51,9 @@ pub extern "C" fn arrow2_runs(
     ARROW2_OK
 }
 
-/// Writes the runs from index `at` on, until the slices are full or no run is left, and returns how many were written
-/// and the index from which to go on. Requires that the bits and the index are inside, and that starts and lengths have
-/// equal lengths.
+/// Writes the runs from index `at` on, until the slices are full or no run is left. Returns how many runs were written
+/// and the index from which to go on. Requires that the first `end` bits are inside their bytes, that `at` is at most
+/// `end`, and that `starts` and `lengths` have equal lengths.
 fn write_runs(
     bits: Bits<'_>,
     end: usize,

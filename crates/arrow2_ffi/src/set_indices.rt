@@ -15,12 +15,12 @@ use arrow2_chunk::bit_chunk::BitChunk;
 use arrow2_chunk::bit_chunk_iter::BitChunkOnes;
 
 /// Finds the set bits among the `length` bits from bit `offset` on. Indices are relative to `offset`: index 0 is bit
-/// `offset`. The search begins at index `at`. Writes the indices of set bits to `indices`, rising, until it is full or
-/// no set bit is left. Writes to `count` how many indices it wrote, and to `at` where the next call goes on. All are
-/// found once `count` is below the length of `indices`; where that is 0, no call goes on. What `indices` holds from
-/// `count` on is not specified.
+/// `offset`. The search begins at index `at`. Writes the indices of set bits to `indices`, in rising order, until
+/// `indices` is full or no set bit is left. Writes to `count` how many indices it wrote, and to `at` where the next
+/// call goes on. All set bits are found once `count` is below the length of `indices`, which must be at least 1: with
+/// length 0 `count` is always 0. What `indices` holds from `count` on is not specified.
 ///
-/// `ARROW2_RANGE` exactly where the bits are not inside, or `at` is above `length`.
+/// Returns `ARROW2_RANGE` exactly where the bits are not inside, or `at` is above `length`.
 #[unsafe(no_mangle)]
 pub extern "C" fn arrow2_set_indices(
     bytes: &[u8],
@@ -47,8 +47,9 @@ pub extern "C" fn arrow2_set_indices(
     ARROW2_OK
 }
 
-/// Writes the indices of set bits from index `at` on, until `out` is full or none is left, and returns how many were
-/// written and the index from which to go on. Requires that the bits and the index are inside.
+/// Writes the indices of set bits from index `at` on, until `indices` is full or no set bit is left. Returns how many
+/// were written and the index from which to go on. Requires that the first `end` bits are inside their bytes, and that
+/// `at` is at most `end`.
 fn write_indices(bits: Bits<'_>, end: usize, at: usize, indices: &mut [usize]) -> (usize, usize)
     requires inside { HasBits bits end }
     requires within { at ≤ end }
@@ -71,9 +72,10 @@ fn write_indices(bits: Bits<'_>, end: usize, at: usize, indices: &mut [usize]) -
     (count, end)
 }
 
-/// Writes the indices of the word's set bits, counted from `base` on, after the first `count` indices, until `out` is
-/// full or none is left. Returns how many indices there are then, and the first that did not fit. Requires capacity for
-/// `count` indices, and that each index fits a `usize`.
+/// Writes the indices of the set bits of `word` after the first `count` items of `indices`, until `indices` is full or
+/// no set bit is left. The index of bit `i` of the word is `base + i`. Returns how many indices `indices` has then, and
+/// the first one that did not fit. Requires that `count` is at most the length of `indices`, and that each index fits a
+/// `usize`.
 fn write_ones(word: u64, base: usize, count: usize, indices: &mut [usize]) -> (usize, Option<usize>)
     requires few { count ≤ length indices.old }
     requires fit { All (λ index. index < 2 ^ 64) (map (λ k. base + k) (ones (unnum 64 word))) }

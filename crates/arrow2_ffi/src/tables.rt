@@ -1,8 +1,8 @@
 //! Truth tables over bits of one to four inputs: bit `a1 + 2 * a2 + 4 * a3 + 8 * a4` of a table is its output for
 //! inputs `a1` to `a4`.
 //!
-//! The outputs are written to `out` from bit 0 on. `out` must have exactly the bytes that hold them, and its padding
-//! bits become 0.
+//! The outputs are written to `out` from bit 0 on. `out` must have exactly the number of bytes that hold `length` bits.
+//! Its padding bits become 0.
 ghost use Rattle.std.specs.Prelude.{[], ◌∷◌};
 ghost use Rattle.arrow2_ffi.specs.Writes.{WritesTable};
 
@@ -13,8 +13,8 @@ use arrow2_kernels::simd_assign::assign_unary;
 
 /// Writes the outputs of a table of one input for the `length` bits from bit `offset` on.
 ///
-/// `ARROW2_RANGE` exactly where the table is above 3 or the bits are not inside, else `ARROW2_LENGTH` exactly where
-/// `out` does not have exactly the bytes that hold them.
+/// Returns `ARROW2_RANGE` exactly where the table is above 3 or the bits are not inside their bytes, else
+/// `ARROW2_LENGTH` exactly where `out` does not have exactly the bytes that hold `length` bits.
 #[unsafe(no_mangle)]
 pub extern "C" fn arrow2_unary_table(
     bytes: &[u8],
@@ -38,10 +38,10 @@ pub extern "C" fn arrow2_unary_table(
     ARROW2_OK
 }
 
-/// Writes the outputs of a table of two inputs for `length` bits of both.
+/// Writes the outputs of a table of two inputs for the `length` bits of each from its offset on.
 ///
-/// `ARROW2_RANGE` exactly where the table is above 15 or bits are not inside, else `ARROW2_LENGTH` exactly where `out`
-/// does not have exactly the bytes that hold them.
+/// Returns `ARROW2_RANGE` exactly where the table is above 15 or the bits of an input are not inside its bytes, else
+/// `ARROW2_LENGTH` exactly where `out` does not have exactly the bytes that hold `length` bits.
 #[unsafe(no_mangle)]
 pub extern "C" fn arrow2_binary_table(
     first: &[u8],
@@ -69,10 +69,10 @@ pub extern "C" fn arrow2_binary_table(
     ARROW2_OK
 }
 
-/// Writes the outputs of a table of three inputs for `length` bits of each.
+/// Writes the outputs of a table of three inputs for the `length` bits of each from its offset on.
 ///
-/// `ARROW2_RANGE` exactly where the table is above 255 or bits are not inside, else `ARROW2_LENGTH` exactly where `out`
-/// does not have exactly the bytes that hold them.
+/// Returns `ARROW2_RANGE` exactly where the table is above 255 or the bits of an input are not inside its bytes, else
+/// `ARROW2_LENGTH` exactly where `out` does not have exactly the bytes that hold `length` bits.
 #[unsafe(no_mangle)]
 pub extern "C" fn arrow2_ternary_table(
     first: &[u8],
@@ -104,10 +104,10 @@ pub extern "C" fn arrow2_ternary_table(
     ARROW2_OK
 }
 
-/// Writes the outputs of a table of four inputs for `length` bits of each.
+/// Writes the outputs of a table of four inputs for the `length` bits of each from its offset on.
 ///
-/// `ARROW2_RANGE` exactly where bits are not inside, else `ARROW2_LENGTH` exactly where `out` does not have exactly the
-/// bytes that hold them.
+/// Returns `ARROW2_RANGE` exactly where the bits of an input are not inside its bytes, else `ARROW2_LENGTH` exactly
+/// where `out` does not have exactly the bytes that hold `length` bits.
 #[unsafe(no_mangle)]
 pub extern "C" fn arrow2_quaternary_table(
     first: &[u8],

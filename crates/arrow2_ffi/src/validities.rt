@@ -1,11 +1,11 @@
-//! Validities that a call may be given or not: without one no item is null.
+//! A validity that may be missing: without one no item is null.
 ghost use Rattle.std.specs.Prelude.{◌≡◌, ◌<◌, ◌↔◌, false, slice_index_or, IsTrue};
 ghost use Rattle.arrow2_ffi.specs.Validities.{CoversItems, given_validity, valid_items, validity_of};
 
 use crate::bits_input::{Bits, are_inside};
 use arrow2_bits::get_bit_from;
 
-/// Returns a validity that a call was given, `None` where all items are valid.
+/// Returns the validity that a call was given, or `None` if `all_valid` is true.
 pub(crate) fn given_validity(all_valid: bool, bytes: &[u8], offset: usize) -> Option<Bits<'_>>
     ensures { validity_of result ≡ given_validity all_valid bytes.now offset }
 {
@@ -15,7 +15,7 @@ pub(crate) fn given_validity(all_valid: bool, bytes: &[u8], offset: usize) -> Op
     Some(Bits(bytes, offset))
 }
 
-/// Returns whether the validity has a bit for each of `len` items.
+/// Returns whether there is no validity, or its first `len` bits are inside its bytes.
 pub(crate) fn covers_items(validity: Option<Bits<'_>>, len: usize) -> bool
     ensures { IsTrue result ↔ CoversItems (validity_of validity.entry) len }
 {

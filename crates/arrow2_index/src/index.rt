@@ -1,4 +1,4 @@
-//! Numbers that point into buffers, and iterators over ranges of them.
+//! Numbers that are indices into buffers, and iterators over ranges of such numbers.
 ghost use Rattle.std.specs.Prelude.{◌≡◌, ◌<◌, ◌≤◌, ◌<ℤ◌, ◌≤ℤ◌, ◌+ℤ◌, ◌-ℤ◌, ◌↔◌, ℕ, ℤ, length, pos, refl, Some, IsSome, IfSome};
 ghost use Rattle.std.specs.Iterator.{YieldsFirstBy, item_count, UpTo};
 ghost use Rattle.std.specs.Iterator.SizeHint.{IsWithinCount};
@@ -10,9 +10,9 @@ use num_traits::{CheckedAdd, Num, One};
 use std::marker::Model;
 use std::ops::{AddAssign, Sub};
 
-/// A whole number of at most 64 bits, which may point to an item of a buffer.
+/// An integer of at most 64 bits that can be the index of an item in a buffer.
 ///
-/// Differs from arrow2: values must fit, where arrow2's wrap.
+/// Differs from arrow2: `to_usize` and `from_as_usize` require that the value fits, where arrow2's wrap.
 pub trait Index: NativeType + Ord + AddAssign + Sub<Self, Output = Self> + One + Num + CheckedAdd {
     /// Returns the number as a `usize`. Requires that it is not negative.
     fn to_usize(&self) -> usize
@@ -30,7 +30,7 @@ pub trait Index: NativeType + Ord + AddAssign + Sub<Self, Output = Self> + One +
         requires { Self.fits (pos index) }
         ensures { Self.value result ≡ pos index };
 
-    /// Returns how far `end` is above the number. Requires that it is not below. Not in arrow2.
+    /// Returns how far `end` is above the number. Requires that `end` is not below the number. Not in arrow2.
     fn distance_to(self, end: Self) -> usize
         requires { Self.value self ≤ℤ Self.value end }
         ensures { pos result ≡ Self.value end -ℤ Self.value self };
@@ -40,8 +40,8 @@ pub trait Index: NativeType + Ord + AddAssign + Sub<Self, Output = Self> + One +
         requires { Self.value self <ℤ Self.value end }
         ensures { Self.value result ≡ Self.value self +ℤ pos 1 };
 
-    /// Returns the iterator from `start` up to the number before `end`, or `None` where one of the two does not fit.
-    /// Requires that `start` is at most `end`, which arrow2 tests last.
+    /// Returns the iterator from `start` up to the number before `end`, or `None` where `start` or `end` does not fit
+    /// this type. Requires that `start` is at most `end`, which arrow2 tests after both conversions.
     final fn range(start: usize, end: usize) -> Option<IndexRange<Self>>
         requires { start ≤ end }
         ensures some { IfSome result (λ range. range ≡ integers (pos start) (pos end)) }

@@ -1,4 +1,4 @@
-//! Index and offset types: numbers that point into buffers.
+//! Index and offset types: numbers that are indices into buffers.
 #![tactic(auto)]
 
 pub mod index;

@@ -6,8 +6,7 @@ ghost use Rattle.arrow2_model.proofs.Signed.{fits_below, below_fits};
 
 use crate::index::Index;
 
-/// A number that an offset into values may be: `i32` or `i64` (Arrow columnar format, "Variable-size
-/// Binary Layout").
+/// The type of an offset into values: `i32` or `i64` (Arrow columnar format, "Variable-size Binary Layout").
 pub trait Offset: Index {
     // Whether the offsets have 64 bits.
     ghost IS_LARGE: { Bool };
@@ -21,8 +20,8 @@ pub trait Offset: Index {
     /// The greatest offset.
     const MAX: usize;
 
-    /// Returns `sum` as an offset, or some number where it is above the greatest one: so a loop over lengths may test
-    /// the last of its sums alone. Not in arrow2.
+    /// Returns `sum` as an offset. Where `sum` is above the greatest offset, the result is unspecified, so a loop that
+    /// adds lengths can test its last sum alone. Not in arrow2.
     fn from_low_bits(sum: u128) -> Self
         ensures { sum ≤ Self.MAX → Self.value result ≡ pos sum };
 

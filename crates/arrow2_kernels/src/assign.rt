@@ -9,9 +9,10 @@ use crate::rows::WordRows;
 use arrow2_chunk::bit_chunk::BitChunk;
 use std::convert::AsSlice;
 
-/// Replaces each word of the first `len` bits by the result of `op` for it and the row of words at its index.
-/// Padding bits are false afterwards, whatever they were, and whatever `op` sets there. Does not allocate. Requires
-/// exactly the bytes that `len` bits need, that all lists have `len` items, and that `op` accepts every word.
+/// Replaces each word of the first `len` bits by the result of `op` for this word and the row of words at its index.
+/// Padding bits are false afterwards, whatever they were before and whatever `op` returns for them. Does not allocate.
+/// Requires that `bytes` has exactly the bytes that `len` bits need, that each list of `rows` has `len` items, and that
+/// `op` accepts every word and row.
 pub fn assign_rows<T: BitChunk, S: WordRows<T>, F: Fn(T, S::Row) -> T>(
     bytes: &mut [u8],
     len: usize,
@@ -43,8 +44,8 @@ pub fn assign_rows<T: BitChunk, S: WordRows<T>, F: Fn(T, S::Row) -> T>(
     }
 }
 
-/// Returns the word whose first bytes are the `count` ones from byte `at` on. Requires that these are inside the bytes,
-/// and no more than a word has.
+/// Returns the word whose first bytes are the `count` bytes from byte `at` on. Requires that these are inside `bytes`,
+/// and that `count` is at most the number of bytes of a word.
 fn word_at<T: BitChunk>(bytes: &[u8], at: usize, count: usize) -> T
     requires inside { at + count ≤ length bytes.now }
     requires most { count ≤ T.BitChunk.SIZE }
@@ -57,8 +58,8 @@ fn word_at<T: BitChunk>(bytes: &[u8], at: usize, count: usize) -> T
     T::from_ne_slice(&padded[..T::SIZE])
 }
 
-/// Writes the first `count` bytes of the word from byte `at` on. Requires that these are inside the bytes, and no more
-/// than a word has.
+/// Writes the first `count` bytes of `word` over the `count` bytes from byte `at` on. Requires that these are inside
+/// `bytes`, and that `count` is at most the number of bytes of a word.
 fn put_word<T: BitChunk>(bytes: &mut [u8], at: usize, count: usize, word: T)
     requires inside { at + count ≤ length bytes.old }
     requires most { count ≤ T.BitChunk.SIZE }
@@ -71,8 +72,8 @@ fn put_word<T: BitChunk>(bytes: &mut [u8], at: usize, count: usize, word: T)
     write_over(&mut bytes[at..at + count], &word.as_slice()[..count]);
 }
 
-/// Replaces `bytes` by the bytes of `word`. Requires `bytes` to have exactly the bytes of a word. A single byte is
-/// stored by itself: as a copy, it keeps LLVM from making a loop over bytes wide.
+/// Replaces `bytes` by `word`. Requires that both have the same number of bytes. Stores a single byte by itself, since
+/// a copy keeps LLVM from vectorizing a loop over bytes.
 fn write_over(bytes: &mut [u8], word: &[u8])
     requires size { length word.now ≡ length bytes.old }
     ensures { bytes.new ≡ word.now }

@@ -1,4 +1,4 @@
-//! A list from the results of a word function: over bytes, or in new ones.
+//! The results of a word function, written over given bytes or into new bytes.
 ghost use Rattle.std.specs.Prelude.{◌≡◌, ◌+◌, ◌/◌, ℕ, List, Bool, take, IfOk, length};
 ghost use Rattle.arrow2_model.specs.Bits.{bits};
 ghost use Rattle.arrow2_model.specs.Canonical.{IsCanonical};
@@ -11,9 +11,9 @@ use crate::rows::WordRows;
 use arrow2_bits::bytes_for;
 use std::alloc::{AllocError, Global};
 
-/// Writes the results of `op` for each row of words over `bytes`, from bit 0 on, for lists of `len` items. Padding
-/// bits are false afterwards. Does not allocate. Requires exactly the bytes that `len` bits need, that all lists
-/// have `len` items, and that `op` accepts every row.
+/// Overwrites `bytes` with the results of `op` for each row of words, from bit 0 on. Padding bits are false afterwards.
+/// Does not allocate. Requires that `bytes` has exactly the bytes that `len` bits need, that each list of `rows` has
+/// `len` items, and that `op` accepts every row.
 pub fn write_rows<S: WordRows<u64>, F: Fn(S::Row) -> u64>(
     bytes: &mut [u8],
     len: usize,
@@ -38,9 +38,8 @@ pub fn write_rows<S: WordRows<u64>, F: Fn(S::Row) -> u64>(
     assign_rows(bytes, len, rows, |_own: u64, row| op(row));
 }
 
-/// Returns the bytes of the results of `op` for each row of words, for lists of `len` items: exactly the bytes that
-/// these need, with padding bits false. Allocates once. Requires that all lists have `len` items, and that `op`
-/// accepts every row.
+/// Returns the bytes of the results of `op` for each row of words: exactly the bytes that `len` bits need, with padding
+/// bits false. Allocates once. Requires that each list of `rows` has `len` items, and that `op` accepts every row.
 ///
 /// # Errors
 ///

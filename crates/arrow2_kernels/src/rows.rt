@@ -1,4 +1,4 @@
-//! Lists of booleans zipped, read by words.
+//! Lists of booleans, zipped and read by words.
 ghost use Rattle.std.specs.Prelude.{◌≡◌, ◌+◌, ◌<◌, ◌++◌, ℕ, List, [], ◌∷◌, length};
 ghost use Rattle.arrow2_model.specs.Kernels.{word, AreWords};
 ghost use Rattle.arrow2_model.specs.Words.{WordCursor};
@@ -15,7 +15,7 @@ pub trait WordRows<B: BitChunk>: Drop {
     // The words of a row.
     ghost words: { Self.Row → List ℕ };
 
-    // Returns the number of items of each list still to come.
+    // The number of items of each list still to come.
     ghost len: { Self → ℕ };
 
     // Row j of those still to come. Items past the end count as false.
@@ -31,7 +31,8 @@ pub trait WordRows<B: BitChunk>: Drop {
         ensures row { GivesRow B.BitChunk.WIDTH words (len self.old) (row_at self.old) result
             (len self.new) (row_at self.new) };
 
-    /// Returns the row of the remaining items, filled with false. Requires that they are fewer than a word has.
+    /// Returns the row of the remaining items, with each word filled with false. Requires that fewer items remain than
+    /// a word has.
     fn rest_row(&self) -> Self::Row
         requires alike { alike self.now }
         requires short { len self.now < B.BitChunk.WIDTH }
@@ -39,7 +40,7 @@ pub trait WordRows<B: BitChunk>: Drop {
         ensures fits { AreWords B.BitChunk.WIDTH (words result) };
 }
 
-/// No list, for `left` items: its rows are empty.
+/// Rows of no list: empty rows, for `left` items.
 #[derive(Drop)]
 pub struct NoList {
     /// The number of items still to come.
@@ -68,10 +69,10 @@ impl<B: BitChunk> WordRows<B> for NoList {
     fn rest_row(&self) {}
 }
 
-/// One list, by an iterator over its words.
+/// Rows of one list, read by an iterator over its words.
 #[derive(Drop)]
 pub struct OneList<I> {
-    /// The iterator.
+    /// The iterator over the words.
     pub chunks: I,
 }
 
@@ -95,12 +96,12 @@ impl<B: BitChunk, I: BitChunkIterExact<B> + Drop> WordRows<B> for OneList<I> {
     }
 }
 
-/// The lists of two sides, zipped.
+/// Rows of the lists of two sides, zipped: a row of the left side, then a row of the right side.
 #[derive(Drop)]
 pub struct ZipRows<L, R> {
-    /// The lists of the one side, which come first in a row.
+    /// The lists of the left side, whose words come first in a row.
     pub left: L,
-    /// The lists of the other side.
+    /// The lists of the right side.
     pub right: R,
 }
 
@@ -126,7 +127,7 @@ impl<B: BitChunk, L: WordRows<B>, R: WordRows<B>> WordRows<B> for ZipRows<L, R> 
     }
 }
 
-/// The words of two lists, paired, as one type: rows of four lists are rows of two pairs.
+/// Rows of two lists, read by words of 64 bits, as one type. Two pairs, zipped, give the rows of four lists.
 #[derive(Drop)]
 pub struct Pair<'a> {
     /// The lists.

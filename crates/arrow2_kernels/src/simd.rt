@@ -6,7 +6,7 @@ ghost use Rattle.arrow2_model.specs.Tables.{answer};
 use arrow2_chunk::bit_chunk::BitChunk;
 use std::simd::prelude::*;
 
-/// Returns the outputs of a table of one input, bit by bit of each lane.
+/// Returns the outputs of a table of one input, for each bit of each lane.
 #[inline(always)]
 pub(crate) fn unary_lanes(table: u16, x: u8x32) -> u8x32
     ensures long { length result ≡ 32 }
@@ -18,7 +18,7 @@ pub(crate) fn unary_lanes(table: u16, x: u8x32) -> u8x32
     chosen(x, yes, no)
 }
 
-/// Returns the outputs of a table of two inputs, bit by bit of each lane.
+/// Returns the outputs of a table of two inputs, for each bit of each lane.
 #[inline(always)]
 pub(crate) fn binary_lanes(table: u16, x: u8x32, y: u8x32) -> u8x32
     ensures long { length result ≡ 32 }
@@ -31,7 +31,7 @@ pub(crate) fn binary_lanes(table: u16, x: u8x32, y: u8x32) -> u8x32
     chosen(y, yes, no)
 }
 
-/// Returns each bit of `yes` where `which` is set, and each bit of `no` where it is not.
+/// Returns, at each bit, the bit of `yes` where the bit of `which` is set, and the bit of `no` elsewhere.
 #[inline(always)]
 fn chosen(which: u8x32, yes: u8x32, no: u8x32) -> u8x32
     ensures long { length result ≡ 32 }
@@ -43,7 +43,7 @@ fn chosen(which: u8x32, yes: u8x32, no: u8x32) -> u8x32
     no ^ (which & (yes ^ no))
 }
 
-/// Returns the vector each bit of which is `value`.
+/// Returns the vector whose bits are all `value`.
 #[inline(always)]
 fn filled(value: bool) -> u8x32
     ensures { (k i : ℕ) → k < 32 → i < 8 → bit (slice_index result k) i ≡ value }

@@ -8,9 +8,9 @@ use crate::simd::{binary_lanes, unary_lanes};
 use crate::truth_tables::{binary_outputs, unary_outputs};
 use std::simd::prelude::*;
 
-/// Replaces the first `len` bits by the outputs of table `t` for them and for those of `other`. Padding bits are
-/// false afterwards, whatever they were. Does not allocate. Requires exactly the bytes that `len` bits need, and at
-/// least that many in `other`.
+/// Replaces each of the first `len` bits by the output of table `t` for this bit and the bit of `other` at its index.
+/// Padding bits are false afterwards, whatever they were. Does not allocate. Requires that `bytes` has exactly the
+/// bytes that `len` bits need, and that `other` has at least `len` bits.
 pub fn assign_binary(bytes: &mut [u8], other: &[u8], len: usize, t: u8)
     requires exact { length bytes.old ≡ (len + 7) / 8 }
     requires inside { len ≤ 8 * length other.now }
@@ -22,7 +22,8 @@ pub fn assign_binary(bytes: &mut [u8], other: &[u8], len: usize, t: u8)
     clear_spare(bytes, len);
 }
 
-/// The same of a table of one input.
+/// Replaces each of the first `len` bits by the output of table `t`, of one input, for this bit. Padding bits are false
+/// afterwards, whatever they were. Does not allocate. Requires exactly the bytes that `len` bits need.
 pub fn assign_unary(bytes: &mut [u8], len: usize, t: u8)
     requires exact { length bytes.old ≡ (len + 7) / 8 }
     ensures canonical { IsCanonical bytes.new len }
@@ -32,7 +33,8 @@ pub fn assign_unary(bytes: &mut [u8], len: usize, t: u8)
     clear_spare(bytes, len);
 }
 
-/// Replaces each bit of the bytes by its output, by a loop of the table's own.
+/// Replaces each bit of `bytes` by the output of table `t` for this bit and the bit of `other` at its index. Each table
+/// has a loop of its own.
 pub(crate) fn write_by_table(bytes: &mut [u8], other: &[u8], t: u8)
     requires inside { length bytes.old ≤ length other.now }
     ensures { bits bytes.new ≡ each t (bits bytes.old
@@ -58,7 +60,7 @@ pub(crate) fn write_by_table(bytes: &mut [u8], other: &[u8], t: u8)
     }
 }
 
-/// The same of a table of one input.
+/// Replaces each bit of `bytes` by the output of table `t`, of one input. Each table has a loop of its own.
 fn write_by_unary_table(bytes: &mut [u8], t: u8)
     ensures { bits bytes.new ≡ each t (bits bytes.old ∷ []) }
 {
@@ -70,7 +72,7 @@ fn write_by_unary_table(bytes: &mut [u8], t: u8)
     }
 }
 
-/// Replaces each bit of the bytes by its output. 32 bytes go at once, and a plain loop takes the rest.
+/// Does the same as [`write_by_table`], 32 bytes at a time, and then byte by byte.
 #[inline(always)]
 fn write_binary(bytes: &mut [u8], other: &[u8], t: u8)
     requires inside { length bytes.old ≤ length other.now }
@@ -89,7 +91,7 @@ fn write_binary(bytes: &mut [u8], other: &[u8], t: u8)
     }
 }
 
-/// The same of a table of one input.
+/// Does the same as [`write_by_unary_table`], 32 bytes at a time, and then byte by byte.
 #[inline(always)]
 fn write_unary(bytes: &mut [u8], t: u8)
     ensures { bits bytes.new ≡ each t (bits bytes.old ∷ []) }
@@ -116,7 +118,8 @@ pub fn clear_spare(bytes: &mut [u8], len: usize)
     }
 }
 
-/// Keeps of byte `last` its lowest `count` bits. Requires that there is one, and for less than eight.
+/// Keeps the lowest `count` bits of byte `last`, and clears its other bits. Requires that there is such a byte, and
+/// that `count` is below 8.
 fn clear_last(bytes: &mut [u8], last: usize, count: usize)
     requires inside { last < length bytes.old }
     requires few { count < 8 }

@@ -8,11 +8,12 @@ use crate::simd_assign::{assign_unary, clear_spare, write_by_table};
 use arrow2_bits::bytes_for;
 use std::alloc::{AllocError, Global};
 
-/// The number of bytes that are copied before their outputs are computed: they stay in the nearest cache.
+/// The number of bytes that are copied before their outputs are computed: few enough to stay in the first-level cache.
 const BLOCK: usize = 4096;
 
-/// Returns the bytes of the outputs of table `t` for the first `len` bits of both: exactly the bytes that these
-/// need, with padding bits false. Allocates once. Requires that both hold `len` bits.
+/// Returns the bytes of the outputs of table `t` for the first `len` bits of `left` and `right`: exactly the bytes that
+/// `len` bits need, with padding bits false. Allocates once. Requires that `left` and `right` have at least `len` bits
+/// each.
 ///
 /// # Errors
 ///
@@ -37,7 +38,8 @@ pub fn map_binary(
     Ok(bytes)
 }
 
-/// The same of a table of one input.
+/// Returns the bytes of the outputs of table `t`, of one input, for the first `len` bits of `list`: exactly the bytes
+/// that `len` bits need, with padding bits false. Allocates once. Requires that `list` has at least `len` bits.
 ///
 /// # Errors
 ///
@@ -53,8 +55,8 @@ pub fn map_unary(alloc: Global, list: &[u8], len: usize, t: u8) -> Result<Vec<u8
     Ok(bytes)
 }
 
-/// Appends the outputs of table `t` for each bit of both to no bytes, a block at a time. Requires both to have the same
-/// number of bytes.
+/// Appends the outputs of table `t` for each bit of `left` and `right`, a block at a time. Requires that `bytes` is
+/// empty, and that `left` and `right` have the same number of bytes.
 fn append_blocks(bytes: &mut Vec<u8>, left: &[u8], right: &[u8], t: u8) -> Result<(), AllocError>
     requires empty { bytes.old.items ≡ [] }
     requires alike { length left.now ≡ length right.now }
@@ -68,7 +70,8 @@ fn append_blocks(bytes: &mut Vec<u8>, left: &[u8], right: &[u8], t: u8) -> Resul
     append_binary(bytes, &left[BLOCK * whole..], &right[BLOCK * whole..], t)
 }
 
-/// Appends the outputs of table `t` for each bit of both. Requires both to have the same number of bytes.
+/// Appends the outputs of table `t` for each bit of `left` and `right`. Requires that both have the same number of
+/// bytes.
 fn append_binary(bytes: &mut Vec<u8>, left: &[u8], right: &[u8], t: u8) -> Result<(), AllocError>
     requires alike { length left.now ≡ length right.now }
     ensures { OnOk result (bits bytes.new.items ≡ bits bytes.old.items

@@ -51,7 +51,7 @@ pub fn quaternary_outputs<T: BitChunk>(table: u16, x: T, y: T, z: T, v: T) -> T
     chosen(v, yes, no)
 }
 
-/// Returns each bit of `yes` where `which` is set, and each bit of `no` where it is not.
+/// Returns, at each bit, the bit of `yes` where the bit of `which` is set, and the bit of `no` elsewhere.
 fn chosen<T: BitChunk>(which: T, yes: T, no: T) -> T
     ensures { (i : ℕ) → i < T.BitChunk.WIDTH →
         bit (T.BitChunk.number result) i
@@ -61,7 +61,7 @@ fn chosen<T: BitChunk>(which: T, yes: T, no: T) -> T
     yes.bit_and(which).bit_or(no.bit_and(which.bit_not()))
 }
 
-/// Returns the word each bit of which is `value`, of the type of `like`.
+/// Returns the word whose bits are all `value`, of the type of `like`.
 fn filled<T: BitChunk>(like: T, value: bool) -> T
     ensures { (i : ℕ) → i < T.BitChunk.WIDTH → bit (T.BitChunk.number result) i ≡ value }
 {

@@ -13,7 +13,8 @@ use Rattle.arrow2_machine.specs.BitmapOutcomes.{part_inside}
 use Rattle.arrow2_machine.specs.KernelOutcomes.{two_lists}
 use Rattle.arrow2_machine.specs.Replies.{array_items_text}
 
--- the boolean array of one slot's items, null where another's are false: without another none is null
+-- a boolean array: its values are the items of one slot, and it is null where the items of another slot are false;
+-- without another slot no item is null
 abbrev pub after_new_array : Held → Option Held → Result Held LineError
 after_new_array values None = do
   items ← frozen values
@@ -48,7 +49,7 @@ two_arrays a b = do
   y ← array b
   if length x == length y then Ok (x, y) else Err Length
 
--- the array that an operator of Kleene's logic makes of them, item by item
+-- the array that an operator of Kleene's logic makes from two boolean arrays, item by item
 abbrev pub after_kleene : (Option Bool → Option Bool → Option Bool) → Held → Held → Result Held LineError
 after_kleene operator a b = do
   arrays ← two_arrays a b

@@ -44,7 +44,7 @@ table_of_two t a b = do
   lists ← two_lists a b
   Ok (each t (lists.0 ∷ lists.1 ∷ []))
 
--- the list that an operator or a table makes: the operators are tables too, as `and` is the one whose only set bit is
+-- the list that an operator or a table makes; the operators are tables too: `and` is the table whose only set bit is
 -- that of two true inputs
 unfoldable pub kernel_items : List Held → Kernel → Result (List Bool) LineError
 kernel_items slots (kernel.And a b) = table_of_two 8 (at slots a) (at slots b)
@@ -60,13 +60,13 @@ kernel_items slots (kernel.Quaternary t a b c e) = do
   lists ← four_lists (at slots a) (at slots b) (at slots c) (at slots e)
   Ok (each t (lists.0 ∷ lists.1 ∷ lists.2 ∷ lists.3 ∷ []))
 
--- the items of a slot after they become the outputs of a table for them
+-- a slot after its items become the outputs of a table for them
 abbrev pub after_assign_unary : Held → ℕ → Result Held LineError
 after_assign_unary held t = do
   items ← growing held
   Ok (Growing (each t (items ∷ [])))
 
--- and for them and other items
+-- a slot after its items become the outputs of a table for them and other items
 abbrev pub after_assign_binary : Held → ℕ → List Bool → Result Held LineError
 after_assign_binary held t others = do
   items ← growing held

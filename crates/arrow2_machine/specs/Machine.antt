@@ -26,7 +26,7 @@ outcome slots (Kernel command) = kernel_outcome slots command
 outcome slots (Growth command) = growth_outcome slots command
 outcome slots (Array command) = array_outcome slots command
 
--- a line that is refused changes nothing
+-- the slots and the reply of a line; a line that is refused changes no slot
 abbrev pub slots_and_reply : List Held → Result (List Held × List ℕ) LineError → List Held × List ℕ
 slots_and_reply slots (Ok after) = after
 slots_and_reply slots (Err e) = (slots, refused_text e)
@@ -45,6 +45,6 @@ unfoldable pub replies : List Held → List (List ℕ) → List ℕ
 replies slots [] = []
 replies slots (line ∷ lines) = ended (step slots line).1 ++ replies (step slots line).0 lines
 
--- the output of a script: its lines' replies, from sixteen empty slots on
+-- the output of a script: the replies to its lines, beginning with sixteen empty slots
 unfoldable pub text : List ℕ → List ℕ
 text script = replies (replicate 16 Nothing) (lines_of script)

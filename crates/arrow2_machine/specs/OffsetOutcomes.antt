@@ -15,7 +15,7 @@ use Rattle.arrow2_machine.specs.Replies.{words_text, slot_word}
 abbrev pub greatest : ℕ
 greatest = 2147483647
 
--- a slot with one offset alone
+-- a slot with growing offsets that are one offset only
 abbrev pub after_new_offsets : ℕ → Result Held LineError
 after_new_offsets first = if nat_lt greatest first then Err Range else Ok (GrowingOffsets (record { start = first; lengths = [] }))
 
@@ -58,7 +58,7 @@ after_offsets_slice held i n = do
   inside ← offsets_inside o i n
   Ok (FrozenOffsets inside)
 
--- the text of a slot's lengths by another slot's items
+-- the text of a slot's lengths, with `null` where another slot's items are false
 abbrev pub zip_text : Held → Held → Result (List ℕ) LineError
 zip_text offsets validity = do
   o ← frozen_offsets offsets

@@ -18,7 +18,7 @@ command_error (errors.External message t) = OutOfMemory
 command_error (errors.Io e) = OutOfMemory
 command_error (errors.ExternalFormat t) = OutOfMemory
 
--- the machine refuses for this reason, unless it was memory that was refused
+-- the machine refuses for this reason, unless an allocation failed
 abbrev pub Fails : {Y : Type 0} → CommandError → Result Y LineError → Type 0
 Fails OutOfMemory answer = Unit {0}
 Fails (Refused refusal) answer = answer ≡ Err refusal
@@ -33,8 +33,8 @@ abbrev pub Answers : {X Y : Type 0} → (X → Y) → Result X LineError → Res
 Answers view (Ok x) answer = answer ≡ Ok (view x)
 Answers view (Err refusal) answer = answer ≡ Err refusal
 
--- a command is carried out as the machine does it: only where an allocation failed are the slots and the reply
--- unspecified
+-- a command is carried out as the machine does it: the slots and the reply are unspecified only where an allocation
+-- failed
 pub record Carries (r : Result Unit CommandError) (old new : List Held) (before after : List ℕ) (machine : Result (List Held × List ℕ) LineError) : Type 0 where
   -- the slots are the machine's, and its reply is appended
   pub ok : OnOk r (IsOkAnd machine (λ a. (new ≡ a.0) × (after ≡ before ++ a.1)))
@@ -43,7 +43,7 @@ pub record Carries (r : Result Unit CommandError) (old new : List Held) (before 
   -- a refusal changes nothing
   pub err : IfErr r (λ e. e ≢ OutOfMemory → (new ≡ old) × (after ≡ before))
 
--- the reply of the machine is appended: where an allocation failed, a part of it may be
+-- the reply of the machine is appended; where an allocation failed, a part of it may have been appended
 pub record Writes (r : Result Unit CommandError) (before after : List ℕ) (machine : Result (List ℕ) LineError) : Type 0 where
   -- it is the machine's
   pub ok : OnOk r (IsOkAnd machine (λ text. after ≡ before ++ text))

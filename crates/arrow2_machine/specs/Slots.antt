@@ -9,11 +9,11 @@ use Rattle.arrow2_machine.specs.Held as machine
 use Rattle.arrow2_machine.specs.declared.slot.Contents.{Contents}
 use Rattle.arrow2_machine.specs.declared.slot.Contents.TheVariants.{Nothing, Frozen, Growing, FrozenOffsets, GrowingOffsets, Array}
 
--- the offsets that a list of them is: the first one and the lengths
+-- a list of offsets, as its first offset and its lengths
 abbrev pub offsets_in : List ℤ → machine.Offsets
 offsets_in offsets = record { start = start_of offsets; lengths = lengths_of offsets }
 
--- a bitmap and a boolean array are their lists, and offsets are their first one and their lengths
+-- a bitmap or a boolean array as its list, and offsets as their first offset and their lengths
 abbrev pub held_in : Contents → Held
 held_in Nothing = machine.Nothing
 held_in (Frozen bitmap) = machine.Frozen (items_of bitmap)

@@ -15,7 +15,7 @@ use arrow2::array::BooleanArray;
 use arrow2_script::array_command::ArrayCommand;
 use arrow2_script::words::SlotIndex;
 
-/// Carries a command on boolean arrays out, and appends its reply.
+/// Carries out a command on boolean arrays, and appends its reply.
 #[tactic(auto, unfolding(crate::specs::ArrayOutcomes::array_outcome))]
 pub(crate) fn run(
     slots: &mut [Slot; 16],
@@ -47,7 +47,8 @@ pub(crate) fn run(
     Ok(())
 }
 
-/// Returns the boolean array of a frozen bitmap, null where another one is false. Without another none is null.
+/// Returns the boolean array whose values are the frozen bitmap of slot `values`. An item is null where the frozen
+/// bitmap of slot `validity` is false. Without `validity` no item is null.
 ///
 /// # Errors
 ///
@@ -70,7 +71,7 @@ fn array_of(
     Ok(array)
 }
 
-/// Returns the result of Kleene's and for two boolean arrays of equal length.
+/// Returns AND, by Kleene's logic, of two boolean arrays of equal length.
 ///
 /// # Errors
 ///
@@ -83,7 +84,7 @@ fn both(slots: &[Slot; 16], left: SlotIndex, right: SlotIndex) -> Result<Boolean
     Ok(left.and_kleene(right)?)
 }
 
-/// Returns the result of Kleene's or for two boolean arrays of equal length.
+/// Returns OR, by Kleene's logic, of two boolean arrays of equal length.
 ///
 /// # Errors
 ///
@@ -137,7 +138,7 @@ impl Slot {
     ///
     /// # Errors
     ///
-    /// `Kind` alone.
+    /// Only `Kind`.
     fn array(&self) -> Result<&BooleanArray, LineError>
         ensures { Answers (λ array. boolean_items array.now) result (array_in self.now) }
     {
@@ -163,7 +164,7 @@ impl Slot {
     ///
     /// # Errors
     ///
-    /// `Kind` alone.
+    /// Only `Kind`.
     fn count_nulls(&self) -> Result<usize, LineError>
         ensures { result ≡ null_count self.now }
     {
@@ -186,7 +187,8 @@ impl Slot {
     }
 }
 
-/// Cuts a boolean array to its `length` items from item `offset` on, where they are inside.
+/// Cuts a boolean array to its `length` items from item `offset` on. Returns `Range` and changes nothing where they are
+/// not inside.
 fn cut(array: &mut BooleanArray, offset: u64, length: u64) -> Result<(), LineError>
     ensures gives { Answers (λ _. boolean_items array.new) result
         (part_inside (boolean_items array.old) offset length) }

@@ -17,7 +17,7 @@ use std::alloc::Global;
 use std::convert::TryFrom;
 use std::mem;
 
-/// Carries a command on bitmaps out, and appends its reply.
+/// Carries out a command on bitmaps, and appends its reply.
 #[tactic(auto, unfolding(crate::specs::BitmapOutcomes::bitmap_outcome))]
 pub(crate) fn run(
     slots: &mut [Slot; 16],
@@ -52,7 +52,7 @@ impl Slot {
     ///
     /// # Errors
     ///
-    /// `OutOfMemory` alone.
+    /// Only `OutOfMemory`.
     fn with_bits(alloc: Global, text: &BitText<'_>) -> Result<Slot, CommandError>
         ensures { Gives (λ slot. slot) result (Ok (Growing text.now)) }
     {
@@ -79,11 +79,11 @@ impl Slot {
         }
     }
 
-    /// Takes the last item off a growing bitmap, and gives it back where there is one.
+    /// Removes the last item of a growing bitmap and returns it, or returns `None` if there is no item.
     ///
     /// # Errors
     ///
-    /// `Kind` alone, which changes nothing.
+    /// Only `Kind`, which changes nothing.
     #[tactic(auto, using(crate::proofs::SlotLemmas::popping))]
     fn pop(&mut self) -> Result<Option<bool>, LineError>
         ensures gives { Answers (λ item. (self.new, item_reply item)) result (after_pop self.old) }
@@ -95,11 +95,11 @@ impl Slot {
         }
     }
 
-    /// Returns item `index` of a bitmap, where there is one.
+    /// Returns item `index` of a bitmap, or `None` if there is no such item.
     ///
     /// # Errors
     ///
-    /// `Kind` alone.
+    /// Only `Kind`.
     fn get(&self, index: u64) -> Result<Option<bool>, LineError>
         ensures { Answers item_reply result (item_at self.now index) }
     {
@@ -130,7 +130,7 @@ impl Slot {
         }
     }
 
-    /// Lets a frozen bitmap grow again.
+    /// Turns a frozen bitmap into a growing one.
     ///
     /// # Errors
     ///
@@ -169,7 +169,7 @@ impl Slot {
     ///
     /// # Errors
     ///
-    /// `Kind` alone.
+    /// Only `Kind`.
     fn count(&self) -> Result<usize, LineError>
         ensures { result ≡ false_count self.now }
     {
@@ -209,7 +209,8 @@ fn bitmap_of(alloc: Global, text: &BitText<'_>) -> Result<MutableBitmap, Command
     Ok(bitmap)
 }
 
-/// Cuts a bitmap to its `length` items from item `offset` on, where they are inside.
+/// Cuts a bitmap to its `length` items from item `offset` on. Returns `Range` and changes nothing where they are not
+/// inside.
 fn cut(bitmap: &mut Bitmap, offset: u64, length: u64) -> Result<(), LineError>
     ensures gives { Answers (λ _. items_of bitmap.new) result
         (part_inside (items_of bitmap.old) offset length) }
@@ -224,7 +225,7 @@ fn cut(bitmap: &mut Bitmap, offset: u64, length: u64) -> Result<(), LineError>
     }
 }
 
-/// Returns item `index` of a growing bitmap, where there is one.
+/// Returns item `index` of a growing bitmap, or `None` if there is no such item.
 #[tactic(auto, using(std::proofs::lemmas::Option::gets))]
 fn item_at(bitmap: &MutableBitmap, index: u64) -> Option<bool>
     ensures { result ≡ slice_get bitmap.now.items index }

@@ -10,7 +10,7 @@ use crate::slot::{Contents, Slot};
 use arrow2::bitmap::Bitmap;
 use arrow2_script::growth_command::GrowthCommand;
 
-/// Carries a command by which a bitmap grows out, and appends its reply.
+/// Carries out a command by which a bitmap grows, and appends its reply.
 #[tactic(auto, unfolding(crate::specs::GrowthOutcomes::growth_outcome))]
 pub(crate) fn run(
     slots: &mut [Slot; 16],

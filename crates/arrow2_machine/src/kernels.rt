@@ -15,7 +15,7 @@ use arrow2::bitmap::{
 use arrow2_script::kernel_command::{Kernel, KernelCommand};
 use arrow2_script::words::{Below, SlotIndex, Width};
 
-/// Carries a command that combines bitmaps out, and appends its reply.
+/// Carries out a command that combines bitmaps, and appends its reply.
 #[tactic(auto, unfolding(crate::specs::KernelOutcomes::kernel_outcome))]
 pub(crate) fn run(
     slots: &mut [Slot; 16],
@@ -44,7 +44,7 @@ pub(crate) fn run(
     Ok(())
 }
 
-/// Returns the bitmap that an operator or a table makes of frozen bitmaps.
+/// Returns the bitmap that an operator or a table makes from frozen bitmaps.
 ///
 /// # Errors
 ///
@@ -179,7 +179,7 @@ impl Slot {
     ///
     /// # Errors
     ///
-    /// `Kind` alone.
+    /// Only `Kind`.
     pub(crate) fn frozen(&self) -> Result<&Bitmap, LineError>
         ensures { Answers (λ bitmap. items_of bitmap.now) result (frozen_in self.now) }
     {
@@ -189,12 +189,12 @@ impl Slot {
         }
     }
 
-    /// Replaces each item of a growing bitmap by the output of a table for it, the same for each width of words. Does
-    /// not allocate.
+    /// Replaces each item of a growing bitmap by the output of a table for it. The result is the same for each width of
+    /// words. Does not allocate.
     ///
     /// # Errors
     ///
-    /// `Kind` alone, which changes nothing.
+    /// Only `Kind`, which changes nothing.
     fn assign(&mut self, table: Below<4>, width: Width) -> Result<(), LineError>
         ensures gives { Answers (λ _. self.new) result (after_assign_unary self.old table) }
         ensures err { OnErr result (self.new ≡ self.old) }
@@ -208,8 +208,8 @@ impl Slot {
         }
     }
 
-    /// Replaces each item of a growing bitmap by the output of a table for it and the item of another bitmap, the same
-    /// for each width of words. Does not allocate.
+    /// Replaces each item of a growing bitmap by the output of a table for it and the item of another bitmap at the
+    /// same index. The result is the same for each width of words. Does not allocate.
     ///
     /// # Errors
     ///
@@ -251,8 +251,8 @@ fn assign_table(bitmap: &mut MutableBitmap, table: Below<4>, width: Width)
     }
 }
 
-/// Replaces each item by the output of a table for it and the other item at its index. Requires that both have equal
-/// lengths.
+/// Replaces each item by the output of a table for it and the item of `other` at the same index. Requires that both
+/// bitmaps have equal lengths.
 fn assign_table_paired(bitmap: &mut MutableBitmap, table: Below<16>, width: Width, other: &Bitmap)
     requires same_length { length bitmap.old.items ≡ length (items_of other.now) }
     ensures { bitmap.new.items ≡ each table (bitmap.old.items ∷ items_of other.now ∷ []) }

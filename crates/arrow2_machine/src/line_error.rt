@@ -5,18 +5,18 @@ ghost use Rattle.arrow2_machine.specs.Replies.{refused_text};
 use arrow2::error::Error;
 use std::alloc::{AllocError, AllocFailed};
 
-/// Why a line is refused. It changes nothing then.
+/// Why a line is refused. A line that is refused changes no slot.
 #[derive(Clone, Copy, Debug, PartialEq, Eq)]
 pub enum LineError {
     /// The line is no command.
     Syntax,
     /// A slot does not hold what the command requires.
     Kind,
-    /// A range is not inside its list, or an offset is too great.
+    /// A range or an index is out of bounds, a slice of offsets has no offset, or a first offset is above 2147483647.
     Range,
-    /// Two lists are not of equal length.
+    /// Lists differ in length.
     Length,
-    /// A length or an offset would pass the greatest number.
+    /// A length or an offset would be above its greatest value.
     Overflow,
 }
 
@@ -75,8 +75,8 @@ impl<T: Drop> From<AllocFailed<T>> for CommandError {
     }
 }
 
-/// An overflow is refused, and an argument that does not fit is out of range; the other errors become an allocation
-/// that failed, since no call of the layer that a command makes returns them.
+/// `Overflow` becomes the refusal `Overflow`. `InvalidArgumentError` and `OutOfSpec` become the refusal `Range`. Every
+/// other error becomes `OutOfMemory`: no call that a command makes returns one of the remaining errors.
 impl From<Error> for CommandError {
     ghost use Rattle.arrow2_machine.specs.Outcomes.{command_error};
 

@@ -15,7 +15,7 @@ use std::alloc::{AllocError, Global};
 use std::array;
 use std::marker::Model;
 
-/// Sixteen slots, which contracts see as the machine's.
+/// Sixteen slots. In contracts their value is the list of what they hold in the machine of lists.
 #[derive(Drop)]
 pub struct Machine {
     slots: [Slot; 16],
@@ -40,7 +40,7 @@ impl Machine {
         }
     }
 
-    /// Carries a command out, and appends its reply.
+    /// Carries out a command, and appends its reply.
     #[tactic(auto, unfolding(crate::specs::Machine::outcome))]
     fn run(
         &mut self,
@@ -62,11 +62,12 @@ impl Machine {
         }
     }
 
-    /// Runs one line, and appends its reply and a line end. A line that is refused changes nothing.
+    /// Runs one line, and appends its reply and a line end. A line that is refused changes no slot; its reply states
+    /// why it is refused.
     ///
     /// # Errors
     ///
-    /// Where an allocation fails. The slots may have changed then.
+    /// Where an allocation fails. Then the slots and `reply` may have changed.
     #[tactic(auto, unfolding(crate::specs::Machine::step))]
     pub fn answer(
         &mut self,

@@ -20,7 +20,7 @@ use std::alloc::{AllocError, Global};
 use std::convert::TryFrom;
 use std::mem;
 
-/// Carries a command on offsets out, and appends its reply.
+/// Carries out a command on offsets, and appends its reply.
 #[tactic(auto, unfolding(crate::specs::OffsetOutcomes::offset_outcome))]
 pub(crate) fn run(
     slots: &mut [Slot; 16],
@@ -55,7 +55,7 @@ impl Slot {
     ///
     /// # Errors
     ///
-    /// `Range` where `first` is above 2147483647, else `OutOfMemory` alone.
+    /// `Range` where `first` is above 2147483647, else only `OutOfMemory`.
     fn with_offset(alloc: Global, first: u64) -> Result<Slot, CommandError>
         ensures { Gives (λ slot. slot) result (after_new_offsets first) }
     {
@@ -103,11 +103,12 @@ impl Slot {
         }
     }
 
-    /// Takes the last offset off growing offsets, and gives it back; the first one stays.
+    /// Removes the last offset of growing offsets and returns it. If there is only one offset, removes nothing and
+    /// returns `None`.
     ///
     /// # Errors
     ///
-    /// `Kind` alone, which changes nothing.
+    /// Only `Kind`, which changes nothing.
     fn pop_offset(&mut self) -> Result<Option<i32>, LineError>
         ensures gives { Answers (λ offset.
             (self.new, offset_reply offset)) result (after_offset_pop self.old) }
@@ -155,11 +156,11 @@ impl Slot {
         }
     }
 
-    /// Cuts frozen offsets to `count` of them from offset `first` on. Does not allocate.
+    /// Cuts frozen offsets to the `count` offsets from offset `first` on. Does not allocate.
     ///
     /// # Errors
     ///
-    /// `Kind`, or `Range` where `count` is 0 or they are not inside. They change nothing.
+    /// `Kind`, or `Range` where `count` is 0 or these offsets are not inside. They change nothing.
     fn slice_offsets(&mut self, first: u64, count: u64) -> Result<(), LineError>
         ensures gives { Answers (λ _. self.new) result (after_offsets_slice self.old first count) }
         ensures err { OnErr result (self.new ≡ self.old) }
@@ -170,7 +171,8 @@ impl Slot {
         }
     }
 
-    /// Appends the lengths of frozen offsets, and `null` instead of those where a frozen bitmap is false.
+    /// Appends the text of the lengths of frozen offsets, with `null` for each slot where the frozen bitmap of
+    /// `validity` is false.
     ///
     /// # Errors
     ///
@@ -191,7 +193,7 @@ impl Slot {
     }
 }
 
-/// Returns growing offsets with one offset alone. Requires that it is not negative.
+/// Returns growing offsets whose only offset is `first`. Requires that `first` is not negative.
 fn offsets_of(alloc: Global, first: i32) -> Result<Offsets<i32>, AllocError>
     requires { pos 0 ≤ℤ first }
     ensures { IfOk result (λ o. (o.start ≡ unsigned_abs first) × (o.lengths ≡ [])) }
@@ -212,7 +214,8 @@ fn extend(offsets: &mut Offsets<i32>, lengths: NumberText<'_>) -> error::Result<
     offsets.try_extend_from_lengths(lengths)
 }
 
-/// Cuts offsets to `count` of them from offset `first` on, where that is one or more and they are inside.
+/// Cuts offsets to the `count` offsets from offset `first` on. Returns `Range` and changes nothing where `count` is 0
+/// or these offsets are not inside.
 fn cut(offsets: &mut OffsetsBuffer<i32>, first: u64, count: u64) -> Result<(), LineError>
     ensures gives { Answers (λ _. offsets_in (buffer_items offsets.new)) result
         (offsets_inside (offsets_in (buffer_items offsets.old)) first count) }

@@ -26,7 +26,7 @@ pub(crate) fn write_number(number: usize, reply: &mut Vec<u8>) -> Result<(), All
     reply.extend_from_slice(text.as_bytes())
 }
 
-/// Appends the reply with an item, or that there is none.
+/// Appends the byte of an item, or `none` if there is no item.
 pub(crate) fn write_item(item: Option<bool>, reply: &mut Vec<u8>) -> Result<(), AllocError>
     ensures { OnOk result (reply.new.items ≡ reply.old.items ++ item_reply item) }
 {
@@ -37,7 +37,7 @@ pub(crate) fn write_item(item: Option<bool>, reply: &mut Vec<u8>) -> Result<(), 
     Ok(())
 }
 
-/// Appends the text of some items.
+/// Appends the text of items, `-` if there are none.
 pub(crate) fn write_items(items: BitmapIter<'_>, out: &mut Vec<u8>) -> Result<(), AllocError>
     ensures { OnOk result (out.new.items ≡ out.old.items ++ bits_text items.entry) }
 {
@@ -52,14 +52,14 @@ pub(crate) fn write_items(items: BitmapIter<'_>, out: &mut Vec<u8>) -> Result<()
     Ok(())
 }
 
-/// Appends the digits of a number without its sign, which an offset doesn't have.
+/// Appends the digits of a number without its sign: no offset has one.
 fn write_magnitude(number: &i32, out: &mut Vec<u8>) -> Result<(), AllocError>
     ensures { OnOk result (out.new.items ≡ out.old.items ++ decimal (unsigned_abs number.now)) }
 {
     write_number(number.unsigned_abs() as usize, out)
 }
 
-/// Appends the reply with an offset, or that there is none.
+/// Appends the digits of an offset, or `none` if there is no offset.
 pub(crate) fn write_offset(offset: Option<i32>, reply: &mut Vec<u8>) -> Result<(), AllocError>
     ensures { OnOk result (reply.new.items ≡ reply.old.items ++ offset_reply offset) }
 {
@@ -70,7 +70,7 @@ pub(crate) fn write_offset(offset: Option<i32>, reply: &mut Vec<u8>) -> Result<(
     Ok(())
 }
 
-/// Appends the text of a list of offsets.
+/// Appends the text of a list of offsets, `-` if it is empty.
 #[tactic(auto, unfolding(crate::specs::Replies::words_text))]
 pub(crate) fn write_offsets(offsets: &[i32], out: &mut Vec<u8>) -> Result<(), AllocError>
     ensures { OnOk result (out.new.items ≡ out.old.items
@@ -88,7 +88,7 @@ pub(crate) fn write_offsets(offsets: &[i32], out: &mut Vec<u8>) -> Result<(), Al
     Ok(())
 }
 
-/// Appends the word of the length of a slot, or `null` where the slot is not valid.
+/// Appends the digits of the length of a slot, or `null` if the slot is not valid.
 fn write_slot(length: usize, valid: bool, out: &mut Vec<u8>) -> Result<(), AllocError>
     ensures { OnOk result (out.new.items ≡ out.old.items ++ slot_word (slot length valid)) }
 {
@@ -99,7 +99,8 @@ fn write_slot(length: usize, valid: bool, out: &mut Vec<u8>) -> Result<(), Alloc
     }
 }
 
-/// Appends the text of slots, some of which are valid.
+/// Appends the text of slots: for each slot its length, or `null` if it is not valid. Requires that `lengths` and
+/// `validity` have equal lengths.
 pub(crate) fn write_slots(
     lengths: Lengths<'_, i32>,
     validity: BitmapIter<'_>,
@@ -132,7 +133,7 @@ fn write_listed(number: usize, first: bool, out: &mut Vec<u8>) -> Result<(), All
     write_number(number, out)
 }
 
-/// Appends the text of the words of a list of items, the last one filled with false.
+/// Appends the numbers of the words of a list of items. Bits of the last word past the items are 0.
 pub(crate) fn write_words<T: BitChunk, F: Fn(T) -> usize>(
     chunks: BitChunks<'_, T>,
     number: F,
@@ -159,7 +160,7 @@ pub(crate) fn write_words<T: BitChunk, F: Fn(T) -> usize>(
     Ok(())
 }
 
-/// Appends the word of a run of `length` items from index `start` on.
+/// Appends the text of a run of `length` items from index `start` on: both numbers, with `:` between them.
 fn write_run(start: usize, length: usize, out: &mut Vec<u8>) -> Result<(), AllocError>
     ensures { OnOk result (out.new.items ≡ out.old.items ++ run_word (start, length)) }
 {
@@ -168,7 +169,7 @@ fn write_run(start: usize, length: usize, out: &mut Vec<u8>) -> Result<(), Alloc
     write_number(length, out)
 }
 
-/// Appends the text of the runs that an iterator still has.
+/// Appends the text of the remaining runs of an iterator, `-` if there are none.
 pub(crate) fn write_runs(runs: SlicesIterator<'_>, out: &mut Vec<u8>) -> Result<(), AllocError>
     ensures { OnOk result (out.new.items ≡ out.old.items
         ++ words_text (map run_word runs.entry.runs)) }
@@ -196,7 +197,7 @@ fn array_byte(item: Option<bool>) -> u8
     }
 }
 
-/// Appends the text of a boolean array's items.
+/// Appends the text of a boolean array's items, `-` if there are none.
 pub(crate) fn write_array_items(items: BooleanIter<'_>, out: &mut Vec<u8>) -> Result<(), AllocError>
     ensures { OnOk result (out.new.items ≡ out.old.items ++ array_items_text items.entry) }
 {

@@ -12,19 +12,19 @@ use std::marker::Model;
 pub(crate) enum Contents {
     /// No value.
     Nothing,
-    /// A bitmap that is shared and sliced.
+    /// A frozen bitmap, which can be shared and sliced.
     Frozen(Bitmap),
-    /// A bitmap that grows.
+    /// A growing bitmap.
     Growing(MutableBitmap),
-    /// Offsets that are shared and sliced.
+    /// Frozen offsets, which can be shared and sliced.
     FrozenOffsets(OffsetsBuffer<i32>),
-    /// Offsets that grow.
+    /// Growing offsets.
     GrowingOffsets(Offsets<i32>),
-    /// A boolean array, which is shared and sliced.
+    /// A boolean array, which can be shared and sliced.
     Array(BooleanArray),
 }
 
-/// A slot: contracts see the value that it holds in the machine of lists.
+/// A slot. In contracts its value is what it holds in the machine of lists.
 #[derive(Drop)]
 pub(crate) struct Slot {
     pub(crate) contents: Contents,

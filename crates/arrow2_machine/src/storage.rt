@@ -13,7 +13,7 @@ use arrow2_script::storage_command::StorageCommand;
 use arrow2_script::words::{HexText, Width};
 use std::alloc::{AllocError, Global};
 
-/// Carries a command on stored bits out, and appends its reply.
+/// Carries out a command on stored bits, and appends its reply.
 #[tactic(auto, unfolding(crate::specs::StorageOutcomes::storage_outcome))]
 pub(crate) fn run(
     slots: &mut [Slot; 16],
@@ -37,7 +37,7 @@ pub(crate) fn run(
 }
 
 impl Slot {
-    /// Returns a slot with the frozen bitmap of the `length` bits of these bytes from bit `offset` on.
+    /// Returns a slot with a frozen bitmap: the `length` bits of these bytes from bit `offset` on.
     ///
     /// # Errors
     ///
@@ -60,7 +60,7 @@ impl Slot {
         })
     }
 
-    /// Sets item `index` of a growing bitmap.
+    /// Sets item `index` of a growing bitmap to `bit`.
     ///
     /// # Errors
     ///
@@ -82,7 +82,7 @@ impl Slot {
         }
     }
 
-    /// Appends the words of a frozen bitmap, the last one filled with false.
+    /// Appends the numbers of the words of a frozen bitmap. Bits of the last word past the items are 0.
     ///
     /// # Errors
     ///

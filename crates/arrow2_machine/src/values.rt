@@ -9,7 +9,7 @@ use crate::replies::write_item;
 use crate::slot::{Contents, Slot};
 use arrow2_script::value_command::ValueCommand;
 
-/// Carries a command on values out, and appends its reply.
+/// Carries out a command on values, and appends its reply.
 #[tactic(auto, unfolding(crate::specs::ValueOutcomes::value_outcome))]
 pub(crate) fn run(
     slots: &mut [Slot; 16],
@@ -53,14 +53,14 @@ impl Slot {
     ///
     /// # Errors
     ///
-    /// `Kind` alone, where they hold values of different types, boolean arrays or nothing.
+    /// Only `Kind`: the slots hold values of different types, boolean arrays or nothing.
     fn compare(&self, other: &Slot) -> Result<bool, LineError>
         ensures { result ≡ are_equal self.now other.now }
     {
         match (&self.contents, &other.contents) {
             (Contents::Frozen(a), Contents::Frozen(b)) => Ok(a == b),
             (Contents::Growing(a), Contents::Growing(b)) => Ok(a == b),
-            // By the method, since its contract speaks of the starts and the lengths.
+            // Calls the method, since its contract is about the first offsets and the lengths.
             (Contents::FrozenOffsets(a), Contents::FrozenOffsets(b)) => Ok(a.eq(b)),
             (Contents::GrowingOffsets(a), Contents::GrowingOffsets(b)) => Ok(a == b),
             _ => Err(LineError::Kind),

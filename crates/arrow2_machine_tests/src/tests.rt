@@ -10,7 +10,7 @@ use std::io::{ErrorKind, Read, Write};
 use std::process::ExitCode;
 use std::test::Fail;
 
-/// A reader that gives a few bytes a call, and fails at one call.
+/// A reader that returns at most `at_most` bytes per call, and fails at call `fails_at`.
 #[derive(Drop)]
 struct Trickle<'a> {
     rest: &'a [u8],
@@ -33,7 +33,7 @@ impl Read for Trickle<'_> {
     }
 }
 
-/// A writer that takes a few bytes a call, and fails at one call or when it is flushed.
+/// A writer that takes at most `at_most` bytes per call, and fails at call `fails_at` or when it is flushed.
 #[derive(Drop)]
 struct Narrow {
     taken: Vec<u8>,
@@ -74,7 +74,7 @@ fn stated<R: Read + Drop, W: Write>(
     (writer.into_inner(), result)
 }
 
-/// The same byte some times.
+/// The same byte, `count` times.
 fn repeated(alloc: Global, byte: u8, count: usize) -> Result<Vec<u8>, AllocError> {
     vec![in alloc; byte; count]
 }

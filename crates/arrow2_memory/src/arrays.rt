@@ -34,7 +34,7 @@ fn reserved(alloc: Global) -> [Row<usize>; 1] {
     )]
 }
 
-/// How an array grows, and how its capacity does.
+/// The ways in which an array grows or its capacity changes.
 #[derive(Clone, Copy)]
 enum Growth {
     /// By one item.
@@ -49,7 +49,7 @@ enum Growth {
     Reserve,
 }
 
-/// Changes the array so.
+/// Changes the array in this way.
 fn grow(growth: Growth, array: &mut MutableBooleanArray, other: &BooleanArray) -> Row<()> {
     match growth {
         Growth::Push => ("MutableBooleanArray::push", array.push(Some(true))),
@@ -66,7 +66,8 @@ fn grow(growth: Growth, array: &mut MutableBooleanArray, other: &BooleanArray) -
     }
 }
 
-/// Shows how many items an empty array has then. Where an allocation failed, it has none, and is changed once more.
+/// Changes an empty array, and shows how many items it has then. Where an allocation failed, it must still be empty,
+/// and is changed once more.
 fn grown<R: Print + Eprint>(rt: &R, alloc: Global, growth: Growth, other: &BooleanArray) {
     let mut array = MutableBooleanArray::new(alloc);
     let (call, made) = grow(growth, &mut array, other);

@@ -1,6 +1,6 @@
-//! Makes calls that allocate, and shows their results. Each group of them is made twice, and calls whose allocation
-//! failed at first are shown as they were made again: so standard output has one text whichever allocation fails. The
-//! calls that were refused at first are named on standard error.
+//! Makes calls that allocate, and shows their results. Each group of calls is made twice. Where an allocation of a call
+//! failed the first time, the result of its second time is shown: so standard output has the same text, whichever
+//! allocation fails. The calls whose allocation failed are named on standard error.
 use arrow2_types::error::{Error, Result};
 use std::cmp::PartialEq;
 use std::fmt;
@@ -15,7 +15,7 @@ pub(crate) fn input<T: Drop>(made: Result<T>) -> Result<T> {
     made.or(Err(Error::Overflow))
 }
 
-/// Names the call where an allocation of it failed, and returns whether one did.
+/// Returns whether an allocation of the call failed. If one did, prints the name of the call to standard error.
 pub(crate) fn refused<R: Eprint, T>(rt: &R, call: &str, made: &Result<T>) -> bool {
     let refused = matches!(made, Err(Error::OutOfMemory));
     if refused {
@@ -29,7 +29,7 @@ pub(crate) fn show<R: Print, T: fmt::Debug>(rt: &R, call: &str, value: &T) {
     let _ = println!(rt; "{call}: {value:?}");
 }
 
-/// Shows the results of calls, and where an allocation failed, those of the second time.
+/// Shows the results of calls. Where an allocation of a call failed, shows the result of its second time.
 pub(crate) fn made<R: Print + Eprint, T: fmt::Debug>(rt: &R, rows: &[Row<T>], again: &[Row<T>]) {
     for ((call, one), (_, other)) in rows.iter().zip(again) {
         let refused = refused(rt, call, one) || matches!(one, Err(Error::Overflow));
@@ -39,11 +39,12 @@ pub(crate) fn made<R: Print + Eprint, T: fmt::Debug>(rt: &R, rows: &[Row<T>], ag
 
 /// Changes of a value.
 pub(crate) trait Change<T> {
-    /// Changes it.
+    /// Changes the value, and returns the name and the result of the call that did.
     fn change(&self, value: &mut T) -> Row<()>;
 }
 
-/// Shows a copy of the value after a change. Where an allocation failed, that is the value.
+/// Shows a copy of the value after a change. If an allocation failed, tests that the copy still equals the value, and
+/// makes the change again.
 pub(crate) fn changed<R: Print + Eprint, T: Clone + Drop + PartialEq + fmt::Debug, C: Change<T>>(
     rt: &R,
     before: &T,
@@ -70,7 +71,7 @@ fn copied<T: Clone + Drop>(value: &T) -> Result<T> {
     }
 }
 
-/// Shows the value where it is not as it was before.
+/// Shows the value if it differs from what it was before.
 fn compare<R: Print, T: fmt::Debug + PartialEq>(rt: &R, value: &T, before: &T) {
     if *value != *before {
         show(rt, "changed though refused", value);

@@ -52,17 +52,17 @@ fn taken(alloc: Global) -> [Row<MutableBitmap>; 2] {
     ]
 }
 
-/// The validity of a bitmap that is taken.
+/// The validity that a bitmap is turned into.
 fn validity(alloc: Global) -> Result<Option<Bitmap>> {
     input(growing_items(alloc))?.into_validity()
 }
 
-/// That validity.
+/// The call that returns this validity.
 fn validities(alloc: Global) -> [Row<Option<Bitmap>>; 1] {
     [("MutableBitmap::into_validity", validity(alloc))]
 }
 
-/// How a bitmap grows, and how its capacity does.
+/// The ways in which a bitmap grows or its capacity changes.
 #[derive(Drop)]
 enum Growth<'a> {
     /// By one item.
@@ -107,7 +107,7 @@ impl Change<MutableBitmap> for Growth<'_> {
     }
 }
 
-/// Reserves capacity, and shrinks to the items.
+/// Reserves capacity, then shrinks the capacity to the items.
 fn reserve_and_shrink(bitmap: &mut MutableBitmap) -> Result<()> {
     let _ = bitmap.reserve(90);
     bitmap.shrink_to_fit()

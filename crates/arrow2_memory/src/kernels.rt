@@ -19,7 +19,7 @@ use arrow2_compute::filter::{filter, filter_binary, filter_boolean, filter_by_ar
 use arrow2_compute::if_then_else::{if_then_else, if_then_else_binary, if_then_else_boolean};
 use arrow2_compute::take::{take, take_binary, take_boolean, take_by_array};
 use arrow2_datatypes::DataType;
-use arrow2_primitive::{MutablePrimitiveArray, PrimitiveArray};
+use arrow2_primitive::PrimitiveArray;
 use arrow2_text::Utf8Array;
 use arrow2_types::error::{Error, Result};
 use std::alloc::Global;
@@ -76,7 +76,7 @@ fn compared(array: &PrimitiveArray<i32>) -> [Row<BooleanArray>; 6] {
     ]
 }
 
-/// Which items of an array are null. Where the array has no bitmap, one is made.
+/// Which items of an array are null. Where the array has no validity, one is made.
 fn nulls(array: &PrimitiveArray<i32>) -> [Row<BooleanArray>; 2] {
     [
         ("is_null", is_null(array)),
@@ -84,15 +84,9 @@ fn nulls(array: &PrimitiveArray<i32>) -> [Row<BooleanArray>; 2] {
     ]
 }
 
-/// Two nulls, by an array of indices.
+/// Two nulls, taken by an array of indices.
 fn taken_by_array(array: &PrimitiveArray<i32>, alloc: Global) -> Result<PrimitiveArray<i32>> {
-    let Ok(mut indices) = MutablePrimitiveArray::<u8>::new(alloc) else {
-        return Err(Error::Overflow);
-    };
-    if indices.extend_constant(2, None).is_err() {
-        return Err(Error::Overflow);
-    }
-    let Ok(indices) = indices.freeze() else {
+    let Ok(indices) = PrimitiveArray::<u8>::from_options(alloc, &[None, None]) else {
         return Err(Error::Overflow);
     };
     take_by_array(array, &indices)
@@ -190,7 +184,7 @@ fn on_numbers<R: Print + Eprint>(rt: &R, array: &PrimitiveArray<i32>, alloc: Glo
     made(rt, &taken(array, alloc), &taken(array, alloc));
 }
 
-/// Makes the calls on an array without a bitmap.
+/// Makes the calls on an array without a validity.
 fn on_valid_numbers<R: Print + Eprint>(rt: &R, alloc: Global) -> Result<()> {
     let array = valid_numbers(alloc).or(valid_numbers(alloc))?;
     made(rt, &nulls(&array), &nulls(&array));

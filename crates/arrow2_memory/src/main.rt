@@ -1,6 +1,6 @@
 //! Every public call of buffers, bitmaps, tables, iterators, offsets, arrays and kernels that may run out of memory,
-//! and every change in place, on few items. `tests/run` lets each allocation fail in turn: the text stays the same, and
-//! each call that may fail has failed.
+//! and every change in place, on few items. `tests/run` lets each allocation fail in turn, and tests that the output
+//! stays the same and that each call that may fail has failed once.
 #![tactic(auto)]
 
 mod arrays;

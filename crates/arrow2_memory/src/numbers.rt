@@ -38,7 +38,7 @@ fn frozen(alloc: Global) -> Result<PrimitiveArray<i32>> {
     grown.freeze()
 }
 
-/// The array that grows again, frozen; it has no bitmap, so that one is made.
+/// An array that was turned into a growing one, frozen again. It has no validity, so that one is made.
 fn thawed(alloc: Global) -> Result<PrimitiveArray<i32>> {
     match one(alloc)?.into_mut()? {
         Either::Left(array) => Ok(array),
@@ -71,8 +71,7 @@ fn count(array: Result<MutablePrimitiveArray<i32>>) -> Result<usize> {
 
 /// The number of items of an array that an iterator gave.
 fn collected(alloc: Global) -> Result<usize> {
-    let array = input(PrimitiveArray::from_options(alloc, &ITEMS))?;
-    count(MutablePrimitiveArray::try_from_iter(alloc, array.iter()))
+    count(MutablePrimitiveArray::try_from_iter(alloc, ITEMS))
 }
 
 /// The numbers of items of arrays that grow.
@@ -90,7 +89,7 @@ fn growing(alloc: Global) -> [Row<usize>; 3] {
     ]
 }
 
-/// How an array grows, and how its capacity does.
+/// The ways in which an array grows or its capacity changes.
 #[derive(Clone, Copy)]
 enum Growth {
     /// By one item.
@@ -109,7 +108,7 @@ enum Growth {
     Reserve,
 }
 
-/// Changes the array so.
+/// Changes the array in this way.
 fn grow(
     growth: Growth,
     array: &mut MutablePrimitiveArray<i32>,
@@ -138,7 +137,8 @@ fn grow(
     }
 }
 
-/// Shows how many items an array has then. Where an allocation failed, it has none, and is changed once more.
+/// Changes an empty array, and shows how many items it has then. Where an allocation failed, it must still be empty,
+/// and is changed once more.
 fn grown<R: Print + Eprint>(
     rt: &R,
     growth: Growth,
@@ -173,7 +173,7 @@ fn both(alloc: Global) -> Result<usize> {
     Ok(one.both(&other)?.null_count())
 }
 
-/// The number of items of a validity that grows; it has no bitmap, so that one is made.
+/// The number of items of a growing validity. It has no bitmap, so that one is made.
 fn thawed_validity(alloc: Global) -> Result<usize> {
     match validity(None)?.into_mut(alloc)? {
         Either::Left(validity) => Ok(validity.len()),

@@ -42,12 +42,12 @@ fn shared_narrowed(alloc: Global) -> Result<OffsetsBuffer<i32>> {
     OffsetsBuffer::try_from(&input(five_shared_wide(alloc))?)
 }
 
-/// Shared offsets of a buffer that is offsets.
+/// Shared offsets of a buffer whose numbers are offsets.
 fn of_buffer(alloc: Global) -> Result<OffsetsBuffer<i32>> {
     OffsetsBuffer::try_from(input(five_shared(alloc))?.into_inner())
 }
 
-/// Shared offsets of a buffer that is none.
+/// Shared offsets of a buffer whose numbers are not offsets.
 fn of_no_offsets(alloc: Global) -> Result<OffsetsBuffer<i32>> {
     OffsetsBuffer::try_from(input(Buffer::new(alloc))?)
 }
@@ -67,7 +67,7 @@ fn buffers(alloc: Global) -> [Row<Buffer<u32>>; 3] {
     ]
 }
 
-/// Offsets of given lengths, and of those of an iterator, which allocate more than once.
+/// Offsets of given lengths, and offsets of the lengths of an iterator, which allocate more than once.
 fn given(alloc: Global) -> [Row<Offsets<i32>>; 6] {
     [
         ("Offsets::new", Offsets::new(alloc)),
@@ -125,12 +125,12 @@ fn shared_widened(alloc: Global) -> [Row<OffsetsBuffer<i64>>; 1] {
     [(call, five_shared_wide(alloc))]
 }
 
-/// How offsets grow, and how their capacity does.
+/// The ways in which offsets grow or their capacity changes.
 #[derive(Drop)]
 enum Growth<'a> {
     /// By one length.
     Push,
-    /// By one length that is a `usize`.
+    /// By one length, given as a `usize`.
     PushUsize,
     /// By more empty slots than a vector first has capacity for.
     ExtendConstant,

@@ -15,7 +15,7 @@ use arrow2_types::error::Result;
 use std::alloc::Global;
 use std::io::{Eprint, Print};
 
-/// Other owners of bitmaps and arrays.
+/// Clones bitmaps and arrays, which share their storage.
 fn owners<R: Print>(rt: &R, array: &BooleanArray) {
     let bitmap: std::result::Result<_, _> = array.values().clone();
     show(rt, "Clone for Bitmap", &bitmap);
@@ -23,7 +23,7 @@ fn owners<R: Print>(rt: &R, array: &BooleanArray) {
     show(rt, "Clone for BooleanArray", &array);
 }
 
-/// Other owners of offsets and buffers.
+/// Clones offsets and buffers, which share their storage.
 fn owners_of_offsets<R: Print>(rt: &R, offsets: &OffsetsBuffer<i32>) {
     let buffer: std::result::Result<_, _> = offsets.buffer().clone();
     show(rt, "Clone for Buffer<T>", &buffer);
@@ -133,7 +133,7 @@ fn applied(lhs: MutableBitmap, operator: Operator, rhs: &Bitmap) -> MutableBitma
     }
 }
 
-/// The operators that change their left side, and those that take it.
+/// The operators that change their left side in place, and those that take it by value.
 fn operators<R: Print>(rt: &R, mut lhs: MutableBitmap, rhs: &Bitmap) {
     assign(&mut lhs, Operator::Xor, rhs);
     show(rt, "^=", &lhs);
@@ -162,12 +162,12 @@ fn reserved(alloc: Global) -> Result<(MutableBitmap, Offsets<i32>)> {
     Ok((bitmap, Offsets::with_capacity(alloc, 20)?))
 }
 
-/// An array that is pushed to. A refusal becomes an overflow, as of each input.
+/// An array that is pushed to. An error becomes `Overflow`, as for each input.
 fn roomy_array(alloc: Global) -> Result<MutableBooleanArray> {
     input(MutableBooleanArray::with_capacity(alloc, 20))
 }
 
-/// The values that get other owners.
+/// The values that are cloned.
 fn owned(alloc: Global) -> Result<(BooleanArray, OffsetsBuffer<i32>)> {
     Ok((array(alloc)?, five_shared(alloc)?))
 }

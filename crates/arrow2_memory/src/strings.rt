@@ -4,10 +4,11 @@ use arrow2_buffer::Buffer;
 use arrow2_datatypes::DataType;
 use arrow2_offset::OffsetsBuffer;
 use arrow2_text::{BinaryArray, MutableBinaryArray, MutableUtf8Array, Utf8Array};
-use arrow2_types::error::Result;
+use arrow2_types::error::{Error, Result};
 use either::Either;
 use std::alloc::Global;
 use std::io::{Eprint, Print};
+use std::rc::Rc;
 
 /// A text that is longer than the capacity of an array without items.
 const TEXT: &str = "text";
@@ -22,21 +23,21 @@ fn strings(alloc: Global) -> Result<BinaryArray<i32>> {
     input(texts(alloc)?.into_binary())
 }
 
-/// The array of no texts, of parts that are refused.
+/// The array of no texts, from parts that are refused.
 fn typed_texts(alloc: Global) -> Result<Utf8Array<i32>> {
     let offsets = input(OffsetsBuffer::new(alloc))?;
     let values = input(Buffer::new(alloc))?;
     Utf8Array::try_new(DataType::Binary, offsets, values, None)
 }
 
-/// The array of no byte strings, of parts that are refused.
+/// The array of no byte strings, from parts that are refused.
 fn typed_strings(alloc: Global) -> Result<BinaryArray<i32>> {
     let offsets = input(OffsetsBuffer::new(alloc))?;
     let values = input(Buffer::new(alloc))?;
     BinaryArray::try_new(DataType::Utf8, offsets, values, None)
 }
 
-/// The texts that grow again, frozen; they have no bitmap, so that one is made.
+/// The texts of an array that was turned into a growing one, frozen again. They have no validity, so that one is made.
 fn thawed_texts(alloc: Global) -> Result<Utf8Array<i32>> {
     match texts(alloc)?.into_mut()? {
         Either::Left(array) => Ok(array),
@@ -44,7 +45,7 @@ fn thawed_texts(alloc: Global) -> Result<Utf8Array<i32>> {
     }
 }
 
-/// The byte strings that grow again, frozen.
+/// The byte strings of an array that was turned into a growing one, frozen again.
 fn thawed_strings(alloc: Global) -> Result<BinaryArray<i32>> {
     match strings(alloc)?.into_mut()? {
         Either::Left(array) => Ok(array),
@@ -124,28 +125,30 @@ fn count_strings(array: Result<MutableBinaryArray<i32>>) -> Result<usize> {
     Ok(array?.len())
 }
 
-/// An array of texts of the logical type of another one.
+/// An array of texts of a given logical type.
 fn texts_of_type(alloc: Global) -> Result<MutableUtf8Array<i32>> {
-    let texts = texts(alloc)?;
-    MutableUtf8Array::of_type(alloc, texts.data_type().clone()?)
+    let Ok(data_type) = Rc::new(alloc, DataType::Utf8) else {
+        return Err(Error::Overflow);
+    };
+    MutableUtf8Array::of_type(alloc, data_type)
 }
 
-/// An array of byte strings of the logical type of another one.
+/// An array of byte strings of a given logical type.
 fn strings_of_type(alloc: Global) -> Result<MutableBinaryArray<i32>> {
-    let strings = strings(alloc)?;
-    MutableBinaryArray::of_type(alloc, strings.data_type().clone()?)
+    let Ok(data_type) = Rc::new(alloc, DataType::Binary) else {
+        return Err(Error::Overflow);
+    };
+    MutableBinaryArray::of_type(alloc, data_type)
 }
 
-/// The number of texts that an iterator gave.
-fn collected_texts(alloc: Global) -> Result<usize> {
-    let texts = texts(alloc)?;
-    count_texts(MutableUtf8Array::try_from_iter(alloc, texts.iter()))
+/// The text that an iterator gave.
+fn collected_texts(alloc: Global) -> Result<MutableUtf8Array<i32>> {
+    MutableUtf8Array::try_from_iter(alloc, Some(Some(TEXT)))
 }
 
-/// The number of byte strings that an iterator gave.
-fn collected_strings(alloc: Global) -> Result<usize> {
-    let strings = strings(alloc)?;
-    count_strings(MutableBinaryArray::try_from_iter(alloc, strings.iter()))
+/// The byte string that an iterator gave.
+fn collected_strings(alloc: Global) -> Result<MutableBinaryArray<i32>> {
+    MutableBinaryArray::try_from_iter(alloc, Some(Some(TEXT.as_bytes())))
 }
 
 /// The numbers of items of arrays that grow.
@@ -163,7 +166,10 @@ fn growing(alloc: Global) -> [Row<usize>; 8] {
             "MutableUtf8Array::of_type",
             count_texts(texts_of_type(alloc)),
         ),
-        ("MutableUtf8Array::try_from_iter", collected_texts(alloc)),
+        (
+            "MutableUtf8Array::try_from_iter",
+            count_texts(collected_texts(alloc)),
+        ),
         (
             "MutableBinaryArray::new",
             count_strings(MutableBinaryArray::new(alloc)),
@@ -178,12 +184,12 @@ fn growing(alloc: Global) -> [Row<usize>; 8] {
         ),
         (
             "MutableBinaryArray::try_from_iter",
-            collected_strings(alloc),
+            count_strings(collected_strings(alloc)),
         ),
     ]
 }
 
-/// How an array changes, and how its capacity does.
+/// The ways in which an array or its capacity changes.
 #[derive(Clone, Copy)]
 enum Growth {
     /// By one item.
@@ -194,16 +200,16 @@ enum Growth {
     ExtendFromArray,
     /// By capacity alone.
     Reserve,
-    /// By its last item, which is taken off.
+    /// By the removal of its last item.
     Pop,
 }
 
 /// Arrays that grow, by another array of type `A` too.
 trait Grows<A>: Drop {
-    /// One without items.
+    /// Returns an array without items.
     fn empty(alloc: Global) -> Result<Self>;
 
-    /// Changes the array so.
+    /// Changes the array in this way.
     fn grow(&mut self, growth: Growth, other: &A) -> Row<()>;
 
     /// The number of items.
@@ -256,8 +262,8 @@ impl Grows<BinaryArray<i32>> for MutableBinaryArray<i32> {
     }
 }
 
-/// Shows how many items an array has then. Where an allocation failed, it has the items that it had before, and is
-/// changed once more.
+/// Changes an array, and shows how many items it has then. Where an allocation failed, shows whether the number of
+/// items changed, and changes the array once more.
 fn grown<R: Print + Eprint, A, B: Grows<A>>(rt: &R, growth: Growth, array: &mut B, other: &A) {
     let before = array.count();
     let (call, made) = array.grow(growth, other);
@@ -273,7 +279,7 @@ fn grown<R: Print + Eprint, A, B: Grows<A>>(rt: &R, growth: Growth, array: &mut 
     show(rt, call, &array.count());
 }
 
-/// The array that is changed: without items, or where one is taken off with those of another.
+/// The array that is changed. It has no items, or for the removal of an item those of another array.
 fn started<A, B: Grows<A>>(alloc: Global, growth: Growth, other: &A) -> Result<B> {
     let mut array = B::empty(alloc).or(B::empty(alloc))?;
     if matches!(growth, Growth::Pop) {
@@ -282,7 +288,7 @@ fn started<A, B: Grows<A>>(alloc: Global, growth: Growth, other: &A) -> Result<B
     Ok(array)
 }
 
-/// Appends another array, once more where that was refused.
+/// Appends another array. Where that fails, appends it once more.
 fn fill<A, B: Grows<A>>(array: &mut B, other: &A) -> Result<()> {
     let (_, filled) = array.grow(Growth::ExtendFromArray, other);
     if filled.is_ok() {

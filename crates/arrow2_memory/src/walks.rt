@@ -25,16 +25,16 @@ fn of_two_lengths(values: &Bitmap) -> Result<BooleanArray> {
 
 /// The array of seventy items, every other one null.
 pub(crate) fn array(alloc: Global) -> Result<BooleanArray> {
-    let validity = Bitmap::try_from_iter(alloc, (0..70usize).map(|i| i % 2 == 0))?;
+    let validity = Bitmap::from_u8_slice(alloc, &[0x55; 9], 70)?;
     BooleanArray::try_new(items(alloc, 1)?, Some(validity))
 }
 
 /// The number of pieces that a bitmap is at first.
 fn whole(alloc: Global) -> Result<usize> {
-    Ok(Pieces::new(alloc, items(alloc, 1)?)?.len())
+    Ok(pieces(alloc)?.len())
 }
 
-/// That number.
+/// The call that returns this number.
 fn wholes(alloc: Global) -> [Row<usize>; 1] {
     [("Pieces::new", whole(alloc))]
 }
@@ -44,14 +44,15 @@ fn pieces(alloc: Global) -> Result<Pieces> {
     Pieces::new(alloc, items(alloc, 3)?)
 }
 
-/// Cuts the first piece in halves: by the number of pieces, there is one.
+/// Cuts the first piece in halves. There is a first piece: a call of `len` states that the number of pieces is not 0.
 fn halve(pieces: &mut Pieces) -> Result<()> {
     let _ = pieces.len();
     let half = pieces.get(0).len() / 2;
     pieces.cut(0, half)
 }
 
-/// Cuts the first piece in halves, once more where that was refused. It is shown where it was changed though refused.
+/// Cuts the first piece in halves. Where an allocation failed, cuts once more, and shows if the failed cut changed the
+/// pieces.
 fn cut<R: Print + Eprint>(rt: &R, pieces: &mut Pieces) -> Result<()> {
     let count = pieces.len();
     let first = pieces.get(0).clone()?;
@@ -65,7 +66,7 @@ fn cut<R: Print + Eprint>(rt: &R, pieces: &mut Pieces) -> Result<()> {
     Ok(())
 }
 
-/// Cuts a bitmap until memory was requested again, and shows its pieces.
+/// Cuts a bitmap so often that memory is requested again, and shows its pieces.
 fn cut_often<R: Print + Eprint>(rt: &R, alloc: Global) -> Result<()> {
     let mut pieces = pieces(alloc).or(pieces(alloc))?;
     for _ in 0..6 {

@@ -2,7 +2,7 @@
 -- (Arrow columnar format, "Validity bitmaps": slot j is bit j % 8 of byte j / 8, from the least significant bit on).
 use Rattle.std.specs.Prelude.{ℕ, zero, suc, ◌+◌, ◌/◌, ◌%◌, ◌^◌, ◌==◌, List, [], ◌∷◌, Bool, if◌then◌else◌}
 use Rattle.std.specs.List.{flat_map}
--- the number of a list of booleans: the sum of 2 ^ i over the indices i where it is true
+-- the number of a list of booleans: the sum of 2 ^ i over the indices i of its true items
 pub use lib.Lanes.{mask_l as num}
 
 -- whether bit i of a number is 1

@@ -2,13 +2,13 @@
 use Rattle.std.specs.Prelude.{ℕ, List, take, drop, length, ◌++◌}
 use Rattle.arrow2_model.specs.Parts.{part}
 
--- a buffer over a stored list: the list, the index of its first item there, and the number of items
+-- a buffer: the stored list, the index of the buffer's first item in it, and the number of items of the buffer
 pub record BufferStorage (X : Type 0) : Type 0 where
   pub storage : List X
   pub offset : ℕ
   pub len : ℕ
 
--- the list of a buffer: all that calls which don't show storage speak of
+-- the items of a buffer: the list that it is to every call that doesn't show storage
 abbrev pub buffer_items : {X : Type 0} → BufferStorage X → List X
 buffer_items b = part b.storage b.offset b.len
 
@@ -16,6 +16,6 @@ buffer_items b = part b.storage b.offset b.len
 abbrev pub whole_buffer : {X : Type 0} → List X → BufferStorage X
 whole_buffer items = record { storage = items; offset = 0; len = length items }
 
--- a list after its items from index i on were overwritten by others, which don't go past its end
+-- a list after its items from index i on were overwritten by others, which are meant to end at or before its end
 abbrev pub overwritten : {X : Type 0} → List X → ℕ → List X → List X
 overwritten items i others = take i items ++ (others ++ drop (length others) (drop i items))

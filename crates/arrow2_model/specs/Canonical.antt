@@ -3,7 +3,7 @@ use Rattle.std.specs.Prelude.{◌≡◌, ℕ, ◌+◌, ◌/◌, ◌<◌, ◌≤�
 use Rattle.arrow2_model.specs.Bits.{bits}
 use Rattle.arrow2_model.specs.Words.{words}
 
--- the words of eight items each
+-- each eight items in turn as a byte, the last byte filled with false
 unfoldable pub canonical_bytes : List Bool → List ℕ
 canonical_bytes items = words 8 items
 

@@ -7,7 +7,7 @@ use Rattle.std.specs.Int.{div_ceil}
 use Rattle.arrow2_model.specs.Bits.{num, unnum}
 use Rattle.arrow2_model.specs.Parts.{part}
 
--- word j of a list: its item of `words`, and 0 past the last one
+-- word j of a list: item j of its `words`, or 0 past the last word
 abbrev pub word : ℕ → List Bool → ℕ → ℕ
 word w items j = num (part items (w * j) w)
 
@@ -15,7 +15,7 @@ word w items j = num (part items (w * j) w)
 abbrev pub words_at : ℕ → List (List Bool) → ℕ → List ℕ
 words_at w lists j = map (λ items. word w items j) lists
 
--- the length of the first of the lists, which is that of each where they have equal lengths
+-- the length of the first list, which is the length of each list where all have equal lengths
 abbrev pub common_length : List (List Bool) → ℕ
 common_length lists = length (slice_index_or lists 0 [])
 
@@ -23,8 +23,8 @@ common_length lists = length (slice_index_or lists 0 [])
 unfoldable pub joined : ℕ → (ℕ → ℕ) → ℕ → List Bool
 joined w word_of n = take n (flat_map (λ j. unnum w (word_of j)) (range_with_len 0 (div_ceil n w)))
 
--- the list that a word function gives for lists of equal length: the bits of its results for word j of each list, for
--- each j in turn, and of all these bits the first ones, one for each item of the lists
+-- the list that the word function f gives for lists of equal length: the bits of its result for word 0 of each list,
+-- then the bits of its result for word 1 of each list, and so on, cut to the length of the lists
 unfoldable pub kernel : ℕ → (List ℕ → ℕ) → List (List Bool) → List Bool
 kernel w f lists = joined w (λ j. f (words_at w lists j)) (common_length lists)
 
@@ -45,7 +45,8 @@ quaternary_kernel w f a b c d = kernel w (λ xs. f (slice_index xs 0) (slice_ind
 abbrev pub AreWords : ℕ → List ℕ → Type 0
 AreWords w xs = (k : ℕ) → slice_index xs k < 2 ^ w
 
--- for each word, or words, of w bits each result that a closure may give is that of the word function f
+-- each result that a closure may give for a word of w bits, or for two, three or four such words, is the result of the
+-- word function f
 abbrev pub ComputesUnary : {X : Type 0} → ℕ → (X → ℕ) → (X → X → Type 0) → (ℕ → ℕ) → Type 0
 ComputesUnary {X} w number gives f = (x r : X) → number x < 2 ^ w → gives x r → number r ≡ f (number x)
 

@@ -23,11 +23,11 @@ shown_indices bytes offset len = filter (λ j. list_any (is_shown offset len) (r
 unfoldable pub shown : List ℕ → ℕ → ℕ → List ℕ
 shown bytes offset len = codes "[" ++ (join_by (shown_byte bytes offset len) (codes ", ") (shown_indices bytes offset len) ++ codes "]")
 
--- byte j of a list of items, shown whole from its first item on: `0b`, and the characters of eight items from the last
--- to the first
+-- byte j of the text of a list of items: `0b`, and the characters of the eight items from item 8 * j on, from the last
+-- to the first, with `_` past the end of the list
 abbrev pub items_byte : List Bool → ℕ → List ℕ
 items_byte items j = codes "0b" ++ map (λ p. bit_character (nat_lt p (length items)) (slice_index_or items p false)) (reverse (range_with_len (8 * j) 8))
 
--- the text of a list of items: that of the bits of bytes that hold just these, from bit 0 on
+-- the text of a list of items: the text of bytes that hold just these items, from bit 0 on
 abbrev pub items_text : List Bool → List ℕ
 items_text items = codes "[" ++ (join_by (items_byte items) (codes ", ") (range_with_len 0 ((length items + 7) / 8)) ++ codes "]")

@@ -9,11 +9,11 @@ pub record BitmapStorage : Type 0 where
   pub offset : ℕ
   pub len : ℕ
 
--- the list of a bitmap: all that calls which don't show storage speak of
+-- the items of a bitmap: the list that it is to every call that doesn't show storage
 abbrev pub items_of : BitmapStorage → List Bool
 items_of b = part (bits b.bytes) b.offset b.len
 
--- a bitmap that grows: its items, and how many fit before it allocates
+-- a bitmap that grows: its items, and its capacity, the number of items that fit before it allocates
 pub record GrowingBitmap : Type 0 where
   pub items : List Bool
   pub capacity : ℕ

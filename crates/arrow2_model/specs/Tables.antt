@@ -24,8 +24,8 @@ bits_at xs i = map (λ x. bit x i) xs
 abbrev pub IsBitwise : ℕ → ℕ → (List ℕ → ℕ) → Type 0
 IsBitwise t w f = (xs : List ℕ) (i : ℕ) → AreWords w xs → i < w → bit (f xs) i ≡ answer t (bits_at xs i)
 
--- each of the first w bits of a result that a word function may give is the output of table t for the same bit of each
--- word
+-- each of the first w bits of each result that a closure may give for words of w bits is the output of table t for the
+-- bits at the same index of the words
 abbrev pub IsBitwiseUnary : {X : Type 0} → ℕ → (X → ℕ) → (X → X → Type 0) → ℕ → Type 0
 IsBitwiseUnary {X} w number gives t = (x r : X) (i : ℕ) → number x < 2 ^ w → i < w → gives x r → bit (number r) i ≡ answer t (bit (number x) i ∷ [])
 

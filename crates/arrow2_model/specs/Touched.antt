@@ -1,4 +1,4 @@
--- The number of bytes that a count of bits reads, and that many counts read together.
+-- The number of bytes that are read to count bits, for one slice and for many cuts together.
 use Rattle.std.specs.Prelude.{◌≡◌, ◌<◌, ◌≤◌, ℕ, zero, suc, ◌+◌, ◌-◌, ◌*◌, ◌/◌, ◌==◌, List, if◌then◌else◌, nat_lt}
 use Rattle.std.specs.List.{sum_by}
 
@@ -11,14 +11,15 @@ touched o (suc n) = (o + n) / 8 - o / 8 + 1
 abbrev pub HoldsBit : ℕ → ℕ → ℕ → Type 0
 HoldsBit o n j = (k : ℕ) × (o ≤ k) × (k < o + n) × (k / 8 ≡ j)
 
--- the bytes that a slice reads to know its false items: n items from item a on, of len items from bit o on whose false
--- items are known. None for all items, those of the slice where it is below half of them, rounded down, else those of
--- the head and the tail that it cuts off.
+-- the number of bytes that a slice reads to count its false items, where the number of false items of the whole is
+-- known. The whole has len items, which begin at bit o; the slice has n items, from item a of the whole on. Where n is
+-- len, it reads none; where n is below half of len, rounded down, it reads the bytes that hold the slice; else it reads
+-- the bytes that hold the items before the slice, and the bytes that hold the items after it.
 unfoldable pub slice_reads : ℕ → ℕ → ℕ → ℕ → ℕ
 slice_reads o len a n =
     if n == len then 0 else if nat_lt n (len / 2) then touched (o + a) n else touched o a + touched (o + a + n) (len - a - n)
 
--- the bytes that both slices read where n items from bit o on are cut in two at item i
+-- the number of bytes that both slices read together, where n items from bit o on are cut in two at item i
 unfoldable pub cut_reads : ℕ → ℕ → ℕ → ℕ
 cut_reads o n i = slice_reads o n 0 i + slice_reads o n i (n - i)
 
@@ -31,10 +32,11 @@ halvings (suc most) n = if nat_lt n 2 then 0 else suc (halvings most (n / 2))
 unfoldable pub lg : ℕ → ℕ
 lg n = halvings n n
 
--- the reads of n items that are cut again and again, at most, but for a few bytes a cut: in eighths of a byte
+-- the potential that pays for the reads of n items that are cut again and again, in eighths of a byte; each cut may
+-- read up to 30 eighths of a byte more than the potential falls by
 abbrev pub cut_budget : ℕ → ℕ
 cut_budget n = 2 * (n * lg n)
 
--- the same of pieces of these lengths together
+-- the sum of the potentials of pieces of these lengths
 abbrev pub total_cut_budget : List ℕ → ℕ
 total_cut_budget lens = sum_by cut_budget lens

@@ -1,4 +1,4 @@
-//! Laws of the definitions. Each function is its law and nothing else.
+//! Laws of the definitions. The contract of each function is a law, and its body is empty.
 ghost use Rattle.std.specs.Prelude.{◌≡◌, ◌↔◌, ℕ, ◌+◌, ◌-◌, ◌*◌, ◌/◌, ◌%◌, ◌<◌, ◌≤◌, ◌^◌, List, ◌∷◌, [], ◌++◌, Bool, true, length, codes, count_by, false, replicate, slice_get, slice_index, Some, take, IsTrue};
 ghost use Rattle.std.specs.Bool.{beq};
 ghost use Rattle.std.specs.Cmp.Lexicographic.{pointwise};
@@ -14,26 +14,27 @@ ghost use Rattle.arrow2_model.specs.Tables.{each, IsBitwise};
 ghost use Rattle.arrow2_model.specs.Canonical.{canonical_bytes};
 ghost use Rattle.arrow2_model.specs.Shown.{shown, items_text};
 
-/// A part of a part is one part of the list.
+/// A part of a part of a list is a part of that list, and starts at the sum of both indices.
 #[tactic(auto, using(crate::proofs::Cursors::parts))]
 pub fn part_of_a_part()
     ensures { (items : List Bool) (a n b m : ℕ) → b + m ≤ n →
         part (part items a n) b m ≡ part items (a + b) m }
 {}
 
-/// A list has at most as many false items as items.
+/// The number of false items of a list is at most its length.
 #[tactic(auto, using(crate::proofs::Counts::counts))]
 pub fn false_items_are_items()
     ensures { (items : List Bool) → falses items ≤ length items }
 {}
 
-/// The true items and the false ones are all items.
+/// The number of true items plus the number of false items is the length of the list.
 #[tactic(auto, using(crate::proofs::Counts::counting))]
 pub fn true_and_false_items_are_all()
     ensures { (items : List Bool) → count_by (λ b. b) items + falses items ≡ length items }
 {}
 
-/// The numbers of false items of two lists, one after the other, and of two parts that make a list, are added.
+/// The numbers of false items add up: over two lists, one after the other, and over the two parts into which a list is
+/// cut.
 #[tactic(auto, using(crate::proofs::Counts::counting))]
 pub fn false_items_are_added()
     ensures lists { (xs ys : List Bool) → falses (xs ++ ys) ≡ falses xs + falses ys }
@@ -41,13 +42,14 @@ pub fn false_items_are_added()
         falses (part items 0 m) + falses (part items m n) ≡ falses items }
 {}
 
-/// No item is false exactly where all are true.
+/// The number of false items is 0 exactly where every item is true.
 #[tactic(auto, using(crate::proofs::Counts::counting))]
 pub fn no_false_item_where_all_are_true()
     ensures { (items : List Bool) → (falses items ≡ 0) ↔ (items ≡ replicate (length items) true) }
 {}
 
-/// A bit of a number, and of bytes, is the item of its list of bits at that index.
+/// Item `i` of a number's list of bits is bit `i` of the number. Item `k` of the list of bits of bytes is bit `k % 8`
+/// of byte `k / 8`.
 pub fn a_bit_is_an_item()
     ensures number { (w x i : ℕ) → i < w → slice_get (unnum w x) i ≡ Some (bit x i) }
     ensures bytes { (bytes : List ℕ) (k : ℕ) → k < 8 * length bytes →
@@ -61,8 +63,8 @@ pub fn words_and_the_rest_are_the_list()
         flat_map (unnum w) (full_words w items) ++ rest w items ≡ items }
 {}
 
-/// A list that loses its first full word is the bits of that word and the list that is left; one without a full
-/// word is its rest.
+/// A list is the bits of its first full word, followed by the list that has its other full words and its rest. A list
+/// without a full word is its rest.
 #[tactic(auto, using(crate::proofs::Words::by_words))]
 pub fn a_step_takes_the_first_word()
     ensures word { (w : ℕ) (items left : List Bool) (x : ℕ) → 0 < w →
@@ -72,7 +74,7 @@ pub fn a_step_takes_the_first_word()
         full_words w items ≡ [] → rest w items ≡ items }
 {}
 
-/// The number of a list is the sum of 2 ^ i over the indices i where it is true.
+/// The number of a list is the sum of 2 ^ i over the indices i of its true items.
 #[tactic(auto, using(crate::proofs::Numbers::numbers))]
 pub fn number_is_a_sum_of_powers()
     ensures { (items : List Bool) → num items ≡ sum_of_powers 0 items }
@@ -93,13 +95,13 @@ pub fn canonical_bytes_tell_lists_apart()
         canonical_bytes xs ≡ canonical_bytes ys → xs ≡ ys }
 {}
 
-/// No bits are shown as a pair of brackets, wherever they begin.
+/// The text of zero bits is a pair of brackets, at any bit offset.
 #[tactic(auto, using(crate::proofs::Shown::texts))]
 pub fn no_bits_are_two_brackets()
     ensures { (bytes : List ℕ) (offset : ℕ) → shown bytes offset 0 ≡ codes "[]" }
 {}
 
-/// The text of the first bits of bytes is that of the list of them, whatever the bytes hold after them.
+/// The text of the first `n` bits of bytes is the text of the list of these bits, whatever bits come after them.
 #[tactic(auto, using(crate::proofs::Shown::texts))]
 pub fn first_bits_are_shown_as_their_list()
     ensures { (bytes : List ℕ) (n : ℕ) → n ≤ 8 * length bytes →
@@ -122,7 +124,7 @@ pub fn a_comparison_tells_lists_apart()
     ensures { (xs ys : List Bool) → IsTrue (pointwise beq xs ys) ↔ (xs ≡ ys) }
 {}
 
-/// The words that a word function is given are those of the list.
+/// The words that a word function is given are the words of the list: word `j` is item `j` of `words`.
 #[tactic(auto, using(crate::proofs::Kernels::kernels))]
 pub fn kernels_go_by_the_words_of_a_list()
     ensures { (w : ℕ) (items : List Bool) (j : ℕ) → j < div_ceil (length items) w →
@@ -136,14 +138,14 @@ pub fn a_function_bit_by_bit_is_its_table()
         kernel w f lists ≡ each t lists }
 {}
 
-/// One table gives the same list at any two widths.
+/// Two word functions that act bit by bit by the same table give the same list, whatever their widths are.
 #[tactic(auto, using(crate::proofs::Kernels::kernels))]
 pub fn a_table_is_the_same_at_each_width()
     ensures { (v w t : ℕ) (f g : List ℕ → ℕ) (lists : List (List Bool)) → 0 < v → 0 < w →
         IsBitwise t v f → IsBitwise t w g → kernel v f lists ≡ kernel w g lists }
 {}
 
-/// Not of both is not of the one or not of the other.
+/// `not (a and b)` is `(not a) or (not b)`, item by item.
 #[tactic(auto, using(crate::proofs::Tables::operators))]
 pub fn not_of_and_is_or_of_nots()
     ensures { (xs ys : List Bool) → length xs ≡ length ys →
@@ -156,24 +158,25 @@ pub fn xor_with_itself_is_false()
     ensures { (xs : List Bool) → each 6 (xs ∷ xs ∷ []) ≡ replicate (length xs) false }
 {}
 
-/// Not of not is the list.
+/// Not, applied twice, gives the list itself.
 #[tactic(auto, using(crate::proofs::Tables::operators))]
 pub fn not_twice_is_the_list()
     ensures { (xs : List Bool) → each 1 (each 1 (xs ∷ []) ∷ []) ≡ xs }
 {}
 
-/// The bytes touched by some bits are those that hold one of them.
+/// The touched bytes of some bits are exactly the bytes that hold at least one of these bits.
 pub fn touched_bytes_hold_one_of_the_bits()
     ensures { (o n j : ℕ) → (o / 8 ≤ j) × (j < o / 8 + touched o n) ↔ HoldsBit o n j }
 {}
 
-/// A slice reads a sixteenth of its bitmap's items and four bytes at most.
+/// A slice reads at most `len / 16 + 4` bytes, where `len` is the number of items of the bitmap that is sliced.
 #[tactic(auto, using(crate::proofs::Touched::reads))]
 pub fn a_slice_reads_half_the_bytes_at_most()
     ensures { (o len a n : ℕ) → a + n ≤ len → slice_reads o len a n ≤ len / 16 + 4 }
 {}
 
-/// The reads of slices and cuts depend on the bit of a byte at which the items begin, and not on the byte.
+/// The number of bytes that a slice or a cut reads depends on the bit within a byte at which the items begin, and not
+/// on which byte that is.
 #[tactic(auto, using(crate::proofs::Touched::reads))]
 pub fn reads_depend_on_the_bit_of_a_byte()
     ensures slice { (o len a n : ℕ) → slice_reads o len a n ≡ slice_reads (o % 8) len a n }
@@ -188,7 +191,8 @@ pub fn the_logarithm_is_the_greatest_exponent()
     ensures none { lg 0 ≡ 0 }
 {}
 
-/// A cut reads, in eighths of a byte, at most the difference of `cut_budget` before and after it, and 30.
+/// Eight times the number of bytes that a cut reads, plus `cut_budget` of both parts, is at most `cut_budget` of the
+/// whole plus 30.
 #[tactic(auto, using(crate::proofs::Touched::reads))]
 pub fn cuts_pay_for_themselves()
     ensures { (o n i : ℕ) → i ≤ n →

@@ -1,6 +1,6 @@
 //! The meaning of the layer's contracts: lists of booleans, their parts, numbers, words and bytes.
 //!
-//! The definitions stand in `specs/`, the lemmas that the crates above cite in `proofs/`.
+//! `specs/` has the definitions, and `proofs/` has the lemmas that the crates above cite.
 #![tactic(auto)]
 
 pub mod laws;

@@ -2,6 +2,7 @@
 use Rattle.std.specs.Prelude.{ℕ, ◌-◌, ℤ, List}
 use Rattle.arrow2_offset.specs.Offsets.{GrowingOffsets, start_of, lengths_of}
 
--- the offsets that a list of numbers spells, in a vector with capacity for some numbers: one more than lengths
+-- the offsets that the numbers of a vector spell; their capacity in lengths is one less than the capacity of the vector
+-- in numbers
 abbrev pub made_of : List ℤ → ℕ → GrowingOffsets
 made_of xs reserved = record { start = start_of xs; lengths = lengths_of xs; capacity = reserved - 1 }

@@ -31,7 +31,7 @@ pub record AreOffsets (xs : List ℤ) : Type 0 where
 abbrev pub start_of : List ℤ → ℕ
 start_of xs = unsigned_abs (slice_index_or xs 0 (pos 0))
 
--- how far each item is above the one before it, where the item before the first is x
+-- the gaps of the list x ∷ xs: how far each item is above the one before it, or 0 where it is below
 unfoldable pub gaps_after : ℤ → List ℤ → List ℕ
 gaps_after x [] = []
 gaps_after x (y ∷ ys) = int_gap x y ∷ gaps_after y ys
@@ -59,11 +59,11 @@ offsets_of o = offsets_list o.start o.lengths
 abbrev pub last_of_growing : GrowingOffsets → ℕ
 last_of_growing o = last_offset o.start o.lengths
 
--- a buffer of numbers as the numbers that they stand for
+-- the same buffer, with each machine number replaced by the integer that it stands for
 abbrev pub numbers_of : {X : Type 0} → (X → ℤ) → BufferStorage X → BufferStorage ℤ
 numbers_of value b = record { storage = map value b.storage; offset = b.offset; len = b.len }
 
--- the number of slots they span: one for each length
+-- the number of slots of growing offsets: one for each length
 abbrev pub slots : GrowingOffsets → ℕ
 slots o = length o.lengths
 
@@ -71,7 +71,7 @@ slots o = length o.lengths
 abbrev pub SameOffsets : GrowingOffsets → GrowingOffsets → Type 0
 SameOffsets old new = (new.start ≡ old.start) × (new.lengths ≡ old.lengths)
 
--- offsets that have grown by some lengths: these are appended, and nothing else changes
+-- offsets that have grown by some lengths: these are appended, and the start stays; nothing is stated of the capacity
 abbrev pub GrownBy : List ℕ → GrowingOffsets → GrowingOffsets → Type 0
 GrownBy ns old new = (new.start ≡ old.start) × (new.lengths ≡ old.lengths ++ ns)
 

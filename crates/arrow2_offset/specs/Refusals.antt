@@ -5,24 +5,25 @@ use Rattle.arrow2_offset.specs.declared.check.BrokenRule.TheVariants.{Empty, Neg
 use Rattle.arrow2_types.specs.declared.error.Error.{Error}
 use Rattle.arrow2_types.specs.declared.error.Error.TheVariants.{OutOfSpec, OutOfMemory}
 
--- the rule that a list breaks which is not offsets: that there is a number; else that the first is not negative; else
--- that none is below the one before it
+-- for a list that is not offsets, the first rule that it breaks: that there is a number; else that the first number is
+-- not negative; else that no number is below the one before it
 abbrev pub first_broken : List ℤ → BrokenRule
 first_broken [] = Empty
 first_broken (negsuc n ∷ xs) = Negative
 first_broken (pos n ∷ xs) = Falling
 
--- the words for a list that breaks this rule
+-- the message for a broken rule, which is arrow2's text: in it, "larger than 0" stands for not negative, and
+-- "monotonically increasing" for none below the one before it
 abbrev pub rule_words : BrokenRule → List ℕ
 rule_words Empty = codes "offsets must have at least one element"
 rule_words Negative = codes "offsets must be larger than 0"
 rule_words Falling = codes "offsets must be monotonically increasing"
 
--- the words for a list that is not offsets: those of that rule
+-- the message for a list that is not offsets, by the first rule that the list breaks
 abbrev pub not_offsets_message : List ℤ → List ℕ
 not_offsets_message xs = rule_words (first_broken xs)
 
--- the list does not follow the specification, in these words; or out of memory, where the allocation of the words fails
+-- an `OutOfSpec` error with this message; or running out of memory, where the message cannot be allocated
 abbrev pub IsOutOfSpecOrOutOfMemory : Error → List ℕ → Type 0
 IsOutOfSpecOrOutOfMemory (OutOfSpec text) words = string_bytes text ≡ words
 IsOutOfSpecOrOutOfMemory OutOfMemory words = Unit {0}

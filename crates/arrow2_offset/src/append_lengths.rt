@@ -21,13 +21,13 @@ pub(crate) const LEAST_CAPACITY: usize = 120;
 /// The second capacity that is reserved, in lengths: the one after `LEAST_CAPACITY`.
 const SECOND_CAPACITY: usize = 512;
 
-/// Appends the lengths of an iterator that ends. If it returns an error, the appended lengths are removed again.
-/// Requires that the items are offsets. The iterator's size hint is not read.
+/// Appends the lengths that an iterator yields. On an error, removes the appended lengths again. Requires that the
+/// items of the vector are offsets, and that the iterator ends. The iterator's size hint is not read.
 ///
 /// # Errors
 ///
-/// `Overflow`, which comes only where the last offset plus the sum of lengths that the iterator may give exceeds
-/// `O::MAX`, or `OutOfMemory`.
+/// `Overflow` or `OutOfMemory`. `Overflow` is possible only if the last offset plus the sum of lengths that the
+/// iterator may yield exceeds `O::MAX`.
 pub(crate) fn append_lengths<O: Offset, I: Iterator<Item = usize> + Drop>(
     offsets: &mut Vec<O>,
     lengths: I,
@@ -36,10 +36,10 @@ pub(crate) fn append_lengths<O: Offset, I: Iterator<Item = usize> + Drop>(
     requires can { I.can_next lengths }
     requires ends { IsFinite (I.remaining lengths) }
     ensures valid { AreOffsetsUpTo O.MAX (map O.value offsets.new.items) }
-    ensures grows { GrowsByIterator O.MAX (λ error. error) result
+    ensures grows { GrowsByIterator (λ error. error) result
         (made_of (map O.value offsets.old.items) (vec_capacity offsets.old))
         (made_of (map O.value offsets.new.items) (vec_capacity offsets.new))
-        I.next_gives lengths }
+        I.next_gives lengths O.MAX }
 {
     let count = offsets.len();
     let empty = Vec::new(*offsets.allocator());
@@ -51,11 +51,12 @@ pub(crate) fn append_lengths<O: Offset, I: Iterator<Item = usize> + Drop>(
     all
 }
 
-/// Returns the offsets with the lengths of an iterator appended. Where it returns an error, the items after the old
-/// offsets are unspecified.
+/// Appends the lengths that an iterator yields, and returns the vector. After an error, the items after the old offsets
+/// are unspecified.
 ///
 /// The vector is passed by value, so that its length stays in a register from item to item. The sums are exact and
-/// rise, so it is enough to test that they are offsets where capacity is reserved and at the end.
+/// never fall, so it is enough to test that the last sum is at most `O::MAX` where capacity is reserved, and at the
+/// end.
 #[inline(never)]
 fn appended<O: Offset, I: Iterator<Item = usize> + Drop>(
     mut offsets: Vec<O>,
@@ -70,7 +71,7 @@ fn appended<O: Offset, I: Iterator<Item = usize> + Drop>(
     ensures front { take (length offsets.items) result.0.items ≡ offsets.items }
     ensures ok { OnOk result.1 (WholeRun I.next_gives lengths (λ p.
         LengthenedBy p.items (map O.value offsets.items) (map O.value result.0.items))) }
-    // `Overflow` comes only where lengths that the iterator may give pass `O::MAX`, `OutOfMemory` only where they may
+    // `Overflow` comes only where lengths that the iterator may yield pass `O::MAX`, `OutOfMemory` only where they may
     // be more than the spare capacity.
     ensures overflow { IsErrOf result.1 growth_error.Overflow →
         MayYieldPast O.MAX (last_of (map O.value offsets.items)) I.next_gives lengths }
@@ -112,8 +113,7 @@ fn with_spare_capacity<O>(mut offsets: Vec<O>) -> (Vec<O>, Result<(), AllocError
     (offsets, outcome)
 }
 
-/// Reserves capacity for `LEAST_CAPACITY` more lengths where there are fewer than that, else for four times the
-/// lengths, and at least for `SECOND_CAPACITY - LEAST_CAPACITY` more. There is one offset more than there are lengths.
+/// Reserves spare capacity. There is one offset more than there are lengths.
 #[cold]
 #[inline(never)]
 fn grow_capacity<O>(offsets: &mut Vec<O>) -> Result<(), AllocError>
@@ -121,10 +121,18 @@ fn grow_capacity<O>(offsets: &mut Vec<O>) -> Result<(), AllocError>
     ensures capacity { vec_capacity offsets.old ≤ vec_capacity offsets.new }
     ensures ok { OnOk result (vec_len offsets.new < vec_capacity offsets.new) }
 {
-    let lengths = offsets.len().saturating_sub(1);
+    offsets.reserve_exact(next_capacity(offsets.len().saturating_sub(1)))
+}
+
+/// Returns the number of further lengths for which capacity is reserved: `LEAST_CAPACITY` where there are fewer lengths
+/// than that, else three times the number of lengths, but at least `SECOND_CAPACITY - LEAST_CAPACITY`.
+fn next_capacity(lengths: usize) -> usize
+    ensures { 0 < result }
+{
     if lengths < LEAST_CAPACITY {
-        return offsets.reserve_exact(LEAST_CAPACITY);
+        return LEAST_CAPACITY;
     }
-    let more = lengths.saturating_mul(3);
-    offsets.reserve_exact(more.max(SECOND_CAPACITY - LEAST_CAPACITY))
+    lengths
+        .saturating_mul(3)
+        .max(SECOND_CAPACITY - LEAST_CAPACITY)
 }

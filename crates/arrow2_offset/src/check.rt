@@ -18,7 +18,7 @@ pub enum BrokenRule {
     Falling,
 }
 
-/// Returns the rule that the numbers break, or `None` where they are offsets. Does not allocate.
+/// Returns the first rule that the numbers break, or `None` where they are offsets. Does not allocate.
 ///
 /// In arrow2 the test is private, and returns an error with a text.
 pub fn broken_rule<O: Offset>(offsets: &[O]) -> Option<BrokenRule>
@@ -53,7 +53,7 @@ pub(crate) fn try_check_offsets<O: Offset>(alloc: Global, offsets: &[O]) -> Resu
     }
 }
 
-/// Returns the text for a list that breaks this rule first.
+/// Returns the message for a list whose first broken rule is this one.
 fn words_of(rule: BrokenRule) -> &'static str
     ensures { result.now ≡ rule_words rule }
 {
@@ -74,7 +74,7 @@ fn out_of_spec(alloc: Global, text: &str) -> Error
     }
 }
 
-/// Returns whether no item is below the one before it. Reads all of them, with no branch.
+/// Returns whether no item is below the one before it. Reads all items, without a branch.
 fn is_rising<O: Offset>(offsets: &[O]) -> bool
     ensures { IsTrue result ↔ ((k : ℕ) → k + 1 < length offsets.now →
         slice_index_or (map O.value offsets.now) k (pos 0) ≤ℤ slice_index_or

@@ -10,7 +10,7 @@ use crate::widths::write_narrow;
 use arrow2_types::error::{Error, Result};
 use std::alloc::{AllocError, Global};
 
-/// The same offsets, copied. They can be narrowed again.
+/// Returns a copy of the same offsets, in 64 bits each. They can be converted back.
 ///
 /// Stands for arrow2's `From`.
 ///
@@ -30,7 +30,7 @@ impl TryFrom<Offsets<i32>> for Offsets<i64> {
     }
 }
 
-/// The same offsets, copied.
+/// Returns a copy of the same offsets, in 32 bits each.
 ///
 /// # Errors
 ///
@@ -53,7 +53,7 @@ impl TryFrom<Offsets<i64>> for Offsets<i32> {
     }
 }
 
-/// The same offsets, copied. They can be narrowed again.
+/// Returns a copy of the same offsets, in 64 bits each. They can be converted back.
 ///
 /// Stands for arrow2's `From`.
 ///
@@ -73,7 +73,7 @@ impl<'a> TryFrom<&'a OffsetsBuffer<i32>> for OffsetsBuffer<i64> {
     }
 }
 
-/// The same offsets, copied.
+/// Returns a copy of the same offsets, in 32 bits each.
 ///
 /// # Errors
 ///
@@ -106,7 +106,7 @@ fn widened(alloc: Global, offsets: &[i32]) -> std::result::Result<Vec<i64>, Allo
     Ok(wide)
 }
 
-/// Returns the same numbers, in 32 bits each. Requires that they are offsets that fit.
+/// Returns the same numbers, in 32 bits each. Requires that they are offsets of at most 2147483647.
 fn narrowed(alloc: Global, offsets: &[i64]) -> std::result::Result<Vec<i32>, AllocError>
     requires { AreOffsetsUpTo 2147483647 offsets.now }
     ensures { IfOk result (λ narrow. narrow.items ≡ offsets.now) }

@@ -28,8 +28,7 @@ use std::ops::Index;
 /// There is always at least one offset, none is negative, and none is below the one before it. Clones and slices share
 /// the storage, and do not allocate.
 ///
-/// Differs from arrow2: the slice of its offsets is [`OffsetsBuffer::as_slice`], since there is no
-/// `Deref` to a slice.
+/// Differs from arrow2: there is no `Deref` to a slice. [`OffsetsBuffer::as_slice`] returns the offsets as a slice.
 ///
 /// # Examples
 ///
@@ -59,7 +58,7 @@ impl<O: Offset> Model for OffsetsBuffer<O> {
 
 #[tactic(auto, using(crate::proofs::Frozen::frozen))]
 impl<O: Offset> OffsetsBuffer<O> {
-    /// Returns offset 0 alone, and so no slot.
+    /// Returns the offsets of no slot: the single offset 0.
     ///
     /// # Errors
     ///
@@ -71,13 +70,13 @@ impl<O: Offset> OffsetsBuffer<O> {
         OffsetsBuffer::try_from(Offsets::new(alloc)?)
     }
 
-    /// Returns offsets that grow, on the right, if nobody shares the storage and nothing is sliced off; otherwise the
-    /// offsets as they were, on the left. Does not allocate.
+    /// Returns `Right` of offsets that grow, if nobody shares the storage and nothing is sliced off. Otherwise returns
+    /// `Left` of the offsets as they were. Does not allocate.
     ///
-    /// It is proved that the left side is the offsets as they were, and that the right side has the same list and comes
-    /// only if nothing is sliced off. It is not proved that the right side comes whenever nobody shares the storage.
+    /// It is proved that `Left` has the offsets as they were, and that `Right` has the same list and comes only if
+    /// nothing is sliced off. It is not proved that `Right` comes whenever nobody shares the storage.
     ///
-    /// Differs from arrow2, which gives the whole storage of sliced offsets.
+    /// Differs from arrow2, which returns the whole storage, also where the offsets are sliced.
     pub fn into_mut(self) -> Either<Self, Offsets<O>>
         ensures items { MatchEither result (λ b. b ≡ self) (λ o.
             (map pos (offsets_of o) ≡ buffer_items self) × (o.start ≡ start_of (buffer_items self))
@@ -132,8 +131,9 @@ impl<O: Offset> OffsetsBuffer<O> {
         offsets
     }
 
-    /// Returns the offsets of `len` slots from slot `start` on: one more than there are slots. Requires that they
-    /// are inside.
+    /// Returns the `len + 1` offsets of the `len` slots from slot `start` on. Requires that `start + len` is below the
+    /// number of offsets. The clauses state that the result is offsets with the lengths of these slots; no clause
+    /// states the values.
     pub(crate) fn offsets_of_slots(&self, start: usize, len: usize) -> &[O]
         requires { start + len < length (buffer_items self.now) }
         ensures valid { AreOffsets (map O.value result.now) }
@@ -183,10 +183,9 @@ impl<O: Offset> OffsetsBuffer<O> {
         slot_span(self.as_slice(), index)
     }
 
-    /// Keeps `len` offsets from the one at index `offset` on, over the same storage. Does not allocate.
+    /// Keeps only the `len` offsets from the one at index `offset` on, over the same storage. Does not allocate.
     ///
-    /// Requires that `len` is above 0, and that they are inside: `offset + len` is at most
-    /// [`OffsetsBuffer::len`].
+    /// Requires that `len` is above 0, and that `offset + len` is at most [`OffsetsBuffer::len`].
     pub fn slice(&mut self, offset: usize, len: usize)
         requires not_empty { 0 < len }
         requires inside { offset + len ≤ length (buffer_items self.old) }
@@ -222,11 +221,11 @@ impl<O: Offset> OffsetsBuffer<O> {
         self
     }
 
-    /// Keeps `slots` slots from slot `start` on, which are `slots + 1` offsets, over the same storage. Does not
-    /// allocate.
+    /// Keeps only the `slots` slots from slot `start` on, with their `slots + 1` offsets, over the same storage. Does
+    /// not allocate.
     ///
-    /// Requires that they are inside: `start + slots` is at most [`OffsetsBuffer::len_proxy`]. arrow2 has
-    /// [`OffsetsBuffer::slice`] alone, which counts offsets.
+    /// Requires that `start + slots` is at most [`OffsetsBuffer::len_proxy`]. arrow2 has [`OffsetsBuffer::slice`]
+    /// alone, which counts offsets.
     pub fn slice_slots(&mut self, start: usize, slots: usize)
         requires inside { start + slots ≤ length (lengths_of (buffer_items self.old)) }
         ensures lengths { lengths_of (buffer_items self.new)
@@ -302,14 +301,14 @@ impl<O: Offset> TryFrom<Vec<O>> for OffsetsBuffer<O> {
     }
 }
 
-/// The same offsets. They are moved and not copied.
+/// Makes shared offsets of offsets that grow, without a copy.
 ///
 /// Stands for arrow2's `From`.
 ///
 /// # Errors
 ///
 /// `OutOfMemory` alone. In the code it comes only where the allocation of the reference count fails; no clause states
-/// that. The offsets are then dropped.
+/// that. After an error the offsets are dropped.
 impl<O: Offset> TryFrom<Offsets<O>> for OffsetsBuffer<O> {
     type Error = Error;
 
@@ -324,7 +323,7 @@ impl<O: Offset> TryFrom<Offsets<O>> for OffsetsBuffer<O> {
     }
 }
 
-/// Returns the offset at an index. Requires that there is one.
+/// Returns the offset at an index. Requires that the index is below the number of offsets.
 impl<O: Offset> Index<usize> for OffsetsBuffer<O> {
     type Output = O;
 
@@ -338,8 +337,7 @@ impl<O: Offset> Index<usize> for OffsetsBuffer<O> {
     }
 }
 
-/// Returns the same storage, index and number of offsets. Does not allocate: in the code it fails only if the reference
-/// count would overflow.
+/// Shares the storage. Does not allocate: in the code it fails only if the reference count would overflow.
 impl<O: Offset> Clone for OffsetsBuffer<O> {
     ghost is_clone = { λ b copy. copy ≡ b };
 
@@ -350,7 +348,7 @@ impl<O: Offset> Clone for OffsetsBuffer<O> {
     }
 }
 
-/// Equality of the lists, whatever their storage is.
+/// Two `OffsetsBuffer`s are equal exactly if their lists of offsets are, whatever their storage is.
 impl<O: Offset> PartialEq for OffsetsBuffer<O> {
     ghost eq = { on buffer_items (pointwise int_eq) };
 

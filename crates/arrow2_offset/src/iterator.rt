@@ -39,7 +39,7 @@ impl<'a, O: Offset> Lengths<'a, O> {
     }
 }
 
-/// The same lengths still to come. Does not allocate.
+/// Returns an iterator with the same lengths still to come. Does not allocate.
 impl<'a, O: Offset> Clone for Lengths<'a, O> {
     ghost is_clone = { λ cursor copy. copy ≡ cursor };
 

@@ -1,4 +1,4 @@
-//! Laws of the definitions of offsets. Each function is its law and nothing else.
+//! Laws of the definitions of offsets. The contract of each function is a law, and its body is empty.
 ghost use Rattle.std.specs.Prelude.{◌≡◌, ℕ, ℤ, ◌+◌, ◌≤◌, ◌++◌, ◌↔◌, List, length, map, pos, slice_index_or};
 ghost use Rattle.arrow2_offset.specs.Offsets.{running_sums, offsets_list, offset_at, last_offset, AreOffsets, start_of, lengths_of, GrowingOffsets, SameOffsets, offsets_of};
 
@@ -16,7 +16,8 @@ pub fn offsets_are_a_start_and_lengths()
         lengths_of (map pos (offsets_list start lengths)) ≡ lengths }
 {}
 
-/// Offset k is the start and the sum of the first k lengths, and no offset is above the last one.
+/// Offset k is the start plus the sum of the first k lengths, no offset is above the last one, and there is one offset
+/// more than there are lengths.
 #[tactic(auto, using(crate::proofs::Listed::listed))]
 pub fn offset_is_a_sum()
     ensures sum { (start : ℕ) (lengths : List ℕ) (k : ℕ) → k ≤ length lengths →
@@ -42,8 +43,8 @@ pub fn lists_tell_starts_and_lengths_apart()
         offsets_list a ms ≡ offsets_list b ns ↔ ((a ≡ b) × (ms ≡ ns)) }
 {}
 
-/// If a second list has the same offsets as a first, and a third the same as the second, the third is the same list as
-/// the first. So offsets of 32 bits that are converted to 64 bits and back are the same list as before.
+/// If `wide` has the same offsets as `narrow`, and `back` the same as `wide`, then `back` and `narrow` are the same
+/// list. So offsets of 32 bits that are converted to 64 bits and back are the same list as before.
 #[tactic(auto, using(crate::proofs::Listed::listed))]
 pub fn same_offsets_are_transitive()
     ensures { (narrow wide back : GrowingOffsets) → SameOffsets narrow wide →

@@ -28,12 +28,14 @@ use std::alloc::{AllocError, Global};
 use std::marker::Model;
 use std::ops::Index;
 
-/// Offsets that grow: contracts see their start, their lengths, and the capacity in lengths.
+/// Offsets that grow. Contracts see their first offset (`start`), the lengths of their slots (`lengths`), and how many
+/// lengths they have capacity for (`capacity`).
 ///
 /// There is always at least one offset, none is negative, and none is below the one before it. Each slot spans from one
 /// offset to the next, so there is one slot fewer than there are offsets, and one slot for each length.
 ///
-/// Differs from arrow2: sums are exact, and a call that refuses leaves the offsets as they were.
+/// Differs from arrow2: sums are exact, and a call that takes `&mut self` and returns an error leaves the offsets as
+/// they were.
 ///
 /// # Examples
 ///
@@ -67,7 +69,7 @@ impl<O: Offset> Model for Offsets<O> {
 
 #[tactic(auto, using(crate::proofs::Growing::growing))]
 impl<O: Offset> Offsets<O> {
-    /// Returns offset 0 alone, and so no slot.
+    /// Returns the offsets of no slot: the single offset 0.
     ///
     /// # Errors
     ///
@@ -79,12 +81,12 @@ impl<O: Offset> Offsets<O> {
         Offsets::with_capacity(alloc, 0)
     }
 
-    /// Returns `len` slots of length 0, from offset 0 on.
+    /// Returns the offsets of `len` slots of length 0, from offset 0 on.
     ///
     /// # Errors
     ///
-    /// `Overflow` exactly where `len` is `usize::MAX`, since there is one offset more; else
-    /// `OutOfMemory` alone. arrow2 wraps there.
+    /// `Overflow` exactly where `len` is `usize::MAX`, since there is one offset more than slots; else `OutOfMemory`
+    /// alone. arrow2 wraps at `usize::MAX`.
     pub fn new_zeroed(alloc: Global, len: usize) -> Result<Self>
         ensures ok { IfOk result (λ o. (o.start ≡ 0) × (o.lengths ≡ replicate len 0)) }
         ensures overflow { IsErrOf result Error.Overflow ↔ (2 ^ 64 ≤ len + 1) }
@@ -95,12 +97,12 @@ impl<O: Offset> Offsets<O> {
         Ok(offsets)
     }
 
-    /// Returns offset 0 alone, with capacity for `capacity` lengths.
+    /// Returns the single offset 0, with capacity for `capacity` lengths.
     ///
     /// # Errors
     ///
-    /// `Overflow` exactly where `capacity` is `usize::MAX`, since there is one offset more; else
-    /// `OutOfMemory` alone. arrow2 wraps there.
+    /// `Overflow` exactly where `capacity` is `usize::MAX`, since there is one offset more than lengths; else
+    /// `OutOfMemory` alone. arrow2 wraps at `usize::MAX`.
     pub fn with_capacity(alloc: Global, capacity: usize) -> Result<Self>
         ensures ok { IfOk result (λ o. (o.start ≡ 0) × (o.lengths ≡ [])) }
         ensures capacity { IfOk result (λ o. capacity ≤ o.capacity) }
@@ -115,18 +117,20 @@ impl<O: Offset> Offsets<O> {
         Ok(Offsets { offsets })
     }
 
-    /// Returns offsets from 0 on, with the lengths of an iterator. The iterator has to end. Its size hint is not read.
+    /// Returns the offsets from 0 on with the lengths that an iterator yields. Requires that the iterator ends. Its
+    /// size hint is not read.
     ///
     /// # Errors
     ///
-    /// `Overflow`, which comes only where the iterator may give lengths whose sum passes `O::MAX`, or `OutOfMemory`.
+    /// `Overflow` or `OutOfMemory`. `Overflow` is possible only if the iterator may yield lengths whose sum passes
+    /// `O::MAX`.
     pub fn try_from_iter<I: IntoIterator<Item = usize>>(alloc: Global, iter: I) -> Result<Self>
         requires { IsFiniteIterable I.into_iter_gives I.IntoIter.can_next I.IntoIter.remaining iter }
-        // The lengths are all items of one pass of the iterator, to its end.
+        // The lengths are all those that the iterator yields, up to its end.
         ensures ok { IfOk result (λ o. (it : I.IntoIter) × I.into_iter_gives iter it
             × WholeRun I.IntoIter.next_gives it (λ p. (o.start ≡ 0) × (o.lengths ≡ p.items))) }
         ensures fits { IfOk result (λ o. last_of_growing o ≤ O.MAX) }
-        // `Overflow` comes only where the lengths of a run may add up to more than `O::MAX`.
+        // `Overflow` comes only where the lengths that the iterator yields may add up to more than `O::MAX`.
         ensures overflow { IsErrOf result Error.Overflow →
             (it : I.IntoIter) × I.into_iter_gives iter it
             × MayYieldPast O.MAX 0 I.IntoIter.next_gives it }
@@ -135,11 +139,13 @@ impl<O: Offset> Offsets<O> {
         Offsets::try_from_lengths(alloc, iter.into_iter())
     }
 
-    /// Returns the offsets from 0 on with these lengths. The iterator has to end. Its size hint is not read.
+    /// Returns the offsets from 0 on with the lengths that an iterator yields. Requires that the iterator ends. Its
+    /// size hint is not read.
     ///
     /// # Errors
     ///
-    /// `Overflow`, which comes only where the iterator may give lengths whose sum passes `O::MAX`, or `OutOfMemory`.
+    /// `Overflow` or `OutOfMemory`. `Overflow` is possible only if the iterator may yield lengths whose sum passes
+    /// `O::MAX`.
     pub fn try_from_lengths<I: Iterator<Item = usize> + Drop>(
         alloc: Global,
         lengths: I,
@@ -157,7 +163,7 @@ impl<O: Offset> Offsets<O> {
         Ok(offsets)
     }
 
-    /// Returns the capacity in lengths: how many fit before it allocates.
+    /// Returns the number of lengths that the offsets can hold before a push allocates.
     pub fn capacity(&self) -> usize
         ensures capacity { result ≡ self.now.capacity }
         ensures within_capacity { slots self.now ≤ result }
@@ -170,12 +176,13 @@ impl<O: Offset> Offsets<O> {
     ///
     /// # Errors
     ///
-    /// `OutOfMemory` alone, also where a `usize` cannot count the offsets. After it the offsets are as they were.
+    /// `OutOfMemory` alone, also where a `usize` cannot count the offsets. After an error, the offsets are as they
+    /// were.
     pub fn reserve(&mut self, additional: usize) -> Result<()>
         // The offsets stay, and `additional` more lengths fit.
         ensures items { SameOffsets self.old self.new }
         ensures ok { OnOk result (slots self.old + additional ≤ self.new.capacity) }
-        // The capacity never falls. The slots that it holds are within it, by the type's invariant.
+        // The capacity never falls. The number of slots is at most the capacity, since the length of a `Vec` is.
         ensures capacity { self.old.capacity ≤ self.new.capacity }
         ensures within_capacity { slots self.old ≤ self.old.capacity }
         // When it succeeds, and which error can come.
@@ -186,10 +193,10 @@ impl<O: Offset> Offsets<O> {
         Ok(())
     }
 
-    /// Gives back unused capacity, where the allocator takes it. No clause states that any is given back. arrow2
+    /// Frees unused capacity if the allocator can: no clause states that any is freed. Always returns `Ok`. arrow2
     /// returns no `Result`.
     ///
-    /// It never fails: where the smaller block cannot be allocated, the offsets stay where they are.
+    /// If the smaller block cannot be allocated, the offsets stay where they are.
     pub fn shrink_to_fit(&mut self) -> Result<()>
         ensures ok { IsOk result }
         ensures items { SameOffsets self.old self.new }
@@ -199,18 +206,18 @@ impl<O: Offset> Offsets<O> {
         Ok(())
     }
 
-    /// Appends one length. Requires that it is not negative. Below the capacity it does not allocate.
+    /// Appends one length. Requires that the length is not negative. Below the capacity it does not allocate.
     ///
     /// arrow2's documentation requires a length above 0.
     ///
     /// # Errors
     ///
     /// `Overflow` exactly where the last offset would pass `O::MAX`. Otherwise `OutOfMemory` is the only error, also
-    /// where a `usize` cannot count the offsets. After either the offsets are as they were.
+    /// where a `usize` cannot count the offsets. After either error, the offsets are as they were.
     pub fn try_push(&mut self, len: O) -> Result<()>
         requires { pos 0 ≤ℤ O.value len }
-        ensures { GrowsUpTo O.MAX error_of result self.old self.new
-            (unsigned_abs (O.value len) ∷ []) }
+        ensures { GrowsUpTo error_of result self.old self.new
+            (unsigned_abs (O.value len) ∷ []) O.MAX }
     {
         self.push_length(len.to_usize())?;
         Ok(())
@@ -221,30 +228,30 @@ impl<O: Offset> Offsets<O> {
     /// # Errors
     ///
     /// `Overflow` exactly where the last offset would pass `O::MAX`. Otherwise `OutOfMemory` is the only error, also
-    /// where a `usize` cannot count the offsets. After either the offsets are as they were.
+    /// where a `usize` cannot count the offsets. After either error, the offsets are as they were.
     pub fn try_push_usize(&mut self, len: usize) -> Result<()>
-        ensures { GrowsUpTo O.MAX error_of result self.old self.new (len ∷ []) }
+        ensures { GrowsUpTo error_of result self.old self.new (len ∷ []) O.MAX }
     {
         self.push_length(len)?;
         Ok(())
     }
 
-    /// Appends the lengths of an iterator that ends. Its size hint is not read. Within the capacity it does not
-    /// allocate.
+    /// Appends the lengths that an iterator yields. Requires that the iterator ends. Its size hint is not read. Within
+    /// the capacity the call does not allocate.
     ///
-    /// Differs from arrow2, whose sums wrap, and which keeps the lengths that it took where it returns `Overflow`.
+    /// Differs from arrow2, which wraps in its sums, and which keeps the appended lengths where it returns `Overflow`.
     ///
     /// # Errors
     ///
-    /// `Overflow`, which comes only where the iterator may give lengths whose sum, added to the last offset, passes
-    /// `O::MAX`, or `OutOfMemory`. After either the offsets are as they were.
+    /// `Overflow` or `OutOfMemory`. `Overflow` is possible only if the iterator may yield lengths whose sum, added to
+    /// the last offset, passes `O::MAX`. After either error, the offsets are as they were.
     pub fn try_extend_from_lengths<I: Iterator<Item = usize> + Drop>(
         &mut self,
         lengths: I,
     ) -> Result<()>
         requires can { I.can_next lengths }
         requires ends { IsFinite (I.remaining lengths) }
-        ensures { GrowsByIterator O.MAX error_of result self.old self.new I.next_gives lengths }
+        ensures { GrowsByIterator error_of result self.old self.new I.next_gives lengths O.MAX }
     {
         self.extend_lengths(lengths)?;
         Ok(())
@@ -256,24 +263,24 @@ impl<O: Offset> Offsets<O> {
     ///
     /// # Errors
     ///
-    /// `Overflow` exactly where the last offset plus the sum of the lengths exceeds `O::MAX`, else
-    /// `OutOfMemory` alone. After either the offsets are as they were.
+    /// `Overflow` exactly where the last offset plus the sum of the lengths exceeds `O::MAX`, else `OutOfMemory` alone.
+    /// After either error, the offsets are as they were.
     pub fn try_extend_from_self(&mut self, other: &Self) -> Result<()>
-        ensures { GrowsUpTo O.MAX error_of result self.old self.new other.now.lengths }
+        ensures { GrowsUpTo error_of result self.old self.new other.now.lengths O.MAX }
     {
         self.append(other.as_slice())?;
         Ok(())
     }
 
-    /// Appends `len` lengths of other offsets, from the one at index `start` on. Requires that `len` is 0, or that
-    /// `start + len` is below the number of the other's offsets. Within the capacity it does not allocate.
+    /// Appends the `len` lengths of other offsets from length `start` on. Requires that `len` is 0, or that `start +
+    /// len` is below the number of the other's offsets. Within the capacity it does not allocate.
     ///
     /// Differs from arrow2, which tests the other's last offset instead of the sum of the lengths.
     ///
     /// # Errors
     ///
-    /// `Overflow` exactly where the last offset plus the sum of these lengths exceeds `O::MAX`, else
-    /// `OutOfMemory` alone. After either the offsets are as they were.
+    /// `Overflow` exactly where the last offset plus the sum of these lengths exceeds `O::MAX`, else `OutOfMemory`
+    /// alone. After either error, the offsets are as they were.
     pub fn try_extend_from_slice(
         &mut self,
         other: &OffsetsBuffer<O>,
@@ -281,11 +288,11 @@ impl<O: Offset> Offsets<O> {
         len: usize,
     ) -> Result<()>
         requires inside { (len ≡ 0) ⊎ (start + len < length (buffer_items other.now)) }
-        ensures { GrowsUpTo O.MAX error_of result self.old self.new
-            (part (lengths_of (buffer_items other.now)) start len) }
+        ensures { GrowsUpTo error_of result self.old self.new
+            (part (lengths_of (buffer_items other.now)) start len) O.MAX }
     {
-        // The number is read for the facts that the type guarantees: it is at most `O::MAX`, and the slots are within
-        // the capacity.
+        // The number is read for the prover alone: with it come the facts that it is at most `O::MAX`, and that the
+        // number of slots is at most the capacity.
         let _ = self.last_number();
         if len == 0 {
             return Ok(());
@@ -299,11 +306,11 @@ impl<O: Offset> Offsets<O> {
     /// # Errors
     ///
     /// `Overflow` exactly where the number of offsets would pass `usize::MAX` (there arrow2 wraps, and its offsets
-    /// become fewer), else `OutOfMemory` alone. After either the offsets are as they were.
+    /// become fewer), else `OutOfMemory` alone. After either error, the offsets are as they were.
     pub fn extend_constant(&mut self, additional: usize) -> Result<()>
         // `Overflow` exactly where the number of offsets would be above 2 ^ 64 - 1.
-        ensures { Grows error_of (slots self.old + 1 + additional) (2 ^ 64 - 1) result
-            self.old self.new (replicate additional 0) }
+        ensures { Grows error_of result self.old self.new (replicate additional 0)
+            (slots self.old + 1 + additional) (2 ^ 64 - 1) }
     {
         let Some(count) = self.offsets.len().checked_add(additional) else {
             return Err(Error::Overflow);
@@ -340,7 +347,7 @@ impl<O: Offset> Offsets<O> {
         self.offsets.len() - 1
     }
 
-    /// Returns the number of offsets: one more than slots.
+    /// Returns the number of offsets: one more than there are slots.
     pub fn len(&self) -> usize
         ensures offsets { result ≡ length (offsets_of self.now) }
         ensures slots { result ≡ slots self.now + 1 }
@@ -358,7 +365,7 @@ impl<O: Offset> Offsets<O> {
         self.offsets.as_slice()
     }
 
-    /// Takes the last offset off and gives it back, or `None` where only the first is left.
+    /// Removes the last offset and returns it, or returns `None` where only the first is left.
     pub fn pop(&mut self) -> Option<O>
         ensures last { MatchOption result (self.old.lengths ≡ []) (λ offset.
             (0 < slots self.old) × (O.value offset ≡ pos (last_of_growing self.old))) }
@@ -384,7 +391,7 @@ impl<O: Offset> Offsets<O> {
         offsets
     }
 
-    /// Returns the vector as `Offsets`, without a copy. Requires that it holds offsets.
+    /// Returns the vector as `Offsets`, without a copy. Requires that the vector holds offsets.
     pub(crate) fn of_vec(offsets: Vec<O>) -> Self
         requires { AreOffsetsUpTo O.MAX (map O.value offsets.items) }
         ensures { result ≡ made_of (map O.value offsets.items) (vec_capacity offsets) }
@@ -398,14 +405,15 @@ impl<O: Offset> Offsets<O> {
         ensures fits { last_of_growing self.now ≤ O.MAX }
         ensures within_capacity { slots self.now ≤ self.now.capacity }
     {
-        // The field is read for the facts that the type guarantees: the slots are within the capacity.
+        // The field is read for the prover alone: with it comes the fact that the number of slots is at most the
+        // capacity.
         let _ = &self.offsets;
         self.last().to_usize()
     }
 
     /// Appends one length. The error type is one byte in size.
     fn push_length(&mut self, len: usize) -> std::result::Result<(), GrowthError>
-        ensures { GrowsUpTo O.MAX (λ error. error) result self.old self.new (len ∷ []) }
+        ensures { GrowsUpTo (λ error. error) result self.old self.new (len ∷ []) O.MAX }
     {
         let last = self.last_number();
         if len > O::MAX - last {
@@ -447,15 +455,16 @@ impl<O: Offset> Offsets<O> {
         self.offsets.truncate(count + 1);
     }
 
-    /// Appends the lengths of an iterator that ends. If it returns an error, the appended lengths are removed again.
+    /// Appends the lengths that an iterator yields. On an error, removes the appended lengths again. Requires that the
+    /// iterator ends.
     fn extend_lengths<I: Iterator<Item = usize> + Drop>(
         &mut self,
         lengths: I,
     ) -> std::result::Result<(), GrowthError>
         requires can { I.can_next lengths }
         requires ends { IsFinite (I.remaining lengths) }
-        ensures { GrowsByIterator O.MAX (λ error. error) result self.old self.new
-            I.next_gives lengths }
+        ensures { GrowsByIterator (λ error. error) result self.old self.new
+            I.next_gives lengths O.MAX }
     {
         append_lengths(&mut self.offsets, lengths)
     }
@@ -463,8 +472,8 @@ impl<O: Offset> Offsets<O> {
     /// Appends the lengths between the offsets. Tests their sum before it allocates.
     fn append(&mut self, offsets: &[O]) -> std::result::Result<(), GrowthError>
         requires { AreOffsets (map O.value offsets.now) }
-        ensures { GrowsUpTo O.MAX (λ error. error) result self.old self.new
-            (lengths_of (map O.value offsets.now)) }
+        ensures { GrowsUpTo (λ error. error) result self.old self.new
+            (lengths_of (map O.value offsets.now)) O.MAX }
     {
         let count = offsets.len() - 1;
         let total = total_length(offsets);
@@ -513,7 +522,7 @@ impl<O: Offset> Clone for Offsets<O> {
     }
 }
 
-/// Returns the offset at an index. Requires that there is one.
+/// Returns the offset at an index. Requires that the index is below the number of offsets.
 impl<O: Offset> Index<usize> for Offsets<O> {
     type Output = O;
 
@@ -527,7 +536,7 @@ impl<O: Offset> Index<usize> for Offsets<O> {
     }
 }
 
-/// Equality of the lists, whatever their capacity is.
+/// Two `Offsets` are equal exactly if their lists of offsets are, whatever their capacities are.
 impl<O: Offset> PartialEq for Offsets<O> {
     ghost eq = { on offsets_of (pointwise nat_eq) };
 

@@ -1,6 +1,6 @@
-//! Offsets and lengths in slices that are the caller's: read, and written one by one. Does not allocate.
+//! Reads and writes offsets and lengths in slices of the caller. Does not allocate.
 //!
-//! arrow2 has these loops inside its offsets alone.
+//! arrow2 has these loops only inside its offsets.
 ghost use Rattle.std.specs.Prelude.{◌≡◌, ◌+◌, ◌-◌, ◌*◌, ◌<◌, ◌≤◌, ◌↔◌, pos, map, length, sum, IsTrue};
 ghost use Rattle.arrow2_model.specs.Parts.{part};
 ghost use Rattle.arrow2_offset.specs.Offsets.{AreOffsets, AreOffsetsUpTo, last_of, last_offset, lengths_of, offsets_list};
@@ -16,8 +16,8 @@ pub fn last<O: Offset>(offsets: &[O]) -> usize
     offsets[offsets.len() - 1].to_usize()
 }
 
-/// Writes how far each offset is from the next one. Requires that the numbers are offsets, and that `lengths` has one
-/// item fewer than `offsets`.
+/// Sets `lengths[i]` to `offsets[i + 1] - offsets[i]`. Requires that the numbers are offsets, and that `lengths` has
+/// one item fewer than `offsets`.
 pub fn write_lengths<O: Offset>(offsets: &[O], lengths: &mut [usize])
     requires are { AreOffsets (map O.value offsets.now) }
     requires exact { length offsets.now ≡ length lengths.old + 1 }

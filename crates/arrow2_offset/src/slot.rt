@@ -12,7 +12,7 @@ pub(crate) fn total_length<O: Offset>(offsets: &[O]) -> usize
     offsets[0].distance_to(offsets[offsets.len() - 1])
 }
 
-/// Returns where slot `index` starts and where it ends. Requires that it is one of the slots.
+/// Returns where slot `index` starts and where it ends. Requires that `index` is below the number of slots.
 #[tactic(auto, using(crate::proofs::Frozen::frozen))]
 pub(crate) fn slot_span<O: Offset>(offsets: &[O], index: usize) -> (usize, usize)
     requires valid { AreOffsets (map O.value offsets.now) }

@@ -1,6 +1,6 @@
 //! Numbers of 32 bits written as numbers of 64 bits, and back. Does not allocate.
 //!
-//! arrow2 has these loops inside its conversions alone.
+//! arrow2 has these loops only inside its conversions.
 ghost use Rattle.std.specs.Prelude.{◌≡◌, length};
 ghost use Rattle.arrow2_offset.specs.Offsets.{AreOffsetsUpTo};
 

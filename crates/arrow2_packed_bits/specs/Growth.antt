@@ -4,7 +4,8 @@ use Rattle.arrow2_model.specs.Storage.{GrowingBitmap}
 use Rattle.arrow2_types.specs.declared.growth_error.GrowthError.{GrowthError}
 use Rattle.arrow2_types.specs.declared.growth_error.GrowthError.TheVariants.{Overflow, OutOfMemory}
 
--- growth by these items, all of them or none. A failure is returned as an error
+-- growth by the items `more`, all of them or none, where `as_error` turns a refusal of growth into the error of the
+-- call
 pub record Appends {T E : Type 0} (as_error : GrowthError → E) (r : Result T E) (old new : GrowingBitmap) (more : List Bool) : Type 0 where
   -- they come after the others
   pub ok : OnOk r (new.items ≡ old.items ++ more)
@@ -14,7 +15,7 @@ pub record Appends {T E : Type 0} (as_error : GrowthError → E) (r : Result T E
   pub fits : length old.items < 2 ^ 64
   -- and they are within the capacity
   pub within_capacity : length old.items ≤ old.capacity
-  -- it overflows exactly where there would be more items than that
+  -- it overflows exactly where a usize cannot count all items
   pub overflow : IsErrOf r (as_error Overflow) ↔ (2 ^ 64 ≤ length old.items + length more)
   -- there is no other error but out of memory
   pub only : IfErr r (λ e. (e ≡ as_error Overflow) ⊎ (e ≡ as_error OutOfMemory))
@@ -23,7 +24,7 @@ pub record Appends {T E : Type 0} (as_error : GrowthError → E) (r : Result T E
   -- the capacity never falls
   pub capacity : old.capacity ≤ new.capacity
 
--- these items are written after the others, and together they are not too many
+-- a part of `Appends`, for calls that require that the length fits
 pub record Pushes {T E : Type 0} (r : Result T E) (old new : GrowingBitmap) (more : List Bool) : Type 0 where
   -- they come after the others
   pub ok : OnOk r (new.items ≡ old.items ++ more)

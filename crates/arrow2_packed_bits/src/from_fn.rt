@@ -7,7 +7,7 @@ use arrow2_chunk::bit_chunk::BitChunk;
 use std::alloc::{AllocError, Global};
 
 /// Returns the bytes of the results of `f` for each number below `len`, followed by padding bits. Allocates once,
-/// before it calls `f`. Requires that `f` may be called at each of these numbers.
+/// before it calls `f`. Requires that `f` may be called with each of these numbers.
 ///
 /// # Errors
 ///

@@ -1,4 +1,4 @@
-//! Booleans that become bytes, by words of 64: appended at any bit index, and packed. It knows bytes and words alone.
+//! Packs booleans into bytes, 64 at a time, and appends them at any bit index. Works on bytes and words alone.
 #![tactic(auto)]
 
 pub mod from_fn;

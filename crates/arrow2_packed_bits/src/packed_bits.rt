@@ -1,4 +1,4 @@
-//! Booleans packed into bytes, which grow.
+//! A growing list of booleans, packed into bytes.
 ghost use Rattle.std.specs.Prelude.{◌≡◌, ◌+◌, ◌-◌, ◌*◌, ◌/◌, ◌%◌, ◌<◌, ◌≤◌, ◌^◌, ◌↔◌, ◌⊎◌, ℕ, IsTrue, List, Bool, [], ◌∷◌, ◌++◌, true, false, slice_index_or, length, take, replicate, slice_set, min, OnOk, OnErr, IsOk, IfOk, IfNone, IsErrOf, MatchOption, vec_len, vec_capacity};
 ghost use Rattle.arrow2_model.specs.Bits.{bit, bits, unnum};
 ghost use Rattle.arrow2_model.specs.Canonical.{canonical_bytes, IsCanonical};
@@ -20,13 +20,13 @@ use arrow2_types::growth_error::GrowthError;
 use std::alloc::{AllocError, Global};
 use std::marker::Model;
 
-/// At index i the byte whose bits below i are set: read instead of a shift by a variable.
+/// At index i, the byte with the bits below bit i set. Reading it replaces a shift by a variable.
 const BELOW: [u8; 8] = [0, 1, 3, 7, 15, 31, 63, 127];
 
-/// At index i the byte whose other bits are set.
+/// At index i, the byte with bit i and the bits above it set.
 const ABOVE: [u8; 8] = [255, 254, 252, 248, 240, 224, 192, 128];
 
-/// Booleans packed into bytes, which grow: contracts see the items and the capacity.
+/// A growing list of booleans, packed into bytes: contracts see the items and the capacity.
 ///
 /// There is no spare byte, and every padding bit is false.
 #[derive(Drop)]
@@ -53,7 +53,7 @@ impl Model for PackedBits {
 
 #[tactic(auto, using(crate::proofs::Buffer::buffers))]
 impl PackedBits {
-    /// Returns no items. Does not allocate.
+    /// Returns an empty list. Does not allocate.
     pub fn new(alloc: Global) -> PackedBits
         ensures { result.items ≡ [] }
     {
@@ -63,7 +63,7 @@ impl PackedBits {
         }
     }
 
-    /// Returns no items, with capacity for `capacity` of them.
+    /// Returns an empty list with capacity for at least `capacity` items.
     ///
     /// # Errors
     ///
@@ -76,9 +76,8 @@ impl PackedBits {
         Ok(PackedBits { bytes, length: 0 })
     }
 
-    /// Returns the first `len` bits of the bytes. Spare bytes are cut and padding bits cleared, in place, and the
-    /// capacity of the vector stays. Requires `len` to be at most eight times the number of bytes. Does not
-    /// allocate.
+    /// Returns the first `len` bits of the bytes. Cuts spare bytes and clears padding bits, in place; the capacity of
+    /// the vector stays. Requires that `len` is at most eight times the number of bytes. Does not allocate.
     pub fn from_vec(bytes: Vec<u8>, len: usize) -> PackedBits
         requires inside { len ≤ 8 * vec_len bytes }
         ensures items { result.items ≡ take len (bits bytes.items) }
@@ -138,7 +137,8 @@ impl PackedBits {
     ///
     /// # Errors
     ///
-    /// `Overflow` exactly where they would be more than `usize::MAX`, else `OutOfMemory` alone.
+    /// `Overflow` exactly where there would be more than `usize::MAX` items, else `OutOfMemory` where an allocation
+    /// fails.
     pub fn reserve(&mut self, additional: usize) -> Result<(), GrowthError>
         // The items stay, and `additional` more fit.
         ensures items { self.new.items ≡ self.old.items }
@@ -168,7 +168,7 @@ impl PackedBits {
         self.bytes.shrink_to_fit();
     }
 
-    /// Takes all items off.
+    /// Removes all items. The capacity stays.
     pub fn clear(&mut self)
         ensures items { self.new.items ≡ [] }
         ensures capacity { self.new.capacity ≡ self.old.capacity }
@@ -177,12 +177,12 @@ impl PackedBits {
         self.length = 0;
     }
 
-    /// Adds one item. Below the capacity it does not allocate.
+    /// Appends one item. Where the length is below the capacity, it does not allocate.
     ///
     /// # Errors
     ///
-    /// `Overflow` exactly where there are `usize::MAX` items, else `OutOfMemory` alone. After either the items are as
-    /// before.
+    /// `Overflow` exactly where there are `usize::MAX` items already, else `OutOfMemory` where an allocation fails.
+    /// After either error, the items are as before.
     pub fn push(&mut self, item: bool) -> Result<(), GrowthError>
         ensures { Appends (λ error. error) result self.old self.new (item ∷ []) }
     {
@@ -199,13 +199,13 @@ impl PackedBits {
         Ok(())
     }
 
-    /// Appends the first `count` items of `word`: the bits that fit into the last byte go there, and the others after
-    /// it. Padding bits stay false, whatever the word has after these items. Requires that `count` is at most 64, and
-    /// that all items are no more than `usize::MAX`.
+    /// Appends the lowest `count` bits of `word`. Bits that fit into the last byte go there, and the others go into new
+    /// bytes. Padding bits stay false, whatever the higher bits of `word` are. Requires that `count` is at most 64, and
+    /// that there are at most `usize::MAX` items afterwards.
     ///
     /// # Errors
     ///
-    /// If an allocation fails. The items are as before then.
+    /// If an allocation fails. The items are then as before.
     pub(crate) fn push_word(&mut self, word: u64, count: usize) -> Result<(), AllocError>
         requires few { count ≤ 64 }
         requires fits { length self.old.items + count < 2 ^ 64 }
@@ -230,8 +230,8 @@ impl PackedBits {
         Ok(())
     }
 
-    /// Appends all bits of `slice`. Requires that the items end a byte, where a bit is appended at all, and that all
-    /// items are no more than `usize::MAX`.
+    /// Appends all bits of `slice`. Unless `slice` is empty, requires that the number of items is a multiple of 8.
+    /// Requires that there are at most `usize::MAX` items afterwards.
     pub(crate) fn push_bytes(&mut self, slice: &[u8]) -> Result<(), AllocError>
         requires whole { 0 < length slice.now → length self.old.items % 8 ≡ 0 }
         requires fits { length self.old.items + 8 * length slice.now < 2 ^ 64 }
@@ -243,7 +243,7 @@ impl PackedBits {
         Ok(())
     }
 
-    /// Appends false until there are `total` items. Requires that there are no more than that.
+    /// Appends false until there are `total` items. Requires that there are at most `total` items before.
     pub(crate) fn append_falses(&mut self, total: usize) -> Result<(), AllocError>
         requires more { length self.old.items ≤ total }
         ensures pushes { Pushes result self.old self.new
@@ -255,8 +255,8 @@ impl PackedBits {
         Ok(())
     }
 
-    /// Appends true until there are `total` items: whole bytes, and then the bits before and after them are mended.
-    /// Requires that there are no more than that.
+    /// Appends true until there are `total` items: appends whole bytes, and then corrects the last byte of the old
+    /// items and the last byte of all. Requires that there are at most `total` items before.
     pub(crate) fn append_trues(&mut self, total: usize) -> Result<(), AllocError>
         requires more { length self.old.items ≤ total }
         ensures pushes { Pushes result self.old self.new
@@ -270,7 +270,7 @@ impl PackedBits {
         Ok(())
     }
 
-    /// Takes the last item off and gives it back, or `None` where there is none.
+    /// Removes and returns the last item, or returns `None` where there is no item.
     pub fn pop(&mut self) -> Option<bool>
         ensures last { MatchOption result (self.old.items ≡ []) (λ item.
             self.old.items ≡ self.new.items ++ item ∷ []) }
@@ -285,7 +285,8 @@ impl PackedBits {
         Some(is_set(byte, last % 8))
     }
 
-    /// Writes item `index`, and leaves every other. Requires that there is one.
+    /// Sets item `index` to `value`, and leaves every other item as it was. Requires that `index` is below the number
+    /// of items.
     pub fn set(&mut self, index: usize, value: bool)
         requires below { index < length self.old.items }
         ensures items { self.new.items ≡ slice_set self.old.items index value }
@@ -295,14 +296,15 @@ impl PackedBits {
         *byte = set(*byte, index % 8, value);
     }
 
-    /// Replaces each word of the items by the result of `op` for it and the row of words at its index. Does not
-    /// allocate. Requires rows of the same number of items.
+    /// Replaces each word of the items by the result of `op` for this word and the row of words at its index. Does not
+    /// allocate. Requires that each list of `rows` has the same length as this list, and that `op` accepts every word
+    /// and row.
     pub fn assign_rows<T: BitChunk, S: WordRows<T>, F: Fn(T, S::Row) -> T>(
         &mut self,
         rows: S,
         op: F,
     )
-        // `op` accepts each row, and each list of `rows` has as many items.
+        // `op` accepts every word and row, and each list of `rows` has the same length as this list.
         requires callable { F.IsAlwaysCallable op }
         requires alike { S.alike rows }
         requires len { S.len rows ≡ length self.old.items }
@@ -323,8 +325,8 @@ impl PackedBits {
         assign_rows(self.bytes.as_mut_slice(), self.length, rows, op);
     }
 
-    /// Replaces each item by the output of table `t` for it and the bit of `other` at its index, 32 bytes at a time.
-    /// Does not allocate. Requires `other` to have one bit for each item.
+    /// Replaces each item by the output of table `t` for this item and the bit of `other` at its index, 32 bytes at a
+    /// time. Does not allocate. Requires that `other` has at least one bit for each item.
     pub fn apply_binary_table(&mut self, other: &[u8], t: u8)
         requires inside { length self.old.items ≤ 8 * length other.now }
         ensures items { self.new.items ≡ each t (self.old.items
@@ -334,7 +336,8 @@ impl PackedBits {
         assign_binary(self.bytes.as_mut_slice(), other, self.length, t);
     }
 
-    /// Replaces each item by the output of table `t` for it, 32 bytes at a time. Does not allocate.
+    /// Replaces each item by the output of table `t`, of one input, for this item, 32 bytes at a time. Does not
+    /// allocate.
     pub fn apply_unary_table(&mut self, t: u8)
         ensures items { self.new.items ≡ each t (self.old.items ∷ []) }
         ensures capacity { self.new.capacity ≡ self.old.capacity }
@@ -342,7 +345,7 @@ impl PackedBits {
         assign_unary(self.bytes.as_mut_slice(), self.length, t);
     }
 
-    /// Makes each item `value`. Does not allocate.
+    /// Sets each item to `value`. Does not allocate.
     pub fn fill(&mut self, value: bool)
         ensures items { self.new.items ≡ replicate (length self.old.items) value }
         ensures capacity { self.new.capacity ≡ self.old.capacity }
@@ -352,7 +355,8 @@ impl PackedBits {
     }
 }
 
-/// Sets the bits of a byte after the first `len` bits, where these end within it. Requires that it is there.
+/// Where the first `len` bits end within a byte, sets the later bits of this byte. Requires that there are at least
+/// `len` bits.
 fn set_above(bytes: &mut Vec<u8>, len: usize)
     requires inside { len ≤ 8 * length bytes.old.items }
     ensures kept { (k : ℕ) → (k < len) ⊎ (8 * ((len + 7) / 8) ≤ k) →
@@ -368,7 +372,8 @@ fn set_above(bytes: &mut Vec<u8>, len: usize)
     }
 }
 
-/// Cuts everything after the first `len` bits: spare bytes, and padding bits of the last byte.
+/// Cuts the bytes after the first `len` bits, and clears the padding bits of the last byte. Requires that there are at
+/// least `len` bits.
 fn cut(bytes: &mut Vec<u8>, len: usize)
     requires { len ≤ 8 * vec_len bytes.old }
     ensures canonical { IsCanonical bytes.new.items len }
@@ -381,7 +386,7 @@ fn cut(bytes: &mut Vec<u8>, len: usize)
     }
 }
 
-/// A copy of the items.
+/// Returns a copy of the items.
 ///
 /// # Errors
 ///
@@ -398,7 +403,7 @@ impl Clone for PackedBits {
     }
 }
 
-/// Makes each byte `byte`.
+/// Sets each byte to `byte`.
 fn fill_bytes(bytes: &mut Vec<u8>, byte: u8)
     ensures items { bytes.new.items ≡ replicate (vec_len bytes.old) byte }
     ensures capacity { vec_capacity bytes.new ≡ vec_capacity bytes.old }
@@ -406,8 +411,8 @@ fn fill_bytes(bytes: &mut Vec<u8>, byte: u8)
     bytes.as_mut_slice().fill(byte);
 }
 
-/// Appends the first `count` of eight bytes. All of them, as most often, are one store. Requires that `count` is at
-/// most 8.
+/// Appends the first `count` of eight bytes. Appending all eight, the most common case, is one store. Requires that
+/// `count` is at most 8.
 fn push_first(bytes: &mut Vec<u8>, eight: &[u8; 8], count: usize) -> Result<(), AllocError>
     requires { count ≤ 8 }
     ensures ok { OnOk result (bytes.new.items ≡ bytes.old.items ++ take count eight.now) }
@@ -422,7 +427,8 @@ fn push_first(bytes: &mut Vec<u8>, eight: &[u8; 8], count: usize) -> Result<(), 
     }
 }
 
-/// Returns the byte with the first items of `word` from bit `position` on. Requires that none of its bits is set there.
+/// Returns the byte with the lowest bits of `word` written from bit `position` on. Requires that `position` is below 8,
+/// and that the bits of the byte from bit `position` on are not set.
 fn merged(byte: u8, word: u64, position: usize) -> u8
     requires position { position < 8 }
     requires clear { (i : ℕ) → position ≤ i → i < 8 → bit byte i ≡ false }

@@ -12,12 +12,12 @@ use arrow2_types::growth_error::GrowthError;
 use std::alloc::{AllocError, Global};
 use std::simd::prelude::*;
 
-/// Returns the bytes of the items of an iterator that ends, followed by padding bits, and the number of items. Its size
-/// hint is not read.
+/// Packs the items of an iterator that ends. Returns the bytes, with padding bits after the items, and the number of
+/// items. Does not read the size hint.
 ///
 /// # Errors
 ///
-/// `Overflow` only if the iterator may yield more than `usize::MAX` items, else `OutOfMemory` alone.
+/// `Overflow` only if the iterator may yield more than `usize::MAX` items. `OutOfMemory` where an allocation fails.
 pub fn collected<I: Iterator<Item = bool> + Drop>(
     alloc: Global,
     items: I,
@@ -49,8 +49,8 @@ pub fn collected<I: Iterator<Item = bool> + Drop>(
     }
 }
 
-/// Writes the next items into a block, from its first slot on, until it is full or no item is left, and returns how
-/// many were written.
+/// Writes the next items into a block, from its first slot on, until the block is full or the iterator ends. Returns
+/// the number of items written.
 fn fill<I: Iterator<Item = bool>>(items: &mut I, block: &mut [bool; 64]) -> usize
     // The iterator can be advanced, and ends.
     requires can { I.can_next items.old }
@@ -92,7 +92,7 @@ pub fn packed(alloc: Global, items: &[bool]) -> Result<Vec<u8>, AllocError>
     Ok(bytes)
 }
 
-/// Returns the word of 64 items: one comparison of 64 lanes.
+/// Returns the word of 64 items. Computes it by one comparison of 64 lanes.
 pub fn word_of(items: &[bool; 64]) -> u64
     ensures { result ≡ num items.now }
 {
@@ -111,7 +111,7 @@ fn lanes_of(items: &[bool; 64]) -> [u8; 64]
     lanes
 }
 
-/// Returns the items, followed by false. Requires that they are no more than a word has.
+/// Returns the items, followed by false. Requires that there are at most 64 items.
 pub fn padded(items: &[bool]) -> [bool; 64]
     requires { length items.now ≤ 64 }
     ensures front { take (length items.now) result ≡ items.now }

@@ -7,21 +7,21 @@ use Rattle.arrow2_primitive.specs.Primitive.{GrowingPrimitive}
 
 -- growth by these items, all of them or none
 pub record AppendsItems {T X : Type 0} (r : Result T Error) (old new : GrowingPrimitive X) (more : List (Option X)) : Type 0 where
-  -- they come after the others
+  -- these items come after the old ones
   pub ok : OnOk r (new.items ≡ old.items ++ more)
   -- an error leaves the items
   pub err : OnErr r (new.items ≡ old.items)
   -- the logical type stays
   pub data_type : new.data_type ≡ old.data_type
-  -- it overflows exactly where there would be more items than a usize counts
+  -- `Overflow` comes exactly where there would be more items than a usize counts
   pub overflow : IsErrOf r Overflow ↔ (2 ^ 64 ≤ length old.items + length more)
-  -- the only other error is refused memory
+  -- the only other error is running out of memory
   pub only : IfErr r (λ e. (e ≡ Overflow) ⊎ (e ≡ OutOfMemory))
-  -- within the capacity it does not allocate
+  -- within the capacity it succeeds
   pub succeeds : length old.items + length more ≤ old.capacity → IsOk r
   -- the capacity never falls
   pub capacity : old.capacity ≤ new.capacity
 
--- 2 ^ 64 - 1 items came, and one more
+-- an iterator may give 2 ^ 64 - 1 items, and one more
 abbrev pub MayYieldTooManyItems : {S X : Type 0} → (S → Option X → S → Type 0) → S → Type 0
 MayYieldTooManyItems {S} {X} steps s = (xs : List X) × (x : X) × (t : S) × YieldsThen steps s xs (Some x) t × (length xs ≡ 2 ^ 64 - 1)

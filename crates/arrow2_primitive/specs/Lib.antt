@@ -1,2 +1,3 @@
 pub mod Growth
 pub mod Primitive
+pub mod TypeTexts

@@ -27,11 +27,11 @@ sliced_primitive a offset n = record {
   validity = sliced_validity a.validity offset n;
 }
 
--- the words that refuse a logical type whose layout is another one
+-- the message that refuses a logical type with another layout
 abbrev pub other_layout_message : List ℕ
 other_layout_message = codes "PrimitiveArray can only be initialized with a DataType whose physical type is Primitive"
 
--- an array that grows: its logical type, its items, and how many fit before it allocates
+-- an array that grows: its logical type, its items, and its capacity, the number of items that fit before it allocates
 pub record GrowingPrimitive (X : Type 0) : Type 0 where
   pub data_type : DataType
   pub items : List (Option X)

@@ -35,8 +35,8 @@ use std::slice::Iter;
 
 /// An array of native values, each of which may be null.
 ///
-/// Contracts see its logical type, its values and its validity; `primitive_items` is the list of its items. Slices and
-/// clones share all three.
+/// Contracts see its logical type, its values and its validity. Slices and clones share all three. `primitive_items` is
+/// the list of its items.
 ///
 /// Differs from arrow2: the logical type is shared by an `Rc`, so that a clone does not allocate. An array is not
 /// `Send`, there is no trait `Array`, and `for item in array.iter()` stands for `for item in &array`.
@@ -87,9 +87,13 @@ impl<T: NativeType> PrimitiveArray<T> {
     ///
     /// # Errors
     ///
-    /// Invalid input: `InvalidArgumentError`, or `OutOfMemory` if its message cannot be allocated. The length of the
-    /// validity is checked first, then the physical type of `data_type`. Valid input: `OutOfMemory` alone. After an
-    /// error the arguments are dropped.
+    /// `InvalidArgumentError`, or `OutOfMemory` if its message cannot be allocated, exactly if one of these holds. The
+    /// message is that of the first that holds:
+    ///
+    /// - the validity has another length than the values;
+    /// - the physical type of `data_type` is not that of `T`.
+    ///
+    /// Otherwise the only error is `OutOfMemory`. After an error the arguments are dropped.
     pub fn try_new(
         data_type: DataType,
         values: Buffer<T>,
@@ -122,8 +126,8 @@ impl<T: NativeType> PrimitiveArray<T> {
     }
 
     /// Returns the array of these values, each null where the validity is false. Without a validity none is null.
-    /// Requires that the physical type of `data_type` is that of `T`, and that the validity has the length of the
-    /// values. Does not allocate.
+    /// Requires that the physical type of `data_type` is that of `T`, and that the validity, if there is one, has the
+    /// length of the values. Does not allocate.
     pub fn new(
         data_type: Rc<DataType>,
         values: Buffer<T>,
@@ -145,8 +149,8 @@ impl<T: NativeType> PrimitiveArray<T> {
         }
     }
 
-    /// Returns an array of these values, over their storage. No item is null. Its logical type is the one that belongs
-    /// to `T`.
+    /// Returns an array of these values, over their storage. No item is null. The logical type is the one that belongs
+    /// to `T`, `DataType::from(T::PRIMITIVE)`.
     ///
     /// # Errors
     ///
@@ -163,7 +167,7 @@ impl<T: NativeType> PrimitiveArray<T> {
         Ok(PrimitiveArray::new(data_type, values, None))
     }
 
-    /// Returns an array of a copy of these values. No item is null. Its logical type is the one that belongs to `T`.
+    /// Returns an array of a copy of these values. No item is null. The logical type is the one that belongs to `T`.
     ///
     /// # Errors
     ///
@@ -178,8 +182,8 @@ impl<T: NativeType> PrimitiveArray<T> {
         PrimitiveArray::from_vec(Vec::from_slice(alloc, values)?)
     }
 
-    /// Returns an array of these items. Its logical type is the one that belongs to `T`. It has a validity bitmap
-    /// exactly if an item is null. The stored value under a null is not specified.
+    /// Returns an array of these items. The logical type is the one that belongs to `T`. The array has a validity
+    /// bitmap exactly if an item is null. The values stored under nulls are not specified.
     ///
     /// Stands for arrow2's `From` of a slice.
     ///
@@ -234,14 +238,14 @@ impl<T: NativeType> PrimitiveArray<T> {
         self.len() == 0
     }
 
-    /// Returns the number of nulls. The validity keeps it, so nothing is counted.
+    /// Returns the number of nulls. The validity stores this number, so no bits are counted.
     pub fn null_count(&self) -> usize
         ensures { result ≡ count_by is_none (primitive_items self.now) }
     {
         self.validity.null_count()
     }
 
-    /// Returns item `index`, or `None` where it is null. Requires that it is below the length.
+    /// Returns item `index`, or `None` where it is null. Requires that `index` is below the length.
     pub fn get(&self, index: usize) -> Option<T>
         requires below { index < length (primitive_items self.now) }
         ensures { result ≡ slice_index_or (primitive_items self.now) index None }
@@ -258,7 +262,7 @@ impl<T: NativeType> PrimitiveArray<T> {
         self.values[index]
     }
 
-    /// Returns whether item `index` is not null. Requires that it is below the length.
+    /// Returns whether item `index` is not null. Requires that `index` is below the length.
     pub fn is_valid(&self, index: usize) -> bool
         requires below { index < length (primitive_items self.now) }
         ensures { result ≡ is_some (slice_index_or (primitive_items self.now) index None) }
@@ -266,7 +270,7 @@ impl<T: NativeType> PrimitiveArray<T> {
         self.validity.is_valid(index)
     }
 
-    /// Returns whether item `index` is null. Requires that it is below the length.
+    /// Returns whether item `index` is null. Requires that `index` is below the length.
     pub fn is_null(&self, index: usize) -> bool
         requires below { index < length (primitive_items self.now) }
         ensures { result ≡ is_none (slice_index_or (primitive_items self.now) index None) }
@@ -274,7 +278,7 @@ impl<T: NativeType> PrimitiveArray<T> {
         !self.is_valid(index)
     }
 
-    /// Returns the validity bitmap. Where there is none, no item is null.
+    /// Returns the validity bitmap, or `None` if there is none. No item is null then.
     pub fn validity(&self) -> Option<&Bitmap>
         ensures value { option_map (λ b. b.now) result ≡ self.now.validity.bitmap }
         ensures items { MatchOption result
@@ -284,8 +288,8 @@ impl<T: NativeType> PrimitiveArray<T> {
         self.validity.bitmap()
     }
 
-    /// Returns the [`Validity`]: the array's length and an optional bitmap. Its calls need no branch on whether there
-    /// is a bitmap.
+    /// Returns the [`Validity`]: the array's length and an optional bitmap. Its methods work with and without a bitmap,
+    /// so that a caller needs no branch.
     pub fn optional_validity(&self) -> &Validity
         ensures value { result.now ≡ self.now.validity }
         ensures items { valid_items result.now ≡ map is_some (primitive_items self.now) }
@@ -316,8 +320,8 @@ impl<T: NativeType> PrimitiveArray<T> {
         self.values.iter()
     }
 
-    /// Keeps `len` items from item `offset` on, over the same storage. Requires that they are inside. Does not
-    /// allocate.
+    /// Keeps `len` items from item `offset` on, over the same storage. Requires that `offset + len` is at most the
+    /// length. Does not allocate.
     pub fn slice(&mut self, offset: usize, len: usize)
         requires inside { offset + len ≤ length (primitive_items self.old) }
         ensures items { primitive_items self.new ≡ part (primitive_items self.old) offset len }
@@ -327,8 +331,8 @@ impl<T: NativeType> PrimitiveArray<T> {
         self.validity.slice(offset, len);
     }
 
-    /// Returns the `len` items from item `offset` on, over the same storage. Requires that they are inside. Does not
-    /// allocate.
+    /// Returns the `len` items from item `offset` on, over the same storage. Requires that `offset + len` is at most
+    /// the length. Does not allocate.
     pub fn sliced(mut self, offset: usize, len: usize) -> PrimitiveArray<T>
         requires inside { offset + len ≤ length (primitive_items self) }
         ensures items { primitive_items result ≡ part (primitive_items self) offset len }
@@ -338,8 +342,8 @@ impl<T: NativeType> PrimitiveArray<T> {
         self
     }
 
-    /// Returns the array of the same values with another validity. Requires that it has the length of the values. Does
-    /// not allocate.
+    /// Returns the array of the same values with this validity in place of its own. Requires that the validity, if
+    /// there is one, has the length of the values. Does not allocate.
     pub fn with_validity(self, validity: Option<Bitmap>) -> PrimitiveArray<T>
         requires same_length { ForSome validity (λ v.
             length (items_of v) ≡ length (buffer_items self.values)) }
@@ -355,20 +359,26 @@ impl<T: NativeType> PrimitiveArray<T> {
         PrimitiveArray::new(data_type, values, validity)
     }
 
-    /// Returns `Right` of an array that grows, without a copy, if the values and the bitmap have no other owner, the
-    /// values are not sliced, and the bitmap begins at bit 0 or is missing; else `Left` of the array as it was. In
-    /// place of a missing bitmap it makes one of all true items.
+    /// Returns `Right` of an array that grows over the same storage, if both of these hold; else `Left` of the array as
+    /// it was:
     ///
-    /// Proved: `Left` has the whole array, `Right` its items and its logical type, and `Right` comes only if the values
-    /// are not sliced. Not proved: that `Right` comes whenever it can.
+    /// - the values have no other owner, and are not sliced;
+    /// - the bitmap has no other owner, and begins at bit 0; or there is no bitmap.
+    ///
+    /// Where there is no bitmap, `Right` has a new one whose items are all true.
+    ///
+    /// Proved: `Left` has the array as it was, `Right` has its items and its logical type, and `Right` comes only if
+    /// the values are not sliced. Not proved: that `Right` comes whenever it can.
     ///
     /// Differs from arrow2, whose array that grows needs no bitmap where no item is null.
     ///
     /// # Errors
     ///
-    /// `OutOfMemory` alone. The array is then dropped. In the code it comes only if the values have no other owner and
-    /// are not sliced, and in addition the bitmap is missing, is shared, or begins at a bit other than 0. No clause
-    /// states that.
+    /// `OutOfMemory` alone. The array is then dropped. No clause states when it comes. In the code it comes only if the
+    /// values have no other owner and are not sliced, and one of these holds:
+    ///
+    /// - there is no bitmap;
+    /// - the bitmap is shared, or begins at a bit other than 0.
     pub fn into_mut(self) -> Result<Either<PrimitiveArray<T>, MutablePrimitiveArray<T>>>
         ensures ok { IfOk result (λ r. MatchEither r (λ a. a ≡ self)
             (λ m. (m.items ≡ primitive_items self) × (m.data_type ≡ self.data_type))) }
@@ -410,8 +420,8 @@ impl<T: NativeType> PrimitiveArray<T> {
     }
 }
 
-/// Shares the logical type, the values and the validity. Does not allocate: in the code it fails only if a count of
-/// owners is full. No clause states that.
+/// Shares the logical type, the values and the validity. Does not allocate: in the code it fails only if the reference
+/// count of an `Rc` would overflow. No clause states that.
 impl<T: NativeType> Clone for PrimitiveArray<T> {
     ghost is_clone = { λ a copy. copy ≡ a };
 
@@ -424,7 +434,7 @@ impl<T: NativeType> Clone for PrimitiveArray<T> {
     }
 }
 
-/// Returns the value of each item, and one that is not specified in place of a null.
+/// Returns the value of each item, and for each null a value that is not specified.
 fn values_of<T: NativeType>(
     alloc: Global,
     items: &[Option<T>],
@@ -450,7 +460,7 @@ pub(crate) fn native_type<T: NativeType>(
     Ok(Rc::new(alloc, DataType::from(T::PRIMITIVE))?)
 }
 
-/// Refuses a logical type whose physical type is not that of `T`.
+/// Returns an error exactly if the physical type of `data_type` is not that of `T`.
 fn check_layout<T: NativeType>(alloc: Global, data_type: &DataType) -> Result<()>
     ensures ok { OnOk result (physical data_type.now ≡ Primitive T.PRIMITIVE) }
     ensures refused { ¬ (physical data_type.now ≡ Primitive T.PRIMITIVE) →

@@ -14,7 +14,8 @@ use arrow2_datatypes::DataType;
 use arrow2_types::native::NativeType;
 use std::cmp::PartialEq;
 
-/// Equality of the logical types and of the items: nulls are equal, whatever values stand under them.
+/// Two arrays are equal exactly if `==` of their logical types holds and their items are equal by the values' own `==`.
+/// Nulls are equal, whatever values are stored under them.
 impl<T: NativeType> PartialEq for PrimitiveArray<T> {
     ghost eq = { λ a b. ⟦<DataType as PartialEq>⟧.eq a.data_type b.data_type
         && pointwise (option_eq T.eq) (primitive_items a) (primitive_items b) };
@@ -22,8 +23,8 @@ impl<T: NativeType> PartialEq for PrimitiveArray<T> {
     ghost laws = { and_per (on_per (λ a. a.data_type) types_per)
         (on_per primitive_items (lists_per (options_per T.laws))) };
 
-    /// If `T::eq` decides equality, `==` is true if and only if the logical types are equal and the lists of items are
-    /// identical.
+    /// If `T::eq` returns true exactly for equal values, `==` is true if and only if `==` of the logical types holds
+    /// and the lists of items are identical.
     fn eq(&self, other: &PrimitiveArray<T>) -> bool
         ensures items { result ≡ (⟦<DataType as PartialEq>⟧.eq self.now.data_type other.now.data_type
             && pointwise (option_eq T.eq) (primitive_items self.now) (primitive_items other.now)) }
@@ -35,7 +36,7 @@ impl<T: NativeType> PartialEq for PrimitiveArray<T> {
     }
 }
 
-/// Returns whether two arrays have the same items: by the values alone where none is null.
+/// Returns whether two arrays have the same items. Compares the values alone where no item is null.
 fn same_items<T: NativeType>(array: &PrimitiveArray<T>, other: &PrimitiveArray<T>) -> bool
     ensures { result ≡ pointwise (option_eq T.eq) (primitive_items array.now) (primitive_items other.now) }
 {

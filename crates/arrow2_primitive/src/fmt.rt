@@ -2,25 +2,25 @@
 ghost use Rattle.std.specs.Fmt.{DisplaysOnOk, ◌++?◌, debug_list};
 ghost use Rattle.arrow2_validity.specs.ItemTexts.{item_output};
 ghost use Rattle.arrow2_primitive.specs.Primitive.{primitive_items};
+ghost use Rattle.arrow2_primitive.specs.TypeTexts.{type_output};
 
 use crate::array::PrimitiveArray;
-use arrow2_datatypes::DataType;
+use crate::type_text::write_type;
 use arrow2_types::native::NativeType;
 use arrow2_validity::fmt::write_separator;
 use std::fmt;
-use std::fmt::Debug;
 
-/// The logical type, and after it the items in brackets, `None` where one is null: `Int32[1, None, -3]`. Formatter
-/// flags are ignored.
+/// Writes the logical type, then the items in brackets, with `None` for a null: `Int32[1, None, -3]`. Formatter flags
+/// are ignored.
 ///
-/// Differs from arrow2, which prints dates, times, durations and decimals by their logical type, where this prints the
-/// numbers that they are stored as.
+/// Differs from arrow2, which prints dates, times, durations and decimals by their logical type: here the stored
+/// numbers are printed.
 impl<T: NativeType> fmt::Debug for PrimitiveArray<T> {
-    ghost debug_output = { λ a. ⟦<DataType as Debug>⟧.debug_output a.data_type
+    ghost debug_output = { λ a. type_output a.data_type
         ++? debug_list (item_output T.debug_output) (primitive_items a) };
 
     fn fmt<W: fmt::Write>(&self, f: &mut fmt::Formatter<W>) -> fmt::Result {
-        write!(f, "{:?}", self.data_type())?;
+        write_type(self.data_type(), f)?;
         write_items(self, f)
     }
 }

@@ -10,7 +10,7 @@ use arrow2_types::native::NativeType;
 use std::alloc::AllocError;
 use std::marker::Model;
 
-/// An iterator over the items of an array, from both ends: contracts see the list of those still to come.
+/// An iterator over the items of an array, from both ends: contracts see the list of the items still to come.
 ///
 /// Differs from arrow2, whose iterator yields references into the values.
 #[derive(Drop)]
@@ -46,7 +46,7 @@ impl<'a, T: NativeType> PrimitiveIter<'a, T> {
     }
 }
 
-/// The same items still to come. Does not allocate.
+/// A clone has the same items still to come. Does not allocate.
 impl<'a, T: NativeType> Clone for PrimitiveIter<'a, T> {
     ghost is_clone = { λ i copy. copy ≡ i };
 
@@ -105,8 +105,8 @@ impl<'a, T: NativeType> ExactSizeIterator for PrimitiveIter<'a, T> {
     }
 }
 
-/// An iterator over the values of an array that are not null, in their order: contracts see the list of those still to
-/// come. Its size hint is that of std's trait, `(0, None)`.
+/// An iterator over the values of an array that are not null, in their order: contracts see the list of the values
+/// still to come. Its size hint is std's default, `(0, None)`.
 #[derive(Drop)]
 pub struct NonNullValuesIter<'a, T: NativeType> {
     items: PrimitiveIter<'a, T>,
@@ -122,7 +122,7 @@ impl<'a, T: NativeType> Model for NonNullValuesIter<'a, T> {
 }
 
 impl<'a, T: NativeType> NonNullValuesIter<'a, T> {
-    /// Returns an iterator over all of them.
+    /// Returns an iterator over all values that are not null.
     pub(crate) fn new(array: &'a PrimitiveArray<T>) -> NonNullValuesIter<'a, T>
         ensures { result ≡ non_null_values (primitive_items array.entry.now) }
     {
@@ -132,7 +132,7 @@ impl<'a, T: NativeType> NonNullValuesIter<'a, T> {
     }
 }
 
-/// The same values still to come. Does not allocate.
+/// A clone has the same values still to come. Does not allocate. That it never fails is in no clause.
 impl<'a, T: NativeType> Clone for NonNullValuesIter<'a, T> {
     ghost is_clone = { λ i copy. copy ≡ i };
 

@@ -6,6 +6,7 @@ mod equal;
 mod fmt;
 pub mod iterator;
 pub mod mutable;
+mod type_text;
 
 pub use array::PrimitiveArray;
 pub use iterator::{NonNullValuesIter, PrimitiveIter};

@@ -26,12 +26,14 @@ use std::rc::Rc;
 
 /// An array of native values that grows.
 ///
-/// Contracts see its logical type, its items, and how many fit before it allocates. A call that appends has one clause,
-/// the record `AppendsItems` of `specs/Growth.antt`: the items after `Ok` and after an error, when each error comes,
-/// and that it succeeds within the capacity.
+/// Contracts see its logical type, its items, and its capacity, which is the number of items that fit before it
+/// allocates. Each call that appends has one clause, the record `AppendsItems` of `specs/Growth.antt`. The record
+/// states the items after `Ok` and after an error, when each error comes, and that the call succeeds within the
+/// capacity.
 ///
-/// Differs from arrow2: its validity is always there, and [`MutablePrimitiveArray::freeze`] leaves it out where no item
-/// is null. Before `freeze` no call reads or sets an item, but for [`MutablePrimitiveArray::pop`].
+/// Differs from arrow2: there always is a validity bitmap while the array grows, and [`MutablePrimitiveArray::freeze`]
+/// drops it where no item is null. Before `freeze` the only call that reads an item is [`MutablePrimitiveArray::pop`],
+/// and none sets one.
 ///
 /// # Examples
 ///
@@ -78,7 +80,7 @@ impl<T: NativeType> Model for MutablePrimitiveArray<T> {
 
 #[tactic(auto, using(crate::proofs::Growing::growing))]
 impl<T: NativeType> MutablePrimitiveArray<T> {
-    /// Returns an array without items. Its logical type is the one that belongs to `T`.
+    /// Returns an array without items. The logical type is the one that belongs to `T`.
     ///
     /// # Errors
     ///
@@ -92,7 +94,7 @@ impl<T: NativeType> MutablePrimitiveArray<T> {
         MutablePrimitiveArray::with_capacity(alloc, 0)
     }
 
-    /// Returns an array without items, with capacity for `capacity` items. Its logical type is the one that belongs to
+    /// Returns an array without items, with capacity for `capacity` items. The logical type is the one that belongs to
     /// `T`.
     ///
     /// # Errors
@@ -112,8 +114,8 @@ impl<T: NativeType> MutablePrimitiveArray<T> {
         })
     }
 
-    /// Returns an array without items, of this logical type. Requires that its physical type is that of `T`. Does not
-    /// allocate.
+    /// Returns an array without items, of this logical type. Requires that the physical type of `data_type` is that of
+    /// `T`. Does not allocate.
     pub fn of_type(alloc: Global, data_type: Rc<DataType>) -> MutablePrimitiveArray<T>
         requires { physical data_type.value ≡ Primitive T.PRIMITIVE }
         ensures items { result.items ≡ [] }
@@ -127,7 +129,7 @@ impl<T: NativeType> MutablePrimitiveArray<T> {
     }
 
     /// Returns an array without items that shares the logical type of `array`. Does not allocate: in the code it fails
-    /// only if the count of owners is full. No clause states that.
+    /// only if the reference count of the `Rc` would overflow. No clause states that.
     ///
     /// # Errors
     ///
@@ -141,14 +143,14 @@ impl<T: NativeType> MutablePrimitiveArray<T> {
         Ok(MutablePrimitiveArray::of_type(array.values().allocator(), data_type))
     }
 
-    /// Returns an array of the items of an iterator, in their order. Requires that the iterator ends. Does not read its
-    /// size hint. The logical type is the one that belongs to `T`.
+    /// Returns an array of the items of an iterator, in their order. The logical type is the one that belongs to `T`.
+    /// Requires that the iterator ends. Does not read its size hint.
     ///
     /// Stands for arrow2's `FromIterator`.
     ///
     /// # Errors
     ///
-    /// `Overflow`, only if the iterator yields more than `usize::MAX` items, or `OutOfMemory`.
+    /// `Overflow` or `OutOfMemory`. `Overflow` is possible only if the iterator may yield more than `usize::MAX` items.
     pub fn try_from_iter<I: IntoIterator<Item = Option<T>>>(
         alloc: Global,
         iter: I,
@@ -158,7 +160,7 @@ impl<T: NativeType> MutablePrimitiveArray<T> {
         ensures items { IfOk result (λ a. (it : I.IntoIter) × I.into_iter_gives iter it
             × WholeRun I.IntoIter.next_gives it (λ p. a.items ≡ p.items)) }
         ensures data_type { IfOk result (λ a. a.data_type ≡ of_primitive T.PRIMITIVE) }
-        // It comes only where a run may have too many.
+        // `Overflow` comes only where a run may have too many items.
         ensures overflow { IsErrOf result Error.Overflow →
             (it : I.IntoIter) × I.into_iter_gives iter it × MayYieldTooManyItems I.IntoIter.next_gives it }
         ensures only { IfErr result (λ e. (e ≡ Error.Overflow) ⊎ (e ≡ Error.OutOfMemory)) }
@@ -226,7 +228,7 @@ impl<T: NativeType> MutablePrimitiveArray<T> {
         self.len() == 0
     }
 
-    /// Returns how many items fit before it allocates, those that it holds too.
+    /// Returns the number of items that fit before it allocates, including the items that it holds.
     pub fn capacity(&self) -> usize
         ensures value { result ≡ self.now.capacity }
         ensures within_capacity { length self.now.items ≤ result }
@@ -238,8 +240,8 @@ impl<T: NativeType> MutablePrimitiveArray<T> {
     ///
     /// # Errors
     ///
-    /// `Overflow` exactly where the length and `additional` pass `usize::MAX` together, else `OutOfMemory` alone. After
-    /// both the array holds the items that it held.
+    /// `Overflow` exactly where the sum of the length and `additional` passes `usize::MAX`, else `OutOfMemory` alone.
+    /// After either error, the array holds the items that it held.
     pub fn reserve(&mut self, additional: usize) -> Result<()>
         // The array stays, and `additional` more items fit.
         ensures items { self.new.items ≡ self.old.items }
@@ -262,8 +264,8 @@ impl<T: NativeType> MutablePrimitiveArray<T> {
     ///
     /// # Errors
     ///
-    /// `Overflow` exactly where the length is `usize::MAX`, else `OutOfMemory` alone. After either the array holds the
-    /// items that it held.
+    /// `Overflow` exactly where the length is `usize::MAX`, else `OutOfMemory` alone. After either error, the array
+    /// holds the items that it held.
     pub fn push(&mut self, item: Option<T>) -> Result<()>
         ensures { AppendsItems result self.old self.new (item ∷ []) }
     {
@@ -279,8 +281,8 @@ impl<T: NativeType> MutablePrimitiveArray<T> {
     ///
     /// # Errors
     ///
-    /// `Overflow` exactly where the length is `usize::MAX`, else `OutOfMemory` alone. After either the array holds the
-    /// items that it held.
+    /// `Overflow` exactly where the length is `usize::MAX`, else `OutOfMemory` alone. After either error, the array
+    /// holds the items that it held.
     pub fn push_null(&mut self) -> Result<()>
         ensures { AppendsItems result self.old self.new (None ∷ []) }
     {
@@ -291,8 +293,8 @@ impl<T: NativeType> MutablePrimitiveArray<T> {
     ///
     /// # Errors
     ///
-    /// `Overflow` exactly where the new length would pass `usize::MAX`, else `OutOfMemory` alone. After either the
-    /// array holds the items that it held.
+    /// `Overflow` exactly where the new length would pass `usize::MAX`, else `OutOfMemory` alone. After either error,
+    /// the array holds the items that it held.
     pub fn extend_from_slice(&mut self, values: &[T]) -> Result<()>
         ensures { AppendsItems result self.old self.new (map (λ x. Some x) values.now) }
     {
@@ -306,8 +308,8 @@ impl<T: NativeType> MutablePrimitiveArray<T> {
     ///
     /// # Errors
     ///
-    /// `Overflow` exactly where the new length would pass `usize::MAX`, else `OutOfMemory` alone. After either the
-    /// array holds the items that it held.
+    /// `Overflow` exactly where the new length would pass `usize::MAX`, else `OutOfMemory` alone. After either error,
+    /// the array holds the items that it held.
     pub fn extend_from_options(&mut self, items: &[Option<T>]) -> Result<()>
         ensures { AppendsItems result self.old self.new items.now }
     {
@@ -318,13 +320,12 @@ impl<T: NativeType> MutablePrimitiveArray<T> {
         Ok(())
     }
 
-    /// Appends `additional` times the same item. Within the capacity it does not allocate, else it allocates before it
-    /// writes.
+    /// Appends `item` `additional` times. Within the capacity it does not allocate, else it allocates before it writes.
     ///
     /// # Errors
     ///
-    /// `Overflow` exactly where the new length would pass `usize::MAX`, else `OutOfMemory` alone. After either the
-    /// array holds the items that it held.
+    /// `Overflow` exactly where the new length would pass `usize::MAX`, else `OutOfMemory` alone. After either error,
+    /// the array holds the items that it held.
     pub fn extend_constant(&mut self, additional: usize, item: Option<T>) -> Result<()>
         ensures { AppendsItems result self.old self.new (replicate additional item) }
     {
@@ -336,13 +337,13 @@ impl<T: NativeType> MutablePrimitiveArray<T> {
         Ok(())
     }
 
-    /// Appends the `len` items of an array from item `start` on. Requires that they are inside. Within the capacity it
-    /// does not allocate.
+    /// Appends the `len` items of `array` from item `start` on. Requires that `start + len` is at most the length of
+    /// `array`. Within the capacity it does not allocate.
     ///
     /// # Errors
     ///
-    /// `Overflow` exactly where the new length would pass `usize::MAX`, else `OutOfMemory` alone. After either the
-    /// array holds the items that it held.
+    /// `Overflow` exactly where the new length would pass `usize::MAX`, else `OutOfMemory` alone. After either error,
+    /// the array holds the items that it held.
     pub fn extend_from_array(
         &mut self,
         array: &PrimitiveArray<T>,
@@ -361,7 +362,7 @@ impl<T: NativeType> MutablePrimitiveArray<T> {
         Ok(())
     }
 
-    /// Takes the last item off and returns it, or `None` where there is none.
+    /// Removes the last item and returns it: `Some(None)` for a null, and `None` where there is no item.
     pub fn pop(&mut self) -> Option<Option<T>>
         ensures last { MatchOption result (self.old.items ≡ []) (λ item.
             self.old.items ≡ self.new.items ++ item ∷ []) }
@@ -385,8 +386,8 @@ impl<T: NativeType> MutablePrimitiveArray<T> {
         self.validity.shrink_to_fit()
     }
 
-    /// Returns an array of the items, over the same storage, with nothing sliced off. It has a validity bitmap exactly
-    /// if an item is null.
+    /// Returns an array of the items, of which nothing is sliced off. The array has a validity bitmap exactly if an
+    /// item is null. Moves the values and does not copy them, which no clause states.
     ///
     /// Stands for arrow2's `From<MutablePrimitiveArray>`.
     ///

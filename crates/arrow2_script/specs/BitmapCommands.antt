@@ -7,8 +7,7 @@ use Rattle.arrow2_script.specs.Words.{number_of, slot_of, bit_of, bits_of, bit_b
 use Rattle.arrow2_script.specs.declared.bitmap_command.BitmapCommand.{BitmapCommand}
 use Rattle.arrow2_script.specs.declared.bitmap_command.BitmapCommand.TheVariants.{New, Push, Pop, Get, Freeze, Thaw, Slice, Count, Bits}
 
--- the command that a frozen bitmap takes, as one that grows takes some of them: the one that the words after a name
--- spell
+-- the command that the words after a name spell, if frozen bitmaps accept it; growing bitmaps accept some of these too
 unfoldable pub frozen_named : List ℕ → List (List ℕ) → Option BitmapCommand
 frozen_named name words =
     if bytes_eq name (codes "get") then option_map (λ p. Get p.0 p.1.0) ((slot_of >> number_of >> no_words) words)

@@ -7,7 +7,7 @@ use Rattle.arrow2_script.specs.Words.{number_of, slot_of, bit_of, bit_byte}
 use Rattle.arrow2_script.specs.declared.growth_command.GrowthCommand.{GrowthCommand}
 use Rattle.arrow2_script.specs.declared.growth_command.GrowthCommand.TheVariants.{Fill, Append}
 
--- the command by which a bitmap grows that the words after a name spell
+-- the command that the words after a name spell, if it is one by which a bitmap grows
 unfoldable pub growth_named : List ℕ → List (List ℕ) → Option GrowthCommand
 growth_named name words =
     if bytes_eq name (codes "fill") then option_map (λ p. Fill p.0 p.1.0 p.1.1.0) ((slot_of >> number_of >> bit_of >> no_words) words)

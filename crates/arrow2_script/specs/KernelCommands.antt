@@ -9,7 +9,7 @@ use Rattle.arrow2_script.specs.declared.kernel_command.KernelCommand.TheVariants
 use Rattle.arrow2_script.specs.declared.kernel_command.Kernel.{Kernel}
 use Rattle.arrow2_script.specs.declared.kernel_command.Kernel.TheVariants.{And, Or, Xor, Not, Unary, Binary, Ternary, Quaternary}
 
--- the command that makes a bitmap by a table that the words after a name spell
+-- the command that the words after a name spell, if it makes a bitmap by a table
 unfoldable pub table_named : List ℕ → List (List ℕ) → Option KernelCommand
 table_named name words =
     if bytes_eq name (codes "table1") then option_map (λ p. Make p.0 (Unary p.1.0 p.1.1.0)) ((slot_of >> below_of 4 >> slot_of >> no_words) words)
@@ -18,7 +18,7 @@ table_named name words =
     else if bytes_eq name (codes "table4") then option_map (λ p. Make p.0 (Quaternary p.1.0 p.1.1.0 p.1.1.1.0 p.1.1.1.1.0 p.1.1.1.1.1.0)) ((slot_of >> below_of 65536 >> slot_of >> slot_of >> slot_of >> slot_of >> no_words) words)
     else None
 
--- the command that makes a bitmap by an operator or a table that the words after a name spell
+-- the command that the words after a name spell, if it makes a bitmap by an operator or a table
 unfoldable pub operator_named : List ℕ → List (List ℕ) → Option KernelCommand
 operator_named name words =
     if bytes_eq name (codes "and") then option_map (λ p. Make p.0 (And p.1.0 p.1.1.0)) ((slot_of >> slot_of >> slot_of >> no_words) words)
@@ -27,7 +27,7 @@ operator_named name words =
     else if bytes_eq name (codes "not") then option_map (λ p. Make p.0 (Not p.1.0)) ((slot_of >> slot_of >> no_words) words)
     else table_named name words
 
--- the command that combines bitmaps that the words after a name spell
+-- the command that the words after a name spell, if it combines bitmaps
 unfoldable pub kernel_named : List ℕ → List (List ℕ) → Option KernelCommand
 kernel_named name words =
     if bytes_eq name (codes "inplace1") then option_map (λ p. AssignUnary p.0 p.1.0 p.1.1.0) ((slot_of >> below_of 4 >> width_of >> no_words) words)

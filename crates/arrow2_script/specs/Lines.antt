@@ -11,7 +11,7 @@ lines_of (b ∷ bytes) = if b == 10 then [] ∷ lines_of bytes else onto_first b
 unfoldable pub parts_between : ℕ → List ℕ → List (List ℕ)
 parts_between byte bytes = slice_split (λ b. b == byte) bytes
 
--- the parts that are still to come: none once the last one came
+-- the remaining parts: none after the last one
 abbrev pub parts_left : ℕ → Bool → List ℕ → List (List ℕ)
 parts_left byte true rest = []
 parts_left byte false rest = parts_between byte rest
@@ -24,11 +24,11 @@ parts_of line = parts_between 32 line
 abbrev pub is_blank : List ℕ → Bool
 is_blank bytes = length bytes == 0
 
--- the words of a line: its parts, where none is empty
+-- the words of a line: its parts if none is empty, else no words
 unfoldable pub words_of : List ℕ → List (List ℕ)
 words_of line = if list_any is_blank (parts_of line) then [] else parts_of line
 
--- a script with a last byte 10, where it is not empty and does not end in one
+-- a script, with a byte 10 added at its end if it is not empty and does not end with one
 abbrev pub closed : List ℕ → List ℕ
 closed [] = []
 closed (b ∷ bytes) = if slice_index (b ∷ bytes) (length bytes) == 10 then b ∷ bytes else b ∷ bytes ++ 10 ∷ []
@@ -41,7 +41,7 @@ ended line = line ++ 10 ∷ []
 abbrev pub IsLine : List ℕ → Type 0
 IsLine line = All (λ b. b ≢ 10) line
 
--- these are the lines of the script: free of byte 10, and each followed by byte 10 they are the script, closed
+-- these are the lines of the script: they hold no byte 10, and each followed by byte 10 they are the closed script
 abbrev pub AreLines : List ℕ → List (List ℕ) → Type 0
 AreLines script lines = All IsLine lines × (flat_map ended lines ≡ closed script)
 
@@ -49,6 +49,6 @@ AreLines script lines = All IsLine lines × (flat_map ended lines ≡ closed scr
 abbrev pub IsWord : List ℕ → Type 0
 IsWord word = (0 < length word) × All (λ b. b ≢ 32) word
 
--- these are the words of the line: one or more, joined by one byte 32 they are the line
+-- these are the words of the line: one or more, and joined by one byte 32 each they are the line
 abbrev pub AreWords : List ℕ → List (List ℕ) → Type 0
 AreWords line words = (0 < length words) × All IsWord words × (join_with_byte 32 words ≡ line)

@@ -8,7 +8,7 @@ use Rattle.arrow2_script.specs.Words.{number_of, slot_of, numbers_of, numbers_te
 use Rattle.arrow2_script.specs.declared.offset_command.OffsetCommand.{OffsetCommand}
 use Rattle.arrow2_script.specs.declared.offset_command.OffsetCommand.TheVariants.{New, Push, Pop, Extend, Offsets, Freeze, Slice, Zip}
 
--- the command that frozen offsets take, as those that grow take one of them: the one that the words after a name spell
+-- the command that the words after a name spell, if frozen offsets accept it; growing offsets accept one of these too
 unfoldable pub frozen_offsets_named : List ℕ → List (List ℕ) → Option OffsetCommand
 frozen_offsets_named name words =
     if bytes_eq name (codes "olist") then option_map (λ p. Offsets p.0) ((slot_of >> no_words) words)

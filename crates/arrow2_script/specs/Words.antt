@@ -8,7 +8,7 @@ use Rattle.arrow2_script.specs.Lines.{parts_between}
 use Rattle.arrow2_script.specs.declared.words.Width.{Width}
 use Rattle.arrow2_script.specs.declared.words.Width.TheVariants.{Bits8, Bits16, Bits32, Bits64}
 
--- a number below 2 ^ 64, whose decimal digits are the word
+-- the number that a word spells: it is below 2 ^ 64, and its decimal digits are the word
 unfoldable pub number_of : List ℕ → Option ℕ
 number_of word = let n = digits_value 10 word in if nat_lt n (2 ^ 64) && bytes_eq (decimal n) word then Some n else None
 

@@ -5,12 +5,14 @@ ghost use Rattle.arrow2_script.specs.Arguments.{◌>>◌, no_words};
 use crate::lines::Parts;
 use crate::words::Word;
 
-/// The values of words, one a word, and no word more: a pair of the first one and the others, or `()` for none.
+/// The values of a list of words, one for each word: a pair of the first value and the other values, or `()` for no
+/// words.
 pub(crate) trait Values<'a>: Drop {
     // The values of words.
     ghost parsed: { List (List ℕ) → Option Self };
 
-    /// Returns the values of the remaining words.
+    /// Returns the values of the remaining words, or `None` if there are more or fewer words than values, or a word
+    /// does not spell its value.
     fn read(parts: Parts<'a>) -> Option<Self>
         ensures { result ≡ parsed parts.entry };
 }

@@ -9,8 +9,8 @@ use crate::words::SlotIndex;
 /// A command on boolean arrays.
 #[derive(Drop)]
 pub enum ArrayCommand {
-    /// `anew d v m`: slot d holds a boolean array, the frozen bitmap of slot v with the validity in the frozen bitmap
-    /// of slot m, or with none.
+    /// `anew d v m`: slot d holds a boolean array. Its values are the frozen bitmap of slot v, its validity is the
+    /// frozen bitmap of slot m. Where m is `-` it has no validity.
     New(SlotIndex, SlotIndex, Option<SlotIndex>),
     /// `alist s`: the items of the boolean array of slot s as a text.
     List(SlotIndex),
@@ -18,16 +18,16 @@ pub enum ArrayCommand {
     Nulls(SlotIndex),
     /// `aslice s i n`: the boolean array of slot s is cut to its n items from item i on.
     Slice(SlotIndex, u64, u64),
-    /// `aand d a b`: slot d holds the boolean array that is true, item by item, where the boolean arrays of slots a and
-    /// b are both true, by Kleene's logic.
+    /// `aand d a b`: slot d holds the boolean array that is AND of the boolean arrays of slots a and b, item by item,
+    /// by Kleene's logic.
     And(SlotIndex, SlotIndex, SlotIndex),
-    /// `aor d a b`: slot d holds the boolean array that is true, item by item, where one of the boolean arrays of slots
-    /// a and b is true, or both, by Kleene's logic.
+    /// `aor d a b`: slot d holds the boolean array that is OR of the boolean arrays of slots a and b, item by item, by
+    /// Kleene's logic.
     Or(SlotIndex, SlotIndex, SlotIndex),
 }
 
 impl ArrayCommand {
-    /// Returns the command of this name, with these words after it.
+    /// Returns the command of this name, with these words after it, or `None` if there is none.
     #[tactic(auto, unfolding(crate::specs::ArrayCommands::array_named))]
     pub fn read(name: &[u8], parts: Parts<'_>) -> Option<ArrayCommand>
         ensures { result ≡ array_named name.now parts.entry }

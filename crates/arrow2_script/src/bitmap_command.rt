@@ -17,9 +17,9 @@ pub enum BitmapCommand<'a> {
     Pop(SlotIndex),
     /// `get s i`: item i of slot s.
     Get(SlotIndex, u64),
-    /// `freeze s`: the growing bitmap of slot s is frozen.
+    /// `freeze s`: the growing bitmap of slot s becomes a frozen bitmap.
     Freeze(SlotIndex),
-    /// `thaw s`: the frozen bitmap of slot s grows again.
+    /// `thaw s`: the frozen bitmap of slot s becomes a growing bitmap.
     Thaw(SlotIndex),
     /// `slice s i n`: the frozen bitmap of slot s is cut to its n items from item i on.
     Slice(SlotIndex, u64, u64),
@@ -30,7 +30,7 @@ pub enum BitmapCommand<'a> {
 }
 
 impl<'a> BitmapCommand<'a> {
-    /// Returns the command of this name, with these words after it.
+    /// Returns the command of this name, with these words after it, or `None` if there is none.
     #[tactic(auto, unfolding(crate::specs::BitmapCommands::bitmap_named))]
     pub fn read(name: &[u8], parts: Parts<'a>) -> Option<BitmapCommand<'a>>
         ensures { result ≡ bitmap_named name.now parts.entry }
@@ -52,7 +52,7 @@ impl<'a> BitmapCommand<'a> {
         }
     }
 
-    /// Returns the command of this name that a frozen bitmap takes.
+    /// Returns the command of this name, with these words after it, if it is one that frozen bitmaps accept.
     #[tactic(auto, unfolding(crate::specs::BitmapCommands::frozen_named))]
     fn read_frozen(name: &[u8], parts: Parts<'a>) -> Option<BitmapCommand<'a>>
         ensures { result ≡ frozen_named name.now parts.entry }

@@ -20,7 +20,7 @@ pub enum Command<'a> {
     Offset(OffsetCommand<'a>),
     /// A command on values of any type.
     Value(ValueCommand),
-    /// A command on the bits in which bitmaps stand.
+    /// A command on the bits that bitmaps store.
     Storage(StorageCommand<'a>),
     /// A command that combines bitmaps.
     Kernel(KernelCommand),
@@ -30,7 +30,7 @@ pub enum Command<'a> {
     Array(ArrayCommand),
 }
 
-/// Returns the command of this name, with these words after it.
+/// Returns the command of this name, with these words after it, or `None` if there is none.
 #[tactic(auto, unfolding(crate::specs::Commands::named))]
 fn read_named<'a>(name: &[u8], parts: Parts<'a>) -> Option<Command<'a>>
     ensures { result ≡ named name.now parts.entry }
@@ -57,7 +57,7 @@ fn read_named<'a>(name: &[u8], parts: Parts<'a>) -> Option<Command<'a>>
     Some(Command::Array(command))
 }
 
-/// Returns the command of a line, if it is one.
+/// Returns the command that a line spells, or `None` if it spells none.
 #[tactic(auto, using(crate::proofs::CommandLemmas::parsing))]
 pub fn parse<'a>(line: &'a [u8]) -> Option<Command<'a>>
     ensures { result ≡ command_in line.entry.now }

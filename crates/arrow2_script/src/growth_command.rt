@@ -9,14 +9,14 @@ use crate::words::SlotIndex;
 /// A command by which a bitmap grows by many items.
 #[derive(Drop)]
 pub enum GrowthCommand {
-    /// `fill s n bit`: the growing bitmap of slot s gets the bit n times more.
+    /// `fill s n bit`: the bit is appended n times to the growing bitmap of slot s.
     Fill(SlotIndex, u64, bool),
     /// `append d s`: the items of the frozen bitmap of slot s are appended to the growing bitmap of slot d.
     Append(SlotIndex, SlotIndex),
 }
 
 impl GrowthCommand {
-    /// Returns the command of this name, with these words after it.
+    /// Returns the command of this name, with these words after it, or `None` if there is none.
     #[tactic(auto, unfolding(crate::specs::GrowthCommands::growth_named))]
     pub fn read(name: &[u8], parts: Parts<'_>) -> Option<GrowthCommand>
         ensures { result ≡ growth_named name.now parts.entry }

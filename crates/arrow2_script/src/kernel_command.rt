@@ -9,17 +9,17 @@ use crate::words::{Below, SlotIndex, Width};
 /// A command that combines bitmaps.
 #[derive(Drop)]
 pub enum KernelCommand {
-    /// `and d a b`, `table1 d t a` and their like: slot d holds, frozen, the result for frozen bitmaps.
+    /// `and d a b`, `table1 d t a` and so on: slot d holds the result for frozen bitmaps, as a frozen bitmap.
     Make(SlotIndex, Kernel),
-    /// `inplace1 s t w`: the growing bitmap of slot s becomes the outputs of table t, the same for each width w of
-    /// words.
+    /// `inplace1 s t w`: the growing bitmap of slot s becomes the outputs of table t for it. The result is the same for
+    /// each width w of words.
     AssignUnary(SlotIndex, Below<4>, Width),
     /// `inplace2 s t w a`: the growing bitmap of slot s becomes the outputs of table t for it and the frozen bitmap of
-    /// slot a, the same for each width w of words.
+    /// slot a. The result is the same for each width w of words.
     AssignBinary(SlotIndex, Below<16>, Width, SlotIndex),
 }
 
-/// The operators and tables that make a bitmap of the frozen bitmaps of slots.
+/// The operators and tables that make a bitmap from the frozen bitmaps of slots.
 #[derive(Drop)]
 pub enum Kernel {
     /// Item by item, whether both are true.
@@ -28,7 +28,7 @@ pub enum Kernel {
     Or(SlotIndex, SlotIndex),
     /// Item by item, whether one is true, and not both.
     Xor(SlotIndex, SlotIndex),
-    /// Item by item, whether it is false.
+    /// Item by item, whether the item is false.
     Not(SlotIndex),
     /// The outputs of a table of one input.
     Unary(Below<4>, SlotIndex),
@@ -41,7 +41,7 @@ pub enum Kernel {
 }
 
 impl KernelCommand {
-    /// Returns the command of this name, with these words after it.
+    /// Returns the command of this name, with these words after it, or `None` if there is none.
     #[tactic(auto, unfolding(crate::specs::KernelCommands::kernel_named))]
     pub fn read(name: &[u8], parts: Parts<'_>) -> Option<KernelCommand>
         ensures { result ≡ kernel_named name.now parts.entry }
@@ -79,7 +79,7 @@ impl KernelCommand {
         }
     }
 
-    /// Returns the command that makes a bitmap by a table, with the number of inputs that this name has.
+    /// Returns the command that makes a bitmap by a table. The name gives the number of inputs.
     #[tactic(auto, unfolding(crate::specs::KernelCommands::table_named))]
     fn read_table(name: &[u8], parts: Parts<'_>) -> Option<KernelCommand>
         ensures { result ≡ table_named name.now parts.entry }

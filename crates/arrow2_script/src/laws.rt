@@ -1,4 +1,4 @@
-//! Laws of the script's grammar. Each function is its law and nothing else.
+//! Laws of the script's grammar. The contract of each function is a law, and its body is empty.
 ghost use Rattle.std.specs.Prelude.{◌≡◌, ◌<◌, ◌≤◌, ◌^◌, ◌∷◌, [], ◌↔◌, ℕ, List, Bool, Option, Some, IfSome, length};
 ghost use Rattle.std.specs.Fmt.{decimal};
 ghost use Rattle.std.specs.List.{All};
@@ -8,21 +8,23 @@ ghost use Rattle.arrow2_script.specs.Commands.{command_in, IsSpelling};
 ghost use Rattle.arrow2_script.specs.declared.command.Command.{Command};
 ghost use Rattle.arrow2_script.specs.declared.words.Width.{Width};
 
-/// A script's lines hold no line end, and each followed by one they are the script; no other lines are.
+/// The lines of a script hold no line end. Each followed by a line end, they are the script, with a line end added
+/// where its last line has none. No other list of lines has these two properties.
 pub fn lines_of_a_script()
     ensures are { (script : List ℕ) → AreLines script (lines_of script) }
     ensures only { (script : List ℕ) (lines : List (List ℕ)) → AreLines script lines →
         lines ≡ lines_of script }
 {}
 
-/// A line's words are not empty, hold no space, and joined by one space they are the line; no other words are.
+/// If a line has words, they are not empty and hold no space, and joined by one space each they are the line. No other
+/// list of words has these properties.
 pub fn words_of_a_line()
     ensures { (line : List ℕ) (words : List (List ℕ)) → 0 < length words →
         (words_of line ≡ words) ↔ AreWords line words }
 {}
 
-/// A word is parsed as a number, a slot, a slot or none, a table, a bit, a text of bits, a list of numbers, bytes or a
-/// width exactly where it is the one word that spells it.
+/// A word is parsed as a value exactly where it is the one word that spells this value. A value is a number, a slot, a
+/// slot or none, a table, a bit, a text of bits, a list of numbers, bytes or a width.
 pub fn one_word_of_a_value()
     ensures number { (word : List ℕ) (n : ℕ) → (number_of word ≡ Some n) ↔
         ((n < 2 ^ 64) × (decimal n ≡ word)) }
@@ -45,7 +47,7 @@ pub fn one_word_of_a_value()
         (width_word width ≡ word) }
 {}
 
-/// A line is parsed as a command exactly where it is that command's words, joined by one space.
+/// A line is parsed as a command exactly where it is the words of this command, joined by one space each.
 pub fn one_line_of_a_command()
     ensures { (line : List ℕ) (command : Command) → (command_in line ≡ Some command) ↔
         IsSpelling line command }

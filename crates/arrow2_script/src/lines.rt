@@ -7,7 +7,8 @@ ghost use Rattle.arrow2_script.specs.Lines.{lines_of, parts_between, parts_left}
 use memchr::memchr;
 use std::marker::Model;
 
-/// Returns the bytes before the first `byte`, and those after it where there is one.
+/// Returns the bytes before the first `byte` and the bytes after it. If there is no `byte`, returns all bytes and
+/// `None`.
 fn cut_at(bytes: &[u8], byte: u8) -> (&[u8], Option<&[u8]>)
     ensures free { All (λ b. b ≢ byte) result.0.now }
     ensures joined { MatchOption result.1 (bytes.now ≡ result.0.now) (λ after.
@@ -20,7 +21,8 @@ fn cut_at(bytes: &[u8], byte: u8) -> (&[u8], Option<&[u8]>)
     (before, Some(&rest[1..]))
 }
 
-/// Returns the first line of a script that is not empty, and the rest of the script after its line end.
+/// Returns the first line of a script, without its line end, and the rest of the script after it. Requires that the
+/// script is not empty.
 #[tactic(auto, using(crate::proofs::LineLemmas::cutting))]
 pub fn next_line(script: &[u8]) -> (&[u8], &[u8])
     requires { 0 < length script.now }
@@ -34,7 +36,7 @@ pub fn next_line(script: &[u8]) -> (&[u8], &[u8])
     }
 }
 
-/// The parts of some bytes between occurrences of one byte that are still to come, empty ones too.
+/// An iterator over the parts of some bytes between the occurrences of one byte. Parts may be empty.
 #[derive(Drop)]
 pub struct Parts<'a> {
     byte: u8,
@@ -49,7 +51,7 @@ impl<'a> Model for Parts<'a> {
 }
 
 impl<'a> Parts<'a> {
-    /// Returns all parts between bytes `byte`.
+    /// Returns an iterator over all parts between the occurrences of `byte`.
     pub fn new(bytes: &'a [u8], byte: u8) -> Parts<'a>
         ensures { result ≡ parts_between byte bytes.entry.now }
     {
@@ -60,7 +62,7 @@ impl<'a> Parts<'a> {
         }
     }
 
-    /// Returns no parts.
+    /// Returns an iterator that has no part left.
     pub fn none() -> Parts<'a>
         ensures { result ≡ [] }
     {
@@ -71,7 +73,7 @@ impl<'a> Parts<'a> {
         }
     }
 
-    /// Returns a second iterator over the same parts.
+    /// Returns a second iterator over the remaining parts.
     pub fn again(&self) -> Parts<'a>
         ensures { result ≡ self.now }
     {

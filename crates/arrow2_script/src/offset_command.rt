@@ -11,24 +11,24 @@ use crate::words::{NumberText, SlotIndex};
 pub enum OffsetCommand<'a> {
     /// `onew s x`: slot s holds growing offsets whose only offset is x.
     New(SlotIndex, u64),
-    /// `opush s n`: the growing offsets of slot s get one more length.
+    /// `opush s n`: length n is appended to the growing offsets of slot s.
     Push(SlotIndex, u64),
     /// `opop s`: the growing offsets of slot s lose their last offset.
     Pop(SlotIndex),
-    /// `oext s list`: the growing offsets of slot s get more lengths.
+    /// `oext s list`: the lengths of the list are appended to the growing offsets of slot s.
     Extend(SlotIndex, NumberText<'a>),
     /// `olist s`: the offsets of slot s.
     Offsets(SlotIndex),
-    /// `ofreeze s`: the growing offsets of slot s are frozen.
+    /// `ofreeze s`: the growing offsets of slot s become frozen offsets.
     Freeze(SlotIndex),
     /// `oslice s i n`: the frozen offsets of slot s are cut to their n offsets from offset i on.
     Slice(SlotIndex, u64, u64),
-    /// `zip s v`: the lengths of the frozen offsets of slot s, by the frozen bitmap of slot v.
+    /// `zip s v`: the lengths of the frozen offsets of slot s, or `null` where the frozen bitmap of slot v is false.
     Zip(SlotIndex, SlotIndex),
 }
 
 impl<'a> OffsetCommand<'a> {
-    /// Returns the command of this name, with these words after it.
+    /// Returns the command of this name, with these words after it, or `None` if there is none.
     #[tactic(auto, unfolding(crate::specs::OffsetCommands::offset_named))]
     pub fn read(name: &[u8], parts: Parts<'a>) -> Option<OffsetCommand<'a>>
         ensures { result ≡ offset_named name.now parts.entry }
@@ -53,7 +53,7 @@ impl<'a> OffsetCommand<'a> {
         }
     }
 
-    /// Returns the command of this name that frozen offsets take.
+    /// Returns the command of this name, with these words after it, if it is one that frozen offsets accept.
     #[tactic(auto, unfolding(crate::specs::OffsetCommands::frozen_offsets_named))]
     fn read_frozen(name: &[u8], parts: Parts<'a>) -> Option<OffsetCommand<'a>>
         ensures { result ≡ frozen_offsets_named name.now parts.entry }

@@ -6,12 +6,12 @@ use crate::arguments::Values;
 use crate::lines::Parts;
 use crate::words::{HexText, SlotIndex, Width};
 
-/// A command on the bits in which a bitmap stands.
+/// A command on the bits that a bitmap stores.
 #[derive(Drop)]
 pub enum StorageCommand<'a> {
-    /// `raw s hex o n`: slot s holds, frozen, the n bits of these bytes from bit o on.
+    /// `raw s hex o n`: slot s holds a frozen bitmap, the n bits of these bytes from bit o on.
     Raw(SlotIndex, HexText<'a>, u64, u64),
-    /// `set s i bit`: item i of the growing bitmap of slot s is the bit.
+    /// `set s i bit`: item i of the growing bitmap of slot s becomes the bit.
     Set(SlotIndex, u64, bool),
     /// `words s w`: the words of w bits of the frozen bitmap of slot s.
     Words(SlotIndex, Width),
@@ -20,7 +20,7 @@ pub enum StorageCommand<'a> {
 }
 
 impl<'a> StorageCommand<'a> {
-    /// Returns the command of this name, with these words after it.
+    /// Returns the command of this name, with these words after it, or `None` if there is none.
     #[tactic(auto, unfolding(crate::specs::StorageCommands::storage_named))]
     pub fn read(name: &[u8], parts: Parts<'a>) -> Option<StorageCommand<'a>>
         ensures { result ≡ storage_named name.now parts.entry }

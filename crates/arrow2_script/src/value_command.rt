@@ -16,7 +16,7 @@ pub enum ValueCommand {
 }
 
 impl ValueCommand {
-    /// Returns the command of this name, with these words after it.
+    /// Returns the command of this name, with these words after it, or `None` if there is none.
     #[tactic(auto, unfolding(crate::specs::ValueCommands::value_named))]
     pub fn read(name: &[u8], parts: Parts<'_>) -> Option<ValueCommand>
         ensures { result ≡ value_named name.now parts.entry }

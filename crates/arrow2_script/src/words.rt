@@ -8,24 +8,24 @@ ghost use Rattle.std.specs.Str.Parse.{AllDigits, digits_value};
 use crate::lines::Parts;
 use std::marker::Model;
 
-/// A value that is spelled by one word.
+/// A value that one word spells.
 pub trait Word<'a>: Drop {
     // The value of each word, where it spells one of this type.
     ghost parsed: { List ℕ → Option Self };
 
-    /// Returns the value of a word.
+    /// Returns the value that a word spells, or `None` if it spells none.
     fn parse(word: &'a [u8]) -> Option<Self>
         ensures { result ≡ parsed word.entry.now };
 }
 
-/// Returns whether the first of several digits is 0.
+/// Returns whether the word has at least two bytes and begins with `0`.
 fn has_leading_zero(word: &[u8]) -> bool
     ensures { IsTrue result ↔ (1 < length word.now × slice_index word.now 0 ≡ 48) }
 {
     matches!(word, [b'0', _, ..])
 }
 
-/// Returns the number of decimal digits, or `None` where a byte is no digit or the number is above `u64::MAX`.
+/// Returns the number that decimal digits spell, or `None` where a byte is no digit or the number is above `u64::MAX`.
 fn digits_number(digits: &[u8]) -> Option<u64>
     ensures some { IfSome result (λ n. AllDigits 10 digits.now × (n ≡ digits_value 10 digits.now)) }
     ensures fits { IfSome result (λ n. n < 2 ^ 64) }
@@ -44,7 +44,7 @@ fn digits_number(digits: &[u8]) -> Option<u64>
     Some(number)
 }
 
-/// Returns the number of a word: decimal digits without a leading zero, except `0`, at most `u64::MAX`.
+/// Returns the number that a word spells: decimal digits without a leading zero, except `0`, and at most `u64::MAX`.
 fn number(word: &[u8]) -> Option<u64>
     ensures { result ≡ number_of word.now }
 {
@@ -105,7 +105,7 @@ impl<const BOUND: usize> Below<BOUND> {
     }
 }
 
-/// A number, where it is below the bound.
+/// A number below the bound.
 impl<'a, const BOUND: usize> Word<'a> for Below<BOUND> {
     ghost parsed = { below_of BOUND };
 
@@ -119,7 +119,7 @@ impl<'a, const BOUND: usize> Word<'a> for Below<BOUND> {
     }
 }
 
-/// The index of a slot among the sixteen, the first one 0.
+/// The index of one of the sixteen slots. The first slot has index 0.
 pub type SlotIndex = Below<16>;
 
 /// A slot that may be left out: `-` for none, or the slot's index.
@@ -189,7 +189,7 @@ impl<'a> Model for BitText<'a> {
 }
 
 impl<'a> BitText<'a> {
-    /// Returns a byte for each item: `1` for true.
+    /// Returns a byte for each item: `1` for true, `0` for false.
     pub fn digits(&self) -> &'a [u8]
         ensures { items_of_digits result.now ≡ self.now }
     {
@@ -239,7 +239,7 @@ fn hex_digit_value(digit: u8) -> u8
     }
 }
 
-/// Bytes in hexadecimal: the iterator over the bytes that are still to come.
+/// Bytes that are spelled in hexadecimal: an iterator over the remaining bytes.
 #[derive(Drop)]
 pub struct HexText<'a> {
     digits: &'a [u8],
@@ -258,7 +258,7 @@ impl<'a> Model for HexText<'a> {
 }
 
 impl<'a> HexText<'a> {
-    /// Returns the number of bytes.
+    /// Returns the number of remaining bytes.
     #[tactic(auto, using(crate::proofs::HexLemmas::hex_bytes))]
     pub fn len(&self) -> usize
         ensures { result ≡ length self.now }
@@ -267,7 +267,7 @@ impl<'a> HexText<'a> {
     }
 }
 
-/// Bytes: `-` for none, or two digits `0` to `9` and `a` to `f` for each.
+/// Bytes: `-` for none, or two digits for each byte, from `0` to `9` and `a` to `f`.
 impl<'a> Word<'a> for HexText<'a> {
     ghost parsed = { bytes_of };
 
@@ -304,8 +304,7 @@ impl Iterator for HexText<'_> {
     }
 }
 
-/// A list of numbers, the first one first: the iterator over the numbers that are still to come. It gives them as
-/// lengths, since a `usize` has 64 bits.
+/// A list of numbers: an iterator over the remaining numbers. It returns each as a `usize`, which has 64 bits.
 #[derive(Drop)]
 pub struct NumberText<'a> {
     words: Parts<'a>,

@@ -16,9 +16,9 @@ use std::io::{Read, Write};
 ///
 /// # Errors
 ///
-/// `Read` exactly where a call of the reader failed, `Write` exactly where a call of the writer did, and `Memory` where
-/// an allocation failed. After `Read` and `Memory` nothing was written; after `Write` the written bytes are a prefix of
-/// the replies.
+/// `Read` exactly where a call of the reader failed, `Write` exactly where a call of the writer failed, and `Memory`
+/// where an allocation failed. After `Read` and `Memory` nothing was written; after `Write` the written bytes are a
+/// prefix of the replies.
 pub fn replay<R: Read, W: Write>(
     alloc: Global,
     reader: &mut Watched<R>,
@@ -28,14 +28,14 @@ pub fn replay<R: Read, W: Write>(
     ensures ok { OnOk result (IfSome (R.remaining reader.old.inner) (λ script.
         Appends (W.contents writer.old.inner) (W.contents writer.new.inner) (text script))) }
     ensures end { OnOk result (IsAtEnd (R.remaining reader.new.inner)) }
-    // In any case a prefix of the replies was written, and nothing where no write failed.
+    // In any case a prefix of the replies was written. With a fault other than `Write` nothing was written.
     ensures begins { IfSome (R.remaining reader.old.inner) (λ script.
         (n : ℕ) × Appends (W.contents writer.old.inner) (W.contents writer.new.inner)
         (take n (text script))) }
     ensures untouched { IfErr result (λ e. e ≢ ReplayFault.Write → writer.new ≡ writer.old) }
     // With `Ok` the writer was flushed after its last write.
     ensures flushed { OnOk result (writer.new.unflushed ≡ 0) }
-    // A fault comes exactly where a call failed.
+    // `Read` and `Write` come exactly where a call failed.
     ensures read { IsErrOf result ReplayFault.Read ↔ reader.old.failed < reader.new.failed }
     ensures write { IsErrOf result ReplayFault.Write ↔ writer.old.failed < writer.new.failed }
 {

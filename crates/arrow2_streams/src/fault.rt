@@ -55,7 +55,8 @@ impl<T: Drop> From<AllocFailed<T>> for ReplayFault {
     }
 }
 
-/// Returns the status that a program ends with after a replay. A fault is reported on standard error, as one line.
+/// Returns the exit status of a program after a replay. Prints a fault to standard error, as one line, and ignores an
+/// error of that print.
 pub fn exit_code<R: Eprint>(rt: &R, outcome: Result<(), ReplayFault>) -> ExitCode
     ensures { MatchResult outcome (λ _. result ≡ ExitCode.SUCCESS) (λ _. result ≡ ExitCode.FAILURE) }
 {

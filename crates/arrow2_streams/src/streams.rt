@@ -7,7 +7,7 @@ use crate::watched::Watched;
 use std::alloc::{AllocError, Global};
 use std::io::{Read, Write};
 
-/// The greatest number of bytes that a read may give.
+/// The greatest number of bytes that one call of the reader returns.
 const PIECE: usize = 65536;
 
 /// Returns `len` zeros.
@@ -21,7 +21,7 @@ fn zeros(alloc: Global, len: usize) -> Result<Vec<u8>, AllocError>
 ///
 /// # Errors
 ///
-/// `Read` exactly where a call of the reader failed, else `Memory`.
+/// `Read` exactly where a call of the reader failed. `Memory` where an allocation failed.
 pub fn read_all<R: Read>(alloc: Global, reader: &mut Watched<R>) -> Result<Vec<u8>, ReplayFault>
     ensures bytes { IfOk result (λ v.
         Consumes (R.remaining reader.old.inner) (R.remaining reader.new.inner) v.items) }
@@ -62,7 +62,7 @@ fn read_through<R: Read>(
 ///
 /// # Errors
 ///
-/// `Write` exactly where a call of the writer failed. The written bytes are a prefix of the bytes then.
+/// `Write` exactly where a call of the writer failed. Then the written bytes are a prefix of `bytes`.
 pub fn write_all<W: Write>(writer: &mut Watched<W>, bytes: &[u8]) -> Result<(), ReplayFault>
     ensures ok { OnOk result (Appends (W.contents writer.old.inner)
         (W.contents writer.new.inner) bytes.now) }

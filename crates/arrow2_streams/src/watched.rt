@@ -9,10 +9,11 @@ use std::io;
 use std::io::{Read, Write};
 use std::marker::Model;
 
-/// A reader or a writer, how many of its calls failed, and how many of its writes no flush has followed yet.
+/// A reader or a writer, with the number of its calls that failed, and the number of its writes since its last flush
+/// that succeeded.
 ///
-/// A call fails that returns an error, and so does a write that takes 0 bytes of a text that is not empty. The counts
-/// take no bytes when the program runs: contracts alone see them.
+/// A call fails if it returns an error. A write also fails if it takes 0 bytes of a text that is not empty. The counts
+/// have size 0 at run time: only contracts see them.
 #[derive(Drop)]
 pub struct Watched<T> {
     inner: T,
@@ -29,7 +30,7 @@ impl<T> Model for Watched<T> {
 }
 
 impl<T> Watched<T> {
-    /// Watches a reader or a writer from now on.
+    /// Wraps a reader or a writer. Both counts begin at 0.
     pub fn new(inner: T) -> Watched<T>
         ensures inner { result.inner ≡ inner }
         ensures failed { result.failed ≡ 0 }
@@ -42,7 +43,7 @@ impl<T> Watched<T> {
         }
     }
 
-    /// Returns the reader or the writer, which no one watches any more.
+    /// Returns the reader or the writer without its counts.
     pub fn into_inner(self) -> T
         ensures { result ≡ self.inner }
     {

@@ -11,10 +11,11 @@ use arrow2_kernels::rows::{OneList, Pair, ZipRows};
 use arrow2_kernels::truth_tables::{quaternary_outputs, ternary_outputs};
 use arrow2_types::error::{Error, Result};
 
-/// Returns the bitmap of the results of `op` for each three words of 64 items at one index. The last words are filled
-/// with false. Requires that all have equal lengths, and that `op` accepts all words.
+/// Returns the bitmap of the results of `op` for the three words of 64 items at each index. The last words are padded
+/// with false. Requires that all have equal lengths, and that the `requires` of `op` holds for every three words.
 ///
-/// Differs from arrow2: padding bits don't reach `op`, nor do words after the last item. It returns no `Result`.
+/// Differs from arrow2: `op` sees false in place of the padding bits, and is not called for words that hold no item.
+/// arrow2's call returns no `Result`.
 ///
 /// # Errors
 ///
@@ -61,10 +62,11 @@ pub fn ternary<F: Fn(u64, u64, u64) -> u64>(
     from_rows(a1.allocator(), a1.len(), three, |((x, y), z)| op(x, y, z))
 }
 
-/// Returns the bitmap of the results of `op` for each four words of 64 items at one index. The last words are filled
-/// with false. Requires that all have equal lengths, and that `op` accepts all words.
+/// Returns the bitmap of the results of `op` for the four words of 64 items at each index. The last words are padded
+/// with false. Requires that all have equal lengths, and that the `requires` of `op` holds for every four words.
 ///
-/// Differs from arrow2: padding bits don't reach `op`, nor do words after the last item. It returns no `Result`.
+/// Differs from arrow2: `op` sees false in place of the padding bits, and is not called for words that hold no item.
+/// arrow2's call returns no `Result`.
 ///
 /// # Errors
 ///

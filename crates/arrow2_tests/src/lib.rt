@@ -1,5 +1,5 @@
-//! Properties of the libraries that no contract states. This crate has nothing but tests: a crate with tests of its own
-//! is proved once more with them.
+//! Properties of the libraries that no contract states. This crate has only tests: a crate that has tests is proved
+//! once more together with them.
 #![tactic(auto)]
 
 #[cfg(test)]

@@ -1,4 +1,4 @@
-//! Worked examples, printed texts, and calls that no command of a script makes: a module a subject.
+//! Worked examples, printed texts, and calls that no command of a script makes: one module for each subject.
 mod array;
 mod bitmap;
 mod bits;

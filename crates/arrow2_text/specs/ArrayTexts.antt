@@ -6,7 +6,7 @@ use Rattle.std.specs.Fmt.{debug_list}
 abbrev pub binary_head : Bool → List ℕ
 binary_head large = if large then codes "LargeBinaryArray" else codes "BinaryArray"
 
--- the same of an array of texts
+-- the same for an array of texts
 abbrev pub text_head : Bool → List ℕ
 text_head large = if large then codes "LargeUtf8Array" else codes "Utf8Array"
 

@@ -27,7 +27,7 @@ binary_values a = slot_values (buffer_items a.offsets) (buffer_items a.values)
 abbrev pub binary_items : BinaryParts → List (Option (List ℕ))
 binary_items a = zipped (binary_values a) (valid_items a.validity)
 
--- how many slots there are between the offsets of a buffer
+-- the number of slots between the offsets of a buffer
 abbrev pub slots_between : BufferStorage ℤ → ℕ
 slots_between offsets = length (lengths_of (buffer_items offsets))
 
@@ -35,7 +35,7 @@ slots_between offsets = length (lengths_of (buffer_items offsets))
 abbrev pub slot_offset : BufferStorage ℤ → ℕ → ℕ
 slot_offset offsets index = offset_at (start_of (buffer_items offsets)) (lengths_of (buffer_items offsets)) index
 
--- how many bytes the `len` slots from slot `start` on have
+-- the number of bytes of the `len` slots from slot `start` on
 abbrev pub slots_size : BufferStorage ℤ → ℕ → ℕ → ℕ
 slots_size offsets start len = sum (part (lengths_of (buffer_items offsets)) start len)
 
@@ -52,7 +52,7 @@ binary_of data_type offsets values validity = record {
   validity = record { len = slots_between offsets; bitmap = validity };
 }
 
--- the n slots from slot `start` on, by one offset more, over the same storage
+-- the n slots from slot `start` on, over the same storage; they have n + 1 offsets
 abbrev pub sliced_binary : BinaryParts → ℕ → ℕ → BinaryParts
 sliced_binary a start n = record {
   data_type = a.data_type;
@@ -69,10 +69,10 @@ binary_layout large = if large then Physical.LargeBinary else Physical.Binary
 abbrev pub text_layout : Bool → PhysicalType
 text_layout large = if large then Physical.LargeUtf8 else Physical.Utf8
 
--- the logical type of byte strings where nothing else is said
+-- the logical type of byte strings, unless another one is given
 abbrev pub default_binary : Bool → DataType
 default_binary large = if large then LargeBinary else Binary
 
--- the logical type of texts where nothing else is said
+-- the logical type of texts, unless another one is given
 abbrev pub default_text : Bool → DataType
 default_text large = if large then LargeUtf8 else Utf8

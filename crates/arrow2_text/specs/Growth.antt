@@ -8,8 +8,8 @@ use Rattle.arrow2_types.specs.declared.error.Error.TheVariants.{Overflow, OutOfM
 use Rattle.arrow2_walks.specs.Zipped.{slot, zipped}
 use Rattle.arrow2_datatypes.specs.declared.DataType.{DataType}
 
--- an array that grows: its logical type, its items, how many bytes their slots have, under nulls too, and how many
--- items and how many bytes fit before it allocates
+-- an array that grows: its logical type, its items, the number of bytes of their slots, under nulls too, and its
+-- capacities, the number of items and the number of bytes that fit before it allocates
 pub record GrowingBinary : Type 0 where
   pub data_type : DataType
   pub items : List (Option (List ℕ))
@@ -26,7 +26,7 @@ pub record GrowingSlots : Type 0 where
   pub capacity : ℕ
   pub byte_capacity : ℕ
 
--- what is seen of it where those are not
+-- the `GrowingBinary` that slots stand for, in which the bytes under nulls are not seen
 abbrev pub growing_binary : GrowingSlots → GrowingBinary
 growing_binary s = record {
   data_type = s.data_type;
@@ -36,10 +36,10 @@ growing_binary s = record {
   byte_capacity = s.byte_capacity;
 }
 
--- growth by these items, whose slots have `bytes` bytes in all, all of them or none, where the last offset may reach
--- the greatest one and not pass it
+-- growth by these items, all of them or none: their slots have `bytes` bytes together, and the last offset may be at
+-- most `greatest`
 pub record AppendsBinary {T : Type 0} (greatest : ℕ) (r : Result T Error) (old new : GrowingBinary) (more : List (Option (List ℕ))) (bytes : ℕ) : Type 0 where
-  -- they come after the others
+  -- the new ones come after the old ones
   pub ok : OnOk r (new.items ≡ old.items ++ more)
   pub ok_bytes : OnOk r (new.bytes ≡ old.bytes + bytes)
   -- an error leaves the items
@@ -47,22 +47,22 @@ pub record AppendsBinary {T : Type 0} (greatest : ℕ) (r : Result T Error) (old
   pub err_bytes : OnErr r (new.bytes ≡ old.bytes)
   -- the logical type stays
   pub data_type : new.data_type ≡ old.data_type
-  -- it overflows exactly where the last offset would pass the greatest one, or there would be more items than a usize
+  -- `Overflow` comes exactly where the last offset would pass `greatest`, or there would be more items than a usize
   -- counts
   pub overflow : IsErrOf r Overflow ↔ ((greatest < old.bytes + bytes) ⊎ (2 ^ 64 ≤ length old.items + length more))
-  -- the only other error is refused memory
+  -- the only other error is running out of memory
   pub only : IfErr r (λ e. (e ≡ Overflow) ⊎ (e ≡ OutOfMemory))
-  -- within both capacities it does not allocate
+  -- within both capacities it succeeds
   pub succeeds : length old.items + length more ≤ old.capacity → old.bytes + bytes ≤ old.byte_capacity → old.bytes + bytes ≤ greatest → IsOk r
   -- no capacity falls
   pub capacity : old.capacity ≤ new.capacity
   pub byte_capacity : old.byte_capacity ≤ new.byte_capacity
 
--- the same, by slots and by which of them are not null
+-- the same, by slots and their validity
 pub record AppendsSlots {T : Type 0} (greatest : ℕ) (r : Result T Error) (old new : GrowingSlots) (values : List (List ℕ)) (valid : List Bool) (bytes : ℕ) : Type 0 where
-  -- the validity has an item for each of them
+  -- the validity has an item for each slot
   pub same : length old.valid ≡ length old.values
-  -- they come after the others
+  -- the new ones come after the old ones
   pub ok_values : OnOk r (new.values ≡ old.values ++ values)
   pub ok_valid : OnOk r (new.valid ≡ old.valid ++ valid)
   pub ok_bytes : OnOk r (new.bytes ≡ old.bytes + bytes)
@@ -72,42 +72,45 @@ pub record AppendsSlots {T : Type 0} (greatest : ℕ) (r : Result T Error) (old 
   pub err_bytes : OnErr r (new.bytes ≡ old.bytes)
   -- the logical type stays
   pub data_type : new.data_type ≡ old.data_type
-  -- the last offset does not pass the greatest one
+  -- the last offset is at most `greatest`
   pub fits : old.bytes ≤ greatest
-  -- it overflows exactly where it would, or there would be more slots than a usize counts
+  -- `Overflow` comes exactly where the last offset would pass `greatest`, or there would be more slots than a usize
+  -- counts
   pub overflow : IsErrOf r Overflow ↔ ((greatest < old.bytes + bytes) ⊎ (2 ^ 64 ≤ length old.valid + length valid))
-  -- the only other error is refused memory
+  -- the only other error is running out of memory
   pub only : IfErr r (λ e. (e ≡ Overflow) ⊎ (e ≡ OutOfMemory))
-  -- within both capacities it does not allocate
+  -- within both capacities it succeeds
   pub succeeds : length old.valid + length valid ≤ old.capacity → old.bytes + bytes ≤ old.byte_capacity → old.bytes + bytes ≤ greatest → IsOk r
   -- no capacity falls
   pub capacity : old.capacity ≤ new.capacity
   pub byte_capacity : old.byte_capacity ≤ new.byte_capacity
 
--- capacity for more slots and bytes, where the last offset may reach the greatest one and not pass it: the slots stay
+-- reserving capacity for `count` more slots and `size` more bytes: the slots stay, and the last offset may become at
+-- most `greatest`
 pub record ReservesSlots {T : Type 0} (greatest : ℕ) (r : Result T Error) (old new : GrowingSlots) (count size : ℕ) : Type 0 where
-  -- the validity has an item for each of them
+  -- the validity has an item for each slot
   pub same : length old.valid ≡ length old.values
   pub values : new.values ≡ old.values
   pub valid : new.valid ≡ old.valid
   pub bytes : new.bytes ≡ old.bytes
   pub data_type : new.data_type ≡ old.data_type
-  -- the last offset does not pass the greatest one
+  -- the last offset is at most `greatest`
   pub fits : old.bytes ≤ greatest
   pub ok : OnOk r (length old.valid + count ≤ new.capacity)
   pub ok_bytes : OnOk r (old.bytes + size ≤ new.byte_capacity)
-  -- it overflows exactly where it would, or there would be more slots than a usize counts
+  -- `Overflow` comes exactly where the last offset would pass `greatest`, or there would be more slots than a usize
+  -- counts
   pub overflow : IsErrOf r Overflow ↔ ((greatest < old.bytes + size) ⊎ (2 ^ 64 ≤ length old.valid + count))
-  -- the only other error is refused memory
+  -- the only other error is running out of memory
   pub only : IfErr r (λ e. (e ≡ Overflow) ⊎ (e ≡ OutOfMemory))
-  -- within both capacities it does not allocate
+  -- within both capacities it succeeds
   pub succeeds : length old.valid + count ≤ old.capacity → old.bytes + size ≤ old.byte_capacity → old.bytes + size ≤ greatest → IsOk r
   -- no capacity falls
   pub capacity : old.capacity ≤ new.capacity
   pub byte_capacity : old.byte_capacity ≤ new.byte_capacity
 
--- the given slots and bytes more are within both capacities, a usize counts them, and the last offset does not pass the
--- greatest one
+-- the given slots and bytes more are within both capacities, a usize counts them, and the last offset is at most
+-- `greatest`
 pub record HasCapacityFor (greatest : ℕ) (held : GrowingSlots) (count size : ℕ) : Type 0 where
   pub slots : length held.valid + count ≤ held.capacity
   pub bytes : held.bytes + size ≤ held.byte_capacity
@@ -123,11 +126,11 @@ pub record GrownBySlots (old new : GrowingSlots) (more : List (List ℕ)) (more_
   pub capacity : old.capacity ≤ new.capacity
   pub byte_capacity : old.byte_capacity ≤ new.byte_capacity
 
--- taking the last item off: where it is not null its bytes are returned, as a value of their own
+-- removing the last item: where it is not null, a copy of its bytes is returned
 pub record PopsBinary {V : Type 0} (bytes_of : V → List ℕ) (r : Result (Option (Option V)) Error) (old new : GrowingBinary) : Type 0 where
-  -- it came after those that are left
+  -- the removed one came after those that are left
   pub last : IfOk r (λ o. MatchOption o (old.items ≡ []) (λ item. old.items ≡ new.items ++ option_map bytes_of item ∷ []))
-  -- where there was none there is none left
+  -- `None` comes where there was none, and none is left
   pub none : IfOk r (λ o. IfNone o (new.items ≡ []))
   -- its bytes are gone, also those under a null
   pub bytes : IfOk r (λ o. IfSome o (λ item. MatchOption item (new.bytes ≤ old.bytes) (λ value. old.bytes ≡ new.bytes + length (bytes_of value))))
@@ -138,18 +141,18 @@ pub record PopsBinary {V : Type 0} (bytes_of : V → List ℕ) (r : Result (Opti
   pub data_type : new.data_type ≡ old.data_type
   pub capacity : new.capacity ≡ old.capacity
   pub byte_capacity : new.byte_capacity ≡ old.byte_capacity
-  -- the only error is refused memory, and a null takes none
+  -- the only error is running out of memory, and removing a null never fails
   pub only : IfErr r (λ e. e ≡ OutOfMemory)
   pub succeeds : (front : List (Option (List ℕ))) → old.items ≡ front ++ None ∷ [] → IsOk r
 
--- the same, by slots and by which of them are not null
+-- the same, by slots and their validity
 pub record PopsSlot {V : Type 0} (bytes_of : V → List ℕ) (r : Result (Option (Option V)) Error) (old new : GrowingSlots) : Type 0 where
-  -- the validity has an item for each of them
+  -- the validity has an item for each slot
   pub same : length old.valid ≡ length old.values
   pub same_left : length new.valid ≡ length new.values
-  -- it came after those that are left
+  -- the removed one came after those that are left
   pub some : IfOk r (λ o. IfSome o (λ item. (value : List ℕ) × (valid : Bool) × (old.values ≡ new.values ++ value ∷ []) × (old.valid ≡ new.valid ++ valid ∷ []) × (old.bytes ≡ new.bytes + length value) × (option_map bytes_of item ≡ slot value valid)))
-  -- where there was none there is none left
+  -- `None` comes where there was none, and none is left
   pub none : IfOk r (λ o. IfNone o ((old.values ≡ []) × (new.values ≡ []) × (new.valid ≡ [])))
   -- an error leaves the slots
   pub err_values : OnErr r (new.values ≡ old.values)
@@ -159,11 +162,11 @@ pub record PopsSlot {V : Type 0} (bytes_of : V → List ℕ) (r : Result (Option
   pub data_type : new.data_type ≡ old.data_type
   pub capacity : new.capacity ≡ old.capacity
   pub byte_capacity : new.byte_capacity ≡ old.byte_capacity
-  -- the only error is refused memory, and a null takes none
+  -- the only error is running out of memory, and removing a null never fails
   pub only : IfErr r (λ e. e ≡ OutOfMemory)
   pub succeeds : (front : List Bool) → old.valid ≡ front ++ false ∷ [] → IsOk r
 
--- the last slot is gone, and its bytes
+-- the last slot is gone, with its bytes
 pub record LosesLastSlot (old new : GrowingSlots) : Type 0 where
   pub same : length old.valid ≡ length old.values
   pub values : old.values ≡ new.values ++ slice_index_or old.values (length new.values) [] ∷ []
@@ -178,10 +181,10 @@ pub record LosesLastSlot (old new : GrowingSlots) : Type 0 where
 abbrev pub items_by_bytes : List (Option (Bor (List ℕ))) → List (Option (List ℕ))
 items_by_bytes items = map option_copied items
 
--- how many bytes items have
+-- the number of bytes of items
 abbrev pub bytes_of_items : List (Option (List ℕ)) → ℕ
 bytes_of_items items = sum (map (λ item. option_map_or length item 0) items)
 
--- items came whose bytes pass the greatest offset, or more items than a usize counts
+-- an iterator may give items whose bytes pass the greatest offset, or more items than a usize counts
 abbrev pub MayYieldPastOffset : {S : Type 0} → ℕ → (S → Option (Option (Bor (List ℕ))) → S → Type 0) → S → Type 0
 MayYieldPastOffset {S} greatest steps s = (xs : List (Option (Bor (List ℕ)))) × (t : S) × Yields steps s xs t × ((greatest < bytes_of_items (items_by_bytes xs)) ⊎ (2 ^ 64 ≤ length xs))

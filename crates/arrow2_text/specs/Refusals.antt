@@ -1,4 +1,4 @@
--- How parts that are no array are refused.
+-- The errors for parts that are no array.
 use Rattle.std.specs.Prelude.{◌≡◌, ℕ, List, ℤ, Option, codes, length, Result, IfErr, OnOk}
 use Rattle.std.specs.Option.{ForSome}
 use Rattle.arrow2_model.specs.Buffers.{BufferStorage}
@@ -9,33 +9,33 @@ use Rattle.arrow2_types.specs.Refusals.{IsInvalidArgumentOrOutOfMemory}
 use Rattle.arrow2_validity.specs.Refusals.{unequal_lengths_message}
 use Rattle.arrow2_text.specs.Binary.{HasBitPerSlot, slots_between}
 
--- where the last offset is past the values
+-- the message where the last offset is past the values
 abbrev pub past_the_values_message : List ℕ
 past_the_values_message = codes "offsets must not exceed the values length"
 
--- where the logical type of byte strings is laid out in another way
+-- the message where the logical type of byte strings has another layout
 abbrev pub other_binary_layout_message : List ℕ
 other_binary_layout_message = codes "BinaryArray can only be initialized with DataType::Binary or DataType::LargeBinary"
 
--- where the logical type of texts is laid out in another way
+-- the message where the logical type of texts has another layout
 abbrev pub other_text_layout_message : List ℕ
 other_text_layout_message = codes "Utf8Array can only be initialized with DataType::Utf8 or DataType::LargeUtf8"
 
--- where a slot is not UTF-8
+-- the message where a slot is not UTF-8
 abbrev pub not_utf8 : List ℕ
 not_utf8 = codes "the values of each slot must be UTF-8"
 
--- where it fails, it fails with this message, or with `OutOfMemory` where the message cannot be allocated
+-- if the call fails, the error has this message, or is `OutOfMemory` where the message cannot be allocated
 abbrev pub FailsOnlyWith : {T : Type 0} → Result T Error → List ℕ → Type 0
 FailsOnlyWith r message = IfErr r (λ e. IsInvalidArgumentOrOutOfMemory e message)
 
--- parts of an array are refused: `Fits` says that the values fit the offsets, which is checked before, and `LaidOut` that
--- the logical type is laid out as the array is
+-- how parts of an array are refused: `Fits` states that the values fit the offsets, which is checked first, and
+-- `LaidOut` that the logical type has the layout of the array
 pub record RefusesParts {T : Type 0} (r : Result T Error) (offsets : BufferStorage ℤ) (validity : Option BitmapStorage) (Fits LaidOut : Type 0) (other_layout : List ℕ) : Type 0 where
   -- parts that are accepted fit
   pub accepted : OnOk r (Fits × HasBitPerSlot offsets validity × LaidOut)
-  -- first comes a validity of another length, then another layout
+  -- a validity of another length is refused first, then another layout
   pub unequal : Fits → ForSome validity (λ v. ¬ (length (items_of v) ≡ slots_between offsets) → FailsOnlyWith r (unequal_lengths_message (length (items_of v)) (slots_between offsets)))
   pub layout : Fits → HasBitPerSlot offsets validity → ¬ LaidOut → FailsOnlyWith r other_layout
-  -- parts that fit are refused by running out of memory alone
+  -- for parts that fit, the only error is running out of memory
   pub only : Fits → HasBitPerSlot offsets validity → LaidOut → IfErr r (λ e. e ≡ OutOfMemory)

@@ -29,10 +29,10 @@ use std::alloc::{AllocError, Global};
 use std::marker::Model;
 use std::rc::Rc;
 
-/// An array of byte strings, each of which may be null, by offsets into one buffer of bytes.
+/// An array of byte strings, each of which may be null: offsets cut one buffer of bytes into slots.
 ///
-/// Contracts see its logical type, its offsets, its bytes and its validity; `binary_items` is the list of its items,
-/// each the list of its bytes. Slices and clones share all four.
+/// Contracts see its logical type, its offsets, its bytes and its validity. Slices and clones share all four.
+/// `binary_items` is the list of its items, in which an item is a list of bytes or null.
 ///
 /// Differs from arrow2: the logical type is shared by an `Rc`, so that a clone does not allocate. An array is not
 /// `Send`, there is no trait `Array`, and `for item in array.iter()` stands for `for item in &array`.
@@ -59,15 +59,20 @@ impl<O: Offset> Model for BinaryArray<O> {
 }
 
 impl<O: Offset> BinaryArray<O> {
-    /// Returns the array of its parts: slot i is the bytes from offset i to offset i + 1, and null where bit i of the
-    /// validity is unset. Without a validity no slot is null.
+    /// Returns the array of these parts: slot i has the bytes from offset i to offset i + 1, and is null where bit i of
+    /// the validity is unset. Without a validity no slot is null.
     ///
     /// # Errors
     ///
-    /// `InvalidArgumentError`, or `OutOfMemory` if its message cannot be allocated, exactly if the last offset is past
-    /// the values, or else if the validity has another length than there are slots, or else if the physical type of
-    /// `data_type` is not `Binary`, or `LargeBinary` where `O` has 64 bits. Of parts that fit, `OutOfMemory` alone. The
-    /// parts are then dropped.
+    /// `InvalidArgumentError`, or `OutOfMemory` if its message cannot be allocated, exactly if one of these holds. The
+    /// message is that of the first that holds:
+    ///
+    /// - the last offset is past the values;
+    /// - the validity has another length than the number of slots;
+    /// - the physical type of `data_type` is not that of byte strings: `Binary`, or `LargeBinary` where `O` has 64
+    ///   bits.
+    ///
+    /// Otherwise the only error is `OutOfMemory`. After an error the parts are dropped.
     pub fn try_new(
         data_type: DataType,
         offsets: OffsetsBuffer<O>,
@@ -89,10 +94,10 @@ impl<O: Offset> BinaryArray<O> {
         })
     }
 
-    /// Returns the array of its parts: slot i is the bytes from offset i to offset i + 1, and null where bit i of the
-    /// validity is unset. Without a validity no slot is null. Requires that the physical type of `data_type` is
+    /// Returns the array of these parts: slot i has the bytes from offset i to offset i + 1, and is null where bit i of
+    /// the validity is unset. Without a validity no slot is null. Requires that the physical type of `data_type` is
     /// `Binary`, or `LargeBinary` where `O` has 64 bits, that the last offset is not past the values, and that the
-    /// validity has a bit for each slot. Does not allocate.
+    /// validity, if there is one, has a bit for each slot. Does not allocate.
     pub fn new(
         data_type: Rc<DataType>,
         offsets: OffsetsBuffer<O>,
@@ -110,7 +115,7 @@ impl<O: Offset> BinaryArray<O> {
         }
     }
 
-    /// Returns the array of these slots. Requires that their logical type is one of byte strings.
+    /// Returns the array of these slots. Requires that the physical type is one of byte strings.
     pub(crate) fn of_slots(slots: Slots<O>) -> BinaryArray<O>
         requires { physical slots.data_type ≡ binary_layout O.IS_LARGE }
         ensures { result ≡ slots }
@@ -125,7 +130,7 @@ impl<O: Offset> BinaryArray<O> {
         &self.slots
     }
 
-    /// Returns the logical type of byte strings: `Binary`, or `LargeBinary` where `O` has 64 bits.
+    /// Returns the default logical type of byte strings: `Binary`, or `LargeBinary` where `O` has 64 bits.
     pub fn default_data_type() -> DataType
         ensures value { result ≡ default_binary O.IS_LARGE }
         ensures layout { physical result ≡ binary_layout O.IS_LARGE }
@@ -133,11 +138,11 @@ impl<O: Offset> BinaryArray<O> {
         binary_type::<O>()
     }
 
-    /// Returns the array of a copy of these byte strings, none of which is null.
+    /// Returns an array of a copy of these byte strings. No item is null.
     ///
     /// # Errors
     ///
-    /// `Overflow` only where their bytes pass `O::MAX`, else `OutOfMemory` alone.
+    /// `Overflow` or `OutOfMemory`. `Overflow` is possible only if the items together have more than `O::MAX` bytes.
     pub fn from_slice(alloc: Global, values: &[&[u8]]) -> Result<BinaryArray<O>>
         ensures items { IfOk result (λ a. binary_items a ≡ map (λ value. Some value.now) values.entry.now) }
         ensures data_type { IfOk result (λ a. a.data_type ≡ default_binary O.IS_LARGE) }
@@ -152,13 +157,13 @@ impl<O: Offset> BinaryArray<O> {
         array.freeze()
     }
 
-    /// Returns the array of a copy of these items. It has a validity bitmap exactly where an item is null.
+    /// Returns an array of a copy of these items. The array has a validity bitmap exactly if an item is null.
     ///
     /// Stands for arrow2's `From` of a slice.
     ///
     /// # Errors
     ///
-    /// `Overflow` only where their bytes pass `O::MAX`, else `OutOfMemory` alone.
+    /// `Overflow` or `OutOfMemory`. `Overflow` is possible only if the items together have more than `O::MAX` bytes.
     pub fn from_options(alloc: Global, items: &[Option<&[u8]>]) -> Result<BinaryArray<O>>
         ensures items { IfOk result (λ a. binary_items a ≡ items_by_bytes items.entry.now) }
         ensures data_type { IfOk result (λ a. a.data_type ≡ default_binary O.IS_LARGE) }
@@ -182,7 +187,8 @@ impl<O: Offset> BinaryArray<O> {
         self.slots.data_type()
     }
 
-    /// Returns the offsets: where the bytes of each slot begin, and where the last ones end.
+    /// Returns the offsets: for each slot the index of its first byte, and then the index after the last byte of the
+    /// last slot.
     pub fn offsets(&self) -> &OffsetsBuffer<O>
         ensures value { result.now ≡ self.now.offsets }
         ensures slots { slots_between result.now ≡ length (binary_items self.now) }
@@ -190,7 +196,7 @@ impl<O: Offset> BinaryArray<O> {
         self.slots.offsets()
     }
 
-    /// Returns the bytes, those outside the offsets too.
+    /// Returns the bytes, including bytes before the first offset or after the last one.
     pub fn values(&self) -> &Buffer<u8>
         ensures value { result.now ≡ self.now.values }
         ensures inside { last_of (buffer_items self.now.offsets) ≤ length (buffer_items result.now) }
@@ -215,14 +221,14 @@ impl<O: Offset> BinaryArray<O> {
         self.len() == 0
     }
 
-    /// Returns the number of nulls. The validity keeps it, so nothing is counted.
+    /// Returns the number of nulls. The validity stores this number, so no bits are counted.
     pub fn null_count(&self) -> usize
         ensures { result ≡ count_by is_none (binary_items self.now) }
     {
         self.slots.null_count()
     }
 
-    /// Returns the bytes of item `index`, or `None` where it is null. Requires that it is below the length.
+    /// Returns the bytes of item `index`, or `None` where it is null. Requires that `index` is below the length.
     pub fn get(&self, index: usize) -> Option<&[u8]>
         requires below { index < length (binary_items self.now) }
         ensures { option_copied result ≡ slice_index_or (binary_items self.now) index None }
@@ -231,7 +237,7 @@ impl<O: Offset> BinaryArray<O> {
         self.is_valid(index).then_some(value)
     }
 
-    /// Returns the bytes of slot `index`, also under a null. Requires that it is below the length.
+    /// Returns the bytes of slot `index`, also under a null. Requires that `index` is below the length.
     pub fn value(&self, index: usize) -> &[u8]
         requires below { index < length (binary_items self.now) }
         ensures value { result.now ≡ slice_index_or (binary_values self.now) index [] }
@@ -241,7 +247,7 @@ impl<O: Offset> BinaryArray<O> {
         self.slots.value(index)
     }
 
-    /// Returns whether item `index` is not null. Requires that it is below the length.
+    /// Returns whether item `index` is not null. Requires that `index` is below the length.
     pub fn is_valid(&self, index: usize) -> bool
         requires below { index < length (binary_items self.now) }
         ensures { result ≡ is_some (slice_index_or (binary_items self.now) index None) }
@@ -249,7 +255,7 @@ impl<O: Offset> BinaryArray<O> {
         self.slots.is_valid(index)
     }
 
-    /// Returns whether item `index` is null. Requires that it is below the length.
+    /// Returns whether item `index` is null. Requires that `index` is below the length.
     #[tactic(auto, using(arrow2_validity::proofs::Slots::arrays))]
     pub fn is_null(&self, index: usize) -> bool
         requires below { index < length (binary_items self.now) }
@@ -258,7 +264,7 @@ impl<O: Offset> BinaryArray<O> {
         !self.slots.is_valid(index)
     }
 
-    /// Returns the validity bitmap. Where there is none, no item is null.
+    /// Returns the validity bitmap, or `None` if there is none. No item is null then.
     pub fn validity(&self) -> Option<&Bitmap>
         ensures value { option_map (λ b. b.now) result ≡ self.now.validity.bitmap }
         ensures items { MatchOption result
@@ -268,8 +274,8 @@ impl<O: Offset> BinaryArray<O> {
         self.optional_validity().bitmap()
     }
 
-    /// Returns the [`Validity`]: the array's length and an optional bitmap. Its calls need no branch on whether there
-    /// is a bitmap.
+    /// Returns the [`Validity`]: the array's length and an optional bitmap. Its methods work with and without a bitmap,
+    /// so that a caller needs no branch.
     pub fn optional_validity(&self) -> &Validity
         ensures value { result.now ≡ self.now.validity }
         ensures len { length (valid_items result.now) ≡ length (binary_items self.now) }
@@ -286,8 +292,8 @@ impl<O: Offset> BinaryArray<O> {
         BinaryIter::new(self)
     }
 
-    /// Keeps `len` items from item `offset` on, over the same storage. Requires that they are inside. Does not
-    /// allocate.
+    /// Keeps `len` items from item `offset` on, over the same storage. Requires that `offset + len` is at most the
+    /// length. Does not allocate.
     pub fn slice(&mut self, offset: usize, len: usize)
         requires inside { offset + len ≤ length (binary_items self.old) }
         ensures items { binary_items self.new ≡ part (binary_items self.old) offset len }
@@ -297,8 +303,8 @@ impl<O: Offset> BinaryArray<O> {
         self.slots.slice(offset, len);
     }
 
-    /// Returns the `len` items from item `offset` on, over the same storage. Requires that they are inside. Does not
-    /// allocate.
+    /// Returns the `len` items from item `offset` on, over the same storage. Requires that `offset + len` is at most
+    /// the length. Does not allocate.
     pub fn sliced(mut self, offset: usize, len: usize) -> BinaryArray<O>
         requires inside { offset + len ≤ length (binary_items self) }
         ensures items { binary_items result ≡ part (binary_items self) offset len }
@@ -309,8 +315,8 @@ impl<O: Offset> BinaryArray<O> {
         self
     }
 
-    /// Returns the array of the same slots with another validity. Requires that it has a bit for each slot. Does not
-    /// allocate.
+    /// Returns the array of the same slots with this validity in place of its own. Requires that the validity, if there
+    /// is one, has a bit for each slot. Does not allocate.
     pub fn with_validity(self, validity: Option<Bitmap>) -> BinaryArray<O>
         requires same_length { HasBitPerSlot self.offsets validity }
         ensures { result ≡ binary_of self.data_type self.offsets self.values validity }
@@ -319,11 +325,17 @@ impl<O: Offset> BinaryArray<O> {
         BinaryArray::new(data_type, offsets, values, validity)
     }
 
-    /// Returns `Right` of an array that grows, without a copy, if offsets, bytes and bitmap have no other owner,
-    /// offsets and bytes are not sliced, the offsets begin at 0 and end after the last byte, and the bitmap begins at
-    /// bit 0; else `Left` of the array as it was. Where there is no bitmap it makes one.
+    /// Returns `Right` of an array that grows over the same storage, if all of these hold; else `Left` of the array as
+    /// it was:
     ///
-    /// Proved: `Left` has the whole array, `Right` its items and its logical type. Not proved: when `Right` comes.
+    /// - the offsets have no other owner, are not sliced, begin at 0, and end after the last byte;
+    /// - the bytes have no other owner, and are not sliced;
+    /// - the bitmap has no other owner, and begins at bit 0; or there is no bitmap.
+    ///
+    /// Where there is no bitmap, `Right` has a new one whose items are all true.
+    ///
+    /// Proved: `Left` has the array as it was, and `Right` has its items and its logical type. Not proved: when `Right`
+    /// comes.
     ///
     /// Differs from arrow2, whose array that grows needs no bitmap where no item is null.
     ///
@@ -359,7 +371,7 @@ impl<O: Offset> BinaryArray<O> {
 }
 
 /// Shares the logical type, the offsets, the bytes and the validity. Does not allocate: in the code it fails only if
-/// the count of an `Rc` would overflow. No clause states that.
+/// the reference count of an `Rc` would overflow. No clause states that.
 impl<O: Offset> Clone for BinaryArray<O> {
     ghost is_clone = { λ a copy. copy ≡ a };
 

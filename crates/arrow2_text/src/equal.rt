@@ -14,7 +14,8 @@ use arrow2_datatypes::DataType;
 use arrow2_index::offset::Offset;
 use std::cmp::PartialEq;
 
-/// Equality of the logical types and of the items: nulls are equal, whatever bytes stand under them.
+/// Two arrays are equal exactly if `==` of their logical types holds and their items are equal. Nulls are equal,
+/// whatever bytes are stored under them.
 impl<O: Offset> PartialEq for BinaryArray<O> {
     ghost eq = { λ a b. ⟦<DataType as PartialEq>⟧.eq a.data_type b.data_type
         && pointwise (option_eq (pointwise nat_eq)) (binary_items a) (binary_items b) };
@@ -33,7 +34,8 @@ impl<O: Offset> PartialEq for BinaryArray<O> {
     }
 }
 
-/// Equality of the logical types and of the items: nulls are equal, whatever texts stand under them.
+/// Two arrays are equal exactly if `==` of their logical types holds and their items are equal. Nulls are equal,
+/// whatever texts are stored under them.
 impl<O: Offset> PartialEq for Utf8Array<O> {
     ghost eq = { λ a b. ⟦<DataType as PartialEq>⟧.eq a.data_type b.data_type
         && pointwise (option_eq (pointwise nat_eq)) (binary_items a) (binary_items b) };
@@ -52,7 +54,7 @@ impl<O: Offset> PartialEq for Utf8Array<O> {
     }
 }
 
-/// Returns whether two arrays have the same items, whatever stands under nulls.
+/// Returns whether two arrays have the same items, whatever bytes are stored under nulls.
 fn same_slots<O: Offset>(slots: &Slots<O>, others: &Slots<O>) -> bool
     ensures equality { result
         ≡ pointwise (option_eq (pointwise nat_eq)) (binary_items slots.now) (binary_items others.now) }

@@ -12,8 +12,9 @@ use arrow2_index::offset::Offset;
 use arrow2_validity::fmt::write_separator;
 use std::fmt;
 
-/// The items in brackets after the name of the type, each the list of its bytes, or `None`:
-/// `BinaryArray[[1, 2], None, []]`. Formatter flags are ignored.
+/// Writes the name of the type, then the items in brackets, each as the list of its bytes, with `None` for a null:
+/// `BinaryArray[[1, 2], None, []]`. With offsets of 64 bits the name is `LargeBinaryArray`. Formatter flags are
+/// ignored.
 impl<O: Offset> fmt::Debug for BinaryArray<O> {
     ghost debug_output = { λ a. Some (binary_head O.IS_LARGE) ++? debug_list (item_output bytes_output) (binary_items a) };
 
@@ -23,8 +24,8 @@ impl<O: Offset> fmt::Debug for BinaryArray<O> {
     }
 }
 
-/// The items in brackets after the name of the type, each the text itself, or `None`: `Utf8Array[é, None, abc]`. With
-/// offsets of 64 bits the names are `LargeBinaryArray` and `LargeUtf8Array`. Formatter flags are ignored.
+/// Writes the name of the type, then the items in brackets, each as the text itself, with `None` for a null:
+/// `Utf8Array[é, None, abc]`. With offsets of 64 bits the name is `LargeUtf8Array`. Formatter flags are ignored.
 impl<O: Offset> fmt::Debug for Utf8Array<O> {
     ghost debug_output = { λ a. Some (text_head O.IS_LARGE) ++? debug_list (item_output (λ text. Some text)) (binary_items a) };
 
@@ -66,7 +67,7 @@ fn write_texts<O: Offset, W: fmt::Write>(
     f.write_str("]")
 }
 
-/// Returns what stands before the items of an array of byte strings.
+/// Returns the name that is written before the items of an array of byte strings.
 fn head_of_binary<O: Offset>() -> &'static str
     ensures { result.now ≡ binary_head O.IS_LARGE }
 {
@@ -77,7 +78,7 @@ fn head_of_binary<O: Offset>() -> &'static str
     }
 }
 
-/// Returns what stands before the items of an array of texts.
+/// Returns the name that is written before the items of an array of texts.
 fn head_of_texts<O: Offset>() -> &'static str
     ensures { result.now ≡ text_head O.IS_LARGE }
 {

@@ -1,4 +1,4 @@
-//! Bytes between offsets with their validity, as they grow.
+//! Slots that grow: bytes between offsets, with their validity.
 ghost use Rattle.std.specs.Prelude.{◌≡◌, ◌+◌, ◌<◌, ◌≤◌, ◌^◌, ◌↔◌, ◌⊎◌, [], ◌∷◌, false, length, sum, count_by, option_map, slice_index_or, IfErr, IfOk, IsErrOf, IsNone, IsOk, OnOk};
 ghost use Rattle.arrow2_model.specs.Buffers.{buffer_items};
 ghost use Rattle.std.specs.Option.{is_none};
@@ -22,7 +22,7 @@ use std::convert::TryFrom;
 use std::marker::Model;
 use std::rc::Rc;
 
-/// Bytes between offsets with their validity, as they grow, and a logical type.
+/// Slots that grow: bytes between offsets, with their validity, and a logical type.
 #[derive(Drop)]
 pub(crate) struct Growing<O: Offset> {
     data_type: Rc<DataType>,
@@ -58,7 +58,7 @@ impl<O: Offset> Model for Growing<O> {
 
 #[tactic(auto, using(crate::proofs::SlotLists::growing))]
 impl<O: Offset> Growing<O> {
-    /// Returns no slots, with capacity for `capacity` slots and `byte_capacity` bytes.
+    /// Returns an empty list of slots, with capacity for `capacity` slots and `byte_capacity` bytes.
     pub(crate) fn with_capacity(
         data_type: Rc<DataType>,
         alloc: Global,
@@ -83,8 +83,8 @@ impl<O: Offset> Growing<O> {
         })
     }
 
-    /// Returns no slots, with capacity for `capacity` slots and `byte_capacity` bytes. Allocates the shared logical
-    /// type.
+    /// Returns an empty list of slots, with capacity for `capacity` slots and `byte_capacity` bytes. Allocates the `Rc`
+    /// of the logical type.
     pub(crate) fn of_default(
         data_type: DataType,
         alloc: Global,
@@ -113,7 +113,7 @@ impl<O: Offset> Growing<O> {
         values: Vec<u8>,
         validity: MutableBitmap,
     ) -> Growing<O>
-        // The offsets begin at 0 and cut all values into a slot for each item of the validity.
+        // The offsets begin at 0, and cut all values into one slot for each item of the validity.
         requires start { offsets.start ≡ 0 }
         requires whole { sum offsets.lengths ≡ length values.items }
         requires same_length { length validity.items ≡ length offsets.lengths }
@@ -155,7 +155,7 @@ impl<O: Offset> Growing<O> {
         self.offsets.last().to_usize()
     }
 
-    /// Reserves capacity for more slots and bytes.
+    /// Reserves capacity for `slots` more slots and `bytes` more bytes.
     pub(crate) fn reserve(&mut self, slots: usize, bytes: usize) -> Result<()>
         // The array stays.
         ensures data_type { self.new.data_type ≡ self.old.data_type }
@@ -163,7 +163,7 @@ impl<O: Offset> Growing<O> {
         ensures values { self.new.values ≡ self.old.values }
         ensures valid { self.new.valid ≡ self.old.valid }
         ensures bytes { self.new.bytes ≡ self.old.bytes }
-        // With `Ok` `slots` more slots and `bytes` more bytes fit.
+        // After `Ok`, `slots` more slots and `bytes` more bytes fit.
         ensures ok { OnOk result (length self.old.valid + slots ≤ self.new.capacity) }
         ensures ok_bytes { OnOk result (self.old.bytes + bytes ≤ self.new.byte_capacity) }
         // When each error comes, and when none does.
@@ -183,7 +183,8 @@ impl<O: Offset> Growing<O> {
         Ok(())
     }
 
-    /// Reserves capacity for more slots and bytes. Returns an error first where the last offset would pass `O::MAX`.
+    /// Reserves capacity for `slots` more slots and `bytes` more bytes. Returns `Overflow` before it reserves anything,
+    /// if the last offset would pass `O::MAX`.
     fn reserve_below(&mut self, slots: usize, bytes: usize) -> Result<()>
         ensures { ReservesSlots O.MAX result self.old self.new slots bytes }
     {
@@ -204,18 +205,20 @@ impl<O: Offset> Growing<O> {
         Ok(())
     }
 
-    /// Appends a slot. Requires that it is within both capacities, and that the last offset does not pass `O::MAX`.
+    /// Appends a slot. Requires that the slot is within both capacities, and that the last offset does not pass
+    /// `O::MAX`.
     fn push_within(&mut self, value: &[u8], valid: bool)
         requires { HasCapacityFor O.MAX self.old 1 (length value.now) }
         ensures { GrownBySlots self.old self.new (value.now ∷ []) (valid ∷ []) (length value.now) }
     {
-        // None of them allocates, so none returns an error.
+        // Within the capacities none of these calls allocates, so none returns an error.
         self.values.extend_from_slice(value).unwrap();
         self.offsets.try_push_usize(value.len()).unwrap();
         self.validity.push(valid).unwrap();
     }
 
-    /// Appends `len` slots of others from slot `start` on. Requires that they are inside.
+    /// Appends the `len` slots of `slots` from slot `start` on. Requires that `start + len` is at most the number of
+    /// its slots.
     pub(crate) fn extend(&mut self, slots: &Slots<O>, start: usize, len: usize) -> Result<()>
         requires inside { start + len ≤ length (binary_items slots.now) }
         ensures { AppendsSlots O.MAX result self.old self.new (part (binary_values slots.now) start len)
@@ -230,8 +233,9 @@ impl<O: Offset> Growing<O> {
         Ok(())
     }
 
-    /// Appends `len` slots of others from slot `start` on, whose bytes these are. Requires that they are inside, that
-    /// they are within both capacities, and that the last offset does not pass `O::MAX`.
+    /// Appends the `len` slots of `slots` from slot `start` on. Requires that `start + len` is at most the number of
+    /// its slots, that `bytes` are the bytes of these slots, that they are within both capacities, and that the last
+    /// offset does not pass `O::MAX`.
     fn extend_within(&mut self, slots: &Slots<O>, bytes: &[u8], start: usize, len: usize)
         requires inside { start + len ≤ length (binary_items slots.now) }
         requires bytes { bytes.now ≡ part (buffer_items slots.now.values)
@@ -243,12 +247,12 @@ impl<O: Offset> Growing<O> {
             (part (valid_items slots.now.validity) start len)
             (slots_size slots.now.offsets start len) }
     {
-        // For the proof alone: reading the lengths brings the invariants that there is one offset more than slots, and
-        // that the validity has an item for each.
+        // For the proof alone: reading the lengths brings the invariants that there is one offset more than there are
+        // slots, and that the validity has an item for each slot.
         let _ = slots.len();
         let offsets = slots.offsets();
         let _ = offsets.len();
-        // None of them allocates, so none returns an error.
+        // Within the capacities none of these calls allocates, so none returns an error.
         self.values.extend_from_slice(bytes).unwrap();
         self.offsets
             .try_extend_from_slice(offsets, start, len)
@@ -259,7 +263,7 @@ impl<O: Offset> Growing<O> {
             .unwrap();
     }
 
-    /// Takes the last slot off and returns a copy of its bytes, or `None` of them where it is null, or `None` where
+    /// Removes the last slot and returns a copy of its bytes: `Some(None)` where the slot is null, and `None` where
     /// there is no slot.
     pub(crate) fn pop(&mut self) -> Result<Option<Option<Vec<u8>>>>
         ensures { PopsSlot (λ value. value.items) result self.old self.new }
@@ -272,7 +276,8 @@ impl<O: Offset> Growing<O> {
         Ok(Some(item))
     }
 
-    /// Returns a copy of the bytes of slot `index`, or `None` where it is null. Requires that it is below the length.
+    /// Returns a copy of the bytes of slot `index`, or `None` where it is null. Requires that `index` is below the
+    /// length.
     fn copy_of(&self, index: usize) -> Result<Option<Vec<u8>>>
         requires below { index < length self.now.valid }
         ensures ok { IfOk result (λ item. option_map (λ value. value.items) item
@@ -285,7 +290,7 @@ impl<O: Offset> Growing<O> {
         copied(*self.values.allocator(), bytes, self.validity.get(index))
     }
 
-    /// Takes the last slot off. Requires that there is one.
+    /// Removes the last slot. Requires that there is one.
     fn drop_last(&mut self)
         requires { 0 < length self.old.valid }
         ensures { LosesLastSlot self.old self.new }
@@ -296,7 +301,7 @@ impl<O: Offset> Growing<O> {
         let _ = self.validity.pop();
     }
 
-    /// Returns the slots, with no bitmap where none is null.
+    /// Returns the slots, with a validity bitmap exactly if a slot is null.
     pub(crate) fn freeze(self) -> Result<Slots<O>>
         ensures data_type { IfOk result (λ s. s.data_type ≡ self.data_type) }
         ensures values { IfOk result (λ s. binary_values s ≡ self.values) }
@@ -318,7 +323,7 @@ impl<O: Offset> Growing<O> {
     }
 }
 
-/// Returns a copy of the bytes of a slot, or `None` where it is null.
+/// Returns a copy of the bytes of a slot, or `None` where `valid` is false.
 fn copied(alloc: Global, bytes: &[u8], valid: bool) -> Result<Option<Vec<u8>>>
     ensures ok { IfOk result (λ item. option_map (λ value. value.items) item ≡ slot bytes.now valid) }
     ensures only { IfErr result (λ e. e ≡ Error.OutOfMemory) }

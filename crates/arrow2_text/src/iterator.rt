@@ -11,7 +11,7 @@ use arrow2_index::offset::Offset;
 use std::alloc::AllocError;
 use std::marker::Model;
 
-/// An iterator over the items of an array of byte strings, from both ends: contracts see the list of those still to
+/// An iterator over the items of an array of byte strings, from both ends: contracts see the list of the items still to
 /// come.
 #[derive(Drop)]
 pub struct BinaryIter<'a, O: Offset> {
@@ -46,7 +46,7 @@ impl<'a, O: Offset> BinaryIter<'a, O> {
     }
 }
 
-/// The same items still to come. Does not allocate.
+/// A clone has the same items still to come. Does not allocate.
 impl<'a, O: Offset> Clone for BinaryIter<'a, O> {
     ghost is_clone = { λ i copy. copy ≡ i };
 
@@ -105,7 +105,7 @@ impl<'a, O: Offset> ExactSizeIterator for BinaryIter<'a, O> {
     }
 }
 
-/// An iterator over the items of an array of texts, from both ends: contracts see the list of those still to come.
+/// An iterator over the items of an array of texts, from both ends: contracts see the list of the items still to come.
 #[derive(Drop)]
 pub struct Utf8Iter<'a, O: Offset> {
     array: &'a Utf8Array<O>,
@@ -139,7 +139,7 @@ impl<'a, O: Offset> Utf8Iter<'a, O> {
     }
 }
 
-/// The same items still to come. Does not allocate.
+/// A clone has the same items still to come. Does not allocate.
 impl<'a, O: Offset> Clone for Utf8Iter<'a, O> {
     ghost is_clone = { λ i copy. copy ≡ i };
 

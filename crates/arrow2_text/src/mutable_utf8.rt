@@ -22,12 +22,14 @@ use std::rc::Rc;
 
 /// An array of texts that grows.
 ///
-/// Contracts see its logical type, its items, how many bytes their slots have, and how many items and bytes fit before
-/// it allocates. A call that appends has one clause, the record `AppendsBinary` of `specs/Growth.antt`: the items after
-/// `Ok` and after an error, when each error comes, and that it succeeds within both capacities.
+/// Contracts see its logical type, its items, the number of bytes of their slots, and its two capacities: the number of
+/// items and the number of bytes that fit before it allocates. Each call that appends has one clause, the record
+/// `AppendsBinary` of `specs/Growth.antt`. The record states the items after `Ok` and after an error, when each error
+/// comes, and that the call succeeds within both capacities.
 ///
-/// Differs from arrow2: its validity is always there, and [`MutableUtf8Array::freeze`] leaves it out where no item is
-/// null. Before `freeze` no call reads or sets an item, but for [`MutableUtf8Array::pop`].
+/// Differs from arrow2: there always is a validity bitmap while the array grows, and [`MutableUtf8Array::freeze`] drops
+/// it where no item is null. Before `freeze` the only call that reads an item is [`MutableUtf8Array::pop`], and none
+/// sets one.
 ///
 /// # Examples
 ///
@@ -67,7 +69,8 @@ impl<O: Offset> Model for MutableUtf8Array<O> {
 
 #[tactic(auto, using(crate::proofs::SlotLists::growing))]
 impl<O: Offset> MutableUtf8Array<O> {
-    /// Returns an array without items, of the logical type of texts.
+    /// Returns an array without items, of the default logical type of texts: `Utf8`, or `LargeUtf8` where `O` has 64
+    /// bits.
     ///
     /// # Errors
     ///
@@ -80,8 +83,8 @@ impl<O: Offset> MutableUtf8Array<O> {
         MutableUtf8Array::with_capacity(alloc, 0, 0)
     }
 
-    /// Returns an array without items, of this logical type. Requires that its physical type is `Utf8`, or `LargeUtf8`
-    /// where `O` has 64 bits.
+    /// Returns an array without items, of this logical type. Requires that the physical type of `data_type` is `Utf8`,
+    /// or `LargeUtf8` where `O` has 64 bits.
     ///
     /// # Errors
     ///
@@ -96,14 +99,15 @@ impl<O: Offset> MutableUtf8Array<O> {
         Ok(MutableUtf8Array { slots })
     }
 
-    /// Returns an array without items, of the logical type of texts, with capacity for `capacity` items and
+    /// Returns an array without items, of the default logical type of texts, with capacity for `capacity` items and
     /// `byte_capacity` bytes.
     ///
-    /// In arrow2 it is `with_capacities`.
+    /// In arrow2 this call is `with_capacities`.
     ///
     /// # Errors
     ///
-    /// `Overflow` exactly where `capacity` is `usize::MAX`, since there is one offset more; else `OutOfMemory` alone.
+    /// `Overflow` exactly where `capacity` is `usize::MAX`, since there is one offset more than there are items; else
+    /// `OutOfMemory` alone.
     pub fn with_capacity(
         alloc: Global,
         capacity: usize,
@@ -120,9 +124,10 @@ impl<O: Offset> MutableUtf8Array<O> {
         Ok(MutableUtf8Array { slots })
     }
 
-    /// Takes the last item off and returns a copy of it, or `None` where there is none. A null does not allocate.
+    /// Removes the last item and returns a copy of it: `Some(None)` for a null, and `None` where there is no item.
+    /// Allocates nothing for a null.
     ///
-    /// Differs from arrow2, which answers an array without items as it answers a null.
+    /// Differs from arrow2, which returns `None` in both cases.
     ///
     /// # Errors
     ///
@@ -134,13 +139,13 @@ impl<O: Offset> MutableUtf8Array<O> {
         Ok(as_texts(item))
     }
 
-    /// Returns the array of the items of an iterator that ends, in its order, of the logical type of texts. Does not
-    /// read its size hint.
+    /// Returns an array of the items of an iterator, in their order, of the default logical type of texts. Requires
+    /// that the iterator ends. Does not read its size hint.
     ///
     /// # Errors
     ///
-    /// `Overflow` only where the bytes of the items pass `O::MAX`, or there are more items than `usize::MAX`; else
-    /// `OutOfMemory` alone.
+    /// `Overflow` or `OutOfMemory`. `Overflow` is possible only if the iterator may yield items that together have more
+    /// than `O::MAX` bytes, or more than `usize::MAX` items.
     pub fn try_from_iter<'a, I: IntoIterator<Item = Option<&'a str>>>(
         alloc: Global,
         iter: I,
@@ -150,7 +155,7 @@ impl<O: Offset> MutableUtf8Array<O> {
         ensures items { IfOk result (λ a. (it : I.IntoIter) × I.into_iter_gives iter it
             × WholeRun I.IntoIter.next_gives it (λ p. a.items ≡ items_by_bytes p.items)) }
         ensures data_type { IfOk result (λ a. a.data_type ≡ default_text O.IS_LARGE) }
-        // It comes only where a run may have too many.
+        // `Overflow` comes only where a run may have too many items or bytes.
         ensures overflow { IsErrOf result Error.Overflow →
             (it : I.IntoIter) × I.into_iter_gives iter it × MayYieldPastOffset O.MAX I.IntoIter.next_gives it }
         ensures only { IfErr result (λ e. (e ≡ Error.Overflow) ⊎ (e ≡ Error.OutOfMemory)) }
@@ -209,18 +214,19 @@ impl<O: Offset> MutableUtf8Array<O> {
         self.len() == 0
     }
 
-    /// Reserves capacity for more items and bytes. Within both capacities it does not allocate.
+    /// Reserves capacity for `additional` more items and `bytes` more bytes. Within both capacities it does not
+    /// allocate.
     ///
     /// # Errors
     ///
-    /// `Overflow` exactly where the length and `additional` pass `usize::MAX` together, else `OutOfMemory` alone. After
-    /// both the array holds the items that it held.
+    /// `Overflow` exactly where the sum of the length and `additional` passes `usize::MAX`, else `OutOfMemory` alone.
+    /// After either error, the array holds the items that it held.
     pub fn reserve(&mut self, additional: usize, bytes: usize) -> Result<()>
         // The array stays.
         ensures items { self.new.items ≡ self.old.items }
         ensures bytes { self.new.bytes ≡ self.old.bytes }
         ensures data_type { self.new.data_type ≡ self.old.data_type }
-        // With `Ok` `additional` more items and `bytes` more bytes fit.
+        // After `Ok`, `additional` more items and `bytes` more bytes fit.
         ensures ok { OnOk result (length self.old.items + additional ≤ self.new.capacity) }
         ensures ok_bytes { OnOk result (self.old.bytes + bytes ≤ self.new.byte_capacity) }
         // When each error comes, and when none does.
@@ -241,7 +247,7 @@ impl<O: Offset> MutableUtf8Array<O> {
     /// # Errors
     ///
     /// `Overflow` exactly where the last offset would pass `O::MAX`, or the length is `usize::MAX`; else `OutOfMemory`
-    /// alone. After either the array holds the items that it held.
+    /// alone. After either error, the array holds the items that it held.
     pub fn push(&mut self, item: Option<&str>) -> Result<()>
         ensures { AppendsBinary O.MAX result self.old self.new (option_copied item.entry ∷ [])
             (option_map_or length (option_copied item.entry) 0) }
@@ -252,12 +258,12 @@ impl<O: Offset> MutableUtf8Array<O> {
         }
     }
 
-    /// Appends a null, as [`MutableUtf8Array::push`] of `None`. Within the capacity it does not allocate.
+    /// Appends a null, as [`MutableUtf8Array::push`] of `None`. Within both capacities it does not allocate.
     ///
     /// # Errors
     ///
-    /// `Overflow` exactly where the length is `usize::MAX`, else `OutOfMemory` alone. After either the array holds the
-    /// items that it held.
+    /// `Overflow` exactly where the length is `usize::MAX` (an array holds at most `O::MAX` bytes, which no clause
+    /// states), else `OutOfMemory` alone. After either error, the array holds the items that it held.
     pub fn push_null(&mut self) -> Result<()>
         ensures { AppendsBinary O.MAX result self.old self.new (None ∷ []) 0 }
     {
@@ -271,15 +277,16 @@ impl<O: Offset> MutableUtf8Array<O> {
         self.slots.push(text.as_bytes(), valid)
     }
 
-    /// Appends the `len` items of an array from item `start` on, with the bytes of null slots. Requires that they are
-    /// inside. Within both capacities it does not allocate.
+    /// Appends `len` items of `array` from item `start` on. The bytes under nulls are copied too: contracts state their
+    /// number. Requires that `start + len` is at most the length of `array`. Within both capacities it does not
+    /// allocate.
     ///
-    /// arrow2 has it in `growable`.
+    /// In arrow2 this call is in `growable`.
     ///
     /// # Errors
     ///
-    /// `Overflow` exactly where the last offset would pass `O::MAX`, or the new length `usize::MAX`; else `OutOfMemory`
-    /// alone. After either the array holds the items that it held.
+    /// `Overflow` exactly where the last offset would pass `O::MAX`, or the new length would pass `usize::MAX`; else
+    /// `OutOfMemory` alone. After either error, the array holds the items that it held.
     pub fn extend_from_array(
         &mut self,
         array: &Utf8Array<O>,
@@ -296,7 +303,8 @@ impl<O: Offset> MutableUtf8Array<O> {
         self.slots.extend(slots, start, len)
     }
 
-    /// Returns the array of the items, with no test of them. It has no bitmap where none is null.
+    /// Returns the array of the items, and does not test them for UTF-8 again. The array has a validity bitmap exactly
+    /// if an item is null.
     ///
     /// # Errors
     ///
@@ -315,7 +323,7 @@ impl<O: Offset> MutableUtf8Array<O> {
     }
 }
 
-/// Returns the text of the bytes that were taken off. Requires that they are UTF-8.
+/// Returns the removed item, with its bytes as a text. Requires that the bytes are UTF-8.
 fn as_texts(item: Option<Option<Vec<u8>>>) -> Option<Option<String>>
     requires { IfSome item (λ slot. IfSome slot (λ bytes. IsUtf8 bytes.items)) }
     ensures { option_map (option_map string_bytes) result

@@ -1,4 +1,4 @@
-//! How parts that are no array are refused.
+//! Checks of the parts of an array, and the errors for parts that do not fit.
 ghost use Rattle.std.specs.Prelude.{◌≡◌, ◌<◌, ◌≤◌, ◌↔◌, length, IfOk, IsOk, IsTrue};
 ghost use Rattle.arrow2_model.specs.Buffers.{buffer_items};
 ghost use Rattle.arrow2_offset.specs.Offsets.{last_of};
@@ -29,7 +29,7 @@ pub(crate) fn refusal(alloc: Global, words: &str) -> Error
     }
 }
 
-/// Returns an error for offsets whose last one is above the number of values.
+/// Returns an error exactly if the last offset is above the number of values.
 pub(crate) fn check_bounds<O: Offset>(
     alloc: Global,
     offsets: &OffsetsBuffer<O>,
@@ -44,7 +44,8 @@ pub(crate) fn check_bounds<O: Offset>(
     Ok(())
 }
 
-/// Refuses offsets the last of which is past the values, and values that are not UTF-8 between two offsets.
+/// Returns an error exactly if the last offset is past the values, or the values between two neighbouring offsets are
+/// not UTF-8.
 pub(crate) fn check_texts<O: Offset>(
     alloc: Global,
     offsets: &OffsetsBuffer<O>,
@@ -68,7 +69,7 @@ pub(crate) fn check_texts<O: Offset>(
     }
 }
 
-/// Refuses a logical type that is not laid out as byte strings are.
+/// Returns an error exactly if the physical type of `data_type` is not that of byte strings.
 pub(crate) fn check_binary_layout<O: Offset>(alloc: Global, data_type: &DataType) -> Result<()>
     ensures accepted { IsOk result ↔ (physical data_type.now ≡ binary_layout O.IS_LARGE) }
     ensures refused { FailsOnlyWith result other_binary_layout_message }
@@ -82,7 +83,7 @@ pub(crate) fn check_binary_layout<O: Offset>(alloc: Global, data_type: &DataType
     Ok(())
 }
 
-/// Refuses a logical type that is not laid out as texts are.
+/// Returns an error exactly if the physical type of `data_type` is not that of texts.
 pub(crate) fn check_text_layout<O: Offset>(alloc: Global, data_type: &DataType) -> Result<()>
     ensures accepted { IsOk result ↔ (physical data_type.now ≡ text_layout O.IS_LARGE) }
     ensures refused { FailsOnlyWith result other_text_layout_message }
@@ -96,7 +97,7 @@ pub(crate) fn check_text_layout<O: Offset>(alloc: Global, data_type: &DataType) 
     Ok(())
 }
 
-/// Returns the validity of the slots of these parts. Refuses parts that are no array of byte strings.
+/// Returns the validity of the slots of these parts, or an error for parts that are no array of byte strings.
 pub(crate) fn check_binary<O: Offset>(
     data_type: &DataType,
     offsets: &OffsetsBuffer<O>,
@@ -121,7 +122,7 @@ pub(crate) fn check_binary<O: Offset>(
     Ok(validity)
 }
 
-/// Returns the validity of the slots of these parts. Refuses parts that are no array of texts.
+/// Returns the validity of the slots of these parts, or an error for parts that are no array of texts.
 pub(crate) fn check_utf8<O: Offset>(
     data_type: &DataType,
     offsets: &OffsetsBuffer<O>,
@@ -148,7 +149,7 @@ pub(crate) fn check_utf8<O: Offset>(
     Ok(validity)
 }
 
-/// Returns whether this is how byte strings are laid out.
+/// Returns whether this is the layout of byte strings: with 64-bit offsets if `large`, else with 32-bit offsets.
 fn is_binary(layout: PhysicalType, large: bool) -> bool
     ensures { IsTrue result ↔ (layout ≡ binary_layout large) }
 {
@@ -159,7 +160,7 @@ fn is_binary(layout: PhysicalType, large: bool) -> bool
     }
 }
 
-/// Returns whether this is how texts are laid out.
+/// Returns whether this is the layout of texts: with 64-bit offsets if `large`, else with 32-bit offsets.
 fn is_text(layout: PhysicalType, large: bool) -> bool
     ensures { IsTrue result ↔ (layout ≡ text_layout large) }
 {
@@ -170,7 +171,7 @@ fn is_text(layout: PhysicalType, large: bool) -> bool
     }
 }
 
-/// Returns the logical type of byte strings.
+/// Returns the default logical type of byte strings.
 pub(crate) fn binary_type<O: Offset>() -> DataType
     ensures value { result ≡ default_binary O.IS_LARGE }
     ensures layout { physical result ≡ binary_layout O.IS_LARGE }
@@ -182,7 +183,7 @@ pub(crate) fn binary_type<O: Offset>() -> DataType
     }
 }
 
-/// Returns the logical type of texts.
+/// Returns the default logical type of texts.
 pub(crate) fn text_type<O: Offset>() -> DataType
     ensures value { result ≡ default_text O.IS_LARGE }
     ensures layout { physical result ≡ text_layout O.IS_LARGE }

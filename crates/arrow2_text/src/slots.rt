@@ -133,7 +133,7 @@ impl<O: Offset> Slots<O> {
         self.validity.null_count()
     }
 
-    /// Returns the bytes of a slot, which are those of the item where it is not null. Requires that it is one of them.
+    /// Returns the bytes of slot `index`, also under a null. Requires that `index` is below the number of slots.
     pub(crate) fn value(&self, index: usize) -> &[u8]
         requires below { index < length (binary_items self.now) }
         ensures value { result.now ≡ slice_index_or (binary_values self.now) index [] }
@@ -145,7 +145,7 @@ impl<O: Offset> Slots<O> {
         self.bytes_at(index)
     }
 
-    /// Returns the bytes of a slot. Requires that it is one of them.
+    /// Returns the bytes of slot `index`. Requires that `index` is below the number of slots.
     fn bytes_at(&self, index: usize) -> &[u8]
         requires below { index < length (binary_items self.now) }
         ensures { result.now ≡ slice_index_or (binary_values self.now) index [] }
@@ -165,7 +165,8 @@ impl<O: Offset> Slots<O> {
         self.offsets.start_end(index).0
     }
 
-    /// Returns the bytes of `len` slots from slot `start` on. Requires that they are inside.
+    /// Returns the bytes of the `len` slots from slot `start` on. Requires that `start + len` is at most the number of
+    /// slots.
     pub(crate) fn bytes_of(&self, start: usize, len: usize) -> &[u8]
         requires inside { start + len ≤ length (binary_items self.now) }
         ensures bytes { result.now ≡ part (buffer_items self.now.values)
@@ -179,7 +180,7 @@ impl<O: Offset> Slots<O> {
         &self.values.as_slice()[from..to]
     }
 
-    /// Returns whether a slot is not null. Requires that it is one of them.
+    /// Returns whether slot `index` is not null. Requires that `index` is below the number of slots.
     pub(crate) fn is_valid(&self, index: usize) -> bool
         requires below { index < length (binary_items self.now) }
         ensures { result ≡ is_some (slice_index_or (binary_items self.now) index None) }
@@ -187,7 +188,7 @@ impl<O: Offset> Slots<O> {
         self.validity.is_valid(index)
     }
 
-    /// Keeps `len` slots from slot `start` on. Requires that they are inside.
+    /// Keeps `len` slots from slot `start` on. Requires that `start + len` is at most the number of slots.
     pub(crate) fn slice(&mut self, start: usize, len: usize)
         requires inside { start + len ≤ length (binary_items self.old) }
         ensures items { binary_items self.new ≡ part (binary_items self.old) start len }
@@ -198,7 +199,8 @@ impl<O: Offset> Slots<O> {
         self.validity.slice(start, len);
     }
 
-    /// Returns the bytes of a slot, or `None` where it is null. Requires that it is one of them.
+    /// Returns the bytes of slot `index`, or `None` where it is null. Requires that `index` is below the number of
+    /// slots.
     fn get(&self, index: usize) -> Option<&[u8]>
         requires below { index < length (binary_items self.now) }
         ensures { option_copied result ≡ slice_index_or (binary_items self.now) index None }
@@ -207,7 +209,7 @@ impl<O: Offset> Slots<O> {
         self.is_valid(index).then_some(value)
     }
 
-    /// Returns whether both have the same items, whatever stands under nulls.
+    /// Returns whether both have the same items, whatever bytes are stored under nulls.
     pub(crate) fn same_items(&self, other: &Slots<O>) -> bool
         ensures { Decides result (binary_items self.now ≡ binary_items other.now) }
     {
@@ -223,8 +225,9 @@ impl<O: Offset> Slots<O> {
         true
     }
 
-    /// Returns `Right` with slots that grow over the same storage, if nobody else shares it and nothing is sliced off;
-    /// else `Left` with the slots as they were. Allocates a bitmap where there is none.
+    /// Returns `Right` of slots that grow over the same storage, if the storage has no other owner, the offsets and the
+    /// bytes are not sliced, the offsets begin at 0 and end after the last byte, and the bitmap begins at bit 0. Else
+    /// returns `Left` of the slots as they were. Where there is no bitmap, `Right` has a new one.
     pub(crate) fn into_mut(self) -> Result<Either<Slots<O>, Growing<O>>>
         ensures ok { IfOk result (λ r. MatchEither r (λ s. s ≡ self) (λ g.
             (g.values ≡ binary_values self) × (g.valid ≡ valid_items self.validity)
@@ -262,7 +265,7 @@ impl<O: Offset> Slots<O> {
     }
 }
 
-/// Returns whether two items are the same: both null, or of the same bytes.
+/// Returns whether two items are the same: both are null, or both have the same bytes.
 fn same_item(item: Option<&[u8]>, other: Option<&[u8]>) -> bool
     ensures { Decides result (option_copied item.entry ≡ option_copied other.entry) }
 {
@@ -273,8 +276,10 @@ fn same_item(item: Option<&[u8]>, other: Option<&[u8]>) -> bool
     }
 }
 
-/// Returns the slots of these parts as they grow, where nobody else shares the bytes and the bitmap, and none of the
-/// bytes is sliced off; else the slots. Requires that the offsets begin at 0 and end after the last byte.
+/// Returns `Right` of slots that grow over these parts, if the bytes and the bitmap have no other owner, the bytes are
+/// not sliced, and the bitmap begins at bit 0. Else returns `Left` of the slots of these parts. Where there is no
+/// bitmap, `Right` has a new one. Requires that the offsets begin at 0 and end after the last byte, and that the
+/// validity has an item for each slot.
 fn thawed<O: Offset>(
     data_type: Rc<DataType>,
     offsets: Offsets<O>,
@@ -317,7 +322,7 @@ fn thawed<O: Offset>(
     }
 }
 
-/// Shares all parts. Does not allocate: it is refused only where a count of owners is full.
+/// Shares all parts. Does not allocate: in the code it fails only if the reference count of an `Rc` would overflow.
 impl<O: Offset> Clone for Slots<O> {
     ghost is_clone = { λ a copy. copy ≡ a };
 

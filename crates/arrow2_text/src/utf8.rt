@@ -32,11 +32,11 @@ use std::marker::Model;
 use std::rc::Rc;
 use std::str;
 
-/// An array of texts, each of which may be null, by offsets into one buffer of bytes. Each slot is UTF-8, also under a
-/// null.
+/// An array of texts, each of which may be null: offsets cut one buffer of bytes into slots. Each slot is UTF-8, also
+/// under a null.
 ///
-/// Contracts see its logical type, its offsets, its bytes and its validity; `binary_items` is the list of its items,
-/// each the list of its bytes. Slices and clones share all four.
+/// Contracts see its logical type, its offsets, its bytes and its validity. Slices and clones share all four.
+/// `binary_items` is the list of its items, in which an item is a list of bytes or null.
 ///
 /// Differs from arrow2: the logical type is shared by an `Rc`, so that a clone does not allocate. An array is not
 /// `Send`, there is no trait `Array`, and `for item in array.iter()` stands for `for item in &array`.
@@ -78,15 +78,20 @@ impl<O: Offset> Model for Utf8Array<O> {
 }
 
 impl<O: Offset> Utf8Array<O> {
-    /// Returns the array of its parts: slot i is the text from offset i to offset i + 1, and null where bit i of the
-    /// validity is unset. Without a validity no slot is null.
+    /// Returns the array of these parts: slot i is the text from offset i to offset i + 1, and is null where bit i of
+    /// the validity is unset. Without a validity no slot is null.
     ///
     /// # Errors
     ///
-    /// `InvalidArgumentError`, or `OutOfMemory` if its message cannot be allocated, exactly if the last offset is past
-    /// the values, or else if a slot is not UTF-8, also under a null or where it begins inside a character, or else if
-    /// the validity has another length than there are slots, or else if the physical type of `data_type` is not `Utf8`,
-    /// or `LargeUtf8` where `O` has 64 bits. Of parts that fit, `OutOfMemory` alone. The parts are then dropped.
+    /// `InvalidArgumentError`, or `OutOfMemory` if its message cannot be allocated, exactly if one of these holds. The
+    /// message is that of the first that holds:
+    ///
+    /// - the last offset is past the values;
+    /// - a slot is not UTF-8: also a slot under a null, and a slot that begins inside a character;
+    /// - the validity has another length than the number of slots;
+    /// - the physical type of `data_type` is not that of texts: `Utf8`, or `LargeUtf8` where `O` has 64 bits.
+    ///
+    /// Otherwise the only error is `OutOfMemory`. After an error the parts are dropped.
     pub fn try_new(
         data_type: DataType,
         offsets: OffsetsBuffer<O>,
@@ -110,10 +115,10 @@ impl<O: Offset> Utf8Array<O> {
         })
     }
 
-    /// Returns the array of its parts: slot i is the text from offset i to offset i + 1, and null where bit i of the
-    /// validity is unset. Without a validity no slot is null. Requires that the physical type of `data_type` is `Utf8`,
-    /// or `LargeUtf8` where `O` has 64 bits, that each slot is within the values and UTF-8, and that the validity has a
-    /// bit for each slot. Does not allocate.
+    /// Returns the array of these parts: slot i is the text from offset i to offset i + 1, and is null where bit i of
+    /// the validity is unset. Without a validity no slot is null. Requires that the physical type of `data_type` is
+    /// `Utf8`, or `LargeUtf8` where `O` has 64 bits, that each slot is within the values and UTF-8, and that the
+    /// validity, if there is one, has a bit for each slot. Does not allocate.
     pub fn new(
         data_type: Rc<DataType>,
         offsets: OffsetsBuffer<O>,
@@ -131,7 +136,7 @@ impl<O: Offset> Utf8Array<O> {
         }
     }
 
-    /// Returns the array of these slots. Requires that their logical type is one of texts, and that each is UTF-8.
+    /// Returns the array of these slots. Requires that the physical type is one of texts, and that each slot is UTF-8.
     pub(crate) fn of_slots(slots: Slots<O>) -> Utf8Array<O>
         requires layout { physical slots.data_type ≡ text_layout O.IS_LARGE }
         requires texts { AreTexts (buffer_items slots.offsets) (buffer_items slots.values) }
@@ -148,7 +153,7 @@ impl<O: Offset> Utf8Array<O> {
         &self.slots
     }
 
-    /// Returns the logical type of texts: `Utf8`, or `LargeUtf8` where `O` has 64 bits.
+    /// Returns the default logical type of texts: `Utf8`, or `LargeUtf8` where `O` has 64 bits.
     pub fn default_data_type() -> DataType
         ensures value { result ≡ default_text O.IS_LARGE }
         ensures layout { physical result ≡ text_layout O.IS_LARGE }
@@ -156,11 +161,11 @@ impl<O: Offset> Utf8Array<O> {
         text_type::<O>()
     }
 
-    /// Returns the array of a copy of these texts, none of which is null.
+    /// Returns an array of a copy of these texts. No item is null.
     ///
     /// # Errors
     ///
-    /// `Overflow` only where their bytes pass `O::MAX`, else `OutOfMemory` alone.
+    /// `Overflow` or `OutOfMemory`. `Overflow` is possible only if the items together have more than `O::MAX` bytes.
     pub fn from_slice(alloc: Global, values: &[&str]) -> Result<Utf8Array<O>>
         ensures items { IfOk result (λ a. binary_items a ≡ map (λ value. Some value.now) values.entry.now) }
         ensures data_type { IfOk result (λ a. a.data_type ≡ default_text O.IS_LARGE) }
@@ -175,13 +180,13 @@ impl<O: Offset> Utf8Array<O> {
         array.freeze()
     }
 
-    /// Returns the array of a copy of these items. It has a validity bitmap exactly where an item is null.
+    /// Returns an array of a copy of these items. The array has a validity bitmap exactly if an item is null.
     ///
     /// Stands for arrow2's `From` of a slice.
     ///
     /// # Errors
     ///
-    /// `Overflow` only where their bytes pass `O::MAX`, else `OutOfMemory` alone.
+    /// `Overflow` or `OutOfMemory`. `Overflow` is possible only if the items together have more than `O::MAX` bytes.
     pub fn from_options(alloc: Global, items: &[Option<&str>]) -> Result<Utf8Array<O>>
         ensures items { IfOk result (λ a. binary_items a ≡ items_by_bytes items.entry.now) }
         ensures data_type { IfOk result (λ a. a.data_type ≡ default_text O.IS_LARGE) }
@@ -205,7 +210,8 @@ impl<O: Offset> Utf8Array<O> {
         self.slots.data_type()
     }
 
-    /// Returns the offsets: where the bytes of each slot begin, and where the last ones end.
+    /// Returns the offsets: for each slot the index of its first byte, and then the index after the last byte of the
+    /// last slot.
     pub fn offsets(&self) -> &OffsetsBuffer<O>
         ensures value { result.now ≡ self.now.offsets }
         ensures slots { slots_between result.now ≡ length (binary_items self.now) }
@@ -213,7 +219,7 @@ impl<O: Offset> Utf8Array<O> {
         self.slots.offsets()
     }
 
-    /// Returns the bytes, those outside the offsets too.
+    /// Returns the bytes, including bytes before the first offset or after the last one.
     pub fn values(&self) -> &Buffer<u8>
         ensures value { result.now ≡ self.now.values }
         ensures texts { AreTexts (buffer_items self.now.offsets) (buffer_items result.now) }
@@ -238,14 +244,14 @@ impl<O: Offset> Utf8Array<O> {
         self.len() == 0
     }
 
-    /// Returns the number of nulls. The validity keeps it, so nothing is counted.
+    /// Returns the number of nulls. The validity stores this number, so no bits are counted.
     pub fn null_count(&self) -> usize
         ensures { result ≡ count_by is_none (binary_items self.now) }
     {
         self.slots.null_count()
     }
 
-    /// Returns the text of item `index`, or `None` where it is null. Requires that it is below the length.
+    /// Returns the text of item `index`, or `None` where it is null. Requires that `index` is below the length.
     pub fn get(&self, index: usize) -> Option<&str>
         requires below { index < length (binary_items self.now) }
         ensures { option_copied result ≡ slice_index_or (binary_items self.now) index None }
@@ -254,7 +260,7 @@ impl<O: Offset> Utf8Array<O> {
         self.is_valid(index).then_some(value)
     }
 
-    /// Returns the text of slot `index`, also under a null. Requires that it is below the length.
+    /// Returns the text of slot `index`, also under a null. Requires that `index` is below the length.
     pub fn value(&self, index: usize) -> &str
         requires below { index < length (binary_items self.now) }
         ensures value { result.now ≡ slice_index_or (binary_values self.now) index [] }
@@ -266,7 +272,7 @@ impl<O: Offset> Utf8Array<O> {
         unsafe { str::from_utf8_unchecked(bytes) }
     }
 
-    /// Returns whether item `index` is not null. Requires that it is below the length.
+    /// Returns whether item `index` is not null. Requires that `index` is below the length.
     pub fn is_valid(&self, index: usize) -> bool
         requires below { index < length (binary_items self.now) }
         ensures { result ≡ is_some (slice_index_or (binary_items self.now) index None) }
@@ -274,7 +280,7 @@ impl<O: Offset> Utf8Array<O> {
         self.slots.is_valid(index)
     }
 
-    /// Returns whether item `index` is null. Requires that it is below the length.
+    /// Returns whether item `index` is null. Requires that `index` is below the length.
     #[tactic(auto, using(arrow2_validity::proofs::Slots::arrays))]
     pub fn is_null(&self, index: usize) -> bool
         requires below { index < length (binary_items self.now) }
@@ -283,7 +289,7 @@ impl<O: Offset> Utf8Array<O> {
         !self.slots.is_valid(index)
     }
 
-    /// Returns the validity bitmap. Where there is none, no item is null.
+    /// Returns the validity bitmap, or `None` if there is none. No item is null then.
     pub fn validity(&self) -> Option<&Bitmap>
         ensures value { option_map (λ b. b.now) result ≡ self.now.validity.bitmap }
         ensures items { MatchOption result
@@ -293,8 +299,8 @@ impl<O: Offset> Utf8Array<O> {
         self.optional_validity().bitmap()
     }
 
-    /// Returns the [`Validity`]: the array's length and an optional bitmap. Its calls need no branch on whether there
-    /// is a bitmap.
+    /// Returns the [`Validity`]: the array's length and an optional bitmap. Its methods work with and without a bitmap,
+    /// so that a caller needs no branch.
     pub fn optional_validity(&self) -> &Validity
         ensures value { result.now ≡ self.now.validity }
         ensures len { length (valid_items result.now) ≡ length (binary_items self.now) }
@@ -311,8 +317,8 @@ impl<O: Offset> Utf8Array<O> {
         Utf8Iter::new(self)
     }
 
-    /// Keeps `len` items from item `offset` on, over the same storage. Requires that they are inside. Does not
-    /// allocate.
+    /// Keeps `len` items from item `offset` on, over the same storage. Requires that `offset + len` is at most the
+    /// length. Does not allocate.
     pub fn slice(&mut self, offset: usize, len: usize)
         requires inside { offset + len ≤ length (binary_items self.old) }
         ensures items { binary_items self.new ≡ part (binary_items self.old) offset len }
@@ -324,8 +330,8 @@ impl<O: Offset> Utf8Array<O> {
         let _ = self.slots.values();
     }
 
-    /// Returns the `len` items from item `offset` on, over the same storage. Requires that they are inside. Does not
-    /// allocate.
+    /// Returns the `len` items from item `offset` on, over the same storage. Requires that `offset + len` is at most
+    /// the length. Does not allocate.
     pub fn sliced(mut self, offset: usize, len: usize) -> Utf8Array<O>
         requires inside { offset + len ≤ length (binary_items self) }
         ensures items { binary_items result ≡ part (binary_items self) offset len }
@@ -336,8 +342,8 @@ impl<O: Offset> Utf8Array<O> {
         self
     }
 
-    /// Returns the array of the same slots with another validity. Requires that it has a bit for each slot. Does not
-    /// allocate.
+    /// Returns the array of the same slots with this validity in place of its own. Requires that the validity, if there
+    /// is one, has a bit for each slot. Does not allocate.
     pub fn with_validity(self, validity: Option<Bitmap>) -> Utf8Array<O>
         requires same_length { HasBitPerSlot self.offsets validity }
         ensures { result ≡ binary_of self.data_type self.offsets self.values validity }
@@ -361,7 +367,7 @@ impl<O: Offset> Utf8Array<O> {
     }
 
     /// Returns a `BinaryArray` of the same slots over the same storage. Its logical type is `Binary`, or `LargeBinary`
-    /// where `O` has 64 bits. arrow2 has [`Utf8Array::to_binary`] alone.
+    /// where `O` has 64 bits. arrow2 has `to_binary` alone.
     ///
     /// # Errors
     ///
@@ -373,11 +379,17 @@ impl<O: Offset> Utf8Array<O> {
         to_byte_strings(self.slots)
     }
 
-    /// Returns `Right` of an array that grows, without a copy, if offsets, bytes and bitmap have no other owner,
-    /// offsets and bytes are not sliced, the offsets begin at 0 and end after the last byte, and the bitmap begins at
-    /// bit 0; else `Left` of the array as it was. Where there is no bitmap it makes one.
+    /// Returns `Right` of an array that grows over the same storage, if all of these hold; else `Left` of the array as
+    /// it was:
     ///
-    /// Proved: `Left` has the whole array, `Right` its items and its logical type. Not proved: when `Right` comes.
+    /// - the offsets have no other owner, are not sliced, begin at 0, and end after the last byte;
+    /// - the bytes have no other owner, and are not sliced;
+    /// - the bitmap has no other owner, and begins at bit 0; or there is no bitmap.
+    ///
+    /// Where there is no bitmap, `Right` has a new one whose items are all true.
+    ///
+    /// Proved: `Left` has the array as it was, and `Right` has its items and its logical type. Not proved: when `Right`
+    /// comes.
     ///
     /// Differs from arrow2, whose array that grows needs no bitmap where no item is null.
     ///
@@ -414,7 +426,7 @@ impl<O: Offset> Utf8Array<O> {
 }
 
 /// Shares the logical type, the offsets, the bytes and the validity. Does not allocate: in the code it fails only if
-/// the count of an `Rc` would overflow. No clause states that.
+/// the reference count of an `Rc` would overflow. No clause states that.
 impl<O: Offset> Clone for Utf8Array<O> {
     ghost is_clone = { λ a copy. copy ≡ a };
 

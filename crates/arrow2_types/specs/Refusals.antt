@@ -1,17 +1,17 @@
--- Which error a call refuses by.
+-- Which error a call returns.
 use Rattle.std.specs.Prelude.{◌≡◌, ℕ, List, string_bytes}
 use Rattle.arrow2_types.specs.declared.error.Error.{Error}
 use Rattle.arrow2_types.specs.declared.error.Error.TheVariants.{InvalidArgumentError, Overflow, OutOfMemory}
 use Rattle.arrow2_types.specs.declared.growth_error.GrowthError.{GrowthError}
 use Rattle.arrow2_types.specs.declared.growth_error.GrowthError.TheVariants as growth_error
 
--- an invalid argument, in these words; or out of memory, where the allocation of the words fails
+-- an invalid argument with this message; or out of memory, where the message cannot be allocated
 abbrev pub IsInvalidArgumentOrOutOfMemory : Error → List ℕ → Type 0
 IsInvalidArgumentOrOutOfMemory (InvalidArgumentError text) words = string_bytes text ≡ words
 IsInvalidArgumentOrOutOfMemory OutOfMemory words = Unit {0}
 IsInvalidArgumentOrOutOfMemory _ words = ⊥
 
--- the error that a refused growth becomes
+-- the `Error` that a `GrowthError` becomes
 abbrev pub error_of : GrowthError → Error
 error_of growth_error.Overflow = Overflow
 error_of growth_error.OutOfMemory = OutOfMemory

@@ -1,7 +1,7 @@
 //! Arrays of bytes, made from slices.
 ghost use Rattle.std.specs.Prelude.{◌≡◌, ◌+◌, ◌++◌, length};
 
-/// Returns the bytes as an array. Requires `N` bytes.
+/// Returns the bytes as an array. Requires exactly `N` bytes.
 pub fn array_of<const N: usize>(bytes: &[u8]) -> [u8; N]
     requires { length bytes.now ≡ N }
     ensures { result ≡ bytes.now }
@@ -11,7 +11,7 @@ pub fn array_of<const N: usize>(bytes: &[u8]) -> [u8; N]
     array
 }
 
-/// Returns the bytes of `front` and then those of `back`. Requires that they are `N` together.
+/// Returns the bytes of `front`, followed by those of `back`. Requires exactly `N` bytes in both together.
 pub fn join<const N: usize>(front: &[u8], back: &[u8]) -> [u8; N]
     requires { length front.now + length back.now ≡ N }
     ensures { result ≡ front.now ++ back.now }

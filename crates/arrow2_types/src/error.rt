@@ -24,7 +24,7 @@ pub enum Error {
     InvalidArgumentError(String),
     /// A file or a message is not in its format.
     ExternalFormat(String),
-    /// A length, a count or an offset would pass the greatest number of its type.
+    /// A length, a count or an offset would exceed the greatest number of its type.
     Overflow,
     /// An input does not follow the Arrow specification.
     OutOfSpec(String),
@@ -42,7 +42,7 @@ impl Error {
     /// Returns `External` with an empty message and the text that `error` prints, or `OutOfMemory` where the allocation
     /// of that text fails.
     ///
-    /// Differs from arrow2: `error` need only print, and only its text is kept.
+    /// Differs from arrow2: `error` needs to implement `Display` alone, and only its text is kept.
     pub fn from_external_error<E: fmt::Display>(alloc: Global, error: &E) -> Error
         ensures { WrapsText result
             (λ text. IfSome (E.output error.now) (λ printed. text ≡ printed)) }
@@ -53,7 +53,7 @@ impl Error {
         }
     }
 
-    /// Returns the same for the error that std has for bytes that are no text.
+    /// Returns the same as [`Error::from_external_error`] for std's error of bytes that are not UTF-8.
     pub fn from_utf8_error(alloc: Global, error: Utf8Error) -> Error
         ensures { WrapsText result (λ text.
             IfSome (⟦<Utf8Error as fmt::Display>⟧.output error) (λ printed. text ≡ printed)) }
@@ -61,7 +61,7 @@ impl Error {
         Error::from_external_error::<Utf8Error>(alloc, &error)
     }
 
-    /// Returns the same for the error that holds the bytes. They are dropped.
+    /// Returns the same as [`Error::from_external_error`] for std's error that also holds the bytes. Drops these bytes.
     pub fn from_string_utf8_error(alloc: Global, error: FromUtf8Error) -> Error
         ensures { WrapsText result (λ text.
             IfSome (⟦<FromUtf8Error as fmt::Display>⟧.output error) (λ printed. text ≡ printed)) }
@@ -69,7 +69,7 @@ impl Error {
         Error::from_external_error::<FromUtf8Error>(alloc, &error)
     }
 
-    /// Returns the same for the error of the fast test for text.
+    /// Returns the same as [`Error::from_external_error`] for the error of simdutf8's UTF-8 validation.
     pub fn from_basic_utf8_error(alloc: Global, error: simdutf8::basic::Utf8Error) -> Error
         ensures { WrapsText result (λ text. text ≡ codes "invalid utf-8 sequence") }
     {
@@ -77,8 +77,9 @@ impl Error {
     }
 }
 
-/// Prints the name of the error's variant and its text. Nothing is promised for [`Error::Io`], since the standard
-/// library does not specify the texts of its own errors.
+/// Prints a phrase for the error's variant, followed by the error's text if it has one. [`Error::OutOfSpec`] prints its
+/// text alone. The text that [`Error::Io`] prints is not specified, since the standard library does not specify the
+/// texts of its own errors.
 impl fmt::Display for Error {
     ghost use Rattle.arrow2_types.specs.ErrorTexts.{error_text};
 
@@ -109,7 +110,7 @@ impl From<AllocError> for Error {
     }
 }
 
-/// The value that could not be stored is dropped. Does not allocate.
+/// Drops the value that could not be stored. Does not allocate.
 impl<T: Drop> From<AllocFailed<T>> for Error {
     ghost from_gives = { λ _ e. e ≡ OutOfMemory };
 

@@ -8,11 +8,11 @@ use std::alloc::{AllocError, AllocFailed};
 
 /// Why a value does not grow.
 ///
-/// It is one byte, where an [`Error`] is many: a call inside a loop returns it, so that no wide error is written at
-/// each item. The public call makes the [`Error`] of it. Not in arrow2.
+/// It takes one byte, and an [`Error`] takes many. Calls inside a loop return it, so that no [`Error`] is written for
+/// each item; the public call converts it to an [`Error`]. Not in arrow2.
 #[derive(Drop)]
 pub enum GrowthError {
-    /// A length, a count or an offset would pass the greatest number of its type.
+    /// A length, a count or an offset would exceed the greatest number of its type.
     Overflow,
     /// An allocation failed.
     OutOfMemory,
@@ -27,7 +27,7 @@ impl From<AllocError> for GrowthError {
     }
 }
 
-/// The value that could not be stored is dropped. Does not allocate.
+/// Drops the value that could not be stored. Does not allocate.
 impl<T: Drop> From<AllocFailed<T>> for GrowthError {
     ghost from_gives = { λ _ error. error ≡ OutOfMemory };
 

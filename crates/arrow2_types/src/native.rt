@@ -10,11 +10,10 @@ use crate::primitive::PrimitiveType;
 use std::convert::AsSlice;
 use std::fmt::Debug;
 
-/// A type whose values the layer's buffers hold. Each value has the same number of bytes, which are the digits of its
-/// value.
+/// A type of values that the layer's buffers hold. Each value has `SIZE` bytes.
 ///
-/// Differs from arrow2: `Bytes` is read as a slice and made of one by `bytes_of_slice`; `SIZE`, `from_le_slice`
-/// and `from_be_slice` are there for generic code too.
+/// Differs from arrow2: `Bytes` can be read as a slice, and `bytes_of_slice` makes it from a slice. `SIZE`,
+/// `from_le_slice` and `from_be_slice` are added for generic code.
 pub trait NativeType: Copy + Debug + PartialEq + Default {
     // The name of the type.
     ghost PRIMITIVE: { PrimitiveType };
@@ -22,12 +21,12 @@ pub trait NativeType: Copy + Debug + PartialEq + Default {
     // The number of bytes of a value.
     ghost SIZE: { ℕ };
 
-    // The digits of a value, as its bytes are in each of the two orders.
+    // The bytes of a value, in little-endian and in big-endian order.
     ghost le_digits: { Self → List ℕ };
 
     ghost be_digits: { Self → List ℕ };
 
-    // The value that bytes have in each of the two orders.
+    // The value that bytes have, in little-endian and in big-endian order.
     ghost of_le: { List ℕ → Self };
 
     ghost of_be: { List ℕ → Self };
@@ -61,18 +60,18 @@ pub trait NativeType: Copy + Debug + PartialEq + Default {
     fn from_be_bytes(bytes: Self::Bytes) -> Self
         ensures { result ≡ of_be (Self.Bytes.items bytes) };
 
-    /// Returns the array of these bytes, which generic code can hand to `from_le_bytes` or write to. Requires `SIZE`
-    /// bytes.
+    /// Returns these bytes as an array, which generic code can pass to `from_le_bytes` or write to. Requires exactly
+    /// `SIZE` bytes.
     fn bytes_of_slice(bytes: &[u8]) -> Self::Bytes
         requires { length bytes.now ≡ SIZE }
         ensures { Self.Bytes.items result ≡ bytes.now };
 
-    /// Returns the value whose bytes these are in little-endian order. Requires `SIZE` bytes.
+    /// Returns the value with these bytes in little-endian order. Requires exactly `SIZE` bytes.
     fn from_le_slice(bytes: &[u8]) -> Self
         requires { length bytes.now ≡ SIZE }
         ensures { result ≡ of_le bytes.now };
 
-    /// Returns the value whose bytes these are in big-endian order. Requires `SIZE` bytes.
+    /// Returns the value with these bytes in big-endian order. Requires exactly `SIZE` bytes.
     fn from_be_slice(bytes: &[u8]) -> Self
         requires { length bytes.now ≡ SIZE }
         ensures { result ≡ of_be bytes.now };

@@ -1,6 +1,6 @@
 //! The names of the native types.
 
-/// The native types, and the three floating-point types that have a name alone.
+/// The names of the native types, and of the three floating-point types, which do not implement `NativeType`.
 #[derive(Debug, Clone, Copy, PartialEq, Eq, Hash)]
 pub enum PrimitiveType {
     /// A signed integer of 8 bits.

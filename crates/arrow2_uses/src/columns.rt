@@ -20,11 +20,11 @@ use arrow2::error::{Error, Result};
 use arrow2::types::NativeType;
 use std::alloc::Global;
 
-/// Returns three prices, the second of which is not known.
+/// Returns three prices. The second one is null.
 ///
 /// # Errors
 ///
-/// `Overflow`, or `OutOfMemory`.
+/// `Overflow` or `OutOfMemory`.
 pub fn prices(alloc: Global) -> Result<PrimitiveArray<i64>>
     ensures ok { IfOk result (λ a.
         primitive_items a ≡ Some (pos 30) ∷ None ∷ Some (pos 50) ∷ []) }
@@ -88,7 +88,7 @@ pub fn above<T: NativeType + PartialOrd>(
     filter_by_array(column, &is_above)
 }
 
-/// Returns the sum of the items at these indices. Requires that each is below the length.
+/// Returns the sum of the items at these indices. Requires that each index is below the length.
 ///
 /// # Errors
 ///
@@ -144,7 +144,8 @@ pub fn push_row(
     prices.push(price)
 }
 
-/// Appends all rows of two other columns. After an error both hold the items that they held.
+/// Appends all rows of two other columns to two columns. After an error, both columns hold the items that they held.
+/// Does not test that the other columns have equal lengths.
 ///
 /// # Errors
 ///

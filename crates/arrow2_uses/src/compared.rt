@@ -8,7 +8,7 @@ use arrow2::bitmap::Bitmap;
 use arrow2::buffer::Buffer;
 use arrow2::error::{Error, Result};
 
-/// Returns which values are below a bound.
+/// Returns, for each value, whether it is below a bound.
 ///
 /// # Errors
 ///
@@ -25,7 +25,7 @@ pub fn below(values: &Buffer<i64>, bound: i64) -> Result<Bitmap>
     )
 }
 
-/// Returns which values are below those of another list at their index.
+/// Returns, for each value, whether it is below the bound at its index. Requires that both lists have equal lengths.
 ///
 /// # Errors
 ///

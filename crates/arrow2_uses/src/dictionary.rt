@@ -1,9 +1,10 @@
-//! A column of one's own: texts that repeat, each stored once, by two of arrow2's arrays.
-ghost use Rattle.std.specs.Prelude.{◌≡◌, ◌+◌, ◌<◌, ◌≤◌, ◌⊎◌, All, None, pos, length, map, slice_index_or, IfOk, IfErr};
+//! A column type of a caller's own, made of two of arrow2's arrays: texts that repeat, each stored once.
+ghost use Rattle.std.specs.Prelude.{◌≡◌, ◌↔◌, ◌+◌, ◌<◌, ◌≤◌, ◌⊎◌, All, None, codes, pos, length, map, slice_index_or, IfOk, IfErr, IsOk, IsTrue};
 ghost use Rattle.std.specs.Option.{option_copied};
 ghost use Rattle.arrow2.specs.Binary.{binary_items};
 ghost use Rattle.arrow2.specs.Parts.{part};
 ghost use Rattle.arrow2.specs.Primitive.{primitive_items};
+ghost use Rattle.arrow2.specs.Refusals.{IsInvalidArgumentOrOutOfMemory};
 ghost use Rattle.arrow2.specs.Selected.{selected};
 ghost use Rattle.arrow2.specs.Storage.{items_of};
 ghost use Rattle.arrow2.specs.Take.{IsInBoundsOrNull, item_at};
@@ -12,6 +13,7 @@ use arrow2::array::{MutableUtf8Array, PrimitiveArray, Utf8Array};
 use arrow2::bitmap::Bitmap;
 use arrow2::compute::filter::filter;
 use arrow2::error::{Error, Result};
+use std::alloc::Global;
 use std::marker::Model;
 
 /// Texts that repeat, each stored once: contracts see the list of the items, each `None` or the bytes of its text.
@@ -37,7 +39,7 @@ impl Model for Dictionary {
 
 #[tactic(auto, using(arrow2::proofs::Keys::keys))]
 impl Dictionary {
-    /// Returns the column of the texts at these keys, null where the key is. Requires that each key that is not null is
+    /// Returns the column of the texts at these keys, null where the key is null. Requires that each key is null or
     /// below the number of texts.
     pub fn new(keys: PrimitiveArray<u32>, texts: Utf8Array<i32>) -> Dictionary
         requires inside { All (IsInBoundsOrNull (λ key. pos key) (length (binary_items texts)))
@@ -47,6 +49,26 @@ impl Dictionary {
         Dictionary { keys, texts }
     }
 
+    /// Returns the column of the texts at these keys, null where the key is null.
+    ///
+    /// # Errors
+    ///
+    /// `InvalidArgumentError` exactly if a key is neither null nor below the number of texts, or `OutOfMemory` if its
+    /// message cannot be allocated. There is no other error.
+    pub fn try_new(keys: PrimitiveArray<u32>, texts: Utf8Array<i32>) -> Result<Dictionary>
+        ensures accepted { IsOk result ↔ All (IsInBoundsOrNull (λ key. pos key) (length (binary_items texts)))
+            (primitive_items keys) }
+        ensures ok { IfOk result (λ d. d
+            ≡ map (item_at (λ key. pos key) (binary_items texts)) (primitive_items keys)) }
+        ensures refused { IfErr result (λ e.
+            IsInvalidArgumentOrOutOfMemory e (codes "key out of bounds")) }
+    {
+        if !are_in_bounds(&keys, texts.len()) {
+            return Err(out_of_bounds(texts.values().allocator()));
+        }
+        Ok(Dictionary::new(keys, texts))
+    }
+
     /// Returns the number of items.
     pub fn len(&self) -> usize
         ensures { result ≡ length self.now }
@@ -54,7 +76,7 @@ impl Dictionary {
         self.keys.len()
     }
 
-    /// Returns item `index`, `None` where it is null. Requires that it is below the length.
+    /// Returns item `index`, or `None` where it is null. Requires that `index` is below the length.
     pub fn get(&self, index: usize) -> Option<&str>
         requires below { index < length self.now }
         ensures { option_copied result ≡ slice_index_or self.now index None }
@@ -62,7 +84,7 @@ impl Dictionary {
         text_at(&self.texts, self.keys.get(index))
     }
 
-    /// Keeps `len` items from item `offset` on. Requires that they are inside.
+    /// Keeps `len` items from item `offset` on. Requires that `offset + len` is at most the length.
     pub fn slice(&mut self, offset: usize, len: usize)
         requires inside { offset + len ≤ length self.old }
         ensures { self.new ≡ part self.old offset len }
@@ -70,7 +92,7 @@ impl Dictionary {
         self.keys.slice(offset, len);
     }
 
-    /// Returns the items at whose index the mask is true. Requires that the mask has as many items as the column.
+    /// Returns the items at whose index the mask is true. Requires that the mask has the length of the column.
     ///
     /// # Errors
     ///
@@ -102,7 +124,35 @@ impl Dictionary {
     }
 }
 
-/// Returns the text at a key, `None` where the key is null. Requires that it is below the number of texts.
+/// Returns whether each key is null or below `len`.
+fn are_in_bounds(keys: &PrimitiveArray<u32>, len: usize) -> bool
+    ensures { IsTrue result ↔ All (IsInBoundsOrNull (λ key. pos key) len) (primitive_items keys.now) }
+{
+    keys.iter().all(|key| is_in_bounds(key, len))
+}
+
+/// Returns whether a key is null or below `len`.
+fn is_in_bounds(key: Option<u32>, len: usize) -> bool
+    ensures { IsTrue result ↔ IsInBoundsOrNull (λ key. pos key) len key }
+{
+    match key {
+        Some(key) => (key as usize) < len,
+        None => true,
+    }
+}
+
+/// Returns the error that refuses a key.
+fn out_of_bounds(alloc: Global) -> Error
+    ensures { IsInvalidArgumentOrOutOfMemory result (codes "key out of bounds") }
+{
+    match String::from_str(alloc, "key out of bounds") {
+        Ok(message) => Error::InvalidArgumentError(message),
+        Err(_) => Error::OutOfMemory,
+    }
+}
+
+/// Returns the text at a key, or `None` where the key or the text is null. Requires that the key is null or below the
+/// number of texts.
 fn text_at(texts: &Utf8Array<i32>, key: Option<u32>) -> Option<&str>
     requires inside { IsInBoundsOrNull (λ key. pos key) (length (binary_items texts.now)) key }
     ensures { option_copied result ≡ item_at (λ key. pos key) (binary_items texts.now) key }

@@ -7,8 +7,8 @@ ghost use Rattle.arrow2.specs.Tables.{each};
 use arrow2::bitmap::{Bitmap, MutableBitmap, binary_assign_table, binary_table, unary};
 use arrow2::error::{Error, Result};
 
-/// Returns a bitmap that is true where the first is true and the second is false, by the truth table whose only set bit
-/// is that of the inputs true and false.
+/// Returns a bitmap that is true where `bitmap` is true and `other` is false. The truth table is the number 2 = 0b10:
+/// only bit 1 is set, the output where `bitmap` is true and `other` is false. Requires that both have equal lengths.
 ///
 /// # Errors
 ///
@@ -22,7 +22,8 @@ pub fn without(bitmap: &Bitmap, other: &Bitmap) -> Result<Bitmap>
     binary_table(bitmap, other, 2)
 }
 
-/// The same in place, which does not allocate.
+/// Makes each item of `bitmap` false where `other` is true, in place. Requires that both have equal lengths. Does not
+/// allocate.
 pub fn remove(bitmap: &mut MutableBitmap, other: &Bitmap)
     requires same_length { length bitmap.old.items ≡ length (items_of other.now) }
     ensures { bitmap.new.items ≡ each 2 (bitmap.old.items ∷ items_of other.now ∷ []) }
@@ -30,7 +31,8 @@ pub fn remove(bitmap: &mut MutableBitmap, other: &Bitmap)
     binary_assign_table::<u64>(bitmap, other, 2);
 }
 
-/// Returns the next number of each word of 64 items: a word function, which need not act bit by bit.
+/// Returns the bitmap whose words of 64 items are those of `bitmap` plus 1, modulo 2 ^ 64. A word function need not act
+/// bit by bit.
 ///
 /// # Errors
 ///

@@ -12,7 +12,7 @@ use arrow2::types::BitChunk;
 use std::alloc::Global;
 use std::convert::TryFrom;
 
-/// Returns each item inverted, one by one.
+/// Returns each item inverted, pushed one by one.
 ///
 /// # Errors
 ///
@@ -42,7 +42,7 @@ pub fn true_items(b: &Bitmap) -> usize
     total + last.ones_count()
 }
 
-/// Inverts the full words of the first `len` bits, in place. Requires that they are inside the bytes.
+/// Inverts the full words of the first `len` bits, in place. Requires that the bytes have at least `len` bits.
 pub fn invert_words(bytes: &mut [u8], len: usize)
     requires inside { len ≤ 8 * length bytes.old }
 {

@@ -1,4 +1,4 @@
-//! Values by the runs of those that are valid.
+//! Valid values, copied run by run.
 ghost use Rattle.std.specs.Prelude.{◌≡◌, length, IfOk, IfErr};
 ghost use Rattle.std.specs.List.{flat_map};
 ghost use Rattle.arrow2.specs.Parts.{part};
@@ -11,7 +11,7 @@ use arrow2::error::{Error, Result};
 use arrow2::laws;
 use std::alloc::Global;
 
-/// Returns the valid values in their order, copied run by run. Requires the validity of each value.
+/// Returns the valid values in their order, copied run by run. Requires that the validity has the length of the values.
 ///
 /// # Errors
 ///

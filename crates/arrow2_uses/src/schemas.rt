@@ -15,7 +15,7 @@ pub fn first_columns(schema: Schema, count: usize) -> Schema
     schema.filter(|position, _| position < count)
 }
 
-/// Returns the columns in which nulls may stand.
+/// Returns the columns that may have nulls.
 pub fn nullable_columns(schema: Schema) -> Schema
     ensures columns { result.fields.items ≡ accepted (λ _ field.
         field.is_nullable) schema.fields.items }
@@ -24,7 +24,7 @@ pub fn nullable_columns(schema: Schema) -> Schema
     schema.filter(|_, field| field.is_nullable)
 }
 
-/// Returns the columns at whose index the mask is true. Requires one item for each column.
+/// Returns the columns at whose index the mask is true. Requires that the mask has one item for each column.
 pub fn masked_columns(schema: Schema, mask: &[bool]) -> Schema
     requires same_length { length mask.now ≡ length schema.fields.items }
     ensures columns { result.fields.items ≡ accepted (λ position _.
@@ -34,7 +34,8 @@ pub fn masked_columns(schema: Schema, mask: &[bool]) -> Schema
     schema.filter(|position, _| mask[position])
 }
 
-/// Returns the layouts of a type and of all its extensions.
+/// Returns the layout of a type, taken from the type without its extensions: a law states that both have the same
+/// layout.
 pub fn layout(data_type: &datatypes::DataType) -> datatypes::PhysicalType
     ensures { result ≡ physical data_type.now }
 {

@@ -32,7 +32,7 @@ pub fn gather(alloc: Global, texts: &[&str]) -> Result<Utf8Array<i32>>
     Ok(gathered.freeze()?)
 }
 
-/// Returns how many bytes each text has, null where it is null.
+/// Returns the number of bytes of each text, null where the text is null.
 ///
 /// # Errors
 ///
@@ -49,7 +49,7 @@ pub fn lengths(alloc: Global, texts: &Utf8Array<i32>) -> Result<PrimitiveArray<u
     lengths.freeze()
 }
 
-/// Returns how many bytes a text has, or `None` where it is null.
+/// Returns the number of bytes of a text, or `None` where it is null.
 fn length_of(text: Option<&str>) -> Option<u64>
     ensures { result ≡ option_map (λ text. length text) (option_copied text.entry) }
 {
@@ -59,8 +59,8 @@ fn length_of(text: Option<&str>) -> Option<u64>
     }
 }
 
-/// The offsets cut a column of texts into lists. Returns the list at `index`, as a slice of the column over the same
-/// storage. Requires that there is such a list, and that the offsets stay inside the column.
+/// The offsets cut the column of texts into lists. Returns list `index`, as a slice of the column over the same
+/// storage. Requires that `index` is below the number of lists, and that no offset is above the length of the column.
 ///
 /// # Errors
 ///
@@ -82,7 +82,8 @@ pub fn list_at(
     Ok(texts.clone()?.sliced(start, end - start))
 }
 
-/// Returns the length of each text, or `None` where it is null. Requires a validity of one item for each text.
+/// Returns the number of bytes of each text, or `None` where it is null. Requires that the validity has one item for
+/// each text.
 ///
 /// # Errors
 ///

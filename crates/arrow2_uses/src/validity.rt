@@ -1,4 +1,4 @@
-//! Which values are there.
+//! Validity bitmaps.
 ghost use Rattle.std.specs.Prelude.{◌≡◌, ◌+◌, length, map, is_some, IfOk, IfErr, true, false, [], ◌∷◌};
 ghost use Rattle.arrow2.specs.Parts.{falses};
 ghost use Rattle.arrow2.specs.Storage.{items_of};
@@ -23,14 +23,14 @@ pub fn validity_of(alloc: Global, values: &[Option<i64>]) -> Result<Bitmap>
     Bitmap::try_from(validity)
 }
 
-/// Returns how many of the values are not null.
+/// Returns the number of values that are not null.
 pub fn valid_count(validity: &Bitmap) -> usize
     ensures { result + falses (items_of validity.now) ≡ length (items_of validity.now) }
 {
     validity.len() - validity.unset_bits()
 }
 
-/// Returns the nulls of both halves together, by a ruleset of counts.
+/// Returns the number of nulls, counted in both halves. A ruleset of counts proves that the sum is right.
 #[tactic(auto, using(arrow2::proofs::Rulesets::counting))]
 pub fn nulls_by_halves(validity: &Bitmap) -> usize
     ensures { result ≡ falses (items_of validity.now) }

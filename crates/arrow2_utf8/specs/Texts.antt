@@ -12,12 +12,12 @@ use Rattle.arrow2_utf8.specs.declared.specification.BrokenTextArray.TheVariants.
 abbrev pub slot_values : List ℤ → List ℕ → List (List ℕ)
 slot_values offsets values = cut (drop (start_of offsets) values) (lengths_of offsets)
 
--- no offset is past the values, and those of each slot are UTF-8
+-- no offset is past the values, and the values of each slot are UTF-8
 pub record AreTexts (offsets : List ℤ) (values : List ℕ) : Type 0 where
   pub inside : last_of offsets ≤ length values
   pub texts : All IsUtf8 (slot_values offsets values)
 
--- list k of bytes is no UTF-8, and each one before it is
+-- list k of bytes is the first that is not UTF-8
 pub record IsFirstNonUtf8 (texts : List (List ℕ)) (k : ℕ) : Type 0 where
   pub inside : k < length texts
   pub before : All IsUtf8 (take k texts)
@@ -28,7 +28,7 @@ abbrev pub ReportsBrokenTexts : List ℤ → List ℕ → BrokenTexts → Type 0
 ReportsBrokenTexts offsets values PastTheValues = length values < last_of offsets
 ReportsBrokenTexts offsets values (NotUtf8 k) = (last_of offsets ≤ length values) × IsFirstNonUtf8 (slot_values offsets values) k
 
--- the same of numbers that may be no offsets, which is the first fault
+-- the same for numbers that may not be offsets: where they are not, the fault is the rule of `first_broken`
 abbrev pub ReportsBrokenArray : List ℤ → List ℕ → BrokenTextArray → Type 0
 ReportsBrokenArray numbers values (Offsets rule) = (AreOffsets numbers → ⊥) × (rule ≡ first_broken numbers)
 ReportsBrokenArray numbers values (Texts broken) = AreOffsets numbers × ReportsBrokenTexts numbers values broken

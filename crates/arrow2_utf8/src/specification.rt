@@ -18,7 +18,7 @@ pub enum BrokenTexts {
     NotUtf8(usize),
 }
 
-/// The fault of numbers and bytes that are no offsets with texts between them.
+/// The fault of numbers that are not offsets, or of bytes between offsets that are not all texts.
 #[derive(Clone, Copy, Debug, PartialEq, Eq)]
 pub enum BrokenTextArray {
     /// The numbers are not offsets: the rule that they break.
@@ -49,15 +49,15 @@ pub fn try_check_offsets_bounds<O: Offset>(
 
 /// Tests that the values of each slot, from its offset to the next, are UTF-8. Does not allocate.
 ///
-/// Values outside the offsets are not tested. All values between the first offset and the last are tested at once; only
-/// where that fails are they tested once more, slot by slot up to the first that is not UTF-8.
+/// Values outside the offsets are not tested. All values between the first offset and the last are tested at once. If
+/// that fails, they are tested again, slot by slot, up to the first slot that is not UTF-8.
 ///
 /// Differs from arrow2, whose error has a text, and names no slot.
 ///
 /// # Errors
 ///
-/// `PastTheValues` exactly where the last offset is past the values; else `NotUtf8` with the first slot whose values
-/// are not UTF-8, exactly where there is one.
+/// `PastTheValues` exactly where the last offset is above the number of values. Otherwise `NotUtf8`, with the first
+/// slot whose values are not UTF-8, exactly where there is such a slot.
 pub fn try_check_utf8<O: Offset>(
     offsets: &OffsetsBuffer<O>,
     values: &[u8],
@@ -72,12 +72,12 @@ pub fn try_check_utf8<O: Offset>(
 /// Tests that numbers are offsets, and that the values of each slot, from its offset to the next, are UTF-8. Does not
 /// allocate.
 ///
-/// Differs from arrow2, whose error has a text, and names no slot.
+/// arrow2 has no such call: it tests offsets apart from the bytes between them.
 ///
 /// # Errors
 ///
-/// `Offsets` exactly where the numbers are not offsets, with the rule that they break; else `Texts` exactly where
-/// [`try_check_utf8`] returns an error, with that error.
+/// `Offsets`, with the rule that the numbers break, exactly where they are not offsets. Otherwise `Texts`, with the
+/// error of [`try_check_utf8`], exactly where that call returns one.
 pub fn try_check_offsets_and_utf8<O: Offset>(
     offsets: &[O],
     values: &[u8],
@@ -96,9 +96,10 @@ pub fn try_check_offsets_and_utf8<O: Offset>(
     }
 }
 
-/// Returns the text of slot `slot`, of values that [`try_check_utf8`] took. Does not allocate.
+/// Returns the text of slot `slot`. Does not allocate.
 ///
-/// Requires that `slot` is below [`OffsetsBuffer::len_proxy`]. arrow2 has no such call.
+/// Requires offsets and values that [`try_check_utf8`] accepts, and that `slot` is below [`OffsetsBuffer::len_proxy`].
+/// arrow2 has no such call.
 pub fn text_at<'a, O: Offset>(offsets: &OffsetsBuffer<O>, values: &'a [u8], slot: usize) -> &'a str
     requires texts { AreTexts (buffer_items offsets.now) values.now }
     requires below { slot < length (lengths_of (buffer_items offsets.now)) }
@@ -140,7 +141,7 @@ fn are_texts_at_once<O: Offset>(offsets: &[O], values: &[u8]) -> bool
     bytes.is_ascii() || (is_text(bytes) && stand_between(offsets, bytes))
 }
 
-/// Returns whether each offset stands between characters of the bytes that they span. Reads all of them, with no
+/// Returns whether each offset stands between characters of the bytes that they span. Reads all offsets, without a
 /// branch.
 #[tactic(auto, using(crate::proofs::Between::positions))]
 fn stand_between<O: Offset>(offsets: &[O], bytes: &[u8]) -> bool
@@ -160,7 +161,7 @@ fn stand_between<O: Offset>(offsets: &[O], bytes: &[u8]) -> bool
     between
 }
 
-/// Returns whether a character may begin at an index, or the bytes end there. With no branch.
+/// Returns whether a character may begin at an index, or the bytes end there. Has no branch.
 fn is_boundary(bytes: &[u8], position: usize) -> bool
     requires some { 0 < length bytes.now }
     requires inside { position ≤ length bytes.now }

@@ -1,7 +1,7 @@
--- The text that `{:?}` writes of an array; it is `None` where it is not known of a value or of the type.
+-- Parts of the text that `{:?}` writes for an array. A text is `None` where nothing is stated of it.
 use Rattle.std.specs.Prelude.{ℕ, zero, suc, List, [], Option, Some, None, codes}
 
--- of an item: the text of its value, or `None`
+-- the text of an item: that of its value, or the word `None` where the item is null
 abbrev pub item_output : {X : Type 0} → (X → Option (List ℕ)) → Option X → Option (List ℕ)
 item_output text None = Some (codes "None")
 item_output text (Some x) = text x

@@ -17,10 +17,10 @@ items_or_true n (Some bitmap) = items_of bitmap
 abbrev pub valid_items : OptionalValidity → List Bool
 valid_items v = items_or_true v.len v.bitmap
 
--- the part of a bitmap over the same bytes
+-- the n items of a bitmap from item `offset` on, over the same bytes
 abbrev pub sliced_bitmap : BitmapStorage → ℕ → ℕ → BitmapStorage
 sliced_bitmap b offset n = record { bytes = b.bytes; offset = b.offset + offset; len = n }
 
--- the n items from item `offset` on: of the bitmap over the same bytes
+-- the validity of the n items from item `offset` on, with its bitmap over the same bytes
 abbrev pub sliced_validity : OptionalValidity → ℕ → ℕ → OptionalValidity
 sliced_validity v offset n = record { len = n; bitmap = option_map (λ b. sliced_bitmap b offset n) v.bitmap }

@@ -17,7 +17,7 @@ use either::Either;
 use std::alloc::{AllocError, Global};
 use std::marker::Model;
 
-/// Which items of an array are not null: its number of items, and a bitmap. Without a bitmap no item is null.
+/// Which items of an array are not null: the number of items, and an optional bitmap. Without a bitmap no item is null.
 ///
 /// Contracts see both; `valid_items` is the list of booleans that they stand for. Clones and slices share the bitmap's
 /// bytes. arrow2 has an `Option<Bitmap>` in each array.
@@ -51,7 +51,8 @@ impl Validity {
         Validity { len, bitmap: None }
     }
 
-    /// Returns the validity of `len` items by a bitmap. Requires that the bitmap has `len` items.
+    /// Returns the validity of `len` items by an optional bitmap. Requires that the bitmap, if there is one, has `len`
+    /// items.
     pub fn new(len: usize, bitmap: Option<Bitmap>) -> Validity
         requires same_length { ForSome bitmap (λ b. length (items_of b) ≡ len) }
         ensures value { result ≡ record { len = len; bitmap = bitmap } }
@@ -60,7 +61,7 @@ impl Validity {
         Validity { len, bitmap }
     }
 
-    /// Returns the validity of `len` items by a bitmap.
+    /// Returns the validity of `len` items by an optional bitmap.
     ///
     /// # Errors
     ///
@@ -94,7 +95,7 @@ impl Validity {
         self.len() == 0
     }
 
-    /// Returns whether item `index` is not null. Requires that it is below the length.
+    /// Returns whether item `index` is not null. Requires that `index` is below the length.
     pub fn is_valid(&self, index: usize) -> bool
         requires below { index < length (valid_items self.now) }
         ensures { result ≡ slice_index_or (valid_items self.now) index false }
@@ -105,7 +106,7 @@ impl Validity {
         }
     }
 
-    /// Returns the number of nulls. The bitmap keeps it, so nothing is counted.
+    /// Returns the number of nulls. The bitmap stores it, so the call reads no bits.
     pub fn null_count(&self) -> usize
         ensures { result ≡ falses (valid_items self.now) }
     {
@@ -115,8 +116,8 @@ impl Validity {
         }
     }
 
-    /// Keeps `length` items from item `offset` on, over the same bytes. Requires that they are inside. Does not
-    /// allocate.
+    /// Keeps only the `len` items from item `offset` on, over the same bytes. Requires that `offset + len` is at most
+    /// the length. Does not allocate.
     pub fn slice(&mut self, offset: usize, len: usize)
         requires inside { offset + len ≤ length (valid_items self.old) }
         ensures items { valid_items self.new ≡ part (valid_items self.old) offset len }
@@ -129,7 +130,7 @@ impl Validity {
         }
     }
 
-    /// Returns the bitmap. Where there is none, no item is null.
+    /// Returns the bitmap, or `None` where there is none: then no item is null.
     pub fn bitmap(&self) -> Option<&Bitmap>
         ensures value { option_map (λ b. b.now) result ≡ self.now.bitmap }
         ensures items { MatchOption result
@@ -139,16 +140,16 @@ impl Validity {
         self.bitmap.as_ref()
     }
 
-    /// Returns the bitmap, and drops the rest.
+    /// Returns the bitmap, or `None` where there is none.
     pub fn into_bitmap(self) -> Option<Bitmap>
         ensures { result ≡ self.bitmap }
     {
         self.bitmap
     }
 
-    /// Returns a bitmap that grows, on the right, if nobody else shares the bytes and the items begin at bit 0;
-    /// otherwise the validity as it was, on the left. Without a bitmap it makes one of true items alone. No clause
-    /// states when the right side comes.
+    /// Returns `Right` of a bitmap that grows, if nobody else shares the bytes and the items begin at bit 0. Otherwise
+    /// returns `Left` of the validity as it was. Without a bitmap, returns `Right` of a new one whose items are all
+    /// true. No clause states when `Right` comes.
     ///
     /// # Errors
     ///
@@ -168,13 +169,13 @@ impl Validity {
         }
     }
 
-    /// Appends the validity of the `len` items from item `start` on to a bitmap that grows. Requires that they are
-    /// inside. Within the capacity it does not allocate.
+    /// Appends to `grown` the validity of the `len` items from item `start` on. Requires that `start + len` is at most
+    /// the length. Within the capacity it does not allocate.
     ///
     /// # Errors
     ///
-    /// `Overflow` exactly where the new length would pass `usize::MAX`, else `OutOfMemory` alone. After either the
-    /// bitmap holds the items that it held.
+    /// `Overflow` exactly where the new length would pass `usize::MAX`, else `OutOfMemory` alone. After either error,
+    /// `grown` holds the items that it held.
     pub fn append_to(&self, start: usize, len: usize, grown: &mut MutableBitmap) -> Result<()>
         requires inside { start + len ≤ length (valid_items self.now) }
         ensures { Appends error_of result grown.old grown.new (part (valid_items self.now) start len) }
@@ -185,12 +186,13 @@ impl Validity {
         }
     }
 
-    /// Returns which items are null neither here nor in `other`, with no bitmap exactly where neither has one. Requires
-    /// that both have equal lengths.
+    /// Returns a validity by which an item is null where it is null in `self` or in `other`. The result has no bitmap
+    /// exactly where neither has one. Requires that both have equal lengths.
     ///
     /// # Errors
     ///
-    /// `OutOfMemory` alone, and only where both have a bitmap or a reference count would overflow.
+    /// `OutOfMemory` alone. In the code it comes only where both have a bitmap, or where a reference count would
+    /// overflow; no clause states that.
     pub fn both(&self, other: &Validity) -> Result<Validity>
         requires same_length { length (valid_items self.now) ≡ length (valid_items other.now) }
         ensures items { IfOk result (λ v.
@@ -220,7 +222,8 @@ impl Clone for Validity {
     }
 }
 
-/// Appends the `len` items of a bitmap from item `start` on. Requires that they are inside.
+/// Appends to `grown` the `len` items of a bitmap from item `start` on. Requires that `start + len` is at most its
+/// length.
 #[tactic(auto, using(arrow2_model::proofs::Cursors::parts))]
 fn append_part(bitmap: &Bitmap, start: usize, len: usize, grown: &mut MutableBitmap) -> Result<()>
     requires inside { start + len ≤ length (items_of bitmap.now) }
@@ -249,7 +252,7 @@ pub fn check_same_length(values: usize, validity: &Bitmap) -> Result<()>
     Ok(())
 }
 
-/// Returns the text that refuses a validity of this length for this many values.
+/// Returns the message that refuses a validity of this length for `values` values.
 #[tactic(auto, unfolding(crate::specs::Refusals::unequal_lengths_message))]
 fn refusal(alloc: Global, validity: usize, values: usize) -> std::result::Result<String, AllocError>
     ensures { IfOk result (λ text. string_bytes text ≡ unequal_lengths_message validity values) }

@@ -26,7 +26,7 @@ piece_at ps k = slice_index_or ps k (record { items = []; offset = 0 })
 abbrev pub joined : List Piece → List Bool
 joined ps = flat_map (λ p. p.items) ps
 
--- a piece's first i items, at its bit, and the others, i bits further
+-- a piece's first i items, stored at its bit; and its other items, stored i bits further on
 abbrev pub front : Piece → ℕ → Piece
 front p i = record { items = take i p.items; offset = p.offset }
 
@@ -43,8 +43,8 @@ cut_at (p ∷ ps) (suc k) i = p ∷ cut_at ps k i
 abbrev pub lengths : List Piece → List ℕ
 lengths ps = map (λ p. length p.items) ps
 
--- the items that were cut into these pieces have paid for the bytes read, with 30 eighths of a byte a cut, and keep the
--- bytes that the pieces can still read
+-- 8 times the number of bytes read so far, plus `total_cut_budget` of the pieces, is at most `cut_budget` of the whole
+-- plus 30 for each cut
 pub record IsWithinBudget (ps : List Piece) (reads : ℕ) : Type 0 where
   pub some : 0 < length ps
   pub paid : 8 * reads + total_cut_budget (lengths ps) ≤ cut_budget (length (joined ps)) + 30 * (length ps - 1)

@@ -14,7 +14,8 @@ abbrev pub AllRuns : List Bool → List (ℕ × ℕ) → Type 0
 AllRuns items [] = Unit {0}
 AllRuns items (p ∷ ps) = IsRun items p × AllRuns items ps
 
--- each begins past the index after the one before it, and the first past e: so they rise, and no two touch
+-- each run begins past the index just after the run before it, and the first run past e: so the runs rise, and no two
+-- touch
 abbrev pub AreRisingPast : ℕ → List (ℕ × ℕ) → Type 0
 AreRisingPast e [] = Unit {0}
 AreRisingPast e (p ∷ ps) = (e < p.0) × AreRisingPast (p.0 + p.1) ps

@@ -7,7 +7,7 @@ selected [] mask = []
 selected (x ∷ xs) [] = []
 selected (x ∷ xs) (keep ∷ mask) = if keep then x ∷ selected xs mask else selected xs mask
 
--- item by item that of the one list where the mask is true, and that of the other elsewhere
+-- item by item, the item of the one list where the mask is true, and the item of the other list elsewhere
 abbrev pub chosen : {X : Type 0} → List Bool → List X → List X → List X
 chosen [] xs ys = []
 chosen (first ∷ mask) [] ys = []

@@ -1,4 +1,4 @@
--- The slots that are still to come of a validity zip, by those of its iterators.
+-- The slots that a validity zip has left, by the items that its iterators have left.
 use Rattle.std.specs.Prelude.{List, Bool, Option, Some, map}
 use Rattle.arrow2_walks.specs.Zipped.{zipped}
 use Rattle.arrow2_walks.specs.declared.zip_validity.ZipValidityIter.{ZipValidityIter}

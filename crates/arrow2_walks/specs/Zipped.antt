@@ -5,7 +5,7 @@ use Rattle.std.specs.Prelude.{List, [], ◌∷◌, Bool, Some, None, Option, if�
 abbrev pub slot : {X : Type 0} → X → Bool → Option X
 slot x valid = if valid then Some x else None
 
--- the slots of values and of their validity, which has one item a value
+-- the slots of values and their validity, which has one item for each value
 abbrev pub zipped : {X : Type 0} → List X → List Bool → List (Option X)
 zipped [] valid = []
 zipped (x ∷ xs) [] = []

@@ -13,7 +13,7 @@ values_of s = s.values
 abbrev pub validity_of : {S T : Type 0} → ZipValidityIter S T → T
 validity_of s = s.validity
 
--- P of the values that come without validity, and Q of those that come with it
+-- P holds for the values where the zip is `Required`, and Q for the two iterators where it is `Optional`
 abbrev pub MatchZip : {S T : Type 0} → ZipValidity S T → (S → Type 0) → (ZipValidityIter S T → Type 0) → Type 0
 MatchZip (Required values) P Q = P values
 MatchZip (Optional both) P Q = Q both
@@ -26,7 +26,7 @@ IsRequiredAnd s P = MatchZip s P (λ _. ⊥)
 abbrev pub IsOptionalAnd : {S T : Type 0} → ZipValidity S T → (ZipValidityIter S T → Type 0) → Type 0
 IsOptionalAnd s Q = MatchZip s (λ _. ⊥) Q
 
--- the number of values left is that of their validity, where there is any
+-- the two iterators have the same number of items left
 abbrev pub HasEqualLengths : {S T A : Type 0} → (S → List A) → (T → List Bool) → ZipValidityIter S T → Type 0
 HasEqualLengths rest valid s = length (rest (values_of s)) ≡ length (valid (validity_of s))
 
@@ -44,7 +44,7 @@ module _ {S T A : Type 0} (steps : S → Option A → S → Type 0) (others : T 
   abbrev pub GiveEquallyMany : S → T → Type 0
   GiveEquallyMany s t = EachRunFrom steps s (λ p. EachRunFrom others t (λ q. p.whole ≡ true → q.whole ≡ true → p.len ≡ q.len))
 
-  -- both iterators take the step. Their items make a slot, and where one of them has none there is none.
+  -- both iterators take the step. Their items make a slot; where one of them gives no item, there is no slot.
   abbrev pub zip_validity_steps : ZipValidityIter S T → Option (Option A) → ZipValidityIter S T → Type 0
   zip_validity_steps s r t = MatchOption r
       ((o : Option A) × (p : Option Bool) × steps (values_of s) o (values_of t) × others (validity_of s) p (validity_of t) × ((o ≡ None) ⊎ (p ≡ None)))

@@ -5,14 +5,14 @@ ghost use Rattle.arrow2_walks.specs.Cursor.{IsFirst, IsRead};
 
 use arrow2_bits::chunks::word_from;
 
-/// An index, and the bits from it on that were read already, as the lowest ones of a word.
+/// An index, and the bits from this index on that were read already, as the lowest bits of a word.
 #[derive(Clone, Copy, Debug)]
 pub struct BitCursor {
     /// The index.
     pub index: usize,
-    /// The bits from it on, the lowest first.
+    /// The bits that were read, from the index on, the lowest first.
     pub word: u64,
-    /// How many of them were read.
+    /// The number of bits that were read.
     pub buffered: usize,
 }
 
@@ -30,11 +30,12 @@ impl BitCursor {
     }
 }
 
-/// Returns the first index from `at` on whose bit, counted from bit `offset` on, is `value`, or `end` where there is
-/// none. Each word is read once, and shifted as it is passed. Requires that bits up to `end` are inside, and that `at`
-/// holds bits from its index on.
+/// Returns a cursor at the first index from `at.index` on and below `end` whose bit is `value`, or at `end` where there
+/// is none. The bit of index `i` is bit `offset + i` of the bytes. Reads each word once, and shifts it past the bits
+/// that it has tested. Requires that `offset + end` is at most eight times the number of bytes, and that the bits in
+/// `at` are those from its index on, none of them past `end`.
 ///
-/// In arrow2 it is inside the iterator over runs.
+/// arrow2 has this loop only inside its iterator over runs.
 pub fn find_bit(bytes: &[u8], offset: usize, end: usize, at: BitCursor, value: bool) -> BitCursor
     requires inside { offset + end ≤ 8 * length bytes.now }
     requires read { IsRead (bits bytes.now) offset end at.index at.word at.buffered }
@@ -68,7 +69,7 @@ pub fn find_bit(bytes: &[u8], offset: usize, end: usize, at: BitCursor, value: b
     }
 }
 
-/// Returns the first index in the word at which its bit is `value`, or 64 where there is none.
+/// Returns the index of the lowest bit of the word that is `value`, or 64 where there is none.
 fn first_bit(word: u64, value: bool) -> usize
     ensures within { result ≤ 64 }
     ensures others { (i : ℕ) → i < result → bit word i ≡ not value }

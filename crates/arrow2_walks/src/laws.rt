@@ -1,4 +1,4 @@
-//! Laws of the iterators. Each function is its law and nothing else.
+//! Laws of the iterators. The contract of each function is a law, and its body is empty.
 ghost use Rattle.std.specs.Prelude.{◌≡◌, ◌↔◌, ℕ, ◌+◌, ◌<◌, ◌≤◌, All, Bool, List, Option, false, get_or, length, option_map, slice_index_or, true};
 ghost use Rattle.std.specs.List.{sum_by, flat_map};
 ghost use Rattle.arrow2_model.specs.Parts.{falses, part};
@@ -10,8 +10,9 @@ ghost use Rattle.arrow2_walks.specs.Selected.{selected};
 ghost use Rattle.arrow2_walks.specs.Zips.{MatchZip, zip_validity_steps, either_steps, HasEqualLengths};
 ghost use Rattle.arrow2_walks.specs.Slots.{slots_of_both, slots_of};
 
-/// Where values iterate over a list, and their validity over one of the same length, the two together iterate over
-/// their slots from both ends, and stay of equal length. `view` maps an item to the list's, as for references.
+/// Where an iterator over values yields a list, and the iterator over their validity yields a list of the same length,
+/// the zip of both yields their slots, from both ends, and what both have left stays of equal length. `view` maps an
+/// item of the iterator to the item of the list, for example a reference to its value.
 #[tactic(auto, using(crate::proofs::Slots::slots))]
 pub fn a_zip_yields_its_slots<I: Iterator, V: Iterator<Item = bool>, X>()
     ensures first { (view : I.Item → X) (rest : I → List X) (valid : V → List Bool)
@@ -26,7 +27,7 @@ pub fn a_zip_yields_its_slots<I: Iterator, V: Iterator<Item = bool>, X>()
         × HasEqualLengths rest valid t }
 {}
 
-/// The same where the validity may be missing: then each value makes a slot of its own.
+/// The same where the validity may be missing: then each value is a slot that is not null.
 #[tactic(auto, using(crate::proofs::Slots::slots))]
 pub fn a_zip_with_or_without_validity_yields_its_slots<I: Iterator, V: Iterator<Item = bool>, X>()
     ensures first { (view : I.Item → X) (rest : I → List X) (valid : V → List Bool)
@@ -43,7 +44,8 @@ pub fn a_zip_with_or_without_validity_yields_its_slots<I: Iterator, V: Iterator<
         × MatchZip t (λ _. Unit {0}) (HasEqualLengths rest valid) }
 {}
 
-/// The runs of a list are its maximal runs of true items, all of them, each once and rising; no other list is that.
+/// The runs of a list are all its maximal runs of true items, each once, in rising order. No other list has this
+/// property.
 #[tactic(auto, using(crate::proofs::RunLaws::runs_of_a_list))]
 pub fn runs_are_the_maximal_ones()
     ensures all { (items : List Bool) → AreRuns items (runs items) }
@@ -58,13 +60,13 @@ pub fn runs_lie_apart()
         < (slice_index_or (runs items) j (0, 0)).0 }
 {}
 
-/// The indices in runs are those of the true items.
+/// An index is in one of the runs exactly if its item is true.
 #[tactic(auto, using(crate::proofs::RunLaws::runs_of_a_list))]
 pub fn runs_cover_the_true_items()
     ensures { (items : List Bool) (k : ℕ) → (get_or items k false ≡ true) ↔ InRuns k (runs items) }
 {}
 
-/// The lengths of the runs and the false items are all items.
+/// The lengths of the runs and the number of false items add up to the number of items.
 #[tactic(auto, using(crate::proofs::RunLaws::runs_of_a_list))]
 pub fn lengths_of_runs_are_the_true_items()
     ensures { (items : List Bool) → sum_by (λ p. p.1) (runs items) + falses items ≡ length items }

@@ -11,11 +11,11 @@ use arrow2_types::error::{Error, Result};
 use std::alloc::Global;
 use std::marker::Model;
 
-/// A bitmap in pieces: contracts see their lists, each with the bit at which it is stored, and how many bytes their
-/// cuts have read. Cuts of `L` items into `k + 1` pieces read `(2 * L * lg L + 30 * k) / 8` bytes at most, in whatever
-/// order they come, where `lg` is the logarithm to the base 2, rounded down.
+/// A bitmap in pieces: contracts see the items of each piece, the bit at which they are stored, and the number of bytes
+/// that the cuts have read. The `k` cuts of `L` items into `k + 1` pieces read at most `(2 * L * lg L + 30 * k) / 8`
+/// bytes, in whatever order the cuts come. Here `lg` is the logarithm to the base 2, rounded down.
 ///
-/// arrow2 has no such type: a cut is two slices of a clone.
+/// arrow2 has no such type: there a cut is two slices of a clone.
 #[derive(Drop)]
 pub struct Pieces {
     bitmaps: Vec<Bitmap>,
@@ -64,7 +64,7 @@ impl Pieces {
         self.bitmaps.len()
     }
 
-    /// Returns piece `p`. Requires that it is below the number of pieces.
+    /// Returns piece `p`. Requires that `p` is below the number of pieces.
     pub fn get(&self, p: usize) -> &Bitmap
         requires below { p < length self.now.pieces }
         ensures { piece_of result.now ≡ piece_at self.now.pieces p }
@@ -80,12 +80,12 @@ impl Pieces {
         bitmaps
     }
 
-    /// Cuts piece `p` in two: its first `i` items and the others replace it. Requires that there is a piece `p`, with
-    /// at least `i` items. Allocates before it counts.
+    /// Cuts piece `p` in two: a piece of its first `i` items and a piece of the others replace it. Requires that `p` is
+    /// below the number of pieces, and that piece `p` has at least `i` items. Allocates before it reads any bytes.
     ///
     /// # Errors
     ///
-    /// `OutOfMemory` alone.
+    /// `OutOfMemory` alone. After it, the pieces and the number of bytes read are as they were.
     pub fn cut(&mut self, p: usize, i: usize) -> Result<()>
         requires below { p < length self.old.pieces }
         requires inside { i ≤ length (piece_at self.old.pieces p).items }
@@ -93,7 +93,7 @@ impl Pieces {
         ensures ok { OnOk result (self.new.pieces ≡ cut_at self.old.pieces p i) }
         ensures reads { OnOk result (let old = piece_at self.old.pieces p in
             self.new.reads ≡ self.old.reads + cut_reads old.offset (length old.items) i) }
-        // In any case the items in all stay, and the bound on reads holds.
+        // In any case the items of all pieces together stay, and the bound on reads holds.
         ensures joined { joined self.new.pieces ≡ joined self.old.pieces }
         ensures bound { let n = length (joined self.old.pieces) in
             8 * self.new.reads ≤ 2 * (n * lg n) + 30 * (length self.new.pieces - 1) }
@@ -115,7 +115,7 @@ fn cut_in_two(bitmaps: &mut Vec<Bitmap>, p: usize, i: usize, reads: &mut Reads) 
         ≡ cut_at (map piece_of bitmaps.old.items) p i) }
     ensures reads { OnOk result (let old = piece_at (map piece_of bitmaps.old.items) p in
         reads.new ≡ reads.old + cut_reads old.offset (length old.items) i) }
-    // In any case the items in all stay, and the budget of reads holds.
+    // In any case the items of all pieces together stay, and the budget of reads holds.
     ensures joined { joined (map piece_of bitmaps.new.items)
         ≡ joined (map piece_of bitmaps.old.items) }
     ensures paid { IsWithinBudget (map piece_of bitmaps.old.items) reads.old →

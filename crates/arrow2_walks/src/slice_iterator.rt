@@ -11,10 +11,10 @@ use arrow2_bitmap::Bitmap;
 use std::alloc::AllocError;
 use std::marker::Model;
 
-/// An iterator over the maximal runs of set bits of a bitmap, rising, each by its first index and its length: contracts
-/// see the runs still to come, and the total number of set bits.
+/// An iterator over the maximal runs of set bits of a bitmap, in rising order. A run is a pair of its first index and
+/// its length. Contracts see the runs still to come, and the total number of set bits.
 ///
-/// arrow2's documentation gives (6, 1) as the last run of 00101111, which is (5, 1).
+/// arrow2's documentation gives (6, 1) as the last run of 00101111. It is (5, 1).
 ///
 /// # Examples
 ///
@@ -79,9 +79,9 @@ impl<'a> SlicesIterator<'a> {
         self.slots
     }
 
-    /// Returns the next run, as the iterator gives it. The result of [`SlicesIterator::slots`] stays the same.
+    /// Returns the next run, as `next` does. The result of [`SlicesIterator::slots`] stays the same.
     ///
-    /// arrow2 has the iterator alone.
+    /// arrow2 has `next` alone.
     pub fn next_run(&mut self) -> Option<(usize, usize)>
         ensures steps { YieldsFirst (λ i. i.runs) self.old result self.new }
         ensures slots { self.new.slots ≡ self.old.slots }
@@ -96,7 +96,7 @@ impl<'a> SlicesIterator<'a> {
     }
 }
 
-/// The same runs still to come. Does not allocate.
+/// Returns an iterator with the same runs still to come. Does not allocate.
 impl<'a> Clone for SlicesIterator<'a> {
     ghost is_clone = { λ i copy. copy ≡ i };
 

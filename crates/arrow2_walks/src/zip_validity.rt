@@ -11,10 +11,10 @@ ghost use Rattle.arrow2_walks.specs.Zips.{values_of, validity_of, either_values,
 use arrow2_bitmap::Bitmap;
 use arrow2_bits::iterator::BitmapIter;
 
-/// An iterator over values and their validity, from both ends: an item is `Some` of its value where it is valid, and
-/// `None` where it is not.
+/// An iterator over values and their validity, from both ends: an item is `Some` of the value where the value is valid,
+/// and `None` where it is null.
 ///
-/// Differs from arrow2: `nth` is the standard library's, over `next`, and the type of the values is no parameter.
+/// Differs from arrow2: `nth` is the standard library's, over `next`, and there is no type parameter for the values.
 #[derive(Debug, Clone, Drop)]
 pub struct ZipValidityIter<I, V> {
     values: I,
@@ -22,7 +22,8 @@ pub struct ZipValidityIter<I, V> {
 }
 
 impl<I: Iterator, V: Iterator<Item = bool>> ZipValidityIter<I, V> {
-    /// Returns an iterator over both. Requires that they have equally many items; arrow2 compares their size hints.
+    /// Returns an iterator over both. Requires that both iterators give the same number of items. arrow2 compares their
+    /// size hints.
     pub fn new(values: I, validity: V) -> ZipValidityIter<I, V>
         requires same_length { GiveEquallyMany I.next_gives V.next_gives values validity }
         ensures values { values_of result ≡ values }
@@ -32,7 +33,7 @@ impl<I: Iterator, V: Iterator<Item = bool>> ZipValidityIter<I, V> {
     }
 }
 
-/// Returns the slot of a value and its validity. `None` where either iterator has ended.
+/// Returns the slot of a value and its validity, or `None` where either iterator has ended.
 fn zip<X: Drop>(value: Option<X>, is_valid: Option<bool>) -> Option<Option<X>>
     ensures { MatchOption result ((value ≡ None) ⊎ (is_valid ≡ None)) (λ item.
         (x : X) × (valid : Bool) × (value ≡ Some x) × (is_valid ≡ Some valid)
@@ -87,24 +88,25 @@ impl<I: ExactSizeIterator, V: ExactSizeIterator<Item = bool>> ExactSizeIterator
 where
     I::Item: Drop,
 {
-    /// Returns the size hint of the values.
+    /// Returns the length of the iterator over the values.
     fn len(&self) -> usize {
         self.values.len()
     }
 }
 
-/// An iterator over values, with their validity or without it, from both ends: without it each item is `Some` of its
-/// value. A caller may match on it, for a path of its own where no value is missing.
+/// An iterator over values, with or without their validity, from both ends. Without validity each item is `Some` of a
+/// value. A caller may match on the variants, for a path of its own where no value is null.
 #[derive(Debug, Clone, Drop)]
 pub enum ZipValidity<I, V> {
-    /// Each value is there.
+    /// Values without validity: none is null.
     Required(I),
-    /// A value is there where it is valid.
+    /// Values with their validity: a value is null where its validity is false.
     Optional(ZipValidityIter<I, V>),
 }
 
 impl<I: Iterator, V: Iterator<Item = bool>> ZipValidity<I, V> {
-    /// Returns `Optional` exactly where a validity is given. Requires that it has equally many items.
+    /// Returns `Optional` exactly where a validity is given. Requires that the validity, if there is one, gives one
+    /// item for each value.
     pub fn new(values: I, validity: Option<V>) -> ZipValidity<I, V>
         requires same_length { ForSome validity (λ v.
             GiveEquallyMany I.next_gives V.next_gives values v) }
@@ -117,7 +119,7 @@ impl<I: Iterator, V: Iterator<Item = bool>> ZipValidity<I, V> {
         }
     }
 
-    /// Returns the values. Requires that they come without validity.
+    /// Returns the iterator over the values. Requires that the zip is `Required`.
     pub fn unwrap_required(self) -> I
     where
         V: Drop,
@@ -131,7 +133,7 @@ impl<I: Iterator, V: Iterator<Item = bool>> ZipValidity<I, V> {
         }
     }
 
-    /// Returns the values and their validity. Requires that there is one.
+    /// Returns the iterator over the values and their validity. Requires that the zip is `Optional`.
     pub fn unwrap_optional(self) -> ZipValidityIter<I, V>
     where
         V: Drop,
@@ -147,8 +149,8 @@ impl<I: Iterator, V: Iterator<Item = bool>> ZipValidity<I, V> {
 }
 
 impl<'a, I: Iterator> ZipValidity<I, BitmapIter<'a>> {
-    /// Returns `Optional` exactly where a validity is given that has an unset item. Requires one item for each value,
-    /// also where none of them is unset; arrow2 does not test it there.
+    /// Returns `Optional` exactly where a validity is given and has an unset bit. Requires that the validity, if there
+    /// is one, has one bit for each value, also where no bit is unset: there arrow2 does not compare the lengths.
     pub fn new_with_validity(
         values: I,
         validity: Option<&'a Bitmap>,
@@ -223,7 +225,7 @@ impl<I: ExactSizeIterator, V: ExactSizeIterator<Item = bool>> ExactSizeIterator
 where
     I::Item: Drop,
 {
-    /// Returns the size hint of the values.
+    /// Returns the length of the iterator over the values.
     fn len(&self) -> usize {
         match self {
             ZipValidity::Required(values) => values.len(),

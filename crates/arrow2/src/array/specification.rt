@@ -1,4 +1,4 @@
-//! The tests of offsets and of the values between them.
+//! Checks of offsets and of the values between them.
 
 pub use arrow2_utf8::{
     BrokenTextArray, BrokenTexts, text_at, try_check_offsets_and_utf8, try_check_offsets_bounds,

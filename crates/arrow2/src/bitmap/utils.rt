@@ -1,5 +1,5 @@
-//! Bits of bytes: reading, writing, counting, printing and iterating, also by words, and counts of the bytes read;
-//! iterators over runs, and over values zipped with their validity.
+//! Calls on the bits of bytes: they read, write, count, print and iterate, also by words, and count the bytes that they
+//! read. Iterators over runs, and over values zipped with their validity.
 
 pub use arrow2_bits::chunk_iterator::{BitChunkIterExact, BitChunks};
 pub use arrow2_bits::chunks_exact::BitChunksExact;

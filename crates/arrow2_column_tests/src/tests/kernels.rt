@@ -22,6 +22,7 @@ use arrow2::compute::take::{take_binary, take_boolean, take_by_array};
 use arrow2::datatypes;
 use arrow2::error::Result;
 use std::alloc::{AllocError, Global};
+use std::cmp::Ordering;
 use std::convert::TryFrom;
 use std::process::Abort;
 use std::rc::Rc;
@@ -65,7 +66,7 @@ fn array_of(
     last_items(rt, ok(rt, array.freeze()), skipped, items.len())
 }
 
-/// Returns the `len` items after `skipped` others, which must be all: a slice of a slice.
+/// Returns the `len` items after `skipped` others, as a slice of a slice. They must be all other items.
 fn last_items(
     rt: &impl Abort,
     array: PrimitiveArray<i64>,
@@ -86,25 +87,46 @@ fn without_first(rt: &impl Abort, array: PrimitiveArray<i64>, count: usize) -> P
     array.sliced(count, len - count)
 }
 
-/// Returns the results of a test on the items of two lists, index by index.
-fn results<F: Fn(i64, i64) -> bool>(
+/// Returns how the items of two lists compare, index by index: `None` where an item is null.
+fn orders(
     rt: &impl Abort,
     alloc: Global,
     left: &[Option<i64>],
     right: &[Option<i64>],
-    test: F,
-) -> Vec<Option<bool>>
-    requires { F.IsAlwaysCallable test }
-{
-    let mut items = Vec::new(alloc);
+) -> Vec<Option<Ordering>> {
+    let mut orders = Vec::new(alloc);
     for (left, right) in left.iter().zip(right) {
-        let item = match (left, right) {
-            (Some(left), Some(right)) => Some(test(*left, *right)),
+        let order = match (left, right) {
+            (Some(left), Some(right)) => Some(left.cmp(right)),
             _ => None,
         };
-        ok(rt, items.push(item));
+        ok(rt, orders.push(order));
     }
-    items
+    orders
+}
+
+/// The results of a comparison where the left item is below, equal to and above the right one.
+type Results = (bool, bool, bool);
+
+/// Checks that a comparison of two arrays, whose items compare so, has these results.
+fn is_compared(
+    rt: &impl Abort,
+    alloc: Global,
+    call: Result<BooleanArray>,
+    orders: &[Option<Ordering>],
+    (below, equal, above): Results,
+) {
+    let mut list = Vec::new(alloc);
+    for order in orders {
+        let item = match order {
+            None => None,
+            Some(Ordering::Less) => Some(below),
+            Some(Ordering::Equal) => Some(equal),
+            Some(Ordering::Greater) => Some(above),
+        };
+        ok(rt, list.push(item));
+    }
+    assert_booleans(rt, alloc, call, list.as_slice());
 }
 
 /// Checks the six comparisons of two lists of equal length.
@@ -119,18 +141,14 @@ type Of<'a, 'b> = (&'a PrimitiveArray<i64>, &'b [Option<i64>]);
 /// Checks the six comparisons of two arrays.
 fn are_compared(rt: &impl Abort, alloc: Global, (a, left): Of, (b, right): Of) {
     assert_that(rt, a.len() == b.len());
-    let list = results(rt, alloc, left, right, |x, y| x == y);
-    assert_booleans(rt, alloc, eq(a, b), list.as_slice());
-    let list = results(rt, alloc, left, right, |x, y| x != y);
-    assert_booleans(rt, alloc, neq(a, b), list.as_slice());
-    let list = results(rt, alloc, left, right, |x, y| x < y);
-    assert_booleans(rt, alloc, lt(a, b), list.as_slice());
-    let list = results(rt, alloc, left, right, |x, y| x <= y);
-    assert_booleans(rt, alloc, lt_eq(a, b), list.as_slice());
-    let list = results(rt, alloc, left, right, |x, y| x > y);
-    assert_booleans(rt, alloc, gt(a, b), list.as_slice());
-    let list = results(rt, alloc, left, right, |x, y| x >= y);
-    assert_booleans(rt, alloc, gt_eq(a, b), list.as_slice());
+    let list = orders(rt, alloc, left, right);
+    let orders = list.as_slice();
+    is_compared(rt, alloc, eq(a, b), orders, (false, true, false));
+    is_compared(rt, alloc, neq(a, b), orders, (true, false, true));
+    is_compared(rt, alloc, lt(a, b), orders, (true, false, false));
+    is_compared(rt, alloc, lt_eq(a, b), orders, (true, true, false));
+    is_compared(rt, alloc, gt(a, b), orders, (false, false, true));
+    is_compared(rt, alloc, gt_eq(a, b), orders, (false, true, true));
 }
 
 #[test]
@@ -220,7 +238,7 @@ fn a_null_in_a_mask_drops_the_item(rt: HostRuntime) {
     assert_array(&rt, alloc, filter_by_array(&array, &mask), &[None, Some(6)]);
 }
 
-/// Returns how many numbers were cast, or in which words they were refused.
+/// Returns how many numbers were cast, or the text of the error that refused them.
 fn text_of_cast(
     alloc: Global,
     cast: Result<PrimitiveArray<u8>>,
@@ -231,7 +249,7 @@ fn text_of_cast(
     }
 }
 
-/// Checks that numbers are cast to these, or refused in these words.
+/// Checks that numbers are cast to these, or refused with this text.
 fn is_cast(rt: &impl Abort, alloc: Global, from: &[Option<i64>], to: &[Option<u8>], text: &str) {
     let array = array_of(rt, alloc, from, 1);
     let data_type = ok(rt, Rc::new(alloc, datatypes::DataType::UInt8));
@@ -337,7 +355,7 @@ fn joined<T: Copy>(rt: &impl Abort, alloc: Global, left: &[T], right: &[T]) -> V
     items
 }
 
-/// Returns the texts at the indices below `len`, null at each index that `nulls` divides but for 0, where none is.
+/// Returns the texts at the indices below `len`, null at each index that `nulls` divides. With 0 none is null.
 fn texts_listed(
     rt: &impl Abort,
     alloc: Global,

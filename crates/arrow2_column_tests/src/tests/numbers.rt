@@ -20,6 +20,7 @@ use arrow2::compute::if_then_else::if_then_else;
 use arrow2::compute::take::take;
 use arrow2::datatypes;
 use arrow2::error::Result;
+use arrow2::types::NativeType;
 use either::Either;
 use std::alloc::{AllocError, Global};
 use std::process::Abort;
@@ -112,7 +113,7 @@ fn a_sum_leaves_nulls_out(rt: HostRuntime) {
     assert_that(&rt, sum(&array) == -295);
 }
 
-/// Checks that an array is refused in these words.
+/// Checks that an array is refused with this text.
 fn refuses(rt: &impl Abort, alloc: Global, call: Result<PrimitiveArray<i64>>, text: &str) {
     let error = call.err().expect(rt, "it is refused");
     assert_text(rt, format!(in alloc; "{error}"), text);
@@ -237,6 +238,52 @@ fn arrays_print_their_logical_type_and_their_items(rt: HostRuntime) {
     );
 }
 
+/// Checks that an array of no items prints as its logical type does, followed by brackets.
+fn prints_its_type<T: NativeType>(rt: &impl Abort, alloc: Global, data_type: datatypes::DataType) {
+    let text = ok(rt, format!(in alloc; "{data_type:?}[]"));
+    let values = ok(rt, Buffer::<T>::new(alloc));
+    let array = PrimitiveArray::try_new(data_type, values, None);
+    assert_made(rt, alloc, array, text.as_str());
+}
+
+#[test]
+fn logical_types_print_as_by_their_own_debug(rt: HostRuntime) {
+    let alloc = rt.alloc();
+    prints_its_type::<i32>(&rt, alloc, datatypes::DataType::Date32);
+    prints_its_type::<i32>(
+        &rt,
+        alloc,
+        datatypes::DataType::Time32(datatypes::TimeUnit::Millisecond),
+    );
+    prints_its_type::<i32>(
+        &rt,
+        alloc,
+        datatypes::DataType::Interval(datatypes::IntervalUnit::YearMonth),
+    );
+    prints_its_type::<i64>(&rt, alloc, datatypes::DataType::Date64);
+    prints_its_type::<i64>(
+        &rt,
+        alloc,
+        datatypes::DataType::Time64(datatypes::TimeUnit::Nanosecond),
+    );
+    prints_its_type::<i64>(
+        &rt,
+        alloc,
+        datatypes::DataType::Duration(datatypes::TimeUnit::Second),
+    );
+    prints_its_type::<i64>(
+        &rt,
+        alloc,
+        datatypes::DataType::Timestamp(datatypes::TimeUnit::Microsecond, None),
+    );
+    let zone = ok(&rt, String::from_str(alloc, "UTC"));
+    prints_its_type::<i64>(
+        &rt,
+        alloc,
+        datatypes::DataType::Timestamp(datatypes::TimeUnit::Second, Some(zone)),
+    );
+}
+
 /// Checks that an array is equal to one of the same items, which has other values where they are null.
 fn is_masked(rt: &impl Abort, array: &PrimitiveArray<i32>, values: &PrimitiveArray<i32>) {
     let (_, _, validity) = ok(rt, array.clone()).into_inner();
@@ -245,7 +292,7 @@ fn is_masked(rt: &impl Abort, array: &PrimitiveArray<i32>, values: &PrimitiveArr
     assert_compares(rt, array, &ok(rt, masked), true);
 }
 
-/// Checks that an array is equal to its numbers, and not to the dates of these.
+/// Checks that an array equals an array of its numbers, and differs from an array of dates with these numbers.
 fn is_no_dates(rt: &impl Abort, array: &PrimitiveArray<i32>, numbers: PrimitiveArray<i32>) {
     assert_compares(rt, array, &numbers, true);
     let (_, numbers, _) = numbers.into_inner();
@@ -281,7 +328,7 @@ fn grows(rt: &impl Abort, alloc: Global, mut items: MutablePrimitiveArray<i32>, 
     assert_made(rt, alloc, items.freeze(), text);
 }
 
-/// Checks that an array stays as it is where another one holds its validity.
+/// Checks that an array stays as it is while another array shares its validity.
 fn stays(rt: &impl Abort, alloc: Global, array: PrimitiveArray<i32>, text: &str) {
     let (_, values, validity) = array.into_inner();
     let validity = validity.expect(rt, "a null");
@@ -307,7 +354,7 @@ fn an_array_of_its_own_grows_again(rt: HostRuntime) {
     stays(&rt, alloc, shared, "Int32[1, None, 3]");
 }
 
-/// Checks that an array that grows was made, with as many items as its capacity is for at least, and returns it frozen.
+/// Checks that a growing array of `len` items was made, whose capacity is at least `len`, and returns it frozen.
 fn frozen(
     rt: &impl Abort,
     call: Result<MutablePrimitiveArray<i64>>,

@@ -36,7 +36,7 @@ pub(crate) fn check<O: Offset>(offsets: &[O]) -> u32
     refusal(offsets).unwrap_or(ARROW2_OK)
 }
 
-/// Writes how far each offset is from the next one.
+/// Writes the length of each slot: how far its offset is from the next one.
 pub(crate) fn lengths<O: Offset>(offsets: &[O], lengths: &mut [usize]) -> u32
     ensures { WritesFromOffsets (map O.value offsets.now) result
         (length offsets.now ≢ length lengths.old + 1)
@@ -48,7 +48,7 @@ pub(crate) fn lengths<O: Offset>(offsets: &[O], lengths: &mut [usize]) -> u32
     }
 }
 
-/// Writes how far each offset is from the next one, and tests no offset. Requires that the numbers are offsets.
+/// Writes the length of each slot, and tests no offset. Requires that the numbers are offsets.
 pub(crate) fn lengths_unchecked<O: Offset>(offsets: &[O], lengths: &mut [usize]) -> u32
     requires are { AreOffsets (map O.value offsets.now) }
     ensures { WritesFromOffsets (map O.value offsets.now) result
@@ -62,7 +62,7 @@ pub(crate) fn lengths_unchecked<O: Offset>(offsets: &[O], lengths: &mut [usize])
     ARROW2_OK
 }
 
-/// Writes the start; each number after it is the one before plus the next length.
+/// Writes `start`, then for each length the number before it plus this length.
 pub(crate) fn sums<O: Offset>(start: usize, lengths: &[usize], offsets: &mut [O]) -> u32
     ensures length { result ≡ ARROW2_LENGTH ↔ (length offsets.old ≢ length lengths.now + 1) }
     ensures overflow { result ≡ ARROW2_OVERFLOW ↔
@@ -82,7 +82,7 @@ pub(crate) fn sums<O: Offset>(start: usize, lengths: &[usize], offsets: &mut [O]
     ARROW2_OK
 }
 
-/// Writes to each item `i` of `out` offset `from + i` minus offset `from`.
+/// Sets `out[i]` to `offsets[from + i] - offsets[from]`, for each item `i` of `out`.
 pub(crate) fn rebase<O: Offset>(offsets: &[O], from: usize, out: &mut [O]) -> u32
     ensures { WritesFromOffsetsOr ARROW2_RANGE (map O.value offsets.now) result
         (length out.old ≡ 0) (length offsets.now < from + length out.old)
@@ -96,8 +96,8 @@ pub(crate) fn rebase<O: Offset>(offsets: &[O], from: usize, out: &mut [O]) -> u3
     }
 }
 
-/// Writes to each item `i` of `out` offset `from + i` minus offset `from`, and tests no offset. Requires that the
-/// numbers are offsets.
+/// Sets `out[i]` to `offsets[from + i] - offsets[from]`, for each item `i` of `out`, and tests no offset. Requires that
+/// the numbers are offsets.
 pub(crate) fn rebase_unchecked<O: Offset>(offsets: &[O], from: usize, out: &mut [O]) -> u32
     requires are { AreOffsets (map O.value offsets.now) }
     ensures { WritesFromOffsetsOr ARROW2_RANGE (map O.value offsets.now) result

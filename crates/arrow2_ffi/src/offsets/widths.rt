@@ -10,8 +10,8 @@ use arrow2_offset::widths::{write_narrow, write_wide};
 
 /// Writes the same numbers, in 64 bits each.
 ///
-/// The code of `arrow2_offsets32_check` where the numbers are not offsets, else `ARROW2_LENGTH` exactly where `out` has
-/// more or fewer items than `offsets`.
+/// Returns the code of `arrow2_offsets32_check` where the numbers are not offsets, else `ARROW2_LENGTH` exactly where
+/// `out` has more or fewer items than `offsets`.
 #[unsafe(no_mangle)]
 pub extern "C" fn arrow2_offsets_widen(offsets: &[i32], out: &mut [i64]) -> u32
     ensures { WritesFromOffsets offsets.now result (length out.old ≢ length offsets.now)
@@ -29,8 +29,9 @@ pub extern "C" fn arrow2_offsets_widen(offsets: &[i32], out: &mut [i64]) -> u32
 
 /// Writes the same numbers, in 32 bits each.
 ///
-/// The code of `arrow2_offsets64_check` where the numbers are not offsets, else `ARROW2_LENGTH` exactly where `out` has
-/// more or fewer items than `offsets`, else `ARROW2_OVERFLOW` exactly where the last number is above 2147483647.
+/// Returns the code of `arrow2_offsets64_check` where the numbers are not offsets, else `ARROW2_LENGTH` exactly where
+/// `out` has more or fewer items than `offsets`, else `ARROW2_OVERFLOW` exactly where the last number is above
+/// 2147483647.
 #[unsafe(no_mangle)]
 pub extern "C" fn arrow2_offsets_narrow(offsets: &[i64], out: &mut [i32]) -> u32
     ensures { WritesFromOffsetsOr ARROW2_OVERFLOW offsets.now result

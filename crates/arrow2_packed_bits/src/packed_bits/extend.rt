@@ -1,4 +1,4 @@
-//! Appending many items to those that are packed.
+//! Appends many items at once.
 ghost use Rattle.std.specs.Prelude.{◌≡◌, ◌+◌, ◌*◌, ◌%◌, ◌<◌, ◌≤◌, ◌^◌, ◌++◌, length, take, replicate};
 ghost use Rattle.arrow2_packed_bits.specs.Growth.{Appends, Pushes};
 ghost use Rattle.arrow2_model.specs.Bits.{bits};
@@ -14,13 +14,13 @@ use std::alloc::AllocError;
 
 #[tactic(auto, using(crate::proofs::Whole::extending))]
 impl PackedBits {
-    /// Appends the `count` bits from bit `offset` of `slice` on. Requires that they are inside. It allocates at most
-    /// once, before it writes.
+    /// Appends the `count` bits of `slice` from bit `offset` on. Requires that these bits are inside `slice`. It
+    /// allocates at most once, before it writes.
     ///
     /// # Errors
     ///
-    /// `Overflow` exactly where there would be more items than `usize::MAX`, else `OutOfMemory` alone. After either the
-    /// items are as before.
+    /// `Overflow` exactly where there would be more than `usize::MAX` items, else `OutOfMemory` where an allocation
+    /// fails. After either error, the items are as before.
     pub fn extend_from_slice(
         &mut self,
         slice: &[u8],
@@ -42,8 +42,8 @@ impl PackedBits {
     ///
     /// # Errors
     ///
-    /// `Overflow` exactly where there would be more items than `usize::MAX`, else `OutOfMemory` alone. After either the
-    /// items are as before.
+    /// `Overflow` exactly where there would be more than `usize::MAX` items, else `OutOfMemory` where an allocation
+    /// fails. After either error, the items are as before.
     pub fn extend_from_bools(&mut self, items: &[bool]) -> Result<(), GrowthError>
         ensures { Appends (λ error. error) result self.old self.new items.now }
     {
@@ -56,8 +56,8 @@ impl PackedBits {
     ///
     /// # Errors
     ///
-    /// `Overflow` exactly where there would be more items than `usize::MAX`, else `OutOfMemory` alone. After either the
-    /// items are as before.
+    /// `Overflow` exactly where there would be more than `usize::MAX` items, else `OutOfMemory` where an allocation
+    /// fails. After either error, the items are as before.
     pub fn extend_constant(&mut self, additional: usize, value: bool) -> Result<(), GrowthError>
         ensures { Appends (λ error. error) result self.old self.new
             (replicate additional value) }
@@ -72,8 +72,9 @@ impl PackedBits {
         Ok(())
     }
 
-    /// Appends the `count` bits from bit `offset` of `slice` on: by bytes where they begin a byte, else by words.
-    /// Requires that the items end a byte, where a bit is appended at all, and that they are inside.
+    /// Appends the `count` bits of `slice` from bit `offset` on: by bytes where `offset` is a multiple of 8, else by
+    /// words. Unless `count` is 0, requires that the number of items is a multiple of 8. Requires that the bits are
+    /// inside `slice`, and that there are at most `usize::MAX` items afterwards.
     fn push_part(&mut self, slice: &[u8], offset: usize, count: usize) -> Result<(), AllocError>
         requires whole { 0 < count → length self.old.items % 8 ≡ 0 }
         requires inside { offset + count ≤ 8 * length slice.now }
@@ -87,8 +88,9 @@ impl PackedBits {
         }
     }
 
-    /// Appends the first `count` bits of `slice`: whole bytes at once. Requires that the items end a byte, unless no
-    /// bit is appended, and that `slice` has at least `count` bits.
+    /// Appends the first `count` bits of `slice`: all whole bytes at once, then the rest. Unless `count` is 0, requires
+    /// that the number of items is a multiple of 8. Requires that `slice` has at least `count` bits, and that there are
+    /// at most `usize::MAX` items afterwards.
     fn push_front(&mut self, slice: &[u8], count: usize) -> Result<(), AllocError>
         requires whole { 0 < count → length self.old.items % 8 ≡ 0 }
         requires inside { count ≤ 8 * length slice.now }
@@ -104,8 +106,9 @@ impl PackedBits {
         Ok(())
     }
 
-    /// Appends the items of an iterator by words: eight words at once, and the remaining ones one by one. Requires that
-    /// the items end a byte, where one is appended at all.
+    /// Appends the items of an iterator by words: eight words at a time, and then the remaining words one by one.
+    /// Unless the iterator has no items, requires that the number of items is a multiple of 8. Requires that there are
+    /// at most `usize::MAX` items afterwards.
     fn push_blocks(&mut self, chunks: BitChunks<'_, u64>) -> Result<(), AllocError>
         requires whole { 0 < length chunks.items → length self.old.items % 8 ≡ 0 }
         requires fits { length self.old.items + length chunks.items < 2 ^ 64 }
@@ -143,7 +146,7 @@ impl PackedBits {
     }
 }
 
-/// Returns the bytes of the next eight words. Requires that there are eight.
+/// Returns the bytes of the next eight words. Requires that at least eight full words are left.
 fn next_block(chunks: &mut BitChunks<'_, u64>) -> [u8; 64]
     requires { 8 ≤ length (full_words 64 chunks.old.items) }
     ensures size { length result ≡ 64 }

@@ -2,7 +2,8 @@
 ghost use Rattle.std.specs.Prelude.{◌≡◌, IfOk, length};
 ghost use Rattle.arrow2_model.specs.Storage.{items_of};
 
-use super::checks::{assert_that, bytes_of, gives, has, makes, ok, refuses, shows, stores};
+use super::checks::{assert_that, bytes_of, gives, has, makes, ok, refuses, right, shows, stores};
+use super::lists;
 use arrow2_bitmap::bitmap_ops::unary;
 use arrow2_bitmap::iterator::IntoIter;
 use arrow2_bitmap::{Bitmap, MutableBitmap};
@@ -21,7 +22,7 @@ fn bitmap_of(rt: &impl Abort, alloc: Global, bytes: &[u8], len: usize) -> Bitmap
 /// The bitmap without its last item, which was true.
 fn popped(rt: &impl Abort, made: Result<MutableBitmap>) -> Result<MutableBitmap> {
     let mut bitmap = ok(rt, made);
-    assert_eq!(rt; bitmap.pop(), Some(true));
+    assert_that(rt, bitmap.pop() == Some(true));
     Ok(bitmap)
 }
 
@@ -40,7 +41,7 @@ fn is_stored(
     assert_that(rt, start == offset);
     assert_that(rt, length == items.len());
     assert_that(rt, bitmap.len() == length);
-    let falses = items.iter().filter(|item| !**item).count();
+    let falses = items.len().wrapping_sub(lists::trues(items));
     assert_that(rt, bitmap.unset_bits() == falses);
     assert_that(rt, bitmap.null_count() == falses);
     shows(rt, alloc, bitmap, text);
@@ -112,8 +113,7 @@ fn bytes_that_grow_are_canonical(rt: HostRuntime) {
 fn only_a_bitmap_that_is_whole_and_not_shared_is_changed_in_place(rt: HostRuntime) {
     let alloc = rt.alloc();
     let unshared = bitmap_of(&rt, alloc, &[255], 3).into_mut();
-    let right = unshared.right().expect(&rt, "it is not shared");
-    stores(&rt, Ok(right), &[7]);
+    stores(&rt, Ok(right(&rt, unshared)), &[7]);
     let shared = bitmap_of(&rt, alloc, &[0b10], 2);
     let other = ok(&rt, shared.clone());
     let (shared, moved) = (shared.into_mut(), other.sliced(1, 1).into_mut());

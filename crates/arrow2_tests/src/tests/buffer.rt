@@ -3,7 +3,7 @@ ghost use Rattle.std.specs.Prelude.{◌≡◌, length, replicate, IfOk};
 ghost use Rattle.std.specs.Bool.{OnTrue, OnFalse};
 ghost use Rattle.arrow2_model.specs.Buffers.{buffer_items, whole_buffer};
 
-use super::checks::{assert_that, has, ok, shows};
+use super::checks::{assert_that, has, left, ok, right, shows};
 use arrow2_buffer::bytes::Bytes;
 use arrow2_buffer::laws::written_items_are_the_items;
 use arrow2_buffer::{Buffer, IntoIter};
@@ -57,11 +57,9 @@ fn a_slice_shares_its_storage(rt: HostRuntime) {
 fn an_unshared_whole_gives_its_vector(rt: HostRuntime) {
     let alloc = rt.alloc();
     let whole = buffer_of(&rt, alloc, &[1, 2, 3]).sliced(0, 3).into_mut();
-    let items = whole.right().expect(&rt, "it is whole and not shared");
-    has(&rt, items.as_slice(), &[1, 2, 3]);
+    has(&rt, right(&rt, whole).as_slice(), &[1, 2, 3]);
     let part = buffer_of(&rt, alloc, &[1, 2, 3]).sliced(1, 2).into_mut();
-    let part = part.left().expect(&rt, "it is sliced");
-    has(&rt, part.as_slice(), &[2, 3]);
+    has(&rt, left(&rt, part).as_slice(), &[2, 3]);
     let whole = buffer_of(&rt, alloc, &[1, 2, 3]);
     let shared = ok(&rt, whole.clone());
     assert_that(&rt, whole.into_mut().is_left());

@@ -7,10 +7,26 @@ use arrow2_bitmap::{Bitmap, MutableBitmap};
 use arrow2_types::error::{Error, Result};
 use arrow2_types::native::NativeType;
 use arrow2_types::primitive::PrimitiveType;
+use either::Either;
 use std::alloc::Global;
 use std::convert::AsSlice;
 use std::fmt::{Debug, Display};
 use std::process::Abort;
+
+/// Returns the left value of a call that returned one.
+pub(super) fn left<L, R: Drop>(rt: &impl Abort, call: Either<L, R>) -> L {
+    call.left().expect(rt, "it is whole, and not shared")
+}
+
+/// Returns the right value of a call that returned one.
+pub(super) fn right<L: Drop, R>(rt: &impl Abort, call: Either<L, R>) -> R {
+    call.right().expect(rt, "it is sliced or shared")
+}
+
+/// A text, where memory is ample.
+pub(super) fn text(rt: &impl Abort, alloc: Global, text: &str) -> String {
+    ok(rt, String::from_str(alloc, text))
+}
 
 /// Checks a fact.
 pub(super) fn assert_that(rt: &impl Abort, fact: bool)
@@ -29,18 +45,18 @@ pub(super) fn ok<T, E: Debug>(rt: &impl Abort, call: std::result::Result<T, E>) 
 /// A value prints as the text.
 pub(super) fn prints(rt: &impl Abort, alloc: Global, value: &impl Display, text: &str) {
     let printed = ok(rt, value.to_string(alloc));
-    assert_eq!(rt; printed.as_str(), text);
+    assert_that(rt, printed.as_str() == text);
 }
 
 /// A value prints as the text where it is debugged.
 pub(super) fn shows(rt: &impl Abort, alloc: Global, value: &impl Debug, text: &str) {
     let shown = ok(rt, format!(in alloc; "{value:?}"));
-    assert_eq!(rt; shown.as_str(), text);
+    assert_that(rt, shown.as_str() == text);
 }
 
 /// The items are these.
-pub(super) fn has<T: PartialEq + Debug>(rt: &impl Abort, items: &[T], wanted: &[T]) {
-    assert_eq!(rt; items, wanted);
+pub(super) fn has<T: PartialEq>(rt: &impl Abort, items: &[T], wanted: &[T]) {
+    assert_that(rt, items == wanted);
 }
 
 /// A bitmap of these items.
@@ -59,7 +75,7 @@ pub(super) fn thawed(rt: &impl Abort, bitmap: &Bitmap) -> MutableBitmap
 }
 
 /// An iterator gives the items in this order, and no others.
-pub(super) fn gives<T: PartialEq + Debug + Drop, I: Iterator<Item = T>>(
+pub(super) fn gives<T: PartialEq + Drop, I: Iterator<Item = T>>(
     rt: &impl Abort,
     alloc: Global,
     items: I,
@@ -69,7 +85,7 @@ pub(super) fn gives<T: PartialEq + Debug + Drop, I: Iterator<Item = T>>(
     requires finite { IsFinite (I.remaining items) }
 {
     let given: Vec<T> = ok(rt, items.collect(alloc));
-    assert_eq!(rt; given.as_slice(), wanted);
+    has(rt, given.as_slice(), wanted);
 }
 
 /// The call made a bitmap of these items.
@@ -82,10 +98,14 @@ pub(super) fn stores(rt: &impl Abort, made: Result<MutableBitmap>, bytes: &[u8])
     has(rt, ok(rt, made).as_slice(), bytes);
 }
 
+/// Returns the error of a call that refused.
+pub(super) fn refused<T: Drop, E>(rt: &impl Abort, call: std::result::Result<T, E>) -> E {
+    call.err().expect(rt, "accepted")
+}
+
 /// The call refused with the text.
 pub(super) fn refuses<T: Drop>(rt: &impl Abort, alloc: Global, made: Result<T>, text: &str) {
-    let error = made.err().expect(rt, "accepted");
-    prints(rt, alloc, &error, text);
+    prints(rt, alloc, &refused(rt, made), text);
 }
 
 /// The call returned `Overflow`.

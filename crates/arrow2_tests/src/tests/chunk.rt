@@ -21,6 +21,11 @@ fn words_answer_as_their_bits(rt: HostRuntime) {
 fn bits_come_in_turn_and_by_position(rt: HostRuntime) {
     let alloc = rt.alloc();
     has(&rt, &[BitChunk::bit(0b10110110u8, 1)], &[true]);
+    let (a, b, c) = (0x4001u16, 0x40000001u32, 0x4000000000000001u64);
+    has(&rt, &[a.bit(14), b.bit(30), c.bit(62)], &[true; 3]);
+    has(&rt, &[a.bit(15), b.bit(31), c.bit(63)], &[false; 3]);
+    let widths = [u8::WIDTH, u16::WIDTH, u32::WIDTH, u64::WIDTH];
+    has(&rt, &widths, &[8, 16, 32, 64]);
     let items = [false, false, false, false, true, false, false];
     gives(&rt, alloc, BitChunkIter::new(0b00010000u8, 7), &items);
     gives(&rt, alloc, BitChunkOnes::new(0b10000001u8), &[0, 7]);

@@ -35,14 +35,19 @@ fn iterator_over(bytes: &mut [u8]) -> BitChunksExactMut<'_, u16>
     BitChunksExactMut::new(bytes, 35)
 }
 
+/// A chunk that was lent has these bytes, and is written.
+fn is_written(rt: &impl Abort, lent: Option<&mut [u8]>, before: &[u8], values: &[u8]) {
+    let chunk = lent.expect(rt, "a chunk");
+    has(rt, chunk, before);
+    write(chunk, values);
+}
+
 /// Bytes written to the chunks that `next_chunk` lends are in the bytes afterwards.
 fn writes_next_chunks(rt: &impl Abort, first: &[u8], second: &[u8], after: &[u8]) {
     let mut bytes = [1, 2, 3, 4, 5];
     let mut chunks = iterator_over(&mut bytes);
-    write(chunks.next_chunk().expect(rt, "a first chunk"), first);
-    let chunk = chunks.next_chunk().expect(rt, "a second chunk");
-    has(rt, chunk, &[3, 4]);
-    write(chunk, second);
+    is_written(rt, chunks.next_chunk(), &[1, 2], first);
+    is_written(rt, chunks.next_chunk(), &[3, 4], second);
     assert_that(rt, chunks.next_chunk().is_none());
     assert_that(rt, chunks.remainder_len() == 3);
     has(rt, chunks.remainder(), &[5]);
@@ -63,11 +68,9 @@ fn changes_next(rt: &impl Abort, first: &[u8], second: &[u8], after: &[u8]) {
 fn writes_iterated(rt: &impl Abort, first: &[u8], second: &[u8], after: &[u8]) {
     let mut bytes = [1, 2, 3, 4, 5];
     let mut chunks = iterator_over(&mut bytes);
-    assert_that(rt, matches!(chunks.size_hint(), (2, Some(2))));
-    write(chunks.next().expect(rt, "a first chunk"), first);
-    let chunk = chunks.next().expect(rt, "a second chunk");
-    has(rt, chunk, &[3, 4]);
-    write(chunk, second);
+    has(rt, &[chunks.size_hint()], &[(2, Some(2))]);
+    is_written(rt, chunks.next(), &[1, 2], first);
+    is_written(rt, chunks.next(), &[3, 4], second);
     assert_that(rt, chunks.next().is_none());
     has(rt, chunks.remainder(), &[5]);
     has(rt, &bytes, after);

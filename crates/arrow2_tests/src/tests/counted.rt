@@ -1,8 +1,8 @@
-//! The reads of slices and cuts: facts, since a counter has no value when a test runs.
+//! How many bytes slices and cuts read. These are facts that are proved, since a counter has no value when a test runs.
 ghost use Rattle.std.specs.Prelude.{◌≡◌, ◌+◌, ◌<◌, ◌≤◌, ◌^◌};
 ghost use Rattle.arrow2_model.specs.Touched.{slice_reads, cut_reads};
 
-use super::checks::{assert_that, ok};
+use super::checks::{assert_that, has, ok};
 use arrow2_bitmap::Bitmap;
 use arrow2_bits::{Reads, Stored, count_zeros_counted, recount};
 use arrow2_walks::pieces::Pieces;
@@ -95,13 +95,12 @@ fn cuts_read_what_they_count(rt: HostRuntime) {
 fn bits_are_counted_through_stored_bytes(rt: HostRuntime) {
     let mut stored = Stored::new(&[0xf0, 0xff, 0x0f, 0xff], Reads::new());
     assert_that(&rt, count_zeros_counted(&mut stored, 0, 32) == 8);
-    assert_that(&rt, count_zeros_counted(&mut stored, 3, 5) == 1);
-    assert_that(&rt, recount(&mut stored, 0, 32, 8, 2, 28) == 6);
-    assert_that(&rt, recount(&mut stored, 0, 32, 8, 20, 4) == 4);
-    let [first, last] = stored.fetch::<2>(2);
-    assert_that(&rt, stored.len() == 4);
-    assert_that(&rt, first == 0x0f);
-    assert_that(&rt, last == 0xff);
+    let few = count_zeros_counted(&mut stored, 3, 5);
+    let most = recount(&mut stored, 0, 32, 8, 2, 28);
+    let middle = recount(&mut stored, 0, 32, 8, 20, 4);
+    has(&rt, &[few, most, middle], &[1, 6, 4]);
+    has(&rt, &stored.fetch::<2>(2), &[0x0f, 0xff]);
+    has(&rt, &[stored.len()], &[4]);
 }
 
 #[tactic(auto, using(crate::proofs::ReadRows::counts))]

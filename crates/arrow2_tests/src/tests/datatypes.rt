@@ -1,5 +1,5 @@
 //! Worked examples of the type tables, of extensions and of filtered schemas, and derived texts.
-use super::checks::{assert_that, has, ok, shows};
+use super::checks::{assert_that, has, ok, shows, text};
 use arrow2_datatypes::{
     DataType, Field, IntegerType, IntervalUnit, Metadata, PhysicalType, PrimitiveType, Schema,
     TimeUnit, UnionMode, get_extension,
@@ -8,11 +8,6 @@ use std::alloc::Global;
 use std::fmt::Debug;
 use std::hash::{DefaultHasher, Hash, Hasher};
 use std::process::Abort;
-
-/// A text, where memory is ample.
-fn text(rt: &impl Abort, alloc: Global, text: &str) -> String {
-    ok(rt, String::from_str(alloc, text))
-}
 
 /// An extension of the name, with no text of its own.
 fn extension(rt: &impl Abort, alloc: Global, name: &str, inner: DataType) -> DataType {
@@ -27,8 +22,10 @@ fn field(rt: &impl Abort, alloc: Global, name: &str) -> Field {
 
 /// A text more under a name.
 fn annotate(rt: &impl Abort, alloc: Global, metadata: &mut Metadata, name: &str, value: &str) {
-    let inserted: Result<_, _> = metadata.insert(text(rt, alloc, name), text(rt, alloc, value));
-    assert_that(rt, inserted.is_ok());
+    let _ = ok(
+        rt,
+        metadata.insert(text(rt, alloc, name), text(rt, alloc, value)),
+    );
 }
 
 /// Two values are equal.
@@ -91,25 +88,9 @@ fn types_are_laid_out_by_the_table(rt: HostRuntime) {
     assert_that(&rt, UnionMode::sparse(false).is_dense());
 }
 
-/// An optional text is this.
-fn reads(rt: &impl Abort, text: &Option<String>, wanted: Option<&str>) {
-    match (text, wanted) {
-        (Some(text), Some(wanted)) => assert_that(rt, text.as_str() == wanted),
-        (text, wanted) => assert_that(rt, text.is_none() && wanted.is_none()),
-    }
-}
-
-/// The metadata names the extension, with the text.
-fn names(rt: &impl Abort, metadata: &Metadata, name: &str, text: Option<&str>) {
-    let given = ok(rt, get_extension(metadata));
-    let (given, given_text) = given.expect(rt, "an extension");
-    assert_that(rt, given.as_str() == name);
-    reads(rt, &given_text, text);
-}
-
-/// The metadata names no extension.
-fn names_none(rt: &impl Abort, metadata: &Metadata) {
-    assert_that(rt, ok(rt, get_extension(metadata)).is_none());
+/// The metadata names this extension, with its text.
+fn names(rt: &impl Abort, metadata: &Metadata, wanted: Option<(String, Option<String>)>) {
+    is_equal(rt, &ok(rt, get_extension(metadata)), &wanted);
 }
 
 /// Metadata of one text under a name.
@@ -123,19 +104,21 @@ fn annotated(rt: &impl Abort, alloc: Global, name: &str, value: &str) -> Metadat
 fn metadata_names_an_extension(rt: HostRuntime) {
     let alloc = rt.alloc();
     let (name, value) = ("ARROW:extension:name", "ARROW:extension:metadata");
-    names_none(&rt, &Metadata::new(alloc));
-    names(&rt, &annotated(&rt, alloc, name, "a"), "a", None);
+    names(&rt, &Metadata::new(alloc), None);
+    let wanted = Some((text(&rt, alloc, "a"), None));
+    names(&rt, &annotated(&rt, alloc, name, "a"), wanted);
     let mut metadata = annotated(&rt, alloc, value, "b");
-    names_none(&rt, &metadata);
+    names(&rt, &metadata, None);
     annotate(&rt, alloc, &mut metadata, name, "a");
-    names(&rt, &metadata, "a", Some("b"));
+    let wanted = Some((text(&rt, alloc, "a"), Some(text(&rt, alloc, "b"))));
+    names(&rt, &metadata, wanted);
 }
 
 /// A schema has fields of these names.
 fn has_fields(rt: &impl Abort, schema: &Schema, wanted: &[&str]) {
     assert_that(rt, schema.fields.len() == wanted.len());
     for (field, name) in schema.fields.iter().zip(wanted) {
-        assert_eq!(rt; field.name.as_str(), *name);
+        assert_that(rt, field.name.as_str() == *name);
     }
 }
 

@@ -25,8 +25,7 @@ fn extended(
     requires inside { offset + len ≤ 8 * length bytes.now }
 {
     let mut grown = grown_from(rt, alloc, items);
-    let done = grown.extend_from_slice(bytes, offset, len);
-    assert_that(rt, done.is_ok());
+    ok(rt, grown.extend_from_slice(bytes, offset, len));
     grown
 }
 

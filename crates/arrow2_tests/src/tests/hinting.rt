@@ -1,4 +1,4 @@
-//! Iterators whose size hint is not to be believed.
+//! Iterators whose size hint is wrong.
 ghost use Rattle.std.specs.Prelude.{◌+◌};
 ghost use Rattle.std.specs.Iterator.{at_most};
 
@@ -7,11 +7,10 @@ use super::offset;
 use arrow2_bitmap::{Bitmap, MutableBitmap};
 use arrow2_buffer::Buffer;
 use arrow2_offset::Offsets;
-use arrow2_types::error::Result;
 use std::alloc::Global;
 use std::process::Abort;
 
-/// Gives the numbers from 1 on while `left` is not 0. Its size hint falls by `falls` an item.
+/// Returns the numbers from 1 on while `left` is not 0. Its size hint falls by `falls` per item.
 #[derive(Drop)]
 struct Hinting {
     given: usize,
@@ -40,7 +39,7 @@ impl Iterator for Hinting {
     }
 }
 
-/// Returns `left` numbers, under a size hint that begins at `hint` and falls by `falls` an item.
+/// Returns `left` numbers, with a size hint that begins at `hint` and falls by `falls` per item.
 fn numbers(left: u64, (hint, falls): (usize, usize)) -> Hinting {
     Hinting {
         given: 0,
@@ -50,19 +49,19 @@ fn numbers(left: u64, (hint, falls): (usize, usize)) -> Hinting {
     }
 }
 
-/// The call made a buffer of these items.
-fn has_items(rt: &impl Abort, made: Result<Buffer<bool>>, items: &[bool]) {
-    has(rt, ok(rt, made).as_slice(), items);
+/// Is true of every number.
+fn holds(_number: usize) -> bool {
+    true
 }
 
-/// Under such a size hint, three true items are collected.
+/// Three true items are collected with such a size hint.
 fn are_collected(rt: &impl Abort, alloc: Global, hint: (usize, usize)) {
-    let grown = MutableBitmap::try_from_iter(alloc, numbers(3, hint).map(|_| true));
+    let grown = MutableBitmap::try_from_iter(alloc, numbers(3, hint).map(holds));
     stores(rt, grown, &[7]);
-    let frozen = Bitmap::try_from_iter(alloc, numbers(3, hint).map(|_| true));
+    let frozen = Bitmap::try_from_iter(alloc, numbers(3, hint).map(holds));
     makes(rt, alloc, frozen, &[true; 3]);
-    let buffer = Buffer::try_from_iter(alloc, numbers(3, hint).map(|_| true));
-    has_items(rt, buffer, &[true; 3]);
+    let buffer = Buffer::try_from_iter(alloc, numbers(3, hint).map(holds));
+    has(rt, ok(rt, buffer).as_slice(), &[true; 3]);
 }
 
 #[test]

@@ -1,9 +1,9 @@
-//! Functions of lists of booleans, by plain code that calls nothing of the layer.
+//! Functions of lists of booleans, in plain code that makes no call of the layer.
 ghost use Rattle.std.specs.Prelude.{◌<◌};
 
 use std::alloc::{AllocError, Global};
 
-/// A list that plain code gives, where it found memory.
+/// A list that plain code returns, unless an allocation failed.
 pub(super) type Given = Result<Vec<bool>, AllocError>;
 
 /// Returns the item at an index, and false after the last one.
@@ -14,6 +14,13 @@ pub(super) fn at(list: &[bool], i: usize) -> bool {
 /// Counts the items that are true.
 pub(super) fn trues(list: &[bool]) -> usize {
     list.iter().filter(|item| **item).count()
+}
+
+/// Returns the items after the whole words of this width.
+pub(super) fn rest(list: &[bool], width: usize) -> &[bool]
+    requires { 0 < width }
+{
+    &list[list.len() - list.len() % width..]
 }
 
 /// Appends the items of another list.
@@ -40,7 +47,8 @@ pub(super) fn mixed(alloc: Global, lists: &[&[bool]], width: usize) -> Given
     requires { 0 < width }
 {
     let mut items = Vec::new(alloc);
-    for i in 0..lists.last().map_or(0, |list| list.len()) {
+    let last = lists.last().copied().unwrap_or(&[]);
+    for i in 0..last.len() {
         items.push(mixed_at(lists, width, i))?;
     }
     Ok(items)
@@ -69,7 +77,7 @@ pub(super) fn nulled(
     Ok(items)
 }
 
-/// Byte `index` of those that hold a list from bit `offset` on, all other bits alike.
+/// Byte `index` of the bytes that hold a list from bit `offset` on. All other bits are equal.
 fn stored_byte(list: &[bool], offset: usize, spare: bool, index: usize) -> u8 {
     let mut byte = 0u8;
     for k in 0..8usize {
@@ -81,7 +89,7 @@ fn stored_byte(list: &[bool], offset: usize, spare: bool, index: usize) -> u8 {
     byte
 }
 
-/// Returns bytes that hold a list from bit `offset` on, all other bits alike, those of `following` more bytes too.
+/// Returns bytes that hold a list from bit `offset` on. All other bits are equal, also those of `following` more bytes.
 pub(super) fn stored(
     alloc: Global,
     list: &[bool],

@@ -1,4 +1,4 @@
-//! Calls that take memory, at a million items, where no command of a script makes them.
+//! Calls that allocate, with a million items, that no command of a script makes.
 use super::checks::{assert_that, has, ok};
 use arrow2_bitmap::bitmap_ops::{binary, unary};
 use arrow2_bitmap::{Bitmap, MutableBitmap};
@@ -20,9 +20,24 @@ fn counts(rt: &impl Abort, made: Result<Bitmap>, falses: usize) {
     assert_that(rt, bitmap.unset_bits() == falses);
 }
 
+/// Returns whether 3 does not divide the index.
+fn is_between(i: usize) -> bool {
+    i % 3 != 0
+}
+
 /// A million items, each third one false.
 fn thirds(alloc: Global) -> Result<Bitmap> {
-    Bitmap::try_from_iter(alloc, (0..MILLION).map(|i| i % 3 != 0))
+    Bitmap::try_from_iter(alloc, (0..MILLION).map(is_between))
+}
+
+/// Returns the word with each bit negated.
+fn negated(x: u64) -> u64 {
+    !x
+}
+
+/// Adds the bits of two words without carry.
+fn added(x: u64, y: u64) -> u64 {
+    x ^ y
 }
 
 /// A million false items of which bitmaps are packed.
@@ -46,8 +61,8 @@ fn bitmaps_are_packed_and_collected(rt: HostRuntime) {
 #[test]
 fn kernels_make_bitmaps(rt: HostRuntime) {
     let bitmap = ok(&rt, thirds(rt.alloc()));
-    counts(&rt, unary(&bitmap, |x| !x), 666666);
-    counts(&rt, binary(&bitmap, &bitmap, |x, y| x ^ y), MILLION);
+    counts(&rt, unary(&bitmap, negated), 666666);
+    counts(&rt, binary(&bitmap, &bitmap, added), MILLION);
 }
 
 /// The call made a million items.

@@ -1,7 +1,6 @@
 //! Offsets as their callers see them: worked examples, texts of refusals, and calls that no command of a script makes.
-use super::checks::{assert_that, gives, has, ok, overflows, refuses};
+use super::checks::{assert_that, gives, has, left, ok, overflows, refuses, right};
 use arrow2_buffer::Buffer;
-use arrow2_index::offset::Offset;
 use arrow2_offset::{Offsets, OffsetsBuffer};
 use arrow2_types::error::Result;
 use either::Either;
@@ -9,7 +8,7 @@ use std::alloc::Global;
 use std::process::Abort;
 
 /// Offsets that begin at 0.
-fn grown<O: Offset>(rt: &impl Abort, alloc: Global, lengths: &[usize]) -> Offsets<O> {
+fn grown(rt: &impl Abort, alloc: Global, lengths: &[usize]) -> Offsets<i64> {
     ok(
         rt,
         Offsets::try_from_lengths(alloc, lengths.iter().copied()),
@@ -28,19 +27,14 @@ fn shared(rt: &impl Abort, alloc: Global, items: &[i32]) -> OffsetsBuffer<i32> {
 }
 
 /// The call made these offsets.
-pub(super) fn makes<O: Offset>(rt: &impl Abort, made: Result<Offsets<O>>, items: &[O]) {
+pub(super) fn makes(rt: &impl Abort, made: Result<Offsets<i64>>, items: &[i64]) {
     let vector = ok(rt, made).into_inner();
     has(rt, vector.as_slice(), items);
 }
 
-/// The call made these shared offsets.
-fn shares<O: Offset>(rt: &impl Abort, made: Result<OffsetsBuffer<O>>, items: &[O]) {
-    has(rt, ok(rt, made).as_slice(), items);
-}
-
 #[test]
 fn growing_offsets_are_read(rt: HostRuntime) {
-    let offsets = grown::<i32>(&rt, rt.alloc(), &[3, 4, 1, 2]);
+    let offsets = grown(&rt, rt.alloc(), &[3, 4, 1, 2]);
     assert_that(&rt, offsets.len() == 5);
     assert_that(&rt, offsets.len_proxy() == 4);
     has(&rt, &[*offsets.last(), offsets[1]], &[10, 3]);
@@ -71,7 +65,8 @@ fn ends_in(rt: &impl Abort, offsets: &OffsetsBuffer<i32>, ends: &[Option<usize>]
 /// Offsets are made of the buffer of others, and taken apart.
 fn is_taken_apart(rt: &impl Abort, offsets: OffsetsBuffer<i32>, items: &[i32]) {
     let buffer = ok(rt, offsets.buffer().clone());
-    shares(rt, OffsetsBuffer::try_from(buffer), items);
+    let made: OffsetsBuffer<i32> = ok(rt, OffsetsBuffer::try_from(buffer));
+    has(rt, made.as_slice(), items);
     has(rt, offsets.into_inner().as_slice(), items);
 }
 
@@ -89,15 +84,9 @@ fn shared_offsets_are_read_and_sliced(rt: HostRuntime) {
 
 /// The offsets that could not be taken back are these.
 fn stays(rt: &impl Abort, given: Either<OffsetsBuffer<i32>, Offsets<i32>>, items: &[i32]) {
-    let left = given.left().expect(rt, "it is sliced or shared");
+    let left = left(rt, given);
     has(rt, left.as_slice(), items);
     assert_that(rt, left.len_proxy() + 1 == items.len());
-}
-
-/// The offsets that were taken back are these.
-fn is_taken(rt: &impl Abort, given: Either<OffsetsBuffer<i32>, Offsets<i32>>, items: &[i32]) {
-    let right = given.right().expect(rt, "it is whole, and not shared");
-    has(rt, right.as_slice(), items);
 }
 
 #[test]
@@ -110,13 +99,13 @@ fn shared_offsets_are_taken_back_where_nothing_is_sliced_off(rt: HostRuntime) {
     let whole = shared(&rt, alloc, &[5, 8, 8, 12]);
     let other = ok(&rt, whole.clone());
     stays(&rt, whole.into_mut(), &[5, 8, 8, 12]);
-    is_taken(&rt, other.into_mut(), &[5, 8, 8, 12]);
+    let taken = right(&rt, other.into_mut());
+    has(&rt, taken.as_slice(), &[5, 8, 8, 12]);
 }
 
 /// Offsets grow by the lengths of others, growing, to these.
 fn grow_by_others(rt: &impl Abort, mut own: Offsets<i32>, other: &Offsets<i32>, wanted: &[i32]) {
-    let outcome = own.try_extend_from_self(other);
-    assert_that(rt, outcome.is_ok());
+    ok(rt, own.try_extend_from_self(other));
     assert_that(rt, own != *other);
     has(rt, own.as_slice(), wanted);
 }
@@ -131,8 +120,7 @@ fn grow_by_a_part(
 ) {
     assert_that(rt, other.len() > length);
     assert_that(rt, start < other.len() - length);
-    let outcome = own.try_extend_from_slice(&other, start, length);
-    assert_that(rt, outcome.is_ok());
+    ok(rt, own.try_extend_from_slice(&other, start, length));
     has(rt, own.as_slice(), wanted);
 }
 
@@ -156,7 +144,7 @@ fn growth_by_others_and_by_empty_slots(rt: HostRuntime) {
     has(&rt, offsets.as_slice(), &[0, 3, 3, 3]);
 }
 
-/// Offsets that hold one length of the greatest number less 1 grow by 1, and then by 0 alone.
+/// Offsets that hold one length, the greatest offset minus 1, grow by 1, and then only by 0.
 fn ends_at_its_greatest(rt: &impl Abort, mut large: Offsets<i64>) {
     let results = [
         large.try_push(1).is_ok(),
@@ -172,10 +160,10 @@ fn ends_at_its_greatest(rt: &impl Abort, mut large: Offsets<i64>) {
 #[test]
 fn large_offsets_end_at_their_greatest(rt: HostRuntime) {
     let alloc = rt.alloc();
-    let mut large = grown::<i64>(&rt, alloc, &[]);
+    let mut large = grown(&rt, alloc, &[]);
     overflows(&rt, large.try_push_usize(9223372036854775808));
     has(&rt, large.as_slice(), &[0]);
-    ends_at_its_greatest(&rt, grown::<i64>(&rt, alloc, &[9223372036854775806]));
+    ends_at_its_greatest(&rt, grown(&rt, alloc, &[9223372036854775806]));
     overflows(&rt, Offsets::<i32>::new_zeroed(alloc, usize::MAX));
     overflows(&rt, Offsets::<i64>::with_capacity(alloc, usize::MAX));
 }
@@ -200,15 +188,18 @@ fn what_is_no_offsets_is_refused_by_the_first_rule(rt: HostRuntime) {
     is_refused(&rt, alloc, &[2, 1], text);
 }
 
-/// Offsets have these items in the greater width, and are themselves again in the smaller one; shared ones too.
+/// Offsets have these items in the greater width, and converted back to the smaller width they are the same again. So
+/// are shared offsets.
 fn widens(rt: &impl Abort, alloc: Global, narrow: &[i32], wide: &[i64]) {
     let widened = ok(rt, Offsets::<i64>::try_from(of(rt, alloc, narrow)));
     has(rt, widened.as_slice(), wide);
-    makes(rt, Offsets::<i32>::try_from(widened), narrow);
+    let narrowed = ok(rt, Offsets::<i32>::try_from(widened));
+    has(rt, narrowed.as_slice(), narrow);
     let widened = OffsetsBuffer::<i64>::try_from(&shared(rt, alloc, narrow));
     let widened = ok(rt, widened);
     has(rt, widened.as_slice(), wide);
-    shares(rt, OffsetsBuffer::<i32>::try_from(&widened), narrow);
+    let narrowed = ok(rt, OffsetsBuffer::<i32>::try_from(&widened));
+    has(rt, narrowed.as_slice(), narrow);
 }
 
 #[test]
@@ -216,9 +207,9 @@ fn offsets_widen_and_narrow(rt: HostRuntime) {
     let alloc = rt.alloc();
     widens(&rt, alloc, &[5, 8, 2147483647], &[5, 8, 2147483647]);
     widens(&rt, alloc, &[9; 2000], &[9; 2000]);
-    let large = grown::<i64>(&rt, alloc, &[2147483648]);
+    let large = grown(&rt, alloc, &[2147483648]);
     overflows(&rt, Offsets::<i32>::try_from(large));
-    let large = OffsetsBuffer::try_from(grown::<i64>(&rt, alloc, &[2147483648]));
+    let large = OffsetsBuffer::try_from(grown(&rt, alloc, &[2147483648]));
     let large = ok(&rt, large);
     overflows(&rt, OffsetsBuffer::<i32>::try_from(&large));
 }

@@ -1,9 +1,9 @@
-//! The storage test of the calls that no command of a script makes: each call that shows no storage depends on the list
-//! alone, whatever bit offset, padding bits and spare bytes the list has in memory.
+//! Tests, for the calls that no command of a script makes, that the result depends only on the list, whatever bit
+//! offset, padding bits and spare bytes the list has in memory. Calls that show the storage are not tested here.
 ghost use Rattle.std.specs.Prelude.{◌≡◌, ◌<◌, length};
 ghost use Rattle.arrow2_model.specs.Storage.{items_of};
 
-use super::checks::{assert_that, ok, thawed};
+use super::checks::{assert_that, gives, ok, thawed};
 use super::lists::{self, Given};
 use arrow2_array::BooleanArray;
 use arrow2_bitmap::assign_ops::{binary_assign, unary_assign};
@@ -16,11 +16,9 @@ use arrow2_types::error::Result;
 use arrow2_walks::{SlicesIterator, ZipValidity};
 use std::alloc::Global;
 use std::convert::TryFrom;
-use std::iter::Copied;
 use std::process::Abort;
-use std::slice;
 
-/// A bitmap, and the list that it is to act as.
+/// A bitmap, and the list of the items that it must have.
 type Of<'a, 'b> = (&'a Bitmap, &'b [bool]);
 
 /// Checks that a bitmap has these items.
@@ -39,24 +37,31 @@ fn becomes(rt: &impl Abort, changed: MutableBitmap, list: Given) {
     makes(rt, Bitmap::try_from(changed), list);
 }
 
+/// Checks that an iterator gave the item that a list has there.
+fn is_item(rt: &impl Abort, item: Option<bool>, wanted: Option<bool>) {
+    assert_that(rt, item == wanted);
+}
+
+/// Iterates over the items from the last one on.
+fn is_reversed(rt: &impl Abort, (bitmap, list): Of) {
+    assert_that(rt, bitmap.iter().rev().eq(list.iter().rev().copied()));
+}
+
 /// Iterates over the items from both ends.
 fn is_iterated(rt: &impl Abort, (bitmap, list): Of) {
-    assert_that(rt, bitmap.iter().rev().eq(list.iter().rev().copied()));
     let (mut inwards, mut items) = (bitmap.iter(), list.iter().copied());
     for _ in 0..list.len() {
-        assert_that(rt, inwards.next() == items.next());
-        assert_that(rt, inwards.next_back() == items.next_back());
+        is_item(rt, inwards.next(), items.next());
+        is_item(rt, inwards.next_back(), items.next_back());
     }
 }
 
 /// Skips to each index, and to the one after the last.
 fn is_skipped(rt: &impl Abort, (bitmap, list): Of) {
     for i in 0..list.len() + 1 {
-        assert_that(rt, bitmap.iter().nth(i) == list.get(i).copied());
-        assert_that(
-            rt,
-            bitmap.iter().nth_back(i) == list.iter().rev().copied().nth(i),
-        );
+        is_item(rt, bitmap.iter().nth(i), list.iter().copied().nth(i));
+        let item = list.iter().copied().nth_back(i);
+        is_item(rt, bitmap.iter().nth_back(i), item);
     }
 }
 
@@ -71,51 +76,84 @@ fn is_counted_from(rt: &impl Abort, (bitmap, list): Of, start: usize) {
     }
 }
 
-/// Checks that words of this width, and the rest, hold the items one by one.
-fn has_words<T: BitChunk>(rt: &impl Abort, (bitmap, list): Of) {
-    let mut items = list.iter().copied();
-    let words = bitmap.chunks::<T>();
-    let rest = words.remainder_iter();
-    for word in words {
-        has_bits(rt, word, &mut items);
-    }
-    assert_that(rt, rest.eq(items));
+/// Reads the items after the words of each width.
+fn has_rests(rt: &impl Abort, (bitmap, list): Of) {
+    let alloc = bitmap.allocator();
+    let rest = bitmap.chunks::<u8>().remainder_iter();
+    gives(rt, alloc, rest, lists::rest(list, 8));
+    let rest = bitmap.chunks::<u16>().remainder_iter();
+    gives(rt, alloc, rest, lists::rest(list, 16));
+    let rest = bitmap.chunks::<u32>().remainder_iter();
+    gives(rt, alloc, rest, lists::rest(list, 32));
+    let rest = bitmap.chunks::<u64>().remainder_iter();
+    gives(rt, alloc, rest, lists::rest(list, 64));
 }
 
-/// Checks that the word holds the next items.
-fn has_bits<T: BitChunk>(rt: &impl Abort, word: T, items: &mut Copied<slice::Iter<'_, bool>>) {
-    for i in 0..T::WIDTH {
-        assert_that(rt, items.next() == Some(word.bit(i)));
-    }
+/// Checks that a bitmap that was changed is the sum of these lists, each moved within words of this width.
+fn is_mixed(rt: &impl Abort, changed: MutableBitmap, lists: &[&[bool]], width: usize)
+    requires { 0 < width }
+{
+    let wanted = lists::mixed(changed.allocator(), lists, width);
+    becomes(rt, changed, wanted);
 }
 
-/// Applies functions of one and of two words of this width in place.
-fn changes_by_words<T: BitChunk>(rt: &impl Abort, left: Of, right: Of) {
-    let alloc = left.0.allocator();
+/// Applies functions of one word of each width in place.
+fn changes_by_a_word(rt: &impl Abort, (bitmap, list): Of) {
+    let mut changed = thawed(rt, bitmap);
+    unary_assign(&mut changed, |x: u8| x.up(1));
+    is_mixed(rt, changed, &[&[], list], 8);
+    let mut changed = thawed(rt, bitmap);
+    unary_assign(&mut changed, |x: u16| x.up(1));
+    is_mixed(rt, changed, &[&[], list], 16);
+    let mut changed = thawed(rt, bitmap);
+    unary_assign(&mut changed, |x: u32| x.up(1));
+    is_mixed(rt, changed, &[&[], list], 32);
+    let mut changed = thawed(rt, bitmap);
+    unary_assign(&mut changed, |x: u64| x.up(1));
+    is_mixed(rt, changed, &[&[], list], 64);
+}
+
+/// Applies functions of two words of each width in place.
+fn changes_by_two_words(rt: &impl Abort, left: Of, right: Of) {
+    let lists = [left.1, right.1];
     assert_that(rt, left.0.len() == right.0.len());
-    assert_that(rt, T::WIDTH > 0);
     let mut changed = thawed(rt, left.0);
-    unary_assign(&mut changed, |x: T| x.up(1));
-    becomes(rt, changed, lists::mixed(alloc, &[&[], left.1], T::WIDTH));
+    binary_assign(&mut changed, right.0, |x: u8, y: u8| x.bit_xor(y.up(1)));
+    is_mixed(rt, changed, &lists, 8);
     let mut changed = thawed(rt, left.0);
-    binary_assign(&mut changed, right.0, |x: T, y: T| x.bit_xor(y.up(1)));
-    becomes(
-        rt,
-        changed,
-        lists::mixed(alloc, &[left.1, right.1], T::WIDTH),
-    );
+    binary_assign(&mut changed, right.0, |x: u16, y: u16| x.bit_xor(y.up(1)));
+    is_mixed(rt, changed, &lists, 16);
+    let mut changed = thawed(rt, left.0);
+    binary_assign(&mut changed, right.0, |x: u32, y: u32| x.bit_xor(y.up(1)));
+    is_mixed(rt, changed, &lists, 32);
+    let mut changed = thawed(rt, left.0);
+    binary_assign(&mut changed, right.0, |x: u64, y: u64| x.bit_xor(y.up(1)));
+    is_mixed(rt, changed, &lists, 64);
 }
 
-/// Reads the words of each width, and changes them in place.
-fn goes_by_each_width(rt: &impl Abort, left: Of, right: Of) {
-    has_words::<u8>(rt, left);
-    has_words::<u16>(rt, left);
-    has_words::<u32>(rt, left);
-    has_words::<u64>(rt, left);
-    changes_by_words::<u8>(rt, left, right);
-    changes_by_words::<u16>(rt, left, right);
-    changes_by_words::<u32>(rt, left, right);
-    changes_by_words::<u64>(rt, left, right);
+/// Moves the bits of a word.
+fn moved(x: u64) -> u64 {
+    x << 1
+}
+
+/// Adds the bits of two words without carry, those of the second one moved.
+fn mixed(x: u64, y: u64) -> u64 {
+    x ^ y << 1
+}
+
+/// Adds the bits of three words without carry, those of word `k` moved by `k` positions.
+fn mixed_of_three(x: u64, y: u64, z: u64) -> u64 {
+    x ^ y << 1 ^ z << 2
+}
+
+/// Adds the bits of four words in the same way.
+fn mixed_of_four(x: u64, y: u64, z: u64, v: u64) -> u64 {
+    mixed_of_three(x, y, z) ^ v << 3
+}
+
+/// Checks that the call made the sum of these lists, each moved within words.
+fn mixes(rt: &impl Abort, alloc: Global, made: Result<Bitmap>, lists: &[&[bool]]) {
+    makes(rt, made, lists::mixed(alloc, lists, 64));
 }
 
 /// Applies functions of one to four words.
@@ -125,20 +163,16 @@ fn goes_by_words(rt: &impl Abort, inputs: [&Bitmap; 4], lists: [&[bool]; 4]) {
     assert_that(rt, a.len() == b.len());
     assert_that(rt, a.len() == c.len());
     assert_that(rt, a.len() == d.len());
-    let made = unary(a, |x| x << 1);
-    makes(rt, made, lists::mixed(alloc, &[&[], lists[0]], 64));
-    let made = binary(a, b, |x, y| x ^ y << 1);
-    makes(rt, made, lists::mixed(alloc, &lists[..2], 64));
-    let made = ternary(a, b, c, |x, y, z| x ^ y << 1 ^ z << 2);
-    makes(rt, made, lists::mixed(alloc, &lists[..3], 64));
-    let made = quaternary(a, b, c, d, |x, y, z, v| x ^ y << 1 ^ z << 2 ^ v << 3);
-    makes(rt, made, lists::mixed(alloc, &lists, 64));
+    mixes(rt, alloc, unary(a, moved), &[&[], lists[0]]);
+    mixes(rt, alloc, binary(a, b, mixed), &lists[..2]);
+    mixes(rt, alloc, ternary(a, b, c, mixed_of_three), &lists[..3]);
+    mixes(rt, alloc, quaternary(a, b, c, d, mixed_of_four), &lists);
 }
 
 /// The results of an operator: a new bitmap, and two that were changed in place.
 type Combined = (Result<Bitmap>, MutableBitmap, MutableBitmap);
 
-/// Checks that all of them have these items.
+/// Checks that all three have these items.
 fn combines(rt: &impl Abort, (made, taken, changed): Combined, list: Given) {
     let list = ok(rt, list);
     has_items(rt, &ok(rt, made), list.as_slice());
@@ -146,7 +180,7 @@ fn combines(rt: &impl Abort, (made, taken, changed): Combined, list: Given) {
     is_frozen(rt, changed, list.as_slice());
 }
 
-/// Checks that a bitmap has these items where it is frozen.
+/// Checks that a bitmap, once frozen, has these items.
 fn is_frozen(rt: &impl Abort, bitmap: MutableBitmap, list: &[bool]) {
     has_items(rt, &ok(rt, Bitmap::try_from(bitmap)), list);
 }
@@ -224,6 +258,7 @@ fn both_have_nulls(rt: &impl Abort, (validity, valid): Of, (values, list): Of) {
 
 /// Makes the calls on one bitmap.
 fn is_its_list(rt: &impl Abort, bitmap: Of) {
+    is_reversed(rt, bitmap);
     is_iterated(rt, bitmap);
     is_skipped(rt, bitmap);
     for start in 0..bitmap.1.len() + 1 {
@@ -235,12 +270,14 @@ fn is_its_list(rt: &impl Abort, bitmap: Of) {
 
 /// Makes the calls on two bitmaps.
 fn pairs_agree(rt: &impl Abort, left: Of, right: Of) {
-    goes_by_each_width(rt, left, right);
+    has_rests(rt, left);
+    changes_by_a_word(rt, left);
+    changes_by_two_words(rt, left, right);
     goes_by_operators(rt, left, right);
     both_have_nulls(rt, left, right);
 }
 
-/// Stores the list from a bit offset on, all padding bits alike, those of `following` more bytes too.
+/// Stores the list from a bit offset on. All padding bits are equal, also those of `following` more bytes.
 fn stored(
     rt: &impl Abort,
     alloc: Global,
