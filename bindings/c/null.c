@@ -235,6 +235,9 @@ static void buffers(void) {
     EXPECT(ARROW2_OK, arrow2_bits_and_kleene(arrow2_bits_of(&empty, 1), arrow2_bits_of(&empty, 0),
                                              arrow2_bits_of(&empty, 1), arrow2_bits_of(&empty, 0), 0, values, 0,
                                              validity, 0));
+    no_bytes[1] = bytes;
+    EXPECT(ARROW2_OK, arrow2_array_check(&schema, &empty, NULL));
+    expect_none("values of no items", arrow2_bits_of(&empty, 1));
 }
 
 /* Whether bits begin at this bit of these bytes. */

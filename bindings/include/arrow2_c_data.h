@@ -211,19 +211,19 @@ static inline uint32_t arrow2_bits_or_kleene(struct arrow2_bits left, struct arr
         length, values, arrow2_c_count(values, values_len), validity, arrow2_c_count(validity, validity_len));
 }
 
-/* Returns the bits of buffer `index` of an array that was checked, from the array's own offset on. Buffer 0 is the
- * validity, except in a union, where it is the types. Buffer 1 of a boolean array is its values. Do not call this
- * function for any other buffer: there `bytes_len` of the result may be greater than the number of bytes that the
- * buffer has. If `length` is 0, the check accepts any pointer to values or types: do not use the result unless the
- * producer set a valid pointer. The pointer of a validity must be NULL or point to the bytes of offset + length bits,
- * also if `length` is 0. A null array has no buffer, and each of its items is null. So test the format before you take
- * a validity, as `columns.c` of the examples does. If `index` is negative or not below `n_buffers`, or the buffer is
- * NULL, the result has `bytes` NULL, `bytes_len` 0 and `offset` 0.
+/* Returns the bits of buffer `index` of an array that was checked, from the array's own offset on. Call it only for a
+ * validity, which is buffer 0 of every format but unions, and for the values of a boolean array, which are buffer 1. Of
+ * any other buffer, such as the types of a union, `bytes_len` of the result may be greater than the number of bytes.
+ *
+ * The result has `bytes` NULL, `bytes_len` 0 and `offset` 0 in each of these cases: `index` is negative or not below
+ * `n_buffers`; the buffer is NULL; the buffer holds values and `length` is 0, where the check accepts any pointer. A
+ * null array has no buffer, and each of its items is null. So test the format before you take a validity, as
+ * `columns.c` of the examples does.
  *
  * Only the array's own offset is applied. For a column of a batch call arrow2_bits_of_column. */
 static inline struct arrow2_bits arrow2_bits_of(const struct ArrowArray *array, int index) {
     struct arrow2_bits bits = {NULL, 0, 0};
-    if (index < 0 || index >= array->n_buffers || !array->buffers[index]) {
+    if (index < 0 || index >= array->n_buffers || !array->buffers[index] || (index > 0 && array->length == 0)) {
         return bits;
     }
     bits.bytes = (const uint8_t *)array->buffers[index];
@@ -234,9 +234,9 @@ static inline struct arrow2_bits arrow2_bits_of(const struct ArrowArray *array, 
 
 /* Returns the bits of buffer `index` of column `column` of a batch that was checked, from row 0 of the batch on. A
  * batch is a struct: its row i is item `batch->offset + i` of each column, so the batch's offset is added to the
- * column's own offset. This function also serves for the children of a sparse union. If there is no such column or
- * buffer, the result is the same as that of arrow2_bits_of where there is no buffer. Used as a validity, this result
- * means that no item is null.
+ * column's own offset. This function also serves for the children of a sparse union. If there is no such column, or
+ * arrow2_bits_of returns no bytes, the result has `bytes` NULL, `bytes_len` 0 and `offset` 0. Used as a validity, this
+ * result means that no item is null.
  *
  * The validity of the struct itself is not applied: arrow2_bits_of(batch, 0) returns it. */
 static inline struct arrow2_bits arrow2_bits_of_column(const struct ArrowArray *batch, int64_t column, int index) {

@@ -99,19 +99,25 @@ pub extern "C" fn bench_append(
     }
 }
 
+/// The first bits of one byte: `own` of them, at most 8.
+fn begun(alloc: Global, own: usize) -> Result<MutableBitmap> {
+    let bytes = Vec::from_slice(alloc, &[85])?;
+    Ok(MutableBitmap::from_vec(bytes, own.min(8)))
+}
+
 /// Returns the last item of a prefix with the bits of a part appended.
 fn extend_from_slice(alloc: Global, own: usize, bytes: &[u8], part: &Part) -> Result<usize> {
     if !part.is_within(bytes.len().saturating_mul(8)) {
         return Ok(0);
     }
-    let mut bitmap = growing(alloc, &[85], own)?;
+    let mut bitmap = begun(alloc, own)?;
     bitmap.extend_from_slice(bytes, part.offset, part.length)?;
     Ok(last_item(&bitmap))
 }
 
 /// Returns the last item of a prefix with true items appended.
 fn extend_constant(alloc: Global, own: usize, length: usize) -> Result<usize> {
-    let mut bitmap = growing(alloc, &[85], own)?;
+    let mut bitmap = begun(alloc, own)?;
     bitmap.extend_constant(length, true)?;
     Ok(last_item(&bitmap))
 }

@@ -38,6 +38,12 @@ ones_in_two bytes later first m n count a b same e is-a is-b =
     let still = ap (λ (l : List ℕ). falses (part (bits l) (8 * (first + m)) (8 * n))) same in
     rw both (omega (arith, joined, second, still, is-a, is-b))
 
+-- the next words
+pub ones_with_words : (bytes : List ℕ) (first end k a b : ℕ) → first ≤ end → a + falses (part (bits bytes) (8 * first) (8 * (end - first))) ≡ 8 * (end - first) → b + falses (part (bits bytes) (8 * end) (8 * k)) ≡ 8 * k → a + b + falses (part (bits bytes) (8 * first) (8 * (end + k - first))) ≡ 8 * (end + k - first)
+ones_with_words bytes first end k a b from is-a is-b =
+    let at : first + (end - first) ≡ end = omega (arith, from) in
+    ones_in_two bytes bytes first (end - first) k (end + k - first) a b refl (omega (arith, from)) is-a (rw at is-b)
+
 -- a head of bits, whole bytes, and a tail of bits
 pub zeros_in_three : (bytes : List ℕ) (first start len head whole count tail a b d : ℕ) → 8 * whole ≡ 8 * first + start + head → len ≡ head + (8 * count + tail)
     → a ≡ falses (part (bits bytes) (8 * first + start) head) → b ≡ falses (part (bits bytes) (8 * whole) (8 * count)) → d ≡ falses (part (bits bytes) (8 * (whole + count) + 0) tail) → a + b + d ≡ falses (part (bits bytes) (8 * first + start) len)

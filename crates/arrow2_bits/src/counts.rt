@@ -1,5 +1,5 @@
 //! Counts of bits that are not set.
-ghost use Rattle.std.specs.Prelude.{◌≡◌, ◌+◌, ◌*◌, ◌/◌, ◌<◌, ◌≤◌, ◌^◌, length};
+ghost use Rattle.std.specs.Prelude.{◌≡◌, ◌+◌, ◌-◌, ◌*◌, ◌/◌, ◌<◌, ◌≤◌, ◌^◌, length};
 ghost use Rattle.arrow2_model.specs.Bits.{bits};
 ghost use Rattle.arrow2_model.specs.Parts.{part, falses};
 ghost use Rattle.arrow2_model.specs.Touched.{touched, slice_reads};
@@ -119,7 +119,7 @@ fn zeros_in_byte(stored: &mut Stored<'_>, at: usize, start: usize, len: usize) -
 }
 
 /// Returns how many bits of the `count` bytes from byte `first` on are not set. Counts 64 bytes at each step, and then
-/// the rest by words, the widest first.
+/// the rest by parts of 32, 16, 8, 4, 2 bytes and 1 byte, each at most once.
 fn zeros_in_bytes(stored: &mut Stored<'_>, first: usize, count: usize) -> usize
     requires fits { first + count < 2 ^ 64 }
     requires few { 8 * count < 2 ^ 64 }
@@ -128,12 +128,18 @@ fn zeros_in_bytes(stored: &mut Stored<'_>, first: usize, count: usize) -> usize
     ensures bytes { stored.new.bytes ≡ stored.old.bytes }
     ensures reads { stored.new.reads ≡ stored.old.reads + count }
 {
-    let ones = ones_in_blocks(stored, first, count / 64);
-    let ones = ones + ones_in_words::<u64, 8>(stored, first + 64 * (count / 64), count % 64 / 8);
-    let ones = ones + ones_in_words::<u32, 4>(stored, first + 8 * (count / 8), count % 8 / 4);
-    let ones = ones + ones_in_words::<u16, 2>(stored, first + 4 * (count / 4), count % 4 / 2);
-    let ones = ones + ones_in_words::<u8, 1>(stored, first + 2 * (count / 2), count % 2);
-    8 * count - ones
+    let pairs = count / 64;
+    let counted = Counted {
+        ones: ones_in_blocks(stored, first, pairs),
+        end: first + 64 * pairs,
+    };
+    let counted = with_words::<u64, 8>(stored, first, counted, 4, count / 32 % 2);
+    let counted = with_words::<u64, 8>(stored, first, counted, 2, count / 16 % 2);
+    let counted = with_words::<u64, 8>(stored, first, counted, 1, count / 8 % 2);
+    let counted = with_words::<u32, 4>(stored, first, counted, 1, count / 4 % 2);
+    let counted = with_words::<u16, 2>(stored, first, counted, 1, count / 2 % 2);
+    let counted = with_words::<u8, 1>(stored, first, counted, 1, count % 2);
+    8 * count - counted.ones
 }
 
 /// Returns how many bits of the `pairs` pairs of blocks from byte `first` on are set, where a block has 32 bytes.
@@ -169,7 +175,51 @@ fn ones_in_block(stored: &mut Stored<'_>, at: usize) -> usize
     ones_of(u8x32::from_array(stored.fetch::<32>(at)))
 }
 
+/// The number of set bits of the bytes from a first byte on up to byte `end`.
+#[derive(Clone, Copy)]
+struct Counted {
+    ones: usize,
+    end: usize,
+}
+
+/// Counts the set bits of the next `words` words of `N` bytes too, unless `times` is 0. Requires that `times` is at most
+/// 1.
+#[inline(always)]
+fn with_words<T: BitChunk, const N: usize>(
+    stored: &mut Stored<'_>,
+    first: usize,
+    counted: Counted,
+    words: usize,
+    times: usize,
+) -> Counted
+    // The words are inside the bytes, and no number overflows.
+    requires width { T.BitChunk.WIDTH ≡ 8 * N }
+    requires once { times ≤ 1 }
+    requires fits { counted.end + N * words * times < 2 ^ 64 }
+    requires few { 8 * (counted.end + N * words * times - first) < 2 ^ 64 }
+    requires inside { counted.end + N * words * times ≤ length stored.old.bytes }
+    // The bytes up to the end are counted, before and after.
+    requires from { first ≤ counted.end }
+    requires ones { counted.ones + falses (part (bits stored.old.bytes) (8 * first)
+        (8 * (counted.end - first))) ≡ 8 * (counted.end - first) }
+    ensures ones { result.ones + falses (part (bits stored.old.bytes) (8 * first)
+        (8 * (result.end - first))) ≡ 8 * (result.end - first) }
+    ensures end { result.end ≡ counted.end + N * words * times }
+    // The bytes stay, and each is counted as read once.
+    ensures bytes { stored.new.bytes ≡ stored.old.bytes }
+    ensures reads { stored.new.reads ≡ stored.old.reads + N * words * times }
+{
+    if times == 0 {
+        return counted;
+    }
+    Counted {
+        ones: counted.ones + ones_in_words::<T, N>(stored, counted.end, words),
+        end: counted.end + N * words,
+    }
+}
+
 /// Returns how many bits of the `words` words of `N` bytes from byte `first` on are set.
+#[inline(always)]
 fn ones_in_words<T: BitChunk, const N: usize>(
     stored: &mut Stored<'_>,
     first: usize,

@@ -153,11 +153,22 @@ impl PackedBits {
         // The capacity never falls.
         ensures capacity { self.old.capacity ≤ self.new.capacity }
     {
-        let Some(total) = self.length.checked_add(additional) else {
+        let Some(total) = self.checked_total(additional) else {
             return Err(GrowthError::Overflow);
         };
         self.bytes.reserve(bytes_for(total) - self.bytes.len())?;
         Ok(())
+    }
+
+    /// Returns the number of items with `additional` more, or `None` where it exceeds `usize::MAX`.
+    pub(crate) fn checked_total(&self, additional: usize) -> Option<usize>
+        ensures total { MatchOption result (2 ^ 64 ≤ length self.now.items + additional) (λ total.
+            total ≡ length self.now.items + additional) }
+        // Facts that the type guarantees.
+        ensures within_capacity { length self.now.items ≤ self.now.capacity }
+        ensures fits { self.now.capacity < 2 ^ 64 }
+    {
+        self.length.checked_add(additional)
     }
 
     /// Gives back unused capacity, where the allocator takes it.

@@ -62,8 +62,9 @@ impl PackedBits {
         ensures { Appends (λ error. error) result self.old self.new
             (replicate additional value) }
     {
-        self.reserve(additional)?;
-        let total = self.len() + additional;
+        let Some(total) = self.checked_total(additional) else {
+            return Err(GrowthError::Overflow);
+        };
         if value {
             self.append_trues(total)?;
         } else {

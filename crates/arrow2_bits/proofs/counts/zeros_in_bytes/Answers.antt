@@ -1,23 +1,18 @@
-use Rattle.std.proofs.Common.{◌∙◌, ◌+◌, ◌*◌, ◌/◌, ◌%◌, arith}
-use Rattle.arrow2_bits.proofs.Counted.{ones_in_two}
+use Rattle.std.proofs.Common.{◌≡◌, ℕ, ◌-◌, ◌*◌, List, ap, ◌∙◌, arith}
+use Rattle.arrow2_model.specs.Bits.{bits}
+use Rattle.arrow2_model.specs.Parts.{part, falses}
 use Rattle.arrow2_bits.proofs.counts.zeros_in_bytes.Goals as goal
 
 pub returns-clause-zeros : goal.returns-clause-zeros
 returns-clause-zeros c =
-    let bytes = c.args.stored.now.bytes in
     let first = c.args.first in
-    let count = c.args.count in
-    let blocks = c.ones_in_blocks-ones in
-    let eight = c.ones_in_words in
-    let four = c.ones_in_words-2 in
-    let two = c.ones_in_words-3 in
-    let one = c.ones_in_words-4 in
-    let kept = blocks.ensures.bytes in
-    let kept8 = eight.ensures.bytes ∙ kept in
-    let kept4 = four.ensures.bytes ∙ kept8 in
-    let kept2 = two.ensures.bytes ∙ kept4 in
-    let eights = ones_in_two bytes blocks.new.stored.bytes first (64 * (count / 64)) (8 * (count % 64 / 8)) (8 * (count / 8)) blocks.result eight.result kept (omega arith) blocks.ensures.ones eight.ensures.ones in
-    let fours = ones_in_two bytes eight.new.stored.bytes first (8 * (count / 8)) (4 * (count % 8 / 4)) (4 * (count / 4)) (blocks.result + eight.result) four.result kept8 (omega arith) eights four.ensures.ones in
-    let twos = ones_in_two bytes four.new.stored.bytes first (4 * (count / 4)) (2 * (count % 4 / 2)) (2 * (count / 2)) (blocks.result + eight.result + four.result) two.result kept4 (omega arith) fours two.ensures.ones in
-    let all = ones_in_two bytes two.new.stored.bytes first (2 * (count / 2)) (1 * (count % 2)) count (blocks.result + eight.result + four.result + two.result) one.result kept2 (omega arith) twos one.ensures.ones in
-    omega (arith, all)
+    let last = c.with_words-counted-6 in
+    let kept = c.with_words-counted-5.ensures.bytes ∙ (c.with_words-counted-4.ensures.bytes ∙ (c.with_words-counted-3.ensures.bytes
+    ∙ (c.with_words-counted-2.ensures.bytes ∙ (c.with_words-counted.ensures.bytes ∙ c.ones_in_blocks.ensures.bytes)))) in
+    let end : last.result.end - first ≡ c.args.count = omega (arith, c.with_words-counted.ensures.end, c.with_words-counted-2.ensures.end, c.with_words-counted-3.ensures.end, c.with_words-counted-4.ensures.end, c.with_words-counted-5.ensures.end, last.ensures.end) in
+    let same = ap (λ (l : List ℕ). falses (part (bits l) (8 * first) (8 * (last.result.end - first)))) kept in
+    let all = ap (λ k. falses (part (bits c.args.stored.now.bytes) (8 * first) (8 * k))) end in
+    omega (arith, last.ensures.ones, same, all, end)
+
+pub returns-clause-reads : goal.returns-clause-reads
+returns-clause-reads c = omega (arith, c.ones_in_blocks.ensures.reads, c.with_words-counted.ensures.reads, c.with_words-counted-2.ensures.reads, c.with_words-counted-3.ensures.reads, c.with_words-counted-4.ensures.reads, c.with_words-counted-5.ensures.reads, c.with_words-counted-6.ensures.reads)
