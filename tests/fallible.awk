@@ -1,5 +1,5 @@
 # Prints each public call whose clauses or documentation name `OutOfMemory`: `Type::call`, `call` outside a type, or
-# the head of an `impl` of a trait. A call that never allocates states it: "Does not allocate", or "Takes no memory", with no
+# the head of an `impl` of a trait. The documentation of a call that never allocates says "Does not allocate.", with no
 # condition after it.
 # With `words`, those alone whose documentation has them.
 /^ *}/ { said = "" }
@@ -26,7 +26,7 @@
         call = owner ~ / for / ? owner : type "::" call
 }
 /\{$/ && call != "" {
-    if (public && said ~ /OutOfMemory|AllocError/ && said !~ /(Takes no memory|Does not allocate)[.:]/ && said ~ words)
+    if (public && said ~ /OutOfMemory|AllocError/ && said !~ /Does not allocate[.:]/ && said ~ words)
         print call
     call = said = ""
 }

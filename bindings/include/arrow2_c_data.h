@@ -8,7 +8,9 @@
  * The interface does not state the number of bytes of a buffer. `arrow2_array_check` trusts that each buffer has the
  * bytes that format, length, offset and last offset require. `arrow2_array_check_sized` gets the number of bytes of
  * each buffer, and reads nothing outside these bytes. Both functions trust that every pointer that is not NULL points
- * to what the interface specifies, except buffers that may be anything (docs/BINDINGS.md lists them). */
+ * to what the interface specifies, except buffers that may be anything (docs/BINDINGS.md lists them).
+ *
+ * Functions and types whose names begin with `arrow2_c_` are internal: do not use them. */
 #ifndef ARROW2_C_DATA_H
 #define ARROW2_C_DATA_H
 
@@ -76,7 +78,8 @@ struct ArrowArrayStream {
  * is the bit of the bytes at which the bits begin. For a raw bitmap set the members by hand. arrow2_bits_of and
  * arrow2_bits_of_column set them from an array that was checked.
  *
- * Rules, in addition to those of arrow2_proved.h:
+ * Rules, in addition to those of arrow2_proved.h. The second and the third replace two rules there: that NULL is safe
+ * only with 0 items, and that NULL never means that a validity is missing.
  * - Each `arrow2_bits_*` function that returns a code makes at most one call of the library, which its comment names,
  *   and returns the code of that call. Without a call it returns ARROW2_OK or ARROW2_LENGTH.
  * - A NULL pointer to bytes counts as 0 bytes, whatever `bytes_len`, `out_len`, `values_len` or `validity_len` is. If
@@ -120,8 +123,8 @@ static inline uint32_t arrow2_bits_equal(struct arrow2_bits left, struct arrow2_
                              arrow2_c_count(right.bytes, right.bytes_len), right.offset, length, equal);
 }
 
-/* Applies a truth table to each two bits, and writes the results to `out`, which has arrow2_bytes_for(length) bytes.
- * Calls arrow2_binary_table. It does not accept a missing validity. */
+/* Applies `table` to each pair of bits, bit i of `left` and bit i of `right`, and writes the results to `out`, which
+ * has arrow2_bytes_for(length) bytes. Calls arrow2_binary_table. It does not accept a missing validity. */
 static inline uint32_t arrow2_bits_table(struct arrow2_bits left, struct arrow2_bits right, size_t length,
                                          uint16_t table, uint8_t *out, size_t out_len) {
     return arrow2_binary_table(left.bytes, arrow2_c_count(left.bytes, left.bytes_len), left.offset, right.bytes,
@@ -678,8 +681,8 @@ static inline uint32_t arrow2_c_check_values(struct arrow2_c_buffer values, bool
     return code != ARROW2_OK ? code : arrow2_c_check_pointer(values.bytes, values.length, bits ? 1 : width > 0);
 }
 
-/* Whether a buffer has offsets, of `width` bytes each, into `items` items. If an offset is wrong, `*slot` becomes its
- * slot. `*last` becomes the last offset. If the array has no items, no offset is read. */
+/* Checks whether the buffer holds valid offsets of `width` bytes each, none above `items`. If an offset is wrong,
+ * `*slot` becomes its slot. `*last` becomes the last offset. If the array has no items, no offset is read. */
 static inline uint32_t arrow2_c_check_offsets(struct arrow2_c_buffer offsets, size_t width, size_t items, int64_t *slot,
                                               size_t *last) {
     *last = 0;

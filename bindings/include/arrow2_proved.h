@@ -20,8 +20,9 @@
  * - Other threads may read the memory that a call reads. Until the call returns, no other thread may write that memory,
  *   and none may read or write the memory that the call writes.
  * - Bit i of bytes is bit i % 8 of byte i / 8, the lowest first. Offsets and lengths of bits are in bits. Each may have
- *   any value: where the bits are not inside the bytes, the code is ARROW2_RANGE (of the bits that an in-place call
- *   changes, ARROW2_LENGTH). Lengths of slices of numbers are in items.
+ *   any value. Where bits are not inside the bytes, the code is ARROW2_RANGE. The exception is `bytes` of the
+ *   *_assign_table calls: if it has the wrong size, the code is ARROW2_LENGTH. Lengths of slices of numbers are in
+ *   items.
  * - The `length` bits from bit `offset` on are inside `bytes` if offset + length <= 8 * bytes_len. This condition is
  *   computed as if in unlimited integers, so a huge offset gives ARROW2_RANGE and never wraps. The condition is tested
  *   for length 0 too: offset 5, length 0 in 0 bytes is ARROW2_RANGE. Bit `index` is inside if index < 8 * bytes_len.
@@ -92,7 +93,8 @@ uint32_t arrow2_equal_bits(const uint8_t *left, size_t left_len, size_t left_off
 /* Writes to `value` whether bit `index` is set. ARROW2_RANGE: the bit is not inside the bytes. */
 uint32_t arrow2_get_bit(const uint8_t *bytes, size_t bytes_len, size_t index, bool *value);
 
-/* The same as an inline function. It is written by hand and not proved: tests compare it with arrow2_get_bit. */
+/* An inline function that does the same as arrow2_get_bit. It is written by hand and not proved: tests compare the
+ * two. */
 static inline uint32_t arrow2_get_bit_inline(const uint8_t *bytes, size_t bytes_len, size_t index, bool *value) {
     if (index / 8 >= bytes_len) {
         return ARROW2_RANGE;

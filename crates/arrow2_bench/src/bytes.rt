@@ -207,10 +207,15 @@ pub extern "C" fn bench_set_bit(
         return 0;
     };
     let mut bytes = copied;
+    set_bits(bytes.as_mut_slice(), items, positions);
+    zeros(bytes.as_slice())
+}
+
+/// Sets the bit at each position to the item at the same index.
+fn set_bits(bytes: &mut [u8], items: &[bool], positions: &[usize]) {
     for (position, item) in positions.iter().zip(items) {
         if *position / 8 < bytes.len() {
-            set_bit(bytes.as_mut_slice(), *position, *item);
+            set_bit(bytes, *position, *item);
         }
     }
-    zeros(bytes.as_slice())
 }

@@ -97,8 +97,8 @@ pub fn binary_assign_table<W: BitChunk>(lhs: &mut MutableBitmap, rhs: &Bitmap, t
     }
 }
 
-/// Replaces each item by whether it and the item of `rhs` at the same index are both true. Does not allocate. Requires
-/// that both bitmaps have equal lengths. arrow2 implements the operator on `&mut MutableBitmap`.
+/// Replaces each item by its AND with the item of `rhs` at the same index. Does not allocate. Requires that both
+/// bitmaps have equal lengths. arrow2 implements the operator on `&mut MutableBitmap`.
 impl<'a> BitAndAssign<&'a Bitmap> for MutableBitmap {
     ghost can_bitand_assign = { λ m b. length m.items ≡ length (items_of b.now) };
 
@@ -126,8 +126,8 @@ impl<'a> BitAnd<&'a Bitmap> for MutableBitmap {
     }
 }
 
-/// Replaces each item by whether it or the item of `rhs` at the same index, or both, are true. Does not allocate.
-/// Requires that both bitmaps have equal lengths. arrow2 implements the operator on `&mut MutableBitmap`.
+/// Replaces each item by its OR with the item of `rhs` at the same index. Does not allocate. Requires that both bitmaps
+/// have equal lengths. arrow2 implements the operator on `&mut MutableBitmap`.
 impl<'a> BitOrAssign<&'a Bitmap> for MutableBitmap {
     ghost can_bitor_assign = { λ m b. length m.items ≡ length (items_of b.now) };
 
@@ -155,8 +155,8 @@ impl<'a> BitOr<&'a Bitmap> for MutableBitmap {
     }
 }
 
-/// Replaces each item by whether exactly one of it and the item of `rhs` at the same index is true. Does not allocate.
-/// Requires that both bitmaps have equal lengths. arrow2 implements the operator on `&mut MutableBitmap`.
+/// Replaces each item by its XOR with the item of `rhs` at the same index. Does not allocate. Requires that both
+/// bitmaps have equal lengths. arrow2 implements the operator on `&mut MutableBitmap`.
 impl<'a> BitXorAssign<&'a Bitmap> for MutableBitmap {
     ghost can_bitxor_assign = { λ m b. length m.items ≡ length (items_of b.now) };
 

@@ -403,9 +403,9 @@ impl Bitmap {
     }
 
     /// Returns an iterator over the items by words of `T`, from the first item on. In the contract, `spill` is the word
-    /// that `remainder` returns. Its lowest bits are the items after the last full word. The bits above are stored
-    /// bits. If there is a full word, they end with the byte of the last item; if there is none, they go on to the end
-    /// of the bytes. Bits that do not fit in the word are left out. All other bits of the word are 0.
+    /// that `remainder` returns. Its lowest bits are the items after the last full word. The bits above are the bits
+    /// stored next: up to the end of the byte of the last item if there is a full word, else up to the end of the
+    /// storage. Bits that do not fit in the word are left out. All other bits of the word are 0.
     pub fn chunks<T: BitChunk>(&self) -> BitChunks<'_, T>
         ensures items { result.items ≡ items_of self.now }
         ensures fits { length (items_of self.now) < 2 ^ 64 }
@@ -455,9 +455,9 @@ impl Bitmap {
         self.slice_counted(offset, len, &mut Reads::new());
     }
 
-    /// Slices as [`Bitmap::slice`] does, and adds to `reads` the number of bytes that the call counts as read while it
-    /// counts false items: at most `L / 16 + 4`, where `L` is the number of items before the call. It is not proved
-    /// that the call reads no further byte.
+    /// Slices as [`Bitmap::slice`] does, and adds to `reads` the number of bytes in which it counts false items: at
+    /// most `L / 16 + 4`, where `L` is the number of items before the call. It is not proved that the call reads no
+    /// further byte.
     ///
     /// arrow2 counts no reads.
     pub fn slice_counted(&mut self, offset: usize, len: usize, reads: &mut Reads)
@@ -523,8 +523,8 @@ impl Bitmap {
     /// bytes. Otherwise returns `Left` of the bitmap as it was. Does not allocate.
     ///
     /// It is proved that `Left` has the bitmap as it was, and that `Right` has the same items and comes only where they
-    /// begin at bit 0. It is not proved that `Right` comes whenever the items begin at bit 0 and nobody shares the
-    /// bytes.
+    /// begin at bit 0. No clause is on sharing: it is not proved that `Right` comes only if nobody shares the bytes,
+    /// nor that it comes whenever nobody shares them and the items begin at bit 0.
     pub fn into_mut(self) -> Either<Bitmap, MutableBitmap>
         ensures { MatchEither result (λ b. b ≡ self) (λ m. (self.offset ≡ 0)
             × (m.items ≡ items_of self)) }

@@ -280,10 +280,8 @@ impl MutableBitmap {
         Ok(())
     }
 
-    /// Frees unused capacity if the allocator can: no clause states that any is freed. Always returns `Ok`. arrow2
-    /// returns no `Result`.
-    ///
-    /// If the smaller block cannot be allocated, the items stay where they are.
+    /// Frees unused capacity if the allocator can: no clause states that any is freed. Always returns `Ok`, also if a
+    /// smaller block cannot be allocated. arrow2 returns no `Result`.
     pub fn shrink_to_fit(&mut self) -> Result<()>
         ensures ok { IsOk result }
         ensures items { self.new.items ≡ self.old.items }

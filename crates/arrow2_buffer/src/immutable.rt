@@ -205,9 +205,9 @@ impl<T> Buffer<T> {
     /// Returns the vector as `Right` if nobody else shares the storage and nothing is sliced off, otherwise the buffer
     /// as it was, as `Left`. Does not allocate.
     ///
-    /// It is proved that the left side is the buffer as it was, and that the right side has the same items and comes
-    /// only if nothing is sliced off. It is not proved that the right side comes whenever nobody else shares the
-    /// storage and nothing is sliced off.
+    /// It is proved that `Left` has the buffer as it was, and that `Right` has the same items and comes only if nothing
+    /// is sliced off. No clause is on sharing: it is not proved that `Right` comes only if nobody else shares the
+    /// storage, nor that it comes whenever nobody else shares it and nothing is sliced off.
     ///
     /// Differs from arrow2, which gives the whole vector of a sliced buffer.
     pub fn into_mut(self) -> Either<Self, Vec<T>>

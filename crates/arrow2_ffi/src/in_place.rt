@@ -65,7 +65,7 @@ fn pair<'a>(first: Bits<'a>, second: Bits<'a>, len: usize) -> Pair<'a>
     }
 }
 
-/// Writes the outputs of table `T` for the first `len` bits of two inputs over `out`, from bit 0 on. Requires that
+/// Overwrites `out`, from bit 0 on, with the outputs of table `T` for the first `len` bits of two inputs. Requires that
 /// these bits are inside their bytes, and that `out` has exactly the bytes that `len` bits need. The compiler makes one
 /// loop for each table.
 pub(crate) fn write_two<const T: u8>(out: &mut [u8], len: usize, first: Bits<'_>, second: Bits<'_>)
@@ -144,8 +144,8 @@ pub(crate) fn write_four<const T: u16>(
     );
 }
 
-/// Writes the first `len` bits over `out`, from bit 0 on. Requires that they are inside their bytes, and that `out` has
-/// exactly the bytes that they need. The function is inlined: for 64 bytes a call would take a fifth of the time.
+/// Overwrites `out`, from bit 0 on, with the first `len` bits. Requires that they are inside their bytes, and that `out`
+/// has exactly the bytes that they need. The function is inlined: for 64 bytes a call would take a fifth of the time.
 #[inline(always)]
 pub(crate) fn copy(bits: Bits<'_>, len: usize, out: &mut [u8])
     requires inside { HasBits bits len }
@@ -159,7 +159,7 @@ pub(crate) fn copy(bits: Bits<'_>, len: usize, out: &mut [u8])
     }
 }
 
-/// Writes the first `len` bits of `bytes` over `out`, all bytes at once. Requires that they are inside, and that
+/// Overwrites `out` with the first `len` bits of `bytes`, all bytes at once. Requires that they are inside, and that
 /// `out` has exactly the bytes that they need.
 fn copy_bytes(bytes: &[u8], len: usize, out: &mut [u8])
     requires inside { len ≤ 8 * length bytes.now }

@@ -27,7 +27,7 @@ pub fn write_rows<S: WordRows<u64>, F: Fn(S::Row) -> u64>(
     requires exact { length bytes.old ≡ (len + 7) / 8 }
     // Padding bits are false.
     ensures canonical { IsCanonical bytes.new len }
-    // For every word function `f` that `op` computes.
+    // If the results of `op` are those of a mathematical function `f` on words:
     ensures items { (f : List ℕ → ℕ) → ComputesRows 64 S.words (λ x. x) (F.post op) f →
         take len (bits bytes.new) ≡ joined 64 (λ j. f (S.row_at rows j)) len }
     // For every table `t` by which `op` acts on each bit.

@@ -2,8 +2,8 @@
 use Rattle.std.specs.Prelude.{ℕ, ◌+◌, ◌<◌, List, Option, length, sum}
 use Rattle.std.specs.Iterator.{Yields}
 
--- the iterator may yield lengths by which the last offset passes the greatest one: `ns` is all that it may yield, or a
--- prefix of that
+-- the contract of the iterator allows it to yield lengths `ns` (a whole run, or the beginning of one) whose sum plus
+-- `last` is above `max`
 abbrev pub MayYieldPast : {S : Type 0} → ℕ → ℕ → (S → Option ℕ → S → Type 0) → S → Type 0
 MayYieldPast {S} max last steps s = (ns : List ℕ) × (t : S) × Yields steps s ns t × (max < last + sum ns)
 

@@ -14,15 +14,16 @@ use arrow2_types::growth_error::GrowthError;
 use std::alloc::AllocError;
 use std::mem;
 
-/// The smallest capacity that is reserved, in lengths, so that one allocation is enough for a few lengths. Its block is
-/// a little smaller than the largest that glibc keeps cached.
+/// The smallest number of lengths for which capacity is reserved: enough that a few lengths need one allocation. The
+/// block is then a little smaller than the largest that glibc caches.
 pub(crate) const LEAST_CAPACITY: usize = 120;
 
 /// The second capacity that is reserved, in lengths: the one after `LEAST_CAPACITY`.
 const SECOND_CAPACITY: usize = 512;
 
 /// Appends the lengths that an iterator yields. On an error, removes the appended lengths again. Requires that the
-/// items of the vector are offsets, and that the iterator ends. The iterator's size hint is not read.
+/// items of the vector are offsets that are at most `O::MAX`, and that the iterator ends. The iterator's size hint is
+/// not read.
 ///
 /// # Errors
 ///
@@ -55,14 +56,14 @@ pub(crate) fn append_lengths<O: Offset, I: Iterator<Item = usize> + Drop>(
 /// are unspecified.
 ///
 /// The vector is passed by value, so that its length stays in a register from item to item. The sums are exact and
-/// never fall, so it is enough to test that the last sum is at most `O::MAX` where capacity is reserved, and at the
+/// never fall, so it is enough to compare the last sum with `O::MAX` each time capacity is reserved, and once at the
 /// end.
 #[inline(never)]
 fn appended<O: Offset, I: Iterator<Item = usize> + Drop>(
     mut offsets: Vec<O>,
     lengths: I,
 ) -> (Vec<O>, Result<(), GrowthError>)
-    // The vector holds offsets, and the iterator ends.
+    // The vector holds offsets that are at most `O::MAX`, and the iterator ends.
     requires valid { AreOffsetsUpTo O.MAX (map O.value offsets.items) }
     requires can { I.can_next lengths }
     requires ends { IsFinite (I.remaining lengths) }
@@ -71,8 +72,8 @@ fn appended<O: Offset, I: Iterator<Item = usize> + Drop>(
     ensures front { take (length offsets.items) result.0.items ≡ offsets.items }
     ensures ok { OnOk result.1 (WholeRun I.next_gives lengths (λ p.
         LengthenedBy p.items (map O.value offsets.items) (map O.value result.0.items))) }
-    // `Overflow` comes only where lengths that the iterator may yield pass `O::MAX`, `OutOfMemory` only where they may
-    // be more than the spare capacity.
+    // `Overflow` comes only where the last offset plus the sum of the lengths may pass `O::MAX`; `OutOfMemory` only
+    // where the number of lengths may exceed the spare capacity.
     ensures overflow { IsErrOf result.1 growth_error.Overflow →
         MayYieldPast O.MAX (last_of (map O.value offsets.items)) I.next_gives lengths }
     ensures out_of_memory { IsErrOf result.1 growth_error.OutOfMemory →
@@ -113,7 +114,8 @@ fn with_spare_capacity<O>(mut offsets: Vec<O>) -> (Vec<O>, Result<(), AllocError
     (offsets, outcome)
 }
 
-/// Reserves spare capacity. There is one offset more than there are lengths.
+/// Reserves capacity for more lengths: for `LEAST_CAPACITY` where there are fewer lengths than that, else for three
+/// times their number, but at least `SECOND_CAPACITY - LEAST_CAPACITY`. There is one offset more than there are lengths.
 #[cold]
 #[inline(never)]
 fn grow_capacity<O>(offsets: &mut Vec<O>) -> Result<(), AllocError>
@@ -121,18 +123,12 @@ fn grow_capacity<O>(offsets: &mut Vec<O>) -> Result<(), AllocError>
     ensures capacity { vec_capacity offsets.old ≤ vec_capacity offsets.new }
     ensures ok { OnOk result (vec_len offsets.new < vec_capacity offsets.new) }
 {
-    offsets.reserve_exact(next_capacity(offsets.len().saturating_sub(1)))
-}
-
-/// Returns the number of further lengths for which capacity is reserved: `LEAST_CAPACITY` where there are fewer lengths
-/// than that, else three times the number of lengths, but at least `SECOND_CAPACITY - LEAST_CAPACITY`.
-fn next_capacity(lengths: usize) -> usize
-    ensures { 0 < result }
-{
-    if lengths < LEAST_CAPACITY {
-        return LEAST_CAPACITY;
-    }
-    lengths
-        .saturating_mul(3)
-        .max(SECOND_CAPACITY - LEAST_CAPACITY)
+    let lengths = offsets.len().saturating_sub(1);
+    offsets.reserve_exact(if lengths < LEAST_CAPACITY {
+        LEAST_CAPACITY
+    } else {
+        lengths
+            .saturating_mul(3)
+            .max(SECOND_CAPACITY - LEAST_CAPACITY)
+    })
 }

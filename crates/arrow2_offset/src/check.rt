@@ -7,7 +7,7 @@ use arrow2_index::offset::Offset;
 use arrow2_types::error::{Error, Result};
 use std::alloc::{AllocError, Global};
 
-/// The rule of offsets that a list breaks: the first of these three faults that it has.
+/// Why a list is not offsets: the first of these faults that it has, in this order.
 #[derive(Clone, Copy, Debug, PartialEq, Eq)]
 pub enum BrokenRule {
     /// There is no offset at all.

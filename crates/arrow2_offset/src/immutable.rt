@@ -74,7 +74,8 @@ impl<O: Offset> OffsetsBuffer<O> {
     /// `Left` of the offsets as they were. Does not allocate.
     ///
     /// It is proved that `Left` has the offsets as they were, and that `Right` has the same list and comes only if
-    /// nothing is sliced off. It is not proved that `Right` comes whenever nobody shares the storage.
+    /// nothing is sliced off. No clause is on sharing: it is not proved that `Right` comes only if nobody shares the
+    /// storage, nor that it comes whenever nobody shares it and nothing is sliced off.
     ///
     /// Differs from arrow2, which returns the whole storage, also where the offsets are sliced.
     pub fn into_mut(self) -> Either<Self, Offsets<O>>
@@ -265,8 +266,8 @@ impl<O: Offset> OffsetsBuffer<O> {
 ///
 /// # Errors
 ///
-/// `OutOfSpec` exactly where the items are not offsets, with the text of the rule that they break, or
-/// `OutOfMemory` if the message cannot be allocated. The buffer is then dropped.
+/// Exactly where the items are not offsets: `OutOfSpec` with the text of the rule that they break, or `OutOfMemory` if
+/// that text cannot be allocated. The buffer is then dropped.
 impl<O: Offset> TryFrom<Buffer<O>> for OffsetsBuffer<O> {
     type Error = Error;
 

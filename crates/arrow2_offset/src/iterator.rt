@@ -12,7 +12,7 @@ use std::marker::Model;
 /// An iterator over the lengths between neighbouring offsets: contracts see it as the list of the lengths still to
 /// come.
 ///
-/// Stands for arrow2's `impl Iterator`.
+/// In arrow2, `lengths` returns an unnamed `impl Iterator`.
 #[derive(Debug, Drop)]
 pub struct Lengths<'a, O: Offset> {
     offsets: &'a [O],
@@ -52,6 +52,7 @@ impl<'a, O: Offset> Clone for Lengths<'a, O> {
     }
 }
 
+/// Yields the lengths still to come, from the front.
 impl<'a, O: Offset> Iterator for Lengths<'a, O> {
     type Item = usize;
 
@@ -79,6 +80,7 @@ impl<'a, O: Offset> Iterator for Lengths<'a, O> {
     }
 }
 
+/// Yields the lengths still to come, from the back.
 impl<'a, O: Offset> DoubleEndedIterator for Lengths<'a, O> {
     ghost next_back_gives = { YieldsLast (λ s. s) };
 
@@ -93,6 +95,7 @@ impl<'a, O: Offset> DoubleEndedIterator for Lengths<'a, O> {
     }
 }
 
+/// Returns the exact number of lengths still to come.
 impl<'a, O: Offset> ExactSizeIterator for Lengths<'a, O> {
     fn len(&self) -> usize {
         self.offsets.len() - 1

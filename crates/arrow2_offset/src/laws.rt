@@ -2,8 +2,8 @@
 ghost use Rattle.std.specs.Prelude.{◌≡◌, ℕ, ℤ, ◌+◌, ◌≤◌, ◌++◌, ◌↔◌, List, length, map, pos, slice_index_or};
 ghost use Rattle.arrow2_offset.specs.Offsets.{running_sums, offsets_list, offset_at, last_offset, AreOffsets, start_of, lengths_of, GrowingOffsets, SameOffsets, offsets_of};
 
-/// A list of whole numbers is offsets exactly if it is the list that some start and some lengths give. These are its
-/// `start_of` and its `lengths_of`.
+/// A list of whole numbers is offsets exactly if it is the list that some start and some lengths give. Then the start
+/// is its `start_of`, and the lengths are its `lengths_of`.
 #[tactic(auto, using(crate::proofs::Listed::listed))]
 pub fn offsets_are_a_start_and_lengths()
     ensures list { (xs : List ℤ) → AreOffsets xs →
@@ -16,8 +16,8 @@ pub fn offsets_are_a_start_and_lengths()
         lengths_of (map pos (offsets_list start lengths)) ≡ lengths }
 {}
 
-/// Offset k is the start plus the sum of the first k lengths, no offset is above the last one, and there is one offset
-/// more than there are lengths.
+/// Item k of the list of offsets is `offset_at`: the start plus the sum of the first k lengths. No offset is above the
+/// last one. There is one offset more than there are lengths.
 #[tactic(auto, using(crate::proofs::Listed::listed))]
 pub fn offset_is_a_sum()
     ensures sum { (start : ℕ) (lengths : List ℕ) (k : ℕ) → k ≤ length lengths →

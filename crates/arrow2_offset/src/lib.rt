@@ -1,4 +1,4 @@
-//! Where the values of binary, text and list arrays begin: offsets that grow, and offsets that are shared.
+//! Offsets, growing and shared: the numbers at which each value of a binary, text or list array begins.
 #![tactic(auto)]
 
 mod append_lengths;

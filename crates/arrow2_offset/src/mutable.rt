@@ -126,11 +126,12 @@ impl<O: Offset> Offsets<O> {
     /// `O::MAX`.
     pub fn try_from_iter<I: IntoIterator<Item = usize>>(alloc: Global, iter: I) -> Result<Self>
         requires { IsFiniteIterable I.into_iter_gives I.IntoIter.can_next I.IntoIter.remaining iter }
-        // The lengths are all those that the iterator yields, up to its end.
+        // The lengths are a whole sequence, from first to last, that the contract of the iterator allows it to yield.
         ensures ok { IfOk result (λ o. (it : I.IntoIter) × I.into_iter_gives iter it
             × WholeRun I.IntoIter.next_gives it (λ p. (o.start ≡ 0) × (o.lengths ≡ p.items))) }
         ensures fits { IfOk result (λ o. last_of_growing o ≤ O.MAX) }
-        // `Overflow` comes only where the lengths that the iterator yields may add up to more than `O::MAX`.
+        // `Overflow` comes only where the iterator may yield lengths whose sum passes `O::MAX`. 0 is the last offset
+        // before them.
         ensures overflow { IsErrOf result Error.Overflow →
             (it : I.IntoIter) × I.into_iter_gives iter it
             × MayYieldPast O.MAX 0 I.IntoIter.next_gives it }
@@ -152,9 +153,12 @@ impl<O: Offset> Offsets<O> {
     ) -> Result<Self>
         requires can { I.can_next lengths }
         requires ends { IsFinite (I.remaining lengths) }
+        // The lengths are a whole sequence, from first to last, that the contract of the iterator allows it to yield.
         ensures ok { IfOk result (λ o.
             WholeRun I.next_gives lengths (λ p. (o.start ≡ 0) × (o.lengths ≡ p.items))) }
         ensures fits { IfOk result (λ o. last_of_growing o ≤ O.MAX) }
+        // `Overflow` comes only where the iterator may yield lengths whose sum passes `O::MAX`. 0 is the last offset
+        // before them.
         ensures overflow { IsErrOf result Error.Overflow → MayYieldPast O.MAX 0 I.next_gives lengths }
         ensures only { IfErr result (λ e. (e ≡ Error.Overflow) ⊎ (e ≡ Error.OutOfMemory)) }
     {
@@ -182,7 +186,8 @@ impl<O: Offset> Offsets<O> {
         // The offsets stay, and `additional` more lengths fit.
         ensures items { SameOffsets self.old self.new }
         ensures ok { OnOk result (slots self.old + additional ≤ self.new.capacity) }
-        // The capacity never falls. The number of slots is at most the capacity, since the length of a `Vec` is.
+        // The capacity never falls. The number of slots is at most the capacity, since the length of a `Vec` is at most
+        // its capacity.
         ensures capacity { self.old.capacity ≤ self.new.capacity }
         ensures within_capacity { slots self.old ≤ self.old.capacity }
         // When it succeeds, and which error can come.
@@ -193,10 +198,8 @@ impl<O: Offset> Offsets<O> {
         Ok(())
     }
 
-    /// Frees unused capacity if the allocator can: no clause states that any is freed. Always returns `Ok`. arrow2
-    /// returns no `Result`.
-    ///
-    /// If the smaller block cannot be allocated, the offsets stay where they are.
+    /// Frees unused capacity if the allocator can: no clause states that any is freed. Always returns `Ok`, also if a
+    /// smaller block cannot be allocated. arrow2 returns no `Result`.
     pub fn shrink_to_fit(&mut self) -> Result<()>
         ensures ok { IsOk result }
         ensures items { SameOffsets self.old self.new }
@@ -272,8 +275,8 @@ impl<O: Offset> Offsets<O> {
         Ok(())
     }
 
-    /// Appends the `len` lengths of other offsets from length `start` on. Requires that `len` is 0, or that `start +
-    /// len` is below the number of the other's offsets. Within the capacity it does not allocate.
+    /// Appends `len` lengths of other offsets, those of the slots from slot `start` on. Requires that `len` is 0, or
+    /// that `start + len` is below the number of the other's offsets. Within the capacity it does not allocate.
     ///
     /// Differs from arrow2, which tests the other's last offset instead of the sum of the lengths.
     ///
@@ -391,7 +394,8 @@ impl<O: Offset> Offsets<O> {
         offsets
     }
 
-    /// Returns the vector as `Offsets`, without a copy. Requires that the vector holds offsets.
+    /// Returns the vector as `Offsets`, without a copy. Requires that the vector holds offsets that are at most
+    /// `O::MAX`.
     pub(crate) fn of_vec(offsets: Vec<O>) -> Self
         requires { AreOffsetsUpTo O.MAX (map O.value offsets.items) }
         ensures { result ≡ made_of (map O.value offsets.items) (vec_capacity offsets) }
@@ -492,8 +496,8 @@ impl<O: Offset> Offsets<O> {
 ///
 /// # Errors
 ///
-/// `OutOfSpec` exactly where the items are not offsets, with the text of the rule that they break, or
-/// `OutOfMemory` if the message cannot be allocated. The vector is then dropped.
+/// Exactly where the items are not offsets: `OutOfSpec` with the text of the rule that they break, or `OutOfMemory` if
+/// that text cannot be allocated. The vector is then dropped.
 impl<O: Offset> TryFrom<Vec<O>> for Offsets<O> {
     type Error = Error;
 
@@ -522,7 +526,8 @@ impl<O: Offset> Clone for Offsets<O> {
     }
 }
 
-/// Returns the offset at an index. Requires that the index is below the number of offsets.
+/// Returns the offset at an index. Requires that the index is below the number of offsets: at most the number of slots,
+/// since there is one offset more than there are slots.
 impl<O: Offset> Index<usize> for Offsets<O> {
     type Output = O;
 

@@ -73,8 +73,8 @@ pub fn write_sums<O: Offset>(start: usize, lengths: &[usize], offsets: &mut [O])
     }
 }
 
-/// Sets `out[i]` to `offsets[from + i] - offsets[from]`. Requires that the numbers are offsets, that `out` is not
-/// empty, and that `from + out.len()` is at most `offsets.len()`.
+/// Sets `out[i]` to `offsets[from + i] - offsets[from]`. Requires that the numbers are offsets that are at most
+/// `O::MAX`, that `out` is not empty, and that `from + out.len()` is at most `offsets.len()`.
 pub fn write_part<O: Offset>(offsets: &[O], from: usize, out: &mut [O])
     requires are { AreOffsetsUpTo O.MAX (map O.value offsets.now) }
     requires some { 0 < length out.old }

@@ -319,7 +319,7 @@ impl PackedBits {
         requires callable { F.IsAlwaysCallable op }
         requires alike { S.alike rows }
         requires len { S.len rows ≡ length self.old.items }
-        // For every word function `f` that `op` computes of its own word and a row.
+        // If the results of `op` are those of a function `f` of the own word and a row:
         ensures kernel { (f : List ℕ → ℕ) (lists : List (List Bool)) →
             ComputesOwnRows T.BitChunk.WIDTH S.words T.BitChunk.number (F.post op) f →
             ((j : ℕ) → S.row_at rows j ≡ words_at T.BitChunk.WIDTH lists j) →

@@ -368,7 +368,8 @@ impl<T: NativeType> PrimitiveArray<T> {
     /// Where there is no bitmap, `Right` has a new one whose items are all true.
     ///
     /// Proved: `Left` has the array as it was, `Right` has its items and its logical type, and `Right` comes only if
-    /// the values are not sliced. Not proved: that `Right` comes whenever it can.
+    /// the values are not sliced. Not proved: that `Right` comes only if nobody shares the storage, or that it comes
+    /// whenever both hold.
     ///
     /// Differs from arrow2, whose array that grows needs no bitmap where no item is null.
     ///

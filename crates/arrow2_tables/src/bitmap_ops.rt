@@ -29,7 +29,7 @@ pub fn ternary<F: Fn(u64, u64, u64) -> u64>(
     requires callable { F.IsAlwaysCallable op }
     requires same_length2 { length (items_of a1.now) ≡ length (items_of a2.now) }
     requires same_length3 { length (items_of a1.now) ≡ length (items_of a3.now) }
-    // For every word function `f` that `op` computes.
+    // If the results of `op` are those of a mathematical function `f` on words:
     ensures kernel { (f : ℕ → ℕ → ℕ → ℕ) → ComputesTernary 64 (λ x. x) (F.post op) f →
         IfOk result (λ b.
         items_of b ≡ ternary_kernel 64 f (items_of a1.now) (items_of a2.now) (items_of a3.now)) }
@@ -82,7 +82,7 @@ pub fn quaternary<F: Fn(u64, u64, u64, u64) -> u64>(
     requires same_length2 { length (items_of a1.now) ≡ length (items_of a2.now) }
     requires same_length3 { length (items_of a1.now) ≡ length (items_of a3.now) }
     requires same_length4 { length (items_of a1.now) ≡ length (items_of a4.now) }
-    // For every word function `f` that `op` computes.
+    // If the results of `op` are those of a mathematical function `f` on words:
     ensures kernel { (f : ℕ → ℕ → ℕ → ℕ → ℕ) → ComputesQuaternary 64 (λ x. x) (F.post op) f →
         IfOk result (λ b.
         items_of b ≡ quaternary_kernel 64 f (items_of a1.now) (items_of a2.now)

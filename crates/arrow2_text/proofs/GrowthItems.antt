@@ -25,6 +25,7 @@ module _ {T : Type 0} (max : ℕ) (old new : GrowingSlots) (values : List (List 
         err = tt;
         err_bytes = tt;
         data_type = a.data_type;
+        fits = a.fits;
         overflow = rw (l, m) a.overflow;
         only = a.only;
         succeeds = rw (l, m) a.succeeds;
@@ -40,6 +41,7 @@ module _ {T : Type 0} (max : ℕ) (old new : GrowingSlots) (values : List (List 
         err = ap (zipped new.values) a.err_valid ∙ ap (λ xs. zipped xs old.valid) a.err_values;
         err_bytes = a.err_bytes;
         data_type = a.data_type;
+        fits = a.fits;
         overflow = rw (l, m) a.overflow;
         only = a.only;
         succeeds = rw (l, m) a.succeeds;

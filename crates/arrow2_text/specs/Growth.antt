@@ -47,6 +47,8 @@ pub record AppendsBinary {T : Type 0} (greatest : ℕ) (r : Result T Error) (old
   pub err_bytes : OnErr r (new.bytes ≡ old.bytes)
   -- the logical type stays
   pub data_type : new.data_type ≡ old.data_type
+  -- the last offset is at most `greatest`
+  pub fits : old.bytes ≤ greatest
   -- `Overflow` comes exactly where the last offset would pass `greatest`, or there would be more items than a usize
   -- counts
   pub overflow : IsErrOf r Overflow ↔ ((greatest < old.bytes + bytes) ⊎ (2 ^ 64 ≤ length old.items + length more))

@@ -364,6 +364,7 @@ impl<O: Offset> BinaryArray<O> {
         ensures offsets { result.1 ≡ self.offsets }
         ensures values { result.2 ≡ self.values }
         ensures validity { result.3 ≡ self.validity.bitmap }
+        ensures inside { last_of (buffer_items result.1) ≤ length (buffer_items result.2) }
     {
         let (data_type, offsets, values, validity) = self.slots.into_parts();
         (data_type, offsets, values, validity.into_bitmap())

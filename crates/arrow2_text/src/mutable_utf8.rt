@@ -262,8 +262,8 @@ impl<O: Offset> MutableUtf8Array<O> {
     ///
     /// # Errors
     ///
-    /// `Overflow` exactly where the length is `usize::MAX` (an array holds at most `O::MAX` bytes, which no clause
-    /// states), else `OutOfMemory` alone. After either error, the array holds the items that it held.
+    /// `Overflow` exactly where the length is `usize::MAX`, else `OutOfMemory` alone. After either error, the array
+    /// holds the items that it held.
     pub fn push_null(&mut self) -> Result<()>
         ensures { AppendsBinary O.MAX result self.old self.new (None ∷ []) 0 }
     {
