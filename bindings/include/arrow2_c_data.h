@@ -78,8 +78,9 @@ struct ArrowArrayStream {
  * is the bit of the bytes at which the bits begin. For a raw bitmap set the members by hand. arrow2_bits_of and
  * arrow2_bits_of_column set them from an array that was checked.
  *
- * Rules, in addition to those of arrow2_proved.h. The second and the third replace two rules there: that NULL is safe
- * only with 0 items, and that NULL never means that a validity is missing.
+ * Rules, in addition to those of arrow2_proved.h. Two of them replace rules there: the one on NULL pointers to bytes
+ * replaces "NULL is allowed only with 0 items", and the one on validities replaces "NULL never means that a validity is
+ * missing".
  * - Each `arrow2_bits_*` function that returns a code makes at most one call of the library, which its comment names,
  *   and returns the code of that call. Without a call it returns ARROW2_OK or ARROW2_LENGTH.
  * - A NULL pointer to bytes counts as 0 bytes, whatever `bytes_len`, `out_len`, `values_len` or `validity_len` is. If
@@ -215,8 +216,8 @@ static inline uint32_t arrow2_bits_or_kleene(struct arrow2_bits left, struct arr
 }
 
 /* Returns the bits of buffer `index` of an array that was checked, from the array's own offset on. Call it only for a
- * validity, which is buffer 0 of every format but unions, and for the values of a boolean array, which are buffer 1. Of
- * any other buffer, such as the types of a union, `bytes_len` of the result may be greater than the number of bytes.
+ * validity, which is buffer 0 of every format but `n` and unions, and for the values of a boolean array, which are
+ * buffer 1. For any other buffer `bytes_len` is not the number of its bytes, and may be greater.
  *
  * The result has `bytes` NULL, `bytes_len` 0 and `offset` 0 in each of these cases: `index` is negative or not below
  * `n_buffers`; the buffer is NULL; the buffer holds values and `length` is 0, where the check accepts any pointer. A
@@ -259,7 +260,7 @@ static inline struct arrow2_bits arrow2_bits_of_column(const struct ArrowArray *
 #define ARROW2_C_NULL 32u
 /* The schema or the array was released. */
 #define ARROW2_C_RELEASED 33u
-/* `length`, `offset`, `n_buffers` or `n_children` is negative, or length + offset is above 2^63 - 1. */
+/* `length`, `offset`, `n_buffers` or `n_children` of the array is negative, or length + offset is above 2^63 - 1. */
 #define ARROW2_C_NEGATIVE 34u
 /* The check does not know the format, and refuses the array. */
 #define ARROW2_C_FORMAT 35u

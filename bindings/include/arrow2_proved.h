@@ -5,9 +5,9 @@
  *
  * Rules for every call. A call tests its numbers and returns a code; only the four `_unchecked` calls do not test their
  * offsets. Breaking a rule about pointers, alignment, overlap, bools or threads is undefined behaviour.
- * - A slice is a pointer and its number of items. NULL with 0 items is safe, except as `offsets` of the `_unchecked`
- *   calls. Any other pointer must point to the given number of items. It must be aligned for their type, even where
- *   that number is 0.
+ * - A slice is a pointer and its number of items. NULL is allowed only with 0 items, and never as `offsets` of the
+ *   `_unchecked` calls. A pointer that is not NULL must point to the given number of items. It must be aligned for
+ *   their type, even where that number is 0.
  * - A pointer to a single value (`zeros`, `equal`, `value`, `at`, `count`, `index`, `slot`) must not be NULL.
  * - NULL never means that a validity is missing. A call that accepts a missing validity has an argument that states
  *   whether it is missing: `all_valid`, `left_all_valid`, `right_all_valid`. Without a validity bitmap pass NULL, 0, 0,

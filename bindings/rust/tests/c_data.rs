@@ -128,6 +128,19 @@ fn of_no_item_no_offset_is_read() {
 }
 
 #[test]
+fn of_no_item_no_boolean_is_read() {
+    let releases = Releases::new(0);
+    let nowhere: *const c_void = ptr::without_provenance(1);
+    let mut buffers = [ptr::null(), nowhere];
+    let of_type = unsafe { Schema::from_raw(schema(&releases, c"b")) };
+    let owner = unsafe { Array::from_raw(array(&releases, 0, 9, &mut buffers)) };
+    let view = owner.check(&of_type).unwrap();
+    let Bits { bytes, offset } = view.booleans().unwrap();
+    assert_eq!((bytes, offset), (&[][..], 0));
+    assert!(view.validity().is_none());
+}
+
+#[test]
 fn what_is_refused_has_no_view() {
     let releases = Releases::new(0);
     let mut buffers = texts(b"ab\xc3\xa9y");

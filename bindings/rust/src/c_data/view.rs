@@ -80,10 +80,13 @@ impl<'a> View<'a> {
         if self.layout().has_validity() { self.bits(0) } else { None }
     }
 
-    /// The values of booleans.
+    /// The values of booleans. Without an item there are no bytes, and the buffer is not read.
     #[must_use]
     pub fn booleans(&self) -> Option<Bits<'a>> {
-        if self.layout().kind == Kind::Boolean { self.bits(1) } else { None }
+        if self.layout().kind != Kind::Boolean {
+            return None;
+        }
+        if self.is_empty() { Some(Bits { bytes: &[], offset: 0 }) } else { self.bits(1) }
     }
 
     /// The offsets of texts, byte strings, lists and maps: one more than items. Without an item it is 0 alone, and the
