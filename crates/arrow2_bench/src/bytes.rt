@@ -211,11 +211,13 @@ pub extern "C" fn bench_set_bit(
     zeros(bytes.as_slice())
 }
 
-/// Sets the bit at each position to the item at the same index.
+/// Sets the bit at each position to the item at the same index. (The loop is by index: std's `zip` of two slices tests
+/// the ends of both at each step, where Rust's tests one.)
 fn set_bits(bytes: &mut [u8], items: &[bool], positions: &[usize]) {
-    for (position, item) in positions.iter().zip(items) {
-        if *position / 8 < bytes.len() {
-            set_bit(bytes, *position, *item);
+    for index in 0..positions.len().min(items.len()) {
+        let position = positions[index];
+        if position / 8 < bytes.len() {
+            set_bit(bytes, position, items[index]);
         }
     }
 }

@@ -314,7 +314,7 @@ fn complement(bitmap: &Bitmap) -> Result<Bitmap>
     unary_table(bitmap, 0b01)
 }
 
-/// Returns true only if all items of one of the two are `value`. No clause states when it returns true. Reads no bits.
+/// If it returns true, all items of one of the two are `value`. No clause states the converse. Reads no bits.
 fn one_is_all(lhs: &Bitmap, rhs: &Bitmap, value: bool) -> bool
     ensures { IsTrue result → (items_of lhs.now ≡ replicate (length (items_of lhs.now)) value)
         ⊎ (items_of rhs.now ≡ replicate (length (items_of rhs.now)) value) }
@@ -322,8 +322,8 @@ fn one_is_all(lhs: &Bitmap, rhs: &Bitmap, value: bool) -> bool
     are_all(lhs, value) || are_all(rhs, value)
 }
 
-/// Returns true only if all items are `value`. No clause states when it returns true. The number of unset bits is
-/// stored, so the call reads no bits.
+/// If it returns true, all items are `value`. No clause states the converse. The number of unset bits is stored, so the
+/// call reads no bits.
 #[tactic(auto, using(crate::proofs::Constant::constant))]
 pub(crate) fn are_all(bitmap: &Bitmap, value: bool) -> bool
     ensures { IsTrue result → items_of bitmap.now
@@ -336,8 +336,8 @@ pub(crate) fn are_all(bitmap: &Bitmap, value: bool) -> bool
     }
 }
 
-/// Returns `Some` of a value only if all items have it. No clause states when it returns `Some`. The number of unset
-/// bits is stored, so the call reads no bits.
+/// If it returns `Some` of a value, all items have it. No clause states the converse. The number of unset bits is
+/// stored, so the call reads no bits.
 fn value_of_all(bitmap: &Bitmap) -> Option<bool>
     ensures { IfSome result (λ value. items_of bitmap.now
         ≡ replicate (length (items_of bitmap.now)) value) }

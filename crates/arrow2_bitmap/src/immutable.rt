@@ -382,7 +382,7 @@ impl Bitmap {
     }
 
     /// Returns the bytes that hold its items, the bit offset of the first item in these bytes (below 8), and the number
-    /// of items. For an empty bitmap, the slice has no byte where the bit offset is 0, and one byte otherwise.
+    /// of items. For an empty bitmap, the slice is empty if the bit offset is 0, and has one byte otherwise.
     pub fn as_slice(&self) -> (&[u8], usize, usize)
         ensures bytes { result.0.now ≡ part self.now.bytes (self.now.offset / 8)
             ((self.now.offset % 8 + self.now.len + 7) / 8) }
