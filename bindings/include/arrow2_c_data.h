@@ -809,7 +809,8 @@ static inline uint32_t arrow2_c_check_union(struct arrow2_c_buffer types, const 
     return ARROW2_OK;
 }
 
-/* Whether the buffers of a union have its types and, if it is dense, its offsets. */
+/* Checks the buffers of a union: its types and, if it is dense, its offsets must be long enough, not NULL where they are
+ * read, and (offsets) aligned. Then checks its slots. */
 static inline uint32_t arrow2_c_check_union_buffers(const struct arrow2_c_tree *tree, const char *named, bool dense,
                                                     const struct ArrowArray *array, int64_t *slot) {
     struct arrow2_c_buffer types = arrow2_c_buffer_of(tree, array, 0), offsets = types;
@@ -888,8 +889,8 @@ static inline uint32_t arrow2_c_check_content(struct arrow2_c_tree *tree, const 
     }
 }
 
-/* Checks whether an array is right, apart from its children and its dictionary. If not, `tree` is left at the array
- * that is refused. */
+/* Checks whether an array is right. Of its children and its dictionary this checks the heads, and what the array needs
+ * of them, and nothing else. If an array is refused, `tree` is left at that array. */
 static inline uint32_t arrow2_c_check_own(struct arrow2_c_tree *tree, const struct arrow2_c_layout *layout,
                                           const struct ArrowSchema *schema, const struct ArrowArray *array,
                                           int64_t *slot) {
