@@ -112,7 +112,7 @@ pub fn all(inputs: &Inputs) -> impl Iterator<Item = (&'static str, Line<'_>)> {
         ("arrow2_primitive", built(inputs)),
         ("arrow2_text", texts(inputs)),
         ("arrow2_compute", selected(inputs)),
-        ("arrow2_compute", computed(inputs)),
+        ("arrow2_numeric", computed(inputs)),
         ("arrow2_offset", offsets(inputs)),
         ("arrow2_offset", shared_offsets(inputs)),
         ("arrow2_ffi", c_library::lines(inputs)),

@@ -45,10 +45,10 @@ pub use Rattle.arrow2_array.specs.ArrayTexts
 pub use Rattle.arrow2_array.specs.Items
 pub use Rattle.arrow2_array.specs.Kleene
 pub use Rattle.arrow2_primitive.specs.Primitive
-pub use Rattle.arrow2_compute.specs.Aggregates
-pub use Rattle.arrow2_compute.specs.Casts
+pub use Rattle.arrow2_numeric.specs.Aggregates
+pub use Rattle.arrow2_numeric.specs.Casts
 pub use Rattle.arrow2_compute.specs.Masks
-pub use Rattle.arrow2_compute.specs.Pairs
+pub use Rattle.arrow2_numeric.specs.Pairs
 pub use Rattle.arrow2_compute.specs.Sizes
 pub use Rattle.arrow2_compute.specs.Take
 pub use Rattle.arrow2_text.specs.Binary

@@ -1,6 +1,5 @@
 //! Functions on whole arrays. The modules have the names that they have in arrow2, except that `binary`, with the trait
 //! `Binary`, is new.
 
-pub use arrow2_compute::{
-    aggregate, binary, boolean, cast, comparison, concatenate, filter, if_then_else, take,
-};
+pub use arrow2_compute::{binary, boolean, concatenate, filter, if_then_else, take};
+pub use arrow2_numeric::{aggregate, cast, comparison};

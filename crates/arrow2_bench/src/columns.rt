@@ -3,11 +3,11 @@
 use crate::runs::on_each;
 use arrow2_bitmap::Bitmap;
 use arrow2_buffer::Buffer;
-use arrow2_compute::aggregate::{min, sum};
-use arrow2_compute::comparison::{lt, lt_scalar};
 use arrow2_compute::filter::filter;
 use arrow2_compute::take::take;
 use arrow2_datatypes::DataType;
+use arrow2_numeric::aggregate::{min, sum};
+use arrow2_numeric::comparison::{lt, lt_scalar};
 use arrow2_primitive::{MutablePrimitiveArray, PrimitiveArray};
 use arrow2_types::error::Result;
 use std::alloc::Global;

@@ -8,7 +8,7 @@ ghost use Rattle.arrow2_model.specs.Tables.{each, IsBitwiseUnary, IsBitwiseBinar
 use crate::bitmap_ops::are_all;
 use crate::immutable::Bitmap;
 use crate::mutable::MutableBitmap;
-use arrow2_bits::chunk_iterator::BitChunks;
+use arrow2_bits::chunk_iterator::{BitChunkIterExact, BitChunks};
 use arrow2_bits::chunks_exact::BitChunksExact;
 use arrow2_chunk::bit_chunk::BitChunk;
 use arrow2_kernels::rows::{NoList, OneList};
@@ -24,7 +24,7 @@ pub fn unary_assign<T: BitChunk, F: Fn(T) -> T>(bitmap: &mut MutableBitmap, op: 
     // If the results of `op` are those of a mathematical function `f` on words:
     ensures kernel { (f : ℕ → ℕ) → ComputesUnary T.BitChunk.WIDTH T.BitChunk.number (F.post op) f →
         bitmap.new.items ≡ unary_kernel T.BitChunk.WIDTH f bitmap.old.items }
-    // For every table `t` by which `op` acts on each bit.
+    // For every truth table `t` by which `op` computes each bit: the items are the outputs of `t`.
     ensures table { (t : ℕ) → IsBitwiseUnary T.BitChunk.WIDTH T.BitChunk.number (F.post op) t →
         bitmap.new.items ≡ each t (bitmap.old.items ∷ []) }
     ensures len { length bitmap.new.items ≡ length bitmap.old.items }
@@ -45,7 +45,7 @@ pub fn binary_assign<T: BitChunk, F: Fn(T, T) -> T>(lhs: &mut MutableBitmap, rhs
     // If the results of `op` are those of a mathematical function `f` on words:
     ensures kernel { (f : ℕ → ℕ → ℕ) → ComputesBinary T.BitChunk.WIDTH T.BitChunk.number (F.post op) f →
         lhs.new.items ≡ binary_kernel T.BitChunk.WIDTH f lhs.old.items (items_of rhs.now) }
-    // For every table `t` by which `op` acts on each bit.
+    // For every truth table `t` by which `op` computes each bit: the items are the outputs of `t`.
     ensures table { (t : ℕ) → IsBitwiseBinary T.BitChunk.WIDTH T.BitChunk.number (F.post op) t →
         lhs.new.items ≡ each t (lhs.old.items ∷ items_of rhs.now ∷ []) }
     ensures len { length lhs.new.items ≡ length lhs.old.items }
@@ -53,12 +53,31 @@ pub fn binary_assign<T: BitChunk, F: Fn(T, T) -> T>(lhs: &mut MutableBitmap, rhs
 {
     let (bytes, offset, length) = rhs.as_slice();
     if offset == 0 {
-        let chunks = BitChunksExact::<T>::new(bytes, length);
-        lhs.bits.assign_rows(OneList { chunks }, op);
+        assign_chunks(lhs, BitChunksExact::<T>::new(bytes, length), op);
     } else {
-        let chunks = BitChunks::<T>::new(bytes, offset, length);
-        lhs.bits.assign_rows(OneList { chunks }, op);
+        assign_chunks(lhs, BitChunks::<T>::new(bytes, offset, length), op);
     }
+}
+
+/// Replaces each word by the result of `op` for it and the word of `chunks` at the same index, as `binary_assign` does.
+/// Requires that `chunks` has as many items as the bitmap.
+fn assign_chunks<T: BitChunk, I: BitChunkIterExact<T> + Drop, F: Fn(T, T) -> T>(
+    lhs: &mut MutableBitmap,
+    chunks: I,
+    op: F,
+)
+    requires callable { F.IsAlwaysCallable op }
+    requires same_length { length lhs.old.items ≡ length (I.cursor chunks).items }
+    // If the results of `op` are those of a mathematical function `f` on words:
+    ensures kernel { (f : ℕ → ℕ → ℕ) → ComputesBinary T.BitChunk.WIDTH T.BitChunk.number (F.post op) f →
+        lhs.new.items ≡ binary_kernel T.BitChunk.WIDTH f lhs.old.items (I.cursor chunks).items }
+    // For every truth table `t` by which `op` computes each bit: the items are the outputs of `t`.
+    ensures table { (t : ℕ) → IsBitwiseBinary T.BitChunk.WIDTH T.BitChunk.number (F.post op) t →
+        lhs.new.items ≡ each t (lhs.old.items ∷ (I.cursor chunks).items ∷ []) }
+    ensures len { length lhs.new.items ≡ length lhs.old.items }
+    ensures capacity { lhs.new.capacity ≡ lhs.old.capacity }
+{
+    lhs.bits.assign_rows(OneList { chunks }, op);
 }
 
 /// Replaces each item by the output of the truth table `t`: bit `a` of `t`, where `a` is the item as 0 or 1. Reads only
@@ -197,7 +216,8 @@ impl Not for MutableBitmap {
     }
 }
 
-/// Replaces each item by whether both are true. Writes nothing where every item of `rhs` is true.
+/// Replaces each item by whether it and the item of `rhs` at the same index are both true. Writes nothing where every
+/// item of `rhs` is true.
 fn and_assign(lhs: &mut MutableBitmap, rhs: &Bitmap)
     requires same_length { length lhs.old.items ≡ length (items_of rhs.now) }
     ensures items { lhs.new.items ≡ each 8 (lhs.old.items ∷ items_of rhs.now ∷ []) }
@@ -210,7 +230,8 @@ fn and_assign(lhs: &mut MutableBitmap, rhs: &Bitmap)
     }
 }
 
-/// Replaces each item by whether one or both are true. Writes nothing where every item of `rhs` is false.
+/// Replaces each item by whether it or the item of `rhs` at the same index is true, or both. Writes nothing where every
+/// item of `rhs` is false.
 fn or_assign(lhs: &mut MutableBitmap, rhs: &Bitmap)
     requires same_length { length lhs.old.items ≡ length (items_of rhs.now) }
     ensures items { lhs.new.items ≡ each 14 (lhs.old.items ∷ items_of rhs.now ∷ []) }
@@ -223,7 +244,7 @@ fn or_assign(lhs: &mut MutableBitmap, rhs: &Bitmap)
     }
 }
 
-/// Replaces each item by whether exactly one is true.
+/// Replaces each item by whether exactly one of it and the item of `rhs` at the same index is true.
 fn xor_assign(lhs: &mut MutableBitmap, rhs: &Bitmap)
     requires same_length { length lhs.old.items ≡ length (items_of rhs.now) }
     ensures items { lhs.new.items ≡ each 6 (lhs.old.items ∷ items_of rhs.now ∷ []) }

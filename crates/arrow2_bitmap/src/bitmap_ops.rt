@@ -49,7 +49,7 @@ pub fn from_rows<S: WordRows<u64>, F: Fn(S::Row) -> u64>(
         ComputesRows 64 S.words (λ x. x) (F.post op) f →
         AreRowsOf 64 lists (S.row_at rows) len →
         IfOk result (λ b. items_of b ≡ kernel 64 f lists) }
-    // For every table `t` by which `op` acts on each bit: the outputs of `t` for the lists.
+    // For every truth table `t` by which `op` computes each bit: the items are the outputs of `t` for the lists.
     ensures table { (t : ℕ) (lists : List (List Bool)) →
         IsBitwiseOnRows 64 S.words (λ x. x) (F.post op) t → AreRowsOf 64 lists (S.row_at rows) len →
         IfOk result (λ b. items_of b ≡ each t lists) }
@@ -77,7 +77,7 @@ pub fn unary<F: Fn(u64) -> u64>(lhs: &Bitmap, op: F) -> Result<Bitmap>
     // If the results of `op` are those of a mathematical function `f` on words:
     ensures kernel { (f : ℕ → ℕ) → ComputesUnary 64 (λ x. x) (F.post op) f →
         IfOk result (λ b. items_of b ≡ unary_kernel 64 f (items_of lhs.now)) }
-    // For every table `t` by which `op` acts on each bit.
+    // For every truth table `t` by which `op` computes each bit: the items are the outputs of `t`.
     ensures table { (t : ℕ) → IsBitwiseUnary 64 (λ x. x) (F.post op) t →
         IfOk result (λ b. items_of b ≡ each t (items_of lhs.now ∷ [])) }
     // The new bitmap is stored in canonical bytes, and the only error is `OutOfMemory`.
@@ -111,7 +111,7 @@ pub fn binary<F: Fn(u64, u64) -> u64>(lhs: &Bitmap, rhs: &Bitmap, op: F) -> Resu
     // If the results of `op` are those of a mathematical function `f` on words:
     ensures kernel { (f : ℕ → ℕ → ℕ) → ComputesBinary 64 (λ x. x) (F.post op) f →
         IfOk result (λ b. items_of b ≡ binary_kernel 64 f (items_of lhs.now) (items_of rhs.now)) }
-    // For every table `t` by which `op` acts on each bit.
+    // For every truth table `t` by which `op` computes each bit: the items are the outputs of `t`.
     ensures table { (t : ℕ) → IsBitwiseBinary 64 (λ x. x) (F.post op) t →
         IfOk result (λ b. items_of b ≡ each t (items_of lhs.now ∷ items_of rhs.now ∷ [])) }
     // The new bitmap is stored in canonical bytes, and the only error is `OutOfMemory`.

@@ -13,7 +13,8 @@ use denote.RattleType.{RattleType}
 use Rattle.arrow2_model.specs.Buffers.{overwritten}
 use Rattle.arrow2_buffer.specs.contracts.bytes.Bytes.{the_row}
 
--- items after others were written over them from index i on, through a loan that can't change their number
+-- the list `items`, after the list `others` was written over it from index i on, through a loan that can't change the
+-- number of items
 abbrev pub rewritten : {X : Type 0} → List X → ℕ → List X → List X
 rewritten items i others = refill (length items) items (overwritten items i others)
 
@@ -21,13 +22,13 @@ rewritten items i others = refill (length items) items (overwritten items i othe
 abbrev pub shared_row : RattleType → RattleType
 shared_row T = owned.the_row (the_row T) heap.the_row ghosts
 
--- r is the storage of a sole owner: after the loan, the storage is the items written through r; where r is none, it is
--- as it was
+-- r borrows the storage of a sole owner, or is none. After the loan, the storage is the items written through r; where
+-- r is none, the storage is as it was
 abbrev pub LendsOwned : (T : RattleType) → MutBor (Rc (List T.Denot) Global) → Option (MutBor (List T.Denot)) → Fml
 LendsOwned T shared r = LendsIf (shared_row T) (the_row T) shared r (rc_with_value shared.now) shared.now
 
--- r is the part of the storage from index i on: after the loan, the storage has the items written through r in its
--- place
+-- r borrows the part of the storage from index i on. After the loan, the storage has, in place of that part, the items
+-- written through r
 abbrev pub LendsPart : (T : RattleType) → MutBor (List T.Denot) → ℕ → MutBor (List T.Denot) → Fml
 LendsPart T storage i r = Lends (the_row T) (Array T 0) storage r (rewritten storage.now i)
 

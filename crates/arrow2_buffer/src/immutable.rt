@@ -164,8 +164,8 @@ impl<T> Buffer<T> {
     /// Afterwards the buffer holds the items that were written through the slice, and the rest of the storage is as it
     /// was. No clause states when the result is `Some`.
     ///
-    /// A caller with a contract of its own uses [`Buffer::change_slice`], since the prover knows nothing of a `&mut`
-    /// inside an `Option`.
+    /// A caller with a contract of its own uses [`Buffer::change_slice`], since the prover does not by itself prove
+    /// facts on items that are written through a `&mut` inside an `Option`.
     pub fn get_mut_slice(&mut self) -> Option<&mut [T]>
         ensures* writes_back { sem 𝓛 (LendsItems T.row self.entry result) }
         ensures value { IfSome result (λ r. r.now ≡ buffer_items self.old) }

@@ -8,7 +8,7 @@ use Rattle.arrow2_model.specs.Tables.{answer, each}
 use Rattle.arrow2_model.proofs.Kernels.{each_from}
 use Rattle.arrow2_walks.specs.Zipped.{zipped}
 use Rattle.arrow2_compute.specs.Masks.{is_true}
-use Rattle.arrow2_compute.proofs.Paired.{each-and}
+use Rattle.arrow2_numeric.proofs.Paired.{each-and}
 
 not-answer : (a : Bool) → not a ≡ answer 1 (a ∷ [])
 unfolding bit

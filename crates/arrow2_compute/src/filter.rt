@@ -67,7 +67,7 @@ fn selected_values<T: NativeType>(
 }
 
 /// Appends the values at whose index the bit of the word is set. Requires at most 64 values.
-#[tactic(auto, using(crate::proofs::Selecting::selecting))]
+#[tactic(auto, using(arrow2_numeric::proofs::Selecting::selecting))]
 fn push_values<T: NativeType>(
     kept: &mut Vec<T>,
     values: &[T],
@@ -123,7 +123,7 @@ fn selected_bits(bitmap: &Bitmap, mask: &Bitmap) -> Result<Bitmap>
 
 /// Appends the bits of `block` at whose index the bit of `word` is set. Requires that the new length does not pass
 /// `usize::MAX`.
-#[tactic(auto, using(crate::proofs::Selecting::selecting))]
+#[tactic(auto, using(arrow2_numeric::proofs::Selecting::selecting))]
 fn push_bits(kept: &mut MutableBitmap, block: u64, word: u64) -> Result<()>
     requires fits { length kept.old.items + length (selected (unnum 64 block) (unnum 64 word)) < 2 ^ 64 }
     ensures ok { OnOk result (kept.new.items ≡ kept.old.items ++ selected (unnum 64 block) (unnum 64 word)) }

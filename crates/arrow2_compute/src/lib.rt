@@ -1,11 +1,8 @@
-//! Functions on whole arrays.
+//! Functions on whole arrays of any type: those that select, join or choose items, and those that find nulls.
 #![tactic(auto)]
 
-pub mod aggregate;
 pub mod binary;
 pub mod boolean;
-pub mod cast;
-pub mod comparison;
 pub mod concatenate;
 pub mod filter;
 pub mod if_then_else;

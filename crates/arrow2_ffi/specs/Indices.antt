@@ -1,5 +1,5 @@
 -- Indices into a dictionary, some of which may be null.
-use Rattle.std.specs.Prelude.{◌≡◌, ◌≢◌, ℕ, ◌<◌, ◌↔◌, ◌⊎◌, ℤ, pos, ◌<ℤ◌, ◌≤ℤ◌, List, length, Bool, false, Option, slice_index_or}
+use Rattle.std.specs.Prelude.{◌≡◌, ◌≢◌, ℕ, ◌<◌, ◌↔◌, ◌⊎◌, ℤ, pos, ◌<ℤ◌, ◌≤ℤ◌, List, length, Bool, false, Option, MatchOption, slice_index_or}
 use Rattle.std.specs.Bool.{IsTrue}
 use Rattle.arrow2_ffi.specs.declared.codes.TheConstants.{ARROW2_OK, ARROW2_RANGE, ARROW2_INDEX}
 use Rattle.arrow2_ffi.specs.Validities.{CoversItems, valid_items}
@@ -17,6 +17,11 @@ pub record IsFirstOutside (xs : List ℤ) (valid : List Bool) (n k : ℕ) : Type
   pub inside : k < length xs
   pub before : (j : ℕ) → j < k → IsIndexOrNull xs valid n j
   pub outside : ¬ IsIndexOrNull xs valid n k
+
+-- the result of a search for an item that is neither null nor an index below n: none where there is no such item, else the
+-- first
+abbrev pub FindsFirstOutside : (result : Option ℕ) (xs : List ℤ) (validity : Option (List ℕ × ℕ)) (n : ℕ) → Type 0
+FindsFirstOutside result xs validity n = MatchOption result ((k : ℕ) → k < length xs → IsIndexOrNull xs (valid_items validity (length xs)) n k) (λ slot. IsFirstOutside xs (valid_items validity (length xs)) n slot)
 
 -- the code of a check that items are indices below n or null, and the slot that it writes
 pub record ChecksIndices (code : ℕ) (xs : List ℤ) (validity : Option (List ℕ × ℕ)) (n old new : ℕ) : Type 0 where

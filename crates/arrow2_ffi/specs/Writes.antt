@@ -1,9 +1,11 @@
 -- The code of an export, and the items that it wrote.
 use Rattle.std.specs.Prelude.{◌≡◌, ◌≢◌, ℕ, ◌<◌, ◌≤◌, ◌↔◌, ◌⊎◌, List, [], ◌∷◌, ◌++◌, Bool, take}
 use Rattle.arrow2_model.specs.Bits.{bits}
+use Rattle.std.specs.Bool.{IsTrue}
 use Rattle.arrow2_model.specs.Canonical.{IsCanonical}
+use Rattle.arrow2_model.specs.Parts.{part}
 use Rattle.arrow2_model.specs.Tables.{each}
-use Rattle.arrow2_ffi.specs.Ranges.{HasBytesForBits, AreInside, inputs_of}
+use Rattle.arrow2_ffi.specs.Ranges.{IsInside, HasBytesForBits, AreInside, inputs_of}
 use Rattle.arrow2_ffi.specs.declared.codes.TheConstants.{ARROW2_OK, ARROW2_RANGE, ARROW2_LENGTH}
 
 -- the code of a call that writes where its ranges are inside and its slices have the lengths that it needs
@@ -45,6 +47,11 @@ WritesTable code bound t n inputs old new = Writes code ((t < bound) × AreInsid
 -- the code of such a call in place: its first input is the first n bits of `old`, and `inputs` are the others
 abbrev pub WritesTableInPlace : (code bound t n : ℕ) → List (List ℕ × ℕ) → (old new : List ℕ) → Type 0
 WritesTableInPlace code bound t n inputs old new = Writes code ((t < bound) × AreInside n inputs) (HasBytesForBits old n) (Stores new n (each t (take n (bits old) ∷ inputs_of n inputs))) (new ≡ old)
+
+-- the code of a call that compares n bits of two inputs, each given by its bytes and its first bit, and writes whether
+-- they are equal
+abbrev pub ComparesBits : (code n : ℕ) → (left right : List ℕ × ℕ) → (old new : Bool) → Type 0
+ComparesBits code n left right old new = WritesWhere ARROW2_RANGE code (IsInside left.0 left.1 n × IsInside right.0 right.1 n) (IsTrue new ↔ (part (bits left.0) left.1 n ≡ part (bits right.0) right.1 n)) (new ≡ old)
 
 -- of the items that were left before, the call wrote the first `count`, at most `spare`; the others are left now
 pub record Resumes {X : Type 0} (written left_before left_now : List X) (count spare before at end : ℕ) : Type 0 where

@@ -1,10 +1,10 @@
 //! Bits of bytes: counting, comparing, reading, writing and copying them. Bit `i` is bit `i % 8` of byte `i / 8`, the
 //! lowest first.
-ghost use Rattle.std.specs.Prelude.{◌≡◌, ◌*◌, ◌<◌, ◌↔◌, IsTrue, false, length, slice_index_or, slice_set};
+ghost use Rattle.std.specs.Prelude.{◌≡◌, ◌*◌, ◌<◌, false, length, slice_index_or, slice_set};
 ghost use Rattle.arrow2_model.specs.Bits.{bits};
 ghost use Rattle.arrow2_model.specs.Parts.{part, falses};
 ghost use Rattle.arrow2_ffi.specs.Ranges.{IsInside, HasBytesForBits};
-ghost use Rattle.arrow2_ffi.specs.Writes.{Stores, Writes, WritesWhere};
+ghost use Rattle.arrow2_ffi.specs.Writes.{ComparesBits, Stores, Writes, WritesWhere};
 
 use crate::bits_input::{Bits, are_both_inside, are_inside, has_bit, hold};
 use crate::codes::{ARROW2_LENGTH, ARROW2_OK, ARROW2_RANGE};
@@ -43,11 +43,8 @@ pub extern "C" fn arrow2_equal_bits(
     length: usize,
     equal: &mut bool,
 ) -> u32
-    ensures { WritesWhere ARROW2_RANGE result
-        (IsInside left.now left_offset length × IsInside right.now right_offset length)
-        (IsTrue equal.new ↔
-        (part (bits left.now) left_offset length ≡ part (bits right.now) right_offset length))
-        (equal.new ≡ equal.old) }
+    ensures { ComparesBits result length (left.now, left_offset) (right.now, right_offset)
+        equal.old equal.new }
 {
     if !are_both_inside(Bits(left, left_offset), Bits(right, right_offset), length) {
         return ARROW2_RANGE;

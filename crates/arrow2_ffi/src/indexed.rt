@@ -1,6 +1,6 @@
 //! The bodies of the exports on indices, for any width.
-ghost use Rattle.std.specs.Prelude.{◌≡◌, ◌<◌, ◌↔◌, ℕ, pos, map, length, slice_index_or, IsTrue, MatchOption};
-ghost use Rattle.arrow2_ffi.specs.Indices.{ChecksIndices, IsFirstOutside, IsIndex, IsIndexOrNull};
+ghost use Rattle.std.specs.Prelude.{◌≡◌, ◌<◌, ◌↔◌, ℕ, pos, map, length, slice_index_or, IsTrue};
+ghost use Rattle.arrow2_ffi.specs.Indices.{ChecksIndices, FindsFirstOutside, IsFirstOutside, IsIndex, IsIndexOrNull};
 ghost use Rattle.arrow2_ffi.specs.Validities.{CoversItems, valid_items, validity_of};
 
 use crate::bits_input::Bits;
@@ -33,11 +33,7 @@ pub(crate) fn check<I: Index>(
 /// Returns the first item that is neither null nor an index below `items`.
 fn first_outside<I: Index>(indices: &[I], validity: Option<Bits<'_>>, items: usize) -> Option<usize>
     requires covers { CoversItems (validity_of validity) (length indices.now) }
-    ensures { MatchOption result
-        ((k : ℕ) → k < length indices.now → IsIndexOrNull (map I.value indices.now)
-        (valid_items (validity_of validity.entry) (length indices.now)) items k)
-        (λ slot. IsFirstOutside (map I.value indices.now)
-        (valid_items (validity_of validity.entry) (length indices.now)) items slot) }
+    ensures { FindsFirstOutside result (map I.value indices.now) (validity_of validity.entry) items }
 {
     for slot in 0..indices.len() {
         if is_valid(validity, slot, indices.len()) && !is_index(indices[slot], items) {

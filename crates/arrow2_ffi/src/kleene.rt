@@ -3,9 +3,8 @@
 //! The values of the result are written over `values` and its validity over `validity`, from bit 0 on. Both slices must
 //! have exactly the number of bytes that hold `length` bits. Their padding bits become 0. Each value of the result is
 //! the operator applied to the two values, also where the result is null.
-ghost use Rattle.std.specs.Prelude.{Bool, Option};
 ghost use Rattle.arrow2_array.specs.Kleene.{TablesCompute};
-ghost use Rattle.arrow2_ffi.specs.Kleene.{WritesKleene, WritesKleeneAnd, WritesKleeneOr, input, input_of};
+ghost use Rattle.arrow2_ffi.specs.Kleene.{Operator, WritesKleene, WritesKleeneAnd, WritesKleeneOr, input, input_of};
 
 use crate::bits_input::{Bits, are_both_inside, hold};
 use crate::codes::{ARROW2_LENGTH, ARROW2_OK, ARROW2_RANGE};
@@ -97,7 +96,7 @@ fn write<const VALUES: u8, const KNOWN: u16>(
     values: &mut [u8],
     validity: &mut [u8],
 ) -> u32
-    ensures { (f : Option Bool → Option Bool → Option Bool) → TablesCompute VALUES KNOWN f →
+    ensures { (f : Operator) → TablesCompute VALUES KNOWN f →
         WritesKleene result f VALUES KNOWN length (input_of left.entry) (input_of right.entry)
         values.old values.new validity.old validity.new }
 {

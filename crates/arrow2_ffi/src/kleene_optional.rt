@@ -1,10 +1,10 @@
 //! Kleene's logic where either side may have no validity: then no item of that side is null.
 //!
 //! A validity that is missing needs no bytes.
-ghost use Rattle.std.specs.Prelude.{Bool, Option, [], ◌∷◌, ◌↔◌, IsTrue};
+ghost use Rattle.std.specs.Prelude.{◌↔◌, IsTrue};
 ghost use Rattle.arrow2_model.specs.Tables.{each};
 ghost use Rattle.arrow2_array.specs.Kleene.{TablesCompute};
-ghost use Rattle.arrow2_ffi.specs.Kleene.{AgreesWhereOneIsValid, IsWholeInside, WritesOptionalKleene, WritesOptionalKleeneAnd, WritesOptionalKleeneOr, first_valid, first_values, optional_input, optional_of};
+ghost use Rattle.arrow2_ffi.specs.Kleene.{AgreesWhereOneIsValid, IsWholeInside, Operator, WritesOptionalKleene, WritesOptionalKleeneAnd, WritesOptionalKleeneOr, first_parts, optional_input, optional_of};
 ghost use Rattle.arrow2_ffi.specs.Ranges.{HasBytesForBits};
 ghost use Rattle.arrow2_ffi.specs.Writes.{Stores};
 
@@ -108,7 +108,7 @@ fn write<const VALUES: u8, const KNOWN: u16, const PAIRED: u8>(
     values: &mut [u8],
     validity: &mut [u8],
 ) -> u32
-    ensures { (f : Option Bool → Option Bool → Option Bool) → TablesCompute VALUES KNOWN f → AgreesWhereOneIsValid PAIRED KNOWN →
+    ensures { (f : Operator) → TablesCompute VALUES KNOWN f → AgreesWhereOneIsValid PAIRED KNOWN →
         WritesOptionalKleene result f VALUES KNOWN length (optional_of left.entry)
         (optional_of right.entry) values.old values.new validity.old validity.new }
 {
@@ -142,9 +142,8 @@ fn write_known<const KNOWN: u16, const PAIRED: u8>(
     requires exact { HasBytesForBits out.old length }
     requires left { IsWholeInside length (optional_of left) }
     requires right { IsWholeInside length (optional_of right) }
-    ensures { AgreesWhereOneIsValid PAIRED KNOWN → Stores out.new length (each KNOWN
-        (first_values length (optional_of left.entry) ∷ first_valid length (optional_of left.entry)
-        ∷ first_values length (optional_of right.entry) ∷ first_valid length (optional_of right.entry) ∷ [])) }
+    ensures { AgreesWhereOneIsValid PAIRED KNOWN → Stores out.new length
+        (each KNOWN (first_parts length (optional_of left.entry) (optional_of right.entry))) }
 {
     match (left.validity, right.validity) {
         (None, None) => write_two::<ALWAYS>(out, length, left.values, right.values),

@@ -1,10 +1,7 @@
 //! The runs of set bits, each by its first index and its length.
 ghost use Rattle.std.specs.Prelude.{◌≡◌, ◌≤◌, length};
-ghost use Rattle.arrow2_model.specs.Bits.{bits};
-ghost use Rattle.arrow2_model.specs.Parts.{part};
-ghost use Rattle.arrow2_ffi.specs.Ranges.{HaveEqualLengths, IsInside, HasBits, first_bits};
-ghost use Rattle.arrow2_ffi.specs.RunWrites.{WritesRuns};
-ghost use Rattle.arrow2_ffi.specs.Writes.{Writes};
+ghost use Rattle.arrow2_ffi.specs.Ranges.{HasBits, first_bits};
+ghost use Rattle.arrow2_ffi.specs.RunWrites.{FindsRuns, WritesRuns, run_outputs};
 
 use crate::bits_input::{Bits, are_inside};
 use crate::codes::{ARROW2_LENGTH, ARROW2_OK, ARROW2_RANGE};
@@ -31,12 +28,9 @@ pub extern "C" fn arrow2_runs(
 ) -> u32
     // The first `count` of `starts` and `lengths`, then the runs from `at.new` on, are the runs from `at.old` on; where
     // the slices are not full, `at.new` is `length`.
-    ensures { Writes result (IsInside bytes.now offset length × (at.old ≤ length))
-        (HaveEqualLengths starts.old lengths.old)
-        (WritesRuns (part (bits bytes.now) offset length) count.new starts.old starts.new lengths.new
-        at.old at.new length)
-        ((starts.new ≡ starts.old) × (lengths.new ≡ lengths.old)
-        × (at.new ≡ at.old) × (count.new ≡ count.old)) }
+    ensures { FindsRuns result bytes.now offset length
+        (run_outputs starts.old lengths.old at.old count.old)
+        (run_outputs starts.new lengths.new at.new count.new) }
 {
     let items = Bits(bytes, offset);
     if !are_inside(items, length) || *at > length {

@@ -1,12 +1,10 @@
 //! The indices of set bits.
 ghost use Rattle.std.specs.Prelude.{◌≡◌, ◌+◌, ◌<◌, ◌≤◌, ◌^◌, ℕ, List, ◌∷◌, ◌++◌, map, take, length, IfNone, IfSome};
 ghost use Rattle.std.specs.List.{All};
-ghost use Rattle.arrow2_model.specs.Bits.{bits, unnum};
-ghost use Rattle.arrow2_model.specs.Parts.{part};
+ghost use Rattle.arrow2_model.specs.Bits.{unnum};
 ghost use Rattle.arrow2_chunk.specs.Ones.{ones};
-ghost use Rattle.arrow2_ffi.specs.SetIndices.{WritesSetIndices};
-ghost use Rattle.arrow2_ffi.specs.Ranges.{IsInside, HasBits, first_bits};
-ghost use Rattle.arrow2_ffi.specs.Writes.{WritesWhere};
+ghost use Rattle.arrow2_ffi.specs.Ranges.{HasBits, first_bits};
+ghost use Rattle.arrow2_ffi.specs.SetIndices.{FindsSetIndices, WritesSetIndices, index_outputs};
 
 use crate::bits_input::{Bits, are_inside};
 use crate::codes::{ARROW2_OK, ARROW2_RANGE};
@@ -32,10 +30,9 @@ pub extern "C" fn arrow2_set_indices(
 ) -> u32
     // The first `count` of `indices`, then those from `at.new` on, are the indices of set bits from `at.old` on; where
     // `indices` is not full, `at.new` is `length`.
-    ensures { WritesWhere ARROW2_RANGE result (IsInside bytes.now offset length × (at.old ≤ length))
-        (WritesSetIndices (part (bits bytes.now) offset length) count.new indices.old indices.new
-        at.old at.new length)
-        ((indices.new ≡ indices.old) × (at.new ≡ at.old) × (count.new ≡ count.old)) }
+    ensures { FindsSetIndices result bytes.now offset length
+        (index_outputs indices.old at.old count.old)
+        (index_outputs indices.new at.new count.new) }
 {
     let items = Bits(bytes, offset);
     if !are_inside(items, length) || *at > length {

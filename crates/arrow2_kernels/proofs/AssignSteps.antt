@@ -67,23 +67,16 @@ word_bit w x c i word of most h =
     ap (λ (t : List Bool). get_or t i false) (sym (take-bits word c spare))
     ∙ (get_or-take (8 * c) (bits word) i false h ∙ (ap (λ (t : List Bool). get_or t i false) of ∙ get_or-unnum w x i false (omega arith)))
 
--- a bit of a word that was read from bytes, which others follow
-pub read_bit : (w n x a c i : ℕ) (xs copied more : List ℕ) → 8 * n ≡ w → unnum w x ≡ bits (take n (copied ++ more)) → copied ≡ take c (drop a xs) → a + c ≤ length xs → c ≤ n → i < 8 * c → bit x i ≡ get_or (bits xs) (8 * a + i) false
-read_bit w n x a c i xs copied more size is from inside most h =
-    let u = length-unnum w x in
-    let b = length-bits (take n (copied ++ more)) in
-    let t = length-take n (copied ++ more) in
-    let spare : n ≤ length (copied ++ more) = omega (arith, u, b, t, ap length is) in
+-- a bit of a word that was read from a block, which begins with c bytes of a list
+pub read_bit : (w n x a c i : ℕ) (xs block : List ℕ) → 8 * n ≡ w → unnum w x ≡ bits (take n block) → take c block ≡ take c (drop a xs) → n ≤ length block → a + c ≤ length xs → c ≤ n → i < 8 * c → bit x i ≡ get_or (bits xs) (8 * a + i) false
+read_bit w n x a c i xs block size is from long inside most h =
     let d = length-drop a xs in
-    let m : length copied ≡ c = ap length from ∙ length-take-le c (drop a xs) (omega (arith, d)) in
-    let cb = length-bits copied in
     sym (get_or-unnum w x i false (omega arith))
-    ∙ (ap (λ (t : List Bool). get_or t i false) (is ∙ sym (take-bits (copied ++ more) n spare))
-    ∙ (get_or-take (8 * n) (bits (copied ++ more)) i false (omega arith)
-    ∙ (ap (λ (t : List Bool). get_or t i false) (bits-append copied more)
-    ∙ (get_or_append_left (bits copied) (bits more) false i (omega (arith, cb, m))
-    ∙ (ap (λ (t : List Bool). get_or t i false) (ap bits from ∙ (sym (take-bits (drop a xs) c (omega (arith, d))) ∙ ap (take (8 * c)) (sym (drop-bits xs a (omega arith)))))
-    ∙ (get_or-take (8 * c) (drop (8 * a) (bits xs)) i false h ∙ get_or-drop (8 * a) (bits xs) i false))))))
+    ∙ (ap (λ (t : List Bool). get_or t i false) (is ∙ sym (take-bits block n long))
+    ∙ (get_or-take (8 * n) (bits block) i false (omega arith)
+    ∙ (sym (get_or-take (8 * c) (bits block) i false h)
+    ∙ (ap (λ (t : List Bool). get_or t i false) (take-bits block c (omega arith) ∙ (ap bits from ∙ (sym (take-bits (drop a xs) c (omega (arith, d))) ∙ ap (take (8 * c)) (sym (drop-bits xs a (omega arith))))))
+    ∙ (get_or-take (8 * c) (drop (8 * a) (bits xs)) i false h ∙ get_or-drop (8 * a) (bits xs) i false)))))
 
 -- ---- a loop that writes word by word
 

@@ -53,9 +53,19 @@ fn word_at<T: BitChunk>(bytes: &[u8], at: usize, count: usize) -> T
         ≡ slice_index_or (bits bytes.now) (8 * at + i) false }
     ensures fits { T.BitChunk.number result < 2 ^ T.BitChunk.WIDTH }
 {
-    let mut padded = [0u8; 8];
-    padded[..count].copy_from_slice(&bytes[at..at + count]);
-    T::from_ne_slice(&padded[..T::SIZE])
+    let block = padded(&bytes[at..at + count]);
+    T::from_ne_slice(&block[..T::SIZE])
+}
+
+/// Returns the bytes, followed by zeros. Requires that there are at most eight bytes.
+fn padded(bytes: &[u8]) -> [u8; 8]
+    requires { length bytes.now ≤ 8 }
+    ensures front { take (length bytes.now) result ≡ bytes.now }
+    ensures size { length result ≡ 8 }
+{
+    let mut block = [0; 8];
+    block[..bytes.len()].copy_from_slice(bytes);
+    block
 }
 
 /// Writes the first `count` bytes of `word` over the `count` bytes from byte `at` on. Requires that these are inside

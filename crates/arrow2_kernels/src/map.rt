@@ -30,7 +30,7 @@ pub fn write_rows<S: WordRows<u64>, F: Fn(S::Row) -> u64>(
     // If the results of `op` are those of a mathematical function `f` on words:
     ensures items { (f : List ℕ → ℕ) → ComputesRows 64 S.words (λ x. x) (F.post op) f →
         take len (bits bytes.new) ≡ joined 64 (λ j. f (S.row_at rows j)) len }
-    // For every table `t` by which `op` acts on each bit.
+    // For every truth table `t` by which `op` computes each bit: the items are the outputs of `t`.
     ensures table { (t : ℕ) (lists : List (List Bool)) →
         IsBitwiseOnRows 64 S.words (λ x. x) (F.post op) t → AreRowsOf 64 lists (S.row_at rows) len →
         take len (bits bytes.new) ≡ each t lists }

@@ -9,16 +9,16 @@ use crate::calls::{Row, input, made};
 use arrow2_array::BooleanArray;
 use arrow2_bitmap::Bitmap;
 use arrow2_compute::boolean::{is_not_null, is_null};
-use arrow2_compute::cast::{primitive_to_primitive, try_primitive_to_primitive};
-use arrow2_compute::comparison::{
-    eq, eq_scalar, gt, gt_eq, gt_eq_scalar, gt_scalar, lt, lt_eq, lt_eq_scalar, lt_scalar, neq,
-    neq_scalar, tested,
-};
 use arrow2_compute::concatenate::{concatenate, concatenate_binary, concatenate_boolean};
 use arrow2_compute::filter::{filter, filter_binary, filter_boolean, filter_by_array};
 use arrow2_compute::if_then_else::{if_then_else, if_then_else_binary, if_then_else_boolean};
 use arrow2_compute::take::{take, take_binary, take_boolean, take_by_array};
 use arrow2_datatypes::DataType;
+use arrow2_numeric::cast::{primitive_to_primitive, try_primitive_to_primitive};
+use arrow2_numeric::comparison::{
+    eq, eq_scalar, gt, gt_eq, gt_eq_scalar, gt_scalar, lt, lt_eq, lt_eq_scalar, lt_scalar, neq,
+    neq_scalar, tested,
+};
 use arrow2_primitive::PrimitiveArray;
 use arrow2_text::Utf8Array;
 use arrow2_types::error::{Error, Result};

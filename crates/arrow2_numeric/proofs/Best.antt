@@ -9,8 +9,8 @@ use Rattle.std.specs.declared.cmp.Ordering.TheVariants.{Less, Equal, Greater}
 use Rattle.std.proofs.lemmas.Cmp.{upto, tied_itself}
 use Rattle.std.proofs.lemmas.List.Elements.{All-push, All-weaker, All-nil, Contains-append_left, Contains-push}
 use Rattle.arrow2_walks.specs.Selected.{selected}
-use Rattle.arrow2_compute.specs.Aggregates.{best_from}
-use Rattle.arrow2_compute.proofs.Selecting.{word-kept, last-kept}
+use Rattle.arrow2_numeric.specs.Aggregates.{best_from}
+use Rattle.arrow2_numeric.proofs.Selecting.{word-kept, last-kept}
 
 append-nil : {X : Type 0} (xs : List X) → xs ++ [] ≡ xs
 append-nil [] = refl

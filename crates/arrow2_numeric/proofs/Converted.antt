@@ -8,7 +8,7 @@ use Rattle.std.proofs.lemmas.List.{get_or-take, length-take}
 use Rattle.arrow2_types.specs.Refusals.{IsInvalidArgumentOrOutOfMemory}
 use Rattle.arrow2_types.specs.declared.error.Error.{Error}
 use Rattle.arrow2_types.specs.declared.error.Error.TheVariants.{OutOfMemory}
-use Rattle.arrow2_compute.specs.Casts.{Fits, IsCast, IsFirstMisfit, IsSameNumber}
+use Rattle.arrow2_numeric.specs.Casts.{Fits, IsCast, IsFirstMisfit, IsSameNumber}
 
 module _ {X Y : Type 0} (R : X → Y → Type 0) where
   -- there are as many of both

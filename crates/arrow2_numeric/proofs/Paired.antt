@@ -8,7 +8,7 @@ use Rattle.arrow2_model.specs.Bits.{bit}
 use Rattle.arrow2_model.specs.Tables.{answer, each}
 use Rattle.arrow2_model.proofs.Kernels.{each_from}
 use Rattle.arrow2_walks.specs.Zipped.{zipped}
-use Rattle.arrow2_compute.specs.Pairs.{of_both, IsTestedAt}
+use Rattle.arrow2_numeric.specs.Pairs.{of_both, IsTestedAt}
 
 -- of values that are both valid
 pub both-zipped : {X Y Z : Type 0} (f : X → Y → Z) (xs : List X) (ys : List Y) (vs ws : List Bool)

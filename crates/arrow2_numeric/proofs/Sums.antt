@@ -2,7 +2,7 @@
 use Rattle.std.proofs.Common.{◌≡◌, ℕ, zero, suc, ◌+◌, ◌<◌, List, [], ◌∷◌, length, take, get_or, refl, ap, sym, ◌∙◌, arith, add-one, pos, ◌+ℤ◌}
 use Rattle.std.specs.Prelude.{Option, Some, None, ℤ}
 use Rattle.std.proofs.Math.IntN.{+ℤ_idl, +ℤ_idr, +ℤ_assoc}
-use Rattle.arrow2_compute.specs.Aggregates.{sum_of_non_null}
+use Rattle.arrow2_numeric.specs.Aggregates.{sum_of_non_null}
 
 module _ {X : Type 0} (f : X → ℤ) where
   sum-next : (items : List (Option X)) (k : ℕ) → k < length items → sum_of_non_null f (take (suc k) items) ≡ sum_of_non_null f (take k items) +ℤ sum_of_non_null f (get_or items k None ∷ [])

@@ -2,7 +2,7 @@
 ghost use Rattle.std.specs.Prelude.{◌≡◌, ◌<◌, ◌≤◌, ◌+◌, ◌-◌, ◌*◌, ◌^◌, ◌≤ℤ◌, ◌+ℤ◌, [], ◌∷◌, None, ℤ, length, pos, negsuc, IsTrue};
 ghost use Rattle.std.specs.Option.{option_map_or};
 ghost use Rattle.std.specs.Ordering.{is_le, is_ge, ord_min, ord_max};
-ghost use Rattle.arrow2_compute.specs.Aggregates.{best_from, sum_of_non_null, IsExtremum};
+ghost use Rattle.arrow2_numeric.specs.Aggregates.{best_from, sum_of_non_null, IsExtremum};
 ghost use Rattle.arrow2_model.specs.Bits.{unnum};
 ghost use Rattle.arrow2_model.specs.Storage.{items_of};
 ghost use Rattle.arrow2_primitive.specs.Primitive.{primitive_items};

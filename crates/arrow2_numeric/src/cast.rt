@@ -4,7 +4,7 @@ ghost use Rattle.std.specs.List.{AllZip};
 ghost use Rattle.arrow2_types.specs.Refusals.{IsInvalidArgumentOrOutOfMemory};
 ghost use Rattle.arrow2_datatypes.specs.Types.{physical};
 ghost use Rattle.arrow2_datatypes.specs.declared.physical_type.PhysicalType.TheVariants.{Primitive};
-ghost use Rattle.arrow2_compute.specs.Casts.{IsCast, IsSameNumber, IsFirstMisfit, Fits, not_fitting_message};
+ghost use Rattle.arrow2_numeric.specs.Casts.{IsCast, IsSameNumber, IsFirstMisfit, Fits, not_fitting_message};
 ghost use Rattle.arrow2_primitive.specs.Primitive.{primitive_items};
 
 use arrow2_datatypes::DataType;

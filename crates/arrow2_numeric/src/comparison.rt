@@ -4,7 +4,7 @@ ghost use Rattle.std.specs.Ordering.{partial_lt, partial_le, partial_gt, partial
 ghost use Rattle.std.specs.Simd.Lanes.{zip2};
 ghost use Rattle.arrow2_array.specs.Items.{boolean_items};
 ghost use Rattle.arrow2_bitmap.specs.Predicates.{IsCallableWithEach, ReturnsOnEach};
-ghost use Rattle.arrow2_compute.specs.Pairs.{IsTestedAt, AlwaysReturns, of_both};
+ghost use Rattle.arrow2_numeric.specs.Pairs.{IsTestedAt, AlwaysReturns, of_both};
 ghost use Rattle.arrow2_model.specs.Buffers.{buffer_items};
 ghost use Rattle.arrow2_primitive.specs.Primitive.{primitive_items};
 

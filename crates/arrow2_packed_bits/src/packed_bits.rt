@@ -324,7 +324,7 @@ impl PackedBits {
             ComputesOwnRows T.BitChunk.WIDTH S.words T.BitChunk.number (F.post op) f →
             ((j : ℕ) → S.row_at rows j ≡ words_at T.BitChunk.WIDTH lists j) →
             self.new.items ≡ kernel T.BitChunk.WIDTH f (self.old.items ∷ lists) }
-        // For every table `t` by which `op` acts on each bit.
+        // For every truth table `t` by which `op` computes each bit: the items are the outputs of `t`.
         ensures table { (t : ℕ) (lists : List (List Bool)) →
             IsBitwiseOnOwnRows T.BitChunk.WIDTH S.words T.BitChunk.number (F.post op) t →
             ((j : ℕ) → S.row_at rows j ≡ words_at T.BitChunk.WIDTH lists j) →

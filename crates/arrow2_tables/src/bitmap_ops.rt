@@ -33,7 +33,7 @@ pub fn ternary<F: Fn(u64, u64, u64) -> u64>(
     ensures kernel { (f : ℕ → ℕ → ℕ → ℕ) → ComputesTernary 64 (λ x. x) (F.post op) f →
         IfOk result (λ b.
         items_of b ≡ ternary_kernel 64 f (items_of a1.now) (items_of a2.now) (items_of a3.now)) }
-    // For every table `t` by which `op` acts on each bit.
+    // For every truth table `t` by which `op` computes each bit: the items are the outputs of `t`.
     ensures table { (t : ℕ) → IsBitwiseTernary 64 (λ x. x) (F.post op) t →
         IfOk result (λ b.
         items_of b ≡ each t (items_of a1.now ∷ items_of a2.now ∷ items_of a3.now ∷ [])) }
@@ -87,7 +87,7 @@ pub fn quaternary<F: Fn(u64, u64, u64, u64) -> u64>(
         IfOk result (λ b.
         items_of b ≡ quaternary_kernel 64 f (items_of a1.now) (items_of a2.now)
         (items_of a3.now) (items_of a4.now)) }
-    // For every table `t` by which `op` acts on each bit.
+    // For every truth table `t` by which `op` computes each bit: the items are the outputs of `t`.
     ensures table { (t : ℕ) → IsBitwiseQuaternary 64 (λ x. x) (F.post op) t →
         IfOk result (λ b.
         items_of b ≡ each t (items_of a1.now ∷ items_of a2.now ∷ items_of a3.now

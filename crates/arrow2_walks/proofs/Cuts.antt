@@ -1,10 +1,9 @@
 -- Cuts of pieces: the facts that stay, and the potential that pays for the reads.
-use Rattle.std.proofs.Common.{◌≡◌, ℕ, zero, suc, ◌+◌, ◌-◌, ◌*◌, ◌<◌, ◌≤◌, List, [], ◌∷◌, ◌++◌, Bool, length, map, take, drop, get_or, set, subst, refl, ap, sym, ◌∙◌, arith}
+use Rattle.std.proofs.Common.{◌≡◌, ℕ, zero, suc, ◌+◌, ◌-◌, ◌*◌, ◌<◌, ◌≤◌, List, [], ◌∷◌, ◌++◌, length, map, take, drop, get_or, set, subst, refl, ap, sym, ◌∙◌, arith}
 use Rattle.std.specs.List.{insert}
-use Rattle.std.proofs.lemmas.List.{take-append-drop, take_all, length-take-le, length-drop, append_assoc, get_or-map}
+use Rattle.std.proofs.lemmas.List.{take-append-drop, length-take-le, length-drop, append_assoc, get_or-map}
 use Rattle.std.proofs.lemmas.List.Concat.{flat_map-cons}
 use Rattle.std.proofs.lemmas.List.Sums.{sum_by-cons}
-use Rattle.arrow2_model.specs.Parts.{part}
 use Rattle.arrow2_model.specs.Storage.{BitmapStorage, items_of}
 use Rattle.arrow2_model.specs.Touched.{slice_reads, cut_reads, lg, cut_budget, total_cut_budget}
 use Rattle.arrow2_model.proofs.Touched.{cut_le, cut_reads-is}
@@ -77,22 +76,6 @@ put_following (c ∷ bs) (suc k) w f x h e =
     let j : suc k + 1 ≡ suc (k + 1) = omega arith in
     put_following bs k w f x (omega arith) (subst (λ (n : ℕ). x ≡ get_or (set (insert (c ∷ bs) n w) (suc k) f) n x) j e)
 
-abbrev piece : List Bool → ℕ → Piece
-piece items offset = record { items = items; offset = offset }
-
-pub front_is : (q : Piece) (b x f : BitmapStorage) (i : ℕ) → q ≡ piece_of b → x ≡ b → items_of f ≡ part (items_of x) 0 i → f.offset ≡ x.offset + 0 → piece_of f ≡ front q i
-front_is q b x f i e same items offset =
-    rw e (ap (λ (xs : List Bool). piece xs f.offset) (items ∙ ap (λ (s : BitmapStorage). part (items_of s) 0 i) same) ∙ ap (piece (take i (items_of b))) (offset ∙ (add_zero x.offset ∙ ap (λ (s : BitmapStorage). s.offset) same)))
-  where
-    add_zero : (n : ℕ) → n + 0 ≡ n
-    add_zero n = omega arith
-
-pub back_is : (q : Piece) (b x f : BitmapStorage) (i n : ℕ) → q ≡ piece_of b → x ≡ b → n ≡ length (items_of b) → items_of f ≡ part (items_of x) i (n - i) → f.offset ≡ x.offset + i → piece_of f ≡ back q i
-back_is q b x f i n e same size items offset =
-    let l = length-drop i (items_of b) in
-    let all : part (items_of b) i (n - i) ≡ drop i (items_of b) = take_all (n - i) (drop i (items_of b)) (omega (arith, l, size)) in
-    rw e (ap (λ (xs : List Bool). piece xs f.offset) (items ∙ (ap (λ (s : BitmapStorage). part (items_of s) i (n - i)) same ∙ all)) ∙ ap (piece (drop i (items_of b))) (offset ∙ ap (λ (s : BitmapStorage). s.offset + i) same))
-
 -- a bitmap that was put after bitmap k, where both are cut
 pub pieces_cut : (bs : List BitmapStorage) (k i : ℕ) (w f g : BitmapStorage) → k < length bs → piece_of f ≡ front (piece_at (map piece_of bs) k) i → piece_of g ≡ back (piece_at (map piece_of bs) k) i
     → map piece_of (set (set (insert bs (k + 1) w) k f) (k + 1) g) ≡ cut_at (map piece_of bs) k i
@@ -102,15 +85,30 @@ pieces_cut (b ∷ bs) (suc k) i w f g h is-f is-g =
     let j : suc k + 1 ≡ suc (k + 1) = omega arith in
     rw j (ap (λ ps. piece_of b ∷ ps) (pieces_cut bs k i w f g (omega arith) is-f is-g))
 
--- the reads of both slices
-pub cut_counted : (q : Piece) (b x y : BitmapStorage) (i n r s t : ℕ) → q ≡ piece_of b → x ≡ b → y ≡ b → n ≡ length (items_of b) → s ≡ r + slice_reads x.offset (length (items_of x)) 0 i → t ≡ s + slice_reads y.offset (length (items_of y)) i (n - i) → t ≡ r + cut_reads q.offset (length q.items) i
-cut_counted q b x y i n r s t e same-x same-y size first second =
+-- a bitmap cut in two, with a copy of it put after it: the pieces
+pub cut_pieces : (bs ns : List BitmapStorage) (k i : ℕ) (b w x y f g : BitmapStorage) → k < length bs → b ≡ get_or bs k b → w ≡ b → ns ≡ insert bs (k + 1) w
+    → x ≡ get_or ns k x → piece_of f ≡ front (piece_of x) i → y ≡ get_or (set ns k f) (k + 1) y → piece_of g ≡ back (piece_of y) i
+    → map piece_of (set (set ns k f) (k + 1) g) ≡ cut_at (map piece_of bs) k i
+cut_pieces bs ns k i b w x y f g h is-b is-w put is-x front-is is-y back-is =
+    let q : piece_at (map piece_of bs) k ≡ piece_of b = piece_is bs k b h is-b in
+    let same-x : x ≡ b = same_before bs k w x b h (is-x ∙ ap (λ (xs : List BitmapStorage). get_or xs k x) put) is-b in
+    let same-y : y ≡ b = put_following bs k w f y h (is-y ∙ ap (λ (xs : List BitmapStorage). get_or (set xs k f) (k + 1) y) put) ∙ is-w in
+    let first : piece_of f ≡ front (piece_at (map piece_of bs) k) i = front-is ∙ ap (λ (p : Piece). front p i) (ap piece_of same-x ∙ sym q) in
+    let second : piece_of g ≡ back (piece_at (map piece_of bs) k) i = back-is ∙ ap (λ (p : Piece). back p i) (ap piece_of same-y ∙ sym q) in
+    ap (λ (xs : List BitmapStorage). map piece_of (set (set xs k f) (k + 1) g)) put ∙ pieces_cut bs k i w f g h first second
+
+-- and the reads of both slices
+pub cut_counted : (bs ns : List BitmapStorage) (k i : ℕ) (b w x y f : BitmapStorage) (r s t : ℕ) → k < length bs → b ≡ get_or bs k b → w ≡ b → ns ≡ insert bs (k + 1) w
+    → x ≡ get_or ns k x → s ≡ r + slice_reads x.offset (length (items_of x)) 0 i → y ≡ get_or (set ns k f) (k + 1) y → t ≡ s + slice_reads y.offset (length (items_of y)) i (length (items_of y) - i)
+    → t ≡ r + cut_reads (piece_at (map piece_of bs) k).offset (length (piece_at (map piece_of bs) k).items) i
+cut_counted bs ns k i b w x y f r s t h is-b is-w put is-x first is-y second =
+    let same-x : x ≡ b = same_before bs k w x b h (is-x ∙ ap (λ (xs : List BitmapStorage). get_or xs k x) put) is-b in
+    let same-y : y ≡ b = put_following bs k w f y h (is-y ∙ ap (λ (xs : List BitmapStorage). get_or (set xs k f) (k + 1) y) put) ∙ is-w in
     let a = ap (λ (c : BitmapStorage). slice_reads c.offset (length (items_of c)) 0 i) same-x in
-    let d = ap (λ (c : BitmapStorage). slice_reads c.offset (length (items_of c)) i (n - i)) same-y in
-    let m = ap (λ (k : ℕ). slice_reads b.offset (length (items_of b)) i (k - i)) size in
-    let u = ap (λ (p : Piece). cut_reads p.offset (length p.items) i) e in
+    let d = ap (λ (c : BitmapStorage). slice_reads c.offset (length (items_of c)) i (length (items_of c) - i)) same-y in
+    let u = ap (λ (p : Piece). cut_reads p.offset (length p.items) i) (piece_is bs k b h is-b) in
     let is = cut_reads-is b.offset (length (items_of b)) i in
-    omega (arith, a, d, m, u, is, first, second)
+    omega (arith, a, d, u, is, first, second)
 
 -- the bound that callers see
 pub paid_bound : (ps : List Piece) (r : ℕ) → IsWithinBudget ps r → 8 * r ≤ 2 * (length (joined ps) * lg (length (joined ps))) + 30 * (length ps - 1)

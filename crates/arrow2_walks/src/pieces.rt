@@ -1,9 +1,9 @@
 //! A bitmap that is cut again and again, and the bytes that its cuts read.
 ghost use Rattle.std.specs.Prelude.{◌≡◌, ◌+◌, ◌-◌, ◌*◌, ◌<◌, ◌≤◌, ◌∷◌, [], length, map, IfOk, IfErr, OnOk, OnErr};
 ghost use Rattle.arrow2_model.specs.Storage.{BitmapStorage, items_of};
-ghost use Rattle.arrow2_model.specs.Touched.{cut_reads, lg};
+ghost use Rattle.arrow2_model.specs.Touched.{cut_reads, lg, slice_reads};
 ghost use Rattle.arrow2_types.specs.declared.error.Error.TheVariants.{OutOfMemory};
-ghost use Rattle.arrow2_walks.specs.Cuts.{piece_of, piece_at, joined, cut_at, IsWithinBudget};
+ghost use Rattle.arrow2_walks.specs.Cuts.{IsWithinBudget, back, cut_at, front, joined, piece_at, piece_of};
 
 use arrow2_bitmap::Bitmap;
 use arrow2_bits::Reads;
@@ -106,7 +106,6 @@ impl Pieces {
 }
 
 /// Cuts bitmap `p` in two at item `i`, and adds the reads of both slices.
-#[tactic(auto, using(crate::proofs::Cuts::cuts))]
 fn cut_in_two(bitmaps: &mut Vec<Bitmap>, p: usize, i: usize, reads: &mut Reads) -> Result<()>
     requires below { p < length bitmaps.old.items }
     requires inside { i ≤ length (piece_at (map piece_of bitmaps.old.items) p).items }
@@ -115,9 +114,7 @@ fn cut_in_two(bitmaps: &mut Vec<Bitmap>, p: usize, i: usize, reads: &mut Reads) 
         ≡ cut_at (map piece_of bitmaps.old.items) p i) }
     ensures reads { OnOk result (let old = piece_at (map piece_of bitmaps.old.items) p in
         reads.new ≡ reads.old + cut_reads old.offset (length old.items) i) }
-    // In any case the items of all pieces together stay, and the budget of reads holds.
-    ensures joined { joined (map piece_of bitmaps.new.items)
-        ≡ joined (map piece_of bitmaps.old.items) }
+    // In any case the budget of reads holds.
     ensures paid { IsWithinBudget (map piece_of bitmaps.old.items) reads.old →
         IsWithinBudget (map piece_of bitmaps.new.items) reads.new }
     // A cut that is refused changes and counts nothing.
@@ -126,9 +123,29 @@ fn cut_in_two(bitmaps: &mut Vec<Bitmap>, p: usize, i: usize, reads: &mut Reads) 
     ensures only { IfErr result (λ e. e ≡ Error.OutOfMemory) }
 {
     let whole = bitmaps[p].clone()?;
-    let rest = whole.len() - i;
     bitmaps.insert(p + 1, whole)?;
-    bitmaps[p].slice_counted(0, i, reads);
-    bitmaps[p + 1].slice_counted(i, rest, reads);
+    keep_front(&mut bitmaps[p], i, reads);
+    keep_back(&mut bitmaps[p + 1], i, reads);
     Ok(())
+}
+
+/// Keeps the first `i` items of a bitmap, and adds the reads of the slice.
+fn keep_front(bitmap: &mut Bitmap, i: usize, reads: &mut Reads)
+    requires inside { i ≤ length (items_of bitmap.old) }
+    ensures piece { piece_of bitmap.new ≡ front (piece_of bitmap.old) i }
+    ensures reads { reads.new ≡ reads.old
+        + slice_reads bitmap.old.offset (length (items_of bitmap.old)) 0 i }
+{
+    bitmap.slice_counted(0, i, reads);
+}
+
+/// Keeps the items of a bitmap from item `i` on, and adds the reads of the slice.
+fn keep_back(bitmap: &mut Bitmap, i: usize, reads: &mut Reads)
+    requires inside { i ≤ length (items_of bitmap.old) }
+    ensures piece { piece_of bitmap.new ≡ back (piece_of bitmap.old) i }
+    ensures reads { let n = length (items_of bitmap.old) in
+        reads.new ≡ reads.old + slice_reads bitmap.old.offset n i (n - i) }
+{
+    let rest = bitmap.len() - i;
+    bitmap.slice_counted(i, rest, reads);
 }

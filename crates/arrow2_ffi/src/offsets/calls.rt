@@ -3,7 +3,7 @@ ghost use Rattle.std.specs.Prelude.{◌≡◌, ◌≢◌, ◌+◌, ◌-◌, ◌<
 ghost use Rattle.arrow2_offset.specs.Offsets.{AreOffsets, AreOffsetsUpTo, last_offset, lengths_of, offsets_list};
 ghost use Rattle.arrow2_model.specs.Parts.{part};
 ghost use Rattle.arrow2_offset.specs.Refusals.{first_broken};
-ghost use Rattle.arrow2_ffi.specs.OffsetWrites.{WritesFromOffsets, WritesFromOffsetsOr};
+ghost use Rattle.arrow2_ffi.specs.OffsetWrites.{WritesFromOffsets, WritesRebased};
 ghost use Rattle.arrow2_ffi.specs.Rules.{rule_code, ReportsBrokenRule};
 
 use crate::codes::{
@@ -84,11 +84,8 @@ pub(crate) fn sums<O: Offset>(start: usize, lengths: &[usize], offsets: &mut [O]
 
 /// Sets `out[i]` to `offsets[from + i] - offsets[from]`, for each item `i` of `out`.
 pub(crate) fn rebase<O: Offset>(offsets: &[O], from: usize, out: &mut [O]) -> u32
-    ensures { WritesFromOffsetsOr ARROW2_RANGE (map O.value offsets.now) result
-        (length out.old ≡ 0) (length offsets.now < from + length out.old)
-        (map O.value out.new ≡ map pos
-        (offsets_list 0 (part (lengths_of (map O.value offsets.now)) from (length out.old - 1))))
-        (out.new ≡ out.old) }
+    ensures { WritesRebased (map O.value offsets.now) from (length out.old) result
+        (map O.value out.new) (out.new ≡ out.old) }
 {
     match refusal(offsets) {
         Some(code) => code,
@@ -100,11 +97,8 @@ pub(crate) fn rebase<O: Offset>(offsets: &[O], from: usize, out: &mut [O]) -> u3
 /// the numbers are offsets.
 pub(crate) fn rebase_unchecked<O: Offset>(offsets: &[O], from: usize, out: &mut [O]) -> u32
     requires are { AreOffsets (map O.value offsets.now) }
-    ensures { WritesFromOffsetsOr ARROW2_RANGE (map O.value offsets.now) result
-        (length out.old ≡ 0) (length offsets.now < from + length out.old)
-        (map O.value out.new ≡ map pos
-        (offsets_list 0 (part (lengths_of (map O.value offsets.now)) from (length out.old - 1))))
-        (out.new ≡ out.old) }
+    ensures { WritesRebased (map O.value offsets.now) from (length out.old) result
+        (map O.value out.new) (out.new ≡ out.old) }
 {
     if out.is_empty() {
         return ARROW2_LENGTH;

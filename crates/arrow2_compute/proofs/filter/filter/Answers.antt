@@ -10,7 +10,7 @@ use Rattle.arrow2_walks.specs.Selected.{selected}
 use Rattle.arrow2_walks.specs.Zipped.{zipped}
 use Rattle.arrow2_walks.proofs.Selected.{count-selected}
 use Rattle.arrow2_compute.proofs.Gathered.{by-bitmap, by-parts}
-use Rattle.arrow2_compute.proofs.Selecting.{selected-zipped}
+use Rattle.arrow2_numeric.proofs.Selecting.{selected-zipped}
 use Rattle.arrow2_compute.proofs.filter.filter.Goals as goal
 
 pub new-requires-clause-same_length : goal.new-requires-clause-same_length

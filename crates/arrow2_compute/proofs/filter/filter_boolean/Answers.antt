@@ -5,7 +5,7 @@ use Rattle.arrow2_validity.specs.OptionalValidity.{valid_items}
 use Rattle.arrow2_walks.specs.Selected.{selected}
 use Rattle.arrow2_walks.specs.Zipped.{zipped}
 use Rattle.arrow2_walks.proofs.Selected.{count-selected}
-use Rattle.arrow2_compute.proofs.Selecting.{selected-zipped}
+use Rattle.arrow2_numeric.proofs.Selecting.{selected-zipped}
 use Rattle.arrow2_compute.proofs.filter.filter_boolean.Goals as goal
 
 pub from_parts-requires : goal.from_parts-requires

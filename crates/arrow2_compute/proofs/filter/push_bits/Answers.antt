@@ -10,7 +10,7 @@ use Rattle.arrow2_chunk.specs.Ones.{ones}
 use Rattle.arrow2_walks.specs.Selected.{selected}
 use Rattle.arrow2_walks.proofs.Left.{left-all, left-done}
 use Rattle.arrow2_compute.proofs.Filtered.{kept-fits, only-memory, part-whole}
-use Rattle.arrow2_compute.proofs.Selecting.{bit-at, cut-ones, positions-inside, selected-max}
+use Rattle.arrow2_numeric.proofs.Selecting.{bit-at, cut-ones, positions-inside, selected-max}
 use Rattle.arrow2_compute.proofs.filter.push_bits.Goals as goal
 
 pub returns-then-word-eq18446744073709551615-clause-ok : goal.returns-then-word-eq18446744073709551615-clause-ok

@@ -3,7 +3,7 @@ use Rattle.std.specs.List.{flat_map}
 use Rattle.arrow2_model.specs.Bits.{unnum}
 use Rattle.arrow2_model.specs.Parts.{part}
 use Rattle.arrow2_chunk.specs.Ones.{ones}
-use Rattle.arrow2_compute.proofs.Selecting.{cut-ones}
+use Rattle.arrow2_numeric.proofs.Selecting.{cut-ones}
 use Rattle.arrow2_compute.proofs.filter.push_values.Goals as goal
 
 pub loop-position-init : goal.loop-position-init

@@ -7,7 +7,7 @@ use Rattle.arrow2_model.proofs.Bits.{length-unnum}
 use Rattle.arrow2_model.proofs.Words.{rest-none}
 use Rattle.arrow2_walks.specs.Selected.{selected}
 use Rattle.arrow2_walks.proofs.Selected.{length-selected}
-use Rattle.arrow2_compute.proofs.Selecting.{block-step, front-of, word-kept, word-fits, last-kept, last-fits}
+use Rattle.arrow2_numeric.proofs.Selecting.{block-step, front-of, word-kept, word-fits, last-kept, last-fits}
 use Rattle.arrow2_compute.proofs.filter.selected_bits.Goals as goal
 
 pub push_bits-requires : goal.push_bits-requires

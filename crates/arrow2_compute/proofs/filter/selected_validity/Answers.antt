@@ -5,7 +5,7 @@ use Rattle.arrow2_validity.specs.OptionalValidity.{valid_items}
 use Rattle.arrow2_validity.proofs.ValidItems.{items-some}
 use Rattle.arrow2_walks.specs.Selected.{selected}
 use Rattle.arrow2_walks.proofs.Selected.{count-selected}
-use Rattle.arrow2_compute.proofs.Selecting.{selected-true}
+use Rattle.arrow2_numeric.proofs.Selecting.{selected-true}
 use Rattle.arrow2_compute.proofs.filter.selected_validity.Goals as goal
 
 -- without a bitmap all are true

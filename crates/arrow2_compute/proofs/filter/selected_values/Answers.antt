@@ -2,7 +2,7 @@ use Rattle.std.proofs.Common.{◌∙◌, length, ap, sym, arith}
 use Rattle.std.proofs.lemmas.List.{length-append, take_all}
 use Rattle.arrow2_model.specs.Bits.{unnum}
 use Rattle.arrow2_model.proofs.Bits.{length-unnum}
-use Rattle.arrow2_compute.proofs.Selecting.{front-of, word-kept, last-kept}
+use Rattle.arrow2_numeric.proofs.Selecting.{front-of, word-kept, last-kept}
 use Rattle.arrow2_compute.proofs.filter.selected_values.Goals as goal
 
 pub split_at-requires : goal.split_at-requires

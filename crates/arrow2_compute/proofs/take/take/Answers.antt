@@ -7,7 +7,7 @@ use Rattle.arrow2_primitive.specs.Primitive.{primitive_items}
 use Rattle.arrow2_validity.specs.OptionalValidity.{valid_items}
 use Rattle.arrow2_walks.specs.Zipped.{zipped}
 use Rattle.arrow2_compute.specs.Take.{IsItemAt}
-use Rattle.arrow2_compute.proofs.Converted.{length-zip}
+use Rattle.arrow2_numeric.proofs.Converted.{length-zip}
 use Rattle.arrow2_compute.proofs.Gathered.{by-bitmap, by-parts, taken-zipped}
 use Rattle.arrow2_compute.proofs.take.take.Goals as goal
 

@@ -8,9 +8,9 @@ use Rattle.arrow2_validity.specs.OptionalValidity.{valid_items}
 use Rattle.arrow2_walks.specs.Selected.{non_null_values, selected}
 use Rattle.arrow2_walks.specs.Zipped.{zipped}
 use Rattle.arrow2_walks.proofs.Selected.{non_null_values-zipped}
-use Rattle.arrow2_compute.specs.Aggregates.{best_from}
-use Rattle.arrow2_compute.proofs.Selecting.{selected-all}
-use Rattle.arrow2_compute.proofs.aggregate.best_item.Goals as goal
+use Rattle.arrow2_numeric.specs.Aggregates.{best_from}
+use Rattle.arrow2_numeric.proofs.Selecting.{selected-all}
+use Rattle.arrow2_numeric.proofs.aggregate.best_item.Goals as goal
 
 pub returns-in-Some : goal.returns-in-Some
 returns-in-Some g c =

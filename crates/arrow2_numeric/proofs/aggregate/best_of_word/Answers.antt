@@ -3,9 +3,9 @@ use Rattle.std.specs.List.{flat_map}
 use Rattle.arrow2_model.specs.Bits.{unnum}
 use Rattle.arrow2_model.specs.Parts.{part}
 use Rattle.arrow2_chunk.specs.Ones.{ones}
-use Rattle.arrow2_compute.specs.Aggregates.{best_from}
-use Rattle.arrow2_compute.proofs.Selecting.{cut-ones}
-use Rattle.arrow2_compute.proofs.aggregate.best_of_word.Goals as goal
+use Rattle.arrow2_numeric.specs.Aggregates.{best_from}
+use Rattle.arrow2_numeric.proofs.Selecting.{cut-ones}
+use Rattle.arrow2_numeric.proofs.aggregate.best_of_word.Goals as goal
 
 pub loop-position-init : goal.loop-position-init
 loop-position-init g c =

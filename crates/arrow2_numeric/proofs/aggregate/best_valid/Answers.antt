@@ -2,9 +2,9 @@ use Rattle.std.proofs.Common.{◌∙◌, length, ap, sym, arith}
 use Rattle.std.proofs.lemmas.List.{length-append, take_all}
 use Rattle.arrow2_model.specs.Bits.{unnum}
 use Rattle.arrow2_model.proofs.Bits.{length-unnum}
-use Rattle.arrow2_compute.proofs.Best.{word-best, last-best}
-use Rattle.arrow2_compute.proofs.Selecting.{front-of}
-use Rattle.arrow2_compute.proofs.aggregate.best_valid.Goals as goal
+use Rattle.arrow2_numeric.proofs.Best.{word-best, last-best}
+use Rattle.arrow2_numeric.proofs.Selecting.{front-of}
+use Rattle.arrow2_numeric.proofs.aggregate.best_valid.Goals as goal
 
 pub split_at-requires : goal.split_at-requires
 split_at-requires g c =

@@ -2,8 +2,8 @@ use Rattle.std.proofs.Common.{◌≡◌, length}
 use Rattle.std.specs.Prelude.{None}
 use Rattle.arrow2_model.specs.Storage.{items_of}
 use Rattle.arrow2_walks.specs.Selected.{selected}
-use Rattle.arrow2_compute.specs.Aggregates.{best_from}
-use Rattle.arrow2_compute.proofs.aggregate.best_valid.Given as goal
+use Rattle.arrow2_numeric.specs.Aggregates.{best_from}
+use Rattle.arrow2_numeric.proofs.aggregate.best_valid.Given as goal
 
 abbrev pub invariant-loop-word : goal.invariant-loop-word
 invariant-loop-word g l = record {

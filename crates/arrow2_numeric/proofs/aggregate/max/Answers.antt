@@ -1,7 +1,7 @@
 use Rattle.arrow2_primitive.specs.Primitive.{primitive_items}
 use Rattle.arrow2_walks.specs.Selected.{non_null_values}
-use Rattle.arrow2_compute.proofs.Best.{greatest-of_all}
-use Rattle.arrow2_compute.proofs.aggregate.max.Goals as goal
+use Rattle.arrow2_numeric.proofs.Best.{greatest-of_all}
+use Rattle.arrow2_numeric.proofs.aggregate.max.Goals as goal
 
 pub returns : goal.returns
 returns g c = greatest-of_all g.met.T.Ord.total (non_null_values (primitive_items c.args.array.now)) c.best_item.result c.best_item.ensures

@@ -1,7 +1,7 @@
 use Rattle.std.proofs.Common.{◌≡◌, ◌-◌, ◌*◌, ◌^◌, ◌≤ℤ◌, ◌+ℤ◌, take, pos}
-use Rattle.arrow2_compute.specs.Aggregates.{sum_of_non_null}
+use Rattle.arrow2_numeric.specs.Aggregates.{sum_of_non_null}
 use Rattle.arrow2_primitive.specs.Primitive.{primitive_items}
-use Rattle.arrow2_compute.proofs.aggregate.sum.Given as goal
+use Rattle.arrow2_numeric.proofs.aggregate.sum.Given as goal
 
 abbrev pub invariant-loop-index : goal.invariant-loop-index
 invariant-loop-index g l = record {

@@ -4,9 +4,9 @@ use Rattle.std.proofs.lemmas.List.{take_all}
 use Rattle.std.proofs.lemmas.List.Elements.{All-more}
 use Rattle.arrow2_types.specs.Refusals.{IsInvalidArgumentOrOutOfMemory}
 use Rattle.arrow2_primitive.specs.Primitive.{primitive_items}
-use Rattle.arrow2_compute.specs.Casts.{Fits, not_fitting_message}
-use Rattle.arrow2_compute.proofs.Converted.{first-misfit}
-use Rattle.arrow2_compute.proofs.cast.check_fits.Goals as goal
+use Rattle.arrow2_numeric.specs.Casts.{Fits, not_fitting_message}
+use Rattle.arrow2_numeric.proofs.Converted.{first-misfit}
+use Rattle.arrow2_numeric.proofs.cast.check_fits.Goals as goal
 
 pub loop-index-preserved : goal.loop-index-preserved
 loop-index-preserved g c =

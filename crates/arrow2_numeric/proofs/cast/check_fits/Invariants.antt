@@ -1,8 +1,8 @@
 use Rattle.std.proofs.Common.{take}
 use Rattle.std.specs.Prelude.{All}
 use Rattle.arrow2_primitive.specs.Primitive.{primitive_items}
-use Rattle.arrow2_compute.specs.Casts.{Fits}
-use Rattle.arrow2_compute.proofs.cast.check_fits.Given as goal
+use Rattle.arrow2_numeric.specs.Casts.{Fits}
+use Rattle.arrow2_numeric.proofs.cast.check_fits.Given as goal
 
 abbrev pub invariant-loop-index : goal.invariant-loop-index
 invariant-loop-index g l = All (Fits g.I.Number.value g.O.Number.fits) (take l.index (primitive_items l.array))

@@ -3,9 +3,9 @@ use Rattle.std.specs.List.{AllZip}
 use Rattle.std.proofs.lemmas.Grind.{common_steps}
 use Rattle.std.proofs.lemmas.List.{length-take, take_all}
 use Rattle.arrow2_primitive.specs.Primitive.{primitive_items}
-use Rattle.arrow2_compute.specs.Casts.{IsCast}
-use Rattle.arrow2_compute.proofs.Converted.{length-zip, zip-more, if-ok}
-use Rattle.arrow2_compute.proofs.cast.primitive_to_primitive.Goals as goal
+use Rattle.arrow2_numeric.specs.Casts.{IsCast}
+use Rattle.arrow2_numeric.proofs.Converted.{length-zip, zip-more, if-ok}
+use Rattle.arrow2_numeric.proofs.cast.primitive_to_primitive.Goals as goal
 
 pub loop-index-preserved : goal.loop-index-preserved
 loop-index-preserved g c =

@@ -1,8 +1,8 @@
 use Rattle.std.proofs.Common.{◌≡◌, take}
 use Rattle.std.specs.List.{AllZip}
 use Rattle.arrow2_primitive.specs.Primitive.{primitive_items}
-use Rattle.arrow2_compute.specs.Casts.{IsCast}
-use Rattle.arrow2_compute.proofs.cast.primitive_to_primitive.Given as goal
+use Rattle.arrow2_numeric.specs.Casts.{IsCast}
+use Rattle.arrow2_numeric.proofs.cast.primitive_to_primitive.Given as goal
 
 abbrev pub invariant-loop-index : goal.invariant-loop-index
 invariant-loop-index g l = record {

@@ -1,6 +1,6 @@
 use Rattle.std.proofs.Common.{rules}
 use Rattle.std.specs.Ordering.{partial_ge}
-use Rattle.arrow2_compute.proofs.comparison.gt_eq.Goals as goal
+use Rattle.arrow2_numeric.proofs.comparison.gt_eq.Goals as goal
 
 pub returns-clause-items : goal.returns-clause-items
 returns-clause-items g c = c.tested_both.ensures.items (partial_ge g.T.PartialOrd.partial_cmp) (search rules)

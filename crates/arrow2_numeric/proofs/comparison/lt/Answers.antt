@@ -1,6 +1,6 @@
 use Rattle.std.proofs.Common.{rules}
 use Rattle.std.specs.Ordering.{partial_lt}
-use Rattle.arrow2_compute.proofs.comparison.lt.Goals as goal
+use Rattle.arrow2_numeric.proofs.comparison.lt.Goals as goal
 
 pub returns-clause-items : goal.returns-clause-items
 returns-clause-items g c = c.tested_both.ensures.items (partial_lt g.T.PartialOrd.partial_cmp) (search rules)

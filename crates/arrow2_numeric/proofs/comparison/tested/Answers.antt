@@ -4,8 +4,8 @@ use Rattle.arrow2_model.specs.Buffers.{buffer_items}
 use Rattle.arrow2_model.specs.Storage.{items_of}
 use Rattle.arrow2_validity.specs.OptionalValidity.{valid_items}
 use Rattle.arrow2_walks.specs.Zipped.{zipped}
-use Rattle.arrow2_compute.proofs.Compared.{map-zipped}
-use Rattle.arrow2_compute.proofs.comparison.tested.Goals as goal
+use Rattle.arrow2_numeric.proofs.Compared.{map-zipped}
+use Rattle.arrow2_numeric.proofs.comparison.tested.Goals as goal
 
 -- the results for the values, with the validity of the array
 pub returns-clause-items : goal.returns-clause-items

@@ -8,8 +8,8 @@ use Rattle.arrow2_model.specs.Storage.{items_of}
 use Rattle.arrow2_model.specs.Tables.{each}
 use Rattle.arrow2_validity.specs.OptionalValidity.{valid_items}
 use Rattle.arrow2_walks.specs.Zipped.{zipped}
-use Rattle.arrow2_compute.proofs.Paired.{both-zipped, each-and, tested-pairs}
-use Rattle.arrow2_compute.proofs.comparison.tested_both.Goals as goal
+use Rattle.arrow2_numeric.proofs.Paired.{both-zipped, each-and, tested-pairs}
+use Rattle.arrow2_numeric.proofs.comparison.tested_both.Goals as goal
 
 -- what was returned for the values, with what is valid in both
 pub returns-clause-items : goal.returns-clause-items

@@ -1,0 +1,3 @@
+pub mod Aggregates
+pub mod Pairs
+pub mod Casts
