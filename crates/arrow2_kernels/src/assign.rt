@@ -57,7 +57,9 @@ fn word_at<T: BitChunk>(bytes: &[u8], at: usize, count: usize) -> T
     T::from_ne_slice(&block[..T::SIZE])
 }
 
-/// Returns the bytes, followed by zeros. Requires that there are at most eight bytes.
+/// Returns the bytes, followed by zeros. Requires that there are at most eight bytes. The function is inlined, since it
+/// is called for each word.
+#[inline(always)]
 fn padded(bytes: &[u8]) -> [u8; 8]
     requires { length bytes.now ≤ 8 }
     ensures front { take (length bytes.now) result ≡ bytes.now }
