@@ -9,4 +9,4 @@ pub use arrow2_bitmap::assign_ops::{
 pub use arrow2_bitmap::bitmap_ops::{and, binary, binary_table, or, unary, unary_table, xor};
 pub use arrow2_bitmap::{Bitmap, IntoIter, MutableBitmap};
 pub use arrow2_tables::bitmap_ops::{quaternary, quaternary_table, ternary, ternary_table};
-pub use arrow2_walks::pieces::Pieces;
+pub use arrow2_walks::Pieces;

@@ -1,4 +1,3 @@
 //! Buffers: lists that several arrays share, and that are cloned and sliced without a copy.
 
-pub use arrow2_buffer::bytes::Bytes;
-pub use arrow2_buffer::{Buffer, IntoIter};
+pub use arrow2_buffer::{Buffer, Bytes, IntoIter};

@@ -1,3 +1,3 @@
 //! The errors that calls of the layer return.
 
-pub use arrow2_types::error::{Error, Result};
+pub use arrow2_types::{Error, Result};

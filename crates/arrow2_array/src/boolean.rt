@@ -22,7 +22,7 @@ use crate::kleene::{Operator, validity_by};
 use crate::mutable::MutableBooleanArray;
 use arrow2_bitmap::Bitmap;
 use arrow2_bitmap::bitmap_ops::binary_table;
-use arrow2_types::error::{Error, Result};
+use arrow2_types::{Error, Result};
 use arrow2_validity::Validity;
 use std::alloc::{AllocError, Global};
 use std::marker::Model;

@@ -7,7 +7,7 @@ ghost use Rattle.arrow2_array.specs.Kleene.{paired_table, known_table, values_ta
 
 use arrow2_bitmap::Bitmap;
 use arrow2_tables::bitmap_ops::{quaternary_table, ternary_table};
-use arrow2_types::error::{Error, Result};
+use arrow2_types::{Error, Result};
 use arrow2_validity::Validity;
 
 /// The truth table of `and` on two values: bit `left + 2 * right`.

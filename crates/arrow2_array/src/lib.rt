@@ -1,11 +1,11 @@
 //! Boolean arrays: bitmaps of values together with their validity, shared ones and ones that grow.
 #![tactic(auto)]
 
-pub mod boolean;
+mod boolean;
 mod fmt;
-pub mod iterator;
+mod iterator;
 pub mod kleene;
-pub mod mutable;
+mod mutable;
 
 pub use boolean::BooleanArray;
 pub use iterator::BooleanIter;

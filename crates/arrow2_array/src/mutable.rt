@@ -10,7 +10,7 @@ ghost use Rattle.arrow2_array.specs.Items.{boolean_items, nulls};
 
 use crate::boolean::BooleanArray;
 use arrow2_bitmap::{Bitmap, MutableBitmap};
-use arrow2_types::error::{Error, Result};
+use arrow2_types::{Error, Result};
 use std::alloc::Global;
 use std::convert::TryFrom;
 use std::marker::Model;

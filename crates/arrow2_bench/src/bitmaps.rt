@@ -4,7 +4,7 @@ use crate::bytes::whole;
 use crate::runs::{Part, on_each, on_pairs};
 use arrow2_bitmap::Bitmap;
 use arrow2_bitmap::bitmap_ops::{and, unary};
-use arrow2_types::error::Result;
+use arrow2_types::Result;
 use arrow2_walks::SlicesIterator;
 use std::alloc::Global;
 

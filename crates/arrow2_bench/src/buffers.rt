@@ -3,7 +3,7 @@
 use crate::runs::{Part, on_firsts};
 use arrow2_bitmap::Bitmap;
 use arrow2_buffer::Buffer;
-use arrow2_types::error::Result;
+use arrow2_types::Result;
 use std::alloc::Global;
 use std::convert::TryFrom;
 

@@ -3,13 +3,12 @@
 use crate::growing::pop;
 use crate::runs::{Part, on_each};
 use arrow2_bitmap::Bitmap;
-use arrow2_bits::chunk_iterator::{BitChunkIterExact, BitChunks};
-use arrow2_bits::chunks_exact_mut::BitChunksExactMut;
-use arrow2_bits::iterator::BitmapIter;
-use arrow2_bits::{count_zeros, set_bit};
-use arrow2_chunk::bit_chunk::BitChunk;
-use arrow2_types::error::Result;
-use arrow2_walks::pieces::Pieces;
+use arrow2_bits::{
+    BitChunkIterExact, BitChunks, BitChunksExactMut, BitmapIter, count_zeros, set_bit,
+};
+use arrow2_chunk::BitChunk;
+use arrow2_types::Result;
+use arrow2_walks::Pieces;
 use std::alloc::Global;
 
 /// Calls on a part of the bits of the bytes.

@@ -9,7 +9,7 @@ use arrow2_datatypes::DataType;
 use arrow2_numeric::aggregate::{min, sum};
 use arrow2_numeric::comparison::{lt, lt_scalar};
 use arrow2_primitive::{MutablePrimitiveArray, PrimitiveArray};
-use arrow2_types::error::Result;
+use arrow2_types::Result;
 use std::alloc::Global;
 
 /// Calls on prefixes of a column and of the mask, whose length each run chooses. If `validity` is empty, the column has

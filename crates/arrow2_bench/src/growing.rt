@@ -5,8 +5,8 @@ use crate::bitmaps::bitmaps;
 use crate::runs::{Part, on_each, on_firsts};
 use arrow2_bitmap::assign_ops::{binary_assign, binary_assign_table, unary_assign_table};
 use arrow2_bitmap::{Bitmap, MutableBitmap};
-use arrow2_chunk::bit_chunk::BitChunk;
-use arrow2_types::error::Result;
+use arrow2_chunk::BitChunk;
+use arrow2_types::Result;
 use std::alloc::Global;
 
 /// Calls that make a bitmap of a prefix of the items, whose length each run chooses.

@@ -2,9 +2,9 @@
 
 use crate::runs::on_each;
 use arrow2_bitmap::Bitmap;
-use arrow2_chunk::bit_chunk_iter::BitChunkOnes;
-use arrow2_index::index::Index;
-use arrow2_types::error::Result;
+use arrow2_chunk::BitChunkOnes;
+use arrow2_index::Index;
+use arrow2_types::Result;
 use std::alloc::Global;
 
 /// Calls on a number.

@@ -1,9 +1,9 @@
 //! Offsets.
 
 use crate::runs::{Part, on_each, on_firsts};
-use arrow2_index::offset::Offset;
+use arrow2_index::Offset;
 use arrow2_offset::{Offsets, OffsetsBuffer};
-use arrow2_types::error::Result;
+use arrow2_types::Result;
 use std::alloc::Global;
 use std::convert::TryFrom;
 

@@ -2,7 +2,7 @@
 //! fails.
 ghost use Rattle.std.specs.Prelude.{◌+◌, ◌≤◌, ◌↔◌, IsTrue};
 
-use arrow2_types::error::Result;
+use arrow2_types::Result;
 
 /// A part of bits or of items: where it begins, and how long it is.
 #[repr(C)]

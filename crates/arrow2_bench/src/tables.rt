@@ -5,7 +5,7 @@ use crate::runs::{Part, on_each, on_pairs};
 use arrow2_array::BooleanArray;
 use arrow2_bitmap::Bitmap;
 use arrow2_tables::bitmap_ops::{quaternary_table, ternary_table};
-use arrow2_types::error::Result;
+use arrow2_types::Result;
 use std::alloc::Global;
 
 /// The table of the second input where the first is set, and of the third where it is not.

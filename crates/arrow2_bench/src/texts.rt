@@ -7,7 +7,7 @@ use arrow2_buffer::Buffer;
 use arrow2_datatypes::DataType;
 use arrow2_offset::OffsetsBuffer;
 use arrow2_text::{MutableUtf8Array, Utf8Array};
-use arrow2_types::error::Result;
+use arrow2_types::Result;
 use std::alloc::Global;
 use std::convert::TryFrom;
 

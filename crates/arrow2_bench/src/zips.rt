@@ -4,7 +4,7 @@ ghost use Rattle.std.specs.Iterator.{IsFinite};
 use crate::bitmaps::on_bitmaps;
 use crate::runs::{Part, on_each};
 use arrow2_bitmap::Bitmap;
-use arrow2_types::error::Result;
+use arrow2_types::Result;
 use arrow2_walks::{ZipValidity, ZipValidityIter};
 use std::alloc::Global;
 

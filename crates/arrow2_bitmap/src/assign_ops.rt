@@ -8,11 +8,10 @@ ghost use Rattle.arrow2_model.specs.Tables.{each, IsBitwiseUnary, IsBitwiseBinar
 use crate::bitmap_ops::are_all;
 use crate::immutable::Bitmap;
 use crate::mutable::MutableBitmap;
-use arrow2_bits::chunk_iterator::{BitChunkIterExact, BitChunks};
-use arrow2_bits::chunks_exact::BitChunksExact;
-use arrow2_chunk::bit_chunk::BitChunk;
-use arrow2_kernels::rows::{NoList, OneList};
+use arrow2_bits::{BitChunkIterExact, BitChunks, BitChunksExact};
+use arrow2_chunk::BitChunk;
 use arrow2_kernels::truth_tables::binary_outputs;
+use arrow2_kernels::{NoList, OneList};
 use std::ops::{BitAnd, BitAndAssign, BitOr, BitOrAssign, BitXor, BitXorAssign, Not};
 
 /// Replaces each word of `T` by the result of `op` for it. The last word is padded with false, and bits that `op` sets

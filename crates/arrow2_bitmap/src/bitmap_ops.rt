@@ -9,14 +9,12 @@ ghost use Rattle.arrow2_model.specs.Rows.{AreRowsOf, IsBitwiseOnRows, ComputesRo
 
 use crate::immutable::Bitmap;
 use crate::mutable::MutableBitmap;
-use arrow2_bits::bytes_for;
-use arrow2_bits::chunk_iterator::BitChunks;
-use arrow2_bits::chunks_exact::BitChunksExact;
+use arrow2_bits::{BitChunks, BitChunksExact, bytes_for};
 use arrow2_kernels::map::map_rows;
-use arrow2_kernels::rows::{OneList, WordRows, ZipRows};
 use arrow2_kernels::simd_map::{map_binary, map_unary};
 use arrow2_kernels::truth_tables::{binary_outputs, unary_outputs};
-use arrow2_types::error::{Error, Result};
+use arrow2_kernels::{OneList, WordRows, ZipRows};
+use arrow2_types::{Error, Result};
 use std::alloc::Global;
 use std::convert::TryFrom;
 use std::ops::{BitAnd, BitOr, BitXor, Not};
@@ -41,10 +39,10 @@ pub fn from_rows<S: WordRows<u64>, F: Fn(S::Row) -> u64>(
     requires alike { S.alike rows }
     requires len { S.len rows ≡ len }
     // If the results of `op` are those of a mathematical function `f` on words: the items are the bits of the results
-    // of `f` for the rows, in their order, cut to `len`. Where the rows are those of `lists`, `kernel 64 f lists` are
-    // the items.
+    // of `f` for the rows, in their order, cut to `len`.
     ensures items { (f : List ℕ → ℕ) → ComputesRows 64 S.words (λ x. x) (F.post op) f →
         IfOk result (λ b. items_of b ≡ joined 64 (λ j. f (S.row_at rows j)) len) }
+    // For any `lists` of booleans whose words are the rows: the items are `kernel 64 f lists`.
     ensures kernel { (f : List ℕ → ℕ) (lists : List (List Bool)) →
         ComputesRows 64 S.words (λ x. x) (F.post op) f →
         AreRowsOf 64 lists (S.row_at rows) len →

@@ -25,14 +25,13 @@ ghost use Rattle.std.specs.declared.alloc.Global.{Global};
 
 use crate::check::check_length;
 use crate::mutable::MutableBitmap;
-use arrow2_bits::chunk_iterator::BitChunks;
-use arrow2_bits::iterator::BitmapIter;
-use arrow2_bits::{Reads, Stored, bytes_for, count_zeros, get_bit, recount, same_bits};
-use arrow2_buffer::bytes::Bytes;
-use arrow2_chunk::bit_chunk::BitChunk;
+use arrow2_bits::{
+    BitChunks, BitmapIter, Reads, Stored, bytes_for, count_zeros, get_bit, recount, same_bits,
+};
+use arrow2_buffer::Bytes;
+use arrow2_chunk::BitChunk;
 use arrow2_packed_bits::from_fn::pack_results;
-use arrow2_types::error::{Error, Result};
-use arrow2_types::native::NativeType;
+use arrow2_types::{Error, NativeType, Result};
 use either::Either;
 use std::alloc::{AllocError, Global};
 use std::convert::TryFrom;

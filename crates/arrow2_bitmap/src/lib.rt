@@ -4,10 +4,10 @@
 pub mod assign_ops;
 pub mod bitmap_ops;
 mod check;
-pub mod immutable;
-pub mod iterator;
+mod immutable;
+mod iterator;
 pub mod laws;
-pub mod mutable;
+mod mutable;
 
 pub use immutable::Bitmap;
 pub use iterator::IntoIter;

@@ -21,11 +21,10 @@ ghost use Rattle.std.specs.declared.alloc.Global.{Global};
 
 use crate::check::check_length;
 use crate::immutable::Bitmap;
-use arrow2_bits::iterator::BitmapIter;
-use arrow2_bits::{bytes_for, count_zeros, get_bit};
-use arrow2_packed_bits::packed_bits::PackedBits;
+use arrow2_bits::{BitmapIter, bytes_for, count_zeros, get_bit};
+use arrow2_packed_bits::PackedBits;
 use arrow2_packed_bits::packing::{collected, packed};
-use arrow2_types::error::{Error, Result};
+use arrow2_types::{Error, Result};
 use std::alloc::{AllocError, Global};
 use std::convert::TryFrom;
 use std::fmt;

@@ -7,8 +7,7 @@ ghost use Rattle.arrow2_model.specs.Parts.{part};
 ghost use Rattle.arrow2_model.specs.Words.{WordCursor, GivesWord, full_words, rest, spill};
 
 use crate::chunks::{chunk_at, padded_chunk_at};
-use arrow2_chunk::bit_chunk::BitChunk;
-use arrow2_chunk::bit_chunk_iter::BitChunkIter;
+use arrow2_chunk::{BitChunk, BitChunkIter};
 use std::marker::Model;
 
 /// An iterator over a list of booleans by words: the full words come in order, and the bits after them are the

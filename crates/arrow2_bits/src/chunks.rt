@@ -3,7 +3,7 @@ ghost use Rattle.std.specs.Prelude.{◌≡◌, ℕ, ◌+◌, ◌*◌, ◌<◌, �
 ghost use Rattle.arrow2_model.specs.Bits.{bit, bits, unnum, num};
 ghost use Rattle.arrow2_model.specs.Parts.{part};
 
-use arrow2_chunk::bit_chunk::BitChunk;
+use arrow2_chunk::BitChunk;
 
 /// Returns the word of the bits from bit `shift` on. Requires that the bits are inside the bytes, and that `shift` is
 /// below 8.

@@ -8,7 +8,7 @@ ghost use Rattle.arrow2_model.specs.Words.{WordCursor, GivesWord, full_words, re
 
 use crate::bytes_for;
 use crate::chunk_iterator::{BitChunkIterExact, BitChunks};
-use arrow2_chunk::bit_chunk::BitChunk;
+use arrow2_chunk::BitChunk;
 use std::marker::Model;
 
 /// The iterator over the first bits of bytes by words: contracts see the items still to come and the word of the

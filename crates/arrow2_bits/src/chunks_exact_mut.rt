@@ -9,7 +9,7 @@ ghost use Rattle.arrow2_model.specs.Parts.{part};
 ghost use Rattle.arrow2_bits.specs.ChunksMut.{chunks_left, next_chunk, next_len, past, GivesChunk};
 
 use crate::bytes_for;
-use arrow2_chunk::bit_chunk::BitChunk;
+use arrow2_chunk::BitChunk;
 use std::marker::{Model, PhantomData};
 use std::mem;
 

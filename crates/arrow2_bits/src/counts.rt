@@ -7,7 +7,7 @@ ghost use Rattle.arrow2_model.specs.Touched.{touched, slice_reads};
 use crate::popcount::ones_of;
 use crate::reads::Reads;
 use crate::stored::Stored;
-use arrow2_chunk::bit_chunk::BitChunk;
+use arrow2_chunk::BitChunk;
 use std::simd::prelude::*;
 
 /// Returns how many of the `len` bits from bit `offset` on are not set. Unless `len` is 0, requires that they are

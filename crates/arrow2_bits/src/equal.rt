@@ -4,7 +4,7 @@ ghost use Rattle.arrow2_model.specs.Bits.{bits};
 ghost use Rattle.arrow2_model.specs.Parts.{part};
 
 use crate::chunk_iterator::BitChunks;
-use arrow2_chunk::bit_chunk::BitChunk;
+use arrow2_chunk::BitChunk;
 
 /// Returns whether the `len` bits of `left` from bit `left_offset` on equal the `len` bits of `right` from bit
 /// `right_offset` on. Compares 64 bits at a time. Requires that the bits are inside `left` and `right`.

@@ -4,20 +4,25 @@
 ghost use Rattle.std.specs.Prelude.{◌≡◌, ◌+◌, ◌*◌, ◌/◌, ◌<◌, ◌≤◌, length, false, slice_set, slice_index_or};
 ghost use Rattle.arrow2_model.specs.Bits.{bit, unnum, bits};
 
-pub mod chunk_iterator;
-pub mod chunks;
-pub mod chunks_exact;
-pub mod chunks_exact_mut;
+mod chunk_iterator;
+mod chunks;
+mod chunks_exact;
+mod chunks_exact_mut;
 mod counts;
 mod equal;
 pub mod fmt;
-pub mod iterator;
+mod iterator;
 mod popcount;
 mod reads;
 mod stored;
 
+pub use chunk_iterator::{BitChunkIterExact, BitChunks};
+pub use chunks::word_from;
+pub use chunks_exact::BitChunksExact;
+pub use chunks_exact_mut::BitChunksExactMut;
 pub use counts::{count_zeros, count_zeros_counted, recount};
 pub use equal::same_bits;
+pub use iterator::BitmapIter;
 pub use reads::Reads;
 pub use stored::Stored;
 

@@ -21,7 +21,7 @@ ghost use Rattle.std.specs.declared.alloc.Global.{Global};
 
 use crate::bytes::Bytes;
 use crate::collect::collected;
-use arrow2_types::error::{Error, Result};
+use arrow2_types::{Error, Result};
 use either::Either;
 use std::alloc::{AllocError, Global};
 use std::fmt;

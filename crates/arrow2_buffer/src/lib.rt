@@ -1,11 +1,12 @@
 //! Memory that several arrays share: lists that are cloned and sliced without a copy.
 #![tactic(auto)]
 
-pub mod bytes;
+mod bytes;
 mod collect;
-pub mod immutable;
-pub mod iterator;
+mod immutable;
+mod iterator;
 pub mod laws;
 
+pub use bytes::Bytes;
 pub use immutable::Buffer;
 pub use iterator::IntoIter;

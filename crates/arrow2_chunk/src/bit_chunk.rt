@@ -9,8 +9,7 @@ ghost use Rattle.arrow2_chunk.specs.Ones.{ones};
 ghost use Rattle.arrow2_model.specs.Parts.{falses};
 ghost use Rattle.arrow2_model.specs.Digits.{digits, natural_from};
 
-use arrow2_types::arrays::array_of;
-use arrow2_types::native::NativeType;
+use arrow2_types::{NativeType, array_of};
 use num_traits::PrimInt;
 
 /// A word: a list of `WIDTH` bits, the lowest first.

@@ -5,9 +5,7 @@ ghost use Rattle.arrow2_model.specs.Digits.{digits, integer_from};
 ghost use Rattle.arrow2_model.proofs.Digits.{digits_of_pair, digits_of_pair_high, digits_of_triple, digits_of_triple_high};
 ghost use Rattle.arrow2_types.specs.declared.primitive.PrimitiveType.TheVariants.{DaysMs, MonthDayNano};
 
-use arrow2_types::arrays::{array_of, join};
-use arrow2_types::native::NativeType;
-use arrow2_types::primitive::PrimitiveType;
+use arrow2_types::{NativeType, PrimitiveType, array_of, join};
 use std::fmt;
 use std::ops::Neg;
 

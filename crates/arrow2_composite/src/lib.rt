@@ -1,6 +1,9 @@
 //! Native types that are made of several numbers: spans of time, and numbers of 256 bits.
 #![tactic(auto)]
 
-pub mod interval;
+mod interval;
 pub mod laws;
-pub mod wide;
+mod wide;
+
+pub use interval::{days_ms, months_days_ns};
+pub use wide::i256;

@@ -12,9 +12,7 @@ ghost use Rattle.arrow2_model.specs.Digits.{digits, integer_from, words_value, h
 ghost use Rattle.arrow2_model.proofs.Words256.{digits_of_words, digits_of_words_high};
 ghost use Rattle.arrow2_types.specs.declared.primitive.PrimitiveType.TheVariants.{Int256};
 
-use arrow2_types::arrays::{array_of, join};
-use arrow2_types::native::NativeType;
-use arrow2_types::primitive::PrimitiveType;
+use arrow2_types::{NativeType, PrimitiveType, array_of, join};
 use std::cmp::Ordering;
 use std::hash::{Hash, Hasher};
 use std::marker::Model;

@@ -5,9 +5,9 @@ ghost use Rattle.arrow2_model.specs.Parts.{part};
 ghost use Rattle.arrow2_text.specs.Binary.{BinaryParts, binary_items, slots_between, slots_size};
 ghost use Rattle.arrow2_text.specs.Growth.{AppendsBinary, GrowingBinary};
 
-use arrow2_index::offset::Offset;
+use arrow2_index::Offset;
 use arrow2_text::{BinaryArray, MutableBinaryArray, MutableUtf8Array, Utf8Array};
-use arrow2_types::error::{Error, Result};
+use arrow2_types::{Error, Result};
 
 /// An array of byte strings or of texts, with offsets of 32 or 64 bits. One set of kernels serves all four types.
 pub trait Binary: Drop {

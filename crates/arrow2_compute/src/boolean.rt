@@ -9,11 +9,10 @@ ghost use Rattle.arrow2_validity.specs.OptionalValidity.{valid_items};
 
 use arrow2_array::BooleanArray;
 use arrow2_bitmap::{Bitmap, MutableBitmap};
-use arrow2_index::offset::Offset;
+use arrow2_index::Offset;
 use arrow2_primitive::PrimitiveArray;
 use arrow2_text::{BinaryArray, Utf8Array};
-use arrow2_types::error::{Error, Result};
-use arrow2_types::native::NativeType;
+use arrow2_types::{Error, NativeType, Result};
 use arrow2_validity::Validity;
 use std::alloc::Global;
 use std::convert::TryFrom;

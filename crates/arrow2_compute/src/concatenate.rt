@@ -9,8 +9,7 @@ ghost use Rattle.arrow2_text.specs.Binary.{binary_items};
 use crate::binary::Binary;
 use arrow2_array::{BooleanArray, MutableBooleanArray};
 use arrow2_primitive::{MutablePrimitiveArray, PrimitiveArray};
-use arrow2_types::error::{Error, Result};
-use arrow2_types::native::NativeType;
+use arrow2_types::{Error, NativeType, Result};
 
 /// Returns the items of `first` and then of each of `others`, one after the other, with the logical type of `first`.
 ///

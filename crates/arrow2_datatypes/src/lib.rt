@@ -6,12 +6,12 @@ ghost use Rattle.std.specs.BTreeMap.{get_by_text};
 ghost use Rattle.arrow2_datatypes.specs.Extensions.{extension, texts};
 ghost use Rattle.arrow2_datatypes.specs.Types.{physical, logical, of_integer, of_primitive};
 
-pub mod field;
+mod field;
 pub mod laws;
-pub mod physical_type;
-pub mod schema;
+mod physical_type;
+mod schema;
 
-use arrow2_types::error::{Error, Result};
+use arrow2_types::{Error, Result};
 pub use field::Field;
 pub use physical_type::{IntegerType, PhysicalType, PrimitiveType};
 pub use schema::Schema;

@@ -1,7 +1,7 @@
 //! The layouts of arrays.
 ghost use Rattle.std.specs.Prelude.{◌≡◌, ◌↔◌, IsTrue};
 
-pub use arrow2_types::primitive::PrimitiveType;
+pub use arrow2_types::PrimitiveType;
 
 /// The layout of the values of an array in memory. Several logical types may have the same physical type.
 #[derive(Debug, Clone, Copy, PartialEq, Eq, Hash)]

@@ -2,8 +2,8 @@
 ghost use Rattle.std.specs.Prelude.{◌∷◌, [], length};
 ghost use Rattle.arrow2_model.specs.Kernels.{word};
 
-use arrow2_chunk::bit_chunk::BitChunk;
-use arrow2_kernels::rows::WordRows;
+use arrow2_chunk::BitChunk;
+use arrow2_kernels::WordRows;
 use arrow2_packed_bits::packing::{padded, word_of};
 
 /// Booleans, read as rows of one word: each row has the next 64 of them.

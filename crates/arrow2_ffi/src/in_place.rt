@@ -9,12 +9,12 @@ ghost use Rattle.arrow2_ffi.specs.Ranges.{HasBits, first_bits, HasBytesForBits};
 ghost use Rattle.arrow2_ffi.specs.Writes.{Stores};
 
 use crate::bits_input::Bits;
-use arrow2_bits::chunk_iterator::BitChunks;
+use arrow2_bits::BitChunks;
 use arrow2_kernels::assign::assign_rows;
 use arrow2_kernels::map::write_rows;
-use arrow2_kernels::rows::{OneList, Pair, WordRows, ZipRows};
 use arrow2_kernels::simd_assign::{assign_binary, clear_spare};
 use arrow2_kernels::truth_tables::{binary_outputs, quaternary_outputs, ternary_outputs};
+use arrow2_kernels::{OneList, Pair, WordRows, ZipRows};
 
 /// Returns the first `len` bits, word by word. Requires that they are inside their bytes.
 fn words(bits: Bits<'_>, len: usize) -> OneList<BitChunks<'_, u64>>

@@ -6,7 +6,7 @@ ghost use Rattle.arrow2_ffi.specs.Validities.{CoversItems, valid_items, validity
 use crate::bits_input::Bits;
 use crate::codes::{ARROW2_INDEX, ARROW2_OK, ARROW2_RANGE};
 use crate::validities::{covers_items, is_valid};
-use arrow2_index::index::Index;
+use arrow2_index::Index;
 
 /// Checks that each item is null or an index below `items`. Writes to `slot` the first item that is neither.
 pub(crate) fn check<I: Index>(

@@ -5,7 +5,7 @@ ghost use Rattle.arrow2_ffi.specs.RunWrites.{FindsRuns, WritesRuns, run_outputs}
 
 use crate::bits_input::{Bits, are_inside};
 use crate::codes::{ARROW2_LENGTH, ARROW2_OK, ARROW2_RANGE};
-use arrow2_walks::cursor::{BitCursor, find_bit};
+use arrow2_walks::{BitCursor, find_bit};
 
 /// Finds the runs of set bits among the `length` bits from bit `offset` on. Indices are relative to `offset`: index 0
 /// is bit `offset`. The search begins at index `at`. If `at` is inside a run, only the part of that run from `at` on is

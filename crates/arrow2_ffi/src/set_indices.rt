@@ -8,9 +8,8 @@ ghost use Rattle.arrow2_ffi.specs.SetIndices.{FindsSetIndices, WritesSetIndices,
 
 use crate::bits_input::{Bits, are_inside};
 use crate::codes::{ARROW2_OK, ARROW2_RANGE};
-use arrow2_bits::chunks::word_from;
-use arrow2_chunk::bit_chunk::BitChunk;
-use arrow2_chunk::bit_chunk_iter::BitChunkOnes;
+use arrow2_bits::word_from;
+use arrow2_chunk::{BitChunk, BitChunkOnes};
 
 /// Finds the set bits among the `length` bits from bit `offset` on. Indices are relative to `offset`: index 0 is bit
 /// `offset`. The search begins at index `at`. Writes the indices of set bits to `indices`, in rising order, until

@@ -5,7 +5,7 @@ ghost use Rattle.std.specs.Iterator.SizeHint.{IsWithinCount};
 ghost use Rattle.arrow2_model.specs.Digits.{digits};
 ghost use Rattle.arrow2_index.specs.Ranges.{integers};
 
-use arrow2_types::native::NativeType;
+use arrow2_types::NativeType;
 use num_traits::{CheckedAdd, Num, One};
 use std::marker::Model;
 use std::ops::{AddAssign, Sub};

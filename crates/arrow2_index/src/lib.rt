@@ -1,5 +1,8 @@
 //! Index and offset types: numbers that are indices into buffers.
 #![tactic(auto)]
 
-pub mod index;
-pub mod offset;
+mod index;
+mod offset;
+
+pub use index::{Index, IndexRange};
+pub use offset::Offset;

@@ -6,7 +6,7 @@ ghost use Rattle.arrow2_model.specs.Kernels.{word, joined};
 ghost use Rattle.arrow2_model.specs.Rows.{ComputesOwnRows};
 
 use crate::rows::WordRows;
-use arrow2_chunk::bit_chunk::BitChunk;
+use arrow2_chunk::BitChunk;
 use std::convert::AsSlice;
 
 /// Replaces each word of the first `len` bits by the result of `op` for this word and the row of words at its index.

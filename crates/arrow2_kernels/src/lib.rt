@@ -3,8 +3,10 @@
 
 pub mod assign;
 pub mod map;
-pub mod rows;
+mod rows;
 mod simd;
 pub mod simd_assign;
 pub mod simd_map;
 pub mod truth_tables;
+
+pub use rows::{NoList, OneList, Pair, WordRows, ZipRows};

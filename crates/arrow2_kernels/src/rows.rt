@@ -4,8 +4,8 @@ ghost use Rattle.arrow2_model.specs.Kernels.{word, AreWords};
 ghost use Rattle.arrow2_model.specs.Words.{WordCursor};
 ghost use Rattle.arrow2_model.specs.Rows.{GivesRow};
 
-use arrow2_bits::chunk_iterator::{BitChunkIterExact, BitChunks};
-use arrow2_chunk::bit_chunk::BitChunk;
+use arrow2_bits::{BitChunkIterExact, BitChunks};
+use arrow2_chunk::BitChunk;
 
 /// Lists of equal length, read row by row: a row has the next word of each list.
 pub trait WordRows<B: BitChunk>: Drop {

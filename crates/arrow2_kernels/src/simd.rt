@@ -3,7 +3,7 @@ ghost use Rattle.std.specs.Prelude.{◌≡◌, ◌<◌, ℕ, [], ◌∷◌, if�
 ghost use Rattle.arrow2_model.specs.Bits.{bit};
 ghost use Rattle.arrow2_model.specs.Tables.{answer};
 
-use arrow2_chunk::bit_chunk::BitChunk;
+use arrow2_chunk::BitChunk;
 use std::simd::prelude::*;
 
 /// Returns the outputs of a table of one input, for each bit of each lane.

@@ -4,7 +4,7 @@ ghost use Rattle.std.specs.Prelude.{◌≡◌, ◌<◌, ◌^◌, ℕ, [], ◌∷
 ghost use Rattle.arrow2_model.specs.Bits.{bit};
 ghost use Rattle.arrow2_model.specs.Tables.{answer};
 
-use arrow2_chunk::bit_chunk::BitChunk;
+use arrow2_chunk::BitChunk;
 
 /// Returns the outputs of a table of one input, bit by bit.
 pub fn unary_outputs<T: BitChunk>(table: u16, x: T) -> T

@@ -2,7 +2,7 @@
 use crate::calls::{Row, input, made, refused, show};
 use crate::walks::array;
 use arrow2_array::{BooleanArray, MutableBooleanArray};
-use arrow2_types::error::Result;
+use arrow2_types::Result;
 use std::alloc::Global;
 use std::io::{Eprint, Print};
 

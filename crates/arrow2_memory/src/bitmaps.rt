@@ -5,9 +5,9 @@ use arrow2_bitmap::bitmap_ops::{
     and, binary, binary_table, from_rows, or, unary, unary_table, xor,
 };
 use arrow2_bitmap::{Bitmap, MutableBitmap};
-use arrow2_kernels::rows::OneList;
+use arrow2_kernels::OneList;
 use arrow2_tables::bitmap_ops::{quaternary, quaternary_table, ternary, ternary_table};
-use arrow2_types::error::Result;
+use arrow2_types::Result;
 use std::alloc::Global;
 use std::convert::TryFrom;
 use std::io::{Eprint, Print};

@@ -1,7 +1,7 @@
 //! Makes calls that allocate, and shows their results. Each group of calls is made twice. Where an allocation of a call
 //! failed the first time, the result of its second time is shown: so standard output has the same text, whichever
 //! allocation fails. The calls whose allocation failed are named on standard error.
-use arrow2_types::error::{Error, Result};
+use arrow2_types::{Error, Result};
 use std::cmp::PartialEq;
 use std::fmt;
 use std::io::{Eprint, Print};

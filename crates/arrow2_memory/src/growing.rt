@@ -2,7 +2,7 @@
 use crate::calls::{Change, Row, changed, input, made};
 use crate::items::{BYTES, growing_items, items};
 use arrow2_bitmap::{Bitmap, MutableBitmap};
-use arrow2_types::error::Result;
+use arrow2_types::Result;
 use std::alloc::Global;
 use std::io::{Eprint, Print};
 

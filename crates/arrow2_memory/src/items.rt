@@ -1,6 +1,6 @@
 //! The items that calls are made on.
 use arrow2_bitmap::{Bitmap, MutableBitmap};
-use arrow2_types::error::{Error, Result};
+use arrow2_types::{Error, Result};
 use std::alloc::Global;
 
 /// Eighty bits that follow no pattern.

@@ -21,7 +21,7 @@ use arrow2_numeric::comparison::{
 };
 use arrow2_primitive::PrimitiveArray;
 use arrow2_text::Utf8Array;
-use arrow2_types::error::{Error, Result};
+use arrow2_types::{Error, Result};
 use std::alloc::Global;
 use std::io::{Eprint, Print};
 use std::rc::Rc;

@@ -15,7 +15,7 @@ mod silent;
 mod strings;
 mod walks;
 
-use arrow2_types::error::Result;
+use arrow2_types::Result;
 use std::alloc::Global;
 use std::io::{Eprint, Print};
 use std::process::ExitCode;

@@ -5,7 +5,7 @@ use arrow2_bitmap::Bitmap;
 use arrow2_buffer::Buffer;
 use arrow2_datatypes::DataType;
 use arrow2_primitive::{MutablePrimitiveArray, PrimitiveArray};
-use arrow2_types::error::Result;
+use arrow2_types::Result;
 use arrow2_validity::{Validity, check_same_length};
 use either::Either;
 use std::alloc::Global;

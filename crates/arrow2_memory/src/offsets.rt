@@ -2,7 +2,7 @@
 use crate::calls::{Change, Row, changed, input, made};
 use arrow2_buffer::Buffer;
 use arrow2_offset::{Offsets, OffsetsBuffer};
-use arrow2_types::error::Result;
+use arrow2_types::Result;
 use std::alloc::Global;
 use std::convert::TryFrom;
 use std::io::{Eprint, Print};

@@ -9,9 +9,9 @@ use arrow2_bitmap::assign_ops::{
     binary_assign, binary_assign_table, unary_assign, unary_assign_table,
 };
 use arrow2_bitmap::{Bitmap, MutableBitmap};
-use arrow2_chunk::bit_chunk::BitChunk;
+use arrow2_chunk::BitChunk;
 use arrow2_offset::{Offsets, OffsetsBuffer};
-use arrow2_types::error::Result;
+use arrow2_types::Result;
 use std::alloc::Global;
 use std::io::{Eprint, Print};
 

@@ -4,7 +4,7 @@ use arrow2_buffer::Buffer;
 use arrow2_datatypes::DataType;
 use arrow2_offset::OffsetsBuffer;
 use arrow2_text::{BinaryArray, MutableBinaryArray, MutableUtf8Array, Utf8Array};
-use arrow2_types::error::{Error, Result};
+use arrow2_types::{Error, Result};
 use either::Either;
 use std::alloc::Global;
 use std::io::{Eprint, Print};

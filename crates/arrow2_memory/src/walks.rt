@@ -3,8 +3,8 @@ use crate::calls::{Row, made, refused, show};
 use crate::items::items;
 use arrow2_array::BooleanArray;
 use arrow2_bitmap::Bitmap;
-use arrow2_types::error::Result;
-use arrow2_walks::pieces::Pieces;
+use arrow2_types::Result;
+use arrow2_walks::Pieces;
 use std::alloc::Global;
 use std::io::{Eprint, Print};
 

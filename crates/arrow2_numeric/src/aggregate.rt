@@ -9,10 +9,9 @@ ghost use Rattle.arrow2_primitive.specs.Primitive.{primitive_items};
 ghost use Rattle.arrow2_walks.specs.Selected.{non_null_values, selected};
 
 use arrow2_bitmap::Bitmap;
-use arrow2_chunk::bit_chunk::BitChunk;
-use arrow2_chunk::bit_chunk_iter::BitChunkOnes;
+use arrow2_chunk::{BitChunk, BitChunkOnes};
 use arrow2_primitive::PrimitiveArray;
-use arrow2_types::native::NativeType;
+use arrow2_types::NativeType;
 
 /// A native type of whole numbers of at most 64 bits. The sum of the values of any slice fits an `i128`.
 pub trait WholeNumber: NativeType {

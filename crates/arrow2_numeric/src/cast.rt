@@ -9,8 +9,7 @@ ghost use Rattle.arrow2_primitive.specs.Primitive.{primitive_items};
 
 use arrow2_datatypes::DataType;
 use arrow2_primitive::{MutablePrimitiveArray, PrimitiveArray};
-use arrow2_types::error::{Error, Result};
-use arrow2_types::native::NativeType;
+use arrow2_types::{Error, NativeType, Result};
 use num_traits::PrimInt;
 use std::alloc::Global;
 use std::rc::Rc;

@@ -11,8 +11,7 @@ ghost use Rattle.arrow2_primitive.specs.Primitive.{primitive_items};
 use arrow2_array::BooleanArray;
 use arrow2_bitmap::Bitmap;
 use arrow2_primitive::PrimitiveArray;
-use arrow2_types::error::{Error, Result};
-use arrow2_types::native::NativeType;
+use arrow2_types::{Error, NativeType, Result};
 
 /// Returns, item by item, the result of `test` for the value, and null where the item is null. The contract states this
 /// where the contract of `test` fixes its result for each value. Requires that `test` may be called with each stored

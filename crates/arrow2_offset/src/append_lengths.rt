@@ -9,8 +9,8 @@ ghost use Rattle.arrow2_offset.specs.Lengths.{LengthenedBy};
 ghost use Rattle.arrow2_offset.specs.NewOffsets.{made_of};
 ghost use Rattle.arrow2_types.specs.declared.growth_error.GrowthError.TheVariants as growth_error;
 
-use arrow2_index::offset::Offset;
-use arrow2_types::growth_error::GrowthError;
+use arrow2_index::Offset;
+use arrow2_types::GrowthError;
 use std::alloc::AllocError;
 use std::mem;
 

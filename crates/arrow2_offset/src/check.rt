@@ -3,8 +3,8 @@ ghost use Rattle.std.specs.Prelude.{◌≡◌, ℕ, ◌+◌, ◌<◌, ◌≤ℤ�
 ghost use Rattle.arrow2_offset.specs.Offsets.{AreOffsets, AreOffsetsUpTo};
 ghost use Rattle.arrow2_offset.specs.Refusals.{IsOutOfSpecOrOutOfMemory, first_broken, rule_words, not_offsets_message};
 
-use arrow2_index::offset::Offset;
-use arrow2_types::error::{Error, Result};
+use arrow2_index::Offset;
+use arrow2_types::{Error, Result};
 use std::alloc::{AllocError, Global};
 
 /// Why a list is not offsets: the first of these faults that it has, in this order.

@@ -7,7 +7,7 @@ ghost use Rattle.arrow2_offset.specs.Offsets.{AreOffsetsUpTo, last_of, last_of_g
 use crate::immutable::OffsetsBuffer;
 use crate::mutable::Offsets;
 use crate::widths::write_narrow;
-use arrow2_types::error::{Error, Result};
+use arrow2_types::{Error, Result};
 use std::alloc::{AllocError, Global};
 
 /// Returns a copy of the same offsets, in 64 bits each. They can be converted back.

@@ -5,7 +5,7 @@ ghost use Rattle.std.specs.Iterator.SizeHint.{IsWithinCount};
 ghost use Rattle.arrow2_offset.specs.Offsets.{AreOffsets, lengths_of};
 
 use crate::slot::slot_span;
-use arrow2_index::offset::Offset;
+use arrow2_index::Offset;
 use std::alloc::AllocError;
 use std::marker::Model;
 

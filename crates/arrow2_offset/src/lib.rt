@@ -3,11 +3,11 @@
 
 mod append_lengths;
 mod check;
-pub mod convert;
-pub mod immutable;
-pub mod iterator;
+mod convert;
+mod immutable;
+mod iterator;
 pub mod laws;
-pub mod mutable;
+mod mutable;
 pub mod slices;
 mod slot;
 pub mod widths;

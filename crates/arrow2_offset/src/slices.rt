@@ -5,7 +5,7 @@ ghost use Rattle.std.specs.Prelude.{◌≡◌, ◌+◌, ◌-◌, ◌*◌, ◌<�
 ghost use Rattle.arrow2_model.specs.Parts.{part};
 ghost use Rattle.arrow2_offset.specs.Offsets.{AreOffsets, AreOffsetsUpTo, last_of, last_offset, lengths_of, offsets_list};
 
-use arrow2_index::offset::Offset;
+use arrow2_index::Offset;
 
 /// Returns the last of the offsets. Requires that the numbers are offsets.
 pub fn last<O: Offset>(offsets: &[O]) -> usize

@@ -2,7 +2,7 @@
 ghost use Rattle.std.specs.Prelude.{◌≡◌, ◌+◌, ◌<◌, ◌≤◌, length, map, sum, slice_index_or};
 ghost use Rattle.arrow2_offset.specs.Offsets.{AreOffsets, offset_at, start_of, lengths_of, last_of};
 
-use arrow2_index::offset::Offset;
+use arrow2_index::Offset;
 
 /// Returns the sum of the lengths between the offsets.
 pub(crate) fn total_length<O: Offset>(offsets: &[O]) -> usize

@@ -3,7 +3,7 @@ ghost use Rattle.std.specs.Prelude.{◌≡◌, ℕ, ◌+◌, ◌*◌, ◌<◌, �
 ghost use Rattle.arrow2_model.specs.Bits.{bits};
 
 use crate::packing::word_of;
-use arrow2_chunk::bit_chunk::BitChunk;
+use arrow2_chunk::BitChunk;
 use std::alloc::{AllocError, Global};
 
 /// Returns the bytes of the results of `f` for each number below `len`, followed by padding bits. Allocates once,

@@ -2,5 +2,7 @@
 #![tactic(auto)]
 
 pub mod from_fn;
-pub mod packed_bits;
+mod packed_bits;
 pub mod packing;
+
+pub use packed_bits::PackedBits;

@@ -12,11 +12,11 @@ ghost use Rattle.std.specs.declared.alloc.Global.{Global};
 mod extend;
 
 use arrow2_bits::{bytes_for, is_set, set};
-use arrow2_chunk::bit_chunk::BitChunk;
+use arrow2_chunk::BitChunk;
+use arrow2_kernels::WordRows;
 use arrow2_kernels::assign::assign_rows;
-use arrow2_kernels::rows::WordRows;
 use arrow2_kernels::simd_assign::{assign_binary, assign_unary};
-use arrow2_types::growth_error::GrowthError;
+use arrow2_types::GrowthError;
 use std::alloc::{AllocError, Global};
 use std::marker::Model;
 

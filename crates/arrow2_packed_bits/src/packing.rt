@@ -7,8 +7,8 @@ ghost use Rattle.arrow2_model.specs.Bits.{bits, num};
 ghost use Rattle.arrow2_types.specs.declared.growth_error.GrowthError.TheVariants as growth_error;
 
 use arrow2_bits::bytes_for;
-use arrow2_chunk::bit_chunk::BitChunk;
-use arrow2_types::growth_error::GrowthError;
+use arrow2_chunk::BitChunk;
+use arrow2_types::GrowthError;
 use std::alloc::{AllocError, Global};
 use std::simd::prelude::*;
 

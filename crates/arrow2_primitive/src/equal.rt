@@ -11,7 +11,7 @@ ghost use Rattle.arrow2_primitive.specs.Primitive.{primitive_items};
 use crate::array::PrimitiveArray;
 use crate::iterator::PrimitiveIter;
 use arrow2_datatypes::DataType;
-use arrow2_types::native::NativeType;
+use arrow2_types::NativeType;
 use std::cmp::PartialEq;
 
 /// Two arrays are equal exactly if `==` of their logical types holds and their items are equal by the values' own `==`.

@@ -6,7 +6,7 @@ ghost use Rattle.arrow2_primitive.specs.TypeTexts.{type_output};
 
 use crate::array::PrimitiveArray;
 use crate::type_text::write_type;
-use arrow2_types::native::NativeType;
+use arrow2_types::NativeType;
 use arrow2_validity::fmt::write_separator;
 use std::fmt;
 

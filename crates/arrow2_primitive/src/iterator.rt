@@ -6,7 +6,7 @@ ghost use Rattle.arrow2_walks.specs.Selected.{non_null_values};
 ghost use Rattle.arrow2_primitive.specs.Primitive.{primitive_items};
 
 use crate::array::PrimitiveArray;
-use arrow2_types::native::NativeType;
+use arrow2_types::NativeType;
 use std::alloc::AllocError;
 use std::marker::Model;
 

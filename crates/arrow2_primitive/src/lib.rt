@@ -1,11 +1,11 @@
 //! Arrays of native values, each of which may be null: shared ones, and ones that grow.
 #![tactic(auto)]
 
-pub mod array;
+mod array;
 mod equal;
 mod fmt;
-pub mod iterator;
-pub mod mutable;
+mod iterator;
+mod mutable;
 mod type_text;
 
 pub use array::PrimitiveArray;

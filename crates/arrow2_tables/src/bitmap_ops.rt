@@ -7,9 +7,9 @@ ghost use Rattle.arrow2_bitmap.specs.Packed.{IsPacked};
 
 use arrow2_bitmap::Bitmap;
 use arrow2_bitmap::bitmap_ops::from_rows;
-use arrow2_kernels::rows::{OneList, Pair, ZipRows};
 use arrow2_kernels::truth_tables::{quaternary_outputs, ternary_outputs};
-use arrow2_types::error::{Error, Result};
+use arrow2_kernels::{OneList, Pair, ZipRows};
+use arrow2_types::{Error, Result};
 
 /// Returns the bitmap of the results of `op` for the three words of 64 items at each index. The last words are padded
 /// with false. Requires that all have equal lengths, and that the `requires` of `op` holds for every three words.

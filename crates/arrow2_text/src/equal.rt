@@ -11,7 +11,7 @@ use crate::binary::BinaryArray;
 use crate::slots::Slots;
 use crate::utf8::Utf8Array;
 use arrow2_datatypes::DataType;
-use arrow2_index::offset::Offset;
+use arrow2_index::Offset;
 use std::cmp::PartialEq;
 
 /// Two arrays are equal exactly if `==` of their logical types holds and their items are equal. Nulls are equal,

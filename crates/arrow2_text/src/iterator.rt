@@ -7,7 +7,7 @@ ghost use Rattle.arrow2_text.specs.Binary.{binary_items};
 
 use crate::binary::BinaryArray;
 use crate::utf8::Utf8Array;
-use arrow2_index::offset::Offset;
+use arrow2_index::Offset;
 use std::alloc::AllocError;
 use std::marker::Model;
 

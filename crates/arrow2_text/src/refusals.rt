@@ -12,9 +12,9 @@ ghost use Rattle.arrow2_text.specs.Refusals.{FailsOnlyWith, RefusesParts, not_ut
 use arrow2_bitmap::Bitmap;
 use arrow2_buffer::Buffer;
 use arrow2_datatypes::{DataType, PhysicalType};
-use arrow2_index::offset::Offset;
+use arrow2_index::Offset;
 use arrow2_offset::OffsetsBuffer;
-use arrow2_types::error::{Error, Result};
+use arrow2_types::{Error, Result};
 use arrow2_utf8::{BrokenTexts, try_check_utf8};
 use arrow2_validity::Validity;
 use std::alloc::Global;

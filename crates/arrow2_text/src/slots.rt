@@ -14,9 +14,9 @@ ghost use Rattle.arrow2_text.specs.Binary.{binary_items, binary_values, sliced_b
 use crate::growing::Growing;
 use arrow2_buffer::Buffer;
 use arrow2_datatypes::DataType;
-use arrow2_index::offset::Offset;
+use arrow2_index::Offset;
 use arrow2_offset::{Offsets, OffsetsBuffer};
-use arrow2_types::error::{Error, Result};
+use arrow2_types::{Error, Result};
 use arrow2_validity::Validity;
 use either::Either;
 use std::alloc::AllocError;

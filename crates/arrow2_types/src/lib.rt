@@ -1,8 +1,14 @@
 //! Errors of the memory layer, and the types of the values in its buffers.
 #![tactic(auto)]
 
-pub mod arrays;
-pub mod error;
-pub mod growth_error;
-pub mod native;
-pub mod primitive;
+mod arrays;
+mod error;
+mod growth_error;
+mod native;
+mod primitive;
+
+pub use arrays::{array_of, join};
+pub use error::{Error, Result};
+pub use growth_error::GrowthError;
+pub use native::NativeType;
+pub use primitive::PrimitiveType;

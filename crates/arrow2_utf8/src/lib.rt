@@ -1,7 +1,7 @@
 //! The test that the bytes between offsets are texts.
 #![tactic(auto)]
 
-pub mod specification;
+mod specification;
 
 pub use specification::{
     BrokenTextArray, BrokenTexts, text_at, try_check_offsets_and_utf8, try_check_offsets_bounds,

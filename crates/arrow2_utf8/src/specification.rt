@@ -5,7 +5,7 @@ ghost use Rattle.arrow2_model.specs.Buffers.{buffer_items};
 ghost use Rattle.arrow2_offset.specs.Offsets.{AreOffsets, offset_at, start_of, lengths_of, last_of};
 ghost use Rattle.arrow2_utf8.specs.Texts.{slot_values, AreTexts, IsFirstNonUtf8, ReportsBrokenTexts, ReportsBrokenArray};
 
-use arrow2_index::offset::Offset;
+use arrow2_index::Offset;
 use arrow2_offset::{BrokenRule, OffsetsBuffer, broken_rule};
 use std::str;
 

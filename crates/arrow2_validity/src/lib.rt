@@ -2,6 +2,6 @@
 #![tactic(auto)]
 
 pub mod fmt;
-pub mod validity;
+mod validity;
 
 pub use validity::{Validity, check_same_length};

@@ -12,7 +12,7 @@ ghost use Rattle.arrow2_validity.specs.Refusals.{unequal_lengths_message};
 
 use arrow2_bitmap::bitmap_ops::and;
 use arrow2_bitmap::{Bitmap, MutableBitmap};
-use arrow2_types::error::{Error, Result};
+use arrow2_types::{Error, Result};
 use either::Either;
 use std::alloc::{AllocError, Global};
 use std::marker::Model;

@@ -3,7 +3,7 @@ ghost use Rattle.std.specs.Prelude.{◌≡◌, ℕ, ◌+◌, ◌*◌, ◌<◌, �
 ghost use Rattle.arrow2_model.specs.Bits.{bit, bits};
 ghost use Rattle.arrow2_walks.specs.Cursor.{IsFirst, IsRead};
 
-use arrow2_bits::chunks::word_from;
+use arrow2_bits::word_from;
 
 /// An index, and the bits from this index on that were read already, as the lowest bits of a word.
 #[derive(Clone, Copy, Debug)]

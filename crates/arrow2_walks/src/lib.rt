@@ -1,11 +1,13 @@
 //! Iterators over bitmaps: values zipped with their validity, and the runs of set bits; and bitmaps in pieces.
 #![tactic(auto)]
 
-pub mod cursor;
+mod cursor;
 pub mod laws;
-pub mod pieces;
-pub mod slice_iterator;
-pub mod zip_validity;
+mod pieces;
+mod slice_iterator;
+mod zip_validity;
 
+pub use cursor::{BitCursor, find_bit};
+pub use pieces::Pieces;
 pub use slice_iterator::SlicesIterator;
 pub use zip_validity::{ZipValidity, ZipValidityIter};

@@ -7,7 +7,7 @@ ghost use Rattle.arrow2_walks.specs.Cuts.{IsWithinBudget, back, cut_at, front, j
 
 use arrow2_bitmap::Bitmap;
 use arrow2_bits::Reads;
-use arrow2_types::error::{Error, Result};
+use arrow2_types::{Error, Result};
 use std::alloc::Global;
 use std::marker::Model;
 

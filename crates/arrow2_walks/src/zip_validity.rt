@@ -9,7 +9,7 @@ ghost use Rattle.arrow2_walks.specs.Zipped.{slot};
 ghost use Rattle.arrow2_walks.specs.Zips.{values_of, validity_of, either_values, MatchZip, IsRequiredAnd, IsOptionalAnd, GivesAsMany, GiveEquallyMany, zip_validity_steps, either_steps};
 
 use arrow2_bitmap::Bitmap;
-use arrow2_bits::iterator::BitmapIter;
+use arrow2_bits::BitmapIter;
 
 /// An iterator over values and their validity, from both ends: an item is `Some` of the value where the value is valid,
 /// and `None` where it is null.

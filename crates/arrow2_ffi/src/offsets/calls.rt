@@ -10,7 +10,7 @@ use crate::codes::{
     ARROW2_LENGTH, ARROW2_OK, ARROW2_OVERFLOW, ARROW2_RANGE, ARROW2_SPEC_EMPTY,
     ARROW2_SPEC_FALLING, ARROW2_SPEC_NEGATIVE,
 };
-use arrow2_index::offset::Offset;
+use arrow2_index::Offset;
 use arrow2_offset::slices::{fits, last, write_lengths, write_part, write_sums};
 use arrow2_offset::{BrokenRule, broken_rule};
 

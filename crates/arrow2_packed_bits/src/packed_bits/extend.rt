@@ -7,9 +7,9 @@ ghost use Rattle.arrow2_model.specs.Words.{full_words};
 
 use crate::packed_bits::PackedBits;
 use crate::packing::{padded, word_of};
-use arrow2_bits::chunk_iterator::BitChunks;
-use arrow2_chunk::bit_chunk::BitChunk;
-use arrow2_types::growth_error::GrowthError;
+use arrow2_bits::BitChunks;
+use arrow2_chunk::BitChunk;
+use arrow2_types::GrowthError;
 use std::alloc::AllocError;
 
 #[tactic(auto, using(crate::proofs::Whole::extending))]

@@ -6,7 +6,7 @@ ghost use Rattle.arrow2_array.specs.Items.{boolean_items};
 use super::checks::{assert_that, gives, ok, refuses, shows};
 use arrow2_array::{BooleanArray, MutableBooleanArray};
 use arrow2_bitmap::Bitmap;
-use arrow2_types::error::Result;
+use arrow2_types::Result;
 use std::alloc::Global;
 use std::process::Abort;
 

@@ -2,11 +2,11 @@
 ghost use Rattle.std.specs.Prelude.{◌≡◌, ◌+◌, ◌*◌, ◌<◌, ◌≤◌, length};
 
 use super::checks::{assert_that, gives, has, ok, shows};
-use arrow2_bits::chunk_iterator::{BitChunkIterExact, BitChunks};
-use arrow2_bits::chunks_exact::BitChunksExact;
-use arrow2_bits::iterator::BitmapIter;
-use arrow2_bits::{bytes_for, count_zeros, get_bit, get_bit_from, is_set, set, set_bit};
-use arrow2_chunk::bit_chunk::BitChunk;
+use arrow2_bits::{
+    BitChunkIterExact, BitChunks, BitChunksExact, BitmapIter, bytes_for, count_zeros, get_bit,
+    get_bit_from, is_set, set, set_bit,
+};
+use arrow2_chunk::BitChunk;
 use std::alloc::Global;
 use std::fmt;
 use std::process::Abort;

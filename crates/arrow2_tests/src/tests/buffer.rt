@@ -4,10 +4,9 @@ ghost use Rattle.std.specs.Bool.{OnTrue, OnFalse};
 ghost use Rattle.arrow2_model.specs.Buffers.{buffer_items, whole_buffer};
 
 use super::checks::{assert_that, has, left, ok, right, shows};
-use arrow2_buffer::bytes::Bytes;
 use arrow2_buffer::laws::written_items_are_the_items;
-use arrow2_buffer::{Buffer, IntoIter};
-use arrow2_types::error::{Error, Result};
+use arrow2_buffer::{Buffer, Bytes, IntoIter};
+use arrow2_types::{Error, Result};
 use std::alloc::Global;
 use std::convert::TryFrom;
 use std::process::Abort;

@@ -4,9 +4,7 @@ ghost use Rattle.std.specs.Iterator.{IsFinite};
 ghost use Rattle.arrow2_model.specs.Storage.{items_of};
 
 use arrow2_bitmap::{Bitmap, MutableBitmap};
-use arrow2_types::error::{Error, Result};
-use arrow2_types::native::NativeType;
-use arrow2_types::primitive::PrimitiveType;
+use arrow2_types::{Error, NativeType, PrimitiveType, Result};
 use either::Either;
 use std::alloc::Global;
 use std::convert::AsSlice;

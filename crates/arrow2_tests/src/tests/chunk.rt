@@ -1,7 +1,6 @@
 //! Words as lists of bits: worked examples, and each call once.
 use super::checks::{gives, has};
-use arrow2_chunk::bit_chunk::BitChunk;
-use arrow2_chunk::bit_chunk_iter::{BitChunkIter, BitChunkOnes};
+use arrow2_chunk::{BitChunk, BitChunkIter, BitChunkOnes};
 
 #[test]
 fn words_answer_as_their_bits(rt: HostRuntime) {

@@ -4,7 +4,7 @@ ghost use Rattle.std.specs.Bool.{OnTrue};
 ghost use Rattle.arrow2_bits.specs.ChunksMut.{past};
 
 use super::checks::{assert_that, has, shows};
-use arrow2_bits::chunks_exact_mut::BitChunksExactMut;
+use arrow2_bits::BitChunksExactMut;
 use std::process::Abort;
 
 /// The values, written over the first bytes of the chunk.

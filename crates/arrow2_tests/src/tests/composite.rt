@@ -1,8 +1,7 @@
 //! Known bytes and printed texts of native values of several parts.
 use super::checks::{has, has_bytes, prints, shows};
-use arrow2_composite::interval::{days_ms, months_days_ns};
-use arrow2_composite::wide::i256;
-use arrow2_types::primitive::PrimitiveType as Type;
+use arrow2_composite::{days_ms, i256, months_days_ns};
+use arrow2_types::PrimitiveType as Type;
 
 #[test]
 fn parts_and_digits_are_written_in_order(rt: HostRuntime) {

@@ -5,7 +5,7 @@ ghost use Rattle.arrow2_model.specs.Touched.{slice_reads, cut_reads};
 use super::checks::{assert_that, has, ok};
 use arrow2_bitmap::Bitmap;
 use arrow2_bits::{Reads, Stored, count_zeros_counted, recount};
-use arrow2_walks::pieces::Pieces;
+use arrow2_walks::Pieces;
 use std::alloc::Global;
 use std::mem::size_of;
 use std::process::Abort;

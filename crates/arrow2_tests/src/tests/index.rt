@@ -2,8 +2,7 @@
 ghost use Rattle.std.specs.Prelude.{◌≤◌};
 
 use super::checks::{has, ok};
-use arrow2_index::index::{Index, IndexRange};
-use arrow2_index::offset::Offset;
+use arrow2_index::{Index, IndexRange, Offset};
 use std::alloc::Global;
 use std::process::Abort;
 

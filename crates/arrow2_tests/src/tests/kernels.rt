@@ -9,7 +9,7 @@ use arrow2_bitmap::assign_ops::{binary_assign, unary_assign};
 use arrow2_bitmap::bitmap_ops::{binary, unary};
 use arrow2_bitmap::{Bitmap, MutableBitmap};
 use arrow2_kernels::truth_tables::{binary_outputs, unary_outputs};
-use arrow2_types::error::Result;
+use arrow2_types::Result;
 use std::alloc::Global;
 use std::process::Abort;
 

@@ -2,7 +2,7 @@
 use super::checks::{assert_that, gives, has, left, ok, overflows, refuses, right};
 use arrow2_buffer::Buffer;
 use arrow2_offset::{Offsets, OffsetsBuffer};
-use arrow2_types::error::Result;
+use arrow2_types::Result;
 use either::Either;
 use std::alloc::Global;
 use std::process::Abort;

@@ -1,7 +1,6 @@
 //! Known bytes of native values, and the texts of errors.
 use super::checks::{bytes_of, has_bytes, prints, refused, shows, text};
-use arrow2_types::error::Error;
-use arrow2_types::primitive::PrimitiveType as Type;
+use arrow2_types::{Error, PrimitiveType as Type};
 use std::alloc::Global;
 use std::io;
 use std::process::Abort;

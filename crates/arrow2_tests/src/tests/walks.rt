@@ -3,7 +3,7 @@ ghost use Rattle.std.specs.Prelude.{◌≡◌, length};
 
 use super::checks::{assert_that, bitmap_from, gives, has, ok, shows};
 use arrow2_bitmap::Bitmap;
-use arrow2_bits::iterator::BitmapIter;
+use arrow2_bits::BitmapIter;
 use arrow2_walks::{SlicesIterator, ZipValidity, ZipValidityIter, laws};
 use std::alloc::Global;
 use std::iter::Copied;
