@@ -965,8 +965,8 @@ static inline uint32_t arrow2_c_check_root(const struct ArrowSchema *schema, con
  * first rule that is broken. docs/BINDINGS.md has the order of the rules, what is not tested, and where the check is
  * stricter than Arrow; for example, the bytes of a null slot of a text must be UTF-8 too.
  *
- * The codes are those above, and these of arrow2_proved.h: ARROW2_RANGE (a buffer is too short), ARROW2_NULLS,
- * ARROW2_SPEC_NEGATIVE, ARROW2_SPEC_FALLING, ARROW2_PAST, ARROW2_UTF8 and ARROW2_INDEX.
+ * The codes are those above except ARROW2_C_SIZES, and these of arrow2_proved.h: ARROW2_RANGE (a buffer is too short),
+ * ARROW2_NULLS, ARROW2_SPEC_NEGATIVE, ARROW2_SPEC_FALLING, ARROW2_PAST, ARROW2_UTF8 and ARROW2_INDEX.
  *
  * Schema and array stay the caller's, whatever the code is: nothing in them is changed, kept or released. The caller
  * releases both, also after a refusal: `if (array.release) array.release(&array);`, since with ARROW2_C_RELEASED
