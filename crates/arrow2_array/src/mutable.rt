@@ -101,7 +101,7 @@ impl MutableBooleanArray {
     /// `Overflow` exactly where the length plus `additional` would pass `usize::MAX`, else `OutOfMemory` alone. After
     /// either error, the array holds the items that it held.
     pub fn reserve(&mut self, additional: usize) -> Result<()>
-        // The items stay, and `additional` more fit.
+        // The items stay; after `Ok`, `additional` more fit.
         ensures items { self.new.items ≡ self.old.items }
         ensures ok { OnOk result (length self.old.items + additional ≤ self.new.capacity) }
         // When each error comes, and when none does.

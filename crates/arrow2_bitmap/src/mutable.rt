@@ -262,8 +262,8 @@ impl MutableBitmap {
     /// `Overflow` exactly where the length plus `additional` would pass `usize::MAX`, else `OutOfMemory` alone. After
     /// either error, the bitmap holds the items that it held.
     pub fn reserve(&mut self, additional: usize) -> Result<()>
-        // The items stay, and `additional` more fit. `within_capacity` holds for every `MutableBitmap`: the length is
-        // at most the capacity.
+        // The items stay; after `Ok`, `additional` more fit. `within_capacity` holds for every `MutableBitmap`: the
+        // length is at most the capacity.
         ensures items { self.new.items ≡ self.old.items }
         ensures ok { OnOk result (length self.old.items + additional ≤ self.new.capacity) }
         ensures within_capacity { length self.old.items ≤ self.old.capacity }

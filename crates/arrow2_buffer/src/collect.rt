@@ -69,8 +69,8 @@ fn filled<T: Drop, I: Iterator<Item = T>>(items: Vec<T>, source: &mut I) -> (Vec
     }
 }
 
-/// Reserves `LEAST_CAPACITY` for an empty vector. Otherwise reserves capacity for further items: three times as many as
-/// the vector has, but at least `SECOND_CAPACITY - LEAST_CAPACITY`.
+/// Reserves `LEAST_CAPACITY` for an empty vector. Otherwise reserves capacity for further items: three times the length
+/// of the vector, but at least `SECOND_CAPACITY - LEAST_CAPACITY`.
 fn grow_capacity<T>(items: &mut Vec<T>) -> Result<(), AllocError>
     ensures items { items.new.items ≡ items.old.items }
     ensures ok { OnOk result (vec_len items.new < vec_capacity items.new) }

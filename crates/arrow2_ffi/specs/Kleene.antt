@@ -12,8 +12,8 @@ use Rattle.arrow2_ffi.specs.declared.kleene.Nullable.{Nullable}
 use Rattle.arrow2_ffi.specs.declared.kleene_optional.Side.{Side}
 
 -- an operator on booleans and nulls
-abbrev pub Operator : Type 0
-Operator = Option Bool → Option Bool → Option Bool
+abbrev pub NullableOperator : Type 0
+NullableOperator = Option Bool → Option Bool → Option Bool
 
 -- values and their validity: for each of the two, the bytes and the first bit
 pub record Input : Type 0 where
@@ -38,7 +38,7 @@ parts_of left right = left.values ∷ left.validity ∷ right.values ∷ right.v
 
 -- the results of f for n items of both inputs are stored: their values by table `t` of two inputs, their validity by
 -- table `known` of four
-pub record StoresKleene (f : Operator) (t known n : ℕ) (left right : Input) (new_values new_validity : List ℕ) : Type 0 where
+pub record StoresKleene (f : NullableOperator) (t known n : ℕ) (left right : Input) (new_values new_validity : List ℕ) : Type 0 where
   -- item by item
   pub items : zipped (take n (bits new_values)) (take n (bits new_validity)) ≡ by_items f (items_of n left) (items_of n right)
   -- the values, also those of nulls
@@ -47,7 +47,7 @@ pub record StoresKleene (f : Operator) (t known n : ℕ) (left right : Input) (n
   pub validity : Stores new_validity n (each known (inputs_of n (parts_of left right)))
 
 -- the code of a call that stores the results of f for n items of both inputs in `values` and `validity`
-abbrev pub WritesKleene : (code : ℕ) → Operator → (t known n : ℕ) → (left right : Input) → (values new_values validity new_validity : List ℕ) → Type 0
+abbrev pub WritesKleene : (code : ℕ) → NullableOperator → (t known n : ℕ) → (left right : Input) → (values new_values validity new_validity : List ℕ) → Type 0
 WritesKleene code f t known n left right values new_values validity new_validity = Writes code (AreInside n (parts_of left right)) (HasBytesForBits values n × HasBytesForBits validity n) (StoresKleene f t known n left right new_values new_validity) ((new_values ≡ values) × (new_validity ≡ validity))
 
 -- values, and their validity, which may be missing where no item is null
@@ -86,7 +86,7 @@ pub record AgreesWhereOneIsValid (paired known : ℕ) : Type 0 where
 
 -- the results of f for n items of both inputs are stored: their values by table `t` of two inputs, their validity by
 -- table `known` of four
-pub record StoresOptionalKleene (f : Operator) (t known n : ℕ) (left right : OptionalInput) (new_values new_validity : List ℕ) : Type 0 where
+pub record StoresOptionalKleene (f : NullableOperator) (t known n : ℕ) (left right : OptionalInput) (new_values new_validity : List ℕ) : Type 0 where
   -- item by item
   pub items : zipped (take n (bits new_values)) (take n (bits new_validity)) ≡ by_items f (zipped (first_values n left) (first_valid n left)) (zipped (first_values n right) (first_valid n right))
   -- the values, also those of nulls
@@ -95,7 +95,7 @@ pub record StoresOptionalKleene (f : Operator) (t known n : ℕ) (left right : O
   pub validity : Stores new_validity n (each known (first_parts n left right))
 
 -- the code of a call that stores the results of f for n items of both inputs in `values` and `validity`
-abbrev pub WritesOptionalKleene : (code : ℕ) → Operator → (t known n : ℕ) → (left right : OptionalInput) → (values new_values validity new_validity : List ℕ) → Type 0
+abbrev pub WritesOptionalKleene : (code : ℕ) → NullableOperator → (t known n : ℕ) → (left right : OptionalInput) → (values new_values validity new_validity : List ℕ) → Type 0
 WritesOptionalKleene code f t known n left right values new_values validity new_validity = Writes code (IsWholeInside n left × IsWholeInside n right) (HasBytesForBits values n × HasBytesForBits validity n) (StoresOptionalKleene f t known n left right new_values new_validity) ((new_values ≡ values) × (new_validity ≡ validity))
 
 -- the code of a call that stores `and` by Kleene's logic of n items of both inputs: its values are those of table 8, its

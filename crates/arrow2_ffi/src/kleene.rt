@@ -4,7 +4,7 @@
 //! have exactly the number of bytes that hold `length` bits. Their padding bits become 0. Each value of the result is
 //! the operator applied to the two values, also where the result is null.
 ghost use Rattle.arrow2_array.specs.Kleene.{TablesCompute};
-ghost use Rattle.arrow2_ffi.specs.Kleene.{Operator, WritesKleene, WritesKleeneAnd, WritesKleeneOr, input, input_of};
+ghost use Rattle.arrow2_ffi.specs.Kleene.{NullableOperator, WritesKleene, WritesKleeneAnd, WritesKleeneOr, input, input_of};
 
 use crate::bits_input::{Bits, are_both_inside, hold};
 use crate::codes::{ARROW2_LENGTH, ARROW2_OK, ARROW2_RANGE};
@@ -96,7 +96,7 @@ fn write<const VALUES: u8, const KNOWN: u16>(
     values: &mut [u8],
     validity: &mut [u8],
 ) -> u32
-    ensures { (f : Operator) → TablesCompute VALUES KNOWN f →
+    ensures { (f : NullableOperator) → TablesCompute VALUES KNOWN f →
         WritesKleene result f VALUES KNOWN length (input_of left.entry) (input_of right.entry)
         values.old values.new validity.old validity.new }
 {

@@ -4,7 +4,7 @@
 ghost use Rattle.std.specs.Prelude.{◌↔◌, IsTrue};
 ghost use Rattle.arrow2_model.specs.Tables.{each};
 ghost use Rattle.arrow2_array.specs.Kleene.{TablesCompute};
-ghost use Rattle.arrow2_ffi.specs.Kleene.{AgreesWhereOneIsValid, IsWholeInside, Operator, WritesOptionalKleene, WritesOptionalKleeneAnd, WritesOptionalKleeneOr, first_parts, optional_input, optional_of};
+ghost use Rattle.arrow2_ffi.specs.Kleene.{AgreesWhereOneIsValid, IsWholeInside, NullableOperator, WritesOptionalKleene, WritesOptionalKleeneAnd, WritesOptionalKleeneOr, first_parts, optional_input, optional_of};
 ghost use Rattle.arrow2_ffi.specs.Ranges.{HasBytesForBits};
 ghost use Rattle.arrow2_ffi.specs.Writes.{Stores};
 
@@ -108,7 +108,7 @@ fn write<const VALUES: u8, const KNOWN: u16, const PAIRED: u8>(
     values: &mut [u8],
     validity: &mut [u8],
 ) -> u32
-    ensures { (f : Operator) → TablesCompute VALUES KNOWN f → AgreesWhereOneIsValid PAIRED KNOWN →
+    ensures { (f : NullableOperator) → TablesCompute VALUES KNOWN f → AgreesWhereOneIsValid PAIRED KNOWN →
         WritesOptionalKleene result f VALUES KNOWN length (optional_of left.entry)
         (optional_of right.entry) values.old values.new validity.old validity.new }
 {

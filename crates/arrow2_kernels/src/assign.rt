@@ -57,8 +57,8 @@ fn word_at<T: BitChunk>(bytes: &[u8], at: usize, count: usize) -> T
     T::from_ne_slice(&block[..T::SIZE])
 }
 
-/// Returns the bytes, followed by zeros. Requires that there are at most eight bytes. The function is inlined, since it
-/// is called for each word.
+/// Returns eight bytes that begin with these bytes. Requires that there are at most eight. The function is inlined,
+/// since it is called for each word.
 #[inline(always)]
 fn padded(bytes: &[u8]) -> [u8; 8]
     requires { length bytes.now ≤ 8 }

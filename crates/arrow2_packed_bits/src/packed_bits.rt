@@ -140,7 +140,7 @@ impl PackedBits {
     /// `Overflow` exactly where there would be more than `usize::MAX` items, else `OutOfMemory` where an allocation
     /// fails.
     pub fn reserve(&mut self, additional: usize) -> Result<(), GrowthError>
-        // The items stay, and `additional` more fit.
+        // The items stay; after `Ok`, `additional` more fit.
         ensures items { self.new.items ≡ self.old.items }
         ensures ok { OnOk result (length self.old.items + additional ≤ self.new.capacity) }
         // Facts that the type guarantees.

@@ -242,7 +242,7 @@ impl<T: NativeType> MutablePrimitiveArray<T> {
     /// `Overflow` exactly where the sum of the length and `additional` passes `usize::MAX`, else `OutOfMemory` alone.
     /// After either error, the array holds the items that it held.
     pub fn reserve(&mut self, additional: usize) -> Result<()>
-        // The array stays, and `additional` more items fit.
+        // The array stays; after `Ok`, `additional` more items fit.
         ensures items { self.new.items ≡ self.old.items }
         ensures data_type { self.new.data_type ≡ self.old.data_type }
         ensures ok { OnOk result (length self.old.items + additional ≤ self.new.capacity) }
