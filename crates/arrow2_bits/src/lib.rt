@@ -38,7 +38,8 @@ pub fn is_set(byte: u8, i: usize) -> bool
     requires { i < 8 }
     ensures { result ≡ bit byte i }
 {
-    (byte >> i) & 1 == 1
+    // In a loop over bits, a shift of 64 bits lets the compiler keep one counter; a shorter one costs a second counter.
+    (u64::from(byte) >> i) & 1 == 1
 }
 
 /// Returns the byte with bit `i` set to `value` and every other bit as it was. Requires that `i` is below 8.
