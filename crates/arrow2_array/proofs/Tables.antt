@@ -11,105 +11,69 @@ use Rattle.arrow2_array.specs.Kleene.{kleene_and, kleene_or, by_items, TablesCom
 use Rattle.arrow2_array.specs.declared.kleene.Operator.{Operator}
 use Rattle.arrow2_array.specs.declared.kleene.Operator.TheVariants.{And, Or}
 
+-- ---- functions of up to four booleans, which are equal where all their values are
+
+module _ {X : Type 0} where
+  abbrev values1 : (Bool → X) → X × X
+  values1 f = (f true, f false)
+
+  abbrev values2 : (Bool → Bool → X) → (X × X) × (X × X)
+  values2 f = (values1 (f true), values1 (f false))
+
+  abbrev values3 : (Bool → Bool → Bool → X) → ((X × X) × (X × X)) × ((X × X) × (X × X))
+  values3 f = (values2 (f true), values2 (f false))
+
+  same1 : (f g : Bool → X) → values1 f ≡ values1 g → (a : Bool) → f a ≡ g a
+  same1 f g e true = ap (λ v. v.0) e
+  same1 f g e false = ap (λ v. v.1) e
+
+  same2 : (f g : Bool → Bool → X) → values2 f ≡ values2 g → (a b : Bool) → f a b ≡ g a b
+  same2 f g e true = same1 (f true) (g true) (ap (λ v. v.0) e)
+  same2 f g e false = same1 (f false) (g false) (ap (λ v. v.1) e)
+
+  same3 : (f g : Bool → Bool → Bool → X) → values3 f ≡ values3 g → (a b c : Bool) → f a b c ≡ g a b c
+  same3 f g e true = same2 (f true) (g true) (ap (λ v. v.0) e)
+  same3 f g e false = same2 (f false) (g false) (ap (λ v. v.1) e)
+
+  same4 : (f g : Bool → Bool → Bool → Bool → X) → values3 (f true) ≡ values3 (g true) → values3 (f false) ≡ values3 (g false) → (a b c d : Bool) → f a b c d ≡ g a b c d
+  same4 f g e h true = same3 (f true) (g true) e
+  same4 f g e h false = same3 (f false) (g false) h
+
 -- ---- one item
 
 pub and_known : (a b : Bool) → answer 53060 (a ∷ true ∷ b ∷ true ∷ []) ≡ true
 unfolding bit
-and_known true true = refl
-and_known true false = refl
-and_known false true = refl
-and_known false false = refl
+and_known = same2 (λ a b. answer 53060 (a ∷ true ∷ b ∷ true ∷ [])) (λ a b. true) refl
 
 pub or_known : (a b : Bool) → answer 64648 (a ∷ true ∷ b ∷ true ∷ []) ≡ true
 unfolding bit
-or_known true true = refl
-or_known true false = refl
-or_known false true = refl
-or_known false false = refl
+or_known = same2 (λ a b. answer 64648 (a ∷ true ∷ b ∷ true ∷ [])) (λ a b. true) refl
 
 -- with an item that is not null, which comes second or first
 
 pub and_paired : (a n b : Bool) → answer 207 (a ∷ n ∷ b ∷ []) ≡ answer 53060 (a ∷ n ∷ b ∷ true ∷ [])
 unfolding bit
-and_paired true true true = refl
-and_paired true true false = refl
-and_paired true false true = refl
-and_paired true false false = refl
-and_paired false true true = refl
-and_paired false true false = refl
-and_paired false false true = refl
-and_paired false false false = refl
+and_paired = same3 (λ a n b. answer 207 (a ∷ n ∷ b ∷ [])) (λ a n b. answer 53060 (a ∷ n ∷ b ∷ true ∷ [])) refl
 
 pub and_following : (a b m : Bool) → answer 207 (b ∷ m ∷ a ∷ []) ≡ answer 53060 (a ∷ true ∷ b ∷ m ∷ [])
 unfolding bit
-and_following true true true = refl
-and_following true true false = refl
-and_following true false true = refl
-and_following true false false = refl
-and_following false true true = refl
-and_following false true false = refl
-and_following false false true = refl
-and_following false false false = refl
+and_following = same3 (λ a b m. answer 207 (b ∷ m ∷ a ∷ [])) (λ a b m. answer 53060 (a ∷ true ∷ b ∷ m ∷ [])) refl
 
 pub or_paired : (a n b : Bool) → answer 252 (a ∷ n ∷ b ∷ []) ≡ answer 64648 (a ∷ n ∷ b ∷ true ∷ [])
 unfolding bit
-or_paired true true true = refl
-or_paired true true false = refl
-or_paired true false true = refl
-or_paired true false false = refl
-or_paired false true true = refl
-or_paired false true false = refl
-or_paired false false true = refl
-or_paired false false false = refl
+or_paired = same3 (λ a n b. answer 252 (a ∷ n ∷ b ∷ [])) (λ a n b. answer 64648 (a ∷ n ∷ b ∷ true ∷ [])) refl
 
 pub or_following : (a b m : Bool) → answer 252 (b ∷ m ∷ a ∷ []) ≡ answer 64648 (a ∷ true ∷ b ∷ m ∷ [])
 unfolding bit
-or_following true true true = refl
-or_following true true false = refl
-or_following true false true = refl
-or_following true false false = refl
-or_following false true true = refl
-or_following false true false = refl
-or_following false false true = refl
-or_following false false false = refl
+or_following = same3 (λ a b m. answer 252 (b ∷ m ∷ a ∷ [])) (λ a b m. answer 64648 (a ∷ true ∷ b ∷ m ∷ [])) refl
 
 pub and_spelled : TablesCompute 8 53060 kleene_and
 unfolding bit
-and_spelled true true true true = refl
-and_spelled true true true false = refl
-and_spelled true true false true = refl
-and_spelled true true false false = refl
-and_spelled true false true true = refl
-and_spelled true false true false = refl
-and_spelled true false false true = refl
-and_spelled true false false false = refl
-and_spelled false true true true = refl
-and_spelled false true true false = refl
-and_spelled false true false true = refl
-and_spelled false true false false = refl
-and_spelled false false true true = refl
-and_spelled false false true false = refl
-and_spelled false false false true = refl
-and_spelled false false false false = refl
+and_spelled = same4 (λ a n b m. slot (answer 8 (a ∷ b ∷ [])) (answer 53060 (a ∷ n ∷ b ∷ m ∷ []))) (λ a n b m. kleene_and (slot a n) (slot b m)) refl refl
 
 pub or_spelled : TablesCompute 14 64648 kleene_or
 unfolding bit
-or_spelled true true true true = refl
-or_spelled true true true false = refl
-or_spelled true true false true = refl
-or_spelled true true false false = refl
-or_spelled true false true true = refl
-or_spelled true false true false = refl
-or_spelled true false false true = refl
-or_spelled true false false false = refl
-or_spelled false true true true = refl
-or_spelled false true true false = refl
-or_spelled false true false true = refl
-or_spelled false true false false = refl
-or_spelled false false true true = refl
-or_spelled false false true false = refl
-or_spelled false false false true = refl
-or_spelled false false false false = refl
+or_spelled = same4 (λ a n b m. slot (answer 14 (a ∷ b ∷ [])) (answer 64648 (a ∷ n ∷ b ∷ m ∷ []))) (λ a n b m. kleene_or (slot a n) (slot b m)) refl refl
 
 -- ---- an operator's tables
 

@@ -1,9 +1,9 @@
 -- Tables of fewer inputs within tables of more.
-use Rattle.std.proofs.Common.{◌≡◌, ℕ, zero, suc, ◌+◌, ◌/◌, ◌^◌, ◌<◌, ◌&&◌, ◌||◌, not, [], ◌∷◌, Bool, true, false, map, cond, refl, ap, sym, ◌∙◌, arith}
+use Rattle.std.proofs.Common.{◌≡◌, ℕ, zero, suc, ◌+◌, ◌/◌, ◌^◌, ◌<◌, ◌&&◌, ◌||◌, not, List, [], ◌∷◌, ◌++◌, Bool, true, false, map, cond, length, refl, ap, sym, ◌∙◌, arith}
 use lib.Lanes.{zip2}
 use mathlib.Core.Bool.{xor}
-use Rattle.std.proofs.Math.Nat.{div-div-eq-div-mul, div-one, pow-succ'}
-use Rattle.arrow2_model.specs.Bits.{bit, unnum}
+use Rattle.std.proofs.Math.Nat.{div-div-eq-div-mul, div-one, pow-suc, pow-succ'}
+use Rattle.arrow2_model.specs.Bits.{bit, num, unnum}
 use Rattle.arrow2_model.specs.Tables.{answer}
 use Rattle.arrow2_model.proofs.Tables.{bit-zip2, bit-map}
 
@@ -51,39 +51,16 @@ pub unary_output : (t : ℕ) (a low high : Bool) → high ≡ bit t 1 → low �
 unary_output t true low high h l = h
 unary_output t false low high h l = l
 
--- one input more: the other half of the table
-pub binary_output : (t : ℕ) (a b : Bool) → cond b (answer (t / 2 ^ 2) (a ∷ [])) (answer t (a ∷ [])) ≡ answer t (a ∷ b ∷ [])
-binary_output t true true = bit_down 2 1 t
-binary_output t true false = refl
-binary_output t false true = bit_down 2 0 t
-binary_output t false false = refl
+-- the number of a list with one item more: for a true one, 2 ^ k more, where k is the length of the list
+num-end : (xs : List Bool) (x : Bool) → num (xs ++ x ∷ []) ≡ cond x (2 ^ length xs + num xs) (num xs)
+num-end [] true = omega arith
+num-end [] false = omega arith
+num-end (true ∷ xs) true = let e = num-end xs true in let p = pow-suc 2 (length xs) in omega (arith, e, p)
+num-end (false ∷ xs) true = let e = num-end xs true in let p = pow-suc 2 (length xs) in omega (arith, e, p)
+num-end (true ∷ xs) false = let e = num-end xs false in omega (arith, e)
+num-end (false ∷ xs) false = let e = num-end xs false in omega (arith, e)
 
 -- one input more: the other half of the table
-pub ternary_output : (t : ℕ) (a b c : Bool) → cond c (answer (t / 2 ^ 4) (a ∷ b ∷ [])) (answer t (a ∷ b ∷ [])) ≡ answer t (a ∷ b ∷ c ∷ [])
-ternary_output t true true true = bit_down 4 3 t
-ternary_output t true true false = refl
-ternary_output t true false true = bit_down 4 1 t
-ternary_output t true false false = refl
-ternary_output t false true true = bit_down 4 2 t
-ternary_output t false true false = refl
-ternary_output t false false true = bit_down 4 0 t
-ternary_output t false false false = refl
-
--- one input more: the other half of the table
-pub quaternary_output : (t : ℕ) (a b c d : Bool) → cond d (answer (t / 2 ^ 8) (a ∷ b ∷ c ∷ [])) (answer t (a ∷ b ∷ c ∷ [])) ≡ answer t (a ∷ b ∷ c ∷ d ∷ [])
-quaternary_output t true true true true = bit_down 8 7 t
-quaternary_output t true true true false = refl
-quaternary_output t true true false true = bit_down 8 3 t
-quaternary_output t true true false false = refl
-quaternary_output t true false true true = bit_down 8 5 t
-quaternary_output t true false true false = refl
-quaternary_output t true false false true = bit_down 8 1 t
-quaternary_output t true false false false = refl
-quaternary_output t false true true true = bit_down 8 6 t
-quaternary_output t false true true false = refl
-quaternary_output t false true false true = bit_down 8 2 t
-quaternary_output t false true false false = refl
-quaternary_output t false false true true = bit_down 8 4 t
-quaternary_output t false false true false = refl
-quaternary_output t false false false true = bit_down 8 0 t
-quaternary_output t false false false false = refl
+pub wider_output : (t : ℕ) (xs : List Bool) (x : Bool) → cond x (answer (t / 2 ^ (2 ^ length xs)) xs) (answer t xs) ≡ answer t (xs ++ x ∷ [])
+wider_output t xs true = bit_down (2 ^ length xs) (num xs) t ∙ ap (bit t) (sym (num-end xs true))
+wider_output t xs false = ap (bit t) (sym (num-end xs false))

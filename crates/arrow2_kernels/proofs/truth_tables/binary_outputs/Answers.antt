@@ -1,6 +1,6 @@
-use Rattle.std.proofs.Common.{◌∙◌, Bool, cond, ap}
+use Rattle.std.proofs.Common.{◌∙◌, [], ◌∷◌, Bool, cond, ap}
 use Rattle.arrow2_model.specs.Bits.{bit}
-use Rattle.arrow2_kernels.proofs.TableSteps.{binary_output}
+use Rattle.arrow2_kernels.proofs.TableSteps.{wider_output}
 use Rattle.arrow2_kernels.proofs.truth_tables.binary_outputs.Goals as goal
 
 pub returns : goal.returns
@@ -8,5 +8,5 @@ returns g c = record {
   results = λ i h.
       let x : Bool = bit (g.T.BitChunk.number c.args.x) i in
       let y : Bool = bit (g.T.BitChunk.number c.args.y) i in
-      c.chosen.ensures i h ∙ (ap (λ t. cond y t (bit (g.T.BitChunk.number c.unary_outputs-no.result) i)) (c.unary_outputs-yes.ensures.results i h) ∙ (ap (cond y _) (c.unary_outputs-no.ensures.results i h) ∙ binary_output c.args.table x y));
+      c.chosen.ensures i h ∙ (ap (λ t. cond y t (bit (g.T.BitChunk.number c.unary_outputs-no.result) i)) (c.unary_outputs-yes.ensures.results i h) ∙ (ap (cond y _) (c.unary_outputs-no.ensures.results i h) ∙ wider_output c.args.table (x ∷ []) y));
 }
