@@ -21,10 +21,10 @@ use std::ops::{BitAnd, BitAndAssign, BitOr, BitOrAssign, BitXor, BitXorAssign, N
 pub fn unary_assign<T: BitChunk, F: Fn(T) -> T>(bitmap: &mut MutableBitmap, op: F)
     requires callable { F.IsAlwaysCallable op }
     // If the results of `op` are those of a mathematical function `f` on words:
-    ensures kernel { (f : ℕ → ℕ) → ComputesUnary T.BitChunk.WIDTH T.BitChunk.number (F.post op) f →
-        bitmap.new.items ≡ unary_kernel T.BitChunk.WIDTH f bitmap.old.items }
+    ensures kernel { (f : ℕ → ℕ) → ComputesUnary T.WIDTH T.number (F.post op) f →
+        bitmap.new.items ≡ unary_kernel T.WIDTH f bitmap.old.items }
     // For every truth table `t` by which `op` computes each bit: the items are the outputs of `t`.
-    ensures table { (t : ℕ) → IsBitwiseUnary T.BitChunk.WIDTH T.BitChunk.number (F.post op) t →
+    ensures table { (t : ℕ) → IsBitwiseUnary T.WIDTH T.number (F.post op) t →
         bitmap.new.items ≡ each t (bitmap.old.items ∷ []) }
     ensures len { length bitmap.new.items ≡ length bitmap.old.items }
     ensures capacity { bitmap.new.capacity ≡ bitmap.old.capacity }
@@ -42,10 +42,10 @@ pub fn binary_assign<T: BitChunk, F: Fn(T, T) -> T>(lhs: &mut MutableBitmap, rhs
     requires callable { F.IsAlwaysCallable op }
     requires same_length { length lhs.old.items ≡ length (items_of rhs.now) }
     // If the results of `op` are those of a mathematical function `f` on words:
-    ensures kernel { (f : ℕ → ℕ → ℕ) → ComputesBinary T.BitChunk.WIDTH T.BitChunk.number (F.post op) f →
-        lhs.new.items ≡ binary_kernel T.BitChunk.WIDTH f lhs.old.items (items_of rhs.now) }
+    ensures kernel { (f : ℕ → ℕ → ℕ) → ComputesBinary T.WIDTH T.number (F.post op) f →
+        lhs.new.items ≡ binary_kernel T.WIDTH f lhs.old.items (items_of rhs.now) }
     // For every truth table `t` by which `op` computes each bit: the items are the outputs of `t`.
-    ensures table { (t : ℕ) → IsBitwiseBinary T.BitChunk.WIDTH T.BitChunk.number (F.post op) t →
+    ensures table { (t : ℕ) → IsBitwiseBinary T.WIDTH T.number (F.post op) t →
         lhs.new.items ≡ each t (lhs.old.items ∷ items_of rhs.now ∷ []) }
     ensures len { length lhs.new.items ≡ length lhs.old.items }
     ensures capacity { lhs.new.capacity ≡ lhs.old.capacity }
@@ -68,10 +68,10 @@ fn assign_chunks<T: BitChunk, I: BitChunkIterExact<T> + Drop, F: Fn(T, T) -> T>(
     requires callable { F.IsAlwaysCallable op }
     requires same_length { length lhs.old.items ≡ length (I.cursor chunks).items }
     // If the results of `op` are those of a mathematical function `f` on words:
-    ensures kernel { (f : ℕ → ℕ → ℕ) → ComputesBinary T.BitChunk.WIDTH T.BitChunk.number (F.post op) f →
-        lhs.new.items ≡ binary_kernel T.BitChunk.WIDTH f lhs.old.items (I.cursor chunks).items }
+    ensures kernel { (f : ℕ → ℕ → ℕ) → ComputesBinary T.WIDTH T.number (F.post op) f →
+        lhs.new.items ≡ binary_kernel T.WIDTH f lhs.old.items (I.cursor chunks).items }
     // For every truth table `t` by which `op` computes each bit: the items are the outputs of `t`.
-    ensures table { (t : ℕ) → IsBitwiseBinary T.BitChunk.WIDTH T.BitChunk.number (F.post op) t →
+    ensures table { (t : ℕ) → IsBitwiseBinary T.WIDTH T.number (F.post op) t →
         lhs.new.items ≡ each t (lhs.old.items ∷ (I.cursor chunks).items ∷ []) }
     ensures len { length lhs.new.items ≡ length lhs.old.items }
     ensures capacity { lhs.new.capacity ≡ lhs.old.capacity }

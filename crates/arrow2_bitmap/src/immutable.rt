@@ -408,7 +408,7 @@ impl Bitmap {
     pub fn chunks<T: BitChunk>(&self) -> BitChunks<'_, T>
         ensures items { result.items ≡ items_of self.now }
         ensures fits { length (items_of self.now) < 2 ^ 64 }
-        ensures spill { result.spill ≡ spill T.BitChunk.SIZE self.now.bytes
+        ensures spill { result.spill ≡ spill T.SIZE self.now.bytes
             self.now.offset self.now.len }
     {
         BitChunks::new(self.bytes.as_slice(), self.offset, self.length)

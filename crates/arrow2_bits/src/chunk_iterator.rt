@@ -23,21 +23,21 @@ pub trait BitChunkIterExact<B: BitChunk>: Iterator<Item = B> {
     /// word has, they are whatever bits are stored after the remainder. So mask the word to
     /// [`BitChunkIterExact::remainder_len`] bits.
     fn remainder(&self) -> B
-        ensures spill { B.BitChunk.number result ≡ (cursor self.now).spill }
-        ensures rest { take (length (rest B.BitChunk.WIDTH (cursor self.now).items))
-            (unnum B.BitChunk.WIDTH (B.BitChunk.number result))
-            ≡ rest B.BitChunk.WIDTH (cursor self.now).items };
+        ensures spill { B.number result ≡ (cursor self.now).spill }
+        ensures rest { take (length (rest B.WIDTH (cursor self.now).items))
+            (unnum B.WIDTH (B.number result))
+            ≡ rest B.WIDTH (cursor self.now).items };
 
     /// Returns the number of items of the remainder: fewer than a word has. The number of all items still to come fits
     /// a `usize`.
     fn remainder_len(&self) -> usize
-        ensures rest { result ≡ length (rest B.BitChunk.WIDTH (cursor self.now).items) }
-        ensures short { result < B.BitChunk.WIDTH }
+        ensures rest { result ≡ length (rest B.WIDTH (cursor self.now).items) }
+        ensures short { result < B.WIDTH }
         ensures fits { length (cursor self.now).items < 2 ^ 64 };
 
     /// Returns an iterator over the items of the remainder.
     final fn remainder_iter(&self) -> BitChunkIter<B>
-        ensures { result ≡ rest B.BitChunk.WIDTH (cursor self.now).items }
+        ensures { result ≡ rest B.WIDTH (cursor self.now).items }
     {
         BitChunkIter::new(self.remainder(), self.remainder_len())
     }
@@ -49,7 +49,7 @@ pub trait BitChunkIterExact<B: BitChunk>: Iterator<Item = B> {
 
     // Each step gives the first full word, and the remainder stays.
     ghost gives_law: { (s : Self) (r : Option B) (t : Self) → Self.next_gives s r t →
-        GivesWord B.BitChunk.WIDTH B.BitChunk.number cursor s r t };
+        GivesWord B.WIDTH B.number cursor s r t };
 }
 
 /// The iterator over bits from any bit offset on: contracts see the items still to come and the word of the remainder.
@@ -73,12 +73,12 @@ impl<'a, T: BitChunk> Model for BitChunks<'a, T> {
 
     ghost view = { λ c. record {
       items = part (bits c.bytes.now) c.shift
-          (T.BitChunk.WIDTH * c.count + c.remainder_len);
-      spill = T.BitChunk.number c.remainder;
+          (T.WIDTH * c.count + c.remainder_len);
+      spill = T.number c.remainder;
     } };
 
-    ghost invariant = { λ c. IsChunkCursor T.BitChunk.WIDTH c.bytes.now c.shift c.count
-        c.remainder_len (T.BitChunk.number c.remainder) };
+    ghost invariant = { λ c. IsChunkCursor T.WIDTH c.bytes.now c.shift c.count
+        c.remainder_len (T.number c.remainder) };
 }
 
 impl<'a, T: BitChunk> BitChunks<'a, T> {
@@ -87,7 +87,7 @@ impl<'a, T: BitChunk> BitChunks<'a, T> {
         requires { offset + len ≤ 8 * length bytes.now }
         ensures items { result.items ≡ part (bits bytes.entry.now) offset len }
         ensures count { length result.items ≡ len }
-        ensures spill { result.spill ≡ spill T.BitChunk.SIZE bytes.entry.now offset len }
+        ensures spill { result.spill ≡ spill T.SIZE bytes.entry.now offset len }
     {
         let bytes = &bytes[offset / 8..];
         let shift = offset % 8;
@@ -105,7 +105,7 @@ impl<'a, T: BitChunk> BitChunks<'a, T> {
 
     /// Returns the number of full words still to come. arrow2's result is one fewer where any full word is left.
     pub fn len(&self) -> usize
-        ensures { result ≡ length (full_words T.BitChunk.WIDTH self.now.items) }
+        ensures { result ≡ length (full_words T.WIDTH self.now.items) }
     {
         self.count
     }
@@ -115,10 +115,10 @@ impl<'a, T: BitChunk> BitChunks<'a, T> {
     /// has, they are whatever bits are stored after the remainder. So mask the word to [`BitChunks::remainder_len`]
     /// bits.
     pub fn remainder(&self) -> T
-        ensures spill { T.BitChunk.number result ≡ self.now.spill }
-        ensures rest { take (length (rest T.BitChunk.WIDTH self.now.items))
-            (unnum T.BitChunk.WIDTH (T.BitChunk.number result))
-            ≡ rest T.BitChunk.WIDTH self.now.items }
+        ensures spill { T.number result ≡ self.now.spill }
+        ensures rest { take (length (rest T.WIDTH self.now.items))
+            (unnum T.WIDTH (T.number result))
+            ≡ rest T.WIDTH self.now.items }
     {
         self.remainder
     }
@@ -126,8 +126,8 @@ impl<'a, T: BitChunk> BitChunks<'a, T> {
     /// Returns the number of items of the remainder: fewer than a word has. The number of all items still to come fits
     /// a `usize`.
     pub fn remainder_len(&self) -> usize
-        ensures rest { result ≡ length (rest T.BitChunk.WIDTH self.now.items) }
-        ensures short { result < T.BitChunk.WIDTH }
+        ensures rest { result ≡ length (rest T.WIDTH self.now.items) }
+        ensures short { result < T.WIDTH }
         ensures fits { length self.now.items < 2 ^ 64 }
     {
         self.remainder_len
@@ -155,9 +155,9 @@ impl<'a, T: BitChunk> BitChunkIterExact<T> for BitChunks<'a, T> {
 impl<'a, T: BitChunk> Iterator for BitChunks<'a, T> {
     type Item = T;
 
-    ghost next_gives = { GivesWord T.BitChunk.WIDTH T.BitChunk.number (λ s. s) };
+    ghost next_gives = { GivesWord T.WIDTH T.number (λ s. s) };
 
-    ghost remaining = { item_count (λ s. full_words T.BitChunk.WIDTH s.items) };
+    ghost remaining = { item_count (λ s. full_words T.WIDTH s.items) };
 
     fn next(&mut self) -> Option<T> {
         if self.count == 0 {
@@ -172,11 +172,11 @@ impl<'a, T: BitChunk> Iterator for BitChunks<'a, T> {
     /// Returns the number of full words still to come as both bounds.
     fn size_hint(&self) -> (usize, Option<usize>)
         ensures lower { IsWithinCount result.0 (item_count (λ s.
-            full_words T.BitChunk.WIDTH s.items) self.now) }
+            full_words T.WIDTH s.items) self.now) }
         ensures upper { IfSome result.1 (UpTo (item_count (λ s.
-            full_words T.BitChunk.WIDTH s.items) self.now)) }
-        ensures exact { (result.0 ≡ length (full_words T.BitChunk.WIDTH self.now.items))
-            × (result.1 ≡ Some (length (full_words T.BitChunk.WIDTH self.now.items))) }
+            full_words T.WIDTH s.items) self.now)) }
+        ensures exact { (result.0 ≡ length (full_words T.WIDTH self.now.items))
+            × (result.1 ≡ Some (length (full_words T.WIDTH self.now.items))) }
     {
         let left = self.len();
         (left, Some(left))

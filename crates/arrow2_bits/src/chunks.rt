@@ -11,10 +11,10 @@ use arrow2_chunk::BitChunk;
 /// Takes one load where `shift` is 0, else two loads that overlap, two shifts and an or.
 pub(crate) fn chunk_at<T: BitChunk>(bytes: &[u8], shift: usize) -> T
     requires position { shift < 8 }
-    requires within { shift + T.BitChunk.WIDTH ≤ 8 * length bytes.now }
-    ensures bits { unnum T.BitChunk.WIDTH (T.BitChunk.number result)
-        ≡ part (bits bytes.now) shift T.BitChunk.WIDTH }
-    ensures fits { T.BitChunk.number result < 2 ^ T.BitChunk.WIDTH }
+    requires within { shift + T.WIDTH ≤ 8 * length bytes.now }
+    ensures bits { unnum T.WIDTH (T.number result)
+        ≡ part (bits bytes.now) shift T.WIDTH }
+    ensures fits { T.number result < 2 ^ T.WIDTH }
 {
     let low = T::from_ne_slice(&bytes[..T::SIZE]);
     if shift == 0 {
@@ -28,8 +28,8 @@ pub(crate) fn chunk_at<T: BitChunk>(bytes: &[u8], shift: usize) -> T
 /// below 8.
 pub(crate) fn padded_chunk_at<T: BitChunk>(bytes: &[u8], shift: usize) -> T
     requires { shift < 8 }
-    ensures number { T.BitChunk.number result ≡ num (part (bits bytes.now) shift T.BitChunk.WIDTH) }
-    ensures fits { T.BitChunk.number result < 2 ^ T.BitChunk.WIDTH }
+    ensures number { T.number result ≡ num (part (bits bytes.now) shift T.WIDTH) }
+    ensures fits { T.number result < 2 ^ T.WIDTH }
 {
     if bytes.len() > T::SIZE {
         return chunk_at(bytes, shift);

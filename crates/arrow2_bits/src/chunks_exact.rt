@@ -32,7 +32,7 @@ impl<'a, T: BitChunk> BitChunksExact<'a, T> {
         requires { len ≤ 8 * length bytes.now }
         ensures items { result.items ≡ part (bits bytes.entry.now) 0 len }
         ensures count { length result.items ≡ len }
-        ensures spill { result.spill ≡ exact_spill T.BitChunk.SIZE bytes.entry.now len }
+        ensures spill { result.spill ≡ exact_spill T.SIZE bytes.entry.now len }
     {
         BitChunksExact {
             chunks: BitChunks::new(&bytes[..bytes_for(len)], 0, len),
@@ -41,14 +41,14 @@ impl<'a, T: BitChunk> BitChunksExact<'a, T> {
 
     /// Returns the number of full words still to come.
     pub fn len(&self) -> usize
-        ensures { result ≡ length (full_words T.BitChunk.WIDTH self.now.items) }
+        ensures { result ≡ length (full_words T.WIDTH self.now.items) }
     {
         BitChunks::len(&self.chunks)
     }
 
     /// Returns whether no full word is still to come.
     pub fn is_empty(&self) -> bool
-        ensures { IsTrue result ↔ (length (full_words T.BitChunk.WIDTH self.now.items) ≡ 0) }
+        ensures { IsTrue result ↔ (length (full_words T.WIDTH self.now.items) ≡ 0) }
     {
         BitChunksExact::len(self) == 0
     }
@@ -59,10 +59,10 @@ impl<'a, T: BitChunk> BitChunksExact<'a, T> {
     /// The word is 0 where the items fill whole words, and may be 0 elsewhere too. arrow2's documentation states that
     /// it is 0 exactly where there are fewer than 8 items.
     pub fn remainder(&self) -> T
-        ensures spill { T.BitChunk.number result ≡ self.now.spill }
-        ensures rest { take (length (rest T.BitChunk.WIDTH self.now.items))
-            (unnum T.BitChunk.WIDTH (T.BitChunk.number result))
-            ≡ rest T.BitChunk.WIDTH self.now.items }
+        ensures spill { T.number result ≡ self.now.spill }
+        ensures rest { take (length (rest T.WIDTH self.now.items))
+            (unnum T.WIDTH (T.number result))
+            ≡ rest T.WIDTH self.now.items }
     {
         self.chunks.remainder()
     }
@@ -89,9 +89,9 @@ impl<'a, T: BitChunk> BitChunkIterExact<T> for BitChunksExact<'a, T> {
 impl<'a, T: BitChunk> Iterator for BitChunksExact<'a, T> {
     type Item = T;
 
-    ghost next_gives = { GivesWord T.BitChunk.WIDTH T.BitChunk.number (λ s. s) };
+    ghost next_gives = { GivesWord T.WIDTH T.number (λ s. s) };
 
-    ghost remaining = { item_count (λ s. full_words T.BitChunk.WIDTH s.items) };
+    ghost remaining = { item_count (λ s. full_words T.WIDTH s.items) };
 
     fn next(&mut self) -> Option<T> {
         self.chunks.next()
@@ -100,11 +100,11 @@ impl<'a, T: BitChunk> Iterator for BitChunksExact<'a, T> {
     /// Returns the number of full words still to come as both bounds.
     fn size_hint(&self) -> (usize, Option<usize>)
         ensures lower { IsWithinCount result.0 (item_count (λ s.
-            full_words T.BitChunk.WIDTH s.items) self.now) }
+            full_words T.WIDTH s.items) self.now) }
         ensures upper { IfSome result.1 (UpTo (item_count (λ s.
-            full_words T.BitChunk.WIDTH s.items) self.now)) }
-        ensures exact { (result.0 ≡ length (full_words T.BitChunk.WIDTH self.now.items))
-            × (result.1 ≡ Some (length (full_words T.BitChunk.WIDTH self.now.items))) }
+            full_words T.WIDTH s.items) self.now)) }
+        ensures exact { (result.0 ≡ length (full_words T.WIDTH self.now.items))
+            × (result.1 ≡ Some (length (full_words T.WIDTH self.now.items))) }
     {
         self.chunks.size_hint()
     }

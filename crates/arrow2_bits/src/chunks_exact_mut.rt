@@ -51,15 +51,15 @@ impl<'a, T: BitChunk> BitChunksExactMut<'a, T> {
         requires { len ≤ 8 * length bytes.old }
         // The bytes of the full chunks. The first chunk comes next.
         ensures bytes { result.bytes ≡ take
-            (T.NativeType.SIZE * (len / 8 / T.NativeType.SIZE)) bytes.old }
+            (T.SIZE * (len / 8 / T.SIZE)) bytes.old }
         ensures at { result.at ≡ 0 }
-        ensures size { result.size ≡ T.NativeType.SIZE }
-        ensures left { chunks_left result ≡ len / 8 / T.NativeType.SIZE }
+        ensures size { result.size ≡ T.SIZE }
+        ensures left { chunks_left result ≡ len / 8 / T.SIZE }
         // The bytes after them, and the number of their bits.
-        ensures remainder { let full = T.NativeType.SIZE * (len / 8 / T.NativeType.SIZE) in
+        ensures remainder { let full = T.SIZE * (len / 8 / T.SIZE) in
             result.remainder ≡ part bytes.old full ((len + 7) / 8 - full) }
         ensures remainder_len { result.remainder_len
-            ≡ len - 8 * T.NativeType.SIZE * (len / 8 / T.NativeType.SIZE) }
+            ≡ len - 8 * T.SIZE * (len / 8 / T.SIZE) }
     {
         let size = T::SIZE;
         let count = len / 8 / size;

@@ -193,7 +193,7 @@ fn with_words<T: BitChunk, const N: usize>(
     times: usize,
 ) -> Counted
     // The words are inside the bytes, and no number overflows.
-    requires width { T.BitChunk.WIDTH ≡ 8 * N }
+    requires width { T.WIDTH ≡ 8 * N }
     requires once { times ≤ 1 }
     requires fits { counted.end + N * words * times < 2 ^ 64 }
     requires few { 8 * (counted.end + N * words * times - first) < 2 ^ 64 }
@@ -226,7 +226,7 @@ fn ones_in_words<T: BitChunk, const N: usize>(
     words: usize,
 ) -> usize
     // The words are inside the bytes, and neither the index of their end nor the number of their bits overflows.
-    requires width { T.BitChunk.WIDTH ≡ 8 * N }
+    requires width { T.WIDTH ≡ 8 * N }
     requires fits { first + N * words < 2 ^ 64 }
     requires few { 8 * (N * words) < 2 ^ 64 }
     requires inside { first + N * words ≤ length stored.old.bytes }

@@ -1,5 +1,5 @@
 -- The state of storage after a loan of it, or of a part of it, has ended.
-use Rattle.std.specs.Prelude.{ℕ, List, length}
+use Rattle.std.specs.Prelude.{◌≡◌, ℕ, List, length}
 use Rattle.std.specs.Borrow.{Lends, LendsIf, MutBor, Fml, Array}
 use Rattle.std.specs.List.{refill}
 use Rattle.std.specs.Rc.{rc_with_value}
@@ -11,12 +11,17 @@ use Rattle.std.specs.contracts.impls.GlobalAllocator.TheImpl.{ghosts}
 use Rattle.std.specs.contracts.rc.Rc as owned
 use denote.RattleType.{RattleType}
 use Rattle.arrow2_model.specs.Buffers.{overwritten}
+use Rattle.arrow2_model.specs.Parts.{part}
 use Rattle.arrow2_buffer.specs.contracts.bytes.Bytes.{the_row}
 
 -- the list `items`, after the list `others` was written over it from index i on, through a loan that can't change the
 -- number of items
 abbrev pub rewritten : {X : Type 0} → List X → ℕ → List X → List X
 rewritten items i others = refill (length items) items (overwritten items i others)
+
+-- `new` is the list `old`, in which n items from index i on were replaced by n items that `may` allows for them
+abbrev pub ReplacesPart : {X : Type 0} → (List X → List X → Type 0) → ℕ → ℕ → List X → List X → Type 0
+ReplacesPart {X} may i n old new = (changed : List X) × may (part old i n) changed × (length changed ≡ n) × (new ≡ overwritten old i changed)
 
 -- the type of storage in an `Rc`
 abbrev pub shared_row : RattleType → RattleType

@@ -15,7 +15,7 @@ ghost use Rattle.std.specs.Cmp.Lexicographic.{pointwise, lists_per, lists_equiv}
 ghost use Rattle.arrow2_types.specs.declared.error.Error.TheVariants.{OutOfMemory};
 ghost use Rattle.arrow2_model.specs.Parts.{part};
 ghost use Rattle.arrow2_model.specs.Buffers.{buffer_items, whole_buffer, overwritten};
-ghost use Rattle.arrow2_buffer.specs.Lent.{LendsOwnedPart};
+ghost use Rattle.arrow2_buffer.specs.Lent.{LendsOwnedPart, ReplacesPart};
 ghost use Rattle.either.specs.Either.{MatchEither};
 ghost use Rattle.std.specs.declared.alloc.Global.{Global};
 
@@ -258,10 +258,8 @@ fn change_unshared<T, F: FnOnce(&mut [T])>(
     requires within { end ≤ length shared.old.value }
     requires callable { FnOnceTakesAtMut F.FnOnce change
         (part shared.old.value start (end - start)) }
-    ensures written { OnTrue result ((changed : List T)
-        × FnOnceReturnsAtMut F.FnOnce change (part shared.old.value start (end - start)) tt changed
-        × (length changed ≡ end - start)
-        × (shared.new.value ≡ overwritten shared.old.value start changed)) }
+    ensures written { OnTrue result (ReplacesPart (λ old new. FnOnceReturnsAtMut F.FnOnce change old tt new)
+        start (end - start) shared.old.value shared.new.value) }
     ensures same { OnFalse result (shared.new ≡ shared.old) }
 {
     match Bytes::get_mut(shared) {

@@ -13,7 +13,7 @@ pub fn written_items_are_the_items<T>()
     ensures before { (b : BufferStorage T) (others : List T) → b.offset + b.len ≤ length b.storage →
         length others ≡ b.len → take b.offset (rewritten b.storage b.offset others)
         ≡ take b.offset b.storage }
-    ensures following { (b : BufferStorage T) (others : List T) → b.offset + b.len ≤ length b.storage →
-        length others ≡ b.len → drop (b.offset + b.len) (rewritten b.storage b.offset others)
-        ≡ drop (b.offset + b.len) b.storage }
+    ensures following { (b : BufferStorage T) (others : List T) → let end = b.offset + b.len in
+        end ≤ length b.storage → length others ≡ b.len →
+        drop end (rewritten b.storage b.offset others) ≡ drop end b.storage }
 {}

@@ -1,5 +1,5 @@
 -- Items of arrays of byte strings and of texts, and the number of their bytes.
-use Rattle.std.specs.Prelude.{ℕ, ◌+◌, List, [], ◌∷◌, ◌++◌, Option, None, Result, flat_map, length, slice_index_or, sum, sum_by}
+use Rattle.std.specs.Prelude.{ℕ, ◌+◌, ◌<◌, ◌≤◌, ◌^◌, ◌⊎◌, List, [], ◌∷◌, ◌++◌, Option, None, Result, flat_map, length, slice_index_or, sum, sum_by}
 use Rattle.std.specs.Option.{option_map_or}
 use Rattle.arrow2_model.specs.Buffers.{buffer_items}
 use Rattle.arrow2_offset.specs.Offsets.{lengths_of}
@@ -26,6 +26,10 @@ joined_items parts first others = binary_items first ++ flat_map (λ array. bina
 -- the number of bytes of the slots of all these arrays, under nulls too
 abbrev pub joined_bytes : {X : Type 0} → (X → BinaryParts) → BinaryParts → List X → ℕ
 joined_bytes parts first others = slot_bytes first + sum_by (λ array. slot_bytes (parts array)) others
+
+-- all these arrays together have more bytes than `greatest`, under nulls too, or more items than a `usize` can count
+abbrev pub AreTooLarge : {X : Type 0} → ℕ → (X → BinaryParts) → BinaryParts → List X → Type 0
+AreTooLarge greatest parts first others = (greatest < joined_bytes parts first others) ⊎ (2 ^ 64 ≤ length (joined_items parts first others))
 
 -- growth by one item
 abbrev pub AppendsItem : {T : Type 0} → ℕ → Result T Error → (old new : GrowingBinary) → Option (List ℕ) → Type 0

@@ -2,7 +2,7 @@
 ghost use Rattle.std.specs.Prelude.{◌≡◌, ◌+◌, ◌<◌, ◌≤◌, ◌^◌, ◌⊎◌, ◌++◌, length, IfOk, IfErr, IsErrOf, OnOk};
 ghost use Rattle.std.specs.List.{flat_map};
 ghost use Rattle.arrow2_array.specs.Items.{boolean_items};
-ghost use Rattle.arrow2_compute.specs.Sizes.{joined_bytes, joined_items};
+ghost use Rattle.arrow2_compute.specs.Sizes.{AreTooLarge, joined_bytes, joined_items};
 ghost use Rattle.arrow2_primitive.specs.Primitive.{primitive_items};
 ghost use Rattle.arrow2_text.specs.Binary.{binary_items};
 
@@ -54,8 +54,7 @@ pub fn concatenate_binary<A: Binary>(first: &A, others: &[&A]) -> Result<A>
         binary_items (A.parts a) ≡ joined_items (λ array. A.parts array.now) (A.parts first.now) others.now) }
     ensures data_type { IfOk result (λ a. (A.parts a).data_type ≡ (A.parts first.now).data_type) }
     ensures overflow { IsErrOf result Error.Overflow →
-        (A.GREATEST < joined_bytes (λ array. A.parts array.now) (A.parts first.now) others.now)
-        ⊎ (2 ^ 64 ≤ length (joined_items (λ array. A.parts array.now) (A.parts first.now) others.now)) }
+        AreTooLarge A.GREATEST (λ array. A.parts array.now) (A.parts first.now) others.now }
     ensures fits { OnOk result
         ((joined_bytes (λ array. A.parts array.now) (A.parts first.now) others.now ≤ A.GREATEST)
         × (length (joined_items (λ array. A.parts array.now) (A.parts first.now) others.now) < 2 ^ 64)) }

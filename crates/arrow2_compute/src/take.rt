@@ -124,9 +124,8 @@ fn values_by_array<T: NativeType, I: Index>(
     indices: &PrimitiveArray<I>,
 ) -> std::result::Result<Vec<T>, AllocError>
     requires inside { All (IsInBoundsOrNull I.value (length (primitive_items array.now))) (primitive_items indices.now) }
-    ensures items { IfOk result (λ v. zipped v.items
-        (map is_some (items_at I.value (primitive_items array.now) (primitive_items indices.now)))
-        ≡ items_at I.value (primitive_items array.now) (primitive_items indices.now)) }
+    ensures items { let items = items_at I.value (primitive_items array.now) (primitive_items indices.now) in
+        IfOk result (λ v. zipped v.items (map is_some items) ≡ items) }
     ensures len { IfOk result (λ v. length v.items ≡ length (primitive_items indices.now)) }
 {
     let mut taken = Vec::with_capacity(array.values().allocator(), indices.len())?;

@@ -25,9 +25,9 @@ pub fn assign_rows<T: BitChunk, S: WordRows<T>, F: Fn(T, S::Row) -> T>(
     requires exact { length bytes.old ≡ (len + 7) / 8 }
     ensures canonical { IsCanonical bytes.new len }
     ensures items { (f : List ℕ → ℕ) →
-        ComputesOwnRows T.BitChunk.WIDTH S.words T.BitChunk.number (F.post op) f →
-        take len (bits bytes.new) ≡ joined T.BitChunk.WIDTH (λ j.
-        f (word T.BitChunk.WIDTH (take len (bits bytes.old)) j ∷ S.row_at rows j)) len }
+        ComputesOwnRows T.WIDTH S.words T.number (F.post op) f →
+        take len (bits bytes.new) ≡ joined T.WIDTH (λ j.
+        f (word T.WIDTH (take len (bits bytes.old)) j ∷ S.row_at rows j)) len }
 {
     let mut rows = rows;
     let mut at = 0;
@@ -48,10 +48,10 @@ pub fn assign_rows<T: BitChunk, S: WordRows<T>, F: Fn(T, S::Row) -> T>(
 /// and that `count` is at most the number of bytes of a word.
 fn word_at<T: BitChunk>(bytes: &[u8], at: usize, count: usize) -> T
     requires inside { at + count ≤ length bytes.now }
-    requires most { count ≤ T.BitChunk.SIZE }
-    ensures items { (i : ℕ) → i < 8 * count → bit (T.BitChunk.number result) i
+    requires most { count ≤ T.SIZE }
+    ensures items { (i : ℕ) → i < 8 * count → bit (T.number result) i
         ≡ slice_index_or (bits bytes.now) (8 * at + i) false }
-    ensures fits { T.BitChunk.number result < 2 ^ T.BitChunk.WIDTH }
+    ensures fits { T.number result < 2 ^ T.WIDTH }
 {
     let block = padded(&bytes[at..at + count]);
     T::from_ne_slice(&block[..T::SIZE])
@@ -74,9 +74,9 @@ fn padded(bytes: &[u8]) -> [u8; 8]
 /// `bytes`, and that `count` is at most the number of bytes of a word.
 fn put_word<T: BitChunk>(bytes: &mut [u8], at: usize, count: usize, word: T)
     requires inside { at + count ≤ length bytes.old }
-    requires most { count ≤ T.BitChunk.SIZE }
+    requires most { count ≤ T.SIZE }
     ensures written { (i : ℕ) → i < 8 * count → slice_index_or (bits bytes.new) (8 * at + i) false
-        ≡ bit (T.BitChunk.number word) i }
+        ≡ bit (T.number word) i }
     ensures kept { (k : ℕ) → (k < 8 * at) ⊎ (8 * (at + count) ≤ k) →
         slice_index_or (bits bytes.new) k false ≡ slice_index_or (bits bytes.old) k false }
 {

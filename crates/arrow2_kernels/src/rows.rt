@@ -28,16 +28,16 @@ pub trait WordRows<B: BitChunk>: Drop {
     fn next_row(&mut self) -> Option<Self::Row>
         requires { alike self.old }
         ensures alike { alike self.new }
-        ensures row { GivesRow B.BitChunk.WIDTH words (len self.old) (row_at self.old) result
+        ensures row { GivesRow B.WIDTH words (len self.old) (row_at self.old) result
             (len self.new) (row_at self.new) };
 
     /// Returns the row of the remaining items, with each word filled with false. Requires that fewer items remain than
     /// a word has.
     fn rest_row(&self) -> Self::Row
         requires alike { alike self.now }
-        requires short { len self.now < B.BitChunk.WIDTH }
+        requires short { len self.now < B.WIDTH }
         ensures row { words result ≡ row_at self.now 0 }
-        ensures fits { AreWords B.BitChunk.WIDTH (words result) };
+        ensures fits { AreWords B.WIDTH (words result) };
 }
 
 /// Rows of no list: empty rows, for `left` items.
@@ -79,11 +79,11 @@ pub struct OneList<I> {
 impl<B: BitChunk, I: BitChunkIterExact<B> + Drop> WordRows<B> for OneList<I> {
     type Row = B;
 
-    ghost words = { λ x. B.BitChunk.number x ∷ [] };
+    ghost words = { λ x. B.number x ∷ [] };
 
     ghost len = { λ s. length (I.cursor s.chunks).items };
 
-    ghost row_at = { λ s j. word B.BitChunk.WIDTH (I.cursor s.chunks).items j ∷ [] };
+    ghost row_at = { λ s j. word B.WIDTH (I.cursor s.chunks).items j ∷ [] };
 
     ghost alike = { λ s. Unit {0} };
 

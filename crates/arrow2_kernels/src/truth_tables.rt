@@ -8,8 +8,8 @@ use arrow2_chunk::BitChunk;
 
 /// Returns the outputs of a table of one input, bit by bit.
 pub fn unary_outputs<T: BitChunk>(table: u16, x: T) -> T
-    ensures results { (i : ℕ) → i < T.BitChunk.WIDTH →
-        bit (T.BitChunk.number result) i ≡ answer table (bit (T.BitChunk.number x) i ∷ []) }
+    ensures results { (i : ℕ) → i < T.WIDTH →
+        bit (T.number result) i ≡ answer table (bit (T.number x) i ∷ []) }
 {
     let yes = filled(x, BitChunk::bit(table, 1));
     let no = filled(x, BitChunk::bit(table, 0));
@@ -18,9 +18,9 @@ pub fn unary_outputs<T: BitChunk>(table: u16, x: T) -> T
 
 /// Returns the outputs of a table of two inputs, bit by bit.
 pub fn binary_outputs<T: BitChunk>(table: u16, x: T, y: T) -> T
-    ensures results { (i : ℕ) → i < T.BitChunk.WIDTH →
-        bit (T.BitChunk.number result) i
-        ≡ answer table (bit (T.BitChunk.number x) i ∷ bit (T.BitChunk.number y) i ∷ []) }
+    ensures results { (i : ℕ) → i < T.WIDTH →
+        bit (T.number result) i
+        ≡ answer table (bit (T.number x) i ∷ bit (T.number y) i ∷ []) }
 {
     let yes = unary_outputs(table >> 2, x);
     let no = unary_outputs(table, x);
@@ -29,10 +29,10 @@ pub fn binary_outputs<T: BitChunk>(table: u16, x: T, y: T) -> T
 
 /// Returns the outputs of a table of three inputs, bit by bit.
 pub fn ternary_outputs<T: BitChunk>(table: u16, x: T, y: T, z: T) -> T
-    ensures results { (i : ℕ) → i < T.BitChunk.WIDTH →
-        bit (T.BitChunk.number result) i
-        ≡ answer table (bit (T.BitChunk.number x) i ∷ bit (T.BitChunk.number y) i
-        ∷ bit (T.BitChunk.number z) i ∷ []) }
+    ensures results { (i : ℕ) → i < T.WIDTH →
+        bit (T.number result) i
+        ≡ answer table (bit (T.number x) i ∷ bit (T.number y) i
+        ∷ bit (T.number z) i ∷ []) }
 {
     let yes = binary_outputs(table >> 4, x, y);
     let no = binary_outputs(table, x, y);
@@ -41,10 +41,10 @@ pub fn ternary_outputs<T: BitChunk>(table: u16, x: T, y: T, z: T) -> T
 
 /// Returns the outputs of a table of four inputs, bit by bit.
 pub fn quaternary_outputs<T: BitChunk>(table: u16, x: T, y: T, z: T, v: T) -> T
-    ensures results { (i : ℕ) → i < T.BitChunk.WIDTH →
-        bit (T.BitChunk.number result) i
-        ≡ answer table (bit (T.BitChunk.number x) i ∷ bit (T.BitChunk.number y) i
-        ∷ bit (T.BitChunk.number z) i ∷ bit (T.BitChunk.number v) i ∷ []) }
+    ensures results { (i : ℕ) → i < T.WIDTH →
+        bit (T.number result) i
+        ≡ answer table (bit (T.number x) i ∷ bit (T.number y) i
+        ∷ bit (T.number z) i ∷ bit (T.number v) i ∷ []) }
 {
     let yes = ternary_outputs(table >> 8, x, y, z);
     let no = ternary_outputs(table, x, y, z);
@@ -53,17 +53,17 @@ pub fn quaternary_outputs<T: BitChunk>(table: u16, x: T, y: T, z: T, v: T) -> T
 
 /// Returns, at each bit, the bit of `yes` where the bit of `which` is set, and the bit of `no` elsewhere.
 fn chosen<T: BitChunk>(which: T, yes: T, no: T) -> T
-    ensures { (i : ℕ) → i < T.BitChunk.WIDTH →
-        bit (T.BitChunk.number result) i
-        ≡ (if bit (T.BitChunk.number which) i then bit (T.BitChunk.number yes) i else bit
-        (T.BitChunk.number no) i) }
+    ensures { (i : ℕ) → i < T.WIDTH →
+        bit (T.number result) i
+        ≡ (if bit (T.number which) i then bit (T.number yes) i else bit
+        (T.number no) i) }
 {
     yes.bit_and(which).bit_or(no.bit_and(which.bit_not()))
 }
 
 /// Returns the word whose bits are all `value`, of the type of `like`.
 fn filled<T: BitChunk>(like: T, value: bool) -> T
-    ensures { (i : ℕ) → i < T.BitChunk.WIDTH → bit (T.BitChunk.number result) i ≡ value }
+    ensures { (i : ℕ) → i < T.WIDTH → bit (T.number result) i ≡ value }
 {
     let zeros = like.bit_xor(like);
     if value { zeros.bit_not() } else { zeros }

@@ -140,9 +140,9 @@ pub(crate) fn write_words<T: BitChunk, F: Fn(T) -> usize>(
     out: &mut Vec<u8>,
 ) -> Result<(), AllocError>
     requires callable { F.IsAlwaysCallable number }
-    requires number { (x : T) (n : ℕ) → F.post number x n → n ≡ T.BitChunk.number x }
+    requires number { (x : T) (n : ℕ) → F.post number x n → n ≡ T.number x }
     ensures { OnOk result (out.new.items ≡ out.old.items
-        ++ words_text (map decimal (words T.BitChunk.WIDTH chunks.entry.items))) }
+        ++ words_text (map decimal (words T.WIDTH chunks.entry.items))) }
 {
     let mut chunks = chunks;
     let mut first = true;

@@ -11,9 +11,13 @@ GivesRow w words left nth r left' nth' = MatchOption r
     ((left < w) × (left' ≡ left) × ((j : ℕ) → nth' j ≡ nth j))
     (λ x. (words x ≡ nth 0) × AreWords w (words x) × (left ≡ w + left') × ((j : ℕ) → nth' j ≡ nth (j + 1)))
 
+-- row j has word j of each list
+abbrev pub AreWordsOf : ℕ → List (List Bool) → (ℕ → List ℕ) → Type 0
+AreWordsOf w lists row = (j : ℕ) → row j ≡ words_at w lists j
+
 -- the first list has n items, and row j has word j of each list
 abbrev pub AreRowsOf : ℕ → List (List Bool) → (ℕ → List ℕ) → ℕ → Type 0
-AreRowsOf w lists row n = (common_length lists ≡ n) × ((j : ℕ) → row j ≡ words_at w lists j)
+AreRowsOf w lists row n = (common_length lists ≡ n) × AreWordsOf w lists row
 
 -- the first w bits of each result that a closure may give for a row are the first w bits of f for the words of the row
 abbrev pub ComputesRows : {R X : Type 0} → ℕ → (R → List ℕ) → (X → ℕ) → (R → X → Type 0) → (List ℕ → ℕ) → Type 0

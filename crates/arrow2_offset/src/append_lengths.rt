@@ -14,11 +14,11 @@ use arrow2_types::GrowthError;
 use std::alloc::AllocError;
 use std::mem;
 
-/// The smallest number of lengths for which capacity is reserved: enough that a few lengths need one allocation. The
-/// block is then a little smaller than the largest that glibc caches.
+/// The number of lengths for which the first allocation reserves capacity. Offsets of 64 bits then have a block of 968
+/// bytes, a little less than the largest that glibc caches.
 pub(crate) const LEAST_CAPACITY: usize = 120;
 
-/// The second capacity that is reserved, in lengths: the one after `LEAST_CAPACITY`.
+/// The capacity, in lengths, that the second allocation reserves.
 const SECOND_CAPACITY: usize = 512;
 
 /// Appends the lengths that an iterator yields. On an error, removes the appended lengths again. Requires that the
@@ -37,7 +37,7 @@ pub(crate) fn append_lengths<O: Offset, I: Iterator<Item = usize> + Drop>(
     requires can { I.can_next lengths }
     requires ends { IsFinite (I.remaining lengths) }
     ensures valid { AreOffsetsUpTo O.MAX (map O.value offsets.new.items) }
-    ensures grows { GrowsByIterator (λ error. error) result
+    ensures grows { GrowsByIterator (λ e. e) result
         (made_of (map O.value offsets.old.items) (vec_capacity offsets.old))
         (made_of (map O.value offsets.new.items) (vec_capacity offsets.new))
         I.next_gives lengths O.MAX }
@@ -114,8 +114,9 @@ fn with_spare_capacity<O>(mut offsets: Vec<O>) -> (Vec<O>, Result<(), AllocError
     (offsets, outcome)
 }
 
-/// Reserves capacity for more lengths: for `LEAST_CAPACITY` where there are fewer lengths than that, else for three
-/// times their number, but at least `SECOND_CAPACITY - LEAST_CAPACITY`. There is one offset more than there are lengths.
+/// Reserves capacity for more lengths. Where there are fewer than `LEAST_CAPACITY`, reserves for `LEAST_CAPACITY` more;
+/// else for the greater of three times their number and `SECOND_CAPACITY - LEAST_CAPACITY`. There is one offset more
+/// than there are lengths.
 #[cold]
 #[inline(never)]
 fn grow_capacity<O>(offsets: &mut Vec<O>) -> Result<(), AllocError>

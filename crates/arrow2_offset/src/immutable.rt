@@ -358,10 +358,9 @@ impl<O: Offset> PartialEq for OffsetsBuffer<O> {
     fn eq(&self, other: &Self) -> bool
         ensures value { result ≡ on buffer_items (pointwise int_eq) self.now other.now }
         ensures lists { IsTrue result ↔ (buffer_items self.now ≡ buffer_items other.now) }
-        ensures by_lengths { result ≡ pointwise nat_eq
-            (offsets_list (start_of (buffer_items self.now)) (lengths_of (buffer_items self.now)))
-            (offsets_list (start_of (buffer_items other.now))
-            (lengths_of (buffer_items other.now))) }
+        ensures by_lengths { let xs = buffer_items self.now in let ys = buffer_items other.now in
+            result ≡ pointwise nat_eq (offsets_list (start_of xs) (lengths_of xs))
+            (offsets_list (start_of ys) (lengths_of ys)) }
     {
         self.as_slice() == other.as_slice()
     }

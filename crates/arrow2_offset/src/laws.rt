@@ -28,7 +28,8 @@ pub fn offset_is_a_sum()
         length (offsets_list start lengths) ≡ length lengths + 1 }
 {}
 
-/// Appending lengths appends the running sums from the last offset on, and leaves the offsets before them as they were.
+/// Appending lengths keeps all offsets, and appends one for each length: the last offset plus the lengths that were
+/// appended so far, this one included.
 #[tactic(auto, using(crate::proofs::Listed::listed))]
 pub fn appended_lengths_append_offsets()
     ensures { (start : ℕ) (lengths others : List ℕ) →

@@ -1,4 +1,5 @@
-//! Offsets, growing and shared: the numbers at which each value of a binary, text or list array begins.
+//! Offsets, growing and shared: `n + 1` numbers for the `n` values of a binary, text or list array. Value `i` goes from
+//! offset `i` up to offset `i + 1`.
 #![tactic(auto)]
 
 mod append_lengths;

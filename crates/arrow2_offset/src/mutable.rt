@@ -525,8 +525,8 @@ impl<O: Offset> Clone for Offsets<O> {
     }
 }
 
-/// Returns the offset at an index. Requires that the index is below the number of offsets: at most the number of slots,
-/// since there is one offset more than there are slots.
+/// Returns the offset at an index. Requires that the index is at most the number of slots: there is one offset more than
+/// there are slots.
 impl<O: Offset> Index<usize> for Offsets<O> {
     type Output = O;
 

@@ -58,8 +58,8 @@ fn total(start: usize, lengths: &[usize]) -> u128
     sum
 }
 
-/// Writes the start, followed by the running sums of the lengths. Requires that `offsets` has one item more than
-/// `lengths`, and that `start` plus all lengths is at most `O::MAX`.
+/// Sets `offsets[i]` to `start` plus the first `i` lengths. Requires that `offsets` has one item more than `lengths`, and
+/// that `start` plus all lengths is at most `O::MAX`.
 pub fn write_sums<O: Offset>(start: usize, lengths: &[usize], offsets: &mut [O])
     requires exact { length offsets.old ≡ length lengths.now + 1 }
     requires fits { last_offset start lengths.now ≤ O.MAX }

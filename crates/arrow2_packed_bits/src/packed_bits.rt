@@ -2,8 +2,8 @@
 ghost use Rattle.std.specs.Prelude.{◌≡◌, ◌+◌, ◌-◌, ◌*◌, ◌/◌, ◌%◌, ◌<◌, ◌≤◌, ◌^◌, ◌↔◌, ◌⊎◌, ℕ, IsTrue, List, Bool, [], ◌∷◌, ◌++◌, true, false, slice_index_or, length, take, replicate, slice_set, min, OnOk, OnErr, IsOk, IfOk, IfNone, IsErrOf, MatchOption, vec_len, vec_capacity};
 ghost use Rattle.arrow2_model.specs.Bits.{bit, bits, unnum};
 ghost use Rattle.arrow2_model.specs.Canonical.{canonical_bytes, IsCanonical};
-ghost use Rattle.arrow2_model.specs.Kernels.{kernel, word, words_at};
-ghost use Rattle.arrow2_model.specs.Rows.{IsBitwiseOnOwnRows, ComputesOwnRows};
+ghost use Rattle.arrow2_model.specs.Kernels.{kernel, word};
+ghost use Rattle.arrow2_model.specs.Rows.{AreWordsOf, ComputesOwnRows, IsBitwiseOnOwnRows};
 ghost use Rattle.arrow2_model.specs.Tables.{each};
 ghost use Rattle.arrow2_packed_bits.specs.Growth.{Appends, Pushes};
 ghost use Rattle.arrow2_types.specs.declared.growth_error.GrowthError.TheVariants as growth_error;
@@ -321,13 +321,13 @@ impl PackedBits {
         requires len { S.len rows ≡ length self.old.items }
         // If the results of `op` are those of a function `f` of the own word and a row:
         ensures kernel { (f : List ℕ → ℕ) (lists : List (List Bool)) →
-            ComputesOwnRows T.BitChunk.WIDTH S.words T.BitChunk.number (F.post op) f →
-            ((j : ℕ) → S.row_at rows j ≡ words_at T.BitChunk.WIDTH lists j) →
-            self.new.items ≡ kernel T.BitChunk.WIDTH f (self.old.items ∷ lists) }
+            ComputesOwnRows T.WIDTH S.words T.number (F.post op) f →
+            AreWordsOf T.WIDTH lists (S.row_at rows) →
+            self.new.items ≡ kernel T.WIDTH f (self.old.items ∷ lists) }
         // For every truth table `t` by which `op` computes each bit: the items are the outputs of `t`.
         ensures table { (t : ℕ) (lists : List (List Bool)) →
-            IsBitwiseOnOwnRows T.BitChunk.WIDTH S.words T.BitChunk.number (F.post op) t →
-            ((j : ℕ) → S.row_at rows j ≡ words_at T.BitChunk.WIDTH lists j) →
+            IsBitwiseOnOwnRows T.WIDTH S.words T.number (F.post op) t →
+            AreWordsOf T.WIDTH lists (S.row_at rows) →
             self.new.items ≡ each t (self.old.items ∷ lists) }
         // The number of items and the capacity stay.
         ensures len { length self.new.items ≡ length self.old.items }

@@ -103,10 +103,9 @@ impl<T: NativeType> PrimitiveArray<T> {
         // `ForSome o (λ v. P)`: if `o` is `Some` of a value v, P of v.
         ensures accepted { OnOk result ((physical data_type ≡ Primitive T.PRIMITIVE)
             × ForSome validity (λ v. length (items_of v) ≡ length (buffer_items values))) }
-        ensures unequal { ForSome validity (λ v. ¬ (length (items_of v) ≡ length (buffer_items values)) →
-            IfErr result (λ e.
-            IsInvalidArgumentOrOutOfMemory e
-            (unequal_lengths_message (length (items_of v)) (length (buffer_items values))))) }
+        ensures unequal { let len = length (buffer_items values) in
+            ForSome validity (λ v. ¬ (length (items_of v) ≡ len) → IfErr result (λ e.
+            IsInvalidArgumentOrOutOfMemory e (unequal_lengths_message (length (items_of v)) len))) }
         ensures layout { ForSome validity (λ v. length (items_of v) ≡ length (buffer_items values)) →
             ¬ (physical data_type ≡ Primitive T.PRIMITIVE) →
             IfErr result (λ e. IsInvalidArgumentOrOutOfMemory e other_layout_message) }

@@ -9,7 +9,7 @@ use Rattle.arrow2_walks.specs.Zipped.{slot, zipped}
 use Rattle.arrow2_walks.specs.declared.zip_validity.ZipValidityIter.{ZipValidityIter}
 use Rattle.arrow2_walks.specs.declared.zip_validity.ZipValidity.{ZipValidity}
 use Rattle.arrow2_walks.specs.declared.zip_validity.ZipValidity.TheVariants.{Required, Optional}
-use Rattle.arrow2_walks.specs.Zips.{values_of, validity_of, MatchZip, zip_validity_steps, either_steps, HasEqualLengths}
+use Rattle.arrow2_walks.specs.Zips.{HasEqualLengths, MayHaveEqualLengths, StepsAlike, either_steps, validity_of, values_of, zip_validity_steps}
 use Rattle.arrow2_walks.specs.Slots.{slots_of_both, slots_of}
 use Rattle.arrow2_walks.proofs.Zipped.{push-zipped}
 
@@ -47,7 +47,7 @@ module _ {S T A B : Type 0} (view : A → B) (rest : S → List B) (valid : T �
   slot-view x true = refl
   slot-view x false = refl
 
-  pub first_slot_by : (s t : ZipValidityIter S T) (r : Option (Option A)) → HasEqualLengths rest valid s → zip_validity_steps (YieldsFirstBy view rest) (YieldsFirst valid) s r t → YieldsFirstBy (option_map view) (slots_of_both rest valid) s r t × HasEqualLengths rest valid t
+  pub first_slot_by : StepsAlike (HasEqualLengths rest valid) (zip_validity_steps (YieldsFirstBy view rest) (YieldsFirst valid)) (YieldsFirstBy (option_map view) (slots_of_both rest valid))
   first_slot_by s t None e h =
       let xs = rest (values_of s) in let ys = rest (values_of t) in let vs = valid (validity_of s) in let ws = valid (validity_of t) in
       let no = ended xs ys vs ws h.0 h.1 e (first_length view xs ys h.0 h.2) (first_length (λ v. v) vs ws h.1 h.3) h.4 in
@@ -57,7 +57,7 @@ module _ {S T A B : Type 0} (view : A → B) (rest : S → List B) (valid : T �
       let a = ap length h.2 in let b = ap length h.3 in
       (ap (λ l. zipped l vs) h.2 ∙ (ap (λ l. zipped (view h.0 ∷ ys) l) h.3 ∙ ap (λ z. z ∷ zipped ys ws) (slot-view h.0 h.1 ∙ ap (option_map view) (sym h.4))), omega (arith, a, b, e))
 
-  pub last_slot_by : (s t : ZipValidityIter S T) (r : Option (Option A)) → HasEqualLengths rest valid s → zip_validity_steps (YieldsLastBy view rest) (YieldsLast valid) s r t → YieldsLastBy (option_map view) (slots_of_both rest valid) s r t × HasEqualLengths rest valid t
+  pub last_slot_by : StepsAlike (HasEqualLengths rest valid) (zip_validity_steps (YieldsLastBy view rest) (YieldsLast valid)) (YieldsLastBy (option_map view) (slots_of_both rest valid))
   last_slot_by s t None e h =
       let xs = rest (values_of s) in let ys = rest (values_of t) in let vs = valid (validity_of s) in let ws = valid (validity_of t) in
       let no = ended xs ys vs ws h.0 h.1 e (last_length view xs ys h.0 h.2) (last_length (λ v. v) vs ws h.1 h.3) h.4 in
@@ -79,13 +79,13 @@ module _ {S T A B : Type 0} (view : A → B) (rest : S → List B) (valid : T �
   last_value xs ys None r h i = subst (λ q. MatchOption q ((map (λ x. Some x) xs ≡ []) × (map (λ x. Some x) ys ≡ [])) (λ item. map (λ x. Some x) xs ≡ map (λ x. Some x) ys ++ option_map view item ∷ [])) (sym i) (ap (map (λ x. Some x)) h.0, ap (map (λ x. Some x)) h.1)
   last_value xs ys (Some x) r h i = subst (λ q. MatchOption q ((map (λ x. Some x) xs ≡ []) × (map (λ x. Some x) ys ≡ [])) (λ item. map (λ x. Some x) xs ≡ map (λ x. Some x) ys ++ option_map view item ∷ [])) (sym i) (ap (map (λ x. Some x)) h ∙ map-last (λ x. Some x) ys (view x))
 
-  pub first_of_either_by : (s t : ZipValidity S T) (r : Option (Option A)) → MatchZip s (λ _. Unit {0}) (HasEqualLengths rest valid) → either_steps (YieldsFirstBy view rest) (YieldsFirst valid) s r t → YieldsFirstBy (option_map view) (slots_of rest valid) s r t × MatchZip t (λ _. Unit {0}) (HasEqualLengths rest valid)
+  pub first_of_either_by : StepsAlike (MayHaveEqualLengths rest valid) (either_steps (YieldsFirstBy view rest) (YieldsFirst valid)) (YieldsFirstBy (option_map view) (slots_of rest valid))
   first_of_either_by (Required a) (Required b) r e h = (first_value (rest a) (rest b) h.0 r h.1 h.2, tt)
   first_of_either_by (Required a) (Optional b) r e h = absurd h
   first_of_either_by (Optional a) (Required b) r e h = absurd h
   first_of_either_by (Optional a) (Optional b) r e h = first_slot_by a b r e h
 
-  pub last_of_either_by : (s t : ZipValidity S T) (r : Option (Option A)) → MatchZip s (λ _. Unit {0}) (HasEqualLengths rest valid) → either_steps (YieldsLastBy view rest) (YieldsLast valid) s r t → YieldsLastBy (option_map view) (slots_of rest valid) s r t × MatchZip t (λ _. Unit {0}) (HasEqualLengths rest valid)
+  pub last_of_either_by : StepsAlike (MayHaveEqualLengths rest valid) (either_steps (YieldsLastBy view rest) (YieldsLast valid)) (YieldsLastBy (option_map view) (slots_of rest valid))
   last_of_either_by (Required a) (Required b) r e h = (last_value (rest a) (rest b) h.0 r h.1 h.2, tt)
   last_of_either_by (Required a) (Optional b) r e h = absurd h
   last_of_either_by (Optional a) (Required b) r e h = absurd h

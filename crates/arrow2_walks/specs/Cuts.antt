@@ -9,7 +9,7 @@ pub record Piece : Type 0 where
   pub items : List Bool
   pub offset : ℕ
 
--- the pieces, and the number of bytes that were read to count their false items
+-- the pieces, and the number of bytes that were counted as read for their false items
 pub record CutPieces : Type 0 where
   pub pieces : List Piece
   pub reads : ℕ

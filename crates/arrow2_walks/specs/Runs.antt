@@ -14,8 +14,8 @@ abbrev pub AllRuns : List Bool → List (ℕ × ℕ) → Type 0
 AllRuns items [] = Unit {0}
 AllRuns items (p ∷ ps) = IsRun items p × AllRuns items ps
 
--- each run begins past the index just after the run before it, and the first run past e: so the runs rise, and no two
--- touch
+-- the first run begins above e, and each later run above the end p.0 + p.1 of the run before it: so at least one index
+-- lies between two runs
 abbrev pub AreRisingPast : ℕ → List (ℕ × ℕ) → Type 0
 AreRisingPast e [] = Unit {0}
 AreRisingPast e (p ∷ ps) = (e < p.0) × AreRisingPast (p.0 + p.1) ps
@@ -39,7 +39,7 @@ pub record AreRuns (items : List Bool) (ps : List (ℕ × ℕ)) : Type 0 where
 abbrev pub moved : ℕ → ℕ × ℕ → ℕ × ℕ
 moved n p = (n + p.0, p.1)
 
--- the runs of a list with a true item at its start, from the runs of the list after it
+-- the runs of `true ∷ items`, by the runs of `items`
 abbrev pub with_true : List (ℕ × ℕ) → List (ℕ × ℕ)
 with_true [] = (0, 1) ∷ []
 with_true ((zero, n) ∷ ps) = (0, suc n) ∷ map (moved 1) ps

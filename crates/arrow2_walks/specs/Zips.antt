@@ -30,12 +30,20 @@ IsOptionalAnd s Q = MatchZip s (λ _. ⊥) Q
 abbrev pub HasEqualLengths : {S T A : Type 0} → (S → List A) → (T → List Bool) → ZipValidityIter S T → Type 0
 HasEqualLengths rest valid s = length (rest (values_of s)) ≡ length (valid (validity_of s))
 
--- the iterator over the values, on either side
+-- the same where there is validity; without it nothing is required
+abbrev pub MayHaveEqualLengths : {S T A : Type 0} → (S → List A) → (T → List Bool) → ZipValidity S T → Type 0
+MayHaveEqualLengths rest valid s = MatchZip s (λ _. Unit {0}) (HasEqualLengths rest valid)
+
+-- where P holds for a state, each step of `steps` from this state is also one of `like`, and P holds for the state after it
+abbrev pub StepsAlike : {S R : Type 0} → (S → Type 0) → (S → R → S → Type 0) → (S → R → S → Type 0) → Type 0
+StepsAlike {S} {R} P steps like = (s t : S) (r : R) → P s → steps s r t → like s r t × P t
+
+-- the iterator over the values, in either variant
 abbrev pub either_values : {S T : Type 0} → ZipValidity S T → S
 either_values (Required values) = values
 either_values (Optional both) = values_of both
 
--- whole runs of s have n items
+-- an iterator s that is called until it returns `None` yields n items
 abbrev pub GivesAsMany : {S A : Type 0} → (S → Option A → S → Type 0) → S → ℕ → Type 0
 GivesAsMany steps s n = EachRunFrom steps s (λ p. p.whole ≡ true → p.len ≡ n)
 

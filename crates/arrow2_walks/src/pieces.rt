@@ -1,4 +1,4 @@
-//! A bitmap that is cut again and again, and the bytes that its cuts read.
+//! A bitmap that is cut again and again, and a count of the bytes that its cuts read.
 ghost use Rattle.std.specs.Prelude.{◌≡◌, ◌+◌, ◌-◌, ◌*◌, ◌<◌, ◌≤◌, ◌∷◌, [], length, map, IfOk, IfErr, OnOk, OnErr};
 ghost use Rattle.arrow2_model.specs.Storage.{BitmapStorage, items_of};
 ghost use Rattle.arrow2_model.specs.Touched.{cut_reads, lg, slice_reads};
@@ -12,8 +12,9 @@ use std::alloc::Global;
 use std::marker::Model;
 
 /// A bitmap in pieces: contracts see the items of each piece, the bit at which they are stored, and the number of bytes
-/// that the cuts have read. The `k` cuts of `L` items into `k + 1` pieces read at most `(2 * L * lg L + 30 * k) / 8`
-/// bytes, in whatever order the cuts come. Here `lg` is the logarithm to the base 2, rounded down.
+/// that the cuts have counted as read. The `k` cuts of `L` items into `k + 1` pieces count at most
+/// `(2 * L * lg L + 30 * k) / 8` bytes, in whatever order the cuts come. Here `lg` is the logarithm to the base 2,
+/// rounded down. It is not proved that the cuts read no further byte.
 ///
 /// arrow2 has no such type: there a cut is two slices of a clone.
 #[derive(Drop)]
@@ -56,10 +57,11 @@ impl Pieces {
     pub fn len(&self) -> usize
         ensures pieces { result ≡ length self.now.pieces }
         ensures some { 0 < result }
+        // A fact on the value, not on this call, which counts no byte: the cuts so far are within their budget.
         ensures bound { let n = length (joined self.now.pieces) in
             8 * self.now.reads ≤ 2 * (n * lg n) + 30 * (result - 1) }
     {
-        // The field is read for the facts that the type guarantees: the cuts are paid for.
+        // For the proof alone: reading a field gives the type's invariant, from which `bound` follows.
         let _ = &self.reads;
         self.bitmaps.len()
     }
@@ -85,7 +87,7 @@ impl Pieces {
     ///
     /// # Errors
     ///
-    /// `OutOfMemory` alone. After it, the pieces and the number of bytes read are as they were.
+    /// `OutOfMemory` alone. After it, the pieces and the number of counted bytes are as they were.
     pub fn cut(&mut self, p: usize, i: usize) -> Result<()>
         requires below { p < length self.old.pieces }
         requires inside { i ≤ length (piece_at self.old.pieces p).items }
@@ -114,7 +116,7 @@ fn cut_in_two(bitmaps: &mut Vec<Bitmap>, p: usize, i: usize, reads: &mut Reads) 
         ≡ cut_at (map piece_of bitmaps.old.items) p i) }
     ensures reads { OnOk result (let old = piece_at (map piece_of bitmaps.old.items) p in
         reads.new ≡ reads.old + cut_reads old.offset (length old.items) i) }
-    // In any case the budget of reads holds.
+    // Where the budget of reads held, it holds afterwards, also after an error.
     ensures paid { IsWithinBudget (map piece_of bitmaps.old.items) reads.old →
         IsWithinBudget (map piece_of bitmaps.new.items) reads.new }
     // A cut that is refused changes and counts nothing.

@@ -12,9 +12,9 @@ use std::alloc::AllocError;
 use std::marker::Model;
 
 /// An iterator over the maximal runs of set bits of a bitmap, in rising order. A run is a pair of its first index and
-/// its length. Contracts see the runs still to come, and the total number of set bits.
+/// its length. Contracts see the runs still to come, and the number of set bits of the whole bitmap.
 ///
-/// arrow2's documentation gives (6, 1) as the last run of 00101111. It is (5, 1).
+/// The runs of the byte `0b00101111` are (0, 4) and (5, 1). arrow2's documentation gives (6, 1) for the second.
 ///
 /// # Examples
 ///

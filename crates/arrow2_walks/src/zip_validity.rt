@@ -14,7 +14,8 @@ use arrow2_bits::BitmapIter;
 /// An iterator over values and their validity, from both ends: an item is `Some` of the value where the value is valid,
 /// and `None` where it is null.
 ///
-/// Differs from arrow2: `nth` is the standard library's, over `next`, and there is no type parameter for the values.
+/// Differs from arrow2: `nth` is the standard library's, over `next`, and there is no parameter for the type of one
+/// value, which is `I::Item`.
 #[derive(Debug, Clone, Drop)]
 pub struct ZipValidityIter<I, V> {
     values: I,
