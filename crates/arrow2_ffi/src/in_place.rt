@@ -2,8 +2,7 @@
 ghost use Rattle.std.specs.Prelude.{◌≡◌, ◌*◌, ◌<◌, ◌≤◌, ℕ, List, Bool, [], ◌∷◌, take, length};
 ghost use Rattle.arrow2_model.specs.Bits.{bit, bits};
 ghost use Rattle.arrow2_model.specs.Canonical.{IsCanonical};
-ghost use Rattle.arrow2_model.specs.Kernels.{words_at};
-ghost use Rattle.arrow2_model.specs.Rows.{IsBitwiseOnOwnRows};
+ghost use Rattle.arrow2_model.specs.Rows.{AreWordsOf, IsBitwiseOnOwnRows};
 ghost use Rattle.arrow2_model.specs.Tables.{answer, each};
 ghost use Rattle.arrow2_ffi.specs.Ranges.{HasBits, first_bits, HasBytesForBits};
 ghost use Rattle.arrow2_ffi.specs.Writes.{Stores};
@@ -42,7 +41,7 @@ fn assign_outputs<S: WordRows<u64>, F: Fn(u64, S::Row) -> u64>(
     ensures canonical { IsCanonical bytes.new len }
     ensures items { (t : ℕ) (lists : List (List Bool)) →
         IsBitwiseOnOwnRows 64 S.words (λ x. x) (F.post op) t →
-        ((j : ℕ) → S.row_at rows j ≡ words_at 64 lists j) →
+        AreWordsOf 64 lists (S.row_at rows) →
         take len (bits bytes.new) ≡ each t (take len (bits bytes.old) ∷ lists) }
 {
     assign_rows(bytes, len, rows, op);
@@ -155,8 +154,20 @@ pub(crate) fn copy(bits: Bits<'_>, len: usize, out: &mut [u8])
     if bits.1 % 8 == 0 {
         copy_bytes(&bits.0[bits.1 / 8..], len, out);
     } else {
-        assign_rows(out, len, words(bits, len), |_own: u64, word| word);
+        copy_words(bits, len, out);
     }
+}
+
+/// Overwrites `out`, from bit 0 on, with the first `len` bits, word by word. Requires that they are inside their bytes,
+/// and that `out` has exactly the bytes that they need. The function is not inlined: `copy` would save the registers
+/// that it needs also where it copies bytes.
+#[inline(never)]
+fn copy_words(bits: Bits<'_>, len: usize, out: &mut [u8])
+    requires inside { HasBits bits len }
+    requires exact { HasBytesForBits out.old len }
+    ensures { Stores out.new len (first_bits bits.entry len) }
+{
+    assign_rows(out, len, words(bits, len), |_own: u64, word| word);
 }
 
 /// Overwrites `out` with the first `len` bits of `bytes`, all bytes at once. Requires that they are inside, and that

@@ -1,0 +1,16 @@
+use Rattle.std.proofs.Common.{◌∙◌, List, Bool, sym, slice_index, arith, rules}
+use Rattle.arrow2_model.specs.Kernels.{word}
+use Rattle.arrow2_model.proofs.Joined.{joined_from}
+use Rattle.arrow2_model.proofs.Kernels.{bit-word}
+use Rattle.arrow2_ffi.proofs.in_place.copy_words.Goals as goal
+
+pub returns : goal.returns
+returns c =
+    let items : List Bool = c.words.result.chunks.items in
+    record {
+      items =
+          c.assign_rows.ensures.items (λ xs. slice_index xs 1) (λ x row r fits words post. search rules)
+          ∙ (sym (joined_from 64 (word 64 items) c.args.len items (omega arith) c.words.ensures.count (λ k h. sym (bit-word 64 items k (omega arith))))
+          ∙ c.words.ensures.items);
+      canonical = c.assign_rows.ensures.canonical;
+    }
