@@ -187,8 +187,8 @@ static inline uint32_t arrow2_bits_and_validity(struct arrow2_bits left, struct 
  * bitmap. `values` and `validity` get the result. Each has arrow2_bytes_for(length) bytes; `values_len` and
  * `validity_len` must both be this number. Both outputs are written, also where neither column has a validity. A NULL
  * output counts as 0 bytes, so it has the wrong size unless `length` is 0.
- * ARROW2_RANGE: bits of a value, or of a validity that was passed, are not inside their bytes. Else ARROW2_LENGTH:
- * `values` or `validity` has the wrong size. */
+ * ARROW2_RANGE: the bits of `left`, of `right` or of a validity that was passed are not inside their bytes. Else
+ * ARROW2_LENGTH: `values` or `validity` has the wrong size. */
 static inline uint32_t arrow2_bits_and_kleene(struct arrow2_bits left, struct arrow2_bits left_validity,
                                               struct arrow2_bits right, struct arrow2_bits right_validity,
                                               size_t length, uint8_t *values, size_t values_len, uint8_t *validity,
@@ -889,8 +889,9 @@ static inline uint32_t arrow2_c_check_content(struct arrow2_c_tree *tree, const 
     }
 }
 
-/* Checks whether an array is right. Of its children and its dictionary this checks the heads, and what the array needs
- * of them, and nothing else. If an array is refused, `tree` is left at that array. */
+/* Checks the counts and the buffers of an array. Of each child and of the dictionary it checks only the head and the
+ * length, and of a map's child also that it is a struct of two children. If an array is refused, `tree` is left at that
+ * array. */
 static inline uint32_t arrow2_c_check_own(struct arrow2_c_tree *tree, const struct arrow2_c_layout *layout,
                                           const struct ArrowSchema *schema, const struct ArrowArray *array,
                                           int64_t *slot) {

@@ -29,8 +29,8 @@
  * - An output of bits is exactly (length + 7) / 8 bytes, computed as if in unlimited integers: arrow2_bytes_for of
  *   arrow2_c_data.h returns this number. The bits are written from bit 0 on, and padding bits become 0. The same holds
  *   for `bytes` of the in-place calls, *_assign_table.
- * - The result is one of the codes below. On any error nothing is written, except `*index` or `*slot` of a check, with
- *   the codes that its comment names. A check that returns ARROW2_OK writes neither.
+ * - The result is one of the codes below. On any error nothing is written, but for `*index` or `*slot` of some checks:
+ *   the comment of such a check names the codes for which it writes them. No check writes them with ARROW2_OK.
  * - Nothing is kept between calls, no call allocates, and calls may run on several threads at once. Nothing is made
  *   that has to be freed. */
 #ifndef ARROW2_PROVED_H
@@ -286,9 +286,10 @@ uint32_t arrow2_offsets_narrow(const int64_t *offsets, size_t offsets_len, int32
 /* ---- Checks of arrays that somebody else made
  *
  * Each returns ARROW2_OK exactly where its condition holds. Else it returns the code of the first rule that is broken.
- * The rules are tested in the order in which the comment of the call names their codes. `*index` is written with
- * ARROW2_SPEC_FALLING and ARROW2_PAST, as a position in `offsets`, and with ARROW2_UTF8, as a slot. `*slot` is written
- * with ARROW2_INDEX. With any other code, including ARROW2_OK, neither is written. */
+ * The rules are tested in the order in which the comment of the call names their codes. If a call returns
+ * ARROW2_SPEC_FALLING or ARROW2_PAST, it sets `*index` to a position in `offsets`. If it returns ARROW2_UTF8, it sets
+ * `*index` to a slot. If it returns ARROW2_INDEX, it sets `*slot`. If it returns any other code, including ARROW2_OK,
+ * it sets neither. */
 
 /* Checks whether the `length` bits from bit `offset` on are inside `bytes`, and exactly `null_count` of them are 0. If
  * `null_count` is -1, it is not checked. The call does not accept a missing validity: NULL, 0 bytes and a length above
@@ -306,7 +307,7 @@ uint32_t arrow2_bits_check(size_t bytes, size_t offset, size_t length);
 uint32_t arrow2_values_check(size_t bytes, size_t width, size_t offset, size_t length);
 
 /* Checks whether the numbers are offsets, and none is above `items`. ARROW2_SPEC_EMPTY, ARROW2_SPEC_NEGATIVE,
- * ARROW2_SPEC_FALLING: they are not offsets. ARROW2_PAST: the last one is above `items`.
+ * ARROW2_SPEC_FALLING: they are not offsets. ARROW2_PAST: some number is above `items`.
  * `*index` is a position in `offsets`: with ARROW2_SPEC_FALLING the position of the first number that is below the one
  * before it, with ARROW2_PAST the position of the first number above `items`. */
 uint32_t arrow2_offsets32_check_inside(const int32_t *offsets, size_t offsets_len, size_t items, size_t *index);
