@@ -9,8 +9,7 @@ use Rattle.arrow2_bits.specs.Digits.{four_digits}
 use Rattle.arrow2_model.specs.Bits.{bit, bits}
 use Rattle.arrow2_model.proofs.Shown.{bit_alone}
 
--- the bits that a byte keeps, apart from bit i
-abbrev pub kept : List ℕ
+abbrev kept : List ℕ
 kept = 254 ∷ 253 ∷ 251 ∷ 247 ∷ 239 ∷ 223 ∷ 191 ∷ 127 ∷ []
 
 abbrev none : List ℕ
@@ -19,23 +18,30 @@ none = 0 ∷ 0 ∷ 0 ∷ 0 ∷ 0 ∷ 0 ∷ 0 ∷ 0 ∷ []
 abbrev each_bit : List ℕ
 each_bit = 1 ∷ 2 ∷ 4 ∷ 8 ∷ 16 ∷ 32 ∷ 64 ∷ 128 ∷ []
 
--- the byte written at bit i: nothing, or, 8 entries later, that bit
-abbrev pub written : List ℕ
-written = none ++ each_bit
+-- the masks by which bit i is written: what the byte keeps; 8 entries later, what is written for false; and 8 later, for
+-- true
+abbrev pub masks : List ℕ
+masks = kept ++ (none ++ each_bit)
 
-pub kept_at : (i : ℕ) → i < 8 → get_or kept i 0 ≡ bit_not w8 (1 * 2 ^ i % 2 ^ 8)
-kept_at i h = get_or-map-range_with_len (λ i. bit_not w8 (1 * 2 ^ i % 2 ^ 8)) 0 8 i i 0 h (omega arith)
+pub kept_at : (i : ℕ) → i < 8 → get_or masks i 0 ≡ bit_not w8 (1 * 2 ^ i % 2 ^ 8)
+kept_at i h =
+    get_or_append_left kept (none ++ each_bit) 0 i (omega arith)
+    ∙ get_or-map-range_with_len (λ i. bit_not w8 (1 * 2 ^ i % 2 ^ 8)) 0 8 i i 0 h (omega arith)
 
-pub written_at : (i : ℕ) (value : Bool) → i < 8 → get_or written (8 * from_bool value + i) 0 ≡ from_bool value * 2 ^ i % 2 ^ 8
+pub written_at : (i : ℕ) (value : Bool) → i < 8 → get_or masks (8 + 8 * from_bool value + i) 0 ≡ from_bool value * 2 ^ i % 2 ^ 8
 written_at i true h =
-    let at : 8 * 1 + i - 8 ≡ i = omega arith in
-    get_or-append_right none each_bit 8 (8 * 1 + i) 0 refl (omega arith)
-    ∙ (ap (λ j. get_or each_bit j 0) at ∙ get_or-map-range_with_len (λ j. 1 * 2 ^ j % 2 ^ 8) 0 8 i i 0 h (omega arith))
+    let at : 8 + 8 * 1 + i - 8 ≡ 8 + i = omega arith in
+    let last : 8 + i - 8 ≡ i = omega arith in
+    get_or-append_right kept (none ++ each_bit) 8 (8 + 8 * 1 + i) 0 refl (omega arith)
+    ∙ (ap (λ j. get_or (none ++ each_bit) j 0) at
+    ∙ (get_or-append_right none each_bit 8 (8 + i) 0 refl (omega arith)
+    ∙ (ap (λ j. get_or each_bit j 0) last ∙ get_or-map-range_with_len (λ j. 1 * 2 ^ j % 2 ^ 8) 0 8 i i 0 h (omega arith))))
 written_at i false h =
-    let at : 8 * 0 + i ≡ i = omega arith in
+    let at : 8 + 8 * 0 + i - 8 ≡ i = omega arith in
     let zero : 0 ≡ 0 * 2 ^ i % 2 ^ 8 = omega arith in
-    ap (λ j. get_or written j 0) at
-    ∙ (get_or_append_left none each_bit 0 i (omega arith) ∙ (get_or-map-range_with_len (λ _. 0) 0 8 i i 0 h (omega arith) ∙ zero))
+    get_or-append_right kept (none ++ each_bit) 8 (8 + 8 * 0 + i) 0 refl (omega arith)
+    ∙ (ap (λ j. get_or (none ++ each_bit) j 0) at
+    ∙ (get_or_append_left none each_bit 0 i (omega arith) ∙ (get_or-map-range_with_len (λ _. 0) 0 8 i i 0 h (omega arith) ∙ zero)))
 
 -- a byte is shown by its two halves
 pub halves : (x : ℕ) → codes "0b" ++ (four_digits (x / 16) ++ four_digits (x % 16)) ≡ shown_byte (x ∷ []) 0 8 0

@@ -26,12 +26,12 @@ pub use iterator::BitmapIter;
 pub use reads::Reads;
 pub use stored::Stored;
 
-/// At index i, the byte with bit i clear and every other bit set. Reading it replaces a shift by a variable.
-const KEPT: [u8; 8] = [254, 253, 251, 247, 239, 223, 191, 127];
-
-/// What `set` writes at bit i. For false, at index i: zero. For true, at index 8 + i: the byte with bit i set and every
-/// other bit clear.
-const WRITTEN: [u8; 16] = [0, 0, 0, 0, 0, 0, 0, 0, 1, 2, 4, 8, 16, 32, 64, 128];
+/// The masks of `set`, in one table, so that a loop over bits has one address to compute. At index i: the byte with bit i
+/// clear and every other bit set. At index 8 + i: zero, which is written for false. At index 16 + i: the byte with bit i
+/// set and every other bit clear, which is written for true.
+const MASKS: [u8; 24] = [
+    254, 253, 251, 247, 239, 223, 191, 127, 0, 0, 0, 0, 0, 0, 0, 0, 1, 2, 4, 8, 16, 32, 64, 128,
+];
 
 /// Returns whether bit `i` of the byte is set. Requires that `i` is below 8.
 pub fn is_set(byte: u8, i: usize) -> bool
@@ -47,7 +47,7 @@ pub fn set(byte: u8, i: usize, value: bool) -> u8
     requires { i < 8 }
     ensures { unnum 8 result ≡ slice_set (unnum 8 byte) i value }
 {
-    (byte & KEPT[i]) | WRITTEN[8 * usize::from(value) + i]
+    (byte & MASKS[i]) | MASKS[8 + 8 * usize::from(value) + i]
 }
 
 /// Returns bit `i` of the bytes. Requires that `i` is below eight times the number of bytes.
