@@ -65,9 +65,10 @@ fn line<'a, I: ?Sized + 'a>(
     )
 }
 
-/// How often a call on `bits` bits is made for one measurement.
+/// How often a call on `bits` bits is made for one measurement: so often that making the inputs, whose time is taken off,
+/// takes little of it.
 fn times(bits: usize) -> usize {
-    (1 << 22) / (bits + 1_000)
+    (1 << 24) / (bits + 1_000)
 }
 
 /// The inputs of lines on bits, with their names: from bit 0 and at other bits.
