@@ -78,13 +78,14 @@ struct ArrowArrayStream {
  * is the bit of the bytes at which the bits begin. For a raw bitmap set the members by hand. arrow2_bits_of and
  * arrow2_bits_of_column set them from an array that was checked.
  *
- * Rules, in addition to those of arrow2_proved.h. Two of them replace rules there: the one on NULL pointers to bytes
- * replaces "NULL is allowed only with 0 items", and the one on validities replaces "NULL never means that a validity is
- * missing".
- * - Each `arrow2_bits_*` function that returns a code makes at most one call of the library, which its comment names,
- *   and returns the code of that call. Without a call it returns ARROW2_OK or ARROW2_LENGTH.
- * - A NULL pointer to bytes counts as 0 bytes, whatever `bytes_len`, `out_len`, `values_len` or `validity_len` is. If
- *   the call needs bytes there, the result is ARROW2_RANGE for an input, and ARROW2_LENGTH for an output.
+ * The rules of arrow2_proved.h hold for these functions too, with two changes: NULL is allowed with any number and
+ * counts as 0 bytes, and a NULL validity means that there is no bitmap. In detail:
+ * - Each `arrow2_bits_*` function that returns a code calls one function of the library and returns its code. The
+ *   comment names that function. Two of them, arrow2_bits_null_count and arrow2_bits_and_validity, may call none if a
+ *   validity is missing; they then return ARROW2_OK or ARROW2_LENGTH.
+ * - A NULL pointer to bytes counts as 0 bytes, whatever `bytes_len`, `out_len`, `values_len` or `validity_len` is. The
+ *   code is then that of 0 bytes: ARROW2_RANGE for an input unless `offset` and `length` are 0, and ARROW2_LENGTH for
+ *   an output unless `length` is 0.
  * - The exception is a validity: there NULL means that there is no validity bitmap, so no item is null. Pass `(struct
  *   arrow2_bits){NULL, 0, 0}`, in C++ `arrow2_bits{nullptr, 0, 0}`. The functions that accept this are
  *   arrow2_bits_null_count, arrow2_bits_and_validity, and for their validity arguments arrow2_bits_and_kleene and
@@ -116,8 +117,8 @@ static inline uint32_t arrow2_bits_null_count(struct arrow2_bits validity, size_
     return arrow2_count_zeros(validity.bytes, validity.bytes_len, validity.offset, length, nulls);
 }
 
-/* Writes to `*equal` whether the `length` bits of both are the same. Calls arrow2_equal_bits. It does not accept a
- * missing validity. */
+/* Writes to `*equal` whether the `length` bits of both are the same. Calls arrow2_equal_bits. NULL `bytes` counts as 0
+ * bytes here, not as a missing validity. */
 static inline uint32_t arrow2_bits_equal(struct arrow2_bits left, struct arrow2_bits right, size_t length,
                                          bool *equal) {
     return arrow2_equal_bits(left.bytes, arrow2_c_count(left.bytes, left.bytes_len), left.offset, right.bytes,
@@ -125,7 +126,8 @@ static inline uint32_t arrow2_bits_equal(struct arrow2_bits left, struct arrow2_
 }
 
 /* Applies `table` to each pair of bits, bit i of `left` and bit i of `right`, and writes the results to `out`, which
- * has arrow2_bytes_for(length) bytes. Calls arrow2_binary_table. It does not accept a missing validity. */
+ * has arrow2_bytes_for(length) bytes. Calls arrow2_binary_table. NULL `bytes` counts as 0 bytes here, not as a missing
+ * validity. */
 static inline uint32_t arrow2_bits_table(struct arrow2_bits left, struct arrow2_bits right, size_t length,
                                          uint16_t table, uint8_t *out, size_t out_len) {
     return arrow2_binary_table(left.bytes, arrow2_c_count(left.bytes, left.bytes_len), left.offset, right.bytes,
@@ -133,26 +135,26 @@ static inline uint32_t arrow2_bits_table(struct arrow2_bits left, struct arrow2_
                                arrow2_c_count(out, out_len));
 }
 
-/* As arrow2_bits_table, with the table of AND. */
+/* As arrow2_bits_table, with the table of AND. Calls arrow2_binary_table. */
 static inline uint32_t arrow2_bits_and(struct arrow2_bits left, struct arrow2_bits right, size_t length, uint8_t *out,
                                        size_t out_len) {
     return arrow2_bits_table(left, right, length, 8, out, out_len);
 }
 
-/* As arrow2_bits_table, with the table of OR. */
+/* As arrow2_bits_table, with the table of OR. Calls arrow2_binary_table. */
 static inline uint32_t arrow2_bits_or(struct arrow2_bits left, struct arrow2_bits right, size_t length, uint8_t *out,
                                       size_t out_len) {
     return arrow2_bits_table(left, right, length, 14, out, out_len);
 }
 
-/* As arrow2_bits_table, with the table of XOR. */
+/* As arrow2_bits_table, with the table of XOR. Calls arrow2_binary_table. */
 static inline uint32_t arrow2_bits_xor(struct arrow2_bits left, struct arrow2_bits right, size_t length, uint8_t *out,
                                        size_t out_len) {
     return arrow2_bits_table(left, right, length, 6, out, out_len);
 }
 
-/* Writes NOT of the `length` bits to `out`, which has arrow2_bytes_for(length) bytes. Calls arrow2_unary_table. It
- * does not accept a missing validity. */
+/* Writes NOT of the `length` bits to `out`, which has arrow2_bytes_for(length) bytes. Calls arrow2_unary_table. NULL
+ * `bytes` counts as 0 bytes here, not as a missing validity. */
 static inline uint32_t arrow2_bits_not(struct arrow2_bits bits, size_t length, uint8_t *out, size_t out_len) {
     return arrow2_unary_table(bits.bytes, arrow2_c_count(bits.bytes, bits.bytes_len), bits.offset, length, 1, out,
                               arrow2_c_count(out, out_len));
@@ -240,7 +242,8 @@ static inline struct arrow2_bits arrow2_bits_of(const struct ArrowArray *array, 
  * batch is a struct: its row i is item `batch->offset + i` of each column, so the batch's offset is added to the
  * column's own offset. This function also serves for the children of a sparse union. If there is no such column, or
  * arrow2_bits_of returns no bytes, the result has `bytes` NULL, `bytes_len` 0 and `offset` 0. Used as a validity, this
- * result means that no item is null.
+ * result means that no item is null. So test the format first, as for arrow2_bits_of: a null array has no buffer and
+ * only nulls, and buffer 0 of a union is its types.
  *
  * The validity of the struct itself is not applied: arrow2_bits_of(batch, 0) returns it. */
 static inline struct arrow2_bits arrow2_bits_of_column(const struct ArrowArray *batch, int64_t column, int index) {

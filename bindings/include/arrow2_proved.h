@@ -14,8 +14,8 @@
  *   true for pointer, number of bytes, offset and this argument. Every other call needs the bitmap.
  * - An output must not overlap any other argument, input or output. `bytes` of the *_assign_table calls and of
  *   arrow2_set_bit, and `*at`, are outputs too. Inputs may overlap each other.
- * - Every `bool` in memory that a call gets must hold 0 or 1 when the call begins: an input, each item of a slice, and
- *   also one that the call only writes (`*equal`, `*value`, `out` of arrow2_unpack). Other outputs need not be
+ * - Every `bool` must hold 0 or 1 when the call begins. This also holds for output bools (`*equal`, `*value`, each item
+ *   of `out` of arrow2_unpack), although the call only writes them: set them before the call. Other outputs need not be
  *   initialised, except `*at`, and `bytes` of the *_assign_table calls and of arrow2_set_bit.
  * - Other threads may read the memory that a call reads. Until the call returns, no other thread may write that memory,
  *   and none may read or write the memory that the call writes.
@@ -210,22 +210,23 @@ uint32_t arrow2_unpack(const uint8_t *bytes, size_t bytes_len, size_t offset, bo
  * `offset`. The search begins at bit `*at` of the range: set `*at` to 0 before the first call. Run k begins at bit
  * `starts[k]` of the range and has `lengths[k]` bits. If `*at` is inside a run, only the part of that run from `*at` on
  * is reported. The call stops when the slices are full or no run is left. It writes to `*count` how many runs it has
- * written, and to `*at` where the next call goes on. If `*count < starts_len`, all runs are done, and `*at` equals
- * `length`. The items of `starts` and `lengths` from `*count` on may have been written too. For all runs, call again
- * until `*count` is below `starts_len`, which must be at least 1. If `starts_len` is 0, `*count` becomes 0, which is
- * never below `starts_len`, and `*at` may or may not change. ARROW2_RANGE: the range is not inside the bytes, or `*at`
- * is above `length`. Else ARROW2_LENGTH: `starts_len` is not `lengths_len`. */
+ * written, and to `*at` where the next call goes on: a bit from the end of the last run up to the first bit of the
+ * next. If `*count < starts_len`, all runs are done, and `*at` equals `length`. The items of `starts` and `lengths`
+ * from `*count` on may have been written too. For all runs, call again until `*count` is below `starts_len`, which must
+ * be at least 1. If `starts_len` is 0, `*count` becomes 0, which is never below `starts_len`, and `*at` may or may not
+ * change. ARROW2_RANGE: the range is not inside the bytes, or `*at` is above `length`. Else ARROW2_LENGTH: `starts_len`
+ * is not `lengths_len`. */
 uint32_t arrow2_runs(const uint8_t *bytes, size_t bytes_len, size_t offset, size_t length, size_t *at, size_t *starts,
                      size_t starts_len, size_t *lengths, size_t lengths_len, size_t *count);
 
 /* Finds the set bits in a range, the `length` bits from bit `offset` on. Bits of the range are counted from `offset`.
  * The search begins at bit `*at` of the range: set `*at` to 0 before the first call. Bit `indices[k]` of the range is
  * set, and the indices rise. The call stops when `indices` is full or no set bit is left. It writes to `*count` how
- * many indices it has written, and to `*at` where the next call goes on. If `*count < indices_len`, all set bits are
- * done, and `*at` equals `length`. The items of `indices` from `*count` on may have been written too. For all set bits,
- * call again until `*count` is below `indices_len`, which must be at least 1. If `indices_len` is 0, `*count` becomes
- * 0, which is never below `indices_len`, and `*at` may or may not change. ARROW2_RANGE: the range is not inside the
- * bytes, or `*at` is above `length`. */
+ * many indices it has written, and to `*at` where the next call goes on: a bit above the last index, up to the next set
+ * bit. If `*count < indices_len`, all set bits are done, and `*at` equals `length`. The items of `indices` from
+ * `*count` on may have been written too. For all set bits, call again until `*count` is below `indices_len`, which must
+ * be at least 1. If `indices_len` is 0, `*count` becomes 0, which is never below `indices_len`, and `*at` may or may
+ * not change. ARROW2_RANGE: the range is not inside the bytes, or `*at` is above `length`. */
 uint32_t arrow2_set_indices(const uint8_t *bytes, size_t bytes_len, size_t offset, size_t length, size_t *at,
                             size_t *indices, size_t indices_len, size_t *count);
 
@@ -300,9 +301,9 @@ uint32_t arrow2_offsets_narrow(const int64_t *offsets, size_t offsets_len, int32
 uint32_t arrow2_validity_check(const uint8_t *bytes, size_t bytes_len, size_t offset, size_t length,
                                int64_t null_count);
 
-/* `bytes` is a number of bytes. arrow2_bits_check returns ARROW2_OK if offset + length <= 8 * bytes,
- * arrow2_values_check if (offset + length) * width <= bytes; else they return ARROW2_RANGE. Both conditions are
- * computed as if in unlimited integers, and are tested for length 0 too. Values of width 0 always fit. */
+/* `bytes` is a number of bytes. arrow2_bits_check returns ARROW2_OK if offset + length <= 8 * bytes.
+ * arrow2_values_check returns ARROW2_OK if (offset + length) * width <= bytes. Else each returns ARROW2_RANGE. Both
+ * conditions are computed as if in unlimited integers, and are tested for length 0 too. Width 0 always fits. */
 uint32_t arrow2_bits_check(size_t bytes, size_t offset, size_t length);
 uint32_t arrow2_values_check(size_t bytes, size_t width, size_t offset, size_t length);
 

@@ -3,4 +3,4 @@ pub use Rattle.arrow2_packed_bits.specs.Growth.{Appends}
 pub use Rattle.arrow2_offset.specs.Growth.{Grows, GrowsUpTo, GrowsByIterator}
 pub use Rattle.arrow2_primitive.specs.Growth.{AppendsItems}
 pub use Rattle.arrow2_array.specs.Growth.{AppendsBooleans}
-pub use Rattle.arrow2_text.specs.Growth.{AppendsBinary, AppendsSlots, GrowingBinary, PopsBinary, items_by_bytes, bytes_of_items}
+pub use Rattle.arrow2_text.specs.Growth.{AppendsBinary, AppendsSlots, GrowingBinary, HasItems, PopsBinary, items_by_bytes, bytes_of_items}

@@ -11,7 +11,7 @@ ghost use Rattle.arrow2_model.specs.Storage.{items_of};
 ghost use Rattle.arrow2_model.specs.Tables.{each};
 ghost use Rattle.arrow2_bitmap.specs.Packed.{IsPacked};
 ghost use Rattle.arrow2_walks.specs.Zipped.{zipped};
-ghost use Rattle.arrow2_types.specs.Refusals.{IsInvalidArgumentOrOutOfMemory};
+ghost use Rattle.arrow2_types.specs.Refusals.{FailsOnlyWith};
 ghost use Rattle.arrow2_validity.specs.OptionalValidity.{valid_items};
 ghost use Rattle.arrow2_validity.specs.Refusals.{unequal_lengths_message};
 ghost use Rattle.arrow2_array.specs.Items.{boolean_items, sliced_boolean, nulls};
@@ -84,9 +84,7 @@ impl BooleanArray {
         ensures accepted { IsOk result ↔ ForSome validity (λ v. length (items_of v)
             ≡ length (items_of values)) }
         ensures refused { ForSome validity (λ v.
-            IfErr result (λ e.
-            IsInvalidArgumentOrOutOfMemory e
-            (unequal_lengths_message (length (items_of v)) (length (items_of values))))) }
+            FailsOnlyWith result (unequal_lengths_message (length (items_of v)) (length (items_of values)))) }
     {
         let validity = Validity::try_new(values.len(), validity)?;
         Ok(BooleanArray { values, validity })
@@ -315,8 +313,9 @@ impl BooleanArray {
         // It has no bitmap exactly where neither array has one.
         ensures bitmap { IfOk result (λ a. IsNone a.validity.bitmap
             ↔ (IsNone self.now.validity.bitmap × IsNone other.now.validity.bitmap)) }
-        // The values are stored anew, and the only error is `OutOfMemory`.
+        // Both are stored anew, and the only error is `OutOfMemory`.
         ensures storage { IfOk result (λ a. IsPacked a.values) }
+        ensures packed { IfOk result (λ a. IfSome a.validity.bitmap (λ v. IsPacked v)) }
         ensures only { IfErr result (λ e. e ≡ Error.OutOfMemory) }
     {
         self.by_operator(Operator::And, other)
@@ -346,8 +345,9 @@ impl BooleanArray {
         // It has no bitmap exactly where neither array has one.
         ensures bitmap { IfOk result (λ a. IsNone a.validity.bitmap
             ↔ (IsNone self.now.validity.bitmap × IsNone other.now.validity.bitmap)) }
-        // The values are stored anew, and the only error is `OutOfMemory`.
+        // Both are stored anew, and the only error is `OutOfMemory`.
         ensures storage { IfOk result (λ a. IsPacked a.values) }
+        ensures packed { IfOk result (λ a. IfSome a.validity.bitmap (λ v. IsPacked v)) }
         ensures only { IfErr result (λ e. e ≡ Error.OutOfMemory) }
     {
         self.by_operator(Operator::Or, other)
@@ -370,8 +370,9 @@ impl BooleanArray {
         // It has no bitmap exactly where neither array has one.
         ensures bitmap { IfOk result (λ a. IsNone a.validity.bitmap
             ↔ (IsNone self.now.validity.bitmap × IsNone other.now.validity.bitmap)) }
-        // The values are stored anew, and the only error is `OutOfMemory`.
+        // Both are stored anew, and the only error is `OutOfMemory`.
         ensures storage { IfOk result (λ a. IsPacked a.values) }
+        ensures packed { IfOk result (λ a. IfSome a.validity.bitmap (λ v. IsPacked v)) }
         ensures only { IfErr result (λ e. e ≡ Error.OutOfMemory) }
     {
         let values = binary_table(&self.values, &other.values, operator.values())?;

@@ -12,7 +12,9 @@ use std::fmt;
 impl fmt::Debug for BooleanArray {
     ghost debug_output = { λ a. Some (array_text (boolean_items a)) };
 
-    fn fmt<W: fmt::Write>(&self, f: &mut fmt::Formatter<W>) -> fmt::Result {
+    fn fmt<W: fmt::Write>(&self, f: &mut fmt::Formatter<W>) -> fmt::Result
+        ensures styled { WritesStyledOnOk W.write_str_gives f.old result (array_text (boolean_items self.now)) f.new }
+    {
         write_array(self, f)
     }
 }

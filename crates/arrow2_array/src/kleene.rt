@@ -1,9 +1,10 @@
 //! Which results of Kleene's logic are known, by truth tables.
-ghost use Rattle.std.specs.Prelude.{◌≡◌, ◌↔◌, [], ◌∷◌, length, Some, IsNone, IfOk, IfErr};
+ghost use Rattle.std.specs.Prelude.{◌≡◌, ◌↔◌, [], ◌∷◌, length, Some, IsNone, IfOk, IfErr, IfSome};
 ghost use Rattle.arrow2_model.specs.Storage.{items_of};
 ghost use Rattle.arrow2_model.specs.Tables.{each};
 ghost use Rattle.arrow2_validity.specs.OptionalValidity.{valid_items};
 ghost use Rattle.arrow2_array.specs.Kleene.{paired_table, known_table, values_table};
+ghost use Rattle.arrow2_bitmap.specs.Packed.{IsPacked};
 
 use arrow2_bitmap::Bitmap;
 use arrow2_tables::bitmap_ops::{quaternary_table, ternary_table};
@@ -96,6 +97,7 @@ pub(crate) fn validity_by(
     // It has no bitmap exactly where neither input has one.
     ensures bitmap { IfOk result (λ v. IsNone v.bitmap
         ↔ (IsNone left_validity.now.bitmap × IsNone right_validity.now.bitmap)) }
+    ensures packed { IfOk result (λ v. IfSome v.bitmap (λ b. IsPacked b)) }
     // The only error is `OutOfMemory`.
     ensures only { IfErr result (λ e. e ≡ Error.OutOfMemory) }
 {

@@ -46,9 +46,10 @@ impl Model for MutableBooleanArray {
 
 #[tactic(auto, using(crate::proofs::Items::growing))]
 impl MutableBooleanArray {
-    /// Returns an array without items. Does not allocate.
+    /// Returns an array without items. Its capacity is 0. Does not allocate.
     pub fn new(alloc: Global) -> MutableBooleanArray
-        ensures { result.items ≡ [] }
+        ensures items { result.items ≡ [] }
+        ensures capacity { result.capacity ≡ 0 }
     {
         MutableBooleanArray {
             values: MutableBitmap::new(alloc),

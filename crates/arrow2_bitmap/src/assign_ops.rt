@@ -14,8 +14,9 @@ use arrow2_kernels::truth_tables::binary_outputs;
 use arrow2_kernels::{NoList, OneList};
 use std::ops::{BitAnd, BitAndAssign, BitOr, BitOrAssign, BitXor, BitXorAssign, Not};
 
-/// Replaces each word of `T` by the result of `op` for it. The last word is padded with false, and bits that `op` sets
-/// in the padding are cleared. Does not allocate. Requires that the `requires` of `op` holds for every word.
+/// Replaces each word of type `T` of the bitmap by the result of `op` for it. The last word is padded with false, and
+/// bits that `op` sets in the padding are cleared. Does not allocate. Requires that the `requires` of `op` holds for
+/// any word, not only for those of the bitmap.
 ///
 /// Differs from arrow2: padding bits don't reach `op`, and are false afterwards.
 pub fn unary_assign<T: BitChunk, F: Fn(T) -> T>(bitmap: &mut MutableBitmap, op: F)
@@ -33,9 +34,9 @@ pub fn unary_assign<T: BitChunk, F: Fn(T) -> T>(bitmap: &mut MutableBitmap, op: 
     bitmap.bits.assign_rows(rows, |own: T, _none: ()| op(own));
 }
 
-/// Replaces each word of `T` by the result of `op` for it and the word of `rhs` at the same index. The last words are
-/// padded with false, and bits that `op` sets in the padding are cleared. Does not allocate. Requires equal lengths,
-/// and that the `requires` of `op` holds for every two words.
+/// Replaces each word of type `T` of `lhs` by the result of `op` for it and the word of `rhs` at the same index. The
+/// last words are padded with false, and bits that `op` sets in the padding are cleared. Does not allocate. Requires
+/// equal lengths, and that the `requires` of `op` holds for any two words, not only for those of the bitmaps.
 ///
 /// Differs from arrow2: padding bits don't reach `op`, and are false afterwards.
 pub fn binary_assign<T: BitChunk, F: Fn(T, T) -> T>(lhs: &mut MutableBitmap, rhs: &Bitmap, op: F)

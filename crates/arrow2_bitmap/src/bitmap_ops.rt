@@ -19,9 +19,9 @@ use std::alloc::Global;
 use std::convert::TryFrom;
 use std::ops::{BitAnd, BitOr, BitXor, Not};
 
-/// Applies `op` to each row of words, and returns a bitmap of the first `len` bits of the results. A row is the
-/// words at one index of several lists. Requires that all lists have `len` items, and that the `requires` of `op`
-/// holds for every row.
+/// Applies `op` to each row of words, and returns a bitmap of the first `len` bits of the results. A row is the words
+/// at one index of several lists. Requires that all lists have `len` items, and that the `requires` of `op` holds for
+/// any words, not only for those of these lists.
 ///
 /// arrow2 has no such call.
 ///
@@ -34,7 +34,7 @@ pub fn from_rows<S: WordRows<u64>, F: Fn(S::Row) -> u64>(
     rows: S,
     op: F,
 ) -> Result<Bitmap>
-    // `op` accepts each row, and each list of `rows` has `len` items.
+    // `op` accepts any words, and each list of `rows` has `len` items.
     requires callable { F.IsAlwaysCallable op }
     requires alike { S.alike rows }
     requires len { S.len rows ≡ len }
@@ -62,7 +62,7 @@ pub fn from_rows<S: WordRows<u64>, F: Fn(S::Row) -> u64>(
 }
 
 /// Returns the bitmap of the results of `op` for each word of 64 items. The last word is padded with false. Requires
-/// that the `requires` of `op` holds for every word.
+/// that the `requires` of `op` holds for any word, not only for those of the bitmap.
 ///
 /// Differs from arrow2: `op` sees false in place of the padding bits, and is not called for words that hold no item.
 /// arrow2's `unary` returns no `Result`.
@@ -95,7 +95,8 @@ pub fn unary<F: Fn(u64) -> u64>(lhs: &Bitmap, op: F) -> Result<Bitmap>
 }
 
 /// Returns the bitmap of the results of `op` for the two words of 64 items at each index. The last words are padded
-/// with false. Requires equal lengths, and that the `requires` of `op` holds for every two words.
+/// with false. Requires equal lengths, and that the `requires` of `op` holds for any two words, not only for those of
+/// the bitmaps.
 ///
 /// Differs from arrow2: `op` sees false in place of the padding bits, and is not called for words that hold no item.
 /// arrow2's `binary` returns no `Result`.

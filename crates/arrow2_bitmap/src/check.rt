@@ -1,6 +1,6 @@
 //! The test that bytes can hold a given number of bits.
-ghost use Rattle.std.specs.Prelude.{◌≡◌, ◌*◌, ◌≤◌, ◌↔◌, IsOk, IfOk, IfErr, vec_len, string_bytes};
-ghost use Rattle.arrow2_types.specs.Refusals.{IsInvalidArgumentOrOutOfMemory};
+ghost use Rattle.std.specs.Prelude.{◌≡◌, ◌*◌, ◌≤◌, ◌↔◌, IsOk, IfOk, vec_len, string_bytes};
+ghost use Rattle.arrow2_types.specs.Refusals.{FailsOnlyWith};
 ghost use Rattle.arrow2_bitmap.specs.Refusals.{too_long};
 
 use arrow2_types::{Error, Result};
@@ -9,8 +9,7 @@ use std::alloc::{AllocError, Global};
 /// Returns an error if `len` is above eight times the number of bytes. The message names `subject`.
 pub(crate) fn check_length(subject: &str, len: usize, bytes: &Vec<u8>) -> Result<()>
     ensures accepted { IsOk result ↔ (len ≤ 8 * vec_len bytes.now) }
-    ensures refused { IfErr result (λ e.
-        IsInvalidArgumentOrOutOfMemory e (too_long subject.now len (vec_len bytes.now))) }
+    ensures refused { FailsOnlyWith result (too_long subject.now len (vec_len bytes.now)) }
 {
     if len > bytes.len().saturating_mul(8) {
         let text = refusal(*bytes.allocator(), subject, len, bytes.len())?;

@@ -15,13 +15,14 @@ ghost use Rattle.arrow2_model.specs.Shown.{shown};
 ghost use Rattle.arrow2_model.specs.Touched.{slice_reads};
 ghost use Rattle.arrow2_model.specs.Words.{spill};
 ghost use Rattle.arrow2_model.specs.Storage.{BitmapStorage, items_of};
-ghost use Rattle.arrow2_types.specs.Refusals.{IsInvalidArgumentOrOutOfMemory};
+ghost use Rattle.arrow2_types.specs.Refusals.{FailsOnlyWith};
 ghost use Rattle.arrow2_types.specs.declared.error.Error.TheVariants.{OutOfMemory};
 ghost use Rattle.arrow2_bitmap.specs.Predicates.{ReturnsBelow, ReturnsOnEach, ReturnsOnPairs, IsResultAt, IsPairResultAt, IsCallableWithEach, IsCallableWithPairs};
 ghost use Rattle.arrow2_bitmap.specs.Iterators.{MayYieldTooMany};
 ghost use Rattle.arrow2_bitmap.specs.Packed.{IsPacked, packed_storage};
 ghost use Rattle.arrow2_bitmap.specs.Refusals.{too_long};
 ghost use Rattle.std.specs.declared.alloc.Global.{Global};
+ghost use Rattle.std.specs.Fmt.{WritesStyledOnOk};
 
 use crate::check::check_length;
 use crate::mutable::MutableBitmap;
@@ -106,8 +107,7 @@ impl Bitmap {
         ensures items { IfOk result (λ b. items_of b ≡ take len (bits bytes.items)) }
         ensures len { IfOk result (λ b. length (items_of b) ≡ len) }
         ensures refused { 8 * vec_len bytes < len →
-            IfErr result (λ e.
-            IsInvalidArgumentOrOutOfMemory e (too_long (codes "The offset + length") len (vec_len bytes))) }
+            FailsOnlyWith result (too_long (codes "The offset + length") len (vec_len bytes)) }
         ensures only { len ≤ 8 * vec_len bytes → IfErr result (λ e. e ≡ Error.OutOfMemory) }
     {
         check_length("The offset + length", len, &bytes)?;
@@ -240,7 +240,7 @@ impl Bitmap {
     /// `OutOfMemory` alone.
     pub fn try_from_fn<F: Fn(usize) -> bool>(alloc: Global, len: usize, f: F) -> Result<Bitmap>
         requires callable { (index : ℕ) → index < len → F.pre f index }
-        // Where `f` computes a function `test`.
+        // If the results of `f` are those of a mathematical function `test`:
         ensures items { (test : ℕ → Bool) → ReturnsBelow len (F.post f) test →
             IfOk result (λ b. items_of b ≡ map test (range_with_len 0 len)) }
         // For any `f`: each item is a result that the contract of `f` allows at its index.
@@ -265,7 +265,7 @@ impl Bitmap {
     /// `OutOfMemory` alone.
     pub fn from_slice_with<T, F: Fn(&T) -> bool>(alloc: Global, items: &[T], f: F) -> Result<Bitmap>
         requires callable { IsCallableWithEach items.now (F.pre f) }
-        // Where `f` computes a function `test`.
+        // If the results of `f` are those of a mathematical function `test`:
         ensures items { (test : T → Bool) → ReturnsOnEach items.now (F.post f) test →
             IfOk result (λ b. items_of b ≡ map test items.now) }
         // For any `f`: each item is a result that the contract of `f` allows at its index.
@@ -303,7 +303,7 @@ impl Bitmap {
     ) -> Result<Bitmap>
         requires same_length { length left.now ≡ length right.now }
         requires callable { IsCallableWithPairs left.now right.now (F.pre f) }
-        // Where `f` computes a function `test`.
+        // If the results of `f` are those of a mathematical function `test`:
         ensures items { (test : S → T → Bool) → ReturnsOnPairs left.now right.now (F.post f) test →
             IfOk result (λ b. items_of b ≡ zip2 test left.now right.now) }
         // For any `f`: each item is a result that the contract of `f` allows at its index.
@@ -676,7 +676,11 @@ impl fmt::Debug for Bitmap {
     ghost debug_output = { λ b. Some (shown
         (part b.bytes (b.offset / 8) ((b.offset % 8 + b.len + 7) / 8)) (b.offset % 8) b.len) };
 
-    fn fmt<W: fmt::Write>(&self, f: &mut fmt::Formatter<W>) -> fmt::Result {
+    /// Writes the same whatever the formatter's options are.
+    fn fmt<W: fmt::Write>(&self, f: &mut fmt::Formatter<W>) -> fmt::Result
+        ensures styled { let b = self.now in WritesStyledOnOk W.write_str_gives f.old result (shown
+            (part b.bytes (b.offset / 8) ((b.offset % 8 + b.len + 7) / 8)) (b.offset % 8) b.len) f.new }
+    {
         let (bytes, offset, length) = self.as_slice();
         arrow2_bits::fmt::fmt(bytes, offset, length, f)
     }

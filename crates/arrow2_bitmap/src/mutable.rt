@@ -13,11 +13,12 @@ ghost use Rattle.arrow2_bitmap.specs.Packed.{packed_storage};
 ghost use Rattle.arrow2_model.specs.Shown.{shown};
 ghost use Rattle.arrow2_model.specs.Storage.{GrowingBitmap, items_of};
 ghost use Rattle.arrow2_model.specs.Tables.{each};
-ghost use Rattle.arrow2_types.specs.Refusals.{IsInvalidArgumentOrOutOfMemory, error_of};
+ghost use Rattle.arrow2_types.specs.Refusals.{FailsOnlyWith, error_of};
 ghost use Rattle.arrow2_packed_bits.specs.Growth.{Appends};
 ghost use Rattle.arrow2_bitmap.specs.Iterators.{MayYieldTooMany};
 ghost use Rattle.arrow2_bitmap.specs.Refusals.{too_long};
 ghost use Rattle.std.specs.declared.alloc.Global.{Global};
+ghost use Rattle.std.specs.Fmt.{WritesStyledOnOk};
 
 use crate::check::check_length;
 use crate::immutable::Bitmap;
@@ -60,9 +61,10 @@ impl Model for MutableBitmap {
 }
 
 impl MutableBitmap {
-    /// Returns an empty bitmap. Does not allocate.
+    /// Returns an empty bitmap. Its capacity is 0. Does not allocate.
     pub fn new(alloc: Global) -> MutableBitmap
-        ensures { result.items ≡ [] }
+        ensures items { result.items ≡ [] }
+        ensures capacity { result.capacity ≡ 0 }
     {
         MutableBitmap {
             bits: PackedBits::new(alloc),
@@ -82,8 +84,7 @@ impl MutableBitmap {
         ensures ok { IfOk result (λ m. m.items ≡ take len (bits bytes.items)) }
         ensures len { IfOk result (λ m. length m.items ≡ len) }
         ensures capacity { IfOk result (λ m. m.capacity ≡ min (8 * vec_capacity bytes) (2 ^ 64 - 1)) }
-        ensures refused { IfErr result (λ e.
-            IsInvalidArgumentOrOutOfMemory e (too_long (codes "The length") len (vec_len bytes))) }
+        ensures refused { FailsOnlyWith result (too_long (codes "The length") len (vec_len bytes)) }
     {
         check_length("The length", len, &bytes)?;
         Ok(MutableBitmap::from_vec(bytes, len))
@@ -267,7 +268,7 @@ impl MutableBitmap {
         ensures items { self.new.items ≡ self.old.items }
         ensures ok { OnOk result (length self.old.items + additional ≤ self.new.capacity) }
         ensures within_capacity { length self.old.items ≤ self.old.capacity }
-        // When each error comes, and when none does.
+        // When `Overflow` comes, which errors can come, and when none does.
         ensures overflow { IsErrOf result Error.Overflow ↔
             (2 ^ 64 ≤ length self.old.items + additional) }
         ensures only { IfErr result (λ e. (e ≡ Error.Overflow) ⊎ (e ≡ Error.OutOfMemory)) }
@@ -406,8 +407,8 @@ impl MutableBitmap {
         self.unset_bits()
     }
 
-    /// Returns the bytes that its items need, with padding bits false. arrow2 returns the same bytes, but padding bits
-    /// may be true there.
+    /// Returns the bytes that its items need, with padding bits false. arrow2 also returns only these bytes, but
+    /// padding bits may be true there.
     pub fn as_slice(&self) -> &[u8]
         ensures bytes { result.now ≡ canonical_bytes self.now.items }
         ensures items { take (length self.now.items) (bits result.now) ≡ self.now.items }
@@ -484,7 +485,11 @@ fn filled(alloc: Global, byte: u8, count: usize) -> std::result::Result<Vec<u8>,
 impl fmt::Debug for MutableBitmap {
     ghost debug_output = { λ m. Some (shown (canonical_bytes m.items) 0 (length m.items)) };
 
-    fn fmt<W: fmt::Write>(&self, f: &mut fmt::Formatter<W>) -> fmt::Result {
+    /// Writes the same whatever the formatter's options are.
+    fn fmt<W: fmt::Write>(&self, f: &mut fmt::Formatter<W>) -> fmt::Result
+        ensures styled { WritesStyledOnOk W.write_str_gives f.old result
+            (shown (canonical_bytes self.now.items) 0 (length self.now.items)) f.new }
+    {
         arrow2_bits::fmt::fmt(self.as_slice(), 0, self.len(), f)
     }
 }

@@ -1,10 +1,11 @@
 //! The items of several arrays, one after the other.
-ghost use Rattle.std.specs.Prelude.{◌≡◌, ◌+◌, ◌<◌, ◌≤◌, ◌^◌, ◌⊎◌, ◌++◌, length, IfOk, IfErr, IsErrOf, OnOk};
+ghost use Rattle.std.specs.Prelude.{◌≡◌, ◌+◌, ◌<◌, ◌≤◌, ◌^◌, ◌⊎◌, ◌++◌, length, IfOk, IfErr, IsErrOf, OnOk, ◌↔◌, IsNone, count_by};
 ghost use Rattle.std.specs.List.{flat_map};
-ghost use Rattle.arrow2_array.specs.Items.{boolean_items};
+ghost use Rattle.arrow2_array.specs.Items.{boolean_items, nulls};
 ghost use Rattle.arrow2_compute.specs.Sizes.{AreTooLarge, joined_bytes, joined_items};
 ghost use Rattle.arrow2_primitive.specs.Primitive.{primitive_items};
 ghost use Rattle.arrow2_text.specs.Binary.{binary_items};
+ghost use Rattle.std.specs.Option.{is_none};
 
 use crate::binary::Binary;
 use arrow2_array::{BooleanArray, MutableBooleanArray};
@@ -29,6 +30,8 @@ pub fn concatenate<T: NativeType>(
     ensures data_type { IfOk result (λ a. a.data_type ≡ first.now.data_type) }
     ensures overflow { IsErrOf result Error.Overflow → 2 ^ 64 ≤ length (primitive_items first.now
         ++ flat_map (λ array. primitive_items array.now) others.now) }
+    ensures bitmap { IfOk result (λ a.
+        IsNone a.validity.bitmap ↔ (count_by is_none (primitive_items a) ≡ 0)) }
     ensures only { IfErr result (λ e. (e ≡ Error.Overflow) ⊎ (e ≡ Error.OutOfMemory)) }
 {
     let mut joined = MutablePrimitiveArray::like(first)?;
@@ -81,6 +84,7 @@ pub fn concatenate_boolean(first: &BooleanArray, others: &[&BooleanArray]) -> Re
         ≡ boolean_items first.now ++ flat_map (λ array. boolean_items array.now) others.now) }
     ensures overflow { IsErrOf result Error.Overflow → 2 ^ 64 ≤ length (boolean_items first.now
         ++ flat_map (λ array. boolean_items array.now) others.now) }
+    ensures bitmap { IfOk result (λ a. IsNone a.validity.bitmap ↔ (nulls (boolean_items a) ≡ 0)) }
     ensures only { IfErr result (λ e. (e ≡ Error.Overflow) ⊎ (e ≡ Error.OutOfMemory)) }
 {
     let mut items = MutableBooleanArray::new(first.values().allocator());

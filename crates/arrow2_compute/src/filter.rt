@@ -1,5 +1,5 @@
 //! The items that a mask selects.
-ghost use Rattle.std.specs.Prelude.{◌≡◌, ◌+◌, ◌<◌, ◌≤◌, ◌^◌, ◌++◌, length, map, IfOk, IfErr, OnOk};
+ghost use Rattle.std.specs.Prelude.{◌≡◌, ◌+◌, ◌<◌, ◌≤◌, ◌^◌, ◌++◌, length, map, IfOk, IfErr, OnOk, ◌↔◌, IsNone};
 ghost use Rattle.arrow2_array.specs.Items.{boolean_items};
 ghost use Rattle.arrow2_compute.specs.Masks.{is_true};
 ghost use Rattle.arrow2_model.specs.Bits.{unnum};
@@ -35,6 +35,7 @@ pub fn filter<T: NativeType>(array: &PrimitiveArray<T>, mask: &Bitmap) -> Result
     ensures items { IfOk result (λ a.
         primitive_items a ≡ selected (primitive_items array.now) (items_of mask.now)) }
     ensures data_type { IfOk result (λ a. a.data_type ≡ array.now.data_type) }
+    ensures bitmap { IfOk result (λ a. IsNone a.validity.bitmap ↔ IsNone array.now.validity.bitmap) }
     ensures only { IfErr result (λ e. e ≡ Error.OutOfMemory) }
 {
     let data_type = array.data_type().clone()?;
@@ -91,6 +92,7 @@ fn selected_validity(validity: &Validity, mask: &Bitmap) -> Result<Validity>
     ensures items { IfOk result (λ v. valid_items v
         ≡ selected (valid_items validity.now) (items_of mask.now)) }
     ensures len { IfOk result (λ v. v.len + falses (items_of mask.now) ≡ length (items_of mask.now)) }
+    ensures bitmap { IfOk result (λ v. IsNone v.bitmap ↔ IsNone validity.now.bitmap) }
     ensures only { IfErr result (λ e. e ≡ Error.OutOfMemory) }
 {
     let count = mask.len() - mask.unset_bits();
@@ -152,6 +154,7 @@ pub fn filter_by_array<T: NativeType>(
     ensures items { IfOk result (λ a. primitive_items a
         ≡ selected (primitive_items array.now) (map is_true (boolean_items mask.now))) }
     ensures data_type { IfOk result (λ a. a.data_type ≡ array.now.data_type) }
+    ensures bitmap { IfOk result (λ a. IsNone a.validity.bitmap ↔ IsNone array.now.validity.bitmap) }
     ensures only { IfErr result (λ e. e ≡ Error.OutOfMemory) }
 {
     filter(array, &true_items(mask)?)
@@ -204,6 +207,7 @@ pub fn filter_boolean(array: &BooleanArray, mask: &Bitmap) -> Result<BooleanArra
     requires same_length { length (items_of mask.now) ≡ length (boolean_items array.now) }
     ensures items { IfOk result (λ a.
         boolean_items a ≡ selected (boolean_items array.now) (items_of mask.now)) }
+    ensures bitmap { IfOk result (λ a. IsNone a.validity.bitmap ↔ IsNone array.now.validity.bitmap) }
     ensures only { IfErr result (λ e. e ≡ Error.OutOfMemory) }
 {
     let values = selected_bits(array.values(), mask)?;

@@ -1,5 +1,5 @@
 //! Items of one array or of another.
-ghost use Rattle.std.specs.Prelude.{◌≡◌, ◌<◌, ◌≤◌, ◌⊎◌, [], None, length, sum_by, if◌then◌else◌, IfOk, IfErr, IsErrOf, OnOk};
+ghost use Rattle.std.specs.Prelude.{◌≡◌, ◌<◌, ◌≤◌, ◌⊎◌, [], None, length, sum_by, if◌then◌else◌, IfOk, IfErr, IsErrOf, OnOk, ◌↔◌, IsNone, Some};
 ghost use Rattle.arrow2_array.specs.Items.{boolean_items};
 ghost use Rattle.arrow2_model.specs.Storage.{items_of};
 ghost use Rattle.arrow2_compute.specs.Sizes.{AppendsItem, binary_item, item_bytes};
@@ -37,6 +37,8 @@ pub fn if_then_else<T: NativeType>(
     ensures items { IfOk result (λ a. primitive_items a
         ≡ chosen (items_of mask.now) (primitive_items lhs.now) (primitive_items rhs.now)) }
     ensures data_type { IfOk result (λ a. a.data_type ≡ lhs.now.data_type) }
+    ensures bitmap { IfOk result (λ a.
+        IsNone a.validity.bitmap ↔ (IsNone lhs.now.validity.bitmap × IsNone rhs.now.validity.bitmap)) }
     ensures only { IfErr result (λ e. e ≡ Error.OutOfMemory) }
 {
     let data_type = lhs.data_type().clone()?;
@@ -80,6 +82,8 @@ fn chosen_validity(mask: &Bitmap, lhs: &Validity, rhs: &Validity) -> Result<Vali
     ensures items { IfOk result (λ v. valid_items v
         ≡ chosen (items_of mask.now) (valid_items lhs.now) (valid_items rhs.now)) }
     ensures len { IfOk result (λ v. v.len ≡ length (items_of mask.now)) }
+    ensures bitmap { IfOk result (λ v.
+        IsNone v.bitmap ↔ (IsNone lhs.now.bitmap × IsNone rhs.now.bitmap)) }
     ensures only { IfErr result (λ e. e ≡ Error.OutOfMemory) }
 {
     match (lhs.bitmap(), rhs.bitmap()) {
@@ -94,6 +98,7 @@ fn chosen_validity(mask: &Bitmap, lhs: &Validity, rhs: &Validity) -> Result<Vali
 fn by_bits(bits: Bitmap) -> Validity
     ensures items { valid_items result ≡ items_of bits }
     ensures len { result.len ≡ length (items_of bits) }
+    ensures bitmap { result.bitmap ≡ Some bits }
 {
     Validity::new(bits.len(), Some(bits))
 }
@@ -183,6 +188,8 @@ pub fn if_then_else_boolean(
     requires right { length (items_of mask.now) ≡ length (boolean_items rhs.now) }
     ensures items { IfOk result (λ a. boolean_items a
         ≡ chosen (items_of mask.now) (boolean_items lhs.now) (boolean_items rhs.now)) }
+    ensures bitmap { IfOk result (λ a.
+        IsNone a.validity.bitmap ↔ (IsNone lhs.now.validity.bitmap × IsNone rhs.now.validity.bitmap)) }
     ensures only { IfErr result (λ e. e ≡ Error.OutOfMemory) }
 {
     let values = chosen_bits(mask, lhs.values(), rhs.values())?;

@@ -1,5 +1,5 @@
 //! The items at given indices.
-ghost use Rattle.std.specs.Prelude.{◌≡◌, ◌<◌, ◌≤◌, ◌⊎◌, All, None, false, is_some, length, map, slice_index_or, sum_by, IfOk, IfErr, IsErrOf, OnOk};
+ghost use Rattle.std.specs.Prelude.{◌≡◌, ◌<◌, ◌≤◌, ◌⊎◌, All, None, false, is_some, length, map, slice_index_or, sum_by, IfOk, IfErr, IsErrOf, OnOk, ◌↔◌, IsNone};
 ghost use Rattle.std.specs.List.{AllZip};
 ghost use Rattle.arrow2_array.specs.Items.{boolean_items};
 ghost use Rattle.arrow2_compute.specs.Take.{IsInBoundsOrNull, IsItemAt, item_at, items_at};
@@ -37,6 +37,7 @@ pub fn take<T: NativeType>(
     ensures items { IfOk result (λ a. primitive_items a
         ≡ map (λ index. slice_index_or (primitive_items array.now) index None) indices.now) }
     ensures data_type { IfOk result (λ a. a.data_type ≡ array.now.data_type) }
+    ensures bitmap { IfOk result (λ a. IsNone a.validity.bitmap ↔ IsNone array.now.validity.bitmap) }
     ensures only { IfErr result (λ e. e ≡ Error.OutOfMemory) }
 {
     let data_type = array.data_type().clone()?;
@@ -67,6 +68,7 @@ fn validity_at(validity: &Validity, indices: &[usize]) -> Result<Validity>
     ensures items { IfOk result (λ v. valid_items v
         ≡ map (λ index. slice_index_or (valid_items validity.now) index false) indices.now) }
     ensures len { IfOk result (λ v. v.len ≡ length indices.now) }
+    ensures bitmap { IfOk result (λ v. IsNone v.bitmap ↔ IsNone validity.now.bitmap) }
     ensures only { IfErr result (λ e. e ≡ Error.OutOfMemory) }
 {
     let Some(bitmap) = validity.bitmap() else {
@@ -210,6 +212,7 @@ pub fn take_boolean(array: &BooleanArray, indices: &[usize]) -> Result<BooleanAr
     requires inside { All (λ index. index < length (boolean_items array.now)) indices.now }
     ensures items { IfOk result (λ a. boolean_items a
         ≡ map (λ index. slice_index_or (boolean_items array.now) index None) indices.now) }
+    ensures bitmap { IfOk result (λ a. IsNone a.validity.bitmap ↔ IsNone array.now.validity.bitmap) }
     ensures only { IfErr result (λ e. e ≡ Error.OutOfMemory) }
 {
     let values = bits_at(array.values(), indices)?;

@@ -9,6 +9,7 @@ ghost use Rattle.arrow2_machine.specs.Outcomes.{Gives, Carries, Writes, Answers}
 
 use crate::kernels::two_bitmaps;
 use crate::line_error::{CommandError, LineError};
+use crate::ranges::is_inside;
 use crate::replies::{write_array_items, write_number};
 use crate::slot::{Contents, Slot};
 use arrow2::array::BooleanArray;
@@ -194,11 +195,9 @@ fn cut(array: &mut BooleanArray, offset: u64, length: u64) -> Result<(), LineErr
         (part_inside (boolean_items array.old) offset length) }
     ensures err { OnErr result (array.new ≡ array.old) }
 {
-    let len = array.len() as u64;
-    if offset <= len && length <= len - offset {
-        array.slice(offset as usize, length as usize);
-        Ok(())
-    } else {
-        Err(LineError::Range)
+    if !is_inside(array.len(), offset, length) {
+        return Err(LineError::Range);
     }
+    array.slice(offset as usize, length as usize);
+    Ok(())
 }

@@ -8,6 +8,7 @@ ghost use Rattle.arrow2_machine.specs.Outcomes.{Gives, Carries, Writes, Answers,
 
 use crate::line_error::CommandError::Refused;
 use crate::line_error::{CommandError, LineError};
+use crate::ranges::is_inside;
 use crate::replies::{write_item, write_items, write_number};
 use crate::slot::{Contents, Slot};
 use arrow2::bitmap::{Bitmap, MutableBitmap};
@@ -216,13 +217,11 @@ fn cut(bitmap: &mut Bitmap, offset: u64, length: u64) -> Result<(), LineError>
         (part_inside (items_of bitmap.old) offset length) }
     ensures err { OnErr result (bitmap.new ≡ bitmap.old) }
 {
-    let len = bitmap.len() as u64;
-    if offset <= len && length <= len - offset {
-        bitmap.slice(offset as usize, length as usize);
-        Ok(())
-    } else {
-        Err(LineError::Range)
+    if !is_inside(bitmap.len(), offset, length) {
+        return Err(LineError::Range);
     }
+    bitmap.slice(offset as usize, length as usize);
+    Ok(())
 }
 
 /// Returns item `index` of a growing bitmap, or `None` if there is no such item.

@@ -8,6 +8,7 @@ mod kernels;
 pub mod line_error;
 pub mod machine;
 mod offsets;
+mod ranges;
 mod replies;
 mod slot;
 mod storage;

@@ -9,6 +9,7 @@ ghost use Rattle.arrow2_machine.specs.Outcomes.{Gives, Carries, Writes, Answers,
 
 use crate::line_error::CommandError::Refused;
 use crate::line_error::{CommandError, LineError};
+use crate::ranges::is_inside;
 use crate::replies::{write_offset, write_offsets, write_slots};
 use crate::slot::{Contents, Slot};
 use arrow2::error;
@@ -221,11 +222,9 @@ fn cut(offsets: &mut OffsetsBuffer<i32>, first: u64, count: u64) -> Result<(), L
         (offsets_inside (offsets_in (buffer_items offsets.old)) first count) }
     ensures err { OnErr result (offsets.new ≡ offsets.old) }
 {
-    let len = offsets.len() as u64;
-    if 0 < count && first <= len && count <= len - first {
-        offsets.slice(first as usize, count as usize);
-        Ok(())
-    } else {
-        Err(LineError::Range)
+    if count == 0 || !is_inside(offsets.len(), first, count) {
+        return Err(LineError::Range);
     }
+    offsets.slice(first as usize, count as usize);
+    Ok(())
 }

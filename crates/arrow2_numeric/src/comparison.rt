@@ -1,12 +1,13 @@
-//! Comparisons of items. A result is null where an item is null.
-ghost use Rattle.std.specs.Prelude.{◌≡◌, ◌<◌, [], Bool, length, map, not, option_map, IfOk, IfErr};
+//! Comparisons of items. A result is null where an item is null. It has a validity bitmap exactly where an input has one.
+ghost use Rattle.std.specs.Prelude.{◌≡◌, ◌<◌, [], Bool, length, map, not, option_map, IfOk, IfErr, ℕ, false, slice_index_or, ◌↔◌, IsNone};
 ghost use Rattle.std.specs.Ordering.{partial_lt, partial_le, partial_gt, partial_ge};
 ghost use Rattle.std.specs.Simd.Lanes.{zip2};
 ghost use Rattle.arrow2_array.specs.Items.{boolean_items};
-ghost use Rattle.arrow2_bitmap.specs.Predicates.{IsCallableWithEach, ReturnsOnEach};
+ghost use Rattle.arrow2_bitmap.specs.Predicates.{IsCallableWithEach, ReturnsOnEach, IsResultAt};
 ghost use Rattle.arrow2_numeric.specs.Pairs.{IsTestedAt, AlwaysReturns, of_both};
 ghost use Rattle.arrow2_model.specs.Buffers.{buffer_items};
 ghost use Rattle.arrow2_primitive.specs.Primitive.{primitive_items};
+ghost use Rattle.arrow2_model.specs.Storage.{items_of};
 
 use arrow2_array::BooleanArray;
 use arrow2_bitmap::Bitmap;
@@ -14,7 +15,8 @@ use arrow2_primitive::PrimitiveArray;
 use arrow2_types::{Error, NativeType, Result};
 
 /// Returns, item by item, the result of `test` for the value, and null where the item is null. The contract states this
-/// where the contract of `test` fixes its result for each value. Requires that `test` may be called with each stored
+/// where the contract of `test` fixes its result for each value; else it states the length, the validity, and that each
+/// stored value is a result that the contract of `test` allows. Requires that `test` may be called with each stored
 /// value, also under a null.
 ///
 /// # Errors
@@ -28,6 +30,11 @@ pub fn tested<T: NativeType, F: Fn(&T) -> bool>(
     ensures items { (outcome : T → Bool) →
         ReturnsOnEach (buffer_items array.now.values) (F.post test) outcome →
         IfOk result (λ a. boolean_items a ≡ map (option_map outcome) (primitive_items array.now)) }
+    // For any `test`: each stored value of the result is one that the contract of `test` allows at its index.
+    ensures results { IfOk result (λ a. (index : ℕ) → index < length (buffer_items array.now.values) →
+        IsResultAt (buffer_items array.now.values) (F.post test) index (slice_index_or (items_of a.values) index false)) }
+    ensures len { IfOk result (λ a. length (items_of a.values) ≡ length (buffer_items array.now.values)) }
+    ensures validity { IfOk result (λ a. a.validity ≡ array.now.validity) }
     ensures only { IfErr result (λ e. e ≡ Error.OutOfMemory) }
 {
     let values = array.values();
@@ -44,6 +51,7 @@ pub fn tested<T: NativeType, F: Fn(&T) -> bool>(
 pub fn eq_scalar<T: NativeType>(array: &PrimitiveArray<T>, scalar: T) -> Result<BooleanArray>
     ensures items { IfOk result (λ a. boolean_items a
         ≡ map (option_map (λ value. T.PartialEq.eq value scalar)) (primitive_items array.now)) }
+    ensures validity { IfOk result (λ a. a.validity ≡ array.now.validity) }
     ensures only { IfErr result (λ e. e ≡ Error.OutOfMemory) }
 {
     tested(array, |value| *value == scalar)
@@ -57,6 +65,7 @@ pub fn eq_scalar<T: NativeType>(array: &PrimitiveArray<T>, scalar: T) -> Result<
 pub fn neq_scalar<T: NativeType>(array: &PrimitiveArray<T>, scalar: T) -> Result<BooleanArray>
     ensures items { IfOk result (λ a. boolean_items a
         ≡ map (option_map (λ value. not (T.PartialEq.eq value scalar))) (primitive_items array.now)) }
+    ensures validity { IfOk result (λ a. a.validity ≡ array.now.validity) }
     ensures only { IfErr result (λ e. e ≡ Error.OutOfMemory) }
 {
     tested(array, |value| *value != scalar)
@@ -73,6 +82,7 @@ pub fn lt_scalar<T: NativeType + PartialOrd>(
 ) -> Result<BooleanArray>
     ensures items { IfOk result (λ a. boolean_items a
         ≡ map (option_map (λ value. partial_lt T.PartialOrd.partial_cmp value scalar)) (primitive_items array.now)) }
+    ensures validity { IfOk result (λ a. a.validity ≡ array.now.validity) }
     ensures only { IfErr result (λ e. e ≡ Error.OutOfMemory) }
 {
     tested(array, |value| *value < scalar)
@@ -89,6 +99,7 @@ pub fn lt_eq_scalar<T: NativeType + PartialOrd>(
 ) -> Result<BooleanArray>
     ensures items { IfOk result (λ a. boolean_items a
         ≡ map (option_map (λ value. partial_le T.PartialOrd.partial_cmp value scalar)) (primitive_items array.now)) }
+    ensures validity { IfOk result (λ a. a.validity ≡ array.now.validity) }
     ensures only { IfErr result (λ e. e ≡ Error.OutOfMemory) }
 {
     tested(array, |value| *value <= scalar)
@@ -105,6 +116,7 @@ pub fn gt_scalar<T: NativeType + PartialOrd>(
 ) -> Result<BooleanArray>
     ensures items { IfOk result (λ a. boolean_items a
         ≡ map (option_map (λ value. partial_gt T.PartialOrd.partial_cmp value scalar)) (primitive_items array.now)) }
+    ensures validity { IfOk result (λ a. a.validity ≡ array.now.validity) }
     ensures only { IfErr result (λ e. e ≡ Error.OutOfMemory) }
 {
     tested(array, |value| *value > scalar)
@@ -121,6 +133,7 @@ pub fn gt_eq_scalar<T: NativeType + PartialOrd>(
 ) -> Result<BooleanArray>
     ensures items { IfOk result (λ a. boolean_items a
         ≡ map (option_map (λ value. partial_ge T.PartialOrd.partial_cmp value scalar)) (primitive_items array.now)) }
+    ensures validity { IfOk result (λ a. a.validity ≡ array.now.validity) }
     ensures only { IfErr result (λ e. e ≡ Error.OutOfMemory) }
 {
     tested(array, |value| *value >= scalar)
@@ -144,6 +157,8 @@ fn tested_both<T: NativeType, F: Fn(T, T) -> bool>(
         AlwaysReturns (F.post test) outcome →
         IfOk result (λ a. boolean_items a
         ≡ zip2 (of_both outcome) (primitive_items lhs.now) (primitive_items rhs.now)) }
+    ensures bitmap { IfOk result (λ a.
+        IsNone a.validity.bitmap ↔ (IsNone lhs.now.validity.bitmap × IsNone rhs.now.validity.bitmap)) }
     ensures only { IfErr result (λ e. e ≡ Error.OutOfMemory) }
 {
     let values = lhs.values();
@@ -172,6 +187,8 @@ pub fn eq<T: NativeType>(lhs: &PrimitiveArray<T>, rhs: &PrimitiveArray<T>) -> Re
     requires same_length { length (primitive_items lhs.now) ≡ length (primitive_items rhs.now) }
     ensures items { IfOk result (λ a. boolean_items a
         ≡ zip2 (of_both T.PartialEq.eq) (primitive_items lhs.now) (primitive_items rhs.now)) }
+    ensures bitmap { IfOk result (λ a.
+        IsNone a.validity.bitmap ↔ (IsNone lhs.now.validity.bitmap × IsNone rhs.now.validity.bitmap)) }
     ensures only { IfErr result (λ e. e ≡ Error.OutOfMemory) }
 {
     tested_both(lhs, rhs, |left, right| left == right)
@@ -187,6 +204,8 @@ pub fn neq<T: NativeType>(lhs: &PrimitiveArray<T>, rhs: &PrimitiveArray<T>) -> R
     requires same_length { length (primitive_items lhs.now) ≡ length (primitive_items rhs.now) }
     ensures items { IfOk result (λ a. boolean_items a
         ≡ zip2 (of_both (λ left right. not (T.PartialEq.eq left right))) (primitive_items lhs.now) (primitive_items rhs.now)) }
+    ensures bitmap { IfOk result (λ a.
+        IsNone a.validity.bitmap ↔ (IsNone lhs.now.validity.bitmap × IsNone rhs.now.validity.bitmap)) }
     ensures only { IfErr result (λ e. e ≡ Error.OutOfMemory) }
 {
     tested_both(lhs, rhs, |left, right| left != right)
@@ -205,6 +224,8 @@ pub fn lt<T: NativeType + PartialOrd>(
     requires same_length { length (primitive_items lhs.now) ≡ length (primitive_items rhs.now) }
     ensures items { IfOk result (λ a. boolean_items a
         ≡ zip2 (of_both (partial_lt T.PartialOrd.partial_cmp)) (primitive_items lhs.now) (primitive_items rhs.now)) }
+    ensures bitmap { IfOk result (λ a.
+        IsNone a.validity.bitmap ↔ (IsNone lhs.now.validity.bitmap × IsNone rhs.now.validity.bitmap)) }
     ensures only { IfErr result (λ e. e ≡ Error.OutOfMemory) }
 {
     tested_both(lhs, rhs, |left, right| left < right)
@@ -223,6 +244,8 @@ pub fn lt_eq<T: NativeType + PartialOrd>(
     requires same_length { length (primitive_items lhs.now) ≡ length (primitive_items rhs.now) }
     ensures items { IfOk result (λ a. boolean_items a
         ≡ zip2 (of_both (partial_le T.PartialOrd.partial_cmp)) (primitive_items lhs.now) (primitive_items rhs.now)) }
+    ensures bitmap { IfOk result (λ a.
+        IsNone a.validity.bitmap ↔ (IsNone lhs.now.validity.bitmap × IsNone rhs.now.validity.bitmap)) }
     ensures only { IfErr result (λ e. e ≡ Error.OutOfMemory) }
 {
     tested_both(lhs, rhs, |left, right| left <= right)
@@ -241,6 +264,8 @@ pub fn gt<T: NativeType + PartialOrd>(
     requires same_length { length (primitive_items lhs.now) ≡ length (primitive_items rhs.now) }
     ensures items { IfOk result (λ a. boolean_items a
         ≡ zip2 (of_both (partial_gt T.PartialOrd.partial_cmp)) (primitive_items lhs.now) (primitive_items rhs.now)) }
+    ensures bitmap { IfOk result (λ a.
+        IsNone a.validity.bitmap ↔ (IsNone lhs.now.validity.bitmap × IsNone rhs.now.validity.bitmap)) }
     ensures only { IfErr result (λ e. e ≡ Error.OutOfMemory) }
 {
     tested_both(lhs, rhs, |left, right| left > right)
@@ -259,6 +284,8 @@ pub fn gt_eq<T: NativeType + PartialOrd>(
     requires same_length { length (primitive_items lhs.now) ≡ length (primitive_items rhs.now) }
     ensures items { IfOk result (λ a. boolean_items a
         ≡ zip2 (of_both (partial_ge T.PartialOrd.partial_cmp)) (primitive_items lhs.now) (primitive_items rhs.now)) }
+    ensures bitmap { IfOk result (λ a.
+        IsNone a.validity.bitmap ↔ (IsNone lhs.now.validity.bitmap × IsNone rhs.now.validity.bitmap)) }
     ensures only { IfErr result (λ e. e ≡ Error.OutOfMemory) }
 {
     tested_both(lhs, rhs, |left, right| left >= right)

@@ -18,7 +18,7 @@ use std::mem;
 /// bytes, a little less than the largest that glibc caches.
 pub(crate) const LEAST_CAPACITY: usize = 120;
 
-/// The capacity, in lengths, that the second allocation reserves.
+/// The whole capacity, in lengths, after the second allocation, where the first reserved `LEAST_CAPACITY`.
 const SECOND_CAPACITY: usize = 512;
 
 /// Appends the lengths that an iterator yields. On an error, removes the appended lengths again. Requires that the
@@ -67,7 +67,7 @@ fn appended<O: Offset, I: Iterator<Item = usize> + Drop>(
     requires valid { AreOffsetsUpTo O.MAX (map O.value offsets.items) }
     requires can { I.can_next lengths }
     requires ends { IsFinite (I.remaining lengths) }
-    // The offsets that were there stay; with `Ok` those of all lengths come after them.
+    // The old offsets stay. After `Ok`, a new offset for each yielded length follows them.
     ensures valid { OnOk result.1 (AreOffsetsUpTo O.MAX (map O.value result.0.items)) }
     ensures front { take (length offsets.items) result.0.items ≡ offsets.items }
     ensures ok { OnOk result.1 (WholeRun I.next_gives lengths (λ p.
@@ -114,9 +114,9 @@ fn with_spare_capacity<O>(mut offsets: Vec<O>) -> (Vec<O>, Result<(), AllocError
     (offsets, outcome)
 }
 
-/// Reserves capacity for more lengths. Where there are fewer than `LEAST_CAPACITY`, reserves for `LEAST_CAPACITY` more;
-/// else for the greater of three times their number and `SECOND_CAPACITY - LEAST_CAPACITY`. There is one offset more
-/// than there are lengths.
+/// Reserves capacity for more lengths. If the vector has n lengths, and n is below `LEAST_CAPACITY`, reserves for
+/// `LEAST_CAPACITY` more; else for the greater of `3 * n` and `SECOND_CAPACITY - LEAST_CAPACITY` more. There is one
+/// offset more than there are lengths.
 #[cold]
 #[inline(never)]
 fn grow_capacity<O>(offsets: &mut Vec<O>) -> Result<(), AllocError>

@@ -28,8 +28,8 @@ pub fn offset_is_a_sum()
         length (offsets_list start lengths) ≡ length lengths + 1 }
 {}
 
-/// Appending lengths keeps all offsets, and appends one for each length: the last offset plus the lengths that were
-/// appended so far, this one included.
+/// Appending lengths keeps all old offsets, and appends one offset for each new length: the old last offset plus the
+/// sum of the new lengths up to and including this one.
 #[tactic(auto, using(crate::proofs::Listed::listed))]
 pub fn appended_lengths_append_offsets()
     ensures { (start : ℕ) (lengths others : List ℕ) →

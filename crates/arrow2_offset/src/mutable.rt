@@ -129,8 +129,8 @@ impl<O: Offset> Offsets<O> {
         ensures ok { IfOk result (λ o. (it : I.IntoIter) × I.into_iter_gives iter it
             × WholeRun I.IntoIter.next_gives it (λ p. (o.start ≡ 0) × (o.lengths ≡ p.items))) }
         ensures fits { IfOk result (λ o. last_of_growing o ≤ O.MAX) }
-        // `Overflow` comes only where the iterator may yield lengths whose sum passes `O::MAX`. 0 is the last offset
-        // before them.
+        // `Overflow` comes only where the iterator may yield lengths whose sum passes `O::MAX`. The argument 0 is the
+        // last offset before any length is appended.
         ensures overflow { IsErrOf result Error.Overflow →
             (it : I.IntoIter) × I.into_iter_gives iter it
             × MayYieldPast O.MAX 0 I.IntoIter.next_gives it }
@@ -156,8 +156,8 @@ impl<O: Offset> Offsets<O> {
         ensures ok { IfOk result (λ o.
             WholeRun I.next_gives lengths (λ p. (o.start ≡ 0) × (o.lengths ≡ p.items))) }
         ensures fits { IfOk result (λ o. last_of_growing o ≤ O.MAX) }
-        // `Overflow` comes only where the iterator may yield lengths whose sum passes `O::MAX`. 0 is the last offset
-        // before them.
+        // `Overflow` comes only where the iterator may yield lengths whose sum passes `O::MAX`. The argument 0 is the
+        // last offset before any length is appended.
         ensures overflow { IsErrOf result Error.Overflow → MayYieldPast O.MAX 0 I.next_gives lengths }
         ensures only { IfErr result (λ e. (e ≡ Error.Overflow) ⊎ (e ≡ Error.OutOfMemory)) }
     {

@@ -1,4 +1,4 @@
-//! Where a slot starts and ends, and the sum of all lengths, of a list of offsets.
+//! For a list of offsets: where a slot starts and ends, and the sum of all lengths.
 ghost use Rattle.std.specs.Prelude.{◌≡◌, ◌+◌, ◌<◌, ◌≤◌, length, map, sum, slice_index_or};
 ghost use Rattle.arrow2_offset.specs.Offsets.{AreOffsets, offset_at, start_of, lengths_of, last_of};
 

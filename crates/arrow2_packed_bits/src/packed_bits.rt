@@ -53,9 +53,10 @@ impl Model for PackedBits {
 
 #[tactic(auto, using(crate::proofs::Buffer::buffers))]
 impl PackedBits {
-    /// Returns an empty list. Does not allocate.
+    /// Returns an empty list. Its capacity is 0. Does not allocate.
     pub fn new(alloc: Global) -> PackedBits
-        ensures { result.items ≡ [] }
+        ensures items { result.items ≡ [] }
+        ensures capacity { result.capacity ≡ 0 }
     {
         PackedBits {
             bytes: Vec::new(alloc),

@@ -1,5 +1,5 @@
 //! Booleans packed into bytes, 64 at a time.
-ghost use Rattle.std.specs.Prelude.{◌≡◌, ◌-◌, ◌*◌, ◌<◌, ◌≤◌, ◌^◌, List, Bool, Some, None, length, map, take, IfOk, IsErrOf, vec_len};
+ghost use Rattle.std.specs.Prelude.{◌≡◌, ◌-◌, ◌*◌, ◌<◌, ◌≤◌, ◌^◌, List, Bool, Some, None, length, map, take, IfOk, IsErrOf, vec_len, drop, replicate, false};
 ghost use Rattle.std.specs.Iterator.{IsFinite, IsNearerEnd, Yields, YieldsThen};
 ghost use Rattle.std.specs.Iterator.Runs.{WholeRun};
 ghost use Rattle.std.specs.Int.{from_bool};
@@ -115,6 +115,7 @@ fn lanes_of(items: &[bool; 64]) -> [u8; 64]
 pub fn padded(items: &[bool]) -> [bool; 64]
     requires { length items.now ≤ 64 }
     ensures front { take (length items.now) result ≡ items.now }
+    ensures rest { drop (length items.now) result ≡ replicate (64 - length items.now) false }
     ensures size { length result ≡ 64 }
 {
     let mut block = [false; 64];

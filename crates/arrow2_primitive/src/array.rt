@@ -9,7 +9,7 @@ ghost use Rattle.arrow2_model.specs.Parts.{part};
 ghost use Rattle.arrow2_bitmap.specs.Packed.{IsPacked};
 ghost use Rattle.arrow2_walks.specs.Selected.{non_null_values};
 ghost use Rattle.arrow2_model.specs.Storage.{items_of};
-ghost use Rattle.arrow2_types.specs.Refusals.{IsInvalidArgumentOrOutOfMemory};
+ghost use Rattle.arrow2_types.specs.Refusals.{FailsOnlyWith};
 ghost use Rattle.arrow2_validity.specs.OptionalValidity.{valid_items};
 ghost use Rattle.arrow2_validity.specs.Refusals.{unequal_lengths_message};
 ghost use Rattle.arrow2_walks.specs.Zipped.{zipped};
@@ -104,11 +104,11 @@ impl<T: NativeType> PrimitiveArray<T> {
         ensures accepted { OnOk result ((physical data_type ≡ Primitive T.PRIMITIVE)
             × ForSome validity (λ v. length (items_of v) ≡ length (buffer_items values))) }
         ensures unequal { let len = length (buffer_items values) in
-            ForSome validity (λ v. ¬ (length (items_of v) ≡ len) → IfErr result (λ e.
-            IsInvalidArgumentOrOutOfMemory e (unequal_lengths_message (length (items_of v)) len))) }
+            ForSome validity (λ v. ¬ (length (items_of v) ≡ len) →
+            FailsOnlyWith result (unequal_lengths_message (length (items_of v)) len)) }
         ensures layout { ForSome validity (λ v. length (items_of v) ≡ length (buffer_items values)) →
             ¬ (physical data_type ≡ Primitive T.PRIMITIVE) →
-            IfErr result (λ e. IsInvalidArgumentOrOutOfMemory e other_layout_message) }
+            FailsOnlyWith result other_layout_message }
         ensures only { ForSome validity (λ v. length (items_of v) ≡ length (buffer_items values)) →
             physical data_type ≡ Primitive T.PRIMITIVE → IfErr result (λ e. e ≡ Error.OutOfMemory) }
     {
@@ -373,15 +373,17 @@ impl<T: NativeType> PrimitiveArray<T> {
     ///
     /// # Errors
     ///
-    /// `OutOfMemory` alone. The array is then dropped. No clause states when it comes. In the code it comes only if the
-    /// values have no other owner and are not sliced, and one of these holds:
+    /// `OutOfMemory` alone, and only where nothing of the values is sliced off. The array is then dropped. In the code
+    /// it comes only if the values have no other owner, and one of these holds:
     ///
     /// - there is no bitmap;
     /// - the bitmap is shared, or begins at a bit other than 0.
     pub fn into_mut(self) -> Result<Either<PrimitiveArray<T>, MutablePrimitiveArray<T>>>
         ensures ok { IfOk result (λ r. MatchEither r (λ a. a ≡ self)
             (λ m. (m.items ≡ primitive_items self) × (m.data_type ≡ self.data_type))) }
+        // `Right` comes only where nothing of the values is sliced off. Else nothing is allocated.
         ensures whole { IfOk result (λ r. MatchEither r (λ _. ⊤) (λ _. self.values ≡ whole_buffer self.values.storage)) }
+        ensures succeeds { ¬ (self.values ≡ whole_buffer self.values.storage) → IsOk result }
         ensures only { IfErr result (λ e. e ≡ Error.OutOfMemory) }
     {
         let PrimitiveArray {
@@ -463,7 +465,7 @@ pub(crate) fn native_type<T: NativeType>(
 fn check_layout<T: NativeType>(alloc: Global, data_type: &DataType) -> Result<()>
     ensures ok { OnOk result (physical data_type.now ≡ Primitive T.PRIMITIVE) }
     ensures refused { ¬ (physical data_type.now ≡ Primitive T.PRIMITIVE) →
-        IfErr result (λ e. IsInvalidArgumentOrOutOfMemory e other_layout_message) }
+        FailsOnlyWith result other_layout_message }
     ensures only { physical data_type.now ≡ Primitive T.PRIMITIVE → IsOk result }
 {
     if !data_type.to_physical_type().eq_primitive(T::PRIMITIVE) {

@@ -132,9 +132,11 @@ impl<'a, T: NativeType> NonNullValuesIter<'a, T> {
     }
 }
 
-/// A clone has the same values still to come. Does not allocate. That it never fails is in no clause.
+/// A clone has the same values still to come. Does not allocate.
 impl<'a, T: NativeType> Clone for NonNullValuesIter<'a, T> {
     ghost is_clone = { λ i copy. copy ≡ i };
+
+    ghost is_infallible = { λ i. Unit {0} };
 
     fn clone(&self) -> Result<NonNullValuesIter<'a, T>, AllocError> {
         Ok(NonNullValuesIter {

@@ -4,6 +4,7 @@
 ghost use Rattle.std.specs.Prelude.{◌≡◌, ◌≢◌, ◌<◌, ◌↔◌, ℕ, take, IfSome, IfErr, OnOk, IsErrOf};
 ghost use Rattle.std.specs.Io.KnownBytes.{Appends, IsAtEnd};
 ghost use Rattle.arrow2_machine.specs.Machine.{text};
+ghost use Rattle.arrow2_streams.specs.Watching.{FailsOnce};
 
 use arrow2_machine::machine::replies;
 use arrow2_streams::fault::ReplayFault;
@@ -38,6 +39,8 @@ pub fn replay<R: Read, W: Write>(
     // `Read` and `Write` come exactly where a call failed.
     ensures read { IsErrOf result ReplayFault.Read ↔ reader.old.failed < reader.new.failed }
     ensures write { IsErrOf result ReplayFault.Write ↔ writer.old.failed < writer.new.failed }
+    ensures read_once { FailsOnce result ReplayFault.Read reader.old.failed reader.new.failed }
+    ensures write_once { FailsOnce result ReplayFault.Write writer.old.failed writer.new.failed }
 {
     let script = read_all(alloc, reader)?;
     let reply = replies(alloc, script.as_slice())?;

@@ -1,6 +1,7 @@
 //! Reading all of a reader, and writing all of a text.
 ghost use Rattle.std.specs.Prelude.{◌≡◌, ◌≢◌, ◌<◌, ◌↔◌, ℕ, length, take, IfOk, IfErr, OnOk, IsErrOf, vec_len};
 ghost use Rattle.std.specs.Io.KnownBytes.{Appends, Consumes, IsAtEnd};
+ghost use Rattle.arrow2_streams.specs.Watching.{FailsOnce};
 
 use crate::fault::ReplayFault;
 use crate::watched::Watched;
@@ -27,6 +28,7 @@ pub fn read_all<R: Read>(alloc: Global, reader: &mut Watched<R>) -> Result<Vec<u
         Consumes (R.remaining reader.old.inner) (R.remaining reader.new.inner) v.items) }
     ensures end { OnOk result (IsAtEnd (R.remaining reader.new.inner)) }
     ensures fault { IsErrOf result ReplayFault.Read ↔ reader.old.failed < reader.new.failed }
+    ensures once { FailsOnce result ReplayFault.Read reader.old.failed reader.new.failed }
     ensures only { IfErr result (λ e. e ≢ ReplayFault.Write) }
 {
     let mut buffer = zeros(alloc, PIECE)?;
@@ -44,6 +46,7 @@ fn read_through<R: Read>(
         Consumes (R.remaining reader.old.inner) (R.remaining reader.new.inner) v.items) }
     ensures end { OnOk result (IsAtEnd (R.remaining reader.new.inner)) }
     ensures fault { IsErrOf result ReplayFault.Read ↔ reader.old.failed < reader.new.failed }
+    ensures once { FailsOnce result ReplayFault.Read reader.old.failed reader.new.failed }
     ensures only { IfErr result (λ e. e ≢ ReplayFault.Write) }
 {
     let mut input = Vec::new(alloc);
@@ -70,6 +73,7 @@ pub fn write_all<W: Write>(writer: &mut Watched<W>, bytes: &[u8]) -> Result<(), 
         (W.contents writer.new.inner) (take n bytes.now) }
     ensures flushed { OnOk result (writer.new.unflushed ≡ 0) }
     ensures fault { IsErrOf result ReplayFault.Write ↔ writer.old.failed < writer.new.failed }
+    ensures once { FailsOnce result ReplayFault.Write writer.old.failed writer.new.failed }
     ensures only { IfErr result (λ e. e ≡ ReplayFault.Write) }
 {
     let mut at = 0;

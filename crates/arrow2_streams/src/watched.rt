@@ -64,6 +64,7 @@ impl<R: Read> Read for Watched<R> {
         ensures bytes { ReadConsumes (R.remaining self.old.inner)
             (R.remaining self.new.inner) result buf.new }
         ensures failed { self.new.failed ≡ self.old.failed + (if is_err result then 1 else 0) }
+        ensures unflushed { self.new.unflushed ≡ self.old.unflushed }
     {
         let result = self.inner.read(buf);
         if result.is_err() {

@@ -10,6 +10,7 @@ use Rattle.arrow2_types.specs.declared.error.Error.TheVariants.{OutOfMemory, Ove
 use Rattle.arrow2_datatypes.specs.declared.DataType.{DataType}
 use Rattle.arrow2_text.specs.Binary.{BinaryParts, binary_items}
 use Rattle.arrow2_text.specs.Growth.{bytes_of_items, items_by_bytes}
+use Rattle.arrow2_model.specs.Buffers.{buffer_items}
 
 -- one item more has its bytes more
 pub bytes-more : (items : List (Option (List ℕ))) (item : Option (List ℕ)) → bytes_of_items (items ++ item ∷ []) ≡ bytes_of_items items + option_map_or length item 0
@@ -77,10 +78,17 @@ sum-taken-more size xs i d below e = ap (λ k. k + size (get_or xs i d)) e ∙ (
 pub all-taken : {X Y : Type 0} (f : X → Y) (xs : List X) (i : ℕ) {ys : List Y} → length xs ≤ i → ys ≡ map f (take i xs) → ys ≡ map f xs
 all-taken f xs i end e = e ∙ ap (map f) (take_all i xs end)
 
+pub measured-all : {X : Type 0} (measure : List X → ℕ) (xs : List X) (i : ℕ) {n : ℕ} → length xs ≤ i → n ≡ measure (take i xs) → n ≡ measure xs
+measured-all measure xs i end e = e ∙ ap measure (take_all i xs end)
+
 -- what is known of an array that was made
 pub made-items : (r : Result BinaryParts Error) {items all : List (Option (List ℕ))} → IfOk r (λ a. binary_items a ≡ items) → items ≡ all → IfOk r (λ a. binary_items a ≡ all)
 made-items (Ok a) h e = h ∙ e
 made-items (Err x) h e = tt
+
+pub made-bytes : (r : Result BinaryParts Error) {n all : ℕ} → IfOk r (λ a. length (buffer_items a.values) ≡ n) → n ≡ all → IfOk r (λ a. length (buffer_items a.values) ≡ all)
+made-bytes (Ok a) h e = h ∙ e
+made-bytes (Err x) h e = tt
 
 pub made-type : (r : Result BinaryParts Error) {held all : DataType} → IfOk r (λ a. a.data_type ≡ held) → held ≡ all → IfOk r (λ a. a.data_type ≡ all)
 made-type (Ok a) h e = h ∙ e

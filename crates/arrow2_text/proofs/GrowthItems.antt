@@ -73,6 +73,10 @@ module _ {V : Type 0} (bytes_of : V → List ℕ) (old new : GrowingSlots) where
   null-last : length old.valid ≡ length old.values → (front : List (Option (List ℕ))) → zipped old.values old.valid ≡ front ++ None ∷ [] → old.valid ≡ map is_some front ++ false ∷ []
   null-last same front e = sym (known-zipped old.values old.valid same) ∙ (ap (map is_some) e ∙ map-append is_some front (None ∷ []))
 
+  none-zipped : (xs : List (List ℕ)) (vs : List Bool) → length vs ≡ length xs → zipped xs vs ≡ [] → xs ≡ []
+  none-zipped [] vs e is = refl
+  none-zipped (x ∷ xs) vs e is = let n = length-zipped (x ∷ xs) vs e in absurd (omega (arith, ap length is, n))
+
   pub pops-items : (r : Result (Option (Option V)) Error) → PopsSlot bytes_of r old new → PopsBinary bytes_of r (growing_binary old) (growing_binary new)
   pops-items (Ok None) p = record {
     last = ap (λ xs. zipped xs old.valid) p.none.0;
@@ -85,6 +89,7 @@ module _ {V : Type 0} (bytes_of : V → List ℕ) (old new : GrowingSlots) where
     byte_capacity = p.byte_capacity;
     only = tt;
     succeeds = λ front e. refl;
+    empty = λ e. refl;
   }
   pops-items (Ok (Some item)) p =
       let value = p.some.0 in
@@ -101,6 +106,7 @@ module _ {V : Type 0} (bytes_of : V → List ℕ) (old new : GrowingSlots) where
         byte_capacity = p.byte_capacity;
         only = tt;
         succeeds = λ front e. refl;
+        empty = λ e. refl;
       }
   pops-items (Err x) p = record {
     last = tt;
@@ -113,6 +119,7 @@ module _ {V : Type 0} (bytes_of : V → List ℕ) (old new : GrowingSlots) where
     byte_capacity = p.byte_capacity;
     only = p.only;
     succeeds = λ front e. p.succeeds (map is_some front) (null-last p.same front e);
+    empty = λ e. p.empty (none-zipped old.values old.valid p.same e);
   }
 
 -- the same item, as a value of another type
@@ -129,6 +136,7 @@ module _ {V U : Type 0} (f : V → List ℕ) (g : U → List ℕ) (old new : Gro
     byte_capacity = p.byte_capacity;
     only = tt;
     succeeds = λ front e. refl;
+    empty = λ e. refl;
   }
   pops-as None (Some i) e p = cc
   pops-as (Some j) None e p = cc
@@ -143,6 +151,7 @@ module _ {V U : Type 0} (f : V → List ℕ) (g : U → List ℕ) (old new : Gro
     byte_capacity = p.byte_capacity;
     only = tt;
     succeeds = λ front e. refl;
+    empty = λ e. refl;
   }
   pops-as (Some None) (Some (Some u)) e p = cc
   pops-as (Some (Some v)) (Some None) e p = cc
@@ -159,6 +168,7 @@ module _ {V U : Type 0} (f : V → List ℕ) (g : U → List ℕ) (old new : Gro
         byte_capacity = p.byte_capacity;
         only = tt;
         succeeds = λ front e. refl;
+        empty = λ e. refl;
       }
 
   -- and where it was refused
@@ -174,6 +184,7 @@ module _ {V U : Type 0} (f : V → List ℕ) (g : U → List ℕ) (old new : Gro
     byte_capacity = p.byte_capacity;
     only = p.only;
     succeeds = p.succeeds;
+    empty = p.empty;
   }
 
   pub refused-through : (x : Error) (r : Result (Option (Option U)) Error) → IsErr r × IsErrAnd r (λ y. y ≡ x) → PopsBinary f (Err x) old new → PopsBinary g r old new

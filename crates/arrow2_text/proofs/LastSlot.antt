@@ -40,6 +40,7 @@ module _ {V : Type 0} (bytes_of : V → List ℕ) where
     byte_capacity = refl;
     only = tt;
     succeeds = λ front e. refl;
+    empty = λ e. refl;
   }
 
   -- where a copy of it was returned
@@ -69,6 +70,7 @@ module _ {V : Type 0} (bytes_of : V → List ℕ) where
         byte_capacity = p.byte_capacity;
         only = tt;
         succeeds = λ front e. refl;
+        empty = λ e. refl;
       }
 
   refused-slot : (old : GrowingSlots) (e : Error) (last : ℕ) → length old.valid ≡ length old.values → last + 1 ≡ length old.valid → e ≡ OutOfMemory
@@ -86,6 +88,7 @@ module _ {V : Type 0} (bytes_of : V → List ℕ) where
     byte_capacity = refl;
     only = memory;
     succeeds = λ front is. succeeds (last-false front old.valid last is h);
+    empty = λ none. absurd (omega (arith, ap length none, same, h));
   }
 
   -- and where no copy was made

@@ -3,10 +3,12 @@ use Rattle.std.proofs.Common.{◌≡◌, ℕ, ℤ, ◌+◌, ◌≤◌, List, [],
 use Rattle.std.proofs.Math.Nat.{min-le_left, min-le_right, le-min}
 use Rattle.std.proofs.lemmas.List.{length-append, length-drop, length-take, take_all, take_more, take-append-drop}
 use Rattle.std.proofs.lemmas.List.Sums.{sum_by-cons, sum_by-append}
-use Rattle.std.proofs.Math.Seq.{get_or-append_seam, take-add}
-use Rattle.std.specs.Prelude.{Option, Some, None, MatchOption}
+use Rattle.std.proofs.Math.Seq.{get_or-append_seam, take-add, take-length}
+use Rattle.std.specs.Prelude.{IfSome, Option, Some, None, MatchOption}
 use Rattle.arrow2_model.specs.Buffers.{BufferStorage, buffer_items, whole_buffer}
 use Rattle.arrow2_model.specs.Parts.{falses, part}
+use Rattle.arrow2_model.specs.Storage.{BitmapStorage, items_of}
+use Rattle.arrow2_bitmap.specs.Packed.{IsPacked, packed_storage}
 use Rattle.arrow2_offset.specs.Nested.{cut}
 use Rattle.arrow2_offset.specs.Offsets.{lengths_of, start_of}
 use Rattle.arrow2_utf8.specs.Texts.{slot_values}
@@ -15,6 +17,7 @@ use Rattle.arrow2_offset.proofs.Appending.{sum-push}
 use Rattle.arrow2_walks.specs.Zipped.{zipped}
 use Rattle.arrow2_walks.proofs.Zipped.{length-zipped}
 use Rattle.arrow2_validity.proofs.Slots.{arrays}
+use Rattle.arrow2_text.specs.Binary.{BinaryParts, IsCompact}
 
 -- where none is false all are true
 pub all-true : (vs : List Bool) → falses vs ≡ 0 → replicate (length vs) true ≡ vs
@@ -93,6 +96,28 @@ pub frozen-values : (offsets : BufferStorage ℤ) (values : BufferStorage ℕ) (
 frozen-values offsets values xs ns first lengths whole =
     ap (λ l. cut (drop (start_of (buffer_items offsets)) (buffer_items values)) l) lengths
     ∙ (ap (λ n. cut (drop n (buffer_items values)) ns) first ∙ (ap (λ b. cut (buffer_items b) ns) whole ∙ ap (λ l. cut l ns) (take_all (length xs) xs (omega arith))))
+
+-- the buffer of a whole list is that of its items
+whole-items : {X : Type 0} (b : BufferStorage X) (xs : List X) → b ≡ whole_buffer xs → b ≡ whole_buffer (buffer_items b)
+whole-items b xs e = e ∙ ap whole_buffer (sym (ap buffer_items e ∙ take-length xs))
+
+-- a bitmap of these items alone
+pub packed-alone : (o : Option BitmapStorage) (vs : List Bool) → IfSome o (λ b. items_of b ≡ vs) → IfSome o (λ b. b ≡ packed_storage vs) → IfSome o (λ b. IsPacked b)
+packed-alone None vs items stored = tt
+packed-alone (Some b) vs items stored = stored ∙ ap packed_storage (sym items)
+
+-- whole offsets from 0 on over a whole list of bytes, which has as many as they span
+pub compact-slots : (a : BinaryParts) (xs ns : List ℕ) (ys : List ℤ) → sum ns ≡ length xs → a.offsets ≡ whole_buffer ys → start_of (buffer_items a.offsets) ≡ 0 → lengths_of (buffer_items a.offsets) ≡ ns → a.values ≡ whole_buffer xs → IfSome a.validity.bitmap (λ b. IsPacked b) → IsCompact a
+compact-slots a xs ns ys whole offsets start lengths values packed = record {
+  start = start;
+  last =
+      let count = ap length (ap buffer_items values ∙ take-length xs) in
+      let all = ap sum lengths in
+      omega (arith, start, all, whole, count);
+  offsets = whole-items a.offsets ys offsets;
+  values = whole-items a.values xs values;
+  validity = packed;
+}
 
 pub ruleset slotted = (arrays, nested, sum-part-following, sum-take-all)
 

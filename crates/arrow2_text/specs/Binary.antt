@@ -1,16 +1,17 @@
 -- What contracts see of arrays of byte strings and of texts.
-use Rattle.std.specs.Prelude.{◌≡◌, ℕ, ◌+◌, Bool, ℤ, List, Option, length, sum, if◌then◌else◌}
+use Rattle.std.specs.Prelude.{◌≡◌, ℕ, ◌+◌, Bool, ℤ, List, Option, length, sum, if◌then◌else◌, IfSome}
 use Rattle.std.specs.Option.{ForSome}
-use Rattle.arrow2_model.specs.Buffers.{BufferStorage, buffer_items}
+use Rattle.arrow2_model.specs.Buffers.{BufferStorage, buffer_items, whole_buffer}
 use Rattle.arrow2_model.specs.Parts.{part}
 use Rattle.arrow2_model.specs.Storage.{BitmapStorage, items_of}
 use Rattle.arrow2_walks.specs.Zipped.{zipped}
-use Rattle.arrow2_offset.specs.Offsets.{lengths_of, offset_at, start_of}
+use Rattle.arrow2_offset.specs.Offsets.{lengths_of, offset_at, start_of, last_of}
 use Rattle.arrow2_utf8.specs.Texts.{slot_values}
 use Rattle.arrow2_validity.specs.OptionalValidity.{OptionalValidity, valid_items, sliced_validity}
 use Rattle.arrow2_datatypes.specs.declared.DataType.{DataType, Binary, LargeBinary, Utf8, LargeUtf8}
 use Rattle.arrow2_datatypes.specs.declared.physical_type.PhysicalType.{PhysicalType}
 use Rattle.arrow2_datatypes.specs.declared.physical_type.PhysicalType.TheVariants as Physical
+use Rattle.arrow2_bitmap.specs.Packed.{IsPacked}
 
 -- an array: its logical type, where the bytes of each slot begin, the bytes, and which slots are not null
 pub record BinaryParts : Type 0 where
@@ -44,13 +45,30 @@ abbrev pub HasBitPerSlot : BufferStorage ℤ → Option BitmapStorage → Type 0
 HasBitPerSlot offsets validity = ForSome validity (λ v. length (items_of v) ≡ slots_between offsets)
 
 -- an array of these parts
-abbrev pub binary_of : DataType → BufferStorage ℤ → BufferStorage ℕ → Option BitmapStorage → BinaryParts
-binary_of data_type offsets values validity = record {
+abbrev pub binary_parts : DataType → BufferStorage ℤ → BufferStorage ℕ → OptionalValidity → BinaryParts
+binary_parts data_type offsets values validity = record {
   data_type = data_type;
   offsets = offsets;
   values = values;
-  validity = record { len = slots_between offsets; bitmap = validity };
+  validity = validity;
 }
+
+-- the same with a validity bitmap, or none
+abbrev pub binary_of : DataType → BufferStorage ℤ → BufferStorage ℕ → Option BitmapStorage → BinaryParts
+binary_of data_type offsets values validity = binary_parts data_type offsets values (record { len = slots_between offsets; bitmap = validity })
+
+-- the offsets of an array begin at 0 and end after the last byte
+abbrev pub IsWhole : BinaryParts → Type 0
+IsWhole a = (start_of (buffer_items a.offsets) ≡ 0) × (last_of (buffer_items a.offsets) ≡ length (buffer_items a.values))
+
+-- an array over its slots alone: its offsets begin at 0 and end after the last byte, and nothing that it stores is sliced
+-- off
+pub record IsCompact (a : BinaryParts) : Type 0 where
+  pub start : start_of (buffer_items a.offsets) ≡ 0
+  pub last : last_of (buffer_items a.offsets) ≡ length (buffer_items a.values)
+  pub offsets : a.offsets ≡ whole_buffer (buffer_items a.offsets)
+  pub values : a.values ≡ whole_buffer (buffer_items a.values)
+  pub validity : IfSome a.validity.bitmap (λ b. IsPacked b)
 
 -- the n slots from slot `start` on, over the same storage; they have n + 1 offsets
 abbrev pub sliced_binary : BinaryParts → ℕ → ℕ → BinaryParts

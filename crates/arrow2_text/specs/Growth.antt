@@ -36,6 +36,10 @@ growing_binary s = record {
   byte_capacity = s.byte_capacity;
 }
 
+-- slots that grow have these values, this validity, this number of bytes and this logical type
+abbrev pub AreGrowingSlots : GrowingSlots → List (List ℕ) → List Bool → ℕ → DataType → Type 0
+AreGrowingSlots g values valid bytes data_type = (g.values ≡ values) × (g.valid ≡ valid) × (g.bytes ≡ bytes) × (g.data_type ≡ data_type)
+
 -- growth by these items, all of them or none: their slots have `bytes` bytes together, and the last offset may be at
 -- most `greatest`
 pub record AppendsBinary {T : Type 0} (greatest : ℕ) (r : Result T Error) (old new : GrowingBinary) (more : List (Option (List ℕ))) (bytes : ℕ) : Type 0 where
@@ -143,9 +147,10 @@ pub record PopsBinary {V : Type 0} (bytes_of : V → List ℕ) (r : Result (Opti
   pub data_type : new.data_type ≡ old.data_type
   pub capacity : new.capacity ≡ old.capacity
   pub byte_capacity : new.byte_capacity ≡ old.byte_capacity
-  -- the only error is running out of memory, and removing a null never fails
+  -- the only error is running out of memory; it never comes where the last item is null, or where there is none
   pub only : IfErr r (λ e. e ≡ OutOfMemory)
   pub succeeds : (front : List (Option (List ℕ))) → old.items ≡ front ++ None ∷ [] → IsOk r
+  pub empty : old.items ≡ [] → IsOk r
 
 -- the same, by slots and their validity
 pub record PopsSlot {V : Type 0} (bytes_of : V → List ℕ) (r : Result (Option (Option V)) Error) (old new : GrowingSlots) : Type 0 where
@@ -164,9 +169,10 @@ pub record PopsSlot {V : Type 0} (bytes_of : V → List ℕ) (r : Result (Option
   pub data_type : new.data_type ≡ old.data_type
   pub capacity : new.capacity ≡ old.capacity
   pub byte_capacity : new.byte_capacity ≡ old.byte_capacity
-  -- the only error is running out of memory, and removing a null never fails
+  -- the only error is running out of memory; it never comes where the last item is null, or where there is none
   pub only : IfErr r (λ e. e ≡ OutOfMemory)
   pub succeeds : (front : List Bool) → old.valid ≡ front ++ false ∷ [] → IsOk r
+  pub empty : old.values ≡ [] → IsOk r
 
 -- the last slot is gone, with its bytes
 pub record LosesLastSlot (old new : GrowingSlots) : Type 0 where
@@ -186,6 +192,10 @@ items_by_bytes items = map option_copied items
 -- the number of bytes of items
 abbrev pub bytes_of_items : List (Option (List ℕ)) → ℕ
 bytes_of_items items = sum (map (λ item. option_map_or length item 0) items)
+
+-- an array that grows holds these items, and no bytes but theirs
+abbrev pub HasItems : GrowingBinary → List (Option (List ℕ)) → Type 0
+HasItems a items = (a.items ≡ items) × (a.bytes ≡ bytes_of_items items)
 
 -- an iterator may give items whose bytes pass the greatest offset, or more items than a usize counts
 abbrev pub MayYieldPastOffset : {S : Type 0} → ℕ → (S → Option (Option (Bor (List ℕ))) → S → Type 0) → S → Type 0

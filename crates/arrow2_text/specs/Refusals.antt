@@ -5,7 +5,7 @@ use Rattle.arrow2_model.specs.Buffers.{BufferStorage}
 use Rattle.arrow2_model.specs.Storage.{BitmapStorage, items_of}
 use Rattle.arrow2_types.specs.declared.error.Error.{Error}
 use Rattle.arrow2_types.specs.declared.error.Error.TheVariants.{OutOfMemory}
-use Rattle.arrow2_types.specs.Refusals.{IsInvalidArgumentOrOutOfMemory}
+use Rattle.arrow2_types.specs.Refusals.{FailsOnlyWith}
 use Rattle.arrow2_validity.specs.Refusals.{unequal_lengths_message}
 use Rattle.arrow2_text.specs.Binary.{HasBitPerSlot, slots_between}
 
@@ -24,10 +24,6 @@ other_text_layout_message = codes "Utf8Array can only be initialized with DataTy
 -- the message where a slot is not UTF-8
 abbrev pub not_utf8 : List ℕ
 not_utf8 = codes "the values of each slot must be UTF-8"
-
--- if the call fails, the error has this message, or is `OutOfMemory` where the message cannot be allocated
-abbrev pub FailsOnlyWith : {T : Type 0} → Result T Error → List ℕ → Type 0
-FailsOnlyWith r message = IfErr r (λ e. IsInvalidArgumentOrOutOfMemory e message)
 
 -- how parts of an array are refused: `Fits` states that the values fit the offsets, which is checked first, and
 -- `LaidOut` that the logical type has the layout of the array

@@ -5,7 +5,7 @@ ghost use Rattle.std.specs.Option.{is_none};
 ghost use Rattle.arrow2_walks.specs.Zipped.{slot, zipped};
 ghost use Rattle.arrow2_model.specs.Parts.{part};
 ghost use Rattle.arrow2_validity.specs.OptionalValidity.{valid_items};
-ghost use Rattle.arrow2_text.specs.Binary.{binary_items, binary_values, slot_offset, slots_size};
+ghost use Rattle.arrow2_text.specs.Binary.{binary_items, binary_values, slot_offset, slots_size, IsCompact};
 ghost use Rattle.arrow2_offset.specs.Nested.{cut};
 ghost use Rattle.arrow2_text.specs.Growth.{AppendsSlots, GrownBySlots, HasCapacityFor, LosesLastSlot, PopsSlot, ReservesSlots};
 
@@ -308,6 +308,9 @@ impl<O: Offset> Growing<O> {
         ensures valid { IfOk result (λ s. valid_items s.validity ≡ self.valid) }
         ensures bitmap { IfOk result (λ s.
             IsNone s.validity.bitmap ↔ (count_by is_none (zipped self.values self.valid) ≡ 0)) }
+        // Nothing is stored besides the slots.
+        ensures compact { IfOk result (λ s. IsCompact s) }
+        ensures bytes { IfOk result (λ s. length (buffer_items s.values) ≡ self.bytes) }
         ensures only { IfErr result (λ e. e ≡ Error.OutOfMemory) }
     {
         let Growing {

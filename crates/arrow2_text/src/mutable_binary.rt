@@ -5,8 +5,9 @@ ghost use Rattle.std.specs.Iterator.Runs.{WholeRun};
 ghost use Rattle.std.specs.Option.{is_none, option_copied, option_map_or};
 ghost use Rattle.arrow2_model.specs.Parts.{part};
 ghost use Rattle.arrow2_datatypes.specs.Types.{physical};
-ghost use Rattle.arrow2_text.specs.Binary.{binary_items, binary_layout, default_binary, slots_size};
-ghost use Rattle.arrow2_text.specs.Growth.{AppendsBinary, MayYieldPastOffset, PopsBinary, growing_binary, items_by_bytes};
+ghost use Rattle.arrow2_text.specs.Binary.{binary_items, binary_layout, default_binary, slots_size, IsCompact};
+ghost use Rattle.arrow2_text.specs.Growth.{AppendsBinary, MayYieldPastOffset, PopsBinary, growing_binary, items_by_bytes, HasItems};
+ghost use Rattle.arrow2_model.specs.Buffers.{buffer_items};
 
 use crate::binary::BinaryArray;
 use crate::growing::Growing;
@@ -136,7 +137,7 @@ impl<O: Offset> MutableBinaryArray<O> {
         requires { IsFiniteIterable I.into_iter_gives I.IntoIter.can_next I.IntoIter.remaining iter }
         // All items of a run of the iterator.
         ensures items { IfOk result (λ a. (it : I.IntoIter) × I.into_iter_gives iter it
-            × WholeRun I.IntoIter.next_gives it (λ p. a.items ≡ items_by_bytes p.items)) }
+            × WholeRun I.IntoIter.next_gives it (λ p. HasItems a (items_by_bytes p.items))) }
         ensures data_type { IfOk result (λ a. a.data_type ≡ default_binary O.IS_LARGE) }
         // `Overflow` comes only where a run may have too many items or bytes.
         ensures overflow { IsErrOf result Error.Overflow →
@@ -154,7 +155,7 @@ impl<O: Offset> MutableBinaryArray<O> {
         requires can { I.can_next items }
         requires ends { IsFinite (I.remaining items) }
         ensures items { IfOk result (λ a.
-            WholeRun I.next_gives items (λ p. a.items ≡ items_by_bytes p.items)) }
+            WholeRun I.next_gives items (λ p. HasItems a (items_by_bytes p.items))) }
         ensures data_type { IfOk result (λ a. a.data_type ≡ default_binary O.IS_LARGE) }
         ensures overflow { IsErrOf result Error.Overflow → MayYieldPastOffset O.MAX I.next_gives items }
         ensures only { IfErr result (λ e. (e ≡ Error.Overflow) ⊎ (e ≡ Error.OutOfMemory)) }
@@ -288,6 +289,9 @@ impl<O: Offset> MutableBinaryArray<O> {
         ensures data_type { IfOk result (λ a. a.data_type ≡ self.data_type) }
         ensures bitmap { IfOk result (λ a.
             IsNone a.validity.bitmap ↔ (count_by is_none self.items ≡ 0)) }
+        // Nothing is stored besides the items.
+        ensures compact { IfOk result (λ a. IsCompact a) }
+        ensures bytes { IfOk result (λ a. length (buffer_items a.values) ≡ self.bytes) }
         ensures only { IfErr result (λ e. e ≡ Error.OutOfMemory) }
     {
         let slots = self.slots.freeze()?;

@@ -2,12 +2,12 @@
 ghost use Rattle.std.specs.Prelude.{◌≡◌, ◌<◌, ◌≤◌, ◌↔◌, length, IfOk, IsOk, IsTrue};
 ghost use Rattle.arrow2_model.specs.Buffers.{buffer_items};
 ghost use Rattle.arrow2_offset.specs.Offsets.{last_of};
-ghost use Rattle.arrow2_types.specs.Refusals.{IsInvalidArgumentOrOutOfMemory};
+ghost use Rattle.arrow2_types.specs.Refusals.{FailsOnlyWith, IsInvalidArgumentOrOutOfMemory};
 ghost use Rattle.arrow2_datatypes.specs.Types.{physical};
 ghost use Rattle.arrow2_utf8.specs.Texts.{AreTexts};
 ghost use Rattle.arrow2_validity.specs.OptionalValidity.{valid_items};
 ghost use Rattle.arrow2_text.specs.Binary.{binary_layout, default_binary, default_text, slots_between, text_layout};
-ghost use Rattle.arrow2_text.specs.Refusals.{FailsOnlyWith, RefusesParts, not_utf8, other_binary_layout_message, other_text_layout_message, past_the_values_message};
+ghost use Rattle.arrow2_text.specs.Refusals.{RefusesParts, not_utf8, other_binary_layout_message, other_text_layout_message, past_the_values_message};
 
 use arrow2_bitmap::Bitmap;
 use arrow2_buffer::Buffer;

@@ -1,5 +1,5 @@
 //! Bytes between offsets with their validity: what arrays of byte strings and of texts store.
-ghost use Rattle.std.specs.Prelude.{◌≡◌, ◌+◌, ◌<◌, ◌≤◌, [], None, Some, IfErr, IfOk, IsTrue, length, map, count_by, pos, slice_index_or, sum};
+ghost use Rattle.std.specs.Prelude.{◌≡◌, ◌+◌, ◌<◌, ◌≤◌, [], None, Some, IfErr, IfOk, IsTrue, length, map, count_by, pos, slice_index_or, sum, ⊤, IsOk};
 ghost use Rattle.std.specs.Bool.{Decides};
 ghost use Rattle.std.specs.Option.{is_none, is_some, option_copied};
 ghost use Rattle.either.specs.Either.{MatchEither};
@@ -9,7 +9,8 @@ ghost use Rattle.arrow2_offset.specs.Nested.{cut};
 ghost use Rattle.arrow2_offset.specs.Offsets.{last_of, offsets_of};
 ghost use Rattle.arrow2_walks.specs.Zipped.{zipped};
 ghost use Rattle.arrow2_validity.specs.OptionalValidity.{valid_items};
-ghost use Rattle.arrow2_text.specs.Binary.{binary_items, binary_values, sliced_binary, slot_offset, slots_between, slots_size};
+ghost use Rattle.arrow2_text.specs.Binary.{binary_items, binary_parts, binary_values, sliced_binary, slot_offset, slots_between, slots_size, IsWhole};
+ghost use Rattle.arrow2_text.specs.Growth.{AreGrowingSlots};
 
 use crate::growing::Growing;
 use arrow2_buffer::Buffer;
@@ -69,12 +70,7 @@ impl<O: Offset> Slots<O> {
     ) -> Slots<O>
         requires inside { last_of (buffer_items offsets) ≤ length (buffer_items values) }
         requires same_length { length (valid_items validity) ≡ slots_between offsets }
-        ensures { result ≡ record {
-          data_type = data_type.value;
-          offsets = offsets;
-          values = values;
-          validity = validity;
-        } }
+        ensures { result ≡ binary_parts data_type.value offsets values validity }
     {
         Slots {
             data_type,
@@ -229,9 +225,12 @@ impl<O: Offset> Slots<O> {
     /// bytes are not sliced, the offsets begin at 0 and end after the last byte, and the bitmap begins at bit 0. Else
     /// returns `Left` of the slots as they were. Where there is no bitmap, `Right` has a new one.
     pub(crate) fn into_mut(self) -> Result<Either<Slots<O>, Growing<O>>>
-        ensures ok { IfOk result (λ r. MatchEither r (λ s. s ≡ self) (λ g.
-            (g.values ≡ binary_values self) × (g.valid ≡ valid_items self.validity)
-            × (g.data_type ≡ self.data_type))) }
+        ensures ok { IfOk result (λ r. MatchEither r (λ s. s ≡ self)
+            (λ g. AreGrowingSlots g (binary_values self) (valid_items self.validity)
+            (length (buffer_items self.values)) self.data_type)) }
+        // `Right` comes only where the offsets begin at 0 and end after the last byte. Else nothing is allocated.
+        ensures whole { IfOk result (λ r. MatchEither r (λ _. ⊤) (λ _. IsWhole self)) }
+        ensures succeeds { ¬ IsWhole self → IsOk result }
         ensures only { IfErr result (λ e. e ≡ Error.OutOfMemory) }
     {
         let (first, last) = (self.offsets.first(), self.offsets.last());
@@ -289,15 +288,11 @@ fn thawed<O: Offset>(
     requires start { offsets.start ≡ 0 }
     requires whole { sum offsets.lengths ≡ length (buffer_items values) }
     requires same_length { length (valid_items validity) ≡ length offsets.lengths }
-    ensures ok { IfOk result (λ r. MatchEither r
-        (λ s. s ≡ record {
-          data_type = data_type.value;
-          offsets = whole_buffer (map pos (offsets_of offsets));
-          values = values;
-          validity = validity;
-        })
-        (λ g. (g.values ≡ cut (buffer_items values) offsets.lengths)
-        × (g.valid ≡ valid_items validity) × (g.data_type ≡ data_type.value))) }
+    ensures ok { let whole = whole_buffer (map pos (offsets_of offsets)) in
+        IfOk result (λ r. MatchEither r
+        (λ s. s ≡ binary_parts data_type.value whole values validity)
+        (λ g. AreGrowingSlots g (cut (buffer_items values) offsets.lengths) (valid_items validity)
+        (length (buffer_items values)) data_type.value)) }
     ensures only { IfErr result (λ e. e ≡ Error.OutOfMemory) }
 {
     let alloc = values.allocator();

@@ -1,5 +1,5 @@
 //! An array of texts, each of which may be null.
-ghost use Rattle.std.specs.Prelude.{◌≡◌, ◌+◌, ◌<◌, ◌≤◌, ◌↔◌, ◌⊎◌, [], None, Some, true, length, map, count_by, replicate, slice_index_or, sum, IsErrOf, IsNone, IfErr, IfOk, IsTrue, MatchOption, option_map};
+ghost use Rattle.std.specs.Prelude.{◌≡◌, ◌+◌, ◌<◌, ◌≤◌, ◌↔◌, ◌⊎◌, [], None, Some, true, length, map, count_by, replicate, slice_index_or, sum, IsErrOf, IsNone, IfErr, IfOk, IsTrue, MatchOption, option_map, ⊤, IsOk};
 ghost use Rattle.std.specs.Option.{is_none, is_some, option_copied};
 ghost use Rattle.either.specs.Either.{MatchEither};
 ghost use Rattle.arrow2_model.specs.Buffers.{buffer_items};
@@ -10,9 +10,10 @@ ghost use Rattle.arrow2_offset.specs.Offsets.{last_of};
 ghost use Rattle.arrow2_validity.specs.OptionalValidity.{valid_items};
 ghost use Rattle.arrow2_datatypes.specs.Types.{physical};
 ghost use Rattle.arrow2_utf8.specs.Texts.{AreTexts};
-ghost use Rattle.arrow2_text.specs.Binary.{HasBitPerSlot, binary_items, binary_of, binary_values, default_binary, default_text, sliced_binary, slots_between, text_layout};
+ghost use Rattle.arrow2_types.specs.Refusals.{FailsOnlyWith};
+ghost use Rattle.arrow2_text.specs.Binary.{HasBitPerSlot, binary_items, binary_of, binary_values, default_binary, default_text, sliced_binary, slots_between, text_layout, IsCompact, IsWhole};
 ghost use Rattle.arrow2_text.specs.Growth.{bytes_of_items, items_by_bytes};
-ghost use Rattle.arrow2_text.specs.Refusals.{FailsOnlyWith, RefusesParts, not_utf8, other_text_layout_message, past_the_values_message};
+ghost use Rattle.arrow2_text.specs.Refusals.{RefusesParts, not_utf8, other_text_layout_message, past_the_values_message};
 
 use crate::binary::BinaryArray;
 use crate::iterator::Utf8Iter;
@@ -170,6 +171,9 @@ impl<O: Offset> Utf8Array<O> {
         ensures items { IfOk result (λ a. binary_items a ≡ map (λ value. Some value.now) values.entry.now) }
         ensures data_type { IfOk result (λ a. a.data_type ≡ default_text O.IS_LARGE) }
         ensures bitmap { IfOk result (λ a. IsNone a.validity.bitmap) }
+        ensures compact { IfOk result (λ a. IsCompact a) }
+        ensures bytes { IfOk result (λ a.
+            length (buffer_items a.values) ≡ sum (map (λ value. length value.now) values.entry.now)) }
         ensures overflow { IsErrOf result Error.Overflow → O.MAX < sum (map (λ value. length value.now) values.entry.now) }
         ensures only { IfErr result (λ e. (e ≡ Error.Overflow) ⊎ (e ≡ Error.OutOfMemory)) }
     {
@@ -192,6 +196,9 @@ impl<O: Offset> Utf8Array<O> {
         ensures data_type { IfOk result (λ a. a.data_type ≡ default_text O.IS_LARGE) }
         ensures bitmap { IfOk result (λ a.
             IsNone a.validity.bitmap ↔ (count_by is_none (items_by_bytes items.entry.now) ≡ 0)) }
+        ensures compact { IfOk result (λ a. IsCompact a) }
+        ensures bytes { IfOk result (λ a.
+            length (buffer_items a.values) ≡ bytes_of_items (items_by_bytes items.entry.now)) }
         ensures overflow { IsErrOf result Error.Overflow → O.MAX < bytes_of_items (items_by_bytes items.entry.now) }
         ensures only { IfErr result (λ e. (e ≡ Error.Overflow) ⊎ (e ≡ Error.OutOfMemory)) }
     {
@@ -388,22 +395,28 @@ impl<O: Offset> Utf8Array<O> {
     ///
     /// Where there is no bitmap, `Right` has a new one whose items are all true.
     ///
-    /// Proved: `Left` has the array as it was, and `Right` has its items and its logical type. Not proved: when `Right`
-    /// comes.
+    /// Proved: `Left` has the array as it was. `Right` has its items, its bytes and its logical type, and comes only
+    /// where the offsets begin at 0 and end after the last byte. Not proved: that `Right` comes where all of these
+    /// hold.
     ///
     /// Differs from arrow2, whose array that grows needs no bitmap where no item is null.
     ///
     /// # Errors
     ///
-    /// `OutOfMemory` alone. The array is then dropped. No clause states when it comes. In the code it comes only if the
-    /// offsets have no other owner and are not sliced, and one of these holds:
+    /// `OutOfMemory` alone, and only where the offsets begin at 0 and end after the last byte. The array is then
+    /// dropped. In the code it comes only if the offsets have no other owner and are not sliced, and one of these
+    /// holds:
     ///
     /// - there is no bitmap;
     /// - the bytes are shared or sliced;
     /// - the bitmap is shared, or begins at a bit other than 0.
     pub fn into_mut(self) -> Result<Either<Utf8Array<O>, MutableUtf8Array<O>>>
         ensures ok { IfOk result (λ r. MatchEither r (λ a. a ≡ self)
-            (λ m. (m.items ≡ binary_items self) × (m.data_type ≡ self.data_type))) }
+            (λ m. (m.items ≡ binary_items self) × (m.bytes ≡ length (buffer_items self.values))
+            × (m.data_type ≡ self.data_type))) }
+        // `Right` comes only where the offsets begin at 0 and end after the last byte. Else nothing is allocated.
+        ensures whole { IfOk result (λ r. MatchEither r (λ _. ⊤) (λ _. IsWhole self)) }
+        ensures succeeds { ¬ IsWhole self → IsOk result }
         ensures only { IfErr result (λ e. e ≡ Error.OutOfMemory) }
     {
         match self.slots.into_mut()? {

@@ -1,5 +1,5 @@
 -- Which error a call returns.
-use Rattle.std.specs.Prelude.{◌≡◌, ℕ, List, string_bytes}
+use Rattle.std.specs.Prelude.{◌≡◌, ℕ, List, IfErr, Result, string_bytes}
 use Rattle.arrow2_types.specs.declared.error.Error.{Error}
 use Rattle.arrow2_types.specs.declared.error.Error.TheVariants.{InvalidArgumentError, Overflow, OutOfMemory}
 use Rattle.arrow2_types.specs.declared.growth_error.GrowthError.{GrowthError}
@@ -10,6 +10,10 @@ abbrev pub IsInvalidArgumentOrOutOfMemory : Error → List ℕ → Type 0
 IsInvalidArgumentOrOutOfMemory (InvalidArgumentError text) words = string_bytes text ≡ words
 IsInvalidArgumentOrOutOfMemory OutOfMemory words = Unit {0}
 IsInvalidArgumentOrOutOfMemory _ words = ⊥
+
+-- if the call fails, the error has this message, or is `OutOfMemory` where the message cannot be allocated
+abbrev pub FailsOnlyWith : {T : Type 0} → Result T Error → List ℕ → Type 0
+FailsOnlyWith r message = IfErr r (λ e. IsInvalidArgumentOrOutOfMemory e message)
 
 -- the `Error` that a `GrowthError` becomes
 abbrev pub error_of : GrowthError → Error

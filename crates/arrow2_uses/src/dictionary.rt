@@ -4,7 +4,7 @@ ghost use Rattle.std.specs.Option.{option_copied};
 ghost use Rattle.arrow2.specs.Binary.{binary_items};
 ghost use Rattle.arrow2.specs.Parts.{part};
 ghost use Rattle.arrow2.specs.Primitive.{primitive_items};
-ghost use Rattle.arrow2.specs.Refusals.{IsInvalidArgumentOrOutOfMemory};
+ghost use Rattle.arrow2.specs.Refusals.{FailsOnlyWith, IsInvalidArgumentOrOutOfMemory};
 ghost use Rattle.arrow2.specs.Selected.{selected};
 ghost use Rattle.arrow2.specs.Storage.{items_of};
 ghost use Rattle.arrow2.specs.Take.{IsInBoundsOrNull, item_at};
@@ -60,8 +60,7 @@ impl Dictionary {
             (primitive_items keys) }
         ensures ok { IfOk result (λ d. d
             ≡ map (item_at (λ key. pos key) (binary_items texts)) (primitive_items keys)) }
-        ensures refused { IfErr result (λ e.
-            IsInvalidArgumentOrOutOfMemory e (codes "key out of bounds")) }
+        ensures refused { FailsOnlyWith result (codes "key out of bounds") }
     {
         if !are_in_bounds(&keys, texts.len()) {
             return Err(out_of_bounds(texts.values().allocator()));

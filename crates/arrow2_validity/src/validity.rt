@@ -1,12 +1,12 @@
 //! Which items of an array are not null.
-ghost use Rattle.std.specs.Prelude.{◌≡◌, ◌+◌, ◌<◌, ◌≤◌, ◌↔◌, [], ◌∷◌, None, false, true, length, replicate, slice_index_or, string_bytes, option_map, MatchOption, IfOk, IfErr, IfSome, IsNone, IsOk, IsSome, IsTrue};
+ghost use Rattle.std.specs.Prelude.{◌≡◌, ◌+◌, ◌<◌, ◌≤◌, ◌↔◌, [], ◌∷◌, None, false, true, length, replicate, slice_index_or, string_bytes, option_map, MatchOption, IfOk, IfErr, IfSome, IsNone, IsOk, IsSome, IsTrue, ⊤};
 ghost use Rattle.std.specs.Option.{ForSome};
 ghost use Rattle.either.specs.Either.{MatchEither};
 ghost use Rattle.arrow2_model.specs.Parts.{falses, part};
 ghost use Rattle.arrow2_model.specs.Storage.{items_of};
 ghost use Rattle.arrow2_model.specs.Tables.{each};
 ghost use Rattle.arrow2_packed_bits.specs.Growth.{Appends};
-ghost use Rattle.arrow2_types.specs.Refusals.{IsInvalidArgumentOrOutOfMemory, error_of};
+ghost use Rattle.arrow2_types.specs.Refusals.{FailsOnlyWith, error_of};
 ghost use Rattle.arrow2_validity.specs.OptionalValidity.{OptionalValidity, valid_items, sliced_validity};
 ghost use Rattle.arrow2_validity.specs.Refusals.{unequal_lengths_message};
 
@@ -72,7 +72,7 @@ impl Validity {
         ensures len { IfOk result (λ v. length (valid_items v) ≡ len) }
         ensures accepted { IsOk result ↔ ForSome bitmap (λ b. length (items_of b) ≡ len) }
         ensures refused { ForSome bitmap (λ b.
-            IfErr result (λ e. IsInvalidArgumentOrOutOfMemory e (unequal_lengths_message (length (items_of b)) len))) }
+            FailsOnlyWith result (unequal_lengths_message (length (items_of b)) len)) }
     {
         if let Some(bitmap) = &bitmap {
             check_same_length(len, bitmap)?;
@@ -149,13 +149,14 @@ impl Validity {
 
     /// Returns `Right` of a bitmap that grows, if nobody else shares the bytes and the items begin at bit 0. Otherwise
     /// returns `Left` of the validity as it was. Without a bitmap, returns `Right` of a new one whose items are all
-    /// true. No clause states when `Right` comes.
+    /// true. Where there is a bitmap, no clause states when `Right` comes.
     ///
     /// # Errors
     ///
     /// `OutOfMemory` alone, and only where there is no bitmap.
     pub fn into_mut(self, alloc: Global) -> Result<Either<Validity, MutableBitmap>>
         ensures ok { IfOk result (λ r. MatchEither r (λ v. v ≡ self) (λ m. m.items ≡ valid_items self)) }
+        ensures made { IsNone self.bitmap → IfOk result (λ r. MatchEither r (λ _. ⊥) (λ _. ⊤)) }
         ensures only { IfErr result (λ e. e ≡ Error.OutOfMemory) }
         ensures succeeds { IsSome self.bitmap → IsOk result }
     {
@@ -191,8 +192,8 @@ impl Validity {
     ///
     /// # Errors
     ///
-    /// `OutOfMemory` alone. In the code it comes only where both have a bitmap, or where a reference count would
-    /// overflow; no clause states that.
+    /// `OutOfMemory` alone, and only where one of both has a bitmap. In the code it comes only where both have one, or
+    /// where a reference count would overflow; no clause states that.
     pub fn both(&self, other: &Validity) -> Result<Validity>
         requires same_length { length (valid_items self.now) ≡ length (valid_items other.now) }
         ensures items { IfOk result (λ v.
@@ -201,6 +202,7 @@ impl Validity {
         ensures bitmap { IfOk result (λ v.
             IsNone v.bitmap ↔ (IsNone self.now.bitmap × IsNone other.now.bitmap)) }
         ensures only { IfErr result (λ e. e ≡ Error.OutOfMemory) }
+        ensures succeeds { IsNone self.now.bitmap → IsNone other.now.bitmap → IsOk result }
     {
         match (&self.bitmap, &other.bitmap) {
             (None, _) => Ok(other.clone()?),
@@ -210,9 +212,12 @@ impl Validity {
     }
 }
 
-/// Shares the bytes. Does not allocate: in the code it fails only if a reference count would overflow.
+/// Shares the bytes. Does not allocate: in the code it fails only if a reference count would overflow. Without a bitmap
+/// it never fails.
 impl Clone for Validity {
     ghost is_clone = { λ a copy. copy ≡ a };
+
+    ghost is_infallible = { λ a. IsNone a.bitmap };
 
     fn clone(&self) -> std::result::Result<Validity, AllocError> {
         Ok(Validity {
@@ -242,8 +247,7 @@ fn append_part(bitmap: &Bitmap, start: usize, len: usize, grown: &mut MutableBit
 /// `InvalidArgumentError` exactly if the lengths differ, or `OutOfMemory` if the message cannot be allocated.
 pub fn check_same_length(values: usize, validity: &Bitmap) -> Result<()>
     ensures accepted { IsOk result ↔ (length (items_of validity.now) ≡ values) }
-    ensures refused { IfErr result (λ e.
-        IsInvalidArgumentOrOutOfMemory e (unequal_lengths_message (length (items_of validity.now)) values)) }
+    ensures refused { FailsOnlyWith result (unequal_lengths_message (length (items_of validity.now)) values) }
 {
     if validity.len() != values {
         let text = refusal(validity.allocator(), validity.len(), values)?;

@@ -8,10 +8,11 @@ ghost use Rattle.arrow2_walks.specs.Selected.{selected};
 ghost use Rattle.arrow2_walks.specs.Zips.{HasEqualLengths, MayHaveEqualLengths, StepsAlike, either_steps, zip_validity_steps};
 ghost use Rattle.arrow2_walks.specs.Slots.{slots_of_both, slots_of};
 
-/// `rest` maps the iterator over values to the list of items that it has still to yield, and `valid` that over their
-/// validity. `view` maps what the former returns to an item, for example a `&T` to its `T`, and `YieldsFirstBy view` is
-/// `YieldsFirst` of these items. Where both lists have equal lengths, and each iterator yields the first, or the last,
-/// item of its list, a step of the zip yields the first, or the last, slot, and leaves lists of equal lengths.
+/// `rest` maps the iterator over values to the list of items that it has still to yield. `valid` does so for the iterator
+/// over their validity. `view` maps an element that the iterator over values yields to an item, for example a `&T` to
+/// its `T`, and `YieldsFirstBy view` is `YieldsFirst` of these items. Where both lists have equal lengths, and each
+/// iterator yields the first, or the last, item of its list, a step of the zip yields the first, or the last, slot, and
+/// leaves lists of equal lengths.
 #[tactic(auto, using(crate::proofs::Slots::slots))]
 pub fn a_zip_yields_its_slots<I: Iterator, V: Iterator<Item = bool>, X>()
     ensures first { (view : I.Item → X) (rest : I → List X) (valid : V → List Bool) →

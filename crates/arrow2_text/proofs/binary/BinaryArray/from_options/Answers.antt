@@ -2,7 +2,8 @@ use Rattle.std.proofs.Common.{◌∙◌, ◌+◌, ◌<◌, ap, length, subst, sy
 use Rattle.std.specs.Prelude.{Err}
 use Rattle.std.specs.Option.{option_copied, option_map_or}
 use Rattle.arrow2_types.specs.declared.error.Error.TheVariants.{Overflow}
-use Rattle.arrow2_text.proofs.Collected.{all-taken, bytes-by_reference, count-taken, handed-on, made-items, made-type, no-overflow, past-taken, refused-memory, sum-taken-more, taken-more}
+use Rattle.arrow2_text.proofs.Collected.{all-taken, bytes-by_reference, count-taken, handed-on, made-items, made-type, no-overflow, past-taken, refused-memory, sum-taken-more, taken-more, made-bytes, measured-all}
+use Rattle.arrow2_text.specs.Growth.{bytes_of_items, items_by_bytes}
 use Rattle.arrow2_text.proofs.binary.BinaryArray.from_options.Goals as goal
 
 pub loop-item-init : goal.loop-item-init
@@ -43,3 +44,6 @@ returns-clause-overflow g c = λ is. absurd (no-overflow c.freeze.result c.freez
 
 pub returns-clause-only : goal.returns-clause-only
 returns-clause-only g c = refused-memory c.freeze.result c.freeze.ensures.only
+
+pub returns-clause-bytes : goal.returns-clause-bytes
+returns-clause-bytes g c = made-bytes c.freeze.result c.freeze.ensures.bytes (measured-all (λ items. bytes_of_items (items_by_bytes items)) c.args.items.now c.loop-item.item-index c.loop-item-test.false c.loop-item.invariant.bytes)

@@ -1,10 +1,14 @@
-use Rattle.std.proofs.Common.{◌≡◌, List, Bool, length, ap, sym, ◌∙◌}
+use Rattle.std.proofs.Common.{◌≡◌, List, Bool, length, ap, sym, ◌∙◌, subst}
 use Rattle.arrow2_validity.specs.OptionalValidity.{valid_items}
 use Rattle.arrow2_offset.proofs.Nested.{length-cut}
-use Rattle.arrow2_text.specs.Binary.{BinaryParts, binary_values}
+use Rattle.arrow2_text.specs.Binary.{BinaryParts, binary_values, IsCompact}
 use Rattle.arrow2_text.specs.Growth.{GrowingSlots}
 use Rattle.arrow2_text.proofs.GrowthItems.{bitmap-there, known-validity}
-use Rattle.arrow2_text.proofs.SlotLists.{frozen-values}
+use Rattle.arrow2_text.proofs.SlotLists.{frozen-values, compact-slots, packed-alone}
+use Rattle.std.specs.Prelude.{IfSome}
+use Rattle.std.proofs.Math.Seq.{take-length}
+use Rattle.arrow2_model.specs.Buffers.{buffer_items}
+use Rattle.arrow2_bitmap.specs.Packed.{IsPacked}
 use Rattle.arrow2_text.proofs.growing.Growing.freeze.Goals as goal
 
 pub returns-clause-valid : goal.returns-clause-valid
@@ -34,3 +38,16 @@ returns-clause-bitmap g c =
     let same : length c.args.self.valid ≡ length c.args.self.values = ap (λ s. length s.valid) (sym c.self.view_is) ∙ (c.self.invariant.2 ∙ (sym slots ∙ ap (λ s. length s.values) c.self.view_is)) in
     bitmap-there c.new.result.validity.bitmap validity.field-0 c.args.self.values c.args.self.valid c.self.inside.validity.items same (ap (λ s. s.valid) (sym c.self.view_is))
     (ap (λ s. s.validity.bitmap) c.new.ensures ∙ ap (λ v. v.bitmap) c.new-validity.ensures.value) validity.ensures.none
+
+pub returns-clause-compact : goal.returns-clause-compact
+returns-clause-compact g c =
+    let offsets = c.in_ok-offsets.ensures in
+    let validity = c.in_ok-into_validity.ensures in
+    let bitmap = subst (λ v. IfSome v.bitmap (λ b. IsPacked b)) (sym c.new-validity.ensures.value) (packed-alone c.in_ok-into_validity.field-0 c.self.inside.validity.items validity.items validity.storage) in
+    subst (λ s. IsCompact s) (sym c.new.ensures) (compact-slots _ c.self.inside.values.items c.self.inside.offsets.lengths _ c.self.invariant.1 offsets.0 (offsets.1 ∙ c.self.invariant.0) offsets.2 c.in_ok-values.ensures bitmap)
+
+pub returns-clause-bytes : goal.returns-clause-bytes
+returns-clause-bytes g c =
+    let xs = c.self.inside.values.items in
+    ap (λ s. length (buffer_items s.values)) c.new.ensures
+    ∙ (ap length (ap buffer_items c.in_ok-values.ensures ∙ take-length xs) ∙ ap (λ s. s.bytes) c.self.view_is)

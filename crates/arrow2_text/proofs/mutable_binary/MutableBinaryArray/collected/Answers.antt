@@ -4,7 +4,7 @@ use Rattle.std.proofs.iter.Next.{Yields-more}
 use Rattle.std.proofs.iter.runs.Made.{run_of_exit}
 use Rattle.std.specs.Iterator.{Yields}
 use Rattle.arrow2_types.specs.declared.error.Error.TheVariants.{Overflow}
-use Rattle.arrow2_text.specs.Growth.{items_by_bytes}
+use Rattle.arrow2_text.specs.Growth.{items_by_bytes, bytes_of_items}
 use Rattle.arrow2_text.proofs.Collected.{bytes-collected, handed-on, items-collected, past-collected}
 use Rattle.arrow2_text.proofs.mutable_binary.MutableBinaryArray.collected.Goals as goal
 
@@ -22,7 +22,9 @@ pub returns-clause-items : goal.returns-clause-items
 returns-clause-items g c =
     let it = c.into_iter-item-iterator in
     let ran = run_of_exit g.I.Iterator.next_gives it.result c.loop-item.yielded c.loop-item.item-iterator c.loop-item.yielded_by c.next.new.self c.in-None.ensures.steps in
-    (ran.0, ran.1 ∙ it.ensures.into_iter_gives, ran.2, c.loop-item.invariant.items ∙ ap items_by_bytes (sym ran.3.0))
+    let kept = c.loop-item.invariant in
+    let all = sym ran.3.0 in
+    (ran.0, ran.1 ∙ it.ensures.into_iter_gives, ran.2, (kept.items ∙ ap items_by_bytes all, kept.bytes ∙ ap (λ items. bytes_of_items (items_by_bytes items)) all))
 
 pub returns-in_err-push-clause-overflow : goal.returns-in_err-push-clause-overflow
 returns-in_err-push-clause-overflow g c = λ is.

@@ -1,8 +1,8 @@
-use Rattle.std.proofs.Common.{◌∙◌, ap, length, take, count_by}
+use Rattle.std.proofs.Common.{◌∙◌, ap, length, take, count_by, map, sum}
 use Rattle.std.specs.Prelude.{Some, Err}
 use Rattle.std.specs.Option.{is_none}
 use Rattle.arrow2_types.specs.declared.error.Error.TheVariants.{Overflow}
-use Rattle.arrow2_text.proofs.Collected.{all-taken, count-taken, handed-on, made-items, made-type, no-bitmap, no-overflow, none-null, past-taken, refused-memory, sum-taken-more, taken-more}
+use Rattle.arrow2_text.proofs.Collected.{all-taken, count-taken, handed-on, made-items, made-type, no-bitmap, no-overflow, none-null, past-taken, refused-memory, sum-taken-more, taken-more, made-bytes, measured-all}
 use Rattle.arrow2_text.proofs.utf8.Utf8Array.from_slice.Goals as goal
 
 pub loop-value-init : goal.loop-value-init
@@ -47,3 +47,6 @@ returns-clause-overflow g c = λ is. absurd (no-overflow c.freeze.result c.freez
 
 pub returns-clause-only : goal.returns-clause-only
 returns-clause-only g c = refused-memory c.freeze.result c.freeze.ensures.only
+
+pub returns-clause-bytes : goal.returns-clause-bytes
+returns-clause-bytes g c = made-bytes c.freeze.result c.freeze.ensures.bytes (measured-all (λ values. sum (map (λ value. length value.now) values)) c.args.values.now c.loop-value.value-index c.loop-value-test.false c.loop-value.invariant.bytes)
