@@ -106,7 +106,7 @@ pub packed-alone : (o : Option BitmapStorage) (vs : List Bool) → IfSome o (λ 
 packed-alone None vs items stored = tt
 packed-alone (Some b) vs items stored = stored ∙ ap packed_storage (sym items)
 
--- whole offsets from 0 on, over a whole list of bytes that ends where they end
+-- whole offsets from 0 on over a whole list of bytes, which has as many as they span
 pub compact-slots : (a : BinaryParts) (xs ns : List ℕ) (ys : List ℤ) → sum ns ≡ length xs → a.offsets ≡ whole_buffer ys → start_of (buffer_items a.offsets) ≡ 0 → lengths_of (buffer_items a.offsets) ≡ ns → a.values ≡ whole_buffer xs → IfSome a.validity.bitmap (λ b. IsPacked b) → IsCompact a
 compact-slots a xs ns ys whole offsets start lengths values packed = record {
   start = start;
