@@ -209,24 +209,25 @@ uint32_t arrow2_unpack(const uint8_t *bytes, size_t bytes_len, size_t offset, bo
 /* Finds the runs of set bits in a range, the `length` bits from bit `offset` on. Bits of the range are counted from
  * `offset`. The search begins at bit `*at` of the range: set `*at` to 0 before the first call. Run k begins at bit
  * `starts[k]` of the range and has `lengths[k]` bits. If `*at` is inside a run, only the part of that run from `*at` on
- * is reported. The call stops when the slices are full or no run is left. It writes to `*count` how many runs it has
- * written, and to `*at` where the next call goes on: a bit from the end of the last run up to the first bit of the
- * next. If `*count < starts_len`, all runs are done, and `*at` equals `length`. The items of `starts` and `lengths`
- * from `*count` on may have been written too. For all runs, call again until `*count` is below `starts_len`, which must
- * be at least 1. If `starts_len` is 0, `*count` becomes 0, which is never below `starts_len`, and `*at` may or may not
- * change. ARROW2_RANGE: the range is not inside the bytes, or `*at` is above `length`. Else ARROW2_LENGTH: `starts_len`
- * is not `lengths_len`. */
+ * is reported. The call stops when the slices are full or no run is left. It writes the number of runs to `*count`, and
+ * to `*at` the bit at which the next call begins its search: some bit after the last run that was written, and not
+ * after the first bit of the next run. If `*count < starts_len`, all runs are done, and `*at` equals `length`. The
+ * items of `starts` and `lengths` from `*count` on may have been written too. For all runs, call again until `*count`
+ * is below `starts_len`, which must be at least 1. If `starts_len` is 0, `*count` becomes 0, which is never below
+ * `starts_len`, and `*at` may or may not change. ARROW2_RANGE: the range is not inside the bytes, or `*at` is above
+ * `length`. Else ARROW2_LENGTH: `starts_len` is not `lengths_len`. */
 uint32_t arrow2_runs(const uint8_t *bytes, size_t bytes_len, size_t offset, size_t length, size_t *at, size_t *starts,
                      size_t starts_len, size_t *lengths, size_t lengths_len, size_t *count);
 
 /* Finds the set bits in a range, the `length` bits from bit `offset` on. Bits of the range are counted from `offset`.
  * The search begins at bit `*at` of the range: set `*at` to 0 before the first call. Bit `indices[k]` of the range is
- * set, and the indices rise. The call stops when `indices` is full or no set bit is left. It writes to `*count` how
- * many indices it has written, and to `*at` where the next call goes on: a bit above the last index, up to the next set
- * bit. If `*count < indices_len`, all set bits are done, and `*at` equals `length`. The items of `indices` from
- * `*count` on may have been written too. For all set bits, call again until `*count` is below `indices_len`, which must
- * be at least 1. If `indices_len` is 0, `*count` becomes 0, which is never below `indices_len`, and `*at` may or may
- * not change. ARROW2_RANGE: the range is not inside the bytes, or `*at` is above `length`. */
+ * set, and the indices rise. The call stops when `indices` is full or no set bit is left. It writes the number of
+ * indices to `*count`, and to `*at` the bit at which the next call begins its search: some bit above the last index,
+ * and not above the next set bit. If `*count < indices_len`, all set bits are done, and `*at` equals `length`. The
+ * items of `indices` from `*count` on may have been written too. For all set bits, call again until `*count` is below
+ * `indices_len`, which must be at least 1. If `indices_len` is 0, `*count` becomes 0, which is never below
+ * `indices_len`, and `*at` may or may not change. ARROW2_RANGE: the range is not inside the bytes, or `*at` is above
+ * `length`. */
 uint32_t arrow2_set_indices(const uint8_t *bytes, size_t bytes_len, size_t offset, size_t length, size_t *at,
                             size_t *indices, size_t indices_len, size_t *count);
 
@@ -239,7 +240,7 @@ uint32_t arrow2_set_indices(const uint8_t *bytes, size_t bytes_len, size_t offse
  *
  * The four `_unchecked` calls test no offset. Their numbers must be offsets, so there must be at least one; else the
  * behaviour is undefined, and memory outside `offsets` may be read. They never return one of the three codes above.
- * ARROW2_LENGTH and, from the two rebase calls, ARROW2_RANGE come in the same cases as without `_unchecked`. */
+ * They return ARROW2_LENGTH and ARROW2_RANGE in the same cases as the calls without `_unchecked`. */
 
 /* Returns ARROW2_OK if the numbers are offsets. */
 uint32_t arrow2_offsets32_check(const int32_t *offsets, size_t offsets_len);
