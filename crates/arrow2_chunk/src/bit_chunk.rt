@@ -1,5 +1,5 @@
 //! Words as lists of bits.
-ghost use Rattle.std.specs.Prelude.{◌≡◌, ◌+◌, ◌-◌, ◌*◌, ◌<◌, ◌≤◌, ◌^◌, ◌++◌, ◌&&◌, ◌||◌, ℕ, List, length, take, drop, replicate, map, not, false, pos, refl, [], ◌∷◌};
+ghost use Rattle.std.specs.Prelude.{◌≡◌, ◌+◌, ◌-◌, ◌*◌, ◌<◌, ◌≤◌, ◌^◌, ◌++◌, ◌&&◌, ◌||◌, ℕ, List, length, take, drop, replicate, map, not, false, pos, refl, reverse, [], ◌∷◌};
 ghost use Rattle.std.specs.Bool.{xor};
 ghost use Rattle.std.proofs.Common.{lit≤};
 ghost use lib.Lanes.{zip2};
@@ -131,8 +131,11 @@ pub trait BitChunk: PrimInt + NativeType {
 
     ghost value_law: { (x : Self) → Self.value x ≡ pos (number x) };
 
-    // The bytes of `NativeType` are those of the number.
+    // The bytes of `NativeType` are those of the number, in both orders.
     ghost digits_law: { (x : Self) → Self.le_digits x ≡ digits Self.SIZE (pos (number x)) };
+
+    ghost be_digits_law: { (x : Self) → Self.be_digits x
+        ≡ reverse (digits Self.SIZE (pos (number x))) };
 
     ghost number_law: { (bytes : List ℕ) → number (Self.of_le bytes)
         ≡ natural_from Self.SIZE bytes };
@@ -155,6 +158,8 @@ impl BitChunk for u8 {
     ghost value_law = { λ x. refl };
 
     ghost digits_law = { λ x. refl };
+
+    ghost be_digits_law = { λ x. refl };
 
     ghost number_law = { λ bytes. refl };
 
@@ -235,6 +240,8 @@ impl BitChunk for u16 {
 
     ghost digits_law = { λ x. refl };
 
+    ghost be_digits_law = { λ x. refl };
+
     ghost number_law = { λ bytes. refl };
 
     const WIDTH: usize = 16;
@@ -314,6 +321,8 @@ impl BitChunk for u32 {
 
     ghost digits_law = { λ x. refl };
 
+    ghost be_digits_law = { λ x. refl };
+
     ghost number_law = { λ bytes. refl };
 
     const WIDTH: usize = 32;
@@ -392,6 +401,8 @@ impl BitChunk for u64 {
     ghost value_law = { λ x. refl };
 
     ghost digits_law = { λ x. refl };
+
+    ghost be_digits_law = { λ x. refl };
 
     ghost number_law = { λ bytes. refl };
 

@@ -2,7 +2,7 @@
 ghost use Rattle.std.specs.Prelude.{◌≡◌, ◌+◌, ◌<◌, ◌≤◌, [], ℕ, length, IfOk, IfErr};
 ghost use Rattle.arrow2_compute.specs.Sizes.{AppendsItem, binary_item, slot_bytes};
 ghost use Rattle.arrow2_model.specs.Parts.{part};
-ghost use Rattle.arrow2_text.specs.Binary.{BinaryParts, binary_items, slots_between, slots_size};
+ghost use Rattle.arrow2_text.specs.Binary.{BinaryParts, IsCompact, binary_items, slots_between, slots_size};
 ghost use Rattle.arrow2_text.specs.Growth.{AppendsBinary, GrowingBinary};
 
 use arrow2_index::Offset;
@@ -63,7 +63,7 @@ pub trait Binary: Drop {
             (part (binary_items (parts array.now)) start len)
             (slots_size (parts array.now).offsets start len) };
 
-    /// Returns the array of the items.
+    /// Returns the array of the items. It stores its slots alone, and has a validity bitmap exactly if an item is null.
     ///
     /// # Errors
     ///
@@ -71,6 +71,7 @@ pub trait Binary: Drop {
     fn freeze(grown: Self::Growing) -> Result<Self>
         ensures items { IfOk result (λ a. binary_items (parts a) ≡ (growing grown).items) }
         ensures data_type { IfOk result (λ a. (parts a).data_type ≡ (growing grown).data_type) }
+        ensures compact { IfOk result (λ a. IsCompact (parts a)) }
         ensures only { IfErr result (λ e. e ≡ Error.OutOfMemory) };
 }
 

@@ -4,7 +4,7 @@ ghost use Rattle.std.specs.List.{flat_map};
 ghost use Rattle.arrow2_array.specs.Items.{boolean_items, nulls};
 ghost use Rattle.arrow2_compute.specs.Sizes.{AreTooLarge, joined_bytes, joined_items};
 ghost use Rattle.arrow2_primitive.specs.Primitive.{primitive_items};
-ghost use Rattle.arrow2_text.specs.Binary.{binary_items};
+ghost use Rattle.arrow2_text.specs.Binary.{IsCompact, binary_items};
 ghost use Rattle.std.specs.Option.{is_none};
 
 use crate::binary::Binary;
@@ -43,7 +43,7 @@ pub fn concatenate<T: NativeType>(
 }
 
 /// Returns the byte strings or texts of `first` and then of each of `others`, one after the other, with the logical
-/// type of `first`.
+/// type of `first`. The result has a validity bitmap exactly if an item of it is null.
 ///
 /// In arrow2 it is `concatenate`.
 ///
@@ -56,6 +56,7 @@ pub fn concatenate_binary<A: Binary>(first: &A, others: &[&A]) -> Result<A>
     ensures items { IfOk result (λ a.
         binary_items (A.parts a) ≡ joined_items (λ array. A.parts array.now) (A.parts first.now) others.now) }
     ensures data_type { IfOk result (λ a. (A.parts a).data_type ≡ (A.parts first.now).data_type) }
+    ensures compact { IfOk result (λ a. IsCompact (A.parts a)) }
     ensures overflow { IsErrOf result Error.Overflow →
         AreTooLarge A.GREATEST (λ array. A.parts array.now) (A.parts first.now) others.now }
     ensures fits { OnOk result

@@ -6,7 +6,7 @@ ghost use Rattle.arrow2_model.specs.Bits.{unnum};
 ghost use Rattle.arrow2_model.specs.Parts.{falses};
 ghost use Rattle.arrow2_model.specs.Storage.{items_of};
 ghost use Rattle.arrow2_primitive.specs.Primitive.{primitive_items};
-ghost use Rattle.arrow2_text.specs.Binary.{binary_items};
+ghost use Rattle.arrow2_text.specs.Binary.{IsCompact, binary_items};
 ghost use Rattle.arrow2_validity.specs.OptionalValidity.{valid_items};
 ghost use Rattle.arrow2_walks.specs.Selected.{selected};
 
@@ -171,8 +171,8 @@ fn true_items(mask: &BooleanArray) -> Result<Bitmap>
     }
 }
 
-/// Returns the byte strings or texts at whose index the mask is true, copied run by run. Requires that both have equal
-/// lengths.
+/// Returns the byte strings or texts at whose index the mask is true, copied run by run. The result has a validity
+/// bitmap exactly if an item of it is null. Requires that both have equal lengths.
 ///
 /// In arrow2 it is `filter`, whose mask is a boolean array.
 ///
@@ -184,6 +184,7 @@ pub fn filter_binary<A: Binary>(array: &A, mask: &Bitmap) -> Result<A>
     ensures items { IfOk result (λ a. binary_items (A.parts a)
         ≡ selected (binary_items (A.parts array.now)) (items_of mask.now)) }
     ensures data_type { IfOk result (λ a. (A.parts a).data_type ≡ (A.parts array.now).data_type) }
+    ensures compact { IfOk result (λ a. IsCompact (A.parts a)) }
     ensures only { IfErr result (λ e. e ≡ Error.OutOfMemory) }
 {
     laws::runs_lie_inside();

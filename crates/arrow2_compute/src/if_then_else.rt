@@ -4,7 +4,7 @@ ghost use Rattle.arrow2_array.specs.Items.{boolean_items};
 ghost use Rattle.arrow2_model.specs.Storage.{items_of};
 ghost use Rattle.arrow2_compute.specs.Sizes.{AppendsItem, binary_item, item_bytes};
 ghost use Rattle.arrow2_primitive.specs.Primitive.{primitive_items};
-ghost use Rattle.arrow2_text.specs.Binary.{binary_items};
+ghost use Rattle.arrow2_text.specs.Binary.{IsCompact, binary_items};
 ghost use Rattle.arrow2_validity.specs.OptionalValidity.{valid_items};
 ghost use Rattle.arrow2_walks.specs.Selected.{chosen};
 
@@ -119,7 +119,8 @@ fn chosen_bits(mask: &Bitmap, lhs: &Bitmap, rhs: &Bitmap) -> Result<Bitmap>
 }
 
 /// Returns, index by index, the byte string or text of `lhs` where the mask is true, and that of `rhs` elsewhere, with
-/// the logical type of `lhs`. Requires that all three have equal lengths.
+/// the logical type of `lhs`. The result has a validity bitmap exactly if an item of it is null. Requires that all
+/// three have equal lengths.
 ///
 /// In arrow2 it is `if_then_else`, whose mask is a boolean array.
 ///
@@ -132,10 +133,11 @@ pub fn if_then_else_binary<A: Binary>(mask: &Bitmap, lhs: &A, rhs: &A) -> Result
     // The mask has an item for each slot of both arrays.
     requires left { length (items_of mask.now) ≡ length (binary_items (A.parts lhs.now)) }
     requires right { length (items_of mask.now) ≡ length (binary_items (A.parts rhs.now)) }
-    // The chosen items, and the logical type of `lhs`.
+    // The chosen items, the logical type of `lhs`, and how the items are stored.
     ensures items { IfOk result (λ a. binary_items (A.parts a) ≡ chosen (items_of mask.now)
         (binary_items (A.parts lhs.now)) (binary_items (A.parts rhs.now))) }
     ensures data_type { IfOk result (λ a. (A.parts a).data_type ≡ (A.parts lhs.now).data_type) }
+    ensures compact { IfOk result (λ a. IsCompact (A.parts a)) }
     // Whether their bytes fit the greatest offset, and which errors come.
     ensures overflow { IsErrOf result Error.Overflow → A.GREATEST < sum_by item_bytes
         (chosen (items_of mask.now) (binary_items (A.parts lhs.now)) (binary_items (A.parts rhs.now))) }

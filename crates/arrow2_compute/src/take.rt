@@ -1,13 +1,14 @@
 //! The items at given indices.
-ghost use Rattle.std.specs.Prelude.{◌≡◌, ◌<◌, ◌≤◌, ◌⊎◌, All, None, false, is_some, length, map, slice_index_or, sum_by, IfOk, IfErr, IsErrOf, OnOk, ◌↔◌, IsNone};
+ghost use Rattle.std.specs.Prelude.{◌≡◌, ◌<◌, ◌≤◌, ◌⊎◌, All, None, count_by, false, is_some, length, map, slice_index_or, sum_by, IfOk, IfErr, IsErrOf, OnOk, ◌↔◌, IsNone};
 ghost use Rattle.std.specs.List.{AllZip};
+ghost use Rattle.std.specs.Option.{is_none};
 ghost use Rattle.arrow2_array.specs.Items.{boolean_items};
 ghost use Rattle.arrow2_compute.specs.Take.{IsInBoundsOrNull, IsItemAt, item_at, items_at};
 ghost use Rattle.arrow2_compute.specs.Sizes.{binary_item, item_bytes};
 ghost use Rattle.arrow2_model.specs.Buffers.{buffer_items};
 ghost use Rattle.arrow2_model.specs.Storage.{items_of};
 ghost use Rattle.arrow2_primitive.specs.Primitive.{primitive_items};
-ghost use Rattle.arrow2_text.specs.Binary.{binary_items};
+ghost use Rattle.arrow2_text.specs.Binary.{IsCompact, binary_items};
 ghost use Rattle.arrow2_validity.specs.OptionalValidity.{valid_items};
 ghost use Rattle.arrow2_walks.specs.Zipped.{zipped};
 
@@ -95,8 +96,8 @@ fn bits_at(bitmap: &Bitmap, indices: &[usize]) -> Result<Bitmap>
     )
 }
 
-/// Returns, for each index in `indices`, the item at this index, and null where the index is null. The number stored
-/// under a null index has no effect. Requires that each index is null, or at least 0 and below the length.
+/// Returns, for each index in `indices`, the item at this index, and null where the index is null. The result has a
+/// validity bitmap exactly if an item of it is null. The number stored under a null index has no effect. Requires that each index is null, or at least 0 and below the length.
 ///
 /// In arrow2 it is `take`.
 ///
@@ -111,6 +112,8 @@ pub fn take_by_array<T: NativeType, I: Index>(
     ensures items { IfOk result (λ a. primitive_items a
         ≡ items_at I.value (primitive_items array.now) (primitive_items indices.now)) }
     ensures data_type { IfOk result (λ a. a.data_type ≡ array.now.data_type) }
+    ensures bitmap { IfOk result (λ a.
+        IsNone a.validity.bitmap ↔ (count_by is_none (primitive_items a) ≡ 0)) }
     ensures only { IfErr result (λ e. e ≡ Error.OutOfMemory) }
 {
     let data_type = array.data_type().clone()?;
@@ -173,8 +176,8 @@ fn item_at<T: NativeType, I: Index>(array: &PrimitiveArray<T>, index: Option<I>)
     }
 }
 
-/// Returns the byte strings or texts at these indices, in the order of the indices. Requires that each index is below
-/// the length.
+/// Returns the byte strings or texts at these indices, in the order of the indices. The result has a validity bitmap
+/// exactly if an item of it is null. Requires that each index is below the length.
 ///
 /// In arrow2 it is `take`, whose indices are an array.
 ///
@@ -185,9 +188,12 @@ fn item_at<T: NativeType, I: Index>(array: &PrimitiveArray<T>, index: Option<I>)
 #[tactic(auto, using(crate::proofs::Weighed::weighed))]
 pub fn take_binary<A: Binary>(array: &A, indices: &[usize]) -> Result<A>
     requires inside { All (λ index. index < length (binary_items (A.parts array.now))) indices.now }
+    // The items at the indices, the logical type, and how the items are stored.
     ensures items { IfOk result (λ a. binary_items (A.parts a)
         ≡ map (λ index. binary_item (A.parts array.now) index) indices.now) }
     ensures data_type { IfOk result (λ a. (A.parts a).data_type ≡ (A.parts array.now).data_type) }
+    ensures compact { IfOk result (λ a. IsCompact (A.parts a)) }
+    // Whether their bytes fit the greatest offset, and which errors come.
     ensures overflow { IsErrOf result Error.Overflow → A.GREATEST < sum_by item_bytes
         (map (λ index. binary_item (A.parts array.now) index) indices.now) }
     ensures fits { OnOk result (sum_by item_bytes

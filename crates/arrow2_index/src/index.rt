@@ -1,5 +1,5 @@
 //! Numbers that are indices into buffers, and iterators over ranges of such numbers.
-ghost use Rattle.std.specs.Prelude.{◌≡◌, ◌<◌, ◌≤◌, ◌<ℤ◌, ◌≤ℤ◌, ◌+ℤ◌, ◌-ℤ◌, ◌↔◌, ℕ, ℤ, length, pos, refl, Some, IsSome, IfSome};
+ghost use Rattle.std.specs.Prelude.{◌≡◌, ◌<◌, ◌≤◌, ◌<ℤ◌, ◌≤ℤ◌, ◌+ℤ◌, ◌-ℤ◌, ◌↔◌, ℕ, ℤ, length, pos, refl, reverse, Some, IsSome, IfSome};
 ghost use Rattle.std.specs.Iterator.{YieldsFirstBy, item_count, UpTo};
 ghost use Rattle.std.specs.Iterator.SizeHint.{IsWithinCount};
 ghost use Rattle.arrow2_model.specs.Digits.{digits};
@@ -52,12 +52,16 @@ pub trait Index: NativeType + Ord + AddAssign + Sub<Self, Output = Self> + One +
         Some(IndexRange::new(start, end))
     }
 
-    // The bytes of a number are the digits of its value.
+    // The bytes of a number are the digits of its value: in little-endian order, and in big-endian order.
     ghost digits_law: { (x : Self) → Self.le_digits x ≡ digits Self.SIZE (Self.value x) };
+
+    ghost be_digits_law: { (x : Self) → Self.be_digits x ≡ reverse (digits Self.SIZE (Self.value x)) };
 }
 
 impl Index for i8 {
     ghost digits_law = { λ x. refl };
+
+    ghost be_digits_law = { λ x. refl };
 
     fn to_usize(&self) -> usize {
         *self as usize
@@ -83,6 +87,8 @@ impl Index for i8 {
 impl Index for i16 {
     ghost digits_law = { λ x. refl };
 
+    ghost be_digits_law = { λ x. refl };
+
     fn to_usize(&self) -> usize {
         *self as usize
     }
@@ -106,6 +112,8 @@ impl Index for i16 {
 
 impl Index for i32 {
     ghost digits_law = { λ x. refl };
+
+    ghost be_digits_law = { λ x. refl };
 
     fn to_usize(&self) -> usize {
         *self as usize
@@ -131,6 +139,8 @@ impl Index for i32 {
 impl Index for i64 {
     ghost digits_law = { λ x. refl };
 
+    ghost be_digits_law = { λ x. refl };
+
     fn to_usize(&self) -> usize {
         *self as usize
     }
@@ -154,6 +164,8 @@ impl Index for i64 {
 
 impl Index for u8 {
     ghost digits_law = { λ x. refl };
+
+    ghost be_digits_law = { λ x. refl };
 
     fn to_usize(&self) -> usize {
         *self as usize
@@ -179,6 +191,8 @@ impl Index for u8 {
 impl Index for u16 {
     ghost digits_law = { λ x. refl };
 
+    ghost be_digits_law = { λ x. refl };
+
     fn to_usize(&self) -> usize {
         *self as usize
     }
@@ -203,6 +217,8 @@ impl Index for u16 {
 impl Index for u32 {
     ghost digits_law = { λ x. refl };
 
+    ghost be_digits_law = { λ x. refl };
+
     fn to_usize(&self) -> usize {
         *self as usize
     }
@@ -226,6 +242,8 @@ impl Index for u32 {
 
 impl Index for u64 {
     ghost digits_law = { λ x. refl };
+
+    ghost be_digits_law = { λ x. refl };
 
     fn to_usize(&self) -> usize {
         *self as usize

@@ -1,6 +1,7 @@
 //! Casts of numbers from one native type to another.
-ghost use Rattle.std.specs.Prelude.{◌≡◌, ℕ, IfOk, IfErr, IsOk, MatchBool, OnOk, All};
+ghost use Rattle.std.specs.Prelude.{◌≡◌, ◌↔◌, ℕ, count_by, IfOk, IfErr, IsNone, IsOk, MatchBool, OnOk, All};
 ghost use Rattle.std.specs.List.{AllZip};
+ghost use Rattle.std.specs.Option.{is_none};
 ghost use Rattle.arrow2_types.specs.Refusals.{IsInvalidArgumentOrOutOfMemory};
 ghost use Rattle.arrow2_datatypes.specs.Types.{physical};
 ghost use Rattle.arrow2_datatypes.specs.declared.physical_type.PhysicalType.TheVariants.{Primitive};
@@ -15,8 +16,8 @@ use std::alloc::Global;
 use std::rc::Rc;
 
 /// Returns an array of the same numbers with values of type `O`. An item of the result is null where the item of
-/// `array` is null, or where its number does not fit `O`. Requires that the physical type of `data_type` is that of
-/// `O`.
+/// `array` is null, or where its number does not fit `O`. The result has a validity bitmap exactly if an item of it is
+/// null. Requires that the physical type of `data_type` is that of `O`.
 ///
 /// Differs from arrow2, which takes floats too.
 ///
@@ -31,6 +32,8 @@ pub fn primitive_to_primitive<I: NativeType + PrimInt, O: NativeType + PrimInt>(
     ensures items { IfOk result (λ a. AllZip (IsCast I.value O.value O.fits)
         (primitive_items array.now) (primitive_items a)) }
     ensures data_type { IfOk result (λ a. a.data_type ≡ data_type.value) }
+    ensures bitmap { IfOk result (λ a.
+        IsNone a.validity.bitmap ↔ (count_by is_none (primitive_items a) ≡ 0)) }
     ensures only { IfErr result (λ e. e ≡ Error.OutOfMemory) }
 {
     let mut numbers = MutablePrimitiveArray::of_type(array.values().allocator(), data_type);
@@ -42,7 +45,8 @@ pub fn primitive_to_primitive<I: NativeType + PrimInt, O: NativeType + PrimInt>(
 }
 
 /// Returns an array of the same numbers with values of type `O`. An item of the result is null where the item of
-/// `array` is null. Requires that the physical type of `data_type` is that of `O`.
+/// `array` is null. The result has a validity bitmap exactly if an item of it is null. Requires that the physical type
+/// of `data_type` is that of `O`.
 ///
 /// Reads the numbers twice: first it checks that all of them fit, then it allocates and casts. arrow2 has no such call.
 ///
@@ -55,9 +59,13 @@ pub fn try_primitive_to_primitive<I: NativeType + PrimInt, O: NativeType + PrimI
     data_type: Rc<DataType>,
 ) -> Result<PrimitiveArray<O>>
     requires layout { physical data_type.value ≡ Primitive O.PRIMITIVE }
+    // The same numbers, the given logical type, and whether there is a bitmap.
     ensures items { IfOk result (λ a. AllZip (IsSameNumber I.value O.value)
         (primitive_items array.now) (primitive_items a)) }
     ensures data_type { IfOk result (λ a. a.data_type ≡ data_type.value) }
+    ensures bitmap { IfOk result (λ a.
+        IsNone a.validity.bitmap ↔ (count_by is_none (primitive_items a) ≡ 0)) }
+    // `Ok` only if all numbers fit; else the message names the first one that does not.
     ensures accepted { OnOk result (All (Fits I.value O.fits) (primitive_items array.now)) }
     ensures refused { IfErr result (λ e. (index : ℕ) →
         IsFirstMisfit I.value O.fits (primitive_items array.now) index →

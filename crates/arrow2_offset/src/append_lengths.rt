@@ -22,8 +22,7 @@ pub(crate) const LEAST_CAPACITY: usize = 120;
 const SECOND_CAPACITY: usize = 512;
 
 /// Appends the lengths that an iterator yields. On an error, removes the appended lengths again. Requires that the
-/// items of the vector are offsets that are at most `O::MAX`, and that the iterator ends. The iterator's size hint is
-/// not read.
+/// items of the vector are offsets, and that the iterator ends. Does not read the iterator's size hint.
 ///
 /// # Errors
 ///
@@ -63,7 +62,7 @@ fn appended<O: Offset, I: Iterator<Item = usize> + Drop>(
     mut offsets: Vec<O>,
     lengths: I,
 ) -> (Vec<O>, Result<(), GrowthError>)
-    // The vector holds offsets that are at most `O::MAX`, and the iterator ends.
+    // The vector holds offsets, and the iterator ends.
     requires valid { AreOffsetsUpTo O.MAX (map O.value offsets.items) }
     requires can { I.can_next lengths }
     requires ends { IsFinite (I.remaining lengths) }

@@ -35,12 +35,13 @@ pub fn broken_rule<O: Offset>(offsets: &[O]) -> Option<BrokenRule>
     if !is_rising(offsets) {
         return Some(BrokenRule::Falling);
     }
-    // A number that is read is in the range of its type: so no offset is above `O::MAX`.
+    // For the proof alone: reading the last number brings the fact that it is at most `O::MAX`.
     let _last = offsets[offsets.len() - 1].to_usize();
     None
 }
 
-/// Returns an error where the items are not offsets, with the text of the rule that they break.
+/// Returns an error where the items are not offsets: `OutOfSpec` with the text of the rule that they break, or
+/// `OutOfMemory`.
 pub(crate) fn try_check_offsets<O: Offset>(alloc: Global, offsets: &[O]) -> Result<()>
     ensures ok { OnOk result (AreOffsetsUpTo O.MAX (map O.value offsets.now)) }
     ensures accepted { AreOffsets (map O.value offsets.now) → IsOk result }
@@ -53,7 +54,7 @@ pub(crate) fn try_check_offsets<O: Offset>(alloc: Global, offsets: &[O]) -> Resu
     }
 }
 
-/// Returns the message for a list whose first broken rule is this one.
+/// Returns arrow2's message for a list whose first broken rule is this one.
 fn words_of(rule: BrokenRule) -> &'static str
     ensures { result.now ≡ rule_words rule }
 {

@@ -133,8 +133,7 @@ impl<O: Offset> OffsetsBuffer<O> {
     }
 
     /// Returns the `len + 1` offsets of the `len` slots from slot `start` on. Requires that `start + len` is below the
-    /// number of offsets. The clauses state that the result is offsets with the lengths of these slots; no clause
-    /// states the values.
+    /// number of offsets. The clauses state the lengths of these slots; no clause states the first offset.
     pub(crate) fn offsets_of_slots(&self, start: usize, len: usize) -> &[O]
         requires { start + len < length (buffer_items self.now) }
         ensures valid { AreOffsets (map O.value result.now) }

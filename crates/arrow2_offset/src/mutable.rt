@@ -293,7 +293,7 @@ impl<O: Offset> Offsets<O> {
         ensures { GrowsUpTo error_of result self.old self.new
             (part (lengths_of (buffer_items other.now)) start len) O.MAX }
     {
-        // The number is read for the prover alone: with it come the facts that it is at most `O::MAX`, and that the
+        // For the proof alone: reading the last offset brings the facts that it is at most `O::MAX`, and that the
         // number of slots is at most the capacity.
         let _ = self.last_number();
         if len == 0 {
@@ -307,8 +307,8 @@ impl<O: Offset> Offsets<O> {
     ///
     /// # Errors
     ///
-    /// `Overflow` exactly where the number of offsets would pass `usize::MAX` (there arrow2 wraps, and its offsets
-    /// become fewer), else `OutOfMemory` alone. After either error, the offsets are as they were.
+    /// `Overflow` exactly where the number of offsets would pass `usize::MAX`, else `OutOfMemory` alone. After either
+    /// error, the offsets are as they were. In arrow2 the number wraps, and the offsets are cut to the smaller number.
     pub fn extend_constant(&mut self, additional: usize) -> Result<()>
         // `Overflow` exactly where the number of offsets would be above 2 ^ 64 - 1.
         ensures { Grows error_of result self.old self.new (replicate additional 0)
@@ -393,8 +393,7 @@ impl<O: Offset> Offsets<O> {
         offsets
     }
 
-    /// Returns the vector as `Offsets`, without a copy. Requires that the vector holds offsets that are at most
-    /// `O::MAX`.
+    /// Returns the vector as `Offsets`, without a copy. Requires that the vector holds offsets.
     pub(crate) fn of_vec(offsets: Vec<O>) -> Self
         requires { AreOffsetsUpTo O.MAX (map O.value offsets.items) }
         ensures { result ≡ made_of (map O.value offsets.items) (vec_capacity offsets) }

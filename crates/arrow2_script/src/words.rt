@@ -189,7 +189,7 @@ impl<'a> Model for BitText<'a> {
 }
 
 impl<'a> BitText<'a> {
-    /// Returns a byte for each item: `1` for true, `0` for false.
+    /// Returns a byte for each item, which is `1` exactly where the item is true.
     pub fn digits(&self) -> &'a [u8]
         ensures { items_of_digits result.now ≡ self.now }
     {

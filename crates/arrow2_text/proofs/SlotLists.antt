@@ -1,10 +1,11 @@
 -- Slots between offsets with their validity.
-use Rattle.std.proofs.Common.{◌≡◌, ℕ, ℤ, ◌+◌, ◌≤◌, List, [], ◌∷◌, ◌++◌, Bool, true, false, not, cond, get_or, length, sum, take, drop, replicate, refl, ap, sym, ◌∙◌, arith}
+use Rattle.std.proofs.Common.{◌≡◌, ℕ, ℤ, ◌+◌, ◌≤◌, List, [], ◌∷◌, ◌++◌, Bool, true, false, not, cond, get_or, length, sum, count_by, take, drop, replicate, refl, ap, sym, ◌∙◌, arith}
 use Rattle.std.proofs.Math.Nat.{min-le_left, min-le_right, le-min}
 use Rattle.std.proofs.lemmas.List.{length-append, length-drop, length-take, take_all, take_more, take-append-drop}
 use Rattle.std.proofs.lemmas.List.Sums.{sum_by-cons, sum_by-append}
 use Rattle.std.proofs.Math.Seq.{get_or-append_seam, take-add, take-length}
-use Rattle.std.specs.Prelude.{IfSome, Option, Some, None, MatchOption}
+use Rattle.std.specs.Prelude.{IfSome, Option, Some, None, MatchOption, ◌↔◌}
+use Rattle.std.specs.Option.{IsNone, is_none}
 use Rattle.arrow2_model.specs.Buffers.{BufferStorage, buffer_items, whole_buffer}
 use Rattle.arrow2_model.specs.Parts.{falses, part}
 use Rattle.arrow2_model.specs.Storage.{BitmapStorage, items_of}
@@ -17,7 +18,7 @@ use Rattle.arrow2_offset.proofs.Appending.{sum-push}
 use Rattle.arrow2_walks.specs.Zipped.{zipped}
 use Rattle.arrow2_walks.proofs.Zipped.{length-zipped}
 use Rattle.arrow2_validity.proofs.Slots.{arrays}
-use Rattle.arrow2_text.specs.Binary.{BinaryParts, IsCompact}
+use Rattle.arrow2_text.specs.Binary.{BinaryParts, IsCompact, binary_items}
 
 -- where none is false all are true
 pub all-true : (vs : List Bool) → falses vs ≡ 0 → replicate (length vs) true ≡ vs
@@ -107,16 +108,17 @@ packed-alone None vs items stored = tt
 packed-alone (Some b) vs items stored = stored ∙ ap packed_storage (sym items)
 
 -- whole offsets from 0 on over a whole list of bytes, which has as many as they span
-pub compact-slots : (a : BinaryParts) (xs ns : List ℕ) (ys : List ℤ) → sum ns ≡ length xs → a.offsets ≡ whole_buffer ys → start_of (buffer_items a.offsets) ≡ 0 → lengths_of (buffer_items a.offsets) ≡ ns → a.values ≡ whole_buffer xs → IfSome a.validity.bitmap (λ b. IsPacked b) → IsCompact a
-compact-slots a xs ns ys whole offsets start lengths values packed = record {
-  start = start;
-  last =
+pub compact-slots : (a : BinaryParts) (xs ns : List ℕ) (ys : List ℤ) → sum ns ≡ length xs → a.offsets ≡ whole_buffer ys → start_of (buffer_items a.offsets) ≡ 0 → lengths_of (buffer_items a.offsets) ≡ ns → a.values ≡ whole_buffer xs → IfSome a.validity.bitmap (λ b. IsPacked b)
+    → (IsNone a.validity.bitmap ↔ (count_by is_none (binary_items a) ≡ 0)) → IsCompact a
+compact-slots a xs ns ys whole offsets start lengths values packed bitmap = record {
+  whole =
       let count = ap length (ap buffer_items values ∙ take-length xs) in
       let all = ap sum lengths in
-      omega (arith, start, all, whole, count);
+      (start, omega (arith, start, all, whole, count));
   offsets = whole-items a.offsets ys offsets;
   values = whole-items a.values xs values;
   validity = packed;
+  bitmap = bitmap;
 }
 
 pub ruleset slotted = (arrays, nested, sum-part-following, sum-take-all)

@@ -1,6 +1,6 @@
 -- What contracts see of arrays of byte strings and of texts.
-use Rattle.std.specs.Prelude.{◌≡◌, ℕ, ◌+◌, Bool, ℤ, List, Option, length, sum, if◌then◌else◌, IfSome}
-use Rattle.std.specs.Option.{ForSome}
+use Rattle.std.specs.Prelude.{◌≡◌, ◌↔◌, ℕ, ◌+◌, Bool, ℤ, List, Option, length, sum, count_by, if◌then◌else◌, IfSome, IsNone}
+use Rattle.std.specs.Option.{ForSome, is_none}
 use Rattle.arrow2_model.specs.Buffers.{BufferStorage, buffer_items, whole_buffer}
 use Rattle.arrow2_model.specs.Parts.{part}
 use Rattle.arrow2_model.specs.Storage.{BitmapStorage, items_of}
@@ -61,14 +61,14 @@ binary_of data_type offsets values validity = binary_parts data_type offsets val
 abbrev pub IsWhole : BinaryParts → Type 0
 IsWhole a = (start_of (buffer_items a.offsets) ≡ 0) × (last_of (buffer_items a.offsets) ≡ length (buffer_items a.values))
 
--- an array over its slots alone: its offsets begin at 0 and end after the last byte, and nothing that it stores is sliced
--- off
+-- an array over its slots alone: nothing that it stores is sliced off, and there is a validity bitmap exactly where an
+-- item is null
 pub record IsCompact (a : BinaryParts) : Type 0 where
-  pub start : start_of (buffer_items a.offsets) ≡ 0
-  pub last : last_of (buffer_items a.offsets) ≡ length (buffer_items a.values)
+  pub whole : IsWhole a
   pub offsets : a.offsets ≡ whole_buffer (buffer_items a.offsets)
   pub values : a.values ≡ whole_buffer (buffer_items a.values)
   pub validity : IfSome a.validity.bitmap (λ b. IsPacked b)
+  pub bitmap : IsNone a.validity.bitmap ↔ (count_by is_none (binary_items a) ≡ 0)
 
 -- the n slots from slot `start` on, over the same storage; they have n + 1 offsets
 abbrev pub sliced_binary : BinaryParts → ℕ → ℕ → BinaryParts

@@ -6,7 +6,12 @@ use Rattle.std.specs.Borrow.{Bor}
 use Rattle.arrow2_types.specs.declared.error.Error.{Error}
 use Rattle.arrow2_types.specs.declared.error.Error.TheVariants.{Overflow, OutOfMemory}
 use Rattle.arrow2_walks.specs.Zipped.{slot, zipped}
+use Rattle.either.specs.Either.{MatchEither}
+use Rattle.either.specs.declared.Either.{Either}
+use Rattle.arrow2_model.specs.Buffers.{buffer_items}
 use Rattle.arrow2_datatypes.specs.declared.DataType.{DataType}
+use Rattle.arrow2_validity.specs.OptionalValidity.{valid_items}
+use Rattle.arrow2_text.specs.Binary.{BinaryParts}
 
 -- an array that grows: its logical type, its items, the number of bytes of their slots, under nulls too, and its
 -- capacities, the number of items and the number of bytes that fit before it allocates
@@ -39,6 +44,10 @@ growing_binary s = record {
 -- slots that grow have these values, this validity, this number of bytes and this logical type
 abbrev pub AreGrowingSlots : GrowingSlots → List (List ℕ) → List Bool → ℕ → DataType → Type 0
 AreGrowingSlots g values valid bytes data_type = (g.values ≡ values) × (g.valid ≡ valid) × (g.bytes ≡ bytes) × (g.data_type ≡ data_type)
+
+-- slots as they were, or growing slots with their values, which are these, their validity and their logical type
+abbrev pub AreThawed : Either BinaryParts GrowingSlots → BinaryParts → List (List ℕ) → Type 0
+AreThawed r slots values = MatchEither r (λ same. same ≡ slots) (λ growing. AreGrowingSlots growing values (valid_items slots.validity) (length (buffer_items slots.values)) slots.data_type)
 
 -- growth by these items, all of them or none: their slots have `bytes` bytes together, and the last offset may be at
 -- most `greatest`

@@ -10,7 +10,7 @@ ghost use Rattle.arrow2_offset.specs.Offsets.{last_of, offsets_of};
 ghost use Rattle.arrow2_walks.specs.Zipped.{zipped};
 ghost use Rattle.arrow2_validity.specs.OptionalValidity.{valid_items};
 ghost use Rattle.arrow2_text.specs.Binary.{binary_items, binary_parts, binary_values, sliced_binary, slot_offset, slots_between, slots_size, IsWhole};
-ghost use Rattle.arrow2_text.specs.Growth.{AreGrowingSlots};
+ghost use Rattle.arrow2_text.specs.Growth.{AreThawed};
 
 use crate::growing::Growing;
 use arrow2_buffer::Buffer;
@@ -225,9 +225,7 @@ impl<O: Offset> Slots<O> {
     /// bytes are not sliced, the offsets begin at 0 and end after the last byte, and the bitmap begins at bit 0. Else
     /// returns `Left` of the slots as they were. Where there is no bitmap, `Right` has a new one.
     pub(crate) fn into_mut(self) -> Result<Either<Slots<O>, Growing<O>>>
-        ensures ok { IfOk result (λ r. MatchEither r (λ s. s ≡ self)
-            (λ g. AreGrowingSlots g (binary_values self) (valid_items self.validity)
-            (length (buffer_items self.values)) self.data_type)) }
+        ensures ok { IfOk result (λ r. AreThawed r self (binary_values self)) }
         // `Right` comes only where the offsets begin at 0 and end after the last byte. Else nothing is allocated.
         ensures whole { IfOk result (λ r. MatchEither r (λ _. ⊤) (λ _. IsWhole self)) }
         ensures succeeds { ¬ IsWhole self → IsOk result }
@@ -288,11 +286,9 @@ fn thawed<O: Offset>(
     requires start { offsets.start ≡ 0 }
     requires whole { sum offsets.lengths ≡ length (buffer_items values) }
     requires same_length { length (valid_items validity) ≡ length offsets.lengths }
-    ensures ok { let whole = whole_buffer (map pos (offsets_of offsets)) in
-        IfOk result (λ r. MatchEither r
-        (λ s. s ≡ binary_parts data_type.value whole values validity)
-        (λ g. AreGrowingSlots g (cut (buffer_items values) offsets.lengths) (valid_items validity)
-        (length (buffer_items values)) data_type.value)) }
+    ensures ok { IfOk result (λ r. AreThawed r
+        (binary_parts data_type.value (whole_buffer (map pos (offsets_of offsets))) values validity)
+        (cut (buffer_items values) offsets.lengths)) }
     ensures only { IfErr result (λ e. e ≡ Error.OutOfMemory) }
 {
     let alloc = values.allocator();

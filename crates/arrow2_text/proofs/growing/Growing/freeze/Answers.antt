@@ -1,11 +1,12 @@
-use Rattle.std.proofs.Common.{◌≡◌, List, Bool, length, ap, sym, ◌∙◌, subst}
+use Rattle.std.proofs.Common.{◌≡◌, List, Bool, count_by, length, ap, sym, ◌∙◌, subst}
 use Rattle.arrow2_validity.specs.OptionalValidity.{valid_items}
 use Rattle.arrow2_offset.proofs.Nested.{length-cut}
-use Rattle.arrow2_text.specs.Binary.{BinaryParts, binary_values, IsCompact}
+use Rattle.arrow2_text.specs.Binary.{BinaryParts, binary_items, binary_values, IsCompact}
 use Rattle.arrow2_text.specs.Growth.{GrowingSlots}
 use Rattle.arrow2_text.proofs.GrowthItems.{bitmap-there, known-validity}
 use Rattle.arrow2_text.proofs.SlotLists.{frozen-values, compact-slots, packed-alone}
-use Rattle.std.specs.Prelude.{IfSome}
+use Rattle.std.specs.Prelude.{IfSome, ◌↔◌}
+use Rattle.std.specs.Option.{IsNone, is_none}
 use Rattle.std.proofs.Math.Seq.{take-length}
 use Rattle.arrow2_model.specs.Buffers.{buffer_items}
 use Rattle.arrow2_bitmap.specs.Packed.{IsPacked}
@@ -43,8 +44,10 @@ pub returns-clause-compact : goal.returns-clause-compact
 returns-clause-compact g c =
     let offsets = c.in_ok-offsets.ensures in
     let validity = c.in_ok-into_validity.ensures in
-    let bitmap = subst (λ v. IfSome v.bitmap (λ b. IsPacked b)) (sym c.new-validity.ensures.value) (packed-alone c.in_ok-into_validity.field-0 c.self.inside.validity.items validity.items validity.storage) in
-    subst (λ s. IsCompact s) (sym c.new.ensures) (compact-slots _ c.self.inside.values.items c.self.inside.offsets.lengths _ c.self.invariant.1 offsets.0 (offsets.1 ∙ c.self.invariant.0) offsets.2 c.in_ok-values.ensures bitmap)
+    let packed = subst (λ v. IfSome v.bitmap (λ b. IsPacked b)) (sym c.new-validity.ensures.value) (packed-alone c.in_ok-into_validity.field-0 c.self.inside.validity.items validity.items validity.storage) in
+    let bitmap : IsNone c.new.result.validity.bitmap ↔ (count_by is_none (binary_items c.new.result) ≡ 0) = rw (returns-clause-values g c, returns-clause-valid g c) (returns-clause-bitmap g c) in
+    subst (λ s. IsCompact s) (sym c.new.ensures) (compact-slots _ c.self.inside.values.items c.self.inside.offsets.lengths _ c.self.invariant.1 offsets.0 (offsets.1 ∙ c.self.invariant.0) offsets.2 c.in_ok-values.ensures packed
+    (subst (λ s. IsNone s.validity.bitmap ↔ (count_by is_none (binary_items s) ≡ 0)) c.new.ensures bitmap))
 
 pub returns-clause-bytes : goal.returns-clause-bytes
 returns-clause-bytes g c =
