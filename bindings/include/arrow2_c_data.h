@@ -80,9 +80,9 @@ struct ArrowArrayStream {
  *
  * The rules of arrow2_proved.h hold for these functions too, with two changes: NULL is allowed with any number and
  * counts as 0 bytes, and a NULL validity means that there is no bitmap. In detail:
- * - Each `arrow2_bits_*` function that returns a code calls one function of the library and returns its code. The
- *   comment names the functions that it may call. Two of them, arrow2_bits_null_count and arrow2_bits_and_validity, may
- *   call none if a validity is missing; they then return ARROW2_OK or ARROW2_LENGTH.
+ * - Each `arrow2_bits_*` function that returns a code calls one function of the library and returns its code. Its
+ *   comment names the functions that it may call. If a validity is missing, arrow2_bits_null_count and
+ *   arrow2_bits_and_validity may call none, and return ARROW2_OK or ARROW2_LENGTH.
  * - A NULL pointer to bytes counts as 0 bytes, whatever `bytes_len`, `out_len`, `values_len` or `validity_len` is. The
  *   code is then that of 0 bytes: ARROW2_RANGE for an input unless `offset` and `length` are 0, and ARROW2_LENGTH for
  *   an output unless `length` is 0.
@@ -217,14 +217,13 @@ static inline uint32_t arrow2_bits_or_kleene(struct arrow2_bits left, struct arr
         length, values, arrow2_c_count(values, values_len), validity, arrow2_c_count(validity, validity_len));
 }
 
-* /* Returns the bits of buffer `index` of an array that was checked, from the array's own offset on. Call it only for
-* these two buffers: the validity, which is buffer 0 (formats `n` and unions have none), and the values of a boolean
-* array, which are buffer 1. For any other buffer `bytes_len` is not the number of its bytes, and may be greater.
+/* Returns the bits of buffer `index` of an array that was checked, from the array's own offset on. Call it only for
+ * these two buffers: the validity, which is buffer 0 (formats `n` and unions have none), and the values of a boolean
+ * array, which are buffer 1. For any other buffer `bytes_len` is not the number of its bytes, and may be greater.
  *
  * The result has `bytes` NULL, `bytes_len` 0 and `offset` 0 in each of these cases: `index` is negative or not below
- * `n_buffers`; the buffer is NULL; `length` is 0 and the buffer holds values (the check accepts any pointer to them
- * then). A null array has no buffer, and each of its items is null. So test the format before you take a validity, as
- * `columns.c` of the examples does.
+ * `n_buffers`; the buffer is NULL; `length` is 0 and the buffer holds values. A null array has no buffer, and each of
+ * its items is null. So test the format before you take a validity, as `columns.c` of the examples does.
  *
  * Only the array's own offset is applied. For a column of a batch call arrow2_bits_of_column. */
 static inline struct arrow2_bits arrow2_bits_of(const struct ArrowArray *array, int index) {
@@ -584,8 +583,8 @@ static inline uint32_t arrow2_c_check_head(const struct ArrowSchema *schema, con
     return ARROW2_OK;
 }
 
-* /* Moves `tree` to child `index` of an array of kind `kind`, or with -1 to its dictionary, and adds the step to the
-* path. */
+/* Moves `tree` to child `index` of an array of kind `kind`, or with -1 to its dictionary, and adds the step to the
+ * path. */
 static inline void arrow2_c_enter(struct arrow2_c_tree *tree, enum arrow2_c_kind kind, int64_t index) {
     tree->kinds[tree->depth] = index < 0 ? "dictionary" : arrow2_c_kind_name(kind);
     tree->children[tree->depth] = index;
@@ -892,9 +891,9 @@ static inline uint32_t arrow2_c_check_content(struct arrow2_c_tree *tree, const 
     }
 }
 
-* /* Checks the counts and the buffers of an array. Checks the head and the length of each child and of the dictionary,
-* and that a map's child is a struct of two children; nothing else of them. If an array is refused, `tree` is left at
-* that array. */
+/* Checks the counts and the buffers of an array. Checks the head and the length of each child and of the dictionary,
+ * and that a map's child is a struct of two children; nothing else of them. If an array is refused, `tree` is left at
+ * that array. */
 static inline uint32_t arrow2_c_check_own(struct arrow2_c_tree *tree, const struct arrow2_c_layout *layout,
                                           const struct ArrowSchema *schema, const struct ArrowArray *array,
                                           int64_t *slot) {

@@ -210,20 +210,20 @@ uint32_t arrow2_unpack(const uint8_t *bytes, size_t bytes_len, size_t offset, bo
  * `offset`. The search begins at bit `*at` of the range: set `*at` to 0 before the first call. Run k begins at bit
  * `starts[k]` of the range and has `lengths[k]` bits. If `*at` is inside a run, only the part of that run from `*at` on
  * is reported. The call stops when the slices are full or no run is left. It writes the number of runs to `*count`, and
- * to `*at` the bit at which the next call begins its search: some bit after the last run that was written, and not
- * after the first bit of the next run. If `*count < starts_len`, all runs are done, and `*at` equals `length`. The
- * items of `starts` and `lengths` from `*count` on may have been written too. For all runs, call again until `*count`
- * is below `starts_len`, which must be at least 1. If `starts_len` is 0, `*count` becomes 0, which is never below
- * `starts_len`, and `*at` may or may not change. ARROW2_RANGE: the range is not inside the bytes, or `*at` is above
- * `length`. Else ARROW2_LENGTH: `starts_len` is not `lengths_len`. */
+ * to `*at` the bit at which the next call begins its search: any bit from the end of the last run to the first bit of
+ * the next one. If `*count < starts_len`, all runs are done, and `*at` equals `length`. The items of `starts` and
+ * `lengths` from `*count` on may have been written too. For all runs, call again until `*count` is below `starts_len`,
+ * which must be at least 1. If `starts_len` is 0, `*count` becomes 0, which is never below `starts_len`, and `*at` may
+ * or may not change. ARROW2_RANGE: the range is not inside the bytes, or `*at` is above `length`. Else ARROW2_LENGTH:
+ * `starts_len` is not `lengths_len`. */
 uint32_t arrow2_runs(const uint8_t *bytes, size_t bytes_len, size_t offset, size_t length, size_t *at, size_t *starts,
                      size_t starts_len, size_t *lengths, size_t lengths_len, size_t *count);
 
 /* Finds the set bits in a range, the `length` bits from bit `offset` on. Bits of the range are counted from `offset`.
  * The search begins at bit `*at` of the range: set `*at` to 0 before the first call. Bit `indices[k]` of the range is
  * set, and the indices rise. The call stops when `indices` is full or no set bit is left. It writes the number of
- * indices to `*count`, and to `*at` the bit at which the next call begins its search: some bit above the last index,
- * and not above the next set bit. If `*count < indices_len`, all set bits are done, and `*at` equals `length`. The
+ * indices to `*count`, and to `*at` the bit at which the next call begins its search: any bit from the one after the
+ * last index to the next set bit. If `*count < indices_len`, all set bits are done, and `*at` equals `length`. The
  * items of `indices` from `*count` on may have been written too. For all set bits, call again until `*count` is below
  * `indices_len`, which must be at least 1. If `indices_len` is 0, `*count` becomes 0, which is never below
  * `indices_len`, and `*at` may or may not change. ARROW2_RANGE: the range is not inside the bytes, or `*at` is above
@@ -316,8 +316,8 @@ uint32_t arrow2_offsets32_check_inside(const int32_t *offsets, size_t offsets_le
 uint32_t arrow2_offsets64_check_inside(const int64_t *offsets, size_t offsets_len, size_t items, size_t *index);
 
 /* Checks whether the numbers are offsets, none is above `values_len`, and the values of each slot, from its offset to
- * the next, are UTF-8. The codes and `*index` are as above, with `values_len` as `items`. Else ARROW2_UTF8: a slot is
- * not UTF-8; `*index` is the first such slot. */
+ * the next, are UTF-8. The first two are checked as arrow2_offsets32_check_inside does, with `values_len` as `items`.
+ * Then ARROW2_UTF8: a slot is not UTF-8; `*index` is the first such slot. */
 uint32_t arrow2_texts32_check(const int32_t *offsets, size_t offsets_len, const uint8_t *values, size_t values_len,
                               size_t *index);
 uint32_t arrow2_texts64_check(const int64_t *offsets, size_t offsets_len, const uint8_t *values, size_t values_len,

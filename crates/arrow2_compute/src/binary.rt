@@ -50,8 +50,8 @@ pub trait Binary: Drop {
         ensures { AppendsItem GREATEST result (growing grown.old) (growing grown.new)
             (binary_item (parts array.now) index) };
 
-    /// Appends the `len` items of `array` from item `start` on. The bytes under nulls are copied too: contracts state
-    /// their number. Requires that `start + len` is at most the length of `array`.
+    /// Appends the `len` items of `array` from item `start` on. Copies the bytes under nulls too, of which contracts
+    /// state the number alone. Requires that `start + len` is at most the length of `array`.
     ///
     /// # Errors
     ///
@@ -63,7 +63,8 @@ pub trait Binary: Drop {
             (part (binary_items (parts array.now)) start len)
             (slots_size (parts array.now).offsets start len) };
 
-    /// Returns the array of the items. It stores its slots alone, and has a validity bitmap exactly if an item is null.
+    /// Returns the array of the items. It stores no bytes outside its slots, and has a validity bitmap exactly if an
+    /// item is null.
     ///
     /// # Errors
     ///

@@ -107,7 +107,7 @@ pub fn is_not_null<A: Nullable>(array: &A) -> Result<BooleanArray>
     Ok(BooleanArray::new(known, None))
 }
 
-/// Returns a bitmap whose true items are those that are null.
+/// Returns, for each item of a validity, whether it is null.
 fn nulls_of(alloc: Global, validity: &Validity) -> Result<Bitmap>
     ensures items { IfOk result (λ b. items_of b ≡ map not (valid_items validity.now)) }
     ensures only { IfErr result (λ e. e ≡ Error.OutOfMemory) }
@@ -118,7 +118,7 @@ fn nulls_of(alloc: Global, validity: &Validity) -> Result<Bitmap>
     }
 }
 
-/// Returns a bitmap whose true items are those that are not null.
+/// Returns, for each item of a validity, whether it is not null.
 fn known_of(alloc: Global, validity: &Validity) -> Result<Bitmap>
     ensures items { IfOk result (λ b. items_of b ≡ valid_items validity.now) }
     ensures only { IfErr result (λ e. e ≡ Error.OutOfMemory) }

@@ -94,7 +94,7 @@ fn chosen_validity(mask: &Bitmap, lhs: &Validity, rhs: &Validity) -> Result<Vali
     }
 }
 
-/// Returns the validity whose bitmap these bits are.
+/// Returns the validity that has these bits as its bitmap.
 fn by_bits(bits: Bitmap) -> Validity
     ensures items { valid_items result ≡ items_of bits }
     ensures len { result.len ≡ length (items_of bits) }

@@ -357,13 +357,13 @@ impl<T: NativeType> PrimitiveArray<T> {
         PrimitiveArray::new(data_type, values, validity)
     }
 
-    /// Returns `Right` of an array that grows over the same storage, if both of these hold; else `Left` of the array as
-    /// it was:
+    /// Returns `Right` of an array that grows over the same storage, if both of these hold:
     ///
     /// - the values have no other owner, and are not sliced;
     /// - the bitmap has no other owner, and begins at bit 0; or there is no bitmap.
     ///
-    /// Where there is no bitmap, `Right` has a new one whose items are all true.
+    /// Else returns `Left` of the array as it was. Where there is no bitmap, `Right` has a new one whose items are all
+    /// true.
     ///
     /// Proved: `Left` has the array as it was, `Right` has its items and its logical type, and `Right` comes only if
     /// the values are not sliced. Not proved: that `Right` comes only if nobody shares the storage, or that it comes

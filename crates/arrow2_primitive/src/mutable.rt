@@ -385,8 +385,8 @@ impl<T: NativeType> MutablePrimitiveArray<T> {
         self.validity.shrink_to_fit()
     }
 
-    /// Returns an array of the items, of which nothing is sliced off. The array has a validity bitmap exactly if an
-    /// item is null. Moves the values and does not copy them, which no clause states.
+    /// Returns an array that stores the items alone. The array has a validity bitmap exactly if an item is null. Moves
+    /// the values and does not copy them, which no clause states.
     ///
     /// Stands for arrow2's `From<MutablePrimitiveArray>`.
     ///

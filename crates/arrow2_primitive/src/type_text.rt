@@ -7,7 +7,8 @@ use arrow2_datatypes::{DataType, IntervalUnit, TimeUnit};
 use std::fmt;
 
 /// Writes the text of a logical type, as the derived `Debug` of `DataType` does. The contract states the text of each
-/// type of numbers, except those with a time zone and extensions: no contract states what a derived `Debug` writes.
+/// type of numbers, except of extensions and of types with a time zone: no contract states what a derived `Debug`
+/// writes.
 pub(crate) fn write_type<W: fmt::Write>(
     data_type: &DataType,
     f: &mut fmt::Formatter<W>,
