@@ -80,12 +80,12 @@ struct ArrowArrayStream {
  *
  * The rules of arrow2_proved.h hold for these functions too, with two changes: NULL is allowed with any number and
  * counts as 0 bytes, and a NULL validity means that there is no bitmap. In detail:
- * - Each `arrow2_bits_*` function that returns a code calls one function of the library and returns its code. Its
- *   comment names the functions that it may call. If a validity is missing, arrow2_bits_null_count and
- *   arrow2_bits_and_validity may call none, and return ARROW2_OK or ARROW2_LENGTH.
+ * - Each `arrow2_bits_*` function of this header that returns a code calls a function of the library, which its comment
+ *   names, and returns its code. Only arrow2_bits_null_count and arrow2_bits_and_validity may call none, if a validity
+ *   is missing; they return ARROW2_OK or ARROW2_LENGTH then.
  * - A NULL pointer to bytes counts as 0 bytes, whatever `bytes_len`, `out_len`, `values_len` or `validity_len` is. The
- *   code is then that of 0 bytes: ARROW2_RANGE for an input unless `offset` and `length` are 0, and ARROW2_LENGTH for
- *   an output unless `length` is 0.
+ *   code is then that of 0 bytes: ARROW2_RANGE for an input unless `offset` and `length` are 0, else ARROW2_LENGTH
+ *   for an output unless `length` is 0.
  * - The exception is a validity: there NULL means that there is no validity bitmap, so no item is null. Pass `(struct
  *   arrow2_bits){NULL, 0, 0}`, in C++ `arrow2_bits{nullptr, 0, 0}`. The functions that accept this are
  *   arrow2_bits_null_count, arrow2_bits_and_validity, and for their validity arguments arrow2_bits_and_kleene and

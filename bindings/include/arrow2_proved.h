@@ -26,7 +26,7 @@
  * - The `length` bits from bit `offset` on are inside `bytes` if offset + length <= 8 * bytes_len. This condition is
  *   computed as if in unlimited integers, so a huge offset gives ARROW2_RANGE and never wraps. The condition is tested
  *   for length 0 too: offset 5, length 0 in 0 bytes is ARROW2_RANGE. Bit `index` is inside if index < 8 * bytes_len.
- * - An output of bits is exactly (length + 7) / 8 bytes, computed as if in unlimited integers: arrow2_bytes_for of
+ * - An output of `length` bits is exactly (length + 7) / 8 bytes, computed as if in unlimited integers: arrow2_bytes_for of
  *   arrow2_c_data.h returns this number. The bits are written from bit 0 on, and padding bits become 0. The same holds
  *   for `bytes` of the in-place calls, *_assign_table.
  * - The result is one of the codes below. On any error nothing is written, but for `*index` or `*slot` of some checks:
@@ -210,8 +210,8 @@ uint32_t arrow2_unpack(const uint8_t *bytes, size_t bytes_len, size_t offset, bo
  * `offset`. The search begins at bit `*at` of the range: set `*at` to 0 before the first call. Run k begins at bit
  * `starts[k]` of the range and has `lengths[k]` bits. If `*at` is inside a run, only the part of that run from `*at` on
  * is reported. The call stops when the slices are full or no run is left. It writes the number of runs to `*count`, and
- * to `*at` the bit at which the next call begins its search: any bit from the end of the last run to the first bit of
- * the next one. If `*count < starts_len`, all runs are done, and `*at` equals `length`. The items of `starts` and
+ * to `*at` the bit at which the next call begins its search: a bit after the last run that it wrote, up to the first
+ * bit of the next run. If `*count < starts_len`, all runs are done, and `*at` equals `length`. The items of `starts` and
  * `lengths` from `*count` on may have been written too. For all runs, call again until `*count` is below `starts_len`,
  * which must be at least 1. If `starts_len` is 0, `*count` becomes 0, which is never below `starts_len`, and `*at` may
  * or may not change. ARROW2_RANGE: the range is not inside the bytes, or `*at` is above `length`. Else ARROW2_LENGTH:
