@@ -1,6 +1,7 @@
 //! A trait for arrays of byte strings and of texts, with the calls that kernels need.
 ghost use Rattle.std.specs.Prelude.{◌≡◌, ◌+◌, ◌<◌, ◌≤◌, [], ℕ, length, IfOk, IfErr};
 ghost use Rattle.arrow2_compute.specs.Sizes.{AppendsItem, binary_item, slot_bytes};
+ghost use Rattle.arrow2_model.specs.Buffers.{buffer_items};
 ghost use Rattle.arrow2_model.specs.Parts.{part};
 ghost use Rattle.arrow2_text.specs.Binary.{BinaryParts, IsCompact, binary_items, slots_between, slots_size};
 ghost use Rattle.arrow2_text.specs.Growth.{AppendsBinary, GrowingBinary};
@@ -73,6 +74,7 @@ pub trait Binary: Drop {
         ensures items { IfOk result (λ a. binary_items (parts a) ≡ (growing grown).items) }
         ensures data_type { IfOk result (λ a. (parts a).data_type ≡ (growing grown).data_type) }
         ensures compact { IfOk result (λ a. IsCompact (parts a)) }
+        ensures bytes { IfOk result (λ a. length (buffer_items (parts a).values) ≡ (growing grown).bytes) }
         ensures only { IfErr result (λ e. e ≡ Error.OutOfMemory) };
 }
 

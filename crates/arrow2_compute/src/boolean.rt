@@ -1,11 +1,11 @@
 //! Which items of an array are null.
-ghost use Rattle.std.specs.Prelude.{◌≡◌, Bool, List, Some, map, not, IfOk, IfErr, IsNone};
+ghost use Rattle.std.specs.Prelude.{◌≡◌, Bool, List, Some, map, not, IfOk, IfErr, IfSome, IsNone};
 ghost use Rattle.std.specs.Option.{is_some};
 ghost use Rattle.arrow2_model.specs.Storage.{items_of};
 ghost use Rattle.arrow2_array.specs.Items.{boolean_items};
 ghost use Rattle.arrow2_primitive.specs.Primitive.{primitive_items};
 ghost use Rattle.arrow2_text.specs.Binary.{binary_items};
-ghost use Rattle.arrow2_validity.specs.OptionalValidity.{valid_items};
+ghost use Rattle.arrow2_validity.specs.OptionalValidity.{OptionalValidity, valid_items};
 
 use arrow2_array::BooleanArray;
 use arrow2_bitmap::{Bitmap, MutableBitmap};
@@ -19,18 +19,24 @@ use std::convert::TryFrom;
 
 /// An array of any type, whose items may be null. In arrow2 it is `dyn Array`.
 pub trait Nullable {
+    // The validity that the array stores.
+    ghost stored: { Self → OptionalValidity };
+
     // For each item, whether it is not null.
     ghost known: { Self → List Bool };
 
     /// Returns the validity of the items.
     fn known(&self) -> &Validity
-        ensures { valid_items result.now ≡ known self.now };
+        ensures value { result.now ≡ stored self.now }
+        ensures items { valid_items result.now ≡ known self.now };
 
     /// Returns the allocator of the values.
     fn allocator(&self) -> Global;
 }
 
 impl<T: NativeType> Nullable for PrimitiveArray<T> {
+    ghost stored = { λ a. a.validity };
+
     ghost known = { λ a. map is_some (primitive_items a) };
 
     fn known(&self) -> &Validity {
@@ -43,6 +49,8 @@ impl<T: NativeType> Nullable for PrimitiveArray<T> {
 }
 
 impl Nullable for BooleanArray {
+    ghost stored = { λ a. a.validity };
+
     ghost known = { λ a. map is_some (boolean_items a) };
 
     fn known(&self) -> &Validity {
@@ -55,6 +63,8 @@ impl Nullable for BooleanArray {
 }
 
 impl<O: Offset> Nullable for BinaryArray<O> {
+    ghost stored = { λ a. a.validity };
+
     ghost known = { λ a. map is_some (binary_items a) };
 
     fn known(&self) -> &Validity {
@@ -67,6 +77,8 @@ impl<O: Offset> Nullable for BinaryArray<O> {
 }
 
 impl<O: Offset> Nullable for Utf8Array<O> {
+    ghost stored = { λ a. a.validity };
+
     ghost known = { λ a. map is_some (binary_items a) };
 
     fn known(&self) -> &Validity {
@@ -93,13 +105,14 @@ pub fn is_null<A: Nullable>(array: &A) -> Result<BooleanArray>
 }
 
 /// Returns, item by item, whether the item is not null. The result has no nulls. Where the array has a validity bitmap,
-/// the result shares the bytes of this bitmap, which no clause states.
+/// the values of the result are a clone of this bitmap.
 ///
 /// # Errors
 ///
 /// `OutOfMemory` alone.
 pub fn is_not_null<A: Nullable>(array: &A) -> Result<BooleanArray>
     ensures items { IfOk result (λ a. boolean_items a ≡ map (λ known. Some known) (A.known array.now)) }
+    ensures values { IfSome (A.stored array.now).bitmap (λ bitmap. IfOk result (λ a. a.values ≡ bitmap)) }
     ensures validity { IfOk result (λ a. IsNone a.validity.bitmap) }
     ensures only { IfErr result (λ e. e ≡ Error.OutOfMemory) }
 {
@@ -121,6 +134,7 @@ fn nulls_of(alloc: Global, validity: &Validity) -> Result<Bitmap>
 /// Returns, for each item of a validity, whether it is not null.
 fn known_of(alloc: Global, validity: &Validity) -> Result<Bitmap>
     ensures items { IfOk result (λ b. items_of b ≡ valid_items validity.now) }
+    ensures same { IfSome validity.now.bitmap (λ bitmap. IfOk result (λ b. b ≡ bitmap)) }
     ensures only { IfErr result (λ e. e ≡ Error.OutOfMemory) }
 {
     match validity.bitmap() {

@@ -3,6 +3,7 @@ ghost use Rattle.std.specs.Prelude.{◌≡◌, ◌+◌, ◌<◌, ◌≤◌, ◌^
 ghost use Rattle.std.specs.List.{flat_map};
 ghost use Rattle.arrow2_array.specs.Items.{boolean_items, nulls};
 ghost use Rattle.arrow2_compute.specs.Sizes.{AreTooLarge, joined_bytes, joined_items};
+ghost use Rattle.arrow2_model.specs.Buffers.{buffer_items};
 ghost use Rattle.arrow2_primitive.specs.Primitive.{primitive_items};
 ghost use Rattle.arrow2_text.specs.Binary.{IsCompact, binary_items};
 ghost use Rattle.std.specs.Option.{is_none};
@@ -57,6 +58,8 @@ pub fn concatenate_binary<A: Binary>(first: &A, others: &[&A]) -> Result<A>
         binary_items (A.parts a) ≡ joined_items (λ array. A.parts array.now) (A.parts first.now) others.now) }
     ensures data_type { IfOk result (λ a. (A.parts a).data_type ≡ (A.parts first.now).data_type) }
     ensures compact { IfOk result (λ a. IsCompact (A.parts a)) }
+    ensures bytes { IfOk result (λ a. length (buffer_items (A.parts a).values)
+        ≡ joined_bytes (λ array. A.parts array.now) (A.parts first.now) others.now) }
     ensures overflow { IsErrOf result Error.Overflow →
         AreTooLarge A.GREATEST (λ array. A.parts array.now) (A.parts first.now) others.now }
     ensures fits { OnOk result

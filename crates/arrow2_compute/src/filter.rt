@@ -1,10 +1,12 @@
 //! The items that a mask selects.
-ghost use Rattle.std.specs.Prelude.{◌≡◌, ◌+◌, ◌<◌, ◌≤◌, ◌^◌, ◌++◌, length, map, IfOk, IfErr, OnOk, ◌↔◌, IsNone};
+ghost use Rattle.std.specs.Prelude.{◌≡◌, ◌+◌, ◌<◌, ◌≤◌, ◌^◌, ◌++◌, length, map, sum, IfOk, IfErr, OnOk, ◌↔◌, IsNone};
 ghost use Rattle.arrow2_array.specs.Items.{boolean_items};
 ghost use Rattle.arrow2_compute.specs.Masks.{is_true};
 ghost use Rattle.arrow2_model.specs.Bits.{unnum};
+ghost use Rattle.arrow2_model.specs.Buffers.{buffer_items};
 ghost use Rattle.arrow2_model.specs.Parts.{falses};
 ghost use Rattle.arrow2_model.specs.Storage.{items_of};
+ghost use Rattle.arrow2_offset.specs.Offsets.{lengths_of};
 ghost use Rattle.arrow2_primitive.specs.Primitive.{primitive_items};
 ghost use Rattle.arrow2_text.specs.Binary.{IsCompact, binary_items};
 ghost use Rattle.arrow2_validity.specs.OptionalValidity.{valid_items};
@@ -185,6 +187,9 @@ pub fn filter_binary<A: Binary>(array: &A, mask: &Bitmap) -> Result<A>
         ≡ selected (binary_items (A.parts array.now)) (items_of mask.now)) }
     ensures data_type { IfOk result (λ a. (A.parts a).data_type ≡ (A.parts array.now).data_type) }
     ensures compact { IfOk result (λ a. IsCompact (A.parts a)) }
+    // The bytes of the selected slots, under nulls too.
+    ensures bytes { IfOk result (λ a. length (buffer_items (A.parts a).values) ≡ sum (selected
+        (lengths_of (buffer_items (A.parts array.now).offsets)) (items_of mask.now))) }
     ensures only { IfErr result (λ e. e ≡ Error.OutOfMemory) }
 {
     laws::runs_lie_inside();

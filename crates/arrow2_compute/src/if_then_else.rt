@@ -1,6 +1,7 @@
 //! Items of one array or of another.
 ghost use Rattle.std.specs.Prelude.{◌≡◌, ◌<◌, ◌≤◌, ◌⊎◌, [], None, length, sum_by, if◌then◌else◌, IfOk, IfErr, IsErrOf, OnOk, ◌↔◌, IsNone, Some};
 ghost use Rattle.arrow2_array.specs.Items.{boolean_items};
+ghost use Rattle.arrow2_model.specs.Buffers.{buffer_items};
 ghost use Rattle.arrow2_model.specs.Storage.{items_of};
 ghost use Rattle.arrow2_compute.specs.Sizes.{AppendsItem, binary_item, item_bytes};
 ghost use Rattle.arrow2_primitive.specs.Primitive.{primitive_items};
@@ -138,6 +139,8 @@ pub fn if_then_else_binary<A: Binary>(mask: &Bitmap, lhs: &A, rhs: &A) -> Result
         (binary_items (A.parts lhs.now)) (binary_items (A.parts rhs.now))) }
     ensures data_type { IfOk result (λ a. (A.parts a).data_type ≡ (A.parts lhs.now).data_type) }
     ensures compact { IfOk result (λ a. IsCompact (A.parts a)) }
+    ensures bytes { IfOk result (λ a. length (buffer_items (A.parts a).values) ≡ sum_by item_bytes
+        (chosen (items_of mask.now) (binary_items (A.parts lhs.now)) (binary_items (A.parts rhs.now)))) }
     // Whether their bytes fit the greatest offset, and which errors come.
     ensures overflow { IsErrOf result Error.Overflow → A.GREATEST < sum_by item_bytes
         (chosen (items_of mask.now) (binary_items (A.parts lhs.now)) (binary_items (A.parts rhs.now))) }

@@ -97,7 +97,8 @@ fn bits_at(bitmap: &Bitmap, indices: &[usize]) -> Result<Bitmap>
 }
 
 /// Returns, for each index in `indices`, the item at this index, and null where the index is null. The result has a
-/// validity bitmap exactly if an item of it is null. The number stored under a null index has no effect. Requires that each index is null, or at least 0 and below the length.
+/// validity bitmap exactly if an item of it is null. The number stored under a null index has no effect. Requires that
+/// each index is null, or at least 0 and below the length.
 ///
 /// In arrow2 it is `take`.
 ///
@@ -193,6 +194,8 @@ pub fn take_binary<A: Binary>(array: &A, indices: &[usize]) -> Result<A>
         ≡ map (λ index. binary_item (A.parts array.now) index) indices.now) }
     ensures data_type { IfOk result (λ a. (A.parts a).data_type ≡ (A.parts array.now).data_type) }
     ensures compact { IfOk result (λ a. IsCompact (A.parts a)) }
+    ensures bytes { IfOk result (λ a. length (buffer_items (A.parts a).values) ≡ sum_by item_bytes
+        (map (λ index. binary_item (A.parts array.now) index) indices.now)) }
     // Whether their bytes fit the greatest offset, and which errors come.
     ensures overflow { IsErrOf result Error.Overflow → A.GREATEST < sum_by item_bytes
         (map (λ index. binary_item (A.parts array.now) index) indices.now) }

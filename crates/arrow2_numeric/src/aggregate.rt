@@ -187,20 +187,24 @@ impl<T: NativeType + Ord> Choice<T> for Greater {
     }
 }
 
-/// Returns the least of the items that are not null, or `None` where each item is null. Does not allocate.
+/// Returns the least of the items that are not null, or `None` where each item is null. Of items that compare equal it
+/// returns the first. Does not allocate.
 ///
 /// Stands for arrow2's `min_primitive`, which takes floats too.
 pub fn min<T: NativeType + Ord>(array: &PrimitiveArray<T>) -> Option<T>
-    ensures { IsExtremum (λ x y. IsTrue (is_le (T.Ord.cmp x y))) (primitive_items array.now) result }
+    ensures least { IsExtremum (λ x y. IsTrue (is_le (T.Ord.cmp x y))) (primitive_items array.now) result }
+    ensures kept { result ≡ best_from (ord_min T.Ord.cmp) None (non_null_values (primitive_items array.now)) }
 {
     best_item::<T, Lesser>(array)
 }
 
-/// Returns the greatest of the items that are not null, or `None` where each item is null. Does not allocate.
+/// Returns the greatest of the items that are not null, or `None` where each item is null. Of items that compare equal
+/// it returns the last. Does not allocate.
 ///
 /// Stands for arrow2's `max_primitive`, which takes floats too.
 pub fn max<T: NativeType + Ord>(array: &PrimitiveArray<T>) -> Option<T>
-    ensures { IsExtremum (λ x y. IsTrue (is_ge (T.Ord.cmp x y))) (primitive_items array.now) result }
+    ensures greatest { IsExtremum (λ x y. IsTrue (is_ge (T.Ord.cmp x y))) (primitive_items array.now) result }
+    ensures kept { result ≡ best_from (ord_max T.Ord.cmp) None (non_null_values (primitive_items array.now)) }
 {
     best_item::<T, Greater>(array)
 }

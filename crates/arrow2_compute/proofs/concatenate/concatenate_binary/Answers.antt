@@ -51,6 +51,12 @@ returns-clause-items g c =
     let all = c.loop-array.invariant.items ∙ ap (λ arrays. binary_items (g.A.Binary.parts c.args.first.now) ++ flat_map items arrays) (take_all c.loop-array.array-index c.args.others.now c.loop-array-test.false) in
     subst (λ z. IfOk c.freeze.result (λ a. binary_items (g.A.Binary.parts a) ≡ z)) all c.freeze.ensures.items
 
+pub returns-clause-bytes : goal.returns-clause-bytes
+returns-clause-bytes g c =
+    let size = λ (array : Bor _). slot_bytes (g.A.Binary.parts array.now) in
+    let all = c.loop-array.invariant.bytes ∙ ap (λ arrays. slot_bytes (g.A.Binary.parts c.args.first.now) + sum_by size arrays) (take_all c.loop-array.array-index c.args.others.now c.loop-array-test.false) in
+    subst (λ n. IfOk c.freeze.result (λ a. length (buffer_items (g.A.Binary.parts a).values) ≡ n)) all c.freeze.ensures.bytes
+
 pub returns-clause-fits : goal.returns-clause-fits
 returns-clause-fits g c =
     let first = g.A.Binary.parts c.args.first.now in

@@ -57,3 +57,13 @@ returns-clause-items g c =
     let done = c.loop-start.invariant.done in
     let all : (g.A.Binary.growing c.loop-start.kept).items ≡ selected items mask = grind (arith, common_steps, whole, done) in
     subst (λ z. IfOk c.freeze.result (λ a. binary_items (g.A.Binary.parts a) ≡ z)) all c.freeze.ensures.items
+
+pub returns-clause-bytes : goal.returns-clause-bytes
+returns-clause-bytes g c =
+    let lengths = lengths_of (buffer_items (g.A.Binary.parts c.args.array.now).offsets) in
+    let mask = items_of c.args.mask.now in
+    let slots : length mask ≡ length lengths = c.requires.same_length ∙ (sym c.count-count.ensures.items ∙ c.count-count.ensures.slots) in
+    let whole = ap sum (selected-runs lengths mask slots) in
+    let done = c.loop-start.invariant.bytes in
+    let all : (g.A.Binary.growing c.loop-start.kept).bytes ≡ sum (selected lengths mask) = grind (arith, common_steps, whole, done) in
+    subst (λ n. IfOk c.freeze.result (λ a. length (buffer_items (g.A.Binary.parts a).values) ≡ n)) all c.freeze.ensures.bytes

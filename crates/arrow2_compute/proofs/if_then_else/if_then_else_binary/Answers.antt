@@ -1,8 +1,9 @@
-use Rattle.std.proofs.Common.{◌≡◌, ◌+◌, ◌<◌, ◌≤◌, ◌^◌, None, false, get_or, length, take, ap, ◌∙◌, arith}
-use Rattle.std.specs.Prelude.{sum_by, if◌then◌else◌}
+use Rattle.std.proofs.Common.{◌≡◌, ℕ, ◌+◌, ◌<◌, ◌≤◌, ◌^◌, List, Bool, None, false, get_or, length, take, ap, subst, ◌∙◌, arith}
+use Rattle.std.specs.Prelude.{IfOk, sum_by, if◌then◌else◌}
 use Rattle.std.proofs.lemmas.Grind.{common_steps}
 use Rattle.std.proofs.lemmas.List.{take_all}
 use Rattle.std.proofs.lemmas.List.Sums.{sum_by_push}
+use Rattle.arrow2_model.specs.Buffers.{buffer_items}
 use Rattle.arrow2_model.specs.Storage.{items_of}
 use Rattle.arrow2_text.specs.Binary.{binary_items}
 use Rattle.arrow2_walks.specs.Selected.{chosen}
@@ -29,14 +30,24 @@ returns-in_err-push_either-clause-overflow g c =
     let bytes = c.loop-position.invariant.bytes ∙ ap (sum_by item_bytes) c.loop-position.invariant.items in
     grind (arith, common_steps, counted, more, push, most, bytes)
 
+-- at the end all items are chosen
+chosen-all : {X : Type 0} (ms : List Bool) (xs ys : List X) (n k : ℕ) → k ≡ length ms → length ms ≡ length xs → length ms ≡ length ys → k ≤ n → chosen (take n ms) (take n xs) (take n ys) ≡ chosen ms xs ys
+chosen-all ms xs ys n k count left right done =
+    rw (take_all n ms (omega (arith, count, done)), take_all n xs (omega (arith, count, done, left)), take_all n ys (omega (arith, count, done, right)))
+
+pub returns-clause-bytes : goal.returns-clause-bytes
+returns-clause-bytes g c =
+    let ms = items_of c.args.mask.now in
+    let xs = binary_items (g.A.Binary.parts c.args.lhs.now) in
+    let ys = binary_items (g.A.Binary.parts c.args.rhs.now) in
+    let all = chosen-all ms xs ys c.loop-position.position _ c.len-position-end.ensures.items c.requires.left c.requires.right c.loop-position-test.false in
+    subst (λ n. IfOk c.freeze.result (λ a. length (buffer_items (g.A.Binary.parts a).values) ≡ n)) (c.loop-position.invariant.bytes ∙ ap (sum_by item_bytes) (c.loop-position.invariant.items ∙ all)) c.freeze.ensures.bytes
+
 pub returns-clause-fits : goal.returns-clause-fits
 returns-clause-fits g c =
     let ms = items_of c.args.mask.now in
     let xs = binary_items (g.A.Binary.parts c.args.lhs.now) in
     let ys = binary_items (g.A.Binary.parts c.args.rhs.now) in
-    let position = c.loop-position.position in
-    let count = c.len-position-end.ensures.items in
-    let all : chosen (take position ms) (take position xs) (take position ys) ≡ chosen ms xs ys =
-    rw (take_all position ms (omega (arith, count, c.loop-position-test.false)), take_all position xs (omega (arith, count, c.loop-position-test.false, c.requires.left)), take_all position ys (omega (arith, count, c.loop-position-test.false, c.requires.right))) in
+    let all = chosen-all ms xs ys c.loop-position.position _ c.len-position-end.ensures.items c.requires.left c.requires.right c.loop-position-test.false in
     let bytes = c.loop-position.invariant.bytes ∙ ap (sum_by item_bytes) (c.loop-position.invariant.items ∙ all) in
     of-ok c.freeze.result (sum_by item_bytes (chosen ms xs ys) ≤ g.A.Binary.GREATEST) (omega (arith, bytes, c.loop-position.invariant.fits))

@@ -2,6 +2,7 @@ use Rattle.std.proofs.Common.{◌≡◌, ℕ, ◌+◌, ◌<◌, ◌≤◌, ◌^�
 use Rattle.std.specs.Prelude.{IfOk, slice_index_or, sum_by}
 use Rattle.std.proofs.lemmas.Grind.{common_steps}
 use Rattle.std.proofs.lemmas.List.{take_all, length-map, length-take}
+use Rattle.arrow2_model.specs.Buffers.{buffer_items}
 use Rattle.arrow2_text.specs.Binary.{binary_items}
 use Rattle.arrow2_compute.specs.Sizes.{item_bytes}
 use Rattle.arrow2_compute.proofs.Weighed.{of-ok, taken-fits}
@@ -25,6 +26,12 @@ returns-clause-items g c =
     let items = λ (index : ℕ). slice_index_or (binary_items (g.A.Binary.parts c.args.array.now)) index None in
     let all = c.loop-index.invariant.items ∙ ap (map items) (take_all c.loop-index.index-index c.args.indices.now c.loop-index-test.false) in
     subst (λ z. IfOk c.freeze.result (λ a. binary_items (g.A.Binary.parts a) ≡ z)) all c.freeze.ensures.items
+
+pub returns-clause-bytes : goal.returns-clause-bytes
+returns-clause-bytes g c =
+    let items = λ (index : ℕ). slice_index_or (binary_items (g.A.Binary.parts c.args.array.now)) index None in
+    let all = c.loop-index.invariant.items ∙ ap (map items) (take_all c.loop-index.index-index c.args.indices.now c.loop-index-test.false) in
+    subst (λ n. IfOk c.freeze.result (λ a. length (buffer_items (g.A.Binary.parts a).values) ≡ n)) (c.loop-index.invariant.bytes ∙ ap (sum_by item_bytes) all) c.freeze.ensures.bytes
 
 pub returns-clause-fits : goal.returns-clause-fits
 returns-clause-fits g c =

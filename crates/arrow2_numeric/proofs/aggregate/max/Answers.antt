@@ -3,5 +3,5 @@ use Rattle.arrow2_walks.specs.Selected.{non_null_values}
 use Rattle.arrow2_numeric.proofs.Best.{greatest-of_all}
 use Rattle.arrow2_numeric.proofs.aggregate.max.Goals as goal
 
-pub returns : goal.returns
-returns g c = greatest-of_all g.met.T.Ord.total (non_null_values (primitive_items c.args.array.now)) c.best_item.result c.best_item.ensures
+pub returns-clause-greatest : goal.returns-clause-greatest
+returns-clause-greatest g c = greatest-of_all g.met.T.Ord.total (non_null_values (primitive_items c.args.array.now)) c.best_item.result c.best_item.ensures

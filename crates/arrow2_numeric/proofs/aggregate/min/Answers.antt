@@ -3,5 +3,5 @@ use Rattle.arrow2_walks.specs.Selected.{non_null_values}
 use Rattle.arrow2_numeric.proofs.Best.{least-of_all}
 use Rattle.arrow2_numeric.proofs.aggregate.min.Goals as goal
 
-pub returns : goal.returns
-returns g c = least-of_all g.met.T.Ord.total (non_null_values (primitive_items c.args.array.now)) c.best_item.result c.best_item.ensures
+pub returns-clause-least : goal.returns-clause-least
+returns-clause-least g c = least-of_all g.met.T.Ord.total (non_null_values (primitive_items c.args.array.now)) c.best_item.result c.best_item.ensures
