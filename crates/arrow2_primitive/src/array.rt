@@ -236,7 +236,7 @@ impl<T: NativeType> PrimitiveArray<T> {
         self.len() == 0
     }
 
-    /// Returns the number of nulls. The validity stores this number, so no bits are counted.
+    /// Returns the number of nulls. A validity bitmap stores this number, so no bits are counted.
     pub fn null_count(&self) -> usize
         ensures { result ≡ count_by is_none (primitive_items self.now) }
     {
@@ -357,7 +357,7 @@ impl<T: NativeType> PrimitiveArray<T> {
         PrimitiveArray::new(data_type, values, validity)
     }
 
-    /// Returns `Right` of an array that grows over the same storage, if both of these hold:
+    /// Returns `Right` of an array that grows and takes over the storage, if both of these hold:
     ///
     /// - the values have no other owner, and are not sliced;
     /// - the bitmap has no other owner, and begins at bit 0; or there is no bitmap.
@@ -366,8 +366,8 @@ impl<T: NativeType> PrimitiveArray<T> {
     /// true.
     ///
     /// Proved: `Left` has the array as it was, `Right` has its items and its logical type, and `Right` comes only if
-    /// the values are not sliced. Not proved: that `Right` comes only if nobody shares the storage, or that it comes
-    /// whenever both hold.
+    /// the values are not sliced, and the bitmap, if there is one, begins at bit 0. Not proved: that `Right` comes only
+    /// if nobody shares the storage, that it has the same storage, or that it comes whenever both hold.
     ///
     /// Differs from arrow2, whose array that grows needs no bitmap where no item is null.
     ///
@@ -381,8 +381,11 @@ impl<T: NativeType> PrimitiveArray<T> {
     pub fn into_mut(self) -> Result<Either<PrimitiveArray<T>, MutablePrimitiveArray<T>>>
         ensures ok { IfOk result (λ r. MatchEither r (λ a. a ≡ self)
             (λ m. (m.items ≡ primitive_items self) × (m.data_type ≡ self.data_type))) }
-        // `Right` comes only where nothing of the values is sliced off. Else nothing is allocated.
+        // `Right` comes only where nothing of the values is sliced off, and a bitmap begins at bit 0. Where the values
+        // are sliced, nothing is allocated.
         ensures whole { IfOk result (λ r. MatchEither r (λ _. ⊤) (λ _. self.values ≡ whole_buffer self.values.storage)) }
+        ensures begins { IfSome self.validity.bitmap (λ b.
+            IfOk result (λ r. MatchEither r (λ _. ⊤) (λ _. b.offset ≡ 0))) }
         ensures succeeds { ¬ (self.values ≡ whole_buffer self.values.storage) → IsOk result }
         ensures only { IfErr result (λ e. e ≡ Error.OutOfMemory) }
     {

@@ -10,8 +10,8 @@ use arrow2_types::NativeType;
 use arrow2_validity::fmt::write_separator;
 use std::fmt;
 
-/// Writes the logical type, then the items in brackets, with `None` for a null: `Int32[1, None, -3]`. Formatter flags
-/// are ignored.
+/// Writes the logical type, then the items in brackets, with `None` for a null: `Int32[1, None, -3]`. No clause states
+/// what formatter flags do.
 ///
 /// Differs from arrow2, which prints dates, times, durations and decimals by their logical type: here the stored
 /// numbers are printed.

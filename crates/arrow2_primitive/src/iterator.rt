@@ -106,7 +106,7 @@ impl<'a, T: NativeType> ExactSizeIterator for PrimitiveIter<'a, T> {
 }
 
 /// An iterator over the values of an array that are not null, in their order: contracts see the list of the values
-/// still to come. Its size hint is std's default, `(0, None)`.
+/// still to come. Its size hint is std's default.
 #[derive(Drop)]
 pub struct NonNullValuesIter<'a, T: NativeType> {
     items: PrimitiveIter<'a, T>,

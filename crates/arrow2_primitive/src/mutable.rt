@@ -27,8 +27,8 @@ use std::rc::Rc;
 ///
 /// Contracts see its logical type, its items, and its capacity, which is the number of items that fit before it
 /// allocates. Each call that appends has one clause, the record `AppendsItems` of `specs/Growth.antt`. The record
-/// states the items after `Ok` and after an error, when each error comes, and that the call succeeds within the
-/// capacity.
+/// states the items after `Ok` and after an error, exactly when `Overflow` comes, that `OutOfMemory` is the only other
+/// error, and that the call succeeds within the capacity.
 ///
 /// Differs from arrow2: there always is a validity bitmap while the array grows, and [`MutablePrimitiveArray::freeze`]
 /// drops it where no item is null. Before `freeze` the only call that reads an item is [`MutablePrimitiveArray::pop`],
@@ -385,8 +385,9 @@ impl<T: NativeType> MutablePrimitiveArray<T> {
         self.validity.shrink_to_fit()
     }
 
-    /// Returns an array that stores the items alone. The array has a validity bitmap exactly if an item is null. Moves
-    /// the values and does not copy them, which no clause states.
+    /// Returns an array of the items. It stores one value for each item, also for a null, and nothing of the values is
+    /// sliced off. It has a validity bitmap exactly if an item is null. The values are moved and not copied, which no
+    /// clause states.
     ///
     /// Stands for arrow2's `From<MutablePrimitiveArray>`.
     ///

@@ -107,7 +107,7 @@ pub packed-alone : (o : Option BitmapStorage) (vs : List Bool) → IfSome o (λ 
 packed-alone None vs items stored = tt
 packed-alone (Some b) vs items stored = stored ∙ ap packed_storage (sym items)
 
--- whole offsets from 0 on over a whole list of bytes, which has as many as they span
+-- whole offsets that begin at 0, over a whole list of bytes whose length is the last offset
 pub compact-slots : (a : BinaryParts) (xs ns : List ℕ) (ys : List ℤ) → sum ns ≡ length xs → a.offsets ≡ whole_buffer ys → start_of (buffer_items a.offsets) ≡ 0 → lengths_of (buffer_items a.offsets) ≡ ns → a.values ≡ whole_buffer xs → IfSome a.validity.bitmap (λ b. IsPacked b)
     → (IsNone a.validity.bitmap ↔ (count_by is_none (binary_items a) ≡ 0)) → IsCompact a
 compact-slots a xs ns ys whole offsets start lengths values packed bitmap = record {

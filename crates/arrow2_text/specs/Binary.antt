@@ -61,6 +61,12 @@ binary_of data_type offsets values validity = binary_parts data_type offsets val
 abbrev pub IsWhole : BinaryParts → Type 0
 IsWhole a = (start_of (buffer_items a.offsets) ≡ 0) × (last_of (buffer_items a.offsets) ≡ length (buffer_items a.values))
 
+-- neither the offsets nor the bytes of an array are sliced, and a validity bitmap begins at bit 0
+pub record IsUnsliced (a : BinaryParts) : Type 0 where
+  pub offsets : a.offsets ≡ whole_buffer a.offsets.storage
+  pub values : a.values ≡ whole_buffer a.values.storage
+  pub validity : IfSome a.validity.bitmap (λ b. b.offset ≡ 0)
+
 -- an array over its slots alone: nothing that it stores is sliced off, and there is a validity bitmap exactly where an
 -- item is null
 pub record IsCompact (a : BinaryParts) : Type 0 where

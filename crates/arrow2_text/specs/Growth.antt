@@ -67,7 +67,7 @@ pub record AppendsBinary {T : Type 0} (greatest : ℕ) (r : Result T Error) (old
   pub overflow : IsErrOf r Overflow ↔ ((greatest < old.bytes + bytes) ⊎ (2 ^ 64 ≤ length old.items + length more))
   -- the only other error is running out of memory
   pub only : IfErr r (λ e. (e ≡ Overflow) ⊎ (e ≡ OutOfMemory))
-  -- within both capacities it succeeds
+  -- within both capacities and `greatest` it succeeds
   pub succeeds : length old.items + length more ≤ old.capacity → old.bytes + bytes ≤ old.byte_capacity → old.bytes + bytes ≤ greatest → IsOk r
   -- no capacity falls
   pub capacity : old.capacity ≤ new.capacity
@@ -94,7 +94,7 @@ pub record AppendsSlots {T : Type 0} (greatest : ℕ) (r : Result T Error) (old 
   pub overflow : IsErrOf r Overflow ↔ ((greatest < old.bytes + bytes) ⊎ (2 ^ 64 ≤ length old.valid + length valid))
   -- the only other error is running out of memory
   pub only : IfErr r (λ e. (e ≡ Overflow) ⊎ (e ≡ OutOfMemory))
-  -- within both capacities it succeeds
+  -- within both capacities and `greatest` it succeeds
   pub succeeds : length old.valid + length valid ≤ old.capacity → old.bytes + bytes ≤ old.byte_capacity → old.bytes + bytes ≤ greatest → IsOk r
   -- no capacity falls
   pub capacity : old.capacity ≤ new.capacity
@@ -118,7 +118,7 @@ pub record ReservesSlots {T : Type 0} (greatest : ℕ) (r : Result T Error) (old
   pub overflow : IsErrOf r Overflow ↔ ((greatest < old.bytes + size) ⊎ (2 ^ 64 ≤ length old.valid + count))
   -- the only other error is running out of memory
   pub only : IfErr r (λ e. (e ≡ Overflow) ⊎ (e ≡ OutOfMemory))
-  -- within both capacities it succeeds
+  -- within both capacities and `greatest` it succeeds
   pub succeeds : length old.valid + count ≤ old.capacity → old.bytes + size ≤ old.byte_capacity → old.bytes + size ≤ greatest → IsOk r
   -- no capacity falls
   pub capacity : old.capacity ≤ new.capacity
@@ -147,7 +147,7 @@ pub record PopsBinary {V : Type 0} (bytes_of : V → List ℕ) (r : Result (Opti
   pub last : IfOk r (λ o. MatchOption o (old.items ≡ []) (λ item. old.items ≡ new.items ++ option_map bytes_of item ∷ []))
   -- `None` comes where there was none, and none is left
   pub none : IfOk r (λ o. IfNone o (new.items ≡ []))
-  -- its bytes are gone, also those under a null
+  -- its bytes are gone; of a null it is stated only that there are no more bytes than before
   pub bytes : IfOk r (λ o. IfSome o (λ item. MatchOption item (new.bytes ≤ old.bytes) (λ value. old.bytes ≡ new.bytes + length (bytes_of value))))
   -- an error leaves the items
   pub err : OnErr r (new.items ≡ old.items)

@@ -10,7 +10,7 @@ ghost use Rattle.arrow2_offset.specs.Offsets.{last_of};
 ghost use Rattle.arrow2_validity.specs.OptionalValidity.{valid_items};
 ghost use Rattle.arrow2_datatypes.specs.Types.{physical};
 ghost use Rattle.arrow2_types.specs.Refusals.{FailsOnlyWith};
-ghost use Rattle.arrow2_text.specs.Binary.{HasBitPerSlot, binary_items, binary_layout, binary_of, binary_values, default_binary, sliced_binary, slots_between, IsCompact, IsWhole};
+ghost use Rattle.arrow2_text.specs.Binary.{HasBitPerSlot, binary_items, binary_layout, binary_of, binary_values, default_binary, sliced_binary, slots_between, IsCompact, IsUnsliced, IsWhole};
 ghost use Rattle.arrow2_text.specs.Growth.{bytes_of_items, items_by_bytes};
 ghost use Rattle.arrow2_text.specs.Refusals.{RefusesParts, other_binary_layout_message, past_the_values_message};
 
@@ -228,7 +228,7 @@ impl<O: Offset> BinaryArray<O> {
         self.len() == 0
     }
 
-    /// Returns the number of nulls. The validity stores this number, so no bits are counted.
+    /// Returns the number of nulls. A validity bitmap stores this number, so no bits are counted.
     pub fn null_count(&self) -> usize
         ensures { result ≡ count_by is_none (binary_items self.now) }
     {
@@ -332,8 +332,8 @@ impl<O: Offset> BinaryArray<O> {
         BinaryArray::new(data_type, offsets, values, validity)
     }
 
-    /// Returns `Right` of an array that grows over the same storage, if all of these hold; else `Left` of the array as
-    /// it was:
+    /// Returns `Right` of an array that grows and takes over the storage, if all of these hold; else `Left` of the
+    /// array as it was:
     ///
     /// - the offsets have no other owner, are not sliced, begin at 0, and end after the last byte;
     /// - the bytes have no other owner, and are not sliced;
@@ -341,9 +341,10 @@ impl<O: Offset> BinaryArray<O> {
     ///
     /// Where there is no bitmap, `Right` has a new one whose items are all true.
     ///
-    /// Proved: `Left` has the array as it was. `Right` has its items, its bytes and its logical type, and comes only
-    /// where the offsets begin at 0 and end after the last byte. Not proved: that `Right` comes where all of these
-    /// hold.
+    /// Proved: `Left` has the array as it was. `Right` has its items, its number of bytes and its logical type, and
+    /// comes only where the offsets begin at 0 and end after the last byte, neither they nor the bytes are sliced, and
+    /// the bitmap, if there is one, begins at bit 0. Not proved: that `Right` comes only where nobody shares the
+    /// storage, that it has the same storage, or that it comes where all of these hold.
     ///
     /// Differs from arrow2, whose array that grows needs no bitmap where no item is null.
     ///
@@ -360,8 +361,8 @@ impl<O: Offset> BinaryArray<O> {
         ensures ok { IfOk result (λ r. MatchEither r (λ a. a ≡ self)
             (λ m. (m.items ≡ binary_items self) × (m.bytes ≡ length (buffer_items self.values))
             × (m.data_type ≡ self.data_type))) }
-        // `Right` comes only where the offsets begin at 0 and end after the last byte. Else nothing is allocated.
-        ensures whole { IfOk result (λ r. MatchEither r (λ _. ⊤) (λ _. IsWhole self)) }
+        // `Right` comes only where the offsets begin at 0 and end after the last byte, and nothing is sliced.
+        ensures whole { IfOk result (λ r. MatchEither r (λ _. ⊤) (λ _. IsWhole self × IsUnsliced self)) }
         ensures succeeds { ¬ IsWhole self → IsOk result }
         ensures only { IfErr result (λ e. e ≡ Error.OutOfMemory) }
     {

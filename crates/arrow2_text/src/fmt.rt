@@ -13,8 +13,8 @@ use arrow2_validity::fmt::write_separator;
 use std::fmt;
 
 /// Writes the name of the type, then the items in brackets, each as the list of its bytes, with `None` for a null:
-/// `BinaryArray[[1, 2], None, []]`. With offsets of 64 bits the name is `LargeBinaryArray`. Formatter flags are
-/// ignored.
+/// `BinaryArray[[1, 2], None, []]`. With offsets of 64 bits the name is `LargeBinaryArray`. No clause states what
+/// formatter flags do.
 impl<O: Offset> fmt::Debug for BinaryArray<O> {
     ghost debug_output = { λ a. Some (binary_head O.IS_LARGE) ++? debug_list (item_output bytes_output) (binary_items a) };
 
@@ -25,7 +25,8 @@ impl<O: Offset> fmt::Debug for BinaryArray<O> {
 }
 
 /// Writes the name of the type, then the items in brackets, each as the text itself, with `None` for a null:
-/// `Utf8Array[é, None, abc]`. With offsets of 64 bits the name is `LargeUtf8Array`. Formatter flags are ignored.
+/// `Utf8Array[é, None, abc]`. With offsets of 64 bits the name is `LargeUtf8Array`. No clause states what formatter
+/// flags do.
 impl<O: Offset> fmt::Debug for Utf8Array<O> {
     ghost debug_output = { λ a. Some (text_head O.IS_LARGE) ++? debug_list (item_output (λ text. Some text)) (binary_items a) };
 

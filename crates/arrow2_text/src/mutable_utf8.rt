@@ -25,8 +25,9 @@ use std::rc::Rc;
 ///
 /// Contracts see its logical type, its items, the number of bytes of their slots, and its two capacities: the number of
 /// items and the number of bytes that fit before it allocates. Each call that appends has one clause, the record
-/// `AppendsBinary` of `specs/Growth.antt`. The record states the items after `Ok` and after an error, when each error
-/// comes, and that the call succeeds within both capacities.
+/// `AppendsBinary` of `specs/Growth.antt`. The record states the items after `Ok` and after an error, exactly when
+/// `Overflow` comes, that `OutOfMemory` is the only other error, and that the call succeeds within both capacities
+/// where the last offset does not pass `O::MAX`.
 ///
 /// Differs from arrow2: there always is a validity bitmap while the array grows, and [`MutableUtf8Array::freeze`] drops
 /// it where no item is null. Before `freeze` the only call that reads an item is [`MutableUtf8Array::pop`], and none
@@ -278,9 +279,9 @@ impl<O: Offset> MutableUtf8Array<O> {
         self.slots.push(text.as_bytes(), valid)
     }
 
-    /// Appends `len` items of `array` from item `start` on. The bytes under nulls are copied too: contracts state their
-    /// number. Requires that `start + len` is at most the length of `array`. Within both capacities it does not
-    /// allocate.
+    /// Appends `len` items of `array` from item `start` on. The bytes under nulls are copied too. Contracts state only
+    /// the number of bytes of all these slots together. Requires that `start + len` is at most the length of `array`.
+    /// Within both capacities it does not allocate.
     ///
     /// In arrow2 this call is in `growable`.
     ///
@@ -315,7 +316,7 @@ impl<O: Offset> MutableUtf8Array<O> {
         ensures data_type { IfOk result (λ a. a.data_type ≡ self.data_type) }
         ensures bitmap { IfOk result (λ a.
             IsNone a.validity.bitmap ↔ (count_by is_none self.items ≡ 0)) }
-        // Nothing is stored besides the items.
+        // Nothing is stored besides the slots.
         ensures compact { IfOk result (λ a. IsCompact a) }
         ensures bytes { IfOk result (λ a. length (buffer_items a.values) ≡ self.bytes) }
         ensures only { IfErr result (λ e. e ≡ Error.OutOfMemory) }

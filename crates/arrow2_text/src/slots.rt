@@ -1,5 +1,5 @@
 //! Bytes between offsets with their validity: what arrays of byte strings and of texts store.
-ghost use Rattle.std.specs.Prelude.{◌≡◌, ◌+◌, ◌<◌, ◌≤◌, [], None, Some, IfErr, IfOk, IsTrue, length, map, count_by, pos, slice_index_or, sum, ⊤, IsOk};
+ghost use Rattle.std.specs.Prelude.{◌≡◌, ◌+◌, ◌<◌, ◌≤◌, [], None, Some, IfErr, IfOk, IfSome, IsTrue, length, map, count_by, pos, slice_index_or, sum, ⊤, IsOk};
 ghost use Rattle.std.specs.Bool.{Decides};
 ghost use Rattle.std.specs.Option.{is_none, is_some, option_copied};
 ghost use Rattle.either.specs.Either.{MatchEither};
@@ -9,7 +9,7 @@ ghost use Rattle.arrow2_offset.specs.Nested.{cut};
 ghost use Rattle.arrow2_offset.specs.Offsets.{last_of, offsets_of};
 ghost use Rattle.arrow2_walks.specs.Zipped.{zipped};
 ghost use Rattle.arrow2_validity.specs.OptionalValidity.{valid_items};
-ghost use Rattle.arrow2_text.specs.Binary.{binary_items, binary_parts, binary_values, sliced_binary, slot_offset, slots_between, slots_size, IsWhole};
+ghost use Rattle.arrow2_text.specs.Binary.{binary_items, binary_parts, binary_values, sliced_binary, slot_offset, slots_between, slots_size, IsUnsliced, IsWhole};
 ghost use Rattle.arrow2_text.specs.Growth.{AreThawed};
 
 use crate::growing::Growing;
@@ -226,8 +226,8 @@ impl<O: Offset> Slots<O> {
     /// returns `Left` of the slots as they were. Where there is no bitmap, `Right` has a new one.
     pub(crate) fn into_mut(self) -> Result<Either<Slots<O>, Growing<O>>>
         ensures ok { IfOk result (λ r. AreThawed r self (binary_values self)) }
-        // `Right` comes only where the offsets begin at 0 and end after the last byte. Else nothing is allocated.
-        ensures whole { IfOk result (λ r. MatchEither r (λ _. ⊤) (λ _. IsWhole self)) }
+        // `Right` comes only where the offsets begin at 0 and end after the last byte, and nothing is sliced.
+        ensures whole { IfOk result (λ r. MatchEither r (λ _. ⊤) (λ _. IsWhole self × IsUnsliced self)) }
         ensures succeeds { ¬ IsWhole self → IsOk result }
         ensures only { IfErr result (λ e. e ≡ Error.OutOfMemory) }
     {
@@ -289,6 +289,9 @@ fn thawed<O: Offset>(
     ensures ok { IfOk result (λ r. AreThawed r
         (binary_parts data_type.value (whole_buffer (map pos (offsets_of offsets))) values validity)
         (cut (buffer_items values) offsets.lengths)) }
+    ensures unsliced { IfOk result (λ r. MatchEither r (λ _. ⊤) (λ _. values ≡ whole_buffer values.storage)) }
+    ensures begins { IfSome validity.bitmap (λ b.
+        IfOk result (λ r. MatchEither r (λ _. ⊤) (λ _. b.offset ≡ 0))) }
     ensures only { IfErr result (λ e. e ≡ Error.OutOfMemory) }
 {
     let alloc = values.allocator();

@@ -1,4 +1,4 @@
-//! The parts that the texts of arrays share.
+//! What the `Debug` texts of all arrays share.
 ghost use Rattle.std.specs.Fmt.{WritesOnOk};
 ghost use Rattle.arrow2_validity.specs.ItemTexts.{separator};
 

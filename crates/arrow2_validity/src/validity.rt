@@ -65,7 +65,7 @@ impl Validity {
     ///
     /// # Errors
     ///
-    /// `InvalidArgumentError` exactly if the bitmap has another length, or `OutOfMemory` if the message cannot be
+    /// If the bitmap has another length, `InvalidArgumentError`, or `OutOfMemory` where its message cannot be
     /// allocated. After an error the bitmap is dropped.
     pub fn try_new(len: usize, bitmap: Option<Bitmap>) -> Result<Validity>
         ensures ok { IfOk result (λ v. v ≡ record { len = len; bitmap = bitmap }) }
@@ -147,9 +147,11 @@ impl Validity {
         self.bitmap
     }
 
-    /// Returns `Right` of a bitmap that grows, if nobody else shares the bytes and the items begin at bit 0. Otherwise
-    /// returns `Left` of the validity as it was. Without a bitmap, returns `Right` of a new one whose items are all
-    /// true. Where there is a bitmap, no clause states when `Right` comes.
+    /// Returns `Right` of a bitmap that grows, or `Left` of the validity as it was.
+    ///
+    /// Where there is a bitmap, `Right` comes only if it begins at bit 0. In the code it comes exactly if it begins
+    /// there and nobody else shares its bytes; no clause states the condition on sharing. Without a bitmap, returns
+    /// `Right` of a new one whose items are all true.
     ///
     /// # Errors
     ///
@@ -157,6 +159,8 @@ impl Validity {
     pub fn into_mut(self, alloc: Global) -> Result<Either<Validity, MutableBitmap>>
         ensures ok { IfOk result (λ r. MatchEither r (λ v. v ≡ self) (λ m. m.items ≡ valid_items self)) }
         ensures made { IsNone self.bitmap → IfOk result (λ r. MatchEither r (λ _. ⊥) (λ _. ⊤)) }
+        ensures begins { IfSome self.bitmap (λ b.
+            IfOk result (λ r. MatchEither r (λ _. ⊤) (λ _. b.offset ≡ 0))) }
         ensures only { IfErr result (λ e. e ≡ Error.OutOfMemory) }
         ensures succeeds { IsSome self.bitmap → IsOk result }
     {
@@ -192,8 +196,8 @@ impl Validity {
     ///
     /// # Errors
     ///
-    /// `OutOfMemory` alone, and only where one of both has a bitmap. In the code it comes only where both have one, or
-    /// where a reference count would overflow; no clause states that.
+    /// `OutOfMemory` alone, and never where neither has a bitmap. The code returns it only where both have one, or
+    /// where a reference count would overflow, which no clause states.
     pub fn both(&self, other: &Validity) -> Result<Validity>
         requires same_length { length (valid_items self.now) ≡ length (valid_items other.now) }
         ensures items { IfOk result (λ v.
@@ -212,8 +216,8 @@ impl Validity {
     }
 }
 
-/// Shares the bytes. Does not allocate: in the code it fails only if a reference count would overflow. Without a bitmap
-/// it never fails.
+/// Shares the bytes. Does not allocate: in the code it fails only if a reference count would overflow, which no clause
+/// states. Without a bitmap it never fails.
 impl Clone for Validity {
     ghost is_clone = { λ a copy. copy ≡ a };
 
@@ -244,7 +248,7 @@ fn append_part(bitmap: &Bitmap, start: usize, len: usize, grown: &mut MutableBit
 ///
 /// # Errors
 ///
-/// `InvalidArgumentError` exactly if the lengths differ, or `OutOfMemory` if the message cannot be allocated.
+/// If the lengths differ, `InvalidArgumentError`, or `OutOfMemory` where its message cannot be allocated.
 pub fn check_same_length(values: usize, validity: &Bitmap) -> Result<()>
     ensures accepted { IsOk result ↔ (length (items_of validity.now) ≡ values) }
     ensures refused { FailsOnlyWith result (unequal_lengths_message (length (items_of validity.now)) values) }
