@@ -48,7 +48,7 @@ pub back_same : {X : Type 0} (first now : List X) (n : ℕ) → drop n now ≡ d
 back_same first now n e = sym (drop-drop 1 n now) ∙ (ap (drop 1) e ∙ drop-drop 1 n first)
 
 -- the item at an index, where the lists are one from there on
-left_at : {X : Type 0} (first now : List X) (n : ℕ) (x : X) → drop n now ≡ drop n first → get_or now n x ≡ get_or first n x
+pub left_at : {X : Type 0} (first now : List X) (n : ℕ) (x : X) → drop n now ≡ drop n first → get_or now n x ≡ get_or first n x
 left_at first now n x e =
     let z : n + 0 ≡ n = omega arith in
     ap (λ k. get_or now k x) (sym z) ∙ (sym (get_or-drop n now 0 x) ∙ (ap (λ t. get_or t 0 x) e ∙ (get_or-drop n first 0 x ∙ ap (λ k. get_or first k x) z)))

@@ -8,9 +8,9 @@ use Rattle.arrow2_datatypes.specs.declared.field.Field.{Field}
 abbrev pub IsCallableWithFields : (ℕ → Bor Field → Type 0) → List Field → Type 0
 IsCallableWithFields may fields = (index : ℕ) (field : Bor Field) → index < length fields → slice_index_or fields index field.now ≡ field.now → may index field
 
--- every result for one of the first n indices and a field is the result of `accepts`
-abbrev pub ReturnsOnFields : ℕ → (ℕ → Bor Field → Bool → Type 0) → (ℕ → Field → Bool) → Type 0
-ReturnsOnFields n results accepts = (index : ℕ) (field : Bor Field) (answer : Bool) → index < n → results index field answer → answer ≡ accepts index field.now
+-- every result of a predicate for an index of a list and the field at that index is the result of `accepts`
+abbrev pub ReturnsOnFields : List Field → (ℕ → Bor Field → Bool → Type 0) → (ℕ → Field → Bool) → Type 0
+ReturnsOnFields fields results accepts = (index : ℕ) (field : Bor Field) (answer : Bool) → index < length fields → slice_index_or fields index field.now ≡ field.now → results index field answer → answer ≡ accepts index field.now
 
 -- the items for which `accepts` is true, given the index of the item and the item, in order
 abbrev pub accepted : {X : Type 0} → (ℕ → X → Bool) → List X → List X

@@ -55,11 +55,12 @@ impl Schema {
 
     /// Returns the schema of the fields that the predicate accepts, in order, with the same metadata. Calls the
     /// predicate with the index of each field and the field. Requires that the predicate may be called with each index
-    /// and the field at that index. Does not allocate.
+    /// and the field at that index. The clause `fields` holds where the contract of the predicate fixes each result.
+    /// Does not allocate.
     pub fn filter<F: Fn(usize, &Field) -> bool>(self, predicate: F) -> Schema
         requires { IsCallableWithFields (F.pre predicate) self.fields.items }
         ensures fields { (accepts : ℕ → Field → Bool) →
-            ReturnsOnFields (length self.fields.items) (F.post predicate) accepts →
+            ReturnsOnFields self.fields.items (F.post predicate) accepts →
             result.fields.items ≡ accepted accepts self.fields.items }
         ensures metadata { result.metadata ≡ self.metadata }
     {

@@ -109,7 +109,7 @@ impl PackedBits {
 
     /// Returns the allocator of the bytes.
     pub fn allocator(&self) -> Global
-        ensures { (only : Global) → result ≡ only }
+        ensures { (other : Global) → result ≡ other }
     {
         *self.bytes.allocator()
     }
@@ -129,6 +129,7 @@ impl PackedBits {
         ensures items { take result.1 (bits result.0.items) ≡ self.items }
         ensures len { result.1 ≡ length self.items }
         ensures inside { result.1 ≤ 8 * vec_len result.0 }
+        ensures capacity { min (8 * vec_capacity result.0) (2 ^ 64 - 1) ≡ self.capacity }
     {
         let PackedBits { bytes, length } = self;
         (bytes, length)
@@ -172,7 +173,7 @@ impl PackedBits {
         self.length.checked_add(additional)
     }
 
-    /// Gives back unused capacity, where the allocator takes it.
+    /// Gives back unused capacity, where the allocator takes it. No clause states how much.
     pub fn shrink_to_fit(&mut self)
         ensures items { self.new.items ≡ self.old.items }
         ensures capacity { self.new.capacity ≤ self.old.capacity }
@@ -321,15 +322,15 @@ impl PackedBits {
         requires alike { S.alike rows }
         requires len { S.len rows ≡ length self.old.items }
         // If the results of `op` are those of a function `f` of the own word and a row:
-        ensures kernel { (f : List ℕ → ℕ) (lists : List (List Bool)) →
+        ensures kernel { (f : List ℕ → ℕ) (xss : List (List Bool)) →
             ComputesOwnRows T.WIDTH S.words T.number (F.post op) f →
-            AreWordsOf T.WIDTH lists (S.row_at rows) →
-            self.new.items ≡ kernel T.WIDTH f (self.old.items ∷ lists) }
+            AreWordsOf T.WIDTH xss (S.row_at rows) →
+            self.new.items ≡ kernel T.WIDTH f (self.old.items ∷ xss) }
         // For every truth table `t` by which `op` computes each bit: the items are the outputs of `t`.
-        ensures table { (t : ℕ) (lists : List (List Bool)) →
+        ensures table { (t : ℕ) (xss : List (List Bool)) →
             IsBitwiseOnOwnRows T.WIDTH S.words T.number (F.post op) t →
-            AreWordsOf T.WIDTH lists (S.row_at rows) →
-            self.new.items ≡ each t (self.old.items ∷ lists) }
+            AreWordsOf T.WIDTH xss (S.row_at rows) →
+            self.new.items ≡ each t (self.old.items ∷ xss) }
         // The number of items and the capacity stay.
         ensures len { length self.new.items ≡ length self.old.items }
         ensures capacity { self.new.capacity ≡ self.old.capacity }

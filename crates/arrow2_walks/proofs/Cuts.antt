@@ -58,7 +58,7 @@ paid-cut ps k i r s h g e paid =
 
 -- a bitmap of a vector, as a piece
 pub piece_is : (bs : List BitmapStorage) (k : ℕ) (b : BitmapStorage) → k < length bs → b ≡ get_or bs k b → piece_at (map piece_of bs) k ≡ piece_of b
-piece_is bs k b h e = get_or-map piece_of bs k b (record { items = []; offset = 0 }) h ∙ ap piece_of (sym e)
+piece_is bs k b h e = get_or-map piece_of bs k b (record { items = []; bytes = []; offset = 0 }) h ∙ ap piece_of (sym e)
 
 -- where a bitmap is put after bitmap k, bitmap k stays
 pub same_before : (bs : List BitmapStorage) (k : ℕ) (w x b : BitmapStorage) → k < length bs → x ≡ get_or (insert bs (k + 1) w) k x → b ≡ get_or bs k b → x ≡ b

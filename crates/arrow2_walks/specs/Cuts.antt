@@ -4,9 +4,10 @@ use Rattle.std.specs.List.{flat_map}
 use Rattle.arrow2_model.specs.Storage.{BitmapStorage, items_of}
 use Rattle.arrow2_model.specs.Touched.{cut_budget, total_cut_budget}
 
--- a piece: its items, and the bit at which they are stored
+-- a piece: its items, the bytes that store them, and the bit at which they begin
 pub record Piece : Type 0 where
   pub items : List Bool
+  pub bytes : List ℕ
   pub offset : ℕ
 
 -- the pieces, and the number of bytes that were counted as read for their false items
@@ -16,22 +17,22 @@ pub record CutPieces : Type 0 where
 
 -- a bitmap as a piece
 abbrev pub piece_of : BitmapStorage → Piece
-piece_of b = record { items = items_of b; offset = b.offset }
+piece_of b = record { items = items_of b; bytes = b.bytes; offset = b.offset }
 
 -- piece k
 abbrev pub piece_at : List Piece → ℕ → Piece
-piece_at ps k = slice_index_or ps k (record { items = []; offset = 0 })
+piece_at ps k = slice_index_or ps k (record { items = []; bytes = []; offset = 0 })
 
 -- the items of all pieces, one piece after the other
 abbrev pub joined : List Piece → List Bool
 joined ps = flat_map (λ p. p.items) ps
 
--- a piece's first i items, stored at its bit; and its other items, stored i bits further on
+-- a piece's first i items, stored at its bit; and its other items, stored i bits further on: both over its bytes
 abbrev pub front : Piece → ℕ → Piece
-front p i = record { items = take i p.items; offset = p.offset }
+front p i = record p { items = take i p.items }
 
 abbrev pub back : Piece → ℕ → Piece
-back p i = record { items = drop i p.items; offset = p.offset + i }
+back p i = record p { items = drop i p.items; offset = p.offset + i }
 
 -- the pieces with piece k cut in two at its item i
 abbrev pub cut_at : List Piece → ℕ → ℕ → List Piece

@@ -20,6 +20,7 @@ impl BitCursor {
     /// Returns the cursor at an index, with no bit read.
     pub fn at(index: usize) -> BitCursor
         ensures index { result.index ≡ index }
+        ensures word { result.word ≡ 0 }
         ensures none { result.buffered ≡ 0 }
     {
         BitCursor {

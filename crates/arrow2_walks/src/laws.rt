@@ -1,41 +1,31 @@
 //! Laws of the iterators. The contract of each function is a law, and its body is empty.
-ghost use Rattle.std.specs.Prelude.{◌≡◌, ◌↔◌, ℕ, ◌+◌, ◌<◌, ◌≤◌, All, Bool, List, false, get_or, length, option_map, slice_index_or, true};
+ghost use Rattle.std.specs.Prelude.{◌≡◌, ◌↔◌, ℕ, ◌+◌, ◌<◌, ◌≤◌, All, Bool, List, false, get_or, length, slice_index_or, true};
 ghost use Rattle.std.specs.List.{sum_by, flat_map};
 ghost use Rattle.arrow2_model.specs.Parts.{falses, part};
 ghost use Rattle.arrow2_walks.specs.Runs.{runs, AreRuns, InRuns};
-ghost use Rattle.std.specs.Iterator.{YieldsFirst, YieldsLast, YieldsFirstBy, YieldsLastBy};
 ghost use Rattle.arrow2_walks.specs.Selected.{selected};
-ghost use Rattle.arrow2_walks.specs.Zips.{HasEqualLengths, MayHaveEqualLengths, StepsAlike, either_steps, zip_validity_steps};
-ghost use Rattle.arrow2_walks.specs.Slots.{slots_of_both, slots_of};
+ghost use Rattle.arrow2_walks.specs.Slots.{OptionalZipYieldsFirst, OptionalZipYieldsLast, ZipYieldsFirst, ZipYieldsLast};
 
-/// `rest` maps the iterator over values to the list of items that it has still to yield. `valid` does so for the iterator
-/// over their validity. `view` maps an element that the iterator over values yields to an item, for example a `&T` to
-/// its `T`, and `YieldsFirstBy view` is `YieldsFirst` of these items. Where both lists have equal lengths, and each
-/// iterator yields the first, or the last, item of its list, a step of the zip yields the first, or the last, slot, and
-/// leaves lists of equal lengths.
+/// `rest` maps the iterator over values to the list of items that it has still to yield. `valid` does so for the
+/// iterator over their validity. `view` maps an element that the iterator over values yields to an item, for example a
+/// `&T` to its `T`, and `YieldsFirstBy view` is `YieldsFirst` of these items. Where both lists have equal lengths, and
+/// each iterator yields the first, or the last, item of its list, a step of the zip yields the first, or the last,
+/// slot, and leaves lists of equal lengths.
 #[tactic(auto, using(crate::proofs::Slots::slots))]
 pub fn a_zip_yields_its_slots<I: Iterator, V: Iterator<Item = bool>, X>()
     ensures first { (view : I.Item → X) (rest : I → List X) (valid : V → List Bool) →
-        StepsAlike (HasEqualLengths rest valid)
-        (zip_validity_steps (YieldsFirstBy view rest) (YieldsFirst valid))
-        (YieldsFirstBy (option_map view) (slots_of_both rest valid)) }
+        ZipYieldsFirst view rest valid }
     ensures last { (view : I.Item → X) (rest : I → List X) (valid : V → List Bool) →
-        StepsAlike (HasEqualLengths rest valid)
-        (zip_validity_steps (YieldsLastBy view rest) (YieldsLast valid))
-        (YieldsLastBy (option_map view) (slots_of_both rest valid)) }
+        ZipYieldsLast view rest valid }
 {}
 
 /// The same where the validity may be missing: then each value is a slot that is not null.
 #[tactic(auto, using(crate::proofs::Slots::slots))]
 pub fn a_zip_with_or_without_validity_yields_its_slots<I: Iterator, V: Iterator<Item = bool>, X>()
     ensures first { (view : I.Item → X) (rest : I → List X) (valid : V → List Bool) →
-        StepsAlike (MayHaveEqualLengths rest valid)
-        (either_steps (YieldsFirstBy view rest) (YieldsFirst valid))
-        (YieldsFirstBy (option_map view) (slots_of rest valid)) }
+        OptionalZipYieldsFirst view rest valid }
     ensures last { (view : I.Item → X) (rest : I → List X) (valid : V → List Bool) →
-        StepsAlike (MayHaveEqualLengths rest valid)
-        (either_steps (YieldsLastBy view rest) (YieldsLast valid))
-        (YieldsLastBy (option_map view) (slots_of rest valid)) }
+        OptionalZipYieldsLast view rest valid }
 {}
 
 /// The runs of a list are all its maximal runs of true items, each once, in rising order. No other list has this

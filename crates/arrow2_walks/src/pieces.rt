@@ -11,8 +11,8 @@ use arrow2_types::{Error, Result};
 use std::alloc::Global;
 use std::marker::Model;
 
-/// A bitmap in pieces: contracts see the items of each piece, the bit at which they are stored, and the number of bytes
-/// that the cuts have counted as read. The `k` cuts of `L` items into `k + 1` pieces count at most
+/// A bitmap in pieces: contracts see the items of each piece, its bytes, the bit at which its items begin, and how many
+/// bytes the cuts have counted as read. The `k` cuts of `L` items into `k + 1` pieces count at most
 /// `(2 * L * lg L + 30 * k) / 8` bytes, in whatever order the cuts come. Here `lg` is the logarithm to the base 2,
 /// rounded down. It is not proved that the cuts read no further byte.
 ///
@@ -82,8 +82,8 @@ impl Pieces {
         bitmaps
     }
 
-    /// Cuts piece `p` in two: a piece of its first `i` items and a piece of the others replace it. Requires that `p` is
-    /// below the number of pieces, and that piece `p` has at least `i` items. Allocates before it reads any bytes.
+    /// Cuts piece `p` in two: a piece of its first `i` items and a piece of the others replace it, over the same bytes.
+    /// Requires that `p` is below the number of pieces, and that piece `p` has at least `i` items.
     ///
     /// # Errors
     ///

@@ -62,7 +62,7 @@ where
         zip(value, is_valid)
     }
 
-    /// Returns the size hint of the values.
+    /// Returns the size hint of the values, which no clause states.
     fn size_hint(&self) -> (usize, Option<usize>) {
         self.values.size_hint()
     }
@@ -194,7 +194,7 @@ where
         }
     }
 
-    /// Returns the size hint of the values.
+    /// Returns the size hint of the values, which no clause states.
     fn size_hint(&self) -> (usize, Option<usize>) {
         match self {
             ZipValidity::Required(values) => values.size_hint(),

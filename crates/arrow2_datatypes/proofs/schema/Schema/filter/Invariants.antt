@@ -8,4 +8,4 @@ invariant-loop-index g l =
     (l.kept ≤ l.index)
     × (length l.fields.items ≡ length l.fn.self.fields.items)
     × (drop l.index l.fields.items ≡ drop l.index l.fn.self.fields.items)
-    × ((accepts : ℕ → Field → Bool) → ReturnsOnFields (length l.fn.self.fields.items) (goal.F-post g l.predicate) accepts → take l.kept l.fields.items ≡ accepted accepts (take l.index l.fn.self.fields.items))
+    × ((accepts : ℕ → Field → Bool) → ReturnsOnFields l.fn.self.fields.items (goal.F-post g l.predicate) accepts → take l.kept l.fields.items ≡ accepted accepts (take l.index l.fn.self.fields.items))
