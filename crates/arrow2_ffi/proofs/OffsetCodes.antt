@@ -9,7 +9,7 @@ use Rattle.arrow2_ffi.specs.Rules.{ReportsBrokenRule}
 -- ---- with one code for offsets
 
 -- the numbers are not offsets
-pub not_offsets : {misfits done unchanged : Type 0} (xs : List ℤ) (code : ℕ) → ReportsBrokenRule code xs → unchanged → WritesFromOffsets xs code misfits done unchanged
+pub not_offsets : {sized done unchanged : Type 0} (xs : List ℤ) (code : ℕ) → ReportsBrokenRule code xs → unchanged → WritesFromOffsets code xs sized done unchanged
 not_offsets xs code stated same = record {
   broken = λ _. stated.rule;
   length = λ are. absurd (stated.broken are);
@@ -18,8 +18,8 @@ not_offsets xs code stated same = record {
   refused = λ _. same;
 }
 
--- the slice misfits
-pub ill_fitting : {misfits done unchanged : Type 0} (xs : List ℤ) → AreOffsets xs → misfits → unchanged → WritesFromOffsets xs ARROW2_LENGTH misfits done unchanged
+-- the slice does not have the length
+pub ill_fitting : {sized done unchanged : Type 0} (xs : List ℤ) → AreOffsets xs → (sized → ⊥) → unchanged → WritesFromOffsets ARROW2_LENGTH xs sized done unchanged
 ill_fitting xs are mis same = record {
   broken = λ out. absurd (out are);
   length = λ _. (λ _. mis, λ _. refl);
@@ -29,10 +29,10 @@ ill_fitting xs are mis same = record {
 }
 
 -- the call succeeded
-pub written : {misfits done unchanged : Type 0} (xs : List ℤ) → AreOffsets xs → (misfits → ⊥) → done → WritesFromOffsets xs ARROW2_OK misfits done unchanged
+pub written : {sized done unchanged : Type 0} (xs : List ℤ) → AreOffsets xs → sized → done → WritesFromOffsets ARROW2_OK xs sized done unchanged
 written xs are fit is = record {
   broken = λ out. absurd (out are);
-  length = λ _. (λ e. absurd (omega (arith, e)), λ mis. absurd (fit mis));
+  length = λ _. (λ e. absurd (omega (arith, e)), λ mis. absurd (mis fit));
   only = λ _. inl refl;
   ok = λ _. is;
   refused = λ other. absurd (other refl);
@@ -41,7 +41,7 @@ written xs are fit is = record {
 -- ---- with a second one
 
 -- the numbers are not offsets
-pub not_offsets_or : {misfits beyond done unchanged : Type 0} (second : ℕ) (xs : List ℤ) (code : ℕ) → ReportsBrokenRule code xs → unchanged → WritesFromOffsetsOr second xs code misfits beyond done unchanged
+pub not_offsets_or : {sized within done unchanged : Type 0} (second : ℕ) (xs : List ℤ) (code : ℕ) → ReportsBrokenRule code xs → unchanged → WritesFromOffsetsOr code xs sized within second done unchanged
 not_offsets_or second xs code stated same = record {
   broken = λ _. stated.rule;
   length = λ are. absurd (stated.broken are);
@@ -51,8 +51,8 @@ not_offsets_or second xs code stated same = record {
   refused = λ _. same;
 }
 
--- the slice misfits
-pub ill_fitting_or : {misfits beyond done unchanged : Type 0} (second : ℕ) (xs : List ℤ) → second ≢ ARROW2_LENGTH → AreOffsets xs → misfits → unchanged → WritesFromOffsetsOr second xs ARROW2_LENGTH misfits beyond done unchanged
+-- the slice does not have the length
+pub ill_fitting_or : {sized within done unchanged : Type 0} (second : ℕ) (xs : List ℤ) → second ≢ ARROW2_LENGTH → AreOffsets xs → (sized → ⊥) → unchanged → WritesFromOffsetsOr ARROW2_LENGTH xs sized within second done unchanged
 ill_fitting_or second xs apart are mis same = record {
   broken = λ out. absurd (out are);
   length = λ _. (λ _. mis, λ _. refl);
@@ -62,11 +62,11 @@ ill_fitting_or second xs apart are mis same = record {
   refused = λ _. same;
 }
 
--- something is beyond the bound
-pub beyond_or : {misfits beyond done unchanged : Type 0} (second : ℕ) (xs : List ℤ) → second ≢ ARROW2_LENGTH → second ≢ ARROW2_OK → AreOffsets xs → (misfits → ⊥) → beyond → unchanged → WritesFromOffsetsOr second xs second misfits beyond done unchanged
+-- something is not within the bound
+pub beyond_or : {sized within done unchanged : Type 0} (second : ℕ) (xs : List ℤ) → second ≢ ARROW2_LENGTH → second ≢ ARROW2_OK → AreOffsets xs → sized → (within → ⊥) → unchanged → WritesFromOffsetsOr second xs sized within second done unchanged
 beyond_or second xs apart not_ok are fit over same = record {
   broken = λ out. absurd (out are);
-  length = λ _. (λ e. absurd (apart e), λ mis. absurd (fit mis));
+  length = λ _. (λ e. absurd (apart e), λ mis. absurd (mis fit));
   second = λ _. (λ _. (apart, over), λ _. refl);
   only = λ _. inr (inr refl);
   ok = λ e. absurd (not_ok e);
@@ -74,11 +74,11 @@ beyond_or second xs apart not_ok are fit over same = record {
 }
 
 -- the call succeeded
-pub written_or : {misfits beyond done unchanged : Type 0} (second : ℕ) (xs : List ℤ) → second ≢ ARROW2_OK → AreOffsets xs → (misfits → ⊥) → (beyond → ⊥) → done → WritesFromOffsetsOr second xs ARROW2_OK misfits beyond done unchanged
+pub written_or : {sized within done unchanged : Type 0} (second : ℕ) (xs : List ℤ) → second ≢ ARROW2_OK → AreOffsets xs → sized → within → done → WritesFromOffsetsOr ARROW2_OK xs sized within second done unchanged
 written_or second xs not_ok are fit under is = record {
   broken = λ out. absurd (out are);
-  length = λ _. (λ e. absurd (omega (arith, e)), λ mis. absurd (fit mis));
-  second = λ _. (λ e. absurd (omega (arith, e, not_ok)), λ h. absurd (under h.1));
+  length = λ _. (λ e. absurd (omega (arith, e)), λ mis. absurd (mis fit));
+  second = λ _. (λ e. absurd (omega (arith, e, not_ok)), λ h. absurd (h.1 under));
   only = λ _. inl refl;
   ok = λ _. is;
   refused = λ other. absurd (other refl);

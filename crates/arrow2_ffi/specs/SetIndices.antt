@@ -5,15 +5,16 @@ use Rattle.arrow2_model.specs.Parts.{part}
 use Rattle.arrow2_chunk.specs.Ones.{ones}
 use Rattle.arrow2_ffi.specs.declared.codes.TheConstants.{ARROW2_RANGE}
 use Rattle.arrow2_ffi.specs.Ranges.{IsInside}
-use Rattle.arrow2_ffi.specs.Writes.{Resumes, WritesWhere}
+use Rattle.arrow2_ffi.specs.Writes.{Resumes, WritesIf}
 
 -- the indices of the true items from index `at` on, rising, as indices into the whole list
 abbrev pub ones_from : List Bool → ℕ → List ℕ
 ones_from items at = map (λ k. at + k) (ones (drop at items))
 
--- a call wrote the first `count` of the indices of true items from index `before` on, and `at` is the index to go on from
-abbrev pub WritesSetIndices : (items : List Bool) (count : ℕ) (old new : List ℕ) (before at end : ℕ) → Type 0
-WritesSetIndices items count old new before at end = Resumes (take count new) (ones_from items before) (ones_from items at) count (length old) before at end
+-- a call wrote the first `count` of the indices of true items from index `at_old` on; there was capacity for `capacity`
+-- indices, and `at_new` is the index to go on from
+abbrev pub WritesSetIndices : (items : List Bool) (count capacity : ℕ) (indices : List ℕ) (at_old at_new end : ℕ) → Type 0
+WritesSetIndices items count capacity indices at_old at_new end = Resumes (take count indices) (ones_from items at_old) (ones_from items at_new) count capacity at_old at_new end
 
 -- what a call that finds set bits writes: their indices, the index to go on from, and their number
 pub record IndexOutputs : Type 0 where
@@ -27,4 +28,4 @@ index_outputs indices at count = record { indices = indices; at = at; count = co
 -- the code of a call that finds the set bits among n bits of bytes from bit `offset` on, and its outputs before and after
 -- it
 abbrev pub FindsSetIndices : (code : ℕ) (bytes : List ℕ) (offset n : ℕ) (old new : IndexOutputs) → Type 0
-FindsSetIndices code bytes offset n old new = WritesWhere ARROW2_RANGE code (IsInside bytes offset n × (old.at ≤ n)) (WritesSetIndices (part (bits bytes) offset n) new.count old.indices new.indices old.at new.at n) (new ≡ old)
+FindsSetIndices code bytes offset n old new = WritesIf code (IsInside bytes offset n × (old.at ≤ n)) ARROW2_RANGE (WritesSetIndices (part (bits bytes) offset n) new.count (length old.indices) new.indices old.at new.at n) (new ≡ old)

@@ -8,27 +8,28 @@ use Rattle.arrow2_model.specs.Tables.{each}
 use Rattle.arrow2_ffi.specs.Ranges.{IsInside, HasBytesForBits, AreInside, inputs_of}
 use Rattle.arrow2_ffi.specs.declared.codes.TheConstants.{ARROW2_OK, ARROW2_RANGE, ARROW2_LENGTH}
 
--- the code of a call that writes where its ranges are inside and its slices have the lengths that it needs
-pub record Writes (code : ℕ) (inside holds done unchanged : Type 0) : Type 0 where
-  -- `code` is ARROW2_RANGE exactly where `inside` does not hold
+-- the code of a call that writes where its ranges are inside (`inside`) and its slices have the lengths that it needs
+-- (`sized`)
+pub record Writes (code : ℕ) (inside sized written unchanged : Type 0) : Type 0 where
+  -- `code` is ARROW2_RANGE exactly where `inside` is not true
   pub range : (code ≡ ARROW2_RANGE) ↔ ¬ inside
-  -- `code` is ARROW2_LENGTH exactly where `inside` holds and `holds` does not
-  pub length : (code ≡ ARROW2_LENGTH) ↔ ((code ≢ ARROW2_RANGE) × ¬ holds)
+  -- `code` is ARROW2_LENGTH exactly where `inside` is true and `sized` is not
+  pub length : (code ≡ ARROW2_LENGTH) ↔ ((code ≢ ARROW2_RANGE) × ¬ sized)
   -- `code` is ARROW2_OK, ARROW2_RANGE or ARROW2_LENGTH
   pub only : (code ≡ ARROW2_OK) ⊎ (code ≡ ARROW2_RANGE) ⊎ (code ≡ ARROW2_LENGTH)
-  -- with ARROW2_OK the call wrote what `done` states
-  pub ok : code ≡ ARROW2_OK → done
+  -- with ARROW2_OK the call wrote what `written` states
+  pub ok : code ≡ ARROW2_OK → written
   -- with any other code nothing was written
   pub refused : code ≢ ARROW2_OK → unchanged
 
--- the code of a call that writes where `fits` holds, and has the one code `other` for where it does not
-pub record WritesWhere (other code : ℕ) (fits done unchanged : Type 0) : Type 0 where
-  -- `code` is `other` exactly where `fits` does not hold
+-- the code of a call that writes if `fits` is true, and returns the code `other` if it is not
+pub record WritesIf (code : ℕ) (fits : Type 0) (other : ℕ) (written unchanged : Type 0) : Type 0 where
+  -- `code` is `other` exactly where `fits` is not true
   pub refusal : (code ≡ other) ↔ ¬ fits
   -- `code` is ARROW2_OK or `other`
   pub only : (code ≡ ARROW2_OK) ⊎ (code ≡ other)
-  -- with ARROW2_OK the call wrote what `done` states
-  pub ok : code ≡ ARROW2_OK → done
+  -- with ARROW2_OK the call wrote what `written` states
+  pub ok : code ≡ ARROW2_OK → written
   -- with any other code nothing was written
   pub refused : code ≢ ARROW2_OK → unchanged
 
@@ -51,17 +52,18 @@ WritesTableInPlace code bound t n inputs old new = Writes code ((t < bound) × A
 -- the code of a call that compares n bits of two inputs, each given by its bytes and its first bit, and writes whether
 -- they are equal
 abbrev pub ComparesBits : (code n : ℕ) → (left right : List ℕ × ℕ) → (old new : Bool) → Type 0
-ComparesBits code n left right old new = WritesWhere ARROW2_RANGE code (IsInside left.0 left.1 n × IsInside right.0 right.1 n) (IsTrue new ↔ (part (bits left.0) left.1 n ≡ part (bits right.0) right.1 n)) (new ≡ old)
+ComparesBits code n left right old new = WritesIf code (IsInside left.0 left.1 n × IsInside right.0 right.1 n) ARROW2_RANGE (IsTrue new ↔ (part (bits left.0) left.1 n ≡ part (bits right.0) right.1 n)) (new ≡ old)
 
--- of the items that were left before, the call wrote the first `count`, at most `spare`; the others are left now
-pub record Resumes {X : Type 0} (written left_before left_now : List X) (count spare before at end : ℕ) : Type 0 where
+-- of the items that were left before, the call wrote the first `count`, at most `capacity`; the others are left now. It
+-- went on from index `at_old`, and the next call goes on from index `at_new`
+pub record Resumes {X : Type 0} (written left_before left_now : List X) (count capacity at_old at_new end : ℕ) : Type 0 where
   -- the written items, and then the items left now, are the items left before
   pub items : written ++ left_now ≡ left_before
   -- no more items were written than there was capacity for
-  pub most : count ≤ spare
-  -- where fewer were written, no item is left, and the index `at` from which to go on is `end`
-  pub last : count < spare → (left_now ≡ []) × (at ≡ end)
-  -- the index `at` is not before the index `before` from which the call went on
-  pub forth : before ≤ at
-  -- the index `at` is at most `end`
-  pub goes_on : at ≤ end
+  pub within_capacity : count ≤ capacity
+  -- where fewer were written, no item is left, and `at_new` is `end`
+  pub ends : count < capacity → (left_now ≡ []) × (at_new ≡ end)
+  -- `at_new` is not before `at_old`
+  pub not_back : at_old ≤ at_new
+  -- `at_new` is at most `end`
+  pub within : at_new ≤ end

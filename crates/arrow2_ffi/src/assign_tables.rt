@@ -27,8 +27,8 @@ pub extern "C" fn arrow2_unary_assign_table(bytes: &mut [u8], length: usize, tab
     ARROW2_OK
 }
 
-/// Replaces the first `length` bits by the outputs of a table of two inputs for them and for the `length` bits of the
-/// second input from its offset on.
+/// Replaces each of the first `length` bits by the output of a table of two inputs: this bit, and the bit at the same
+/// index of the second input, counted from its offset.
 ///
 /// Returns `ARROW2_RANGE` exactly where the table is above 15 or the bits of the second input are not inside its bytes,
 /// else `ARROW2_LENGTH` exactly where `bytes` does not have exactly the bytes that hold `length` bits.

@@ -4,7 +4,7 @@ ghost use Rattle.std.specs.Prelude.{◌≡◌, ◌*◌, ◌<◌, false, length, 
 ghost use Rattle.arrow2_model.specs.Bits.{bits};
 ghost use Rattle.arrow2_model.specs.Parts.{part, falses};
 ghost use Rattle.arrow2_ffi.specs.Ranges.{IsInside, HasBytesForBits};
-ghost use Rattle.arrow2_ffi.specs.Writes.{ComparesBits, Stores, Writes, WritesWhere};
+ghost use Rattle.arrow2_ffi.specs.Writes.{ComparesBits, Stores, Writes, WritesIf};
 
 use crate::bits_input::{Bits, are_both_inside, are_inside, has_bit, hold};
 use crate::codes::{ARROW2_LENGTH, ARROW2_OK, ARROW2_RANGE};
@@ -20,7 +20,7 @@ pub extern "C" fn arrow2_count_zeros(
     length: usize,
     zeros: &mut usize,
 ) -> u32
-    ensures { WritesWhere ARROW2_RANGE result (IsInside bytes.now offset length)
+    ensures { WritesIf result (IsInside bytes.now offset length) ARROW2_RANGE
         (zeros.new ≡ falses (part (bits bytes.now) offset length)) (zeros.new ≡ zeros.old) }
 {
     if !are_inside(Bits(bytes, offset), length) {
@@ -58,7 +58,7 @@ pub extern "C" fn arrow2_equal_bits(
 /// Returns `ARROW2_RANGE` exactly where the bit is not inside the bytes.
 #[unsafe(no_mangle)]
 pub extern "C" fn arrow2_get_bit(bytes: &[u8], index: usize, value: &mut bool) -> u32
-    ensures { WritesWhere ARROW2_RANGE result (index < 8 * length bytes.now)
+    ensures { WritesIf result (index < 8 * length bytes.now) ARROW2_RANGE
         (value.new ≡ slice_index_or (bits bytes.now) index false) (value.new ≡ value.old) }
 {
     if !has_bit(bytes, index) {
@@ -73,7 +73,7 @@ pub extern "C" fn arrow2_get_bit(bytes: &[u8], index: usize, value: &mut bool) -
 /// Returns `ARROW2_RANGE` exactly where the bit is not inside the bytes.
 #[unsafe(no_mangle)]
 pub extern "C" fn arrow2_set_bit(bytes: &mut [u8], index: usize, value: bool) -> u32
-    ensures { WritesWhere ARROW2_RANGE result (index < 8 * length bytes.old)
+    ensures { WritesIf result (index < 8 * length bytes.old) ARROW2_RANGE
         (bits bytes.new ≡ slice_set (bits bytes.old) index value) (bytes.new ≡ bytes.old) }
 {
     if !has_bit(bytes, index) {

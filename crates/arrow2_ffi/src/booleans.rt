@@ -3,7 +3,7 @@ ghost use Rattle.std.specs.Prelude.{◌≡◌, length};
 ghost use Rattle.arrow2_model.specs.Bits.{bits};
 ghost use Rattle.arrow2_model.specs.Parts.{part};
 ghost use Rattle.arrow2_ffi.specs.Ranges.{IsInside, HasBits, first_bits, HasBytesForBits};
-ghost use Rattle.arrow2_ffi.specs.Writes.{Stores, WritesWhere};
+ghost use Rattle.arrow2_ffi.specs.Writes.{Stores, WritesIf};
 
 use crate::bits_input::{Bits, are_inside, hold};
 use crate::bool_words::BoolWords;
@@ -17,7 +17,7 @@ use arrow2_kernels::assign::assign_rows;
 /// Returns `ARROW2_LENGTH` exactly where `out` has another length.
 #[unsafe(no_mangle)]
 pub extern "C" fn arrow2_pack(items: &[bool], out: &mut [u8]) -> u32
-    ensures { WritesWhere ARROW2_LENGTH result (HasBytesForBits out.old (length items.now))
+    ensures { WritesIf result (HasBytesForBits out.old (length items.now)) ARROW2_LENGTH
         (Stores out.new (length items.now) items.now) (out.new ≡ out.old) }
 {
     if !hold(out, items.len()) {
@@ -32,7 +32,7 @@ pub extern "C" fn arrow2_pack(items: &[bool], out: &mut [u8]) -> u32
 /// Returns `ARROW2_RANGE` exactly where these bits are not inside the bytes.
 #[unsafe(no_mangle)]
 pub extern "C" fn arrow2_unpack(bytes: &[u8], offset: usize, out: &mut [bool]) -> u32
-    ensures { WritesWhere ARROW2_RANGE result (IsInside bytes.now offset (length out.old))
+    ensures { WritesIf result (IsInside bytes.now offset (length out.old)) ARROW2_RANGE
         (out.new ≡ part (bits bytes.now) offset (length out.old)) (out.new ≡ out.old) }
 {
     let items = Bits(bytes, offset);

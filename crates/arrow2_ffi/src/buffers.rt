@@ -10,8 +10,8 @@ use crate::codes::{ARROW2_NULLS, ARROW2_OK, ARROW2_RANGE};
 
 /// Checks that the `length` bits from bit `offset` on are inside the bytes, and that exactly `null_count` of them are
 /// not set. If `null_count` is -1, it is not checked. The call does not accept a missing validity: an empty slice has
-/// no bits. An array of the null type (format `n`) has no validity bitmap and counts all its items as null, so its
-/// `null_count` must not be passed to this call.
+/// no bits, so it gives `ARROW2_RANGE` where `offset + length` is above 0. An array of the null type (format `n`) has
+/// no validity bitmap and counts all its items as null, so its `null_count` must not be passed to this call.
 ///
 /// Returns `ARROW2_RANGE` exactly where these bits are not inside the bytes, else `ARROW2_NULLS` exactly where
 /// `null_count` is neither -1 nor the number of zeros.
@@ -23,6 +23,7 @@ pub extern "C" fn arrow2_validity_check(
     null_count: i64,
 ) -> u32
     ensures range { result ≡ ARROW2_RANGE ↔ ¬ IsInside bytes.now offset length }
+    // `negsuc 0` is -1.
     ensures nulls { result ≡ ARROW2_NULLS ↔ ((result ≢ ARROW2_RANGE) × (null_count ≢ negsuc 0)
         × (null_count ≢ pos (falses (part (bits bytes.now) offset length)))) }
     ensures only { (result ≡ ARROW2_OK) ⊎ (result ≡ ARROW2_RANGE) ⊎ (result ≡ ARROW2_NULLS) }

@@ -63,7 +63,7 @@ fn first_falling<O: Offset>(offsets: &[O]) -> usize
 
 /// Returns the index of the first offset that is above `items`. Requires that the last offset is above `items`.
 fn first_past<O: Offset>(offsets: &[O], items: usize) -> usize
-    requires are { AreOffsets (map O.value offsets.now) }
+    requires valid { AreOffsets (map O.value offsets.now) }
     requires past { items < last_of (map O.value offsets.now) }
     ensures { IsFirstPast (map O.value offsets.now) items result }
 {

@@ -29,9 +29,9 @@ struct Side<'a> {
 /// Writes AND, item by item, as `arrow2_and_kleene` does. If `left_all_valid` is true, no item of the left side is
 /// null, and `left_validity` and its offset are ignored. The same holds for the right side.
 ///
-/// Returns `ARROW2_RANGE` exactly where the bits of values, or of a validity that is not ignored, are not inside their
-/// bytes, else `ARROW2_LENGTH` exactly where `values` or `validity` does not have exactly the bytes that hold the
-/// items.
+/// Returns `ARROW2_RANGE` exactly where the value bits of a side, or its validity bits if they are not ignored, are not
+/// inside their bytes, else `ARROW2_LENGTH` exactly where the output `values` or `validity` does not have exactly the
+/// bytes that hold the items.
 #[unsafe(no_mangle)]
 pub extern "C" fn arrow2_and_kleene_optional(
     left: &[u8],

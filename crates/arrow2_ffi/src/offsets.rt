@@ -25,13 +25,13 @@ pub extern "C" fn arrow2_offsets32_check(offsets: &[i32]) -> u32
     check(offsets)
 }
 
-/// Writes the length of each slot to `out`: how far its offset, of 32 bits, is from the next one.
+/// Writes the length of each slot to `out`: the next offset minus its own. Offsets have 32 bits.
 ///
 /// Returns the code of `arrow2_offsets32_check` where the numbers are not offsets, else `ARROW2_LENGTH` exactly where
 /// the number of items of `out` is not that of `offsets` minus 1.
 #[unsafe(no_mangle)]
 pub extern "C" fn arrow2_offsets32_lengths(offsets: &[i32], out: &mut [usize]) -> u32
-    ensures { WritesLengths offsets.now (length out.old) result out.old out.new }
+    ensures { WritesLengths result offsets.now out.old out.new }
 {
     lengths(offsets, out)
 }
@@ -43,13 +43,13 @@ pub extern "C" fn arrow2_offsets32_lengths(offsets: &[i32], out: &mut [usize]) -
 /// Returns `ARROW2_LENGTH` exactly where the number of items of `out` is not that of `offsets` minus 1.
 #[unsafe(no_mangle)]
 pub extern "C" fn arrow2_offsets32_lengths_unchecked(offsets: &[i32], out: &mut [usize]) -> u32
-    requires are { AreOffsets offsets.now }
-    ensures { WritesLengths offsets.now (length out.old) result out.old out.new }
+    requires valid { AreOffsets offsets.now }
+    ensures { WritesLengths result offsets.now out.old out.new }
 {
     lengths_unchecked(offsets, out)
 }
 
-/// Writes offsets of 32 bits to `out`: first `start`, then for each length the offset before it plus this length.
+/// Writes offsets of 32 bits to `out`: first `start`, then for each length `start` plus all lengths up to this one.
 ///
 /// Returns `ARROW2_LENGTH` exactly where the number of items of `out` is not that of `lengths` plus 1, else
 /// `ARROW2_OVERFLOW` exactly where `start` and all lengths, added up exactly, are above 2147483647.
@@ -69,15 +69,15 @@ pub extern "C" fn arrow2_offsets32_from_lengths(
     sums(start, lengths, out)
 }
 
-/// Sets `out[i]` to `offsets[from + i] - offsets[from]`, of 32 bits, for each item `i` of `out`. So the written offsets
-/// begin at 0, and each slot keeps its length.
+/// Sets `out[i]` to `offsets[from + i] - offsets[from]` for each item `i` of `out`. So the written offsets begin at 0,
+/// and each slot keeps its length. Offsets have 32 bits.
 ///
 /// Returns the code of `arrow2_offsets32_check` where the numbers are not offsets, else `ARROW2_LENGTH` exactly where
 /// `out` has no item, else `ARROW2_RANGE` exactly where `from` plus the number of items of `out` is above that of
 /// `offsets`.
 #[unsafe(no_mangle)]
 pub extern "C" fn arrow2_offsets32_rebase(offsets: &[i32], from: usize, out: &mut [i32]) -> u32
-    ensures { WritesRebased offsets.now from (length out.old) result out.new (out.new ≡ out.old) }
+    ensures { WritesRebased result offsets.now from out.old out.new }
 {
     rebase(offsets, from, out)
 }
@@ -94,8 +94,8 @@ pub extern "C" fn arrow2_offsets32_rebase_unchecked(
     from: usize,
     out: &mut [i32],
 ) -> u32
-    requires are { AreOffsets offsets.now }
-    ensures { WritesRebased offsets.now from (length out.old) result out.new (out.new ≡ out.old) }
+    requires valid { AreOffsets offsets.now }
+    ensures { WritesRebased result offsets.now from out.old out.new }
 {
     rebase_unchecked(offsets, from, out)
 }
@@ -113,13 +113,13 @@ pub extern "C" fn arrow2_offsets64_check(offsets: &[i64]) -> u32
     check(offsets)
 }
 
-/// Writes the length of each slot to `out`: how far its offset, of 64 bits, is from the next one.
+/// Writes the length of each slot to `out`: the next offset minus its own. Offsets have 64 bits.
 ///
 /// Returns the code of `arrow2_offsets64_check` where the numbers are not offsets, else `ARROW2_LENGTH` exactly where
 /// the number of items of `out` is not that of `offsets` minus 1.
 #[unsafe(no_mangle)]
 pub extern "C" fn arrow2_offsets64_lengths(offsets: &[i64], out: &mut [usize]) -> u32
-    ensures { WritesLengths offsets.now (length out.old) result out.old out.new }
+    ensures { WritesLengths result offsets.now out.old out.new }
 {
     lengths(offsets, out)
 }
@@ -131,13 +131,13 @@ pub extern "C" fn arrow2_offsets64_lengths(offsets: &[i64], out: &mut [usize]) -
 /// Returns `ARROW2_LENGTH` exactly where the number of items of `out` is not that of `offsets` minus 1.
 #[unsafe(no_mangle)]
 pub extern "C" fn arrow2_offsets64_lengths_unchecked(offsets: &[i64], out: &mut [usize]) -> u32
-    requires are { AreOffsets offsets.now }
-    ensures { WritesLengths offsets.now (length out.old) result out.old out.new }
+    requires valid { AreOffsets offsets.now }
+    ensures { WritesLengths result offsets.now out.old out.new }
 {
     lengths_unchecked(offsets, out)
 }
 
-/// Writes offsets of 64 bits to `out`: first `start`, then for each length the offset before it plus this length.
+/// Writes offsets of 64 bits to `out`: first `start`, then for each length `start` plus all lengths up to this one.
 ///
 /// Returns `ARROW2_LENGTH` exactly where the number of items of `out` is not that of `lengths` plus 1, else
 /// `ARROW2_OVERFLOW` exactly where `start` and all lengths, added up exactly, are above 9223372036854775807.
@@ -157,15 +157,15 @@ pub extern "C" fn arrow2_offsets64_from_lengths(
     sums(start, lengths, out)
 }
 
-/// Sets `out[i]` to `offsets[from + i] - offsets[from]`, of 64 bits, for each item `i` of `out`. So the written offsets
-/// begin at 0, and each slot keeps its length.
+/// Sets `out[i]` to `offsets[from + i] - offsets[from]` for each item `i` of `out`. So the written offsets begin at 0,
+/// and each slot keeps its length. Offsets have 64 bits.
 ///
 /// Returns the code of `arrow2_offsets64_check` where the numbers are not offsets, else `ARROW2_LENGTH` exactly where
 /// `out` has no item, else `ARROW2_RANGE` exactly where `from` plus the number of items of `out` is above that of
 /// `offsets`.
 #[unsafe(no_mangle)]
 pub extern "C" fn arrow2_offsets64_rebase(offsets: &[i64], from: usize, out: &mut [i64]) -> u32
-    ensures { WritesRebased offsets.now from (length out.old) result out.new (out.new ≡ out.old) }
+    ensures { WritesRebased result offsets.now from out.old out.new }
 {
     rebase(offsets, from, out)
 }
@@ -182,8 +182,8 @@ pub extern "C" fn arrow2_offsets64_rebase_unchecked(
     from: usize,
     out: &mut [i64],
 ) -> u32
-    requires are { AreOffsets offsets.now }
-    ensures { WritesRebased offsets.now from (length out.old) result out.new (out.new ≡ out.old) }
+    requires valid { AreOffsets offsets.now }
+    ensures { WritesRebased result offsets.now from out.old out.new }
 {
     rebase_unchecked(offsets, from, out)
 }

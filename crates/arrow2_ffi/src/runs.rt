@@ -10,9 +10,9 @@ use arrow2_walks::{BitCursor, find_bit};
 /// Finds the runs of set bits among the `length` bits from bit `offset` on. Indices are relative to `offset`: index 0
 /// is bit `offset`. The search begins at index `at`. If `at` is inside a run, only the part of that run from `at` on is
 /// found. Writes to `starts` the index at which each run begins, and to `lengths` its length in bits, until the slices
-/// are full or no run is left. Writes to `count` how many runs it wrote, and to `at` where the next call goes on. All
-/// runs are found once `count` is below the length of the slices, which must be at least 1: with slices of length 0
-/// `count` is always 0, and `at` may stay as it was. What the slices hold from `count` on is not specified.
+/// are full or no run is left. Writes to `count` how many runs it wrote, and to `at` where the next call goes on. When
+/// `count` is below the length of the slices, all runs have been found. With slices of length 0 that never happens:
+/// `count` is 0 then, and `at` may stay as it was. What the slices hold from `count` on is not specified.
 ///
 /// Returns `ARROW2_RANGE` exactly where the bits are not inside, or `at` is above `length`; else `ARROW2_LENGTH`
 /// exactly where `starts` and `lengths` differ in length.
@@ -58,7 +58,7 @@ fn write_runs(
     requires inside { HasBits bits end }
     requires within { at ≤ end }
     requires alike { length starts.old ≡ length lengths.old }
-    ensures { WritesRuns (first_bits bits.entry end) result.0 starts.old starts.new lengths.new
+    ensures { WritesRuns (first_bits bits.entry end) result.0 (length starts.old) starts.new lengths.new
         at result.1 end }
 {
     let Bits(bytes, offset) = bits;

@@ -14,8 +14,8 @@ use arrow2_chunk::{BitChunk, BitChunkOnes};
 /// Finds the set bits among the `length` bits from bit `offset` on. Indices are relative to `offset`: index 0 is bit
 /// `offset`. The search begins at index `at`. Writes the indices of set bits to `indices`, in rising order, until
 /// `indices` is full or no set bit is left. Writes to `count` how many indices it wrote, and to `at` where the next
-/// call goes on. All set bits are found once `count` is below the length of `indices`, which must be at least 1: with
-/// length 0 `count` is always 0. What `indices` holds from `count` on is not specified.
+/// call goes on. When `count` is below the length of `indices`, all set bits have been found. With length 0 that never
+/// happens: `count` is 0 then. What `indices` holds from `count` on is not specified.
 ///
 /// Returns `ARROW2_RANGE` exactly where the bits are not inside, or `at` is above `length`.
 #[unsafe(no_mangle)]
@@ -49,7 +49,7 @@ pub extern "C" fn arrow2_set_indices(
 fn write_indices(bits: Bits<'_>, end: usize, at: usize, indices: &mut [usize]) -> (usize, usize)
     requires inside { HasBits bits end }
     requires within { at ≤ end }
-    ensures { WritesSetIndices (first_bits bits.entry end) result.0 indices.old indices.new
+    ensures { WritesSetIndices (first_bits bits.entry end) result.0 (length indices.old) indices.new
         at result.1 end }
 {
     let Bits(bytes, offset) = bits;

@@ -3,7 +3,7 @@ ghost use Rattle.std.specs.Prelude.{◌≡◌, ◌≢◌, ◌+◌, ◌-◌, ◌<
 ghost use Rattle.arrow2_offset.specs.Offsets.{AreOffsets, AreOffsetsUpTo, last_offset, lengths_of, offsets_list};
 ghost use Rattle.arrow2_model.specs.Parts.{part};
 ghost use Rattle.arrow2_offset.specs.Refusals.{first_broken};
-ghost use Rattle.arrow2_ffi.specs.OffsetWrites.{WritesFromOffsets, WritesRebased};
+ghost use Rattle.arrow2_ffi.specs.OffsetWrites.{RebasesTo, WritesFromOffsets};
 ghost use Rattle.arrow2_ffi.specs.Rules.{rule_code, ReportsBrokenRule};
 
 use crate::codes::{
@@ -36,10 +36,10 @@ pub(crate) fn check<O: Offset>(offsets: &[O]) -> u32
     refusal(offsets).unwrap_or(ARROW2_OK)
 }
 
-/// Writes the length of each slot: how far its offset is from the next one.
+/// Writes the length of each slot: the next offset minus its own.
 pub(crate) fn lengths<O: Offset>(offsets: &[O], lengths: &mut [usize]) -> u32
-    ensures { WritesFromOffsets (map O.value offsets.now) result
-        (length offsets.now ≢ length lengths.old + 1)
+    ensures { WritesFromOffsets result (map O.value offsets.now)
+        (length offsets.now ≡ length lengths.old + 1)
         (lengths.new ≡ lengths_of (map O.value offsets.now)) (lengths.new ≡ lengths.old) }
 {
     match refusal(offsets) {
@@ -50,9 +50,9 @@ pub(crate) fn lengths<O: Offset>(offsets: &[O], lengths: &mut [usize]) -> u32
 
 /// Writes the length of each slot, and tests no offset. Requires that the numbers are offsets.
 pub(crate) fn lengths_unchecked<O: Offset>(offsets: &[O], lengths: &mut [usize]) -> u32
-    requires are { AreOffsets (map O.value offsets.now) }
-    ensures { WritesFromOffsets (map O.value offsets.now) result
-        (length offsets.now ≢ length lengths.old + 1)
+    requires valid { AreOffsets (map O.value offsets.now) }
+    ensures { WritesFromOffsets result (map O.value offsets.now)
+        (length offsets.now ≡ length lengths.old + 1)
         (lengths.new ≡ lengths_of (map O.value offsets.now)) (lengths.new ≡ lengths.old) }
 {
     if offsets.len() - 1 != lengths.len() {
@@ -84,7 +84,7 @@ pub(crate) fn sums<O: Offset>(start: usize, lengths: &[usize], offsets: &mut [O]
 
 /// Sets `out[i]` to `offsets[from + i] - offsets[from]`, for each item `i` of `out`.
 pub(crate) fn rebase<O: Offset>(offsets: &[O], from: usize, out: &mut [O]) -> u32
-    ensures { WritesRebased (map O.value offsets.now) from (length out.old) result
+    ensures { RebasesTo result (map O.value offsets.now) from (length out.old)
         (map O.value out.new) (out.new ≡ out.old) }
 {
     match refusal(offsets) {
@@ -96,8 +96,8 @@ pub(crate) fn rebase<O: Offset>(offsets: &[O], from: usize, out: &mut [O]) -> u3
 /// Sets `out[i]` to `offsets[from + i] - offsets[from]`, for each item `i` of `out`, and tests no offset. Requires that
 /// the numbers are offsets.
 pub(crate) fn rebase_unchecked<O: Offset>(offsets: &[O], from: usize, out: &mut [O]) -> u32
-    requires are { AreOffsets (map O.value offsets.now) }
-    ensures { WritesRebased (map O.value offsets.now) from (length out.old) result
+    requires valid { AreOffsets (map O.value offsets.now) }
+    ensures { RebasesTo result (map O.value offsets.now) from (length out.old)
         (map O.value out.new) (out.new ≡ out.old) }
 {
     if out.is_empty() {

@@ -1,5 +1,5 @@
 //! Offsets of 32 bits as offsets of 64 bits, and back.
-ghost use Rattle.std.specs.Prelude.{◌≡◌, ◌≢◌, ◌<◌, length};
+ghost use Rattle.std.specs.Prelude.{◌≡◌, ◌≤◌, length};
 ghost use Rattle.arrow2_offset.specs.Offsets.{AreOffsets, last_of};
 ghost use Rattle.arrow2_ffi.specs.OffsetWrites.{WritesFromOffsets, WritesFromOffsetsOr};
 
@@ -14,7 +14,7 @@ use arrow2_offset::widths::{write_narrow, write_wide};
 /// `out` has more or fewer items than `offsets`.
 #[unsafe(no_mangle)]
 pub extern "C" fn arrow2_offsets_widen(offsets: &[i32], out: &mut [i64]) -> u32
-    ensures { WritesFromOffsets offsets.now result (length out.old ≢ length offsets.now)
+    ensures { WritesFromOffsets result offsets.now (length out.old ≡ length offsets.now)
         (out.new ≡ offsets.now) (out.new ≡ out.old) }
 {
     if let Some(code) = refusal(offsets) {
@@ -34,8 +34,8 @@ pub extern "C" fn arrow2_offsets_widen(offsets: &[i32], out: &mut [i64]) -> u32
 /// 2147483647.
 #[unsafe(no_mangle)]
 pub extern "C" fn arrow2_offsets_narrow(offsets: &[i64], out: &mut [i32]) -> u32
-    ensures { WritesFromOffsetsOr ARROW2_OVERFLOW offsets.now result
-        (length out.old ≢ length offsets.now) (2147483647 < last_of offsets.now)
+    ensures { WritesFromOffsetsOr result offsets.now (length out.old ≡ length offsets.now)
+        (last_of offsets.now ≤ 2147483647) ARROW2_OVERFLOW
         (out.new ≡ offsets.now) (out.new ≡ out.old) }
 {
     if let Some(code) = refusal(offsets) {

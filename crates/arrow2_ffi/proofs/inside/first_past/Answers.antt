@@ -8,7 +8,7 @@ use Rattle.arrow2_offset.proofs.OffsetLists.{get_or-last}
 use Rattle.arrow2_ffi.proofs.inside.first_past.Goals as goal
 
 pub to_usize-requires : goal.to_usize-requires
-to_usize-requires g c = value_natural g.O.Number.value c.args.offsets.now c.index-offsets-index.result c.loop-index.index c.requires.are (omega (arith, c.loop-index-test.true)) c.index-offsets-index.is
+to_usize-requires g c = value_natural g.O.Number.value c.args.offsets.now c.index-offsets-index.result c.loop-index.index c.requires.valid (omega (arith, c.loop-index-test.true)) c.index-offsets-index.is
 
 pub loop-index-preserved : goal.loop-index-preserved
 loop-index-preserved g c =
@@ -25,8 +25,8 @@ returns g c =
     let v = g.O.Number.value in
     let items = c.args.offsets.now in
     let m = length-map items v in
-    let some = c.requires.are.some in
-    let last : slice_index_or (map v items) (length items - 1) (pos 0) ≡ pos (last_of (map v items)) = get_or-last (map v items) (length items) c.requires.are (sym m) in
+    let some = c.requires.valid.some in
+    let last : slice_index_or (map v items) (length items - 1) (pos 0) ≡ pos (last_of (map v items)) = get_or-last (map v items) (length items) c.requires.valid (sym m) in
     record {
       inside = omega (arith, m, some);
       before = λ j h. c.loop-index.invariant j (omega (arith, h, c.loop-index-test.false));

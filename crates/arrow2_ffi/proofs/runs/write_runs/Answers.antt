@@ -8,10 +8,10 @@ use Rattle.arrow2_ffi.proofs.runs.write_runs.Goals as goal
 pub returns-then-start-end : goal.returns-then-start-end
 returns-then-start-end c = record {
   items = run_last c.args.bits.0.now c.args.bits.1 c.args.end c.args.at c.loop-k.cursor.index c.find_bit-cursor.result.index (zip (take c.loop-k.k c.loop-k.starts) (take c.loop-k.k c.loop-k.lengths)) c.requires.inside c.loop-k.invariant.done c.find_bit-cursor.ensures.first (omega (arith, c.if-start-end.true));
-  most = omega (arith, c.loop-k-test.true, c.loop-k.invariant.starts);
-  last = λ _. (none_at_end c.args.bits.0.now c.args.bits.1 c.args.end c.args.end c.requires.inside refl, refl);
-  forth = c.requires.within;
-  goes_on = omega arith;
+  within_capacity = omega (arith, c.loop-k-test.true, c.loop-k.invariant.starts);
+  ends = λ _. (none_at_end c.args.bits.0.now c.args.bits.1 c.args.end c.args.end c.requires.inside refl, refl);
+  not_back = c.requires.within;
+  within = omega arith;
 }
 
 pub loop-k-preserved : goal.loop-k-preserved

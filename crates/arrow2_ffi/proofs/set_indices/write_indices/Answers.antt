@@ -64,10 +64,10 @@ returns-in-Some c =
     let from = from_index items c.args.at next (take count indices) following (omega (arith, size, c.requires.within)) (sym all) in
     record {
       items = ap (λ (ps : List ℕ). take count indices ++ ps) from.2 ∙ all;
-      most = omega (arith, stated.0, kept.many);
-      last = λ h. let no : ⊥ = omega (arith, h, stated.0, kept.many) in absurd no;
-      forth = from.0;
-      goes_on = omega (arith, from.1, size);
+      within_capacity = omega (arith, stated.0, kept.many);
+      ends = λ h. let no : ⊥ = omega (arith, h, stated.0, kept.many) in absurd no;
+      not_back = from.0;
+      within = omega (arith, from.1, size);
     }
 
 pub returns : goal.returns
@@ -78,8 +78,8 @@ returns c =
     let ended : c.words.base ≡ c.args.end = omega (arith, kept.inside, c.words-test.false) in
     record {
       items = ap (λ b. take c.words.count c.words.indices ++ ones_from items b) (sym ended) ∙ kept.done;
-      most = omega (arith, kept.few, kept.many);
-      last = λ _. (none_from items c.args.end size, refl);
-      forth = c.requires.within;
-      goes_on = omega arith;
+      within_capacity = omega (arith, kept.few, kept.many);
+      ends = λ _. (none_from items c.args.end size, refl);
+      not_back = c.requires.within;
+      within = omega arith;
     }

@@ -4,11 +4,11 @@ use Rattle.arrow2_ffi.proofs.OffsetCodes.{ill_fitting, written}
 use Rattle.arrow2_ffi.proofs.offsets.calls.lengths_unchecked.Goals as goal
 
 pub returns-then-offsets-lengths : goal.returns-then-offsets-lengths
-returns-then-offsets-lengths g c = ill_fitting (map g.O.Number.value c.args.offsets.now) c.requires.are (λ e. c.if-offsets-lengths.true (omega (arith, e))) refl
+returns-then-offsets-lengths g c = ill_fitting (map g.O.Number.value c.args.offsets.now) c.requires.valid (λ e. c.if-offsets-lengths.true (omega (arith, e))) refl
 
 pub returns : goal.returns
 returns g c =
-    let are = c.requires.are in
-    let some = are.some in
+    let valid = c.requires.valid in
+    let some = valid.some in
     let m = length-map c.args.offsets.now g.O.Number.value in
-    written (map g.O.Number.value c.args.offsets.now) are (λ other. other (omega (arith, m, some, c.if-offsets-lengths.false))) c.write_lengths.ensures
+    written (map g.O.Number.value c.args.offsets.now) valid (omega (arith, m, some, c.if-offsets-lengths.false)) c.write_lengths.ensures

@@ -16,10 +16,10 @@ pub returns-then-last : goal.returns-then-last
 returns-then-last c =
     let are = rw (map-id c.args.offsets.now) at c.in_default.ensures.none in
     let last = rw (map-id c.args.offsets.now) at c.last.ensures.value in
-    beyond_or ARROW2_OVERFLOW c.args.offsets.now (λ e. omega (arith, e)) (λ e. omega (arith, e)) are.0 (λ other. other c.if-out-offsets.false) (omega (arith, last, c.if-last.true)) refl
+    beyond_or ARROW2_OVERFLOW c.args.offsets.now (λ e. omega (arith, e)) (λ e. omega (arith, e)) are.0 c.if-out-offsets.false (λ small. omega (arith, small, last, c.if-last.true)) refl
 
 pub returns : goal.returns
 returns c =
     let are = rw (map-id c.args.offsets.now) at c.in_default.ensures.none in
     let last = rw (map-id c.args.offsets.now) at c.last.ensures.value in
-    written_or ARROW2_OVERFLOW c.args.offsets.now (λ e. omega (arith, e)) are.0 (λ other. other c.if-out-offsets.false) (λ over. omega (arith, over, last, c.if-last.false)) c.write_narrow.ensures
+    written_or ARROW2_OVERFLOW c.args.offsets.now (λ e. omega (arith, e)) are.0 c.if-out-offsets.false (omega (arith, last, c.if-last.false)) c.write_narrow.ensures

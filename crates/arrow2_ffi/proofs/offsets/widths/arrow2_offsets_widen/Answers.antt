@@ -14,4 +14,4 @@ returns-then-out-offsets c =
 pub returns : goal.returns
 returns c =
     let are = rw (map-id c.args.offsets.now) at c.in_default.ensures.none in
-    written c.args.offsets.now are.0 (λ other. other c.if-out-offsets.false) c.write_wide.ensures
+    written c.args.offsets.now are.0 c.if-out-offsets.false c.write_wide.ensures
