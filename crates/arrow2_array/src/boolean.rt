@@ -70,8 +70,8 @@ impl BooleanArray {
     ///
     /// # Errors
     ///
-    /// `InvalidArgumentError` exactly if the lengths differ, or `OutOfMemory` if the message cannot be allocated. There
-    /// is no other error. After an error both are dropped.
+    /// If the lengths differ, `InvalidArgumentError`, or `OutOfMemory` where its message cannot be allocated. There is
+    /// no other error. After an error both bitmaps are dropped.
     pub fn try_new(values: Bitmap, validity: Option<Bitmap>) -> Result<BooleanArray>
         ensures ok { IfOk result (λ a. a ≡ record {
           values = values;
@@ -117,8 +117,8 @@ impl BooleanArray {
         BooleanArray { values, validity }
     }
 
-    /// Returns the array of these items. It has a validity bitmap exactly where an item is null. The values under a
-    /// null are unspecified.
+    /// Returns the array of these items. It has a validity bitmap exactly if an item is null. The values under nulls
+    /// are unspecified.
     ///
     /// Stands for arrow2's `From` of a slice.
     ///
@@ -191,7 +191,7 @@ impl BooleanArray {
         !self.is_valid(index)
     }
 
-    /// Returns the values. Values under nulls stay as they are.
+    /// Returns the values, with those under nulls as they are stored.
     pub fn values(&self) -> &Bitmap
         ensures value { result.now ≡ self.now.values }
         ensures items { zipped (items_of result.now) (map is_some (boolean_items self.now))
@@ -222,7 +222,7 @@ impl BooleanArray {
         &self.validity
     }
 
-    /// Returns the number of nulls. The validity stores it, so the call reads no bits.
+    /// Returns the number of nulls. A validity bitmap stores it, so the call reads no bits.
     pub fn null_count(&self) -> usize
         ensures { result ≡ nulls (boolean_items self.now) }
     {
@@ -289,9 +289,9 @@ impl BooleanArray {
         BooleanIter::new(self)
     }
 
-    /// Returns, item by item, whether both are true, by Kleene's logic: false where one of the two is false, else null
-    /// where one is null, else true. The values of the result are `and` of the values of both arrays, also under nulls.
-    /// Requires that both have equal lengths.
+    /// Returns, item by item, whether both items are true, by Kleene's logic: false if either item is false, else null
+    /// if either is null, else true. The values of the result are `and` of the values of both arrays, also under nulls.
+    /// Requires that both arrays have equal lengths.
     ///
     /// In arrow2 it is `compute::boolean_kleene::and`, which refuses unequal lengths.
     ///
@@ -321,9 +321,9 @@ impl BooleanArray {
         self.by_operator(Operator::And, other)
     }
 
-    /// Returns, item by item, whether one or both are true, by Kleene's logic: true where one of the two is true, else
-    /// null where one is null, else false. The values of the result are `or` of the values of both arrays, also under
-    /// nulls. Requires that both have equal lengths.
+    /// Returns, item by item, whether at least one item is true, by Kleene's logic: true if either item is true, else
+    /// null if either is null, else false. The values of the result are `or` of the values of both arrays, also under
+    /// nulls. Requires that both arrays have equal lengths.
     ///
     /// In arrow2 it is `compute::boolean_kleene::or`, which refuses unequal lengths.
     ///
@@ -399,7 +399,8 @@ impl<'a> IntoIterator for &'a BooleanArray {
     }
 }
 
-/// Shares the bytes. Does not allocate: in the code it fails only if a reference count would overflow.
+/// Shares the bytes. Does not allocate: in the code it fails only if a reference count would overflow. No clause states
+/// that.
 impl Clone for BooleanArray {
     ghost is_clone = { λ a copy. copy ≡ a };
 

@@ -11,36 +11,37 @@ use arrow2_tables::bitmap_ops::{quaternary_table, ternary_table};
 use arrow2_types::{Error, Result};
 use arrow2_validity::Validity;
 
-/// The truth table of `and` on two values: bit `left + 2 * right`.
+/// The truth table of `and` on two values: bit `left + 2 * right` is its result.
 pub const AND_VALUES: u8 = 0b1000;
 
-/// The truth table of `or` on two values, by the same bit.
+/// The truth table of `or` on two values: bit `left + 2 * right` is its result.
 pub const OR_VALUES: u8 = 0b1110;
 
-/// The truth table of which results of `and` are known: bit
+/// The truth table of whether the result of `and` is known, that is, not null: bit
 /// `left + 2 * left_validity + 4 * right + 8 * right_validity`.
 ///
-/// From the left, the four groups of bits are for a right item that is true, false, null over true, and null over
-/// false. Within each group, the left item goes through the same four cases.
+/// The literal has four groups of four bits. In the order in which they are written, they are for a right item that is
+/// true, false, a null over a stored true, and a null over a stored false. Within a group, the bits are for the same
+/// four cases of the left item, in the same order.
 pub const AND_KNOWN: u16 = 0b1100_1111_0100_0100;
 
-/// The truth table of which results of `or` are known, by the same bit.
+/// The truth table of whether the result of `or` is known, with the same inputs as [`AND_KNOWN`].
 pub const OR_KNOWN: u16 = 0b1111_1100_1000_1000;
 
-/// The truth table of which results of `and` are known, where one of the two items is not null: bit
-/// `value + 2 * validity + 4 * other`. Here `other` is the value of the item that is not null, and `value` and
-/// `validity` are those of the other item.
+/// The truth table of whether the result of `and` is known, where one of the two items is not null: bit
+/// `value + 2 * validity + 4 * other`. Here `other` is the value of the item that is not null. `value` and `validity`
+/// are those of the item that may be null.
 pub const AND_KNOWN_PAIRED: u8 = 0b1100_1111;
 
-/// The truth table of which results of `or` are known in that case, by the same bit.
+/// The truth table of whether the result of `or` is known in that case, with the same inputs as [`AND_KNOWN_PAIRED`].
 pub const OR_KNOWN_PAIRED: u8 = 0b1111_1100;
 
 /// An operator of Kleene's logic.
 #[derive(Clone, Copy)]
 pub(crate) enum Operator {
-    /// Whether both are true.
+    /// Whether both items are true.
     And,
-    /// Whether one or both are true.
+    /// Whether at least one item is true.
     Or,
 }
 

@@ -18,8 +18,8 @@ use std::marker::Model;
 /// An array of booleans that grows.
 ///
 /// Contracts see its items and its capacity. A call that appends has one clause, the record `AppendsBooleans` of
-/// `specs/Growth.antt`: the items after `Ok` and after an error, when each error comes, and that the call succeeds
-/// within the capacity.
+/// `specs/Growth.antt`: the items after `Ok` and after an error, exactly when `Overflow` comes, that `OutOfMemory` is
+/// the only other error, and that the call succeeds within the capacity.
 ///
 /// Differs from arrow2: the validity is always stored, and [`MutableBooleanArray::freeze`] leaves it out where no item
 /// is null. Before `freeze`, only [`MutableBooleanArray::pop`] returns an item, and no call sets one.
@@ -161,9 +161,8 @@ impl MutableBooleanArray {
         Ok(())
     }
 
-    /// Appends the `len` items of another array from item `start` on, whatever values are under its nulls. Requires
-    /// that `start + len` is at most the other array's length. Within the capacity it does not allocate. In arrow2 it
-    /// is `GrowableBoolean::extend`.
+    /// Appends the `len` items of another array from item `start` on. Requires that `start + len` is at most the other
+    /// array's length. Within the capacity it does not allocate. In arrow2 it is `GrowableBoolean::extend`.
     ///
     /// # Errors
     ///
@@ -200,8 +199,8 @@ impl MutableBooleanArray {
         Some(valid.then_some(value))
     }
 
-    /// Returns the array of the items, over the same bytes. It has a validity bitmap exactly where an item is null. The
-    /// values under a null are unspecified.
+    /// Returns the array of the items. It has a validity bitmap exactly if an item is null. The values under nulls are
+    /// unspecified.
     ///
     /// # Errors
     ///

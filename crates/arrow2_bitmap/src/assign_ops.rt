@@ -18,6 +18,9 @@ use std::ops::{BitAnd, BitAndAssign, BitOr, BitOrAssign, BitXor, BitXorAssign, N
 /// bits that `op` sets in the padding are cleared. Does not allocate. Requires that the `requires` of `op` holds for
 /// any word, not only for those of the bitmap.
 ///
+/// The clauses state the items if the contract of `op` fixes its result for every word, as a function on words or by
+/// a truth table. Otherwise no clause states which items result, only how many.
+///
 /// Differs from arrow2: padding bits don't reach `op`, and are false afterwards.
 pub fn unary_assign<T: BitChunk, F: Fn(T) -> T>(bitmap: &mut MutableBitmap, op: F)
     requires callable { F.IsAlwaysCallable op }
@@ -37,6 +40,9 @@ pub fn unary_assign<T: BitChunk, F: Fn(T) -> T>(bitmap: &mut MutableBitmap, op: 
 /// Replaces each word of type `T` of `lhs` by the result of `op` for it and the word of `rhs` at the same index. The
 /// last words are padded with false, and bits that `op` sets in the padding are cleared. Does not allocate. Requires
 /// equal lengths, and that the `requires` of `op` holds for any two words, not only for those of the bitmaps.
+///
+/// The clauses state the items if the contract of `op` fixes its result for every word, as a function on words or by
+/// a truth table. Otherwise no clause states which items result, only how many.
 ///
 /// Differs from arrow2: padding bits don't reach `op`, and are false afterwards.
 pub fn binary_assign<T: BitChunk, F: Fn(T, T) -> T>(lhs: &mut MutableBitmap, rhs: &Bitmap, op: F)

@@ -23,6 +23,9 @@ use std::ops::{BitAnd, BitOr, BitXor, Not};
 /// at one index of several lists. Requires that all lists have `len` items, and that the `requires` of `op` holds for
 /// any words, not only for those of these lists.
 ///
+/// The clauses state the items if the contract of `op` fixes its result for every word, as a function on words or by
+/// a truth table. Otherwise no clause states which items result, only how many.
+///
 /// arrow2 has no such call.
 ///
 /// # Errors
@@ -39,15 +42,15 @@ pub fn from_rows<S: WordRows<u64>, F: Fn(S::Row) -> u64>(
     requires alike { S.alike rows }
     requires len { S.len rows ≡ len }
     // If the results of `op` are those of a mathematical function `f` on words: the items are the bits of the results
-    // of `f` for the rows, in their order, cut to `len`.
+    // of `f` for the rows, in their order, cut to `len`. The number of a word of type `u64` is the word: `λ x. x`.
     ensures items { (f : List ℕ → ℕ) → ComputesRows 64 S.words (λ x. x) (F.post op) f →
         IfOk result (λ b. items_of b ≡ joined 64 (λ j. f (S.row_at rows j)) len) }
-    // For any `lists` of booleans whose words are the rows: the items are `kernel 64 f lists`.
+    // For any `lists` of booleans whose words are the rows, too: the items are `kernel 64 f lists`.
     ensures kernel { (f : List ℕ → ℕ) (lists : List (List Bool)) →
         ComputesRows 64 S.words (λ x. x) (F.post op) f →
         AreRowsOf 64 lists (S.row_at rows) len →
         IfOk result (λ b. items_of b ≡ kernel 64 f lists) }
-    // For every truth table `t` by which `op` computes each bit: the items are the outputs of `t` for the lists.
+    // For such lists, and a truth table `t` by which `op` computes each bit: the items are the outputs of `t` for them.
     ensures table { (t : ℕ) (lists : List (List Bool)) →
         IsBitwiseOnRows 64 S.words (λ x. x) (F.post op) t → AreRowsOf 64 lists (S.row_at rows) len →
         IfOk result (λ b. items_of b ≡ each t lists) }
@@ -61,11 +64,15 @@ pub fn from_rows<S: WordRows<u64>, F: Fn(S::Row) -> u64>(
     Bitmap::from_u8_vec(bytes, len)
 }
 
-/// Returns the bitmap of the results of `op` for each word of 64 items. The last word is padded with false. Requires
-/// that the `requires` of `op` holds for any word, not only for those of the bitmap.
+/// Reads the items as words of 64 bits, the last one padded with false, applies `op` to each word, and returns the bits
+/// of the results, cut to the same length. Requires that the `requires` of `op` holds for any word, not only for those
+/// of the bitmap.
 ///
-/// Differs from arrow2: `op` sees false in place of the padding bits, and is not called for words that hold no item.
-/// arrow2's `unary` returns no `Result`.
+/// The clauses state the items if the contract of `op` fixes its result for every word, as a function on words or by
+/// a truth table. Otherwise no clause states which items result, only how many.
+///
+/// Differs from arrow2: `op` sees false in place of the padding bits. In the code it is not called for words that hold
+/// no item, which no clause states. arrow2's `unary` returns no `Result`.
 ///
 /// # Errors
 ///
@@ -94,12 +101,15 @@ pub fn unary<F: Fn(u64) -> u64>(lhs: &Bitmap, op: F) -> Result<Bitmap>
     }
 }
 
-/// Returns the bitmap of the results of `op` for the two words of 64 items at each index. The last words are padded
-/// with false. Requires equal lengths, and that the `requires` of `op` holds for any two words, not only for those of
-/// the bitmaps.
+/// Reads the items of both as words of 64 bits, the last ones padded with false, applies `op` to the two words at each
+/// index, and returns the bits of the results, cut to the same length. Requires equal lengths, and that the `requires`
+/// of `op` holds for any two words, not only for those of the bitmaps.
 ///
-/// Differs from arrow2: `op` sees false in place of the padding bits, and is not called for words that hold no item.
-/// arrow2's `binary` returns no `Result`.
+/// The clauses state the items if the contract of `op` fixes its result for every word, as a function on words or by
+/// a truth table. Otherwise no clause states which items result, only how many.
+///
+/// Differs from arrow2: `op` sees false in place of the padding bits. In the code it is not called for words that hold
+/// no item, which no clause states. arrow2's `binary` returns no `Result`.
 ///
 /// # Errors
 ///
@@ -194,6 +204,7 @@ pub fn binary_table(lhs: &Bitmap, rhs: &Bitmap, t: u8) -> Result<Bitmap>
 /// `OutOfMemory` alone.
 pub fn and(lhs: &Bitmap, rhs: &Bitmap) -> Result<Bitmap>
     requires same_length { length (items_of lhs.now) ≡ length (items_of rhs.now) }
+    // Table 8: true only for two true items.
     ensures items { IfOk result (λ b. items_of b
         ≡ each 8 (items_of lhs.now ∷ items_of rhs.now ∷ [])) }
     ensures len { IfOk result (λ b. length (items_of b) ≡ length (items_of lhs.now)) }
@@ -215,6 +226,7 @@ pub fn and(lhs: &Bitmap, rhs: &Bitmap) -> Result<Bitmap>
 /// `OutOfMemory` alone.
 pub fn or(lhs: &Bitmap, rhs: &Bitmap) -> Result<Bitmap>
     requires same_length { length (items_of lhs.now) ≡ length (items_of rhs.now) }
+    // Table 14: false only for two false items.
     ensures items { IfOk result (λ b. items_of b
         ≡ each 14 (items_of lhs.now ∷ items_of rhs.now ∷ [])) }
     ensures len { IfOk result (λ b. length (items_of b) ≡ length (items_of lhs.now)) }
@@ -236,6 +248,7 @@ pub fn or(lhs: &Bitmap, rhs: &Bitmap) -> Result<Bitmap>
 /// `OutOfMemory` alone.
 pub fn xor(lhs: &Bitmap, rhs: &Bitmap) -> Result<Bitmap>
     requires same_length { length (items_of lhs.now) ≡ length (items_of rhs.now) }
+    // Table 6: true where the two items differ.
     ensures items { IfOk result (λ b. items_of b
         ≡ each 6 (items_of lhs.now ∷ items_of rhs.now ∷ [])) }
     ensures len { IfOk result (λ b. length (items_of b) ≡ length (items_of lhs.now)) }
@@ -296,6 +309,7 @@ impl<'a, 'b> BitXor<&'b Bitmap> for &'a Bitmap {
 impl<'a> Not for &'a Bitmap {
     type Output = Result<Bitmap>;
 
+    // Table 1: true for a false item.
     ghost not_gives = { λ a r. MatchResult r (λ m. IsPacked m × (items_of m
         ≡ each 1 (items_of a.now ∷ []))) (λ e. e ≡ OutOfMemory) };
 

@@ -208,7 +208,7 @@ impl Bitmap {
         Bitmap::try_from(MutableBitmap::from_bools(alloc, items)?)
     }
 
-    /// Returns the bitmap of the items of an iterator, in its order. Requires that the iterator ends.
+    /// Returns the bitmap of the items of an iterator, in its order. Requires that the iterator may be called and ends.
     ///
     /// Stands for arrow2's `FromIterator`, which allocates by the size hint. Here the size hint is not read.
     ///
@@ -339,7 +339,7 @@ impl Bitmap {
     /// arrow2 has no such call, since its calls take no allocator.
     pub fn allocator(&self) -> Global
         // There is one `Global` only.
-        ensures { (only : Global) → result ≡ only }
+        ensures { (other : Global) → result ≡ other }
     {
         self.bytes.allocator()
     }
@@ -402,9 +402,10 @@ impl Bitmap {
     }
 
     /// Returns an iterator over the items by words of `T`, from the first item on. In the contract, `spill` is the word
-    /// that `remainder` returns. Its lowest bits are the items after the last full word. The bits above are the bits
-    /// stored next: up to the end of the byte of the last item if there is a full word, else up to the end of the
-    /// storage. Bits that do not fit in the word are left out. All other bits of the word are 0.
+    /// that `remainder` returns. Its lowest bits are the items after the last full word. Above them come the bits that
+    /// are stored after the last item. If the bitmap has a full word, they go up to the end of the last item's byte;
+    /// otherwise, up to the end of the stored bytes. Bits that the word has no room for are left out. All other bits of
+    /// the word are 0.
     pub fn chunks<T: BitChunk>(&self) -> BitChunks<'_, T>
         ensures items { result.items ≡ items_of self.now }
         ensures fits { length (items_of self.now) < 2 ^ 64 }
@@ -414,7 +415,7 @@ impl Bitmap {
         BitChunks::new(self.bytes.as_slice(), self.offset, self.length)
     }
 
-    /// Returns the number of unset bits. It is stored, so the call reads no bits.
+    /// Returns the number of unset bits. It is stored, so the code reads no bits, which no clause states.
     pub fn unset_bits(&self) -> usize
         ensures { result ≡ falses (items_of self.now) }
     {
@@ -454,9 +455,9 @@ impl Bitmap {
         self.slice_counted(offset, len, &mut Reads::new());
     }
 
-    /// Slices as [`Bitmap::slice`] does, and adds to `reads` the number of bytes in which it counts false items: at
-    /// most `L / 16 + 4`, where `L` is the number of items before the call. It is not proved that the call reads no
-    /// further byte.
+    /// Slices as [`Bitmap::slice`] does. To count the false items of the slice it reads some bytes, and adds their
+    /// number to `reads`: at most `L / 16 + 4`, where `L` is the number of items before the call. It is not proved that
+    /// the call reads no further byte.
     ///
     /// arrow2 counts no reads.
     pub fn slice_counted(&mut self, offset: usize, len: usize, reads: &mut Reads)
@@ -548,8 +549,8 @@ impl Bitmap {
         }
     }
 
-    /// Returns a bitmap that can be changed, with the same items: over the same bytes if [`Bitmap::into_mut`] returns
-    /// `Right`, otherwise over a copy. arrow2 returns no `Result`.
+    /// Returns a bitmap that can be changed, with the same items. In the code it has the same bytes if
+    /// [`Bitmap::into_mut`] returns `Right`, otherwise a copy; no clause states that. arrow2 returns no `Result`.
     ///
     /// # Errors
     ///
@@ -620,6 +621,7 @@ impl<'a> IntoIterator for &'a Bitmap {
 impl PartialEq for Bitmap {
     ghost eq = { on items_of (pointwise beq) };
 
+    // The proof that `eq` is symmetric and transitive.
     ghost laws = { partial_equiv_from_equiv (on_equiv items_of (lists_equiv bool_eq_equiv)) };
 
     fn eq(&self, other: &Bitmap) -> bool
@@ -638,6 +640,7 @@ impl PartialEq for Bitmap {
 }
 
 impl Eq for Bitmap {
+    // The proof that `eq` is reflexive, symmetric and transitive.
     ghost laws = { on_equiv items_of (lists_equiv bool_eq_equiv) };
 }
 
@@ -676,7 +679,9 @@ impl fmt::Debug for Bitmap {
     ghost debug_output = { λ b. Some (shown
         (part b.bytes (b.offset / 8) ((b.offset % 8 + b.len + 7) / 8)) (b.offset % 8) b.len) };
 
-    /// Writes the same whatever the formatter's options are.
+    /// If it returns `Ok`, exactly this text was written, whatever width, precision or flags the formatter has. The
+    /// clause states that only for a formatter that does not indent. One indents only a part of a `{:#?}`, such as a
+    /// field.
     fn fmt<W: fmt::Write>(&self, f: &mut fmt::Formatter<W>) -> fmt::Result
         ensures styled { let b = self.now in WritesStyledOnOk W.write_str_gives f.old result (shown
             (part b.bytes (b.offset / 8) ((b.offset % 8 + b.len + 7) / 8)) (b.offset % 8) b.len) f.new }

@@ -10,7 +10,7 @@ use std::marker::Model;
 
 /// An iterator over the items of a [`Bitmap`], from both ends: contracts see the list of the items still to come.
 ///
-/// Differs from arrow2: `nth` is the standard library's, over `next`.
+/// Differs from arrow2: it has no `nth` of its own. The standard library's `nth` calls `next` repeatedly.
 #[derive(Debug, Drop)]
 pub struct IntoIter {
     values: Bitmap,
@@ -66,6 +66,7 @@ impl Iterator for IntoIter {
     /// Returns the number of items still to come as both bounds.
     fn size_hint(&self) -> (usize, Option<usize>)
         ensures exact { (result.0 ≡ length self.now) × (result.1 ≡ Some (length self.now)) }
+        // The trait asks for these two, which follow.
         ensures lower { IsWithinCount result.0 (item_count (λ s. s) self.now) }
         ensures upper { IfSome result.1 (UpTo (item_count (λ s. s) self.now)) }
     {
@@ -88,7 +89,7 @@ impl DoubleEndedIterator for IntoIter {
 }
 
 /// Returns an iterator with the same items still to come, over the same bytes. Does not allocate: in the code it fails
-/// only if the reference count would overflow.
+/// only if the reference count would overflow. No clause states that.
 impl Clone for IntoIter {
     ghost is_clone = { λ i copy. copy ≡ i };
 

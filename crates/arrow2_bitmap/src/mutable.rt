@@ -147,7 +147,7 @@ impl MutableBitmap {
         Ok(MutableBitmap::from_vec(ones, len))
     }
 
-    /// Returns the bitmap of the items of an iterator, in its order. Requires that the iterator ends.
+    /// Returns the bitmap of the items of an iterator, in its order. Requires that the iterator may be called and ends.
     ///
     /// Stands for arrow2's `FromIterator`, which allocates by the size hint. Here the size hint is not read.
     ///
@@ -197,8 +197,8 @@ impl MutableBitmap {
         Ok(())
     }
 
-    /// Appends `value` `additional` times. Within the capacity it does not allocate, else it allocates once, before it
-    /// writes. arrow2 returns no `Result`.
+    /// Appends `additional` items, each of them `value`. Within the capacity it does not allocate, else it allocates
+    /// once, before it writes. arrow2 returns no `Result`.
     ///
     /// # Errors
     ///
@@ -381,7 +381,7 @@ impl MutableBitmap {
     /// arrow2 has no such call, since its calls take no allocator.
     pub fn allocator(&self) -> Global
         // There is one `Global` only.
-        ensures { (only : Global) → result ≡ only }
+        ensures { (other : Global) → result ≡ other }
     {
         self.bits.allocator()
     }
@@ -460,6 +460,7 @@ impl<'a> IntoIterator for &'a MutableBitmap {
 impl PartialEq for MutableBitmap {
     ghost eq = { on (λ m. m.items) (pointwise beq) };
 
+    // The proof that `eq` is symmetric and transitive.
     ghost laws = { partial_equiv_from_equiv (on_equiv (λ m. m.items) (lists_equiv bool_eq_equiv)) };
 
     fn eq(&self, other: &MutableBitmap) -> bool
@@ -471,6 +472,7 @@ impl PartialEq for MutableBitmap {
 }
 
 impl Eq for MutableBitmap {
+    // The proof that `eq` is reflexive, symmetric and transitive.
     ghost laws = { on_equiv (λ m. m.items) (lists_equiv bool_eq_equiv) };
 }
 
@@ -485,7 +487,9 @@ fn filled(alloc: Global, byte: u8, count: usize) -> std::result::Result<Vec<u8>,
 impl fmt::Debug for MutableBitmap {
     ghost debug_output = { λ m. Some (shown (canonical_bytes m.items) 0 (length m.items)) };
 
-    /// Writes the same whatever the formatter's options are.
+    /// If it returns `Ok`, exactly this text was written, whatever width, precision or flags the formatter has. The
+    /// clause states that only for a formatter that does not indent. One indents only a part of a `{:#?}`, such as a
+    /// field.
     fn fmt<W: fmt::Write>(&self, f: &mut fmt::Formatter<W>) -> fmt::Result
         ensures styled { WritesStyledOnOk W.write_str_gives f.old result
             (shown (canonical_bytes self.now.items) 0 (length self.now.items)) f.new }

@@ -18,10 +18,8 @@ pub trait BitChunkIterExact<B: BitChunk>: Iterator<Item = B> {
     // The items still to come, including those of the remainder, and the word of the remainder.
     ghost cursor: { Self → WordCursor };
 
-    /// Returns the word that holds the remainder in its lowest bits. The bits above the remainder are not masked. They
-    /// are the padding bits of the byte that holds the last item; where a [`BitChunks`] was made of fewer bits than a
-    /// word has, they are whatever bits are stored after the remainder. So mask the word to
-    /// [`BitChunkIterExact::remainder_len`] bits.
+    /// Returns the word that holds the remainder in its lowest bits. The bits above the remainder are not masked: they
+    /// may be bits that are stored after the last item. So mask the word to [`BitChunkIterExact::remainder_len`] bits.
     fn remainder(&self) -> B
         ensures spill { B.number result ≡ (cursor self.now).spill }
         ensures rest { take (length (rest B.WIDTH (cursor self.now).items))
@@ -42,7 +40,7 @@ pub trait BitChunkIterExact<B: BitChunk>: Iterator<Item = B> {
         BitChunkIter::new(self.remainder(), self.remainder_len())
     }
 
-    // The next step can be taken, and only the full words are still to come.
+    // The next step can be taken, and the words still to come are finitely many.
     ghost next_law: { (s : Self) → Self.can_next s };
 
     ghost remaining_law: { (s : Self) → IsFinite (Self.remaining s) };
@@ -110,10 +108,10 @@ impl<'a, T: BitChunk> BitChunks<'a, T> {
         self.count
     }
 
-    /// Returns the word that holds the remainder in its lowest bits. The bits above the remainder are not masked. They
-    /// are the padding bits of the byte that holds the last item; where the iterator was made of fewer bits than a word
-    /// has, they are whatever bits are stored after the remainder. So mask the word to [`BitChunks::remainder_len`]
-    /// bits.
+    /// Returns the word that holds the remainder in its lowest bits. The bits above the remainder are not masked: up to
+    /// the end of the byte that holds the last item they are its padding bits, and after it they are false. Where the
+    /// iterator was made of fewer bits than a word has, they are whatever bits are stored after the remainder. So mask
+    /// the word to [`BitChunks::remainder_len`] bits.
     pub fn remainder(&self) -> T
         ensures spill { T.number result ≡ self.now.spill }
         ensures rest { take (length (rest T.WIDTH self.now.items))

@@ -18,7 +18,7 @@ use std::fmt;
 ///
 /// # Errors
 ///
-/// Any error of the formatter's writer.
+/// Any error of the formatter's writer. No clause states that there is no other.
 pub fn fmt<W: fmt::Write>(
     bytes: &[u8],
     offset: usize,

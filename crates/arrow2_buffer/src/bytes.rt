@@ -56,7 +56,7 @@ impl<T> Bytes<T> {
     ///
     /// arrow2 has no such call, since its allocator is not a value.
     pub fn allocator(&self) -> Global
-        ensures { (only : Global) → result ≡ only }
+        ensures { (other : Global) → result ≡ other }
     {
         *self.items.allocator()
     }

@@ -4,5 +4,5 @@ use Rattle.arrow2_offset.specs.Offsets.{GrowingOffsets, start_of, lengths_of}
 
 -- the offsets that the numbers of a vector spell; their capacity in lengths is one less than the capacity of the vector
 -- in numbers
-abbrev pub made_of : List ℤ → ℕ → GrowingOffsets
-made_of xs reserved = record { start = start_of xs; lengths = lengths_of xs; capacity = reserved - 1 }
+abbrev pub growing_offsets_of : List ℤ → ℕ → GrowingOffsets
+growing_offsets_of xs reserved = record { start = start_of xs; lengths = lengths_of xs; capacity = reserved - 1 }

@@ -39,7 +39,7 @@ impl TryFrom<Offsets<i32>> for Offsets<i64> {
 impl TryFrom<Offsets<i64>> for Offsets<i32> {
     type Error = Error;
 
-    ghost try_from_gives = { λ offsets r. MatchResult r (SameOffsets offsets) (λ e.
+    ghost try_from_gives = { λ offsets r. MatchResult r (λ o. SameOffsets offsets o) (λ e.
         (e ≡ Overflow) ⊎ (e ≡ OutOfMemory))
         × (IsErrOf r Overflow ↔ (2147483647 < last_of_growing offsets)) };
 

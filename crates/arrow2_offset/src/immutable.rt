@@ -82,6 +82,7 @@ impl<O: Offset> OffsetsBuffer<O> {
         ensures items { MatchEither result (λ b. b ≡ self) (λ o.
             (map pos (offsets_of o) ≡ buffer_items self) × (o.start ≡ start_of (buffer_items self))
             × (o.lengths ≡ lengths_of (buffer_items self))) }
+        // `Right` has the whole storage: nothing is sliced off.
         ensures whole { MatchEither result (λ _. ⊤) (λ o. map pos (offsets_of o) ≡ self.storage) }
     {
         let OffsetsBuffer { buffer } = self;
@@ -265,14 +266,14 @@ impl<O: Offset> OffsetsBuffer<O> {
 ///
 /// # Errors
 ///
-/// Exactly where the items are not offsets: `OutOfSpec` with the text of the rule that they break, or `OutOfMemory` if
-/// that text cannot be allocated. The buffer is then dropped.
+/// Exactly where the items are not offsets: `OutOfSpec` with the text of the rule that they break, or `OutOfMemory`. In
+/// the code `OutOfMemory` comes only if that text cannot be allocated. The buffer is then dropped.
 impl<O: Offset> TryFrom<Buffer<O>> for OffsetsBuffer<O> {
     type Error = Error;
 
     ghost try_from_gives = { λ buffer r. MatchResult r (λ b. AreOffsets (buffer_items b)
         × (b ≡ numbers_of O.value buffer)) (λ e.
-        (AreOffsets (map O.value (buffer_items buffer)) → ⊥)
+        ¬ AreOffsets (map O.value (buffer_items buffer))
         × IsOutOfSpecOrOutOfMemory e (not_offsets_message (map O.value (buffer_items buffer)))) };
 
     fn try_from(buffer: Buffer<O>) -> Result<Self> {
@@ -291,10 +292,10 @@ impl<O: Offset> TryFrom<Buffer<O>> for OffsetsBuffer<O> {
 impl<O: Offset> TryFrom<Vec<O>> for OffsetsBuffer<O> {
     type Error = Error;
 
-    ghost try_from_gives = { λ items r. MatchResult r (λ b. AreOffsets (buffer_items b)
-        × (b ≡ whole_buffer (map O.value items.items))) (λ e.
-        IsOutOfSpecOrOutOfMemory e (not_offsets_message (map O.value items.items))
-        × (AreOffsets (map O.value items.items) → e ≡ OutOfMemory)) };
+    ghost try_from_gives = { λ vector r. MatchResult r (λ b. AreOffsets (buffer_items b)
+        × (b ≡ whole_buffer (map O.value vector.items))) (λ e.
+        IsOutOfSpecOrOutOfMemory e (not_offsets_message (map O.value vector.items))
+        × (AreOffsets (map O.value vector.items) → e ≡ OutOfMemory)) };
 
     fn try_from(offsets: Vec<O>) -> Result<Self> {
         OffsetsBuffer::try_from(Offsets::try_from(offsets)?)
@@ -337,7 +338,8 @@ impl<O: Offset> Index<usize> for OffsetsBuffer<O> {
     }
 }
 
-/// Shares the storage. Does not allocate: in the code it fails only if the reference count would overflow.
+/// Shares the storage. Does not allocate: in the code it fails only if the reference count would overflow. No clause
+/// states that.
 impl<O: Offset> Clone for OffsetsBuffer<O> {
     ghost is_clone = { λ b copy. copy ≡ b };
 
@@ -352,10 +354,11 @@ impl<O: Offset> Clone for OffsetsBuffer<O> {
 impl<O: Offset> PartialEq for OffsetsBuffer<O> {
     ghost eq = { on buffer_items (pointwise int_eq) };
 
+    // The proof that `eq` is symmetric and transitive.
     ghost laws = { partial_equiv_from_equiv (on_equiv buffer_items (lists_equiv int_eq_equiv)) };
 
     fn eq(&self, other: &Self) -> bool
-        ensures value { result ≡ on buffer_items (pointwise int_eq) self.now other.now }
+        ensures value { result ≡ pointwise int_eq (buffer_items self.now) (buffer_items other.now) }
         ensures lists { IsTrue result ↔ (buffer_items self.now ≡ buffer_items other.now) }
         ensures by_lengths { let xs = buffer_items self.now in let ys = buffer_items other.now in
             result ≡ pointwise nat_eq (offsets_list (start_of xs) (lengths_of xs))

@@ -11,7 +11,7 @@ ghost use Rattle.arrow2_model.specs.Buffers.{buffer_items};
 ghost use Rattle.arrow2_offset.specs.Offsets.{AreOffsets, offset_at, AreOffsetsUpTo, offsets_of, last_of_growing, start_of, lengths_of, slots, SameOffsets, GrownBy};
 ghost use Rattle.arrow2_offset.specs.Iterators.{MayYieldPast};
 ghost use Rattle.arrow2_offset.specs.Growth.{Grows, GrowsUpTo, GrowsByIterator};
-ghost use Rattle.arrow2_offset.specs.NewOffsets.{made_of};
+ghost use Rattle.arrow2_offset.specs.NewOffsets.{growing_offsets_of};
 ghost use Rattle.arrow2_offset.specs.Refusals.{IsOutOfSpecOrOutOfMemory, not_offsets_message};
 ghost use Rattle.arrow2_types.specs.Refusals.{error_of};
 ghost use Rattle.arrow2_types.specs.declared.growth_error.GrowthError.TheVariants as growth_error;
@@ -116,8 +116,8 @@ impl<O: Offset> Offsets<O> {
         Ok(Offsets { offsets })
     }
 
-    /// Returns the offsets from 0 on with the lengths that an iterator yields. Requires that the iterator ends. Its
-    /// size hint is not read.
+    /// Returns the offsets from 0 on with the lengths that an iterator yields. Requires that the iterator may be called
+    /// and ends. Its size hint is not read.
     ///
     /// # Errors
     ///
@@ -139,8 +139,7 @@ impl<O: Offset> Offsets<O> {
         Offsets::try_from_lengths(alloc, iter.into_iter())
     }
 
-    /// Returns the offsets from 0 on with the lengths that an iterator yields. Requires that the iterator ends. Its
-    /// size hint is not read.
+    /// Returns the same as [`Offsets::try_from_iter`], for a value that already is an iterator.
     ///
     /// # Errors
     ///
@@ -238,8 +237,8 @@ impl<O: Offset> Offsets<O> {
         Ok(())
     }
 
-    /// Appends the lengths that an iterator yields. Requires that the iterator ends. Its size hint is not read. Within
-    /// the capacity the call does not allocate.
+    /// Appends the lengths that an iterator yields. Requires that the iterator may be called and ends. Its size hint is
+    /// not read. Within the capacity the call does not allocate.
     ///
     /// Differs from arrow2, which wraps in its sums, and which keeps the appended lengths where it returns `Overflow`.
     ///
@@ -308,7 +307,7 @@ impl<O: Offset> Offsets<O> {
     /// # Errors
     ///
     /// `Overflow` exactly where the number of offsets would pass `usize::MAX`, else `OutOfMemory` alone. After either
-    /// error, the offsets are as they were. In arrow2 the number wraps, and the offsets are cut to the smaller number.
+    /// error, the offsets are as they were. In arrow2 the number wraps, and only the first so many offsets are kept.
     pub fn extend_constant(&mut self, additional: usize) -> Result<()>
         // `Overflow` exactly where the number of offsets would be above 2 ^ 64 - 1.
         ensures { Grows error_of result self.old self.new (replicate additional 0)
@@ -396,7 +395,7 @@ impl<O: Offset> Offsets<O> {
     /// Returns the vector as `Offsets`, without a copy. Requires that the vector holds offsets.
     pub(crate) fn of_vec(offsets: Vec<O>) -> Self
         requires { AreOffsetsUpTo O.MAX (map O.value offsets.items) }
-        ensures { result ≡ made_of (map O.value offsets.items) (vec_capacity offsets) }
+        ensures { result ≡ growing_offsets_of (map O.value offsets.items) (vec_capacity offsets) }
     {
         Offsets { offsets }
     }
@@ -494,15 +493,15 @@ impl<O: Offset> Offsets<O> {
 ///
 /// # Errors
 ///
-/// Exactly where the items are not offsets: `OutOfSpec` with the text of the rule that they break, or `OutOfMemory` if
-/// that text cannot be allocated. The vector is then dropped.
+/// Exactly where the items are not offsets: `OutOfSpec` with the text of the rule that they break, or `OutOfMemory`. In
+/// the code `OutOfMemory` comes only if that text cannot be allocated. The vector is then dropped.
 impl<O: Offset> TryFrom<Vec<O>> for Offsets<O> {
     type Error = Error;
 
-    ghost try_from_gives = { λ items r. MatchResult r (λ o. AreOffsets (map O.value items.items)
-        × (o ≡ made_of (map O.value items.items) (vec_capacity items))) (λ e.
-        (AreOffsets (map O.value items.items) → ⊥)
-        × IsOutOfSpecOrOutOfMemory e (not_offsets_message (map O.value items.items))) };
+    ghost try_from_gives = { λ vector r. MatchResult r (λ o. AreOffsets (map O.value vector.items)
+        × (o ≡ growing_offsets_of (map O.value vector.items) (vec_capacity vector))) (λ e.
+        ¬ AreOffsets (map O.value vector.items)
+        × IsOutOfSpecOrOutOfMemory e (not_offsets_message (map O.value vector.items))) };
 
     fn try_from(offsets: Vec<O>) -> Result<Self> {
         try_check_offsets(*offsets.allocator(), offsets.as_slice())?;
@@ -524,8 +523,8 @@ impl<O: Offset> Clone for Offsets<O> {
     }
 }
 
-/// Returns the offset at an index. Requires that the index is at most the number of slots: there is one offset more than
-/// there are slots.
+/// Returns the offset at an index. Requires that the index is at most the number of slots: there is one offset more
+/// than there are slots.
 impl<O: Offset> Index<usize> for Offsets<O> {
     type Output = O;
 
@@ -543,10 +542,11 @@ impl<O: Offset> Index<usize> for Offsets<O> {
 impl<O: Offset> PartialEq for Offsets<O> {
     ghost eq = { on offsets_of (pointwise nat_eq) };
 
+    // The proof that `eq` is symmetric and transitive.
     ghost laws = { partial_equiv_from_equiv (on_equiv offsets_of (lists_equiv nat_eq_equiv)) };
 
     fn eq(&self, other: &Self) -> bool
-        ensures value { result ≡ on offsets_of (pointwise nat_eq) self.now other.now }
+        ensures value { result ≡ pointwise nat_eq (offsets_of self.now) (offsets_of other.now) }
         ensures lists { IsTrue result ↔ (offsets_of self.now ≡ offsets_of other.now) }
     {
         self.as_slice() == other.as_slice()

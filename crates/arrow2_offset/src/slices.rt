@@ -9,7 +9,7 @@ use arrow2_index::Offset;
 
 /// Returns the last of the offsets. Requires that the numbers are offsets.
 pub fn last<O: Offset>(offsets: &[O]) -> usize
-    requires are { AreOffsets (map O.value offsets.now) }
+    requires valid { AreOffsets (map O.value offsets.now) }
     ensures value { result ≡ last_of (map O.value offsets.now) }
     ensures bound { result ≤ O.MAX }
 {
@@ -19,7 +19,7 @@ pub fn last<O: Offset>(offsets: &[O]) -> usize
 /// Sets `lengths[i]` to `offsets[i + 1] - offsets[i]`. Requires that the numbers are offsets, and that `lengths` has
 /// one item fewer than `offsets`.
 pub fn write_lengths<O: Offset>(offsets: &[O], lengths: &mut [usize])
-    requires are { AreOffsets (map O.value offsets.now) }
+    requires valid { AreOffsets (map O.value offsets.now) }
     requires exact { length offsets.now ≡ length lengths.old + 1 }
     ensures { lengths.new ≡ lengths_of (map O.value offsets.now) }
 {
@@ -58,8 +58,8 @@ fn total(start: usize, lengths: &[usize]) -> u128
     sum
 }
 
-/// Sets `offsets[i]` to `start` plus the first `i` lengths. Requires that `offsets` has one item more than `lengths`, and
-/// that `start` plus all lengths is at most `O::MAX`.
+/// Sets `offsets[i]` to `start` plus the first `i` lengths. Requires that `offsets` has one item more than `lengths`,
+/// and that `start` plus all lengths is at most `O::MAX`.
 pub fn write_sums<O: Offset>(start: usize, lengths: &[usize], offsets: &mut [O])
     requires exact { length offsets.old ≡ length lengths.now + 1 }
     requires fits { last_offset start lengths.now ≤ O.MAX }
@@ -76,7 +76,7 @@ pub fn write_sums<O: Offset>(start: usize, lengths: &[usize], offsets: &mut [O])
 /// Sets `out[i]` to `offsets[from + i] - offsets[from]`. Requires that the numbers are offsets that are at most
 /// `O::MAX`, that `out` is not empty, and that `from + out.len()` is at most `offsets.len()`.
 pub fn write_part<O: Offset>(offsets: &[O], from: usize, out: &mut [O])
-    requires are { AreOffsetsUpTo O.MAX (map O.value offsets.now) }
+    requires valid { AreOffsetsUpTo O.MAX (map O.value offsets.now) }
     requires some { 0 < length out.old }
     requires inside { from + length out.old ≤ length offsets.now }
     ensures { map O.value out.new

@@ -37,7 +37,8 @@ pub trait NativeType: Copy + Debug + PartialEq + Default {
     /// The number of bytes of a value.
     const SIZE: usize;
 
-    /// The bytes of a value: an array of `SIZE` bytes.
+    /// The bytes of a value: an array of `SIZE` bytes. Contracts state the size of the results of `to_le_bytes` and
+    /// `to_be_bytes`.
     type Bytes: AsSlice<u8> + Copy;
 
     /// Returns the bytes of the value in little-endian order.

@@ -6,10 +6,10 @@ use Rattle.arrow2_offset.proofs.slices.last.Goals as goal
 pub to_usize-requires : goal.to_usize-requires
 to_usize-requires g c =
     let m = length-map c.args.offsets.now g.O.Number.value in
-    value_natural g.O.Number.value c.args.offsets.now c.index-offsets-offsets.result (length c.args.offsets.now - 1) c.requires.are (omega (arith, m, c.requires.are.some)) c.index-offsets-offsets.is
+    value_natural g.O.Number.value c.args.offsets.now c.index-offsets-offsets.result (length c.args.offsets.now - 1) c.requires.valid (omega (arith, m, c.requires.valid.some)) c.index-offsets-offsets.is
 
 pub returns-clause-value : goal.returns-clause-value
-returns-clause-value g c = same_naturals c.to_usize.result _ _ c.to_usize.ensures.value (value_last g.O.Number.value c.args.offsets.now c.index-offsets-offsets.result (length c.args.offsets.now) c.requires.are refl c.index-offsets-offsets.is)
+returns-clause-value g c = same_naturals c.to_usize.result _ _ c.to_usize.ensures.value (value_last g.O.Number.value c.args.offsets.now c.index-offsets-offsets.result (length c.args.offsets.now) c.requires.valid refl c.index-offsets-offsets.is)
 
 pub returns-clause-bound : goal.returns-clause-bound
 returns-clause-bound g c = (g.met.O.Offset.max_law c.to_usize.result).0 (subst g.O.Number.fits (sym c.to_usize.ensures.value) c.to_usize.ensures.fits)

@@ -7,7 +7,7 @@ use Rattle.std.proofs.lemmas.List.{length-map}
 use Rattle.arrow2_offset.proofs.slices.write_lengths.Goals as goal
 
 pub distance_to-requires : goal.distance_to-requires
-distance_to-requires g c = (between g.O.Number.value c.args.offsets.now c.index-offsets-i.result c.index-offsets-i-in-loop-i.result c.loop-i.i c.requires.are (omega (arith, c.loop-i-test.true, c.loop-i.invariant.exact)) c.index-offsets-i.is c.index-offsets-i-in-loop-i.is).0
+distance_to-requires g c = (between g.O.Number.value c.args.offsets.now c.index-offsets-i.result c.index-offsets-i-in-loop-i.result c.loop-i.i c.requires.valid (omega (arith, c.loop-i-test.true, c.loop-i.invariant.exact)) c.index-offsets-i.is c.index-offsets-i-in-loop-i.is).0
 
 pub loop-i-preserved : goal.loop-i-preserved
 loop-i-preserved g c =
@@ -15,7 +15,7 @@ loop-i-preserved g c =
     let d : ℕ = c.distance_to.result in
     let lengths : List ℕ = c.loop-i.lengths in
     let l = length-set lengths i d in
-    let is = (between g.O.Number.value c.args.offsets.now c.index-offsets-i.result c.index-offsets-i-in-loop-i.result i c.requires.are (omega (arith, c.loop-i-test.true, c.loop-i.invariant.exact)) c.index-offsets-i.is c.index-offsets-i-in-loop-i.is).1 d c.distance_to.ensures in
+    let is = (between g.O.Number.value c.args.offsets.now c.index-offsets-i.result c.index-offsets-i-in-loop-i.result i c.requires.valid (omega (arith, c.loop-i-test.true, c.loop-i.invariant.exact)) c.index-offsets-i.is c.index-offsets-i-in-loop-i.is).1 d c.distance_to.ensures in
     record {
       exact = omega (arith, l, c.loop-i.invariant.exact);
       done = one_more lengths (λ k. get_or (lengths_of (map g.O.Number.value c.args.offsets.now)) k 0) 0 i d (omega (arith, c.loop-i-test.true)) is c.loop-i.invariant.done;
@@ -24,4 +24,4 @@ loop-i-preserved g c =
 pub returns : goal.returns
 returns g c =
     let m = length-map c.args.offsets.now g.O.Number.value in
-    all_lengths (map g.O.Number.value c.args.offsets.now) c.loop-i.lengths c.requires.are (omega (arith, m, c.loop-i.invariant.exact)) (λ k h. c.loop-i.invariant.done k (omega (arith, h, c.loop-i-test.false)))
+    all_lengths (map g.O.Number.value c.args.offsets.now) c.loop-i.lengths c.requires.valid (omega (arith, m, c.loop-i.invariant.exact)) (λ k h. c.loop-i.invariant.done k (omega (arith, h, c.loop-i-test.false)))
