@@ -84,8 +84,9 @@ struct ArrowArrayStream {
  *   names, and returns its code. Only arrow2_bits_null_count and arrow2_bits_and_validity may call none, if a validity
  *   is missing; they return ARROW2_OK or ARROW2_LENGTH then.
  * - A NULL pointer to bytes counts as 0 bytes, whatever `bytes_len`, `out_len`, `values_len` or `validity_len` is. The
- *   code is then that of 0 bytes: ARROW2_RANGE for an input unless `offset` and `length` are 0, else ARROW2_LENGTH
- *   for an output unless `length` is 0.
+ *   function then returns the code that it returns for an input or output of 0 bytes: ARROW2_RANGE, if an input is NULL
+ *   and its `offset` or the `length` is not 0; ARROW2_LENGTH, if an output is NULL and `length` is not 0, unless
+ *   something gives ARROW2_RANGE first.
  * - The exception is a validity: there NULL means that there is no validity bitmap, so no item is null. Pass `(struct
  *   arrow2_bits){NULL, 0, 0}`, in C++ `arrow2_bits{nullptr, 0, 0}`. The functions that accept this are
  *   arrow2_bits_null_count, arrow2_bits_and_validity, and for their validity arguments arrow2_bits_and_kleene and
@@ -565,7 +566,8 @@ struct arrow2_c_buffer {
     size_t length;
 };
 
-/* Checks the head of an array and its schema: whether their pointers and numbers can be read at all. */
+/* Checks that schema and array are not NULL and not released, that the format is not NULL, that no count of the array is
+ * negative, and that length + offset does not overflow. */
 static inline uint32_t arrow2_c_check_head(const struct ArrowSchema *schema, const struct ArrowArray *array) {
     if (!schema || !array) {
         return ARROW2_C_NULL;
@@ -662,7 +664,8 @@ static inline uint32_t arrow2_c_check_pointer(const void *bytes, size_t count, s
     return (uintptr_t)bytes % width ? ARROW2_C_UNALIGNED : ARROW2_OK;
 }
 
-/* Whether the validity has a bit for each item, and the declared number of nulls. */
+/* Checks that the validity has a bit for each item, and that `null_count` is -1 or the number of its nulls. Without a
+ * bitmap `null_count` must be 0 or -1. */
 static inline uint32_t arrow2_c_check_validity(const struct arrow2_c_tree *tree, const struct ArrowArray *array) {
     struct arrow2_c_buffer buffer = arrow2_c_buffer_of(tree, array, 0);
     if (!buffer.bytes) {
@@ -862,8 +865,8 @@ static inline uint32_t arrow2_c_check_flat(const struct arrow2_c_tree *tree, con
                                   (size_t)array->dictionary->length, slot);
 }
 
-/* Whether the array's own buffers are right. Requires that its counts and its children's heads have passed their
- * checks. */
+/* Checks what the layout of the array asks for, except the validity: its buffers, its `null_count` if it is a null
+ * array, and the lengths of its children. Requires that its counts and its children's heads have passed their checks. */
 static inline uint32_t arrow2_c_check_content(struct arrow2_c_tree *tree, const struct arrow2_c_layout *layout,
                                               const struct ArrowSchema *schema, const struct ArrowArray *array,
                                               int64_t *slot) {
@@ -891,9 +894,10 @@ static inline uint32_t arrow2_c_check_content(struct arrow2_c_tree *tree, const 
     }
 }
 
-/* Checks the counts and the buffers of an array. Checks the head and the length of each child and of the dictionary,
- * and that a map's child is a struct of two children; nothing else of them. If an array is refused, `tree` is left at
- * that array. */
+/* Checks the counts and the buffers of an array. Of its children and its dictionary it checks only what
+ * arrow2_c_check_head checks, and for a map that the child is a struct of two children. Their lengths are bounds: a
+ * struct, a fixed-size list or a sparse union needs long enough children, and offsets and indices must be inside. If an
+ * array is refused, `tree` is left at that array. */
 static inline uint32_t arrow2_c_check_own(struct arrow2_c_tree *tree, const struct arrow2_c_layout *layout,
                                           const struct ArrowSchema *schema, const struct ArrowArray *array,
                                           int64_t *slot) {
@@ -964,9 +968,9 @@ static inline uint32_t arrow2_c_check_root(const struct ArrowSchema *schema, con
     return code;
 }
 
-/* Checks whether an array follows the Arrow format and its schema. Returns ARROW2_OK if it does, else the code of the
- * first rule that is broken. docs/BINDINGS.md has the order of the rules, what is not tested, and where the check is
- * stricter than Arrow; for example, the bytes of a null slot of a text must be UTF-8 too.
+/* Checks an array against the rules of docs/BINDINGS.md. Returns ARROW2_OK if it follows them, else the code of the
+ * first rule that is broken. The page has the order of the rules, what is not tested, and where they are stricter than
+ * the Arrow format; for example, the bytes of a null slot of a text must be UTF-8 too.
  *
  * The codes are those above except ARROW2_C_SIZES, and these of arrow2_proved.h: ARROW2_RANGE (a buffer is too short),
  * ARROW2_NULLS, ARROW2_SPEC_NEGATIVE, ARROW2_SPEC_FALLING, ARROW2_PAST, ARROW2_UTF8 and ARROW2_INDEX.

@@ -210,12 +210,12 @@ uint32_t arrow2_unpack(const uint8_t *bytes, size_t bytes_len, size_t offset, bo
  * `offset`. The search begins at bit `*at` of the range: set `*at` to 0 before the first call. Run k begins at bit
  * `starts[k]` of the range and has `lengths[k]` bits. If `*at` is inside a run, only the part of that run from `*at` on
  * is reported. The call stops when the slices are full or no run is left. It writes the number of runs to `*count`, and
- * to `*at` the bit at which the next call begins its search: a bit after the last run that it wrote, up to the first
- * bit of the next run. If `*count < starts_len`, all runs are done, and `*at` equals `length`. The items of `starts` and
- * `lengths` from `*count` on may have been written too. For all runs, call again until `*count` is below `starts_len`,
- * which must be at least 1. If `starts_len` is 0, `*count` becomes 0, which is never below `starts_len`, and `*at` may
- * or may not change. ARROW2_RANGE: the range is not inside the bytes, or `*at` is above `length`. Else ARROW2_LENGTH:
- * `starts_len` is not `lengths_len`. */
+ * to `*at` the bit at which the next call begins its search. That bit is after the last reported run, and not after the
+ * first bit of the next run; its exact value is not specified. If `*count < starts_len`, all runs are done, and `*at` equals `length`. The items of
+ * `starts` and `lengths` from `*count` on may have been written too. For all runs, call again until `*count` is below
+ * `starts_len`, which must be at least 1. If `starts_len` is 0, `*count` becomes 0, which is never below `starts_len`,
+ * and `*at` may or may not change. ARROW2_RANGE: the range is not inside the bytes, or `*at` is above `length`. Else
+ * ARROW2_LENGTH: `starts_len` is not `lengths_len`. */
 uint32_t arrow2_runs(const uint8_t *bytes, size_t bytes_len, size_t offset, size_t length, size_t *at, size_t *starts,
                      size_t starts_len, size_t *lengths, size_t lengths_len, size_t *count);
 
