@@ -865,7 +865,7 @@ static inline uint32_t arrow2_c_check_flat(const struct arrow2_c_tree *tree, con
                                   (size_t)array->dictionary->length, slot);
 }
 
-/* Checks what the layout of the array asks for, except the validity: its buffers, its `null_count` if it is a null
+/* Checks what the layout of the array requires, except the validity: its buffers, its `null_count` if it is a null
  * array, and the lengths of its children. Requires that its counts and its children's heads have passed their checks. */
 static inline uint32_t arrow2_c_check_content(struct arrow2_c_tree *tree, const struct arrow2_c_layout *layout,
                                               const struct ArrowSchema *schema, const struct ArrowArray *array,
