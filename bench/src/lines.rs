@@ -611,23 +611,33 @@ fn computed(inputs: &Inputs) -> Vec<Line<'_>> {
             lines.push(line!(name, elements, columns(call, values, validity, bytes), runs));
         }
     }
+    // Beside it the page shows how many bytes a nanosecond these calls read.
+    let (elements, runs) = ((4 * MANY, "items"), vec![MANY; 4]);
+    lines.push(line!(COPY, elements, columns("copy", values, NONE, bytes), runs));
     lines
 }
 
+/// The line of a copy of the values.
+pub const COPY: &str = "a copy of the values";
+
 fn texts(inputs: &Inputs) -> Vec<Line<'_>> {
-    let Inputs { texts, offsets, .. } = inputs;
-    let few = &offsets[..101];
-    let line = |name, call, (elements, unit): (usize, &'static str), offsets, runs| {
-        line!(name, (elements, unit), texts(call, texts, offsets), runs)
-    };
-    let long =
-        |name, call| line(name, call, (4 * NUMBERS, "texts"), &offsets[..], vec![NUMBERS; 4]);
-    let short = |name, call| line(name, call, (10_000, "calls"), few, vec![100; 10_000]);
-    vec![
-        long("try_new, which tests that each is UTF-8", "try_new"),
-        long("push of each", "push"),
-        short("push of 100", "push"),
-        long("compared with one", "compared"),
-        short("100 compared with one", "compared"),
-    ]
+    let Inputs { many_offsets, many_texts, bytes_from_3, .. } = inputs;
+    let calls = [
+        ("try_new, which tests that each is UTF-8", "try_new"),
+        ("push of each", "push"),
+        ("compared with one", "compared"),
+        ("sliced and compared", "sliced"),
+        ("filter by half", "filter"),
+    ];
+    let mut lines = Vec::new();
+    for Size { name: size, length, validity, times, elements } in sizes(inputs) {
+        let offsets = &many_offsets[..=length];
+        let bytes = &many_texts[..offsets[length] as usize];
+        for (name, call) in calls {
+            let (name, runs) = (format!("{name}{size}"), vec![length; times]);
+            let mask = &bytes_from_3[..];
+            lines.push(line!(name, elements, texts(call, bytes, offsets, validity, mask), runs));
+        }
+    }
+    lines
 }

@@ -11,6 +11,7 @@ use arrow2_numeric::comparison::{lt, lt_scalar};
 use arrow2_primitive::{MutablePrimitiveArray, PrimitiveArray};
 use arrow2_types::Result;
 use std::alloc::Global;
+use std::convert::TryFrom;
 
 /// Calls on prefixes of a column and of the mask, whose length each run chooses. If `validity` is empty, the column has
 /// no nulls.
@@ -39,6 +40,8 @@ pub extern "C" fn bench_columns(
         on_columns(alloc, &inputs, added_up)
     } else if call == b"min".as_slice() {
         on_columns(alloc, &inputs, least)
+    } else if call == b"copy".as_slice() {
+        on_columns(alloc, &inputs, copied)
     } else {
         usize::MAX
     }
@@ -130,6 +133,16 @@ fn below_next(column: &PrimitiveArray<i64>, _: &Bitmap) -> Result<usize> {
 /// The least item, or 0 where there is none.
 fn least(column: &PrimitiveArray<i64>, _: &Bitmap) -> Result<usize> {
     match min(column) {
+        Some(value) => Ok(value.unsigned_abs() as usize),
+        None => Ok(0),
+    }
+}
+
+/// The absolute value of the last value of a copy, or 0 where there is none.
+fn copied(column: &PrimitiveArray<i64>, _: &Bitmap) -> Result<usize> {
+    let values = column.values();
+    let copy = Buffer::try_from(Vec::from_slice(values.allocator(), values.as_slice())?)?;
+    match copy.as_slice().last() {
         Some(value) => Ok(value.unsigned_abs() as usize),
         None => Ok(0),
     }

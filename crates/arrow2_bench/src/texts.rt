@@ -1,9 +1,11 @@
-//! Columns of texts.
+//! Columns of texts, with nulls and without.
 ghost use Rattle.std.specs.Prelude.{◌<◌, length};
 ghost use Rattle.arrow2_text.specs.Binary.{binary_items};
 
+use crate::runs::on_each;
 use arrow2_bitmap::Bitmap;
 use arrow2_buffer::Buffer;
+use arrow2_compute::filter::filter_binary;
 use arrow2_datatypes::DataType;
 use arrow2_offset::OffsetsBuffer;
 use arrow2_text::{MutableUtf8Array, Utf8Array};
@@ -11,54 +13,86 @@ use arrow2_types::Result;
 use std::alloc::Global;
 use std::convert::TryFrom;
 
-/// Calls on a prefix of the texts, whose length each run chooses.
+/// Calls on prefixes of a column of texts and of the mask, whose length each run chooses. If `validity` is empty, the
+/// column has no nulls.
 #[unsafe(no_mangle)]
 pub extern "C" fn bench_texts(
     alloc: Global,
     call: &[u8],
     bytes: &[u8],
     offsets: &[i64],
+    validity: &[u8],
+    mask: &[u8],
     runs: &[usize],
 ) -> usize {
+    let inputs = Inputs {
+        bytes,
+        offsets,
+        validity,
+        mask,
+        runs,
+    };
     let sum = if call == b"try_new".as_slice() {
-        made(alloc, bytes, offsets, runs)
+        made(alloc, &inputs)
     } else if call == b"push".as_slice() {
-        pushed(alloc, bytes, offsets, runs)
+        built_each(alloc, &inputs)
     } else if call == b"compared".as_slice() {
-        compared_each(alloc, bytes, offsets, runs)
+        compared_each(alloc, &inputs)
+    } else if call == b"sliced".as_slice() {
+        sliced_each(alloc, &inputs)
+    } else if call == b"filter".as_slice() {
+        filtered_each(alloc, &inputs)
     } else {
         Ok(usize::MAX)
     };
     sum.unwrap_or(0)
 }
 
+/// The inputs of a call on texts.
+#[derive(Drop)]
+struct Inputs<'a> {
+    bytes: &'a [u8],
+    offsets: &'a [i64],
+    validity: &'a [u8],
+    mask: &'a [u8],
+    runs: &'a [usize],
+}
+
 /// Makes the column of all texts again for each run, and adds up their numbers.
-fn made(alloc: Global, bytes: &[u8], offsets: &[i64], runs: &[usize]) -> Result<usize> {
+fn made(alloc: Global, inputs: &Inputs<'_>) -> Result<usize> {
     let mut sum = 0usize;
-    for _ in runs {
-        sum = sum.wrapping_add(texts(alloc, bytes, offsets)?.len());
+    for _ in inputs.runs {
+        sum = sum.wrapping_add(texts(alloc, inputs)?.len());
     }
     Ok(sum)
 }
 
-/// Adds up the bytes of copies that are pushed text by text.
-fn pushed(alloc: Global, bytes: &[u8], offsets: &[i64], runs: &[usize]) -> Result<usize> {
-    let whole = texts(alloc, bytes, offsets)?;
-    let mut sum = 0usize;
-    for run in runs {
-        sum = sum.wrapping_add(built(&first(&whole, *run)?)?);
-    }
-    Ok(sum)
+/// Adds up the bytes of copies of prefixes.
+fn built_each(alloc: Global, inputs: &Inputs<'_>) -> Result<usize> {
+    let texts = texts(alloc, inputs)?;
+    Ok(on_each(inputs.runs, |run| built(&first(&texts, *run)?)))
 }
 
-/// Counts the texts that differ from the first one, for each run.
-fn compared_each(alloc: Global, bytes: &[u8], offsets: &[i64], runs: &[usize]) -> Result<usize> {
-    let whole = texts(alloc, bytes, offsets)?;
-    let mut sum = 0usize;
-    for run in runs {
-        sum = sum.wrapping_add(compared(&first(&whole, *run)?)?);
-    }
-    Ok(sum)
+/// Compares each text of prefixes with the first one.
+fn compared_each(alloc: Global, inputs: &Inputs<'_>) -> Result<usize> {
+    let texts = texts(alloc, inputs)?;
+    Ok(on_each(inputs.runs, |run| compared(&first(&texts, *run)?)))
+}
+
+/// Compares slices of prefixes.
+fn sliced_each(alloc: Global, inputs: &Inputs<'_>) -> Result<usize> {
+    let texts = texts(alloc, inputs)?;
+    Ok(on_each(inputs.runs, |run| sliced(&first(&texts, *run)?)))
+}
+
+/// Filters prefixes by a prefix of the mask.
+fn filtered_each(alloc: Global, inputs: &Inputs<'_>) -> Result<usize> {
+    let texts = texts(alloc, inputs)?;
+    let mask = bitmap(alloc, inputs.mask, texts.len())?;
+    Ok(on_each(inputs.runs, |run| {
+        let mask = mask.clone()?.sliced(0, (*run).min(mask.len()));
+        filtered(&first(&texts, *run)?, &mask)
+    }))
 }
 
 /// Returns a prefix of the texts, at most as long as a run states.
@@ -66,28 +100,34 @@ fn first(whole: &Utf8Array<i64>, len: usize) -> Result<Utf8Array<i64>> {
     Ok(whole.clone()?.sliced(0, len.min(whole.len())))
 }
 
-/// The texts between the offsets.
-fn texts(alloc: Global, bytes: &[u8], offsets: &[i64]) -> Result<Utf8Array<i64>> {
-    let offsets = Buffer::try_from(Vec::from_slice(alloc, offsets)?)?;
-    let values = Buffer::try_from(Vec::from_slice(alloc, bytes)?)?;
-    Utf8Array::try_new(
-        DataType::LargeUtf8,
-        OffsetsBuffer::try_from(offsets)?,
-        values,
-        None,
-    )
+/// The texts between the offsets, null where the bits of the validity are not set.
+fn texts(alloc: Global, inputs: &Inputs<'_>) -> Result<Utf8Array<i64>> {
+    let offsets = Buffer::try_from(Vec::from_slice(alloc, inputs.offsets)?)?;
+    let offsets = OffsetsBuffer::try_from(offsets)?;
+    let values = Buffer::try_from(Vec::from_slice(alloc, inputs.bytes)?)?;
+    let validity = if inputs.validity.is_empty() {
+        None
+    } else {
+        Some(bitmap(alloc, inputs.validity, offsets.len_proxy())?)
+    };
+    Utf8Array::try_new(DataType::LargeUtf8, offsets, values, validity)
+}
+
+/// The bitmap of the first `len` bits.
+fn bitmap(alloc: Global, bytes: &[u8], len: usize) -> Result<Bitmap> {
+    Bitmap::try_new(Vec::from_slice(alloc, bytes)?, len)
 }
 
 /// The number of bytes of a copy that is pushed text by text.
 fn built(texts: &Utf8Array<i64>) -> Result<usize> {
     let mut copy = MutableUtf8Array::<i64>::new(texts.values().allocator())?;
     for index in 0..texts.len() {
-        copy.push(Some(texts.value(index)))?;
+        copy.push(texts.get(index))?;
     }
     Ok(copy.freeze()?.values().len())
 }
 
-/// Counts the texts that differ from the first one.
+/// Counts the texts that are null or differ from the first slot.
 fn compared(texts: &Utf8Array<i64>) -> Result<usize> {
     if texts.is_empty() {
         return Ok(0);
@@ -98,7 +138,24 @@ fn compared(texts: &Utf8Array<i64>) -> Result<usize> {
         texts.len(),
         |index|
             requires { index < length (binary_items texts.now) }
-        { texts.value(index) == first },
+        { texts.is_valid(index) && texts.value(index) == first },
     )?;
     Ok(same.unset_bits())
+}
+
+/// Returns 1 where a copy of the texts, sliced as the texts are, is equal to them.
+fn sliced(texts: &Utf8Array<i64>) -> Result<usize> {
+    let Some(len) = texts.len().checked_sub(1) else {
+        return Ok(0);
+    };
+    let (left, right) = (texts.clone()?.sliced(1, len), texts.clone()?.sliced(1, len));
+    Ok(usize::from(left == right))
+}
+
+/// The number of bytes of the texts that the mask selects.
+fn filtered(texts: &Utf8Array<i64>, mask: &Bitmap) -> Result<usize> {
+    if texts.len() != mask.len() {
+        return Ok(0);
+    }
+    Ok(filter_binary(texts, mask)?.values().len())
 }
