@@ -81,8 +81,9 @@ struct ArrowArrayStream {
  * The rules of arrow2_proved.h hold for these functions too, with two changes: NULL is allowed with any number and
  * counts as 0 bytes, and a NULL validity means that there is no bitmap. In detail:
  * - Each `arrow2_bits_*` function of this header that returns a code calls a function of the library, which its comment
- *   names, and returns its code. Only arrow2_bits_null_count and arrow2_bits_and_validity may call none, if a validity
- *   is missing; they return ARROW2_OK or ARROW2_LENGTH then.
+ *   names, and returns its code. There are two exceptions. If there is no validity, arrow2_bits_null_count calls
+ *   nothing and returns ARROW2_OK. If both validities are missing, arrow2_bits_and_validity returns ARROW2_LENGTH, or
+ *   for length 0 ARROW2_OK, and calls nothing.
  * - A NULL pointer to bytes counts as 0 bytes, whatever `bytes_len`, `out_len`, `values_len` or `validity_len` is. The
  *   function then returns the code that it returns for an input or output of 0 bytes: ARROW2_RANGE, if an input is NULL
  *   and its `offset` or the `length` is not 0; ARROW2_LENGTH, if an output is NULL and `length` is not 0, unless
@@ -126,9 +127,9 @@ static inline uint32_t arrow2_bits_equal(struct arrow2_bits left, struct arrow2_
                              arrow2_c_count(right.bytes, right.bytes_len), right.offset, length, equal);
 }
 
-/* Applies `table` to each pair of bits, bit i of `left` and bit i of `right`, and writes the results to `out`, which
- * has arrow2_bytes_for(length) bytes. Calls arrow2_binary_table. NULL `bytes` counts as 0 bytes here, not as a missing
- * validity. */
+/* Applies `table` to each pair of bits, bit i of `left` (a1 of the table) and bit i of `right` (a2), and writes the
+ * results to `out`, which has arrow2_bytes_for(length) bytes. Calls arrow2_binary_table. NULL `bytes` counts as 0 bytes
+ * here, not as a missing validity. */
 static inline uint32_t arrow2_bits_table(struct arrow2_bits left, struct arrow2_bits right, size_t length,
                                          uint16_t table, uint8_t *out, size_t out_len) {
     return arrow2_binary_table(left.bytes, arrow2_c_count(left.bytes, left.bytes_len), left.offset, right.bytes,
@@ -566,8 +567,8 @@ struct arrow2_c_buffer {
     size_t length;
 };
 
-/* Checks that schema and array are not NULL and not released, that the format is not NULL, that no count of the array is
- * negative, and that length + offset does not overflow. */
+/* Checks that schema and array are not NULL and not released, that the format is not NULL, that no count of the array
+ * is negative, and that length + offset does not overflow. */
 static inline uint32_t arrow2_c_check_head(const struct ArrowSchema *schema, const struct ArrowArray *array) {
     if (!schema || !array) {
         return ARROW2_C_NULL;
@@ -814,8 +815,8 @@ static inline uint32_t arrow2_c_check_union(struct arrow2_c_buffer types, const 
     return ARROW2_OK;
 }
 
-/* Checks the buffers of a union: its types and, if it is dense, its offsets must be long enough, not NULL where they are
- * read, and (offsets) aligned. Then checks its slots. */
+/* Checks the buffers of a union: its types and, if it is dense, its offsets must be long enough, not NULL where they
+ * are read, and (offsets) aligned. Then checks its slots. */
 static inline uint32_t arrow2_c_check_union_buffers(const struct arrow2_c_tree *tree, const char *named, bool dense,
                                                     const struct ArrowArray *array, int64_t *slot) {
     struct arrow2_c_buffer types = arrow2_c_buffer_of(tree, array, 0), offsets = types;
@@ -866,7 +867,8 @@ static inline uint32_t arrow2_c_check_flat(const struct arrow2_c_tree *tree, con
 }
 
 /* Checks what the layout of the array requires, except the validity: its buffers, its `null_count` if it is a null
- * array, and the lengths of its children. Requires that its counts and its children's heads have passed their checks. */
+ * array, and the lengths of its children. Requires that its counts and the heads of its children have passed their
+ * checks. */
 static inline uint32_t arrow2_c_check_content(struct arrow2_c_tree *tree, const struct arrow2_c_layout *layout,
                                               const struct ArrowSchema *schema, const struct ArrowArray *array,
                                               int64_t *slot) {
@@ -895,9 +897,9 @@ static inline uint32_t arrow2_c_check_content(struct arrow2_c_tree *tree, const 
 }
 
 /* Checks the counts and the buffers of an array. Of its children and its dictionary it checks only what
- * arrow2_c_check_head checks, and for a map that the child is a struct of two children. Their lengths are bounds: a
- * struct, a fixed-size list or a sparse union needs long enough children, and offsets and indices must be inside. If an
- * array is refused, `tree` is left at that array. */
+ * arrow2_c_check_head checks, and for a map that the child is a struct of two children. Their lengths are limits: the
+ * children of a struct, a fixed-size list or a sparse union must be long enough, offsets must be inside the child, and
+ * indices inside the dictionary. If an array is refused, `tree` is left at that array. */
 static inline uint32_t arrow2_c_check_own(struct arrow2_c_tree *tree, const struct arrow2_c_layout *layout,
                                           const struct ArrowSchema *schema, const struct ArrowArray *array,
                                           int64_t *slot) {

@@ -26,9 +26,9 @@
  * - The `length` bits from bit `offset` on are inside `bytes` if offset + length <= 8 * bytes_len. This condition is
  *   computed as if in unlimited integers, so a huge offset gives ARROW2_RANGE and never wraps. The condition is tested
  *   for length 0 too: offset 5, length 0 in 0 bytes is ARROW2_RANGE. Bit `index` is inside if index < 8 * bytes_len.
- * - An output of `length` bits is exactly (length + 7) / 8 bytes, computed as if in unlimited integers: arrow2_bytes_for of
- *   arrow2_c_data.h returns this number. The bits are written from bit 0 on, and padding bits become 0. The same holds
- *   for `bytes` of the in-place calls, *_assign_table.
+ * - An output of `length` bits is exactly (length + 7) / 8 bytes, computed as if in unlimited integers:
+ *   arrow2_bytes_for of arrow2_c_data.h returns this number. The bits are written from bit 0 on, and padding bits
+ *   become 0. The same holds for `bytes` of the in-place calls, *_assign_table.
  * - The result is one of the codes below. On any error nothing is written, but for `*index` or `*slot` of some checks:
  *   the comment of such a check names the codes for which it writes them. No check writes them with ARROW2_OK.
  * - Nothing is kept between calls, no call allocates, and calls may run on several threads at once. Nothing is made
@@ -157,8 +157,9 @@ uint32_t arrow2_quaternary_assign_table(uint8_t *bytes, size_t bytes_len, const 
 /* ---- Kleene's logic
  *
  * Each side has values and their validity: an item is null where its validity bit is not set. The calls read `length`
- * items of both sides. `values` and `validity` get the result. Each is exactly (length + 7) / 8 bytes, and both are
- * always written. Each bit of `values` is the operator applied to the two value bits, also where the result is null.
+ * items of both sides. `values` and `validity` get the result. Each is exactly (length + 7) / 8 bytes, and with
+ * ARROW2_OK both are written. Each bit of `values` is the operator applied to the two value bits, also where the result
+ * is null.
  * ARROW2_RANGE: the bits of any of the four inputs (values and validity of both sides) are not inside their bytes. Else
  * ARROW2_LENGTH: `values` or `validity` has the wrong size. */
 
@@ -210,12 +211,13 @@ uint32_t arrow2_unpack(const uint8_t *bytes, size_t bytes_len, size_t offset, bo
  * `offset`. The search begins at bit `*at` of the range: set `*at` to 0 before the first call. Run k begins at bit
  * `starts[k]` of the range and has `lengths[k]` bits. If `*at` is inside a run, only the part of that run from `*at` on
  * is reported. The call stops when the slices are full or no run is left. It writes the number of runs to `*count`, and
- * to `*at` the bit at which the next call begins its search. That bit is after the last reported run, and not after the
- * first bit of the next run; its exact value is not specified. If `*count < starts_len`, all runs are done, and `*at` equals `length`. The items of
- * `starts` and `lengths` from `*count` on may have been written too. For all runs, call again until `*count` is below
- * `starts_len`, which must be at least 1. If `starts_len` is 0, `*count` becomes 0, which is never below `starts_len`,
- * and `*at` may or may not change. ARROW2_RANGE: the range is not inside the bytes, or `*at` is above `length`. Else
- * ARROW2_LENGTH: `starts_len` is not `lengths_len`. */
+ * to `*at` the bit at which the next call begins its search. If the slices are full (`*count` is `starts_len`), that
+ * bit is after the last reported run, and not after the first bit of the next run; which bit in between is not
+ * specified. If `*count < starts_len`, all runs are done, and `*at` equals `length`. The items of `starts` and
+ * `lengths` from `*count` on may have been written too. For all runs, call again until `*count` is below `starts_len`,
+ * which must be at least 1. If `starts_len` is 0, `*count` becomes 0, which is never below `starts_len`, and `*at` may
+ * or may not change. ARROW2_RANGE: the range is not inside the bytes, or `*at` is above `length`. Else ARROW2_LENGTH:
+ * `starts_len` is not `lengths_len`. */
 uint32_t arrow2_runs(const uint8_t *bytes, size_t bytes_len, size_t offset, size_t length, size_t *at, size_t *starts,
                      size_t starts_len, size_t *lengths, size_t lengths_len, size_t *count);
 
