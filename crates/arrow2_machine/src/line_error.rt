@@ -75,8 +75,8 @@ impl<T: Drop> From<AllocFailed<T>> for CommandError {
     }
 }
 
-/// `Overflow` becomes the refusal `Overflow`. `InvalidArgumentError` and `OutOfSpec` become the refusal `Range`. Every
-/// other error becomes `OutOfMemory`: no call that a command makes returns one of the remaining errors.
+/// `Overflow` becomes the refusal `Overflow`. `InvalidArgumentError` and `OutOfSpec` become the refusal `Range`.
+/// `OutOfMemory` stays `OutOfMemory`, and so would the four others, which no call of a command returns.
 impl From<Error> for CommandError {
     ghost use Rattle.arrow2_machine.specs.Outcomes.{command_error};
 
@@ -88,7 +88,12 @@ impl From<Error> for CommandError {
             Error::InvalidArgumentError(_) | Error::OutOfSpec(_) => CommandError::Refused(
                 LineError::Range,
             ),
-            _ => CommandError::OutOfMemory,
+            Error::OutOfMemory => CommandError::OutOfMemory,
+            // No call of a command returns one of these.
+            Error::NotYetImplemented(_)
+            | Error::External(_, _)
+            | Error::Io(_)
+            | Error::ExternalFormat(_) => CommandError::OutOfMemory,
         }
     }
 }

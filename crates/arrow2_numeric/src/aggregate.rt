@@ -24,7 +24,8 @@ pub trait WholeNumber: NativeType {
         ensures low { negsuc (2 ^ 63 - 1) ≤ℤ result }
         ensures high { result ≤ℤ pos (2 ^ 64 - 1) };
 
-    /// Returns the number of values. It is below 2⁶³, since each value takes a byte of memory or more.
+    /// Returns the number of values. It is below 2⁶³, since each value takes a byte of memory or more. [`sum`] calls it
+    /// in place of `len`, since its proof needs this bound.
     fn count(values: &[Self]) -> usize
         ensures value { result ≡ length values.now }
         ensures few { result < 2 ^ 63 };

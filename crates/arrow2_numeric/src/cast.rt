@@ -122,6 +122,6 @@ fn misfit(alloc: Global, index: usize) -> Error
 {
     match format!(in alloc; "item {index} does not fit the type") {
         Ok(text) => Error::InvalidArgumentError(text),
-        Err(AllocError) => Error::OutOfMemory,
+        Err(_) => Error::OutOfMemory,
     }
 }

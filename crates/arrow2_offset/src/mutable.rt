@@ -237,8 +237,8 @@ impl<O: Offset> Offsets<O> {
         Ok(())
     }
 
-    /// Appends the lengths that an iterator yields. Requires that the iterator may be called and ends. Its size hint is
-    /// not read. Within the capacity the call does not allocate.
+    /// Appends the lengths that an iterator yields. Requires that the iterator ends, and that the `requires` of its
+    /// `next` holds until then. Its size hint is not read. Within the capacity the call does not allocate.
     ///
     /// Differs from arrow2, which wraps in its sums, and which keeps the appended lengths where it returns `Overflow`.
     ///
@@ -307,7 +307,8 @@ impl<O: Offset> Offsets<O> {
     /// # Errors
     ///
     /// `Overflow` exactly where the number of offsets would pass `usize::MAX`, else `OutOfMemory` alone. After either
-    /// error, the offsets are as they were. In arrow2 the number wraps, and only the first so many offsets are kept.
+    /// error, the offsets are as they were. In arrow2 the number wraps, and offsets from the wrapped number on are
+    /// dropped.
     pub fn extend_constant(&mut self, additional: usize) -> Result<()>
         // `Overflow` exactly where the number of offsets would be above 2 ^ 64 - 1.
         ensures { Grows error_of result self.old self.new (replicate additional 0)
@@ -406,8 +407,7 @@ impl<O: Offset> Offsets<O> {
         ensures fits { last_of_growing self.now ≤ O.MAX }
         ensures within_capacity { slots self.now ≤ self.now.capacity }
     {
-        // The field is read for the prover alone: with it comes the fact that the number of slots is at most the
-        // capacity.
+        // For the proof alone: reading the field brings the fact that the number of slots is at most the capacity.
         let _ = &self.offsets;
         self.last().to_usize()
     }

@@ -106,7 +106,7 @@ pub(crate) fn rebase_unchecked<O: Offset>(offsets: &[O], from: usize, out: &mut 
     if from > offsets.len() || out.len() > offsets.len() - from {
         return ARROW2_RANGE;
     }
-    // A number that is read is in the range of its type: so no offset is above `O::MAX`.
+    // For the proof alone: a number that is read is in the range of its type, so no offset is above `O::MAX`.
     let _last = last(offsets);
     write_part(offsets, from, out);
     ARROW2_OK
