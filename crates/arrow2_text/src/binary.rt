@@ -240,8 +240,7 @@ impl<O: Offset> BinaryArray<O> {
         requires below { index < length (binary_items self.now) }
         ensures { option_copied result ≡ slice_index_or (binary_items self.now) index None }
     {
-        let value = self.value(index);
-        self.is_valid(index).then_some(value)
+        self.slots.get(index)
     }
 
     /// Returns the bytes of slot `index`, also under a null. Requires that `index` is below the length.

@@ -175,7 +175,7 @@ impl<O: Offset> Growing<O> {
         ensures capacity { self.old.capacity ≤ self.new.capacity }
         ensures byte_capacity { self.old.byte_capacity ≤ self.new.byte_capacity }
     {
-        // The length is read for the type's invariant: the validity has an item for each slot.
+        // For the proof alone: reading the length brings the invariant that the validity has an item for each slot.
         let _ = self.len();
         self.validity.reserve(slots)?;
         self.offsets.reserve(slots)?;
@@ -188,7 +188,7 @@ impl<O: Offset> Growing<O> {
     fn reserve_below(&mut self, slots: usize, bytes: usize) -> Result<()>
         ensures { ReservesSlots O.MAX result self.old self.new slots bytes }
     {
-        // The length is read for the type's invariant: the validity has an item for each slot.
+        // For the proof alone: reading the length brings the invariant that the validity has an item for each slot.
         let _ = self.len();
         if bytes > O::MAX - self.bytes() {
             return Err(Error::Overflow);

@@ -236,10 +236,8 @@ impl<O: Offset> MutableBinaryArray<O> {
         ensures { AppendsBinary O.MAX result self.old self.new (option_copied item.entry ∷ [])
             (option_map_or length (option_copied item.entry) 0) }
     {
-        match item {
-            Some(value) => self.slots.push(value, true),
-            None => self.slots.push(&[], false),
-        }
+        let valid = item.is_some();
+        self.slots.push(item.unwrap_or(&[]), valid)
     }
 
     /// Appends a null, as [`MutableBinaryArray::push`] of `None`. Within both capacities it does not allocate.

@@ -254,10 +254,8 @@ impl<O: Offset> MutableUtf8Array<O> {
         ensures { AppendsBinary O.MAX result self.old self.new (option_copied item.entry ∷ [])
             (option_map_or length (option_copied item.entry) 0) }
     {
-        match item {
-            Some(text) => self.push_slot(text, true),
-            None => self.push_slot("", false),
-        }
+        let valid = item.is_some();
+        self.push_slot(item.unwrap_or(""), valid)
     }
 
     /// Appends a null, as [`MutableUtf8Array::push`] of `None`. Within both capacities it does not allocate.

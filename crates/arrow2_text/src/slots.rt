@@ -197,7 +197,7 @@ impl<O: Offset> Slots<O> {
 
     /// Returns the bytes of slot `index`, or `None` where it is null. Requires that `index` is below the number of
     /// slots.
-    fn get(&self, index: usize) -> Option<&[u8]>
+    pub(crate) fn get(&self, index: usize) -> Option<&[u8]>
         requires below { index < length (binary_items self.now) }
         ensures { option_copied result ≡ slice_index_or (binary_items self.now) index None }
     {
