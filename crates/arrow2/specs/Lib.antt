@@ -19,6 +19,7 @@ pub use Rattle.arrow2_model.specs.Storage
 pub use Rattle.arrow2_model.specs.Tables
 pub use Rattle.arrow2_model.specs.Touched
 pub use Rattle.arrow2_model.specs.Words
+pub use Rattle.arrow2_kernels.specs.WordResults
 pub use Rattle.arrow2_walks.specs.Zipped
 pub use Rattle.arrow2_types.specs.ErrorTexts
 pub use Rattle.arrow2_types.specs.Refusals

@@ -1,7 +1,8 @@
 //! Bitmaps that grow, changed in place by word functions and truth tables, and their operators. None of these calls
 //! allocates.
 ghost use Rattle.std.specs.Prelude.{◌≡◌, ℕ, [], ◌∷◌, length};
-ghost use Rattle.arrow2_model.specs.Kernels.{unary_kernel, binary_kernel, ComputesUnary, ComputesBinary};
+ghost use Rattle.arrow2_model.specs.Kernels.{word, unary_kernel, binary_kernel, ComputesUnary, ComputesBinary};
+ghost use Rattle.arrow2_kernels.specs.WordResults.{AreJoinedResults, MayReturnUnary, MayReturnBinary};
 ghost use Rattle.arrow2_model.specs.Storage.{items_of};
 ghost use Rattle.arrow2_model.specs.Tables.{each, IsBitwiseUnary, IsBitwiseBinary};
 
@@ -18,10 +19,11 @@ use std::ops::{BitAnd, BitAndAssign, BitOr, BitOrAssign, BitXor, BitXorAssign, N
 /// bits that `op` sets in the padding are cleared. Does not allocate. Requires that the `requires` of `op` holds for
 /// any word, not only for those of the bitmap.
 ///
-/// The clauses state the items if the contract of `op` fixes its result for every word, as a function on words or by
-/// a truth table. Otherwise no clause states which items result, only how many.
+/// For any `op` the clauses state that each word of the result is one that the contract of `op` allows for the words at
+/// its index. If the contract of `op` allows one result for each, as a function on words or by a truth table, the
+/// clauses state the items.
 ///
-/// Differs from arrow2: padding bits don't reach `op`, and are false afterwards.
+/// Differs from arrow2: the padding bits of the words count as false, and are false afterwards.
 pub fn unary_assign<T: BitChunk, F: Fn(T) -> T>(bitmap: &mut MutableBitmap, op: F)
     requires callable { F.IsAlwaysCallable op }
     // If the results of `op` are those of a mathematical function `f` on words:
@@ -30,6 +32,9 @@ pub fn unary_assign<T: BitChunk, F: Fn(T) -> T>(bitmap: &mut MutableBitmap, op: 
     // For every truth table `t` by which `op` computes each bit: the items are the outputs of `t`.
     ensures table { (t : ℕ) → IsBitwiseUnary T.WIDTH T.number (F.post op) t →
         bitmap.new.items ≡ each t (bitmap.old.items ∷ []) }
+    // For any `op`: the word at each index is one that `op` may return for the word of the list at this index.
+    ensures results { AreJoinedResults T.WIDTH (length bitmap.old.items)
+        (λ j. MayReturnUnary T.number (F.post op) (word T.WIDTH bitmap.old.items j)) bitmap.new.items }
     ensures len { length bitmap.new.items ≡ length bitmap.old.items }
     ensures capacity { bitmap.new.capacity ≡ bitmap.old.capacity }
 {
@@ -41,10 +46,11 @@ pub fn unary_assign<T: BitChunk, F: Fn(T) -> T>(bitmap: &mut MutableBitmap, op: 
 /// last words are padded with false, and bits that `op` sets in the padding are cleared. Does not allocate. Requires
 /// equal lengths, and that the `requires` of `op` holds for any two words, not only for those of the bitmaps.
 ///
-/// The clauses state the items if the contract of `op` fixes its result for every word, as a function on words or by
-/// a truth table. Otherwise no clause states which items result, only how many.
+/// For any `op` the clauses state that each word of the result is one that the contract of `op` allows for the words at
+/// its index. If the contract of `op` allows one result for each, as a function on words or by a truth table, the
+/// clauses state the items.
 ///
-/// Differs from arrow2: padding bits don't reach `op`, and are false afterwards.
+/// Differs from arrow2: the padding bits of the words count as false, and are false afterwards.
 pub fn binary_assign<T: BitChunk, F: Fn(T, T) -> T>(lhs: &mut MutableBitmap, rhs: &Bitmap, op: F)
     requires callable { F.IsAlwaysCallable op }
     requires same_length { length lhs.old.items ≡ length (items_of rhs.now) }
@@ -54,6 +60,10 @@ pub fn binary_assign<T: BitChunk, F: Fn(T, T) -> T>(lhs: &mut MutableBitmap, rhs
     // For every truth table `t` by which `op` computes each bit: the items are the outputs of `t`.
     ensures table { (t : ℕ) → IsBitwiseBinary T.WIDTH T.number (F.post op) t →
         lhs.new.items ≡ each t (lhs.old.items ∷ items_of rhs.now ∷ []) }
+    // For any `op`: the word at each index is one that `op` may return for the words of both lists at this index.
+    ensures results { AreJoinedResults T.WIDTH (length lhs.old.items)
+        (λ j. MayReturnBinary T.number (F.post op) (word T.WIDTH lhs.old.items j)
+        (word T.WIDTH (items_of rhs.now) j)) lhs.new.items }
     ensures len { length lhs.new.items ≡ length lhs.old.items }
     ensures capacity { lhs.new.capacity ≡ lhs.old.capacity }
 {
@@ -80,6 +90,10 @@ fn assign_chunks<T: BitChunk, I: BitChunkIterExact<T> + Drop, F: Fn(T, T) -> T>(
     // For every truth table `t` by which `op` computes each bit: the items are the outputs of `t`.
     ensures table { (t : ℕ) → IsBitwiseBinary T.WIDTH T.number (F.post op) t →
         lhs.new.items ≡ each t (lhs.old.items ∷ (I.cursor chunks).items ∷ []) }
+    // For any `op`: the word at each index is one that `op` may return for the words of both lists at this index.
+    ensures results { AreJoinedResults T.WIDTH (length lhs.old.items)
+        (λ j. MayReturnBinary T.number (F.post op) (word T.WIDTH lhs.old.items j)
+        (word T.WIDTH (I.cursor chunks).items j)) lhs.new.items }
     ensures len { length lhs.new.items ≡ length lhs.old.items }
     ensures capacity { lhs.new.capacity ≡ lhs.old.capacity }
 {

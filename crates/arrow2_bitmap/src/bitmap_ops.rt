@@ -1,9 +1,10 @@
 //! New bitmaps from word functions and truth tables, and the operators on shared bitmaps.
 ghost use Rattle.std.specs.Prelude.{◌≡◌, ℕ, List, Bool, [], ◌∷◌, length, replicate, IfOk, IfErr, IfSome, IsTrue, MatchResult, ◌⊎◌};
-ghost use Rattle.arrow2_model.specs.Kernels.{joined, kernel, unary_kernel, binary_kernel, ComputesUnary, ComputesBinary};
+ghost use Rattle.arrow2_model.specs.Kernels.{word, joined, kernel, unary_kernel, binary_kernel, ComputesUnary, ComputesBinary};
 ghost use Rattle.arrow2_model.specs.Storage.{items_of};
 ghost use Rattle.arrow2_model.specs.Tables.{each, IsBitwiseUnary, IsBitwiseBinary};
 ghost use Rattle.arrow2_types.specs.declared.error.Error.TheVariants.{OutOfMemory};
+ghost use Rattle.arrow2_kernels.specs.WordResults.{AreJoinedResults, MayReturnRow};
 ghost use Rattle.arrow2_bitmap.specs.Packed.{IsPacked};
 ghost use Rattle.arrow2_model.specs.Rows.{AreRowsOf, IsBitwiseOnRows, ComputesRows};
 
@@ -23,8 +24,9 @@ use std::ops::{BitAnd, BitOr, BitXor, Not};
 /// at one index of several lists. Requires that all lists have `len` items, and that the `requires` of `op` holds for
 /// any words, not only for those of these lists.
 ///
-/// The clauses state the items if the contract of `op` fixes its result for every word, as a function on words or by
-/// a truth table. Otherwise no clause states which items result, only how many.
+/// For any `op` the clauses state that each word of the result is one that the contract of `op` allows for the words at
+/// its index. If the contract of `op` allows one result for each, as a function on words or by a truth table, the
+/// clauses state the items.
 ///
 /// arrow2 has no such call.
 ///
@@ -45,7 +47,7 @@ pub fn from_rows<S: WordRows<u64>, F: Fn(S::Row) -> u64>(
     // of `f` for the rows, in their order, cut to `len`. The number of a word of type `u64` is the word: `λ x. x`.
     ensures items { (f : List ℕ → ℕ) → ComputesRows 64 S.words (λ x. x) (F.post op) f →
         IfOk result (λ b. items_of b ≡ joined 64 (λ j. f (S.row_at rows j)) len) }
-    // For any `lists` of booleans whose words are the rows, too: the items are `kernel 64 f lists`.
+    // If, besides, the rows are the words of some `lists` of booleans: the items are `kernel 64 f lists`.
     ensures kernel { (f : List ℕ → ℕ) (lists : List (List Bool)) →
         ComputesRows 64 S.words (λ x. x) (F.post op) f →
         AreRowsOf 64 lists (S.row_at rows) len →
@@ -54,6 +56,9 @@ pub fn from_rows<S: WordRows<u64>, F: Fn(S::Row) -> u64>(
     ensures table { (t : ℕ) (lists : List (List Bool)) →
         IsBitwiseOnRows 64 S.words (λ x. x) (F.post op) t → AreRowsOf 64 lists (S.row_at rows) len →
         IfOk result (λ b. items_of b ≡ each t lists) }
+    // For any `op`: the word at each index is one that `op` may return for the row at this index.
+    ensures results { IfOk result (λ b. AreJoinedResults 64 len
+        (λ j. MayReturnRow 64 S.words (λ x. x) (F.post op) (S.row_at rows j)) (items_of b)) }
     // The new bitmap is stored in canonical bytes, and the only error is `OutOfMemory`.
     ensures len { IfOk result (λ b. length (items_of b) ≡ len) }
     ensures storage { IfOk result (λ b. IsPacked b) }
@@ -68,10 +73,11 @@ pub fn from_rows<S: WordRows<u64>, F: Fn(S::Row) -> u64>(
 /// of the results, cut to the same length. Requires that the `requires` of `op` holds for any word, not only for those
 /// of the bitmap.
 ///
-/// The clauses state the items if the contract of `op` fixes its result for every word, as a function on words or by
-/// a truth table. Otherwise no clause states which items result, only how many.
+/// For any `op` the clauses state that each word of the result is one that the contract of `op` allows for the words at
+/// its index. If the contract of `op` allows one result for each, as a function on words or by a truth table, the
+/// clauses state the items.
 ///
-/// Differs from arrow2: `op` sees false in place of the padding bits. In the code it is not called for words that hold
+/// Differs from arrow2: the padding bits of the words count as false. In the code `op` is not called for words that hold
 /// no item, which no clause states. arrow2's `unary` returns no `Result`.
 ///
 /// # Errors
@@ -85,6 +91,9 @@ pub fn unary<F: Fn(u64) -> u64>(lhs: &Bitmap, op: F) -> Result<Bitmap>
     // For every truth table `t` by which `op` computes each bit: the items are the outputs of `t`.
     ensures table { (t : ℕ) → IsBitwiseUnary 64 (λ x. x) (F.post op) t →
         IfOk result (λ b. items_of b ≡ each t (items_of lhs.now ∷ [])) }
+    // For any `op`: the word at each index is one that `op` may return for the word of the list at this index.
+    ensures results { IfOk result (λ b. AreJoinedResults 64 (length (items_of lhs.now))
+        (λ j. F.post op (word 64 (items_of lhs.now) j)) (items_of b)) }
     // The new bitmap is stored in canonical bytes, and the only error is `OutOfMemory`.
     ensures len { IfOk result (λ b. length (items_of b) ≡ length (items_of lhs.now)) }
     ensures storage { IfOk result (λ b. IsPacked b) }
@@ -105,10 +114,11 @@ pub fn unary<F: Fn(u64) -> u64>(lhs: &Bitmap, op: F) -> Result<Bitmap>
 /// index, and returns the bits of the results, cut to the same length. Requires equal lengths, and that the `requires`
 /// of `op` holds for any two words, not only for those of the bitmaps.
 ///
-/// The clauses state the items if the contract of `op` fixes its result for every word, as a function on words or by
-/// a truth table. Otherwise no clause states which items result, only how many.
+/// For any `op` the clauses state that each word of the result is one that the contract of `op` allows for the words at
+/// its index. If the contract of `op` allows one result for each, as a function on words or by a truth table, the
+/// clauses state the items.
 ///
-/// Differs from arrow2: `op` sees false in place of the padding bits. In the code it is not called for words that hold
+/// Differs from arrow2: the padding bits of the words count as false. In the code `op` is not called for words that hold
 /// no item, which no clause states. arrow2's `binary` returns no `Result`.
 ///
 /// # Errors
@@ -123,6 +133,9 @@ pub fn binary<F: Fn(u64, u64) -> u64>(lhs: &Bitmap, rhs: &Bitmap, op: F) -> Resu
     // For every truth table `t` by which `op` computes each bit: the items are the outputs of `t`.
     ensures table { (t : ℕ) → IsBitwiseBinary 64 (λ x. x) (F.post op) t →
         IfOk result (λ b. items_of b ≡ each t (items_of lhs.now ∷ items_of rhs.now ∷ [])) }
+    // For any `op`: the word at each index is one that `op` may return for the words of both lists at this index.
+    ensures results { IfOk result (λ b. AreJoinedResults 64 (length (items_of lhs.now))
+        (λ j. F.post op (word 64 (items_of lhs.now) j) (word 64 (items_of rhs.now) j)) (items_of b)) }
     // The new bitmap is stored in canonical bytes, and the only error is `OutOfMemory`.
     ensures len { IfOk result (λ b. length (items_of b) ≡ length (items_of lhs.now)) }
     ensures storage { IfOk result (λ b. IsPacked b) }

@@ -1,5 +1,5 @@
 //! A bitmap over shared bytes.
-ghost use Rattle.std.specs.Prelude.{◌≡◌, ℕ, List, Bool, map, ◌+◌, ◌*◌, ◌/◌, ◌%◌, ◌<◌, ◌≤◌, ◌↔◌, [], false, length, replicate, slice_index_or, take, OnOk, IfOk, IfErr, IsTrue, Some, MatchResult, vec_len, codes, IsErrOf, ◌^◌, ◌⊎◌};
+ghost use Rattle.std.specs.Prelude.{◌≡◌, ℕ, List, Bool, map, ◌+◌, ◌*◌, ◌/◌, ◌%◌, ◌<◌, ◌≤◌, ◌↔◌, [], false, length, replicate, slice_index_or, take, OnOk, IfOk, IfErr, IsTrue, Some, MatchResult, vec_len, codes, IsErrOf, ◌^◌, ◌⊎◌, IsNone, IfSome};
 ghost use Rattle.std.specs.Bool.{beq};
 ghost use Rattle.std.specs.Ordering.{on};
 ghost use Rattle.std.specs.Cmp.{partial_equiv_from_equiv, bool_eq_equiv, on_equiv};
@@ -208,7 +208,8 @@ impl Bitmap {
         Bitmap::try_from(MutableBitmap::from_bools(alloc, items)?)
     }
 
-    /// Returns the bitmap of the items of an iterator, in its order. Requires that the iterator may be called and ends.
+    /// Returns the bitmap of the items of an iterator, in its order. Requires that the iterator ends, and that the
+    /// `requires` of its `next` holds until then.
     ///
     /// Stands for arrow2's `FromIterator`, which allocates by the size hint. Here the size hint is not read.
     ///
@@ -427,6 +428,16 @@ impl Bitmap {
         ensures { result ≡ falses (items_of self.now) }
     {
         self.unset_bits()
+    }
+
+    /// Returns the bitmap as the validity of an array: as it is, or `None` where no item is false. Does not allocate.
+    ///
+    /// arrow2 has no such call.
+    pub fn into_validity(self) -> Option<Bitmap>
+        ensures none { IsNone result ↔ (falses (items_of self) ≡ 0) }
+        ensures value { IfSome result (λ b. b ≡ self) }
+    {
+        (self.unset_bits > 0).then_some(self)
     }
 
     /// Returns how many of the `len` items from item `offset` on are false. Counts them at each call; no clause states
@@ -680,8 +691,8 @@ impl fmt::Debug for Bitmap {
         (part b.bytes (b.offset / 8) ((b.offset % 8 + b.len + 7) / 8)) (b.offset % 8) b.len) };
 
     /// If it returns `Ok`, exactly this text was written, whatever width, precision or flags the formatter has. The
-    /// clause states that only for a formatter that does not indent. One indents only a part of a `{:#?}`, such as a
-    /// field.
+    /// clause states that only for a formatter that does not indent. Formatters indent only inside a `{:#?}`, for
+    /// example while they write a field.
     fn fmt<W: fmt::Write>(&self, f: &mut fmt::Formatter<W>) -> fmt::Result
         ensures styled { let b = self.now in WritesStyledOnOk W.write_str_gives f.old result (shown
             (part b.bytes (b.offset / 8) ((b.offset % 8 + b.len + 7) / 8)) (b.offset % 8) b.len) f.new }

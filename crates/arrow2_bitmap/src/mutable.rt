@@ -147,7 +147,8 @@ impl MutableBitmap {
         Ok(MutableBitmap::from_vec(ones, len))
     }
 
-    /// Returns the bitmap of the items of an iterator, in its order. Requires that the iterator may be called and ends.
+    /// Returns the bitmap of the items of an iterator, in its order. Requires that the iterator ends, and that the
+    /// `requires` of its `next` holds until then.
     ///
     /// Stands for arrow2's `FromIterator`, which allocates by the size hint. Here the size hint is not read.
     ///
@@ -488,8 +489,8 @@ impl fmt::Debug for MutableBitmap {
     ghost debug_output = { λ m. Some (shown (canonical_bytes m.items) 0 (length m.items)) };
 
     /// If it returns `Ok`, exactly this text was written, whatever width, precision or flags the formatter has. The
-    /// clause states that only for a formatter that does not indent. One indents only a part of a `{:#?}`, such as a
-    /// field.
+    /// clause states that only for a formatter that does not indent. Formatters indent only inside a `{:#?}`, for
+    /// example while they write a field.
     fn fmt<W: fmt::Write>(&self, f: &mut fmt::Formatter<W>) -> fmt::Result
         ensures styled { WritesStyledOnOk W.write_str_gives f.old result
             (shown (canonical_bytes self.now.items) 0 (length self.now.items)) f.new }

@@ -1,15 +1,16 @@
 -- Words that are read from bytes and written there.
-use Rattle.std.proofs.Common.{◌≡◌, inl, inr, ◌⊎◌, ℕ, ◌+◌, ◌-◌, ◌*◌, ◌/◌, ◌%◌, ◌^◌, ◌<◌, ◌≤◌, List, ◌++◌, Bool, false, take, drop, replicate, length, get_or, ap, sym, ◌∙◌, arith}
+use Rattle.std.proofs.Common.{◌≡◌, inl, inr, ◌⊎◌, ℕ, zero, suc, refl, subst, ◌+◌, ◌-◌, ◌*◌, ◌/◌, ◌%◌, ◌^◌, ◌<◌, ◌≤◌, List, ◌++◌, Bool, false, take, drop, replicate, length, get_or, ap, sym, ◌∙◌, arith}
 use Rattle.std.proofs.lemmas.Bool.{cases_lt}
 use Rattle.std.proofs.lemmas.List.{length-append, length-take, length-take-le, length-drop, get_or-take, get_or-drop, get_or_append_left, get_or-append_right, get_or-replicate, get_or_past, take-append-drop}
 use Rattle.std.proofs.lemmas.Nat.{div-mul-add, mod-mul-add}
 use Rattle.std.proofs.lemmas.Slice.{take-put_mid, drop-put_mid}
-use Rattle.std.proofs.Math.Nat.{mul_comm, div-add-mod, add-mul-mod_self_right, add-mul-div_right}
+use Rattle.std.proofs.Math.Nat.{mul_comm, mul-suc, div-lt_iff_lt-mul, mul-lt-mul_of_pos_left, lt_of_mul-lt-mul_left, div-add-mod, add-mul-mod_self_right, add-mul-div_right}
 use borrow.Rule.Slice.PartMut.{put_mid}
 use Rattle.arrow2_model.specs.Bits.{bit, bits, unnum}
 use Rattle.arrow2_model.specs.Parts.{part}
 use Rattle.arrow2_model.specs.Canonical.{IsCanonical}
 use Rattle.arrow2_model.specs.Kernels.{word, joined}
+use Rattle.arrow2_kernels.specs.WordResults.{AreJoinedResults}
 use Rattle.arrow2_model.proofs.Bits.{length-unnum, get_or-unnum, bits-append, length-bits}
 use Rattle.arrow2_model.proofs.Bytes.{take-bits, drop-bits}
 use Rattle.arrow2_model.proofs.Joined.{joined_from}
@@ -203,3 +204,65 @@ whole_canonical bytes n size fits = record {
   exact = omega arith;
   clear = λ k h. let l = length-bits bytes in get_or_past (bits bytes) k false (omega (arith, l));
 }
+
+-- ---- the results of a loop
+
+-- the results of the first q words, and then y
+unfoldable with_result : (ℕ → ℕ) → ℕ → ℕ → ℕ → ℕ
+with_result f zero y j = y
+with_result f (suc q) y zero = f zero
+with_result f (suc q) y (suc j) = with_result (λ i. f (suc i)) q y j
+
+result_before : (f : ℕ → ℕ) (q y j : ℕ) → j < q → with_result f q y j ≡ f j
+unfolding with_result
+result_before f zero y j h = absurd (omega arith)
+result_before f (suc q) y zero h = refl
+result_before f (suc q) y (suc j) h = result_before (λ i. f (suc i)) q y j (omega arith)
+
+result_at : (f : ℕ → ℕ) (q y : ℕ) → with_result f q y q ≡ y
+unfolding with_result
+result_at f zero y = refl
+result_at f (suc q) y = result_at (λ i. f (suc i)) q y
+
+-- the first p bits are those of results that are allowed
+abbrev pub DoneBy : ℕ → (ℕ → ℕ → Type 0) → List ℕ → ℕ → Type 0
+DoneBy w allowed bytes p = (results : ℕ → ℕ) × ((j : ℕ) → w * j < p → allowed j (results j)) × Done w results bytes p
+
+-- results that are the same before p
+done_same : (w q p : ℕ) (g h : ℕ → ℕ) (bytes : List ℕ) → 0 < w → p ≡ w * q → ((j : ℕ) → j < q → h j ≡ g j) → Done w g bytes p → Done w h bytes p
+done_same w q p g h bytes pos at same done k k< =
+    let less : k / w < q = (div-lt_iff_lt-mul pos).1 (omega (arith, mul_comm w q, at, k<)) in
+    done k k< ∙ ap (λ x. bit x (k % w)) (sym (same (k / w) less))
+
+-- and one more is allowed
+more_allowed : (w r q p e : ℕ) (allowed : ℕ → ℕ → Type 0) (results : ℕ → ℕ) → 0 < w → p ≡ w * q → e ≤ p + w → allowed q r → ((j : ℕ) → w * j < p → allowed j (results j)) → (j : ℕ) → w * j < e → allowed j (with_result results q r j)
+more_allowed w r q p e allowed results pos at end is before j h = elim (cases_lt j q) [
+  | inl lt ↦ subst (allowed j) (sym (result_before results q r j lt)) (before j (omega (arith, at, mul-lt-mul_of_pos_left {k = w} lt pos)))
+  | inr ge ↦
+      let less : j < suc q = lt_of_mul-lt-mul_left w (omega (arith, mul-suc w q, at, end, h)) in
+      let same : j ≡ q = omega arith in
+      rw same (subst (allowed q) (sym (result_at results q r)) is)
+]
+
+pub one_done : (w r q p : ℕ) (allowed : ℕ → ℕ → Type 0) (bytes after : List ℕ) → 0 < w → p ≡ w * q → ((i : ℕ) → i < w → get_or (bits after) (p + i) false ≡ bit r i) → ((k : ℕ) → (k < p) ⊎ (p + w ≤ k) → get_or (bits after) k false ≡ get_or (bits bytes) k false)
+    → allowed q r → DoneBy w allowed bytes p → DoneBy w allowed after (p + w)
+one_done w r q p allowed bytes after pos at written kept is done =
+    let g = with_result done.0 q r in (
+      g,
+      more_allowed w r q p (p + w) allowed done.0 pos at (omega arith) is done.1,
+      done_word w r q p g bytes after pos at written kept (ap (unnum w) (sym (result_at done.0 q r))) (done_same w q p done.0 g bytes pos at (result_before done.0 q r) done.2),
+    )
+
+pub last_done : (w r m len q p n : ℕ) (allowed : ℕ → ℕ → Type 0) (bytes after : List ℕ) → 0 < w → p ≡ w * q → p + len ≡ n → len < w → unnum w m ≡ take len (unnum w r) ++ replicate (w - len) false
+    → ((i : ℕ) → i < len → get_or (bits after) (p + i) false ≡ bit m i) → ((k : ℕ) → k < p → get_or (bits after) k false ≡ get_or (bits bytes) k false)
+    → allowed q r → DoneBy w allowed bytes p → DoneBy w allowed after n
+last_done w r m len q p n allowed bytes after pos at end short masked written kept is done =
+    let g = with_result done.0 q r in (
+      g,
+      more_allowed w r q p n allowed done.0 pos at (omega arith) is done.1,
+      done_rest w r m len q p n g bytes after pos at end short masked written kept (ap (unnum w) (sym (result_at done.0 q r))) (done_same w q p done.0 g bytes pos at (result_before done.0 q r) done.2),
+    )
+
+-- all were written
+pub all_joined : (w n : ℕ) (allowed : ℕ → ℕ → Type 0) (bytes : List ℕ) → 0 < w → n ≤ 8 * length bytes → DoneBy w allowed bytes n → AreJoinedResults w n allowed (take n (bits bytes))
+all_joined w n allowed bytes pos spare done = (done.0, done.1, done_all w n done.0 bytes pos spare done.2)

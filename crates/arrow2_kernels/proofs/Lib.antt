@@ -2,4 +2,5 @@ pub mod AssignSteps
 pub mod LaneSteps
 pub mod RowSteps
 pub mod TableSteps
+pub mod WordResults
 pub mod Written

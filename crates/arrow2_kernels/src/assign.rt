@@ -4,6 +4,7 @@ ghost use Rattle.arrow2_model.specs.Bits.{bit, bits};
 ghost use Rattle.arrow2_model.specs.Canonical.{IsCanonical};
 ghost use Rattle.arrow2_model.specs.Kernels.{word, joined};
 ghost use Rattle.arrow2_model.specs.Rows.{ComputesOwnRows};
+ghost use Rattle.arrow2_kernels.specs.WordResults.{AreJoinedResults, MayReturnOwn};
 
 use crate::rows::WordRows;
 use arrow2_chunk::BitChunk;
@@ -23,11 +24,16 @@ pub fn assign_rows<T: BitChunk, S: WordRows<T>, F: Fn(T, S::Row) -> T>(
     requires alike { S.alike rows }
     requires len { S.len rows ≡ len }
     requires exact { length bytes.old ≡ (len + 7) / 8 }
+    // Padding bits are false.
     ensures canonical { IsCanonical bytes.new len }
+    // If the results of `op` are those of a mathematical function `f` on words:
     ensures items { (f : List ℕ → ℕ) →
         ComputesOwnRows T.WIDTH S.words T.number (F.post op) f →
         take len (bits bytes.new) ≡ joined T.WIDTH (λ j.
         f (word T.WIDTH (take len (bits bytes.old)) j ∷ S.row_at rows j)) len }
+    // For any `op`: the word at each index is one that `op` may return for the words at this index.
+    ensures results { AreJoinedResults T.WIDTH len (λ j. MayReturnOwn T.WIDTH S.words T.number (F.post op)
+        (word T.WIDTH (take len (bits bytes.old)) j) (S.row_at rows j)) (take len (bits bytes.new)) }
 {
     let mut rows = rows;
     let mut at = 0;

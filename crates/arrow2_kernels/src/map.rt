@@ -5,6 +5,7 @@ ghost use Rattle.arrow2_model.specs.Canonical.{IsCanonical};
 ghost use Rattle.arrow2_model.specs.Kernels.{joined};
 ghost use Rattle.arrow2_model.specs.Rows.{IsBitwiseOnRows, AreRowsOf, ComputesRows};
 ghost use Rattle.arrow2_model.specs.Tables.{each};
+ghost use Rattle.arrow2_kernels.specs.WordResults.{AreJoinedResults, MayReturnRow};
 
 use crate::assign::assign_rows;
 use crate::rows::WordRows;
@@ -34,6 +35,9 @@ pub fn write_rows<S: WordRows<u64>, F: Fn(S::Row) -> u64>(
     ensures table { (t : ℕ) (lists : List (List Bool)) →
         IsBitwiseOnRows 64 S.words (λ x. x) (F.post op) t → AreRowsOf 64 lists (S.row_at rows) len →
         take len (bits bytes.new) ≡ each t lists }
+    // For any `op`: the word at each index is one that `op` may return for the row at this index.
+    ensures results { AreJoinedResults 64 len (λ j. MayReturnRow 64 S.words (λ x. x) (F.post op) (S.row_at rows j))
+        (take len (bits bytes.new)) }
 {
     assign_rows(bytes, len, rows, |_own: u64, row| op(row));
 }
@@ -57,6 +61,8 @@ pub fn map_rows<S: WordRows<u64>, F: Fn(S::Row) -> u64>(
     ensures items { (f : List ℕ → ℕ) → ComputesRows 64 S.words (λ x. x) (F.post op) f →
         IfOk result (λ v. take len (bits v.items)
         ≡ joined 64 (λ j. f (S.row_at rows j)) len) }
+    ensures results { IfOk result (λ v. AreJoinedResults 64 len
+        (λ j. MayReturnRow 64 S.words (λ x. x) (F.post op) (S.row_at rows j)) (take len (bits v.items))) }
 {
     let mut bytes = vec![in alloc; 0u8; bytes_for(len)]?;
     write_rows(bytes.as_mut_slice(), len, rows, op);

@@ -4,6 +4,7 @@ ghost use Rattle.arrow2_model.specs.Bits.{bit, bits, unnum};
 ghost use Rattle.arrow2_model.specs.Canonical.{canonical_bytes, IsCanonical};
 ghost use Rattle.arrow2_model.specs.Kernels.{kernel, word};
 ghost use Rattle.arrow2_model.specs.Rows.{AreWordsOf, ComputesOwnRows, IsBitwiseOnOwnRows};
+ghost use Rattle.arrow2_kernels.specs.WordResults.{AreJoinedResults, MayReturnOwn};
 ghost use Rattle.arrow2_model.specs.Tables.{each};
 ghost use Rattle.arrow2_packed_bits.specs.Growth.{Appends, Pushes};
 ghost use Rattle.arrow2_types.specs.declared.growth_error.GrowthError.TheVariants as growth_error;
@@ -102,7 +103,7 @@ impl PackedBits {
         ensures capacity { result ≡ self.now.capacity }
         ensures within_capacity { length self.now.items ≤ result }
     {
-        // The length is read for the facts that its type guarantees: a `usize` counts the items.
+        // For the proof alone: reading the length brings the fact that a `usize` counts the items.
         let _ = self.len();
         self.bytes.capacity().saturating_mul(8)
     }
@@ -331,6 +332,10 @@ impl PackedBits {
             IsBitwiseOnOwnRows T.WIDTH S.words T.number (F.post op) t →
             AreWordsOf T.WIDTH xss (S.row_at rows) →
             self.new.items ≡ each t (self.old.items ∷ xss) }
+        // For any `op`: the word at each index is one that `op` may return for the words at this index.
+        ensures results { AreJoinedResults T.WIDTH (length self.old.items)
+            (λ j. MayReturnOwn T.WIDTH S.words T.number (F.post op)
+            (word T.WIDTH self.old.items j) (S.row_at rows j)) self.new.items }
         // The number of items and the capacity stay.
         ensures len { length self.new.items ≡ length self.old.items }
         ensures capacity { self.new.capacity ≡ self.old.capacity }

@@ -1,8 +1,9 @@
 //! New bitmaps from three and four bitmaps: word functions, and truth tables.
 ghost use Rattle.std.specs.Prelude.{◌≡◌, ℕ, [], ◌∷◌, length, IfOk, IfErr};
-ghost use Rattle.arrow2_model.specs.Kernels.{ternary_kernel, quaternary_kernel, ComputesTernary, ComputesQuaternary};
+ghost use Rattle.arrow2_model.specs.Kernels.{word, ternary_kernel, quaternary_kernel, ComputesTernary, ComputesQuaternary};
 ghost use Rattle.arrow2_model.specs.Storage.{items_of};
 ghost use Rattle.arrow2_model.specs.Tables.{each, IsBitwiseTernary, IsBitwiseQuaternary};
+ghost use Rattle.arrow2_kernels.specs.WordResults.{AreJoinedResults};
 ghost use Rattle.arrow2_bitmap.specs.Packed.{IsPacked};
 
 use arrow2_bitmap::Bitmap;
@@ -14,8 +15,12 @@ use arrow2_types::{Error, Result};
 /// Returns the bitmap of the results of `op` for the three words of 64 items at each index. The last words are padded
 /// with false. Requires that all have equal lengths, and that the `requires` of `op` holds for every three words.
 ///
-/// Differs from arrow2: `op` sees false in place of the padding bits, and is not called for words that hold no item.
-/// arrow2's call returns no `Result`.
+/// For any `op` the clauses state that each word of the result is one that the contract of `op` allows for the words at
+/// its index. If the contract of `op` allows one result for each, as a function on words or by a truth table, the
+/// clauses state the items.
+///
+/// Differs from arrow2: the padding bits of the words count as false. In the code `op` is not called for words that hold
+/// no item, which no clause states. arrow2's call returns no `Result`.
 ///
 /// # Errors
 ///
@@ -37,6 +42,10 @@ pub fn ternary<F: Fn(u64, u64, u64) -> u64>(
     ensures table { (t : ℕ) → IsBitwiseTernary 64 (λ x. x) (F.post op) t →
         IfOk result (λ b.
         items_of b ≡ each t (items_of a1.now ∷ items_of a2.now ∷ items_of a3.now ∷ [])) }
+    // For any `op`: the word at each index is one that `op` may return for the words of the lists at this index.
+    ensures results { IfOk result (λ b. AreJoinedResults 64 (length (items_of a1.now))
+        (λ j. F.post op (word 64 (items_of a1.now) j) (word 64 (items_of a2.now) j)
+        (word 64 (items_of a3.now) j)) (items_of b)) }
     // It is stored in canonical bytes, and the only error is `OutOfMemory`.
     ensures len { IfOk result (λ b. length (items_of b) ≡ length (items_of a1.now)) }
     ensures storage { IfOk result (λ b. IsPacked b) }
@@ -65,8 +74,12 @@ pub fn ternary<F: Fn(u64, u64, u64) -> u64>(
 /// Returns the bitmap of the results of `op` for the four words of 64 items at each index. The last words are padded
 /// with false. Requires that all have equal lengths, and that the `requires` of `op` holds for every four words.
 ///
-/// Differs from arrow2: `op` sees false in place of the padding bits, and is not called for words that hold no item.
-/// arrow2's call returns no `Result`.
+/// For any `op` the clauses state that each word of the result is one that the contract of `op` allows for the words at
+/// its index. If the contract of `op` allows one result for each, as a function on words or by a truth table, the
+/// clauses state the items.
+///
+/// Differs from arrow2: the padding bits of the words count as false. In the code `op` is not called for words that hold
+/// no item, which no clause states. arrow2's call returns no `Result`.
 ///
 /// # Errors
 ///
@@ -92,6 +105,10 @@ pub fn quaternary<F: Fn(u64, u64, u64, u64) -> u64>(
         IfOk result (λ b.
         items_of b ≡ each t (items_of a1.now ∷ items_of a2.now ∷ items_of a3.now
         ∷ items_of a4.now ∷ [])) }
+    // For any `op`: the word at each index is one that `op` may return for the words of the lists at this index.
+    ensures results { IfOk result (λ b. AreJoinedResults 64 (length (items_of a1.now))
+        (λ j. F.post op (word 64 (items_of a1.now) j) (word 64 (items_of a2.now) j)
+        (word 64 (items_of a3.now) j) (word 64 (items_of a4.now) j)) (items_of b)) }
     // It is stored in canonical bytes, and the only error is `OutOfMemory`.
     ensures len { IfOk result (λ b. length (items_of b) ≡ length (items_of a1.now)) }
     ensures storage { IfOk result (λ b. IsPacked b) }

@@ -1,8 +1,26 @@
-use Rattle.std.proofs.Common.{◌≡◌, ◌⊎◌, inl, inr, ℕ, List, ◌∷◌, ◌+◌, ◌-◌, ◌*◌, ◌/◌, ◌<◌, ◌≤◌, length, take, ap, sym, subst, ◌∙◌, arith, rules}
-use Rattle.arrow2_model.specs.Bits.{bits, unnum}
+use Rattle.std.proofs.Common.{◌≡◌, ◌⊎◌, inl, inr, ℕ, List, Bool, ◌+◌, ◌-◌, ◌*◌, ◌/◌, ◌<◌, ◌≤◌, length, take, ap, sym, subst, refl, ◌∙◌, arith, rules}
+use Rattle.arrow2_model.specs.Bits.{bits}
 use Rattle.arrow2_model.specs.Kernels.{word}
-use Rattle.arrow2_kernels.proofs.AssignSteps.{Done, Kept, position_now, position_next, own_word, own_rest, done_word, kept_word, done_all, done_rest, rest_canonical, whole_canonical}
+use Rattle.arrow2_model.proofs.Numbers.{num-part-lt}
+use Rattle.std.proofs.Math.Nat.{zero-div, zero-mod}
+use Rattle.arrow2_kernels.specs.WordResults.{MayReturnOwn}
+use Rattle.arrow2_kernels.proofs.WordResults.{computed_items}
+use Rattle.arrow2_kernels.proofs.AssignSteps.{Kept, DoneBy, position_now, position_next, own_word, own_rest, kept_word, one_done, last_done, all_joined, rest_canonical, whole_canonical}
+use Rattle.arrow2_kernels.proofs.assign.assign_rows.Given as given
 use Rattle.arrow2_kernels.proofs.assign.assign_rows.Goals as goal
+
+pub loop-row-init : goal.loop-row-init
+loop-row-init g c = record {
+  callable = search rules;
+  alike = search rules;
+  size = search rules;
+  fits = λ k. (c.type_inv.bytes k).fits;
+  whole = zero-mod g.T.NativeType.SIZE;
+  left = omega (arith, c.requires.len);
+  ahead = λ j. ap (g.S.WordRows.row_at c.args.rows) (omega (arith, zero-div g.T.NativeType.SIZE));
+  kept = λ k h. refl;
+  done = (λ _. 0, λ j h. absurd (omega (arith, h)), λ k h. absurd (omega (arith, h)));
+}
 
 pub loop-row-preserved : goal.loop-row-preserved
 loop-row-preserved g c =
@@ -33,15 +51,14 @@ loop-row-preserved g c =
       left = omega (arith, before.left, step.2, end);
       ahead = λ j. step.3 j ∙ (before.ahead (j + 1) ∙ ap (g.S.WordRows.row_at c.args.rows) (omega (arith, next.1)));
       kept = subst (Kept old after) (sym end) (kept_word old bytes after (8 * at) w before.kept same);
-      done = λ f h.
+      done =
           let row : g.S.WordRows.words c.in-Some.row ≡ g.S.WordRows.row_at c.args.rows q = step.0 ∙ (before.ahead 0 ∙ ap (g.S.WordRows.row_at c.args.rows) (omega arith)) in
-          let word_of : ℕ → ℕ = λ j. f (word w (take n (bits old)) j ∷ g.S.WordRows.row_at c.args.rows j) in
-          subst (Done w word_of after) (sym end)
-          (done_word w (g.T.BitChunk.number c.op-output.result) q (8 * at) word_of bytes after (omega (arith, bounds)) pos
-          (λ i h'. c.put_word.ensures.written i (omega (arith, h', wide, c.SIZE-in-Some.ensures))) same
-          (h c.word_at.result c.in-Some.row c.op-output.result c.word_at.ensures.fits step.1 c.op-output.ensures
-          ∙ (ap (λ (x : ℕ). unnum w (f (x ∷ g.S.WordRows.words c.in-Some.row))) own ∙ ap (λ (r : List ℕ). unnum w (f (word w (take n (bits old)) q ∷ r))) row))
-          (before.done f h));
+          let allowed : ℕ → ℕ → Type 0 = λ j. MayReturnOwn w g.S.WordRows.words g.T.BitChunk.number (given.F-post g c.args.op) (word w (take n (bits old)) j) (g.S.WordRows.row_at c.args.rows j) in
+          subst (DoneBy w allowed after) (sym end)
+          (one_done w (g.T.BitChunk.number c.op-output.result) q (8 * at) allowed bytes after (omega (arith, bounds)) pos
+          (λ i h. c.put_word.ensures.written i (omega (arith, h, wide, c.SIZE-in-Some.ensures))) same
+          (c.word_at.result, c.in-Some.row, c.op-output.result, own, row, step.1, refl, c.op-output.ensures)
+          before.done);
     }
 
 pub returns-then-left-gt0-clause-canonical : goal.returns-then-left-gt0-clause-canonical
@@ -60,8 +77,8 @@ returns-then-left-gt0-clause-canonical g c =
     (omega (arith, before.left, short)) (omega (arith, before.left)) (omega (arith, before.left, before.size, c.requires.exact, size)) (omega (arith, before.left, short, wide, before.size, c.requires.exact)) size
     c.masked.ensures.bits c.put_word-then-left-gt0.ensures.written (λ k. (c.type_inv.bytes k).fits)
 
-pub returns-then-left-gt0-clause-items : goal.returns-then-left-gt0-clause-items
-returns-then-left-gt0-clause-items g c f h =
+pub returns-then-left-gt0-clause-results : goal.returns-then-left-gt0-clause-results
+returns-then-left-gt0-clause-results g c =
     let w : ℕ = g.T.BitChunk.WIDTH in
     let size : ℕ = g.T.NativeType.SIZE in
     let at : ℕ = c.loop-row.at in
@@ -76,25 +93,41 @@ returns-then-left-gt0-clause-items g c f h =
     let before = c.loop-row.invariant in
     let short = c.in_default.ensures.row.0 in
     let pos : 8 * at ≡ w * q = position_now w size at wide before.whole in
-    let word_of : ℕ → ℕ = λ j. f (word w (take n (bits old)) j ∷ g.S.WordRows.row_at c.args.rows j) in
     let row : g.S.WordRows.words c.rest_row.result ≡ g.S.WordRows.row_at c.args.rows q = c.rest_row.ensures.row ∙ (c.in_default.ensures.row.2 0 ∙ (before.ahead 0 ∙ ap (g.S.WordRows.row_at c.args.rows) (omega arith))) in
+    let allowed : ℕ → ℕ → Type 0 = λ j. MayReturnOwn w g.S.WordRows.words g.T.BitChunk.number (given.F-post g c.args.op) (word w (take n (bits old)) j) (g.S.WordRows.row_at c.args.rows j) in
     let own = own_rest w (g.T.BitChunk.number c.word_at-then-left-gt0.result) (g.T.BitChunk.number c.masked-own.result) len q n (8 * at) old bytes pos (omega (arith, before.left)) (omega (arith, before.left, short)) (omega (arith, c.requires.exact))
     c.masked-own.ensures.fits c.masked-own.ensures.bits (λ i i<. c.word_at-then-left-gt0.ensures.items i (omega (arith, i<, before.left, before.size, c.requires.exact))) before.kept in
-    done_all w n word_of after (omega (arith, bounds)) (omega (arith, c.put_word-then-left-gt0.auto.bytes, before.size, c.requires.exact))
-    (done_rest w (g.T.BitChunk.number c.op.result) (g.T.BitChunk.number c.masked.result) len q (8 * at) n word_of bytes after (omega (arith, bounds)) pos (omega (arith, before.left)) (omega (arith, before.left, short)) c.masked.ensures.bits
+    all_joined w n allowed after (omega (arith, bounds)) (omega (arith, c.put_word-then-left-gt0.auto.bytes, before.size, c.requires.exact))
+    (last_done w (g.T.BitChunk.number c.op.result) (g.T.BitChunk.number c.masked.result) len q (8 * at) n allowed bytes after (omega (arith, bounds)) pos (omega (arith, before.left)) (omega (arith, before.left, short)) c.masked.ensures.bits
     (λ i i<. c.put_word-then-left-gt0.ensures.written i (omega (arith, i<, before.left, before.size, c.requires.exact))) (λ k k<. c.put_word-then-left-gt0.ensures.kept k (inl k<))
-    (h c.masked-own.result c.rest_row.result c.op.result c.masked-own.ensures.fits c.rest_row.ensures.fits c.op.ensures
-    ∙ (ap (λ (x : ℕ). unnum w (f (x ∷ g.S.WordRows.words c.rest_row.result))) own ∙ ap (λ (r : List ℕ). unnum w (f (word w (take n (bits old)) q ∷ r))) row))
-    (before.done f h))
+    (c.masked-own.result, c.rest_row.result, c.op.result, own, row, c.rest_row.ensures.fits, refl, c.op.ensures)
+    before.done)
+
+pub returns-then-left-gt0-clause-items : goal.returns-then-left-gt0-clause-items
+returns-then-left-gt0-clause-items g c f computes =
+    let w : ℕ = g.T.BitChunk.WIDTH in
+    let own : List Bool = take c.args.len (bits c.args.bytes.now) in
+    let bounds = g.met.T.BitChunk.width_bounds in
+    computed_items w c.args.len g.S.WordRows.words g.T.BitChunk.number (given.F-post g c.args.op) (word w own) (g.S.WordRows.row_at c.args.rows) f (take c.args.len (bits c.put_word-then-left-gt0.new.bytes)) (omega (arith, bounds)) (λ j. num-part-lt w own (w * j)) computes (returns-then-left-gt0-clause-results g c)
 
 pub returns-clause-canonical : goal.returns-clause-canonical
 returns-clause-canonical g c =
     let before = c.loop-row.invariant in
     whole_canonical c.loop-row.bytes c.args.len (omega (arith, before.left, before.size, c.requires.exact)) before.fits
 
-pub returns-clause-items : goal.returns-clause-items
-returns-clause-items g c f h =
+pub returns-clause-results : goal.returns-clause-results
+returns-clause-results g c =
+    let w : ℕ = g.T.BitChunk.WIDTH in
+    let n : ℕ = c.args.len in
     let before = c.loop-row.invariant in
     let bounds = g.met.T.BitChunk.width_bounds in
-    let end : 8 * c.loop-row.at ≡ c.args.len = omega (arith, before.left) in
-    done_all g.T.BitChunk.WIDTH c.args.len _ c.loop-row.bytes (omega (arith, bounds)) (omega (arith, before.size, c.requires.exact)) (λ k k<. before.done f h k (omega (arith, end, k<)))
+    let allowed : ℕ → ℕ → Type 0 = λ j. MayReturnOwn w g.S.WordRows.words g.T.BitChunk.number (given.F-post g c.args.op) (word w (take n (bits c.args.bytes.now)) j) (g.S.WordRows.row_at c.args.rows j) in
+    let end : 8 * c.loop-row.at ≡ n = omega (arith, before.left) in
+    all_joined w n allowed c.loop-row.bytes (omega (arith, bounds)) (omega (arith, before.size, c.requires.exact)) (subst (DoneBy w allowed c.loop-row.bytes) end before.done)
+
+pub returns-clause-items : goal.returns-clause-items
+returns-clause-items g c f computes =
+    let w : ℕ = g.T.BitChunk.WIDTH in
+    let own : List Bool = take c.args.len (bits c.args.bytes.now) in
+    let bounds = g.met.T.BitChunk.width_bounds in
+    computed_items w c.args.len g.S.WordRows.words g.T.BitChunk.number (given.F-post g c.args.op) (word w own) (g.S.WordRows.row_at c.args.rows) f (take c.args.len (bits c.loop-row.bytes)) (omega (arith, bounds)) (λ j. num-part-lt w own (w * j)) computes (returns-clause-results g c)

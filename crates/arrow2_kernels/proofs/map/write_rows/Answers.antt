@@ -10,3 +10,8 @@ pub returns-clause-table : goal.returns-clause-table
 returns-clause-table g c t lists acts are =
     c.assign_rows.ensures.items (λ xs. table_word 64 t (drop 1 xs)) (λ x row r fits words post. acts_rows 64 t g.S.WordRows.words (λ x. x) _ acts row r words (search rules))
     ∙ rows_table 64 c.args.len t lists (g.S.WordRows.row_at c.args.rows) (omega arith) are
+
+pub returns-clause-results : goal.returns-clause-results
+returns-clause-results g c =
+    let are = c.assign_rows.ensures.results in
+    (are.0, λ j less. let may = are.1 j less in let post = may.7 in (may.1, may.2, may.4, may.5, may.6, search rules), are.2)
