@@ -119,7 +119,7 @@ pub fn take_by_array<T: NativeType, I: Index>(
 {
     let data_type = array.data_type().clone()?;
     let values = Buffer::try_from(values_by_array(array, indices)?)?;
-    let validity = bits_by_array(array, indices)?.make_mut()?.into_validity()?;
+    let validity = bits_by_array(array, indices)?.into_validity();
     Ok(PrimitiveArray::new(data_type, values, validity))
 }
 

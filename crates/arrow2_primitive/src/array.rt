@@ -200,8 +200,7 @@ impl<T: NativeType> PrimitiveArray<T> {
         let data_type = native_type::<T>(alloc)?;
         let values = Buffer::try_from(values_of(alloc, items)?)?;
         let valid = Bitmap::from_slice_with(alloc, items, |item| item.is_some())?;
-        let validity = valid.make_mut()?.into_validity()?;
-        Ok(PrimitiveArray::new(data_type, values, validity))
+        Ok(PrimitiveArray::new(data_type, values, valid.into_validity()))
     }
 
     /// Returns the logical type.

@@ -229,7 +229,13 @@ fn is_collected(rt: &impl Abort, (bitmap, list): Of) {
         rt,
         SlicesIterator::new(bitmap).slots() == lists::trues(list),
     );
-    match ok(rt, thawed(rt, bitmap).into_validity()) {
+    is_validity_of(rt, ok(rt, thawed(rt, bitmap).into_validity()), list);
+    is_validity_of(rt, ok(rt, bitmap.clone()).into_validity(), list);
+}
+
+/// Checks that a validity has the items, or that none of them is false where there is no validity.
+fn is_validity_of(rt: &impl Abort, validity: Option<Bitmap>, list: &[bool]) {
+    match validity {
         Some(validity) => has_items(rt, &validity, list),
         None => assert_that(rt, lists::trues(list) == list.len()),
     }
@@ -239,7 +245,9 @@ fn is_collected(rt: &impl Abort, (bitmap, list): Of) {
 fn zip_has_nulls(rt: &impl Abort, validity: &Bitmap, list: &[bool], items: &[Option<bool>]) {
     assert_that(rt, validity.len() == list.len());
     let zip = ZipValidity::new_with_validity(list.iter().copied(), Some(validity));
+    let copy = ok(rt, zip.clone());
     assert_that(rt, zip.eq(items.iter().copied()));
+    assert_that(rt, copy.eq(items.iter().copied()));
 }
 
 /// Checks that an array of values with their validity has these items.

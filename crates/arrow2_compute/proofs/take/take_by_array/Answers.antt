@@ -2,8 +2,10 @@ use Rattle.std.proofs.Common.{◌≡◌, ◌∙◌, count_by, is_some, map, ap, 
 use Rattle.std.specs.Option.{is_none}
 use Rattle.std.proofs.lemmas.List.{length-map}
 use Rattle.std.proofs.Math.Seq.{take-length}
+use Rattle.std.proofs.lemmas.Option.{IfSome_then}
 use Rattle.arrow2_model.specs.Buffers.{buffer_items}
 use Rattle.arrow2_model.specs.Parts.{falses}
+use Rattle.arrow2_model.specs.Storage.{items_of}
 use Rattle.arrow2_walks.proofs.Zipped.{nulls-zipped}
 use Rattle.arrow2_primitive.specs.Primitive.{primitive_items}
 use Rattle.arrow2_primitive.proofs.Growing.{paired}
@@ -18,7 +20,7 @@ returns-clause-items g c =
     let xs = made.field-0.items in
     let held : buffer_items c.in_ok-values.values ≡ xs = ap buffer_items c.in_ok-values.ensures ∙ take-length xs in
     ap primitive_items c.new.ensures
-    ∙ paired (map f indices) xs c.in_ok-values.values c.in_ok-make_mut.field-0.items c.in_ok-validity.validity made.ensures.items (made.ensures.len ∙ sym (length-map indices f)) held (c.in_ok-make_mut.ensures.ok ∙ c.in_ok-bits_by_array.ensures.items) c.in_ok-validity.ensures.none c.in_ok-validity.ensures.items
+    ∙ paired (map f indices) xs c.in_ok-values.values (items_of c.in_ok-bits_by_array.field-0) c.into_validity-validity.result made.ensures.items (made.ensures.len ∙ sym (length-map indices f)) held c.in_ok-bits_by_array.ensures.items c.into_validity-validity.ensures.none (IfSome_then c.into_validity-validity.result c.into_validity-validity.ensures.value (λ b e. ap items_of e))
 
 pub returns-clause-bitmap : goal.returns-clause-bitmap
 returns-clause-bitmap g c =
@@ -28,5 +30,4 @@ returns-clause-bitmap g c =
     let made = c.in_ok-values_by_array in
     let size = made.ensures.len ∙ sym (length-map indices f) in
     let nulls : count_by is_none items ≡ falses (map is_some items) = ap (count_by is_none) (sym made.ensures.items) ∙ nulls-zipped made.field-0.items (map is_some items) (length-map items is_some ∙ sym size) in
-    let valid = c.in_ok-make_mut.ensures.ok ∙ c.in_ok-bits_by_array.ensures.items in
-    rw (returns-clause-items g c, ap (λ a. a.validity.bitmap) c.new.ensures, nulls, sym valid) c.in_ok-validity.ensures.none
+    rw (returns-clause-items g c, ap (λ a. a.validity.bitmap) c.new.ensures, nulls, sym c.in_ok-bits_by_array.ensures.items) c.into_validity-validity.ensures.none
