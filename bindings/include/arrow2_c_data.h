@@ -76,14 +76,16 @@ struct ArrowArrayStream {
  *
  * `struct arrow2_bits` has three members: `bytes` points to the bytes, `bytes_len` is the number of bytes, and `offset`
  * is the bit of the bytes at which the bits begin. For a raw bitmap set the members by hand. arrow2_bits_of and
- * arrow2_bits_of_column set them from an array that was checked.
+ * arrow2_bits_of_column set them from an array that was checked: one for which a check returned ARROW2_OK, or a child
+ * or dictionary of such an array.
  *
  * The rules of arrow2_proved.h hold for these functions too, with two changes: NULL is allowed with any number and
  * counts as 0 bytes, and a NULL validity means that there is no bitmap. In detail:
  * - Each `arrow2_bits_*` function of this header that returns a code calls a function of the library, which its comment
- *   names, and returns its code. There are two exceptions. If there is no validity, arrow2_bits_null_count calls
- *   nothing and returns ARROW2_OK. If both validities are missing, arrow2_bits_and_validity returns ARROW2_LENGTH, or
- *   for length 0 ARROW2_OK, and calls nothing.
+ *   names, and returns its code. There are two exceptions. Without a validity arrow2_bits_null_count calls nothing and
+ *   returns ARROW2_OK. If both validities are missing, arrow2_bits_and_validity tests the size of `out` itself: if the
+ *   size is wrong, it returns ARROW2_LENGTH, and if it is right and 0, ARROW2_OK, both without a call. For any other
+ *   size it sets all bits by arrow2_unary_assign_table.
  * - A NULL pointer to bytes counts as 0 bytes, whatever `bytes_len`, `out_len`, `values_len` or `validity_len` is. The
  *   function then returns the code that it returns for an input or output of 0 bytes: ARROW2_RANGE, if an input is NULL
  *   and its `offset` or the `length` is not 0; ARROW2_LENGTH, if an output is NULL and `length` is not 0, unless
@@ -227,7 +229,8 @@ static inline uint32_t arrow2_bits_or_kleene(struct arrow2_bits left, struct arr
  * `n_buffers`; the buffer is NULL; `length` is 0 and the buffer holds values. A null array has no buffer, and each of
  * its items is null. So test the format before you take a validity, as `columns.c` of the examples does.
  *
- * Only the array's own offset is applied. For a column of a batch call arrow2_bits_of_column. */
+ * Only the array's own offset is applied, and `array->length` bits belong to it. For a column of a batch call
+ * arrow2_bits_of_column. */
 static inline struct arrow2_bits arrow2_bits_of(const struct ArrowArray *array, int index) {
     struct arrow2_bits bits = {NULL, 0, 0};
     if (index < 0 || index >= array->n_buffers || !array->buffers[index] || (index > 0 && array->length == 0)) {
@@ -246,7 +249,8 @@ static inline struct arrow2_bits arrow2_bits_of(const struct ArrowArray *array, 
  * result means that no item is null. So test the format first, as for arrow2_bits_of: a null array has no buffer and
  * only nulls, and buffer 0 of a union is its types.
  *
- * The validity of the struct itself is not applied: arrow2_bits_of(batch, 0) returns it. */
+ * `batch->length` bits belong to the batch, even if the column has more. The validity of the struct itself is not
+ * applied: arrow2_bits_of(batch, 0) returns it. */
 static inline struct arrow2_bits arrow2_bits_of_column(const struct ArrowArray *batch, int64_t column, int index) {
     struct arrow2_bits bits = {NULL, 0, 0};
     if (column < 0 || column >= batch->n_children) {
@@ -897,7 +901,7 @@ static inline uint32_t arrow2_c_check_content(struct arrow2_c_tree *tree, const 
 }
 
 /* Checks the counts and the buffers of an array. Of its children and its dictionary it checks only what
- * arrow2_c_check_head checks, and for a map that the child is a struct of two children. Their lengths are limits: the
+ * arrow2_c_check_head checks, and for a map that the child is a struct of two children. It uses their lengths: the
  * children of a struct, a fixed-size list or a sparse union must be long enough, offsets must be inside the child, and
  * indices inside the dictionary. If an array is refused, `tree` is left at that array. */
 static inline uint32_t arrow2_c_check_own(struct arrow2_c_tree *tree, const struct arrow2_c_layout *layout,

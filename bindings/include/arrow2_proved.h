@@ -114,10 +114,11 @@ uint32_t arrow2_copy_bits(const uint8_t *bytes, size_t bytes_len, size_t offset,
 
 /* ---- Truth tables
  *
- * The bits of `table` are the outputs: for inputs a1 to a4, each 0 or 1, the output is bit a1 + 2 * a2 + 4 * a3 + 8 *
- * a4. With two inputs, the table of AND is 8, of OR 14 and of XOR 6. With one input, the table of NOT is 1. Each input
- * is `length` bits from its offset on. ARROW2_RANGE: the table is above 3 for one input, above 15 for two, above 255
- * for three, or an input is not inside its bytes. Else ARROW2_LENGTH: `out` has the wrong size. */
+ * The bits of `table` are the outputs: for inputs a1 to a4, in the order of the arguments, each 0 or 1, the output is
+ * bit a1 + 2 * a2 + 4 * a3 + 8 * a4. With two inputs, the table of AND is 8, of OR 14 and of XOR 6. With one input, the
+ * table of NOT is 1. Each input is `length` bits from its offset on. ARROW2_RANGE: the table is above 3 for one input,
+ * above 15 for two, above 255 for three, or an input is not inside its bytes. Else ARROW2_LENGTH: `out` has the wrong
+ * size. */
 
 uint32_t arrow2_unary_table(const uint8_t *bytes, size_t bytes_len, size_t offset, size_t length, uint16_t table,
                             uint8_t *out, size_t out_len);
@@ -211,25 +212,25 @@ uint32_t arrow2_unpack(const uint8_t *bytes, size_t bytes_len, size_t offset, bo
  * `offset`. The search begins at bit `*at` of the range: set `*at` to 0 before the first call. Run k begins at bit
  * `starts[k]` of the range and has `lengths[k]` bits. If `*at` is inside a run, only the part of that run from `*at` on
  * is reported. The call stops when the slices are full or no run is left. It writes the number of runs to `*count`, and
- * to `*at` the bit at which the next call begins its search. If the slices are full (`*count` is `starts_len`), that
- * bit is after the last reported run, and not after the first bit of the next run; which bit in between is not
- * specified. If `*count < starts_len`, all runs are done, and `*at` equals `length`. The items of `starts` and
- * `lengths` from `*count` on may have been written too. For all runs, call again until `*count` is below `starts_len`,
- * which must be at least 1. If `starts_len` is 0, `*count` becomes 0, which is never below `starts_len`, and `*at` may
- * or may not change. ARROW2_RANGE: the range is not inside the bytes, or `*at` is above `length`. Else ARROW2_LENGTH:
- * `starts_len` is not `lengths_len`. */
+ * to `*at` the bit at which the next call begins its search. If the slices are full (`*count` is `starts_len`), the new
+ * `*at` is some bit after the last reported run, and at most the first bit of the next run, or `length` if there is
+ * none. If `*count < starts_len`, all runs are done, and `*at` equals `length`. The items of `starts` and `lengths`
+ * from `*count` on may have been written too. For all runs, call again until `*count` is below `starts_len`, which must
+ * be at least 1 for that. If `starts_len` is 0, `*count` becomes 0, which is never below `starts_len`, and the new
+ * `*at` is at least the old one and at most `length`. ARROW2_RANGE: the range is not inside the bytes, or `*at` is
+ * above `length`. Else ARROW2_LENGTH: `starts_len` is not `lengths_len`. */
 uint32_t arrow2_runs(const uint8_t *bytes, size_t bytes_len, size_t offset, size_t length, size_t *at, size_t *starts,
                      size_t starts_len, size_t *lengths, size_t lengths_len, size_t *count);
 
 /* Finds the set bits in a range, the `length` bits from bit `offset` on. Bits of the range are counted from `offset`.
  * The search begins at bit `*at` of the range: set `*at` to 0 before the first call. Bit `indices[k]` of the range is
  * set, and the indices rise. The call stops when `indices` is full or no set bit is left. It writes the number of
- * indices to `*count`, and to `*at` the bit at which the next call begins its search: any bit from the one after the
- * last index to the next set bit. If `*count < indices_len`, all set bits are done, and `*at` equals `length`. The
- * items of `indices` from `*count` on may have been written too. For all set bits, call again until `*count` is below
- * `indices_len`, which must be at least 1. If `indices_len` is 0, `*count` becomes 0, which is never below
- * `indices_len`, and `*at` may or may not change. ARROW2_RANGE: the range is not inside the bytes, or `*at` is above
- * `length`. */
+ * indices to `*count`, and to `*at` the bit at which the next call begins its search. If `indices` is full, the new
+ * `*at` is some bit after the last index, and at most the next set bit, or `length` if there is none. If `*count <
+ * indices_len`, all set bits are done, and `*at` equals `length`. The items of `indices` from `*count` on may have been
+ * written too. For all set bits, call again until `*count` is below `indices_len`, which must be at least 1 for that.
+ * If `indices_len` is 0, `*count` becomes 0, which is never below `indices_len`, and the new `*at` is at least the old
+ * one and at most `length`. ARROW2_RANGE: the range is not inside the bytes, or `*at` is above `length`. */
 uint32_t arrow2_set_indices(const uint8_t *bytes, size_t bytes_len, size_t offset, size_t length, size_t *at,
                             size_t *indices, size_t indices_len, size_t *count);
 
@@ -304,9 +305,10 @@ uint32_t arrow2_offsets_narrow(const int64_t *offsets, size_t offsets_len, int32
 uint32_t arrow2_validity_check(const uint8_t *bytes, size_t bytes_len, size_t offset, size_t length,
                                int64_t null_count);
 
-/* `bytes` is a number of bytes. arrow2_bits_check returns ARROW2_OK if offset + length <= 8 * bytes.
- * arrow2_values_check returns ARROW2_OK if (offset + length) * width <= bytes. Else each returns ARROW2_RANGE. Both
- * conditions are computed as if in unlimited integers, and are tested for length 0 too. Width 0 always fits. */
+/* `bytes` is a number of bytes, `width` the bytes of an item. arrow2_bits_check returns ARROW2_OK if offset + length <=
+ * 8 * bytes. arrow2_values_check returns ARROW2_OK if (offset + length) * width <= bytes. Else each returns
+ * ARROW2_RANGE. Both conditions are computed as if in unlimited integers, and are tested for length 0 too. Width 0
+ * always fits. */
 uint32_t arrow2_bits_check(size_t bytes, size_t offset, size_t length);
 uint32_t arrow2_values_check(size_t bytes, size_t width, size_t offset, size_t length);
 
