@@ -7,8 +7,9 @@
  *
  * The interface does not state the number of bytes of a buffer. `arrow2_array_check` trusts that each buffer has the
  * bytes that format, length, offset and last offset require. `arrow2_array_check_sized` gets the number of bytes of
- * each buffer, and reads nothing outside these bytes. Both functions trust that every pointer that is not NULL points
- * to what the interface specifies, except buffers that may be anything (docs/BINDINGS.md lists them).
+ * each buffer, trusts that a buffer that is not NULL has that many, and reads nothing outside these bytes. Both
+ * functions trust that every other pointer that is not NULL points to what the interface specifies. docs/BINDINGS.md
+ * lists the buffers that may be anything.
  *
  * Functions and types whose names begin with `arrow2_c_` are internal: do not use them. */
 #ifndef ARROW2_C_DATA_H
@@ -84,8 +85,7 @@ struct ArrowArrayStream {
  * - Each `arrow2_bits_*` function of this header that returns a code calls a function of the library, which its comment
  *   names, and returns its code. There are two exceptions. Without a validity arrow2_bits_null_count calls nothing and
  *   returns ARROW2_OK. If both validities are missing, arrow2_bits_and_validity tests the size of `out` itself: if the
- *   size is wrong, it returns ARROW2_LENGTH, and if it is right and 0, ARROW2_OK, both without a call. For any other
- *   size it sets all bits by arrow2_unary_assign_table.
+ *   size is wrong, it returns ARROW2_LENGTH, and if it is right and 0, ARROW2_OK, both without a call.
  * - A NULL pointer to bytes counts as 0 bytes, whatever `bytes_len`, `out_len`, `values_len` or `validity_len` is. The
  *   function then returns the code that it returns for an input or output of 0 bytes: ARROW2_RANGE, if an input is NULL
  *   and its `offset` or the `length` is not 0; ARROW2_LENGTH, if an output is NULL and `length` is not 0, unless
@@ -94,7 +94,7 @@ struct ArrowArrayStream {
  *   arrow2_bits){NULL, 0, 0}`, in C++ `arrow2_bits{nullptr, 0, 0}`. The functions that accept this are
  *   arrow2_bits_null_count, arrow2_bits_and_validity, and for their validity arguments arrow2_bits_and_kleene and
  *   arrow2_bits_or_kleene.
- * - `nulls` and `equal` must not be NULL.
+ * - `nulls`, `equal`, `array` and `batch` must not be NULL.
  * - An output must not overlap any other argument, input or output. */
 
 struct arrow2_bits {
@@ -164,9 +164,10 @@ static inline uint32_t arrow2_bits_not(struct arrow2_bits bits, size_t length, u
                               arrow2_c_count(out, out_len));
 }
 
-/* Writes to `out`, for each of `length` items, whether it is valid by both validities. Either validity may be missing.
- * Calls arrow2_binary_table, arrow2_copy_bits or arrow2_unary_assign_table. `out` has arrow2_bytes_for(length) bytes,
- * and padding bits become 0, also where both validities are missing.
+/* Writes to `out`, for each of `length` items, whether it is valid by both validities. Either validity may be missing;
+ * if both are, the first `length` bits become 1. `out` has arrow2_bytes_for(length) bytes, and padding bits become 0.
+ * Calls arrow2_binary_table, arrow2_copy_bits or arrow2_unary_assign_table; if both validities are missing and the size
+ * of `out` is wrong or 0, it calls nothing.
  * ARROW2_RANGE: a validity was passed, and its bits are not inside its bytes. Else ARROW2_LENGTH: `out` has the
  * wrong size. */
 static inline uint32_t arrow2_bits_and_validity(struct arrow2_bits left, struct arrow2_bits right, size_t length,
@@ -277,7 +278,8 @@ static inline struct arrow2_bits arrow2_bits_of_column(const struct ArrowArray *
 /* `n_children` of the array or of the schema is not the number that the format requires, the two differ, or the child
  * of a map is not a struct of two children. */
 #define ARROW2_C_CHILDREN 37u
-/* A child has fewer items than its parent needs. */
+/* A child of a struct, a fixed-size list or a sparse union has fewer items than its parent needs. (For lists and maps
+ * the code is ARROW2_PAST, for dense unions ARROW2_C_UNION_OFFSET.) */
 #define ARROW2_C_SHORT_CHILD 38u
 /* Only one of schema and array has a dictionary, or the format of the indices is not that of an integer. */
 #define ARROW2_C_DICTIONARY 39u
@@ -301,10 +303,12 @@ static inline struct arrow2_bits arrow2_bits_of_column(const struct ArrowArray *
 
 /* Where the check refused.
  *
- * `path` leads from the root to the array that was refused. The path of the root is empty. A step to a child is
- * `list.0`, `fixed_list.0`, `map.0`, `struct.K` or `union.K`, by the format of the parent; K counts children from 0 on.
- * The step to a dictionary is `dictionary`. A `/` stands between two steps: `struct.3/list.0` is child 0 of a list,
- * which is child 3 of a struct.
+ * `path` leads from the root to the array that was refused: the one that breaks the rule itself. With
+ * ARROW2_C_SHORT_CHILD that is the child; if a child or a dictionary is NULL, was released, or has no format or a
+ * negative count, it is that child or dictionary; if there are more sizes than buffers, it is the root. The path of the
+ * root is empty. A step to a child is `list.0`, `fixed_list.0`, `map.0`, `struct.K` or `union.K`, by the format of the
+ * parent; K counts children from 0 on. The step to a dictionary is `dictionary`. A `/` stands between two steps:
+ * `struct.3/list.0` is child 0 of a list, which is child 3 of a struct.
  *
  * `slot` is the slot at which the refused array breaks the rule, or -1 if the rule is about no slot. Slots are counted
  * from 0 at `array->offset`. If an offset of a binary, utf8, list or map array breaks a rule, the slot is the one that
@@ -598,8 +602,9 @@ static inline void arrow2_c_enter(struct arrow2_c_tree *tree, enum arrow2_c_kind
     tree->depth++;
 }
 
-/* Checks whether there are the buffers, sizes and children that the format requires, and whether array and schema both
- * have a dictionary or both have none. */
+/* Checks whether there are the buffers, sizes and children that the format requires, at most ARROW2_C_MAX_ARRAYS
+ * children, and whether array and schema both have a dictionary or both have none. A dictionary is refused where the
+ * format is not that of an integer. */
 static inline uint32_t arrow2_c_check_counts(struct arrow2_c_tree *tree, const struct arrow2_c_layout *layout,
                                              const struct ArrowSchema *schema, const struct ArrowArray *array) {
     int64_t children = layout->children < 0 ? schema->n_children : layout->children;
@@ -657,8 +662,8 @@ static inline struct arrow2_c_buffer arrow2_c_buffer_of(const struct arrow2_c_tr
     return buffer;
 }
 
-/* Tests the pointer of a buffer from which `count` items of `width` bytes will be read: whether it is aligned and not
- * NULL. If nothing is read, any pointer will do. */
+/* Tests the pointer of a buffer from which `count` items will be read: whether it is not NULL, and a multiple of
+ * `width`. Where any alignment will do, `width` is 1. If `count` or `width` is 0, any pointer will do. */
 static inline uint32_t arrow2_c_check_pointer(const void *bytes, size_t count, size_t width) {
     if (count == 0 || width == 0) {
         return ARROW2_OK;
@@ -745,8 +750,8 @@ static inline uint32_t arrow2_c_check_bytes(struct arrow2_c_buffer offsets, stru
     return code;
 }
 
-/* Checks whether the indices that are not null are inside the dictionary, which has `items` items. `letter` is the
- * format of the indices. */
+/* Checks whether the indices are aligned, if there are any, and whether those that are not null are inside the
+ * dictionary, which has `items` items. `letter` is the format of the indices. */
 static inline uint32_t arrow2_c_check_indices(struct arrow2_c_buffer indices, struct arrow2_c_buffer validity,
                                               char letter, size_t width, size_t items, int64_t *slot) {
     size_t first = 0, n = indices.length, o = indices.offset;
@@ -978,8 +983,10 @@ static inline uint32_t arrow2_c_check_root(const struct ArrowSchema *schema, con
  * first rule that is broken. The page has the order of the rules, what is not tested, and where they are stricter than
  * the Arrow format; for example, the bytes of a null slot of a text must be UTF-8 too.
  *
- * The codes are those above except ARROW2_C_SIZES, and these of arrow2_proved.h: ARROW2_RANGE (a buffer is too short),
- * ARROW2_NULLS, ARROW2_SPEC_NEGATIVE, ARROW2_SPEC_FALLING, ARROW2_PAST, ARROW2_UTF8 and ARROW2_INDEX.
+ * The codes are those above except ARROW2_C_SIZES, and these of arrow2_proved.h: ARROW2_RANGE (a buffer would have to
+ * be larger than 2^56 bytes; only arrow2_array_check_sized finds a buffer that is too short), ARROW2_NULLS,
+ * ARROW2_SPEC_NEGATIVE, ARROW2_SPEC_FALLING, ARROW2_PAST, ARROW2_UTF8 and ARROW2_INDEX. `schema` and `array` may be
+ * NULL: the code is then ARROW2_C_NULL. `where` may be NULL.
  *
  * Schema and array stay the caller's, whatever the code is: nothing in them is changed, kept or released. The caller
  * releases both, also after a refusal: `if (array.release) array.release(&array);`, since with ARROW2_C_RELEASED

@@ -180,7 +180,8 @@ uint32_t arrow2_or_kleene(const uint8_t *left, size_t left_len, size_t left_offs
 
 /* The same where a side may have no validity. If `left_all_valid` is true no item of the left side is null: pointer,
  * number of bytes and offset of `left_validity` are not read, and ARROW2_RANGE never comes from them. The rule for
- * slices still holds for them: pass NULL, 0, 0. The same holds for the right side. */
+ * slices still holds for the pointer and its number of bytes: pass NULL, 0, 0, or any valid bitmap, which is then
+ * ignored. The same holds for the right side. */
 uint32_t arrow2_and_kleene_optional(const uint8_t *left, size_t left_len, size_t left_offset,
                                     const uint8_t *left_validity, size_t left_validity_len,
                                     size_t left_validity_offset, bool left_all_valid, const uint8_t *right,
@@ -213,12 +214,12 @@ uint32_t arrow2_unpack(const uint8_t *bytes, size_t bytes_len, size_t offset, bo
  * `starts[k]` of the range and has `lengths[k]` bits. If `*at` is inside a run, only the part of that run from `*at` on
  * is reported. The call stops when the slices are full or no run is left. It writes the number of runs to `*count`, and
  * to `*at` the bit at which the next call begins its search. If the slices are full (`*count` is `starts_len`), the new
- * `*at` is some bit after the last reported run, and at most the first bit of the next run, or `length` if there is
- * none. If `*count < starts_len`, all runs are done, and `*at` equals `length`. The items of `starts` and `lengths`
- * from `*count` on may have been written too. For all runs, call again until `*count` is below `starts_len`, which must
- * be at least 1 for that. If `starts_len` is 0, `*count` becomes 0, which is never below `starts_len`, and the new
- * `*at` is at least the old one and at most `length`. ARROW2_RANGE: the range is not inside the bytes, or `*at` is
- * above `length`. Else ARROW2_LENGTH: `starts_len` is not `lengths_len`. */
+ * `*at` is after the last reported run. It is at most the first bit of the next run; if there is no next run, it is at
+ * most `length`, and may be less. If `*count < starts_len`, all runs are done, and `*at` equals `length`. The items of
+ * `starts` and `lengths` from `*count` on may have been written too. For all runs, call again until `*count` is below
+ * `starts_len`, which must be at least 1 for that. If `starts_len` is 0, `*count` becomes 0, which is never below
+ * `starts_len`. The new `*at` is then at least the old one, and no set bit is passed over. ARROW2_RANGE: the range is
+ * not inside the bytes, or `*at` is above `length`. Else ARROW2_LENGTH: `starts_len` is not `lengths_len`. */
 uint32_t arrow2_runs(const uint8_t *bytes, size_t bytes_len, size_t offset, size_t length, size_t *at, size_t *starts,
                      size_t starts_len, size_t *lengths, size_t lengths_len, size_t *count);
 
@@ -226,11 +227,12 @@ uint32_t arrow2_runs(const uint8_t *bytes, size_t bytes_len, size_t offset, size
  * The search begins at bit `*at` of the range: set `*at` to 0 before the first call. Bit `indices[k]` of the range is
  * set, and the indices rise. The call stops when `indices` is full or no set bit is left. It writes the number of
  * indices to `*count`, and to `*at` the bit at which the next call begins its search. If `indices` is full, the new
- * `*at` is some bit after the last index, and at most the next set bit, or `length` if there is none. If `*count <
- * indices_len`, all set bits are done, and `*at` equals `length`. The items of `indices` from `*count` on may have been
- * written too. For all set bits, call again until `*count` is below `indices_len`, which must be at least 1 for that.
- * If `indices_len` is 0, `*count` becomes 0, which is never below `indices_len`, and the new `*at` is at least the old
- * one and at most `length`. ARROW2_RANGE: the range is not inside the bytes, or `*at` is above `length`. */
+ * `*at` is after the last index. It is at most the next set bit; if there is none, it is at most `length`, and may be
+ * less. If `*count < indices_len`, all set bits are done, and `*at` equals `length`. The items of `indices` from
+ * `*count` on may have been written too. For all set bits, call again until `*count` is below `indices_len`, which must
+ * be at least 1 for that. If `indices_len` is 0, `*count` becomes 0, which is never below `indices_len`. The new `*at`
+ * is then at least the old one, and no set bit is passed over. ARROW2_RANGE: the range is not inside the bytes, or
+ * `*at` is above `length`. */
 uint32_t arrow2_set_indices(const uint8_t *bytes, size_t bytes_len, size_t offset, size_t length, size_t *at,
                             size_t *indices, size_t indices_len, size_t *count);
 
@@ -329,8 +331,8 @@ uint32_t arrow2_texts64_check(const int64_t *offsets, size_t offsets_len, const 
 
 /* Checks whether each index that is not null is at least 0 and below `items`. Index k is null if bit
  * `validity_offset` + k of the validity is 0. If `all_valid` is true, no index is null: pointer, number of bytes and
- * offset of the validity are not read, and ARROW2_RANGE never comes from them. The rule for slices still holds for
- * them: pass NULL, 0, 0.
+ * offset of the validity are not read, and ARROW2_RANGE never comes from them. The rule for slices still holds for the
+ * pointer and its number of bytes: pass NULL, 0, 0, or any valid bitmap, which is then ignored.
  * ARROW2_RANGE: the `indices_len` bits from bit `validity_offset` on are not inside the validity. ARROW2_INDEX: an
  * index that is not null is negative or not below `items`; `*slot` is the position of the first such index, counted
  * from 0. */
