@@ -88,12 +88,8 @@ impl From<Error> for CommandError {
             Error::InvalidArgumentError(_) | Error::OutOfSpec(_) => CommandError::Refused(
                 LineError::Range,
             ),
-            Error::OutOfMemory => CommandError::OutOfMemory,
-            // No call of a command returns one of these.
-            Error::NotYetImplemented(_)
-            | Error::External(_, _)
-            | Error::Io(_)
-            | Error::ExternalFormat(_) => CommandError::OutOfMemory,
+            // `OutOfMemory`: no call of a command returns another error, and the enum may get more.
+            _ => CommandError::OutOfMemory,
         }
     }
 }
