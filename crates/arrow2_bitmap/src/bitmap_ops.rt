@@ -201,7 +201,7 @@ pub fn binary_table(lhs: &Bitmap, rhs: &Bitmap, t: u8) -> Result<Bitmap>
 {
     let (left, left_offset, length) = lhs.as_slice();
     let (right, right_offset, _right_length) = rhs.as_slice();
-    if left_offset + right_offset == 0 {
+    if left_offset == 0 && right_offset == 0 {
         let results = map_binary(lhs.allocator(), left, right, length, t)?;
         prove!(bytes_for(length) <= results.len());
         Bitmap::from_u8_vec(results, length)

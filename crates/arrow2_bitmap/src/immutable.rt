@@ -582,38 +582,9 @@ fn copied(bitmap: &Bitmap) -> Result<MutableBitmap>
     ensures ok { IfOk result (λ m. m.items ≡ items_of bitmap.now) }
     ensures only { IfErr result (λ e. e ≡ Error.OutOfMemory) }
 {
-    if bitmap.offset % 8 == 0 {
-        copy_bytes(bitmap)
-    } else {
-        copy_items(bitmap)
-    }
-}
-
-/// Returns a bitmap that grows, with a copy of the items. Requires that they begin at a byte boundary. Copies all bytes
-/// at once.
-fn copy_bytes(bitmap: &Bitmap) -> Result<MutableBitmap>
-    requires { bitmap.now.offset % 8 ≡ 0 }
-    ensures ok { IfOk result (λ m. m.items ≡ items_of bitmap.now) }
-    ensures only { IfErr result (λ e. e ≡ Error.OutOfMemory) }
-{
-    let (stored, _, length) = bitmap.as_slice();
-    let bytes = Vec::from_slice(bitmap.allocator(), stored)?;
-    Ok(MutableBitmap::from_vec(bytes, length))
-}
-
-/// Returns a bitmap that grows, with a copy of the items. Copies 64 bits at a time.
-fn copy_items(bitmap: &Bitmap) -> Result<MutableBitmap>
-    ensures ok { IfOk result (λ m. m.items ≡ items_of bitmap.now) }
-    ensures only { IfErr result (λ e. e ≡ Error.OutOfMemory) }
-{
-    let mut bytes = Vec::new(bitmap.allocator());
-    bytes.reserve_exact(bytes_for(bitmap.len()) + u64::SIZE)?;
-    let mut chunks = bitmap.chunks::<u64>();
-    while let Some(word) = chunks.next() {
-        bytes.extend_from_slice(&BitChunk::to_ne_bytes(word))?;
-    }
-    bytes.extend_from_slice(&BitChunk::to_ne_bytes(chunks.remainder()))?;
-    Ok(MutableBitmap::from_vec(bytes, bitmap.len()))
+    let mut copy = MutableBitmap::with_capacity(bitmap.allocator(), bitmap.len())?;
+    copy.extend_from_bitmap(bitmap)?;
+    Ok(copy)
 }
 
 impl<'a> IntoIterator for &'a Bitmap {

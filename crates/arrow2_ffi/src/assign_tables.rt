@@ -1,5 +1,6 @@
 //! Truth tables in place: the first input is the first `length` bits of `bytes`, and the outputs are written over it.
-//! `bytes` must have exactly the number of bytes that hold `length` bits. Padding bits become 0, whatever they were.
+//! Bit `a1 + 2 * a2 + 4 * a3 + 8 * a4` of a table is its output for inputs `a1` to `a4`. `bytes` must have exactly the
+//! number of bytes that hold `length` bits. Padding bits become 0, whatever they were.
 ghost use Rattle.std.specs.Prelude.{[], ◌∷◌};
 ghost use Rattle.arrow2_ffi.specs.Writes.{WritesTableInPlace};
 

@@ -36,7 +36,7 @@ pub const ARROW2_PAST: u32 = 9;
 /// The bytes of a slot are not UTF-8.
 pub const ARROW2_UTF8: u32 = 10;
 
-/// An index is negative, or not below the number of items that it points into.
+/// An index that is not null is negative, or not below the number of items that it points into.
 pub const ARROW2_INDEX: u32 = 11;
 
 // The header and callers have these numbers.

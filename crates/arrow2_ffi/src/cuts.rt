@@ -38,7 +38,7 @@ pub extern "C" fn arrow2_offsets64_check_inside(
 ///
 /// Where `arrow2_offsets32_check_inside`, with the number of values as `items`, returns another code than `ARROW2_OK`,
 /// returns this code and writes the same index. Else returns `ARROW2_UTF8` exactly where the values of a slot are not
-/// UTF-8, and writes the first such slot to `index`.
+/// UTF-8, and writes the first such slot to `index`. With `ARROW2_OK` `index` stays.
 #[unsafe(no_mangle)]
 pub extern "C" fn arrow2_texts32_check(offsets: &[i32], values: &[u8], index: &mut usize) -> u32
     ensures { ChecksTexts result offsets.now values.now index.old index.new }

@@ -11,7 +11,7 @@ use crate::bits_input::Bits;
 use arrow2_bits::BitChunks;
 use arrow2_kernels::assign::assign_rows;
 use arrow2_kernels::map::write_rows;
-use arrow2_kernels::simd_assign::{assign_binary, clear_spare};
+use arrow2_kernels::simd_assign::{assign_binary, clear_padding};
 use arrow2_kernels::truth_tables::{binary_outputs, quaternary_outputs, ternary_outputs};
 use arrow2_kernels::{OneList, Pair, WordRows, ZipRows};
 
@@ -178,7 +178,7 @@ fn copy_bytes(bytes: &[u8], len: usize, out: &mut [u8])
     ensures { Stores out.new len (take len (bits bytes.now)) }
 {
     out.copy_from_slice(&bytes[..out.len()]);
-    clear_spare(out, len);
+    clear_padding(out, len);
 }
 
 /// Replaces the first `len` bits by the outputs of table `t` for them and the first `len` bits of the second input.

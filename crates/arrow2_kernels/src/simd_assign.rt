@@ -19,7 +19,7 @@ pub fn assign_binary(bytes: &mut [u8], other: &[u8], len: usize, t: u8)
         ≡ each t (take len (bits bytes.old) ∷ take len (bits other.now) ∷ []) }
 {
     write_by_table(bytes, other, t);
-    clear_spare(bytes, len);
+    clear_padding(bytes, len);
 }
 
 /// Replaces each of the first `len` bits by the output of table `t`, of one input, for this bit. Padding bits are false
@@ -30,7 +30,7 @@ pub fn assign_unary(bytes: &mut [u8], len: usize, t: u8)
     ensures items { take len (bits bytes.new) ≡ each t (take len (bits bytes.old) ∷ []) }
 {
     write_by_unary_table(bytes, t);
-    clear_spare(bytes, len);
+    clear_padding(bytes, len);
 }
 
 /// Replaces each bit of `bytes` by the output of table `t` for this bit and the bit of `other` at its index. Each table
@@ -108,7 +108,7 @@ fn write_unary(bytes: &mut [u8], t: u8)
 }
 
 /// Clears the bits after the first `len`. Does not allocate. Requires exactly the bytes that `len` bits need.
-pub fn clear_spare(bytes: &mut [u8], len: usize)
+pub fn clear_padding(bytes: &mut [u8], len: usize)
     requires exact { length bytes.old ≡ (len + 7) / 8 }
     ensures canonical { IsCanonical bytes.new len }
     ensures items { take len (bits bytes.new) ≡ take len (bits bytes.old) }

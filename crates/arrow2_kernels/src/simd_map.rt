@@ -4,7 +4,7 @@ ghost use Rattle.arrow2_model.specs.Bits.{bits};
 ghost use Rattle.arrow2_model.specs.Canonical.{IsCanonical};
 ghost use Rattle.arrow2_model.specs.Tables.{each};
 
-use crate::simd_assign::{assign_unary, clear_spare, write_by_table};
+use crate::simd_assign::{assign_unary, clear_padding, write_by_table};
 use arrow2_bits::bytes_for;
 use std::alloc::{AllocError, Global};
 
@@ -34,7 +34,7 @@ pub fn map_binary(
     let count = bytes_for(len);
     let mut bytes = Vec::with_capacity(alloc, count)?;
     append_blocks(&mut bytes, &left[..count], &right[..count], t)?;
-    clear_spare(bytes.as_mut_slice(), len);
+    clear_padding(bytes.as_mut_slice(), len);
     Ok(bytes)
 }
 

@@ -11,7 +11,7 @@ use Rattle.std.proofs.lemmas.List.{length-take, length-take-le, length-set, leng
 use Rattle.std.proofs.Math.Seq.{take-set-lt}
 use Rattle.std.proofs.lemmas.List.{take-set-le}
 use Rattle.std.proofs.lemmas.Grind.{get_or_default_zero}
-use Rattle.std.proofs.lemmas.Nat.{one_shl, or_of_8, and_mask, pow_pos}
+use Rattle.std.proofs.lemmas.Nat.{or_of_8, and_mask, pow_pos}
 use Rattle.arrow2_model.specs.Bits.{bit, bits, unnum}
 use Rattle.arrow2_model.specs.Canonical.{IsCanonical}
 use Rattle.arrow2_model.specs.Digits.{low_digits, digits}
@@ -66,20 +66,6 @@ pub word_fits : (word : List ℕ) (x : ℕ) → word ≡ digits 8 (pos x) → x 
 word_fits word x is h = rw (is, digits-natural 8 x (omega (arith, h))) (low_digits_fit 8 x)
 
 -- ---- bits at the end
-
--- a front of whole bytes
-pub cut_bytes : (bytes front : List ℕ) (n : ℕ) → n ≤ 8 * length bytes → n % 8 ≡ 0 → front ≡ take ((n + 7) / 8) bytes → AreBytes front → IsCanonical front n × (take n (bits front) ≡ take n (bits bytes))
-cut_bytes bytes front n h whole e fits = rw e (cut_whole bytes n h whole (subst AreBytes e fits))
-
--- a front whose last byte is cleared from a bit on
-pub cut_bits : (bytes front after : List ℕ) (n x : ℕ) → n ≤ 8 * length bytes → 0 < n % 8 → front ≡ take ((n + 7) / 8) bytes → x ≡ get_or front (n / 8) x → after ≡ set front (n / 8) (x % (1 * 2 ^ (n % 8) % 256)) → AreBytes after → IsCanonical after n × (take n (bits after) ≡ take n (bits bytes))
-cut_bits bytes front after n x h some e is was fits =
-    let low : 1 * 2 ^ (n % 8) % 2 ^ 8 ≡ 2 ^ (n % 8) = one_shl (n % 8) 8 (omega arith) in
-    let l = length-take-le ((n + 7) / 8) bytes (omega arith) in
-    let m : n / 8 < length front = omega (arith, l, ap length e) in
-    let byte : x ≡ get_or (take ((n + 7) / 8) bytes) (n / 8) 0 = is ∙ (get_or_default_zero front (n / 8) x m ∙ ap (λ f. get_or f (n / 8) 0) e) in
-    let now : after ≡ set (take ((n + 7) / 8) bytes) (n / 8) (x % 2 ^ (n % 8)) = was ∙ (ap (λ f. set f (n / 8) (x % (1 * 2 ^ (n % 8) % 256))) e ∙ ap (λ y. set (take ((n + 7) / 8) bytes) (n / 8) (x % y)) low) in
-    rw now (cut_within bytes n (x % 2 ^ (n % 8)) h some (ap (λ b. b % 2 ^ (n % 8)) byte) (subst AreBytes now fits))
 
 -- which bits of a byte are below bit i
 abbrev pub below : List ℕ

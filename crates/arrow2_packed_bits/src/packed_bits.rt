@@ -16,7 +16,7 @@ use arrow2_bits::{bytes_for, is_set, set};
 use arrow2_chunk::BitChunk;
 use arrow2_kernels::WordRows;
 use arrow2_kernels::assign::assign_rows;
-use arrow2_kernels::simd_assign::{assign_binary, assign_unary};
+use arrow2_kernels::simd_assign::{assign_binary, assign_unary, clear_padding};
 use arrow2_types::GrowthError;
 use std::alloc::{AllocError, Global};
 use std::marker::Model;
@@ -399,9 +399,7 @@ fn cut(bytes: &mut Vec<u8>, len: usize)
     ensures capacity { vec_capacity bytes.new ≡ vec_capacity bytes.old }
 {
     bytes.truncate(bytes_for(len));
-    if len % 8 != 0 {
-        bytes[len / 8] %= 1 << (len % 8);
-    }
+    clear_padding(bytes.as_mut_slice(), len);
 }
 
 /// Returns a copy of the items.

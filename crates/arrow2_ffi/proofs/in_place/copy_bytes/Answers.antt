@@ -7,7 +7,7 @@ pub returns : goal.returns
 returns c =
     let n : ℕ = c.args.len in
     record {
-      items = c.clear_spare.ensures.items ∙ (ap (λ (b : List ℕ). take n (bits b)) c.copy_from_slice.ensures.after
+      items = c.clear_padding.ensures.items ∙ (ap (λ (b : List ℕ). take n (bits b)) c.copy_from_slice.ensures.after
           ∙ front_items c.args.bytes.now (length c.args.out.now) n c.requires.inside c.requires.exact);
-      canonical = c.clear_spare.ensures.canonical;
+      canonical = c.clear_padding.ensures.canonical;
     }

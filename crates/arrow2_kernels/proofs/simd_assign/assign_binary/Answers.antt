@@ -13,5 +13,5 @@ returns-clause-items c =
     let m = length-bits old in
     let o = length-bits other in
     let shorter = take-take n (8 * length old) (bits other) (omega (arith, c.requires.exact)) in
-    c.clear_spare.ensures.items ∙ (ap (take n) c.write_by_table.ensures
+    c.clear_padding.ensures.items ∙ (ap (take n) c.write_by_table.ensures
     ∙ take-each2 c.args.t n (bits old) (bits other) (take (8 * length old) (bits other)) (omega (arith, m, c.requires.exact)) (omega (arith, o, c.requires.inside)) shorter)

@@ -1,6 +1,6 @@
 use Rattle.std.proofs.Common.{refl, arith}
 use Rattle.arrow2_kernels.proofs.LaneSteps.{spare_none, spare_cleared}
-use Rattle.arrow2_kernels.proofs.simd_assign.clear_spare.Goals as goal
+use Rattle.arrow2_kernels.proofs.simd_assign.clear_padding.Goals as goal
 
 pub returns-then-len-ne0 : goal.returns-then-len-ne0
 returns-then-len-ne0 c =
