@@ -94,7 +94,7 @@ fn column(alloc: Global, values: &[i64], validity: &[u8]) -> Result<PrimitiveArr
 }
 
 /// The bitmap of the first `len` bits.
-fn bitmap(alloc: Global, bytes: &[u8], len: usize) -> Result<Bitmap> {
+pub(crate) fn bitmap(alloc: Global, bytes: &[u8], len: usize) -> Result<Bitmap> {
     Bitmap::try_new(Vec::from_slice(alloc, bytes)?, len)
 }
 

@@ -2,6 +2,7 @@
 ghost use Rattle.std.specs.Prelude.{◌<◌, length};
 ghost use Rattle.arrow2_text.specs.Binary.{binary_items};
 
+use crate::columns::bitmap;
 use crate::runs::on_each;
 use arrow2_bitmap::Bitmap;
 use arrow2_buffer::Buffer;
@@ -111,11 +112,6 @@ fn texts(alloc: Global, inputs: &Inputs<'_>) -> Result<Utf8Array<i64>> {
         Some(bitmap(alloc, inputs.validity, offsets.len_proxy())?)
     };
     Utf8Array::try_new(DataType::LargeUtf8, offsets, values, validity)
-}
-
-/// The bitmap of the first `len` bits.
-fn bitmap(alloc: Global, bytes: &[u8], len: usize) -> Result<Bitmap> {
-    Bitmap::try_new(Vec::from_slice(alloc, bytes)?, len)
 }
 
 /// The number of bytes of a copy that is pushed text by text.

@@ -30,13 +30,16 @@ pub trait Binary: Drop {
         ensures slots { result ≡ slots_between (parts self.now).offsets }
         ensures fits { slot_bytes (parts self.now) ≤ GREATEST };
 
-    /// Returns an array without items, of the same logical type.
+    /// Returns an array without items, of the same logical type, with capacity for `capacity` items. Requires that
+    /// `capacity` is at most the number of items.
     ///
     /// # Errors
     ///
     /// `OutOfMemory` alone.
-    fn like(&self) -> Result<Self::Growing>
+    fn like(&self, capacity: usize) -> Result<Self::Growing>
+        requires few { capacity ≤ length (binary_items (parts self.now)) }
         ensures items { IfOk result (λ a. ((growing a).items ≡ []) × ((growing a).bytes ≡ 0)) }
+        ensures capacity { IfOk result (λ a. capacity ≤ (growing a).capacity) }
         ensures data_type { IfOk result (λ a. (growing a).data_type ≡ (parts self.now).data_type) }
         ensures only { IfErr result (λ e. e ≡ Error.OutOfMemory) };
 
@@ -93,9 +96,11 @@ impl<O: Offset> Binary for BinaryArray<O> {
         self.len()
     }
 
-    fn like(&self) -> Result<MutableBinaryArray<O>> {
+    fn like(&self, capacity: usize) -> Result<MutableBinaryArray<O>> {
+        // For the proof alone: that a `usize` counts the offsets, one more than there are items.
+        let _ = self.offsets().len();
         let data_type = self.data_type().clone()?;
-        MutableBinaryArray::of_type(self.values().allocator(), data_type)
+        MutableBinaryArray::with_capacity_from(self.values().allocator(), data_type, capacity, 0)
     }
 
     fn push_item(
@@ -135,9 +140,11 @@ impl<O: Offset> Binary for Utf8Array<O> {
         self.len()
     }
 
-    fn like(&self) -> Result<MutableUtf8Array<O>> {
+    fn like(&self, capacity: usize) -> Result<MutableUtf8Array<O>> {
+        // For the proof alone: that a `usize` counts the offsets, one more than there are items.
+        let _ = self.offsets().len();
         let data_type = self.data_type().clone()?;
-        MutableUtf8Array::of_type(self.values().allocator(), data_type)
+        MutableUtf8Array::with_capacity_from(self.values().allocator(), data_type, capacity, 0)
     }
 
     fn push_item(

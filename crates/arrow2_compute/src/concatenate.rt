@@ -67,8 +67,9 @@ pub fn concatenate_binary<A: Binary>(first: &A, others: &[&A]) -> Result<A>
         × (length (joined_items (λ array. A.parts array.now) (A.parts first.now) others.now) < 2 ^ 64)) }
     ensures only { IfErr result (λ e. (e ≡ Error.Overflow) ⊎ (e ≡ Error.OutOfMemory)) }
 {
-    let mut joined = first.like()?;
-    A::push_items(&mut joined, first, 0, first.count())?;
+    let count = first.count();
+    let mut joined = first.like(count)?;
+    A::push_items(&mut joined, first, 0, count)?;
     for array in others {
         A::push_items(&mut joined, *array, 0, array.count())?;
     }

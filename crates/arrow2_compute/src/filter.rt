@@ -195,7 +195,7 @@ pub fn filter_binary<A: Binary>(array: &A, mask: &Bitmap) -> Result<A>
     laws::runs_lie_inside();
     let count = array.count();
     prove!(mask.len() == count);
-    let mut kept = array.like()?;
+    let mut kept = array.like(mask.len() - mask.unset_bits())?;
     for (start, len) in SlicesIterator::new(mask) {
         A::push_items(&mut kept, array, start, len)?;
     }

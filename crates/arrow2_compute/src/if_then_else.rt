@@ -148,7 +148,7 @@ pub fn if_then_else_binary<A: Binary>(mask: &Bitmap, lhs: &A, rhs: &A) -> Result
         (binary_items (A.parts lhs.now)) (binary_items (A.parts rhs.now))) ≤ A.GREATEST) }
     ensures only { IfErr result (λ e. (e ≡ Error.Overflow) ⊎ (e ≡ Error.OutOfMemory)) }
 {
-    let mut items = lhs.like()?;
+    let mut items = lhs.like(mask.len())?;
     for position in 0..mask.len() {
         push_either(&mut items, mask.get_bit(position), lhs, rhs, position)?;
     }

@@ -203,7 +203,7 @@ pub fn take_binary<A: Binary>(array: &A, indices: &[usize]) -> Result<A>
         (map (λ index. binary_item (A.parts array.now) index) indices.now) ≤ A.GREATEST) }
     ensures only { IfErr result (λ e. (e ≡ Error.Overflow) ⊎ (e ≡ Error.OutOfMemory)) }
 {
-    let mut taken = array.like()?;
+    let mut taken = array.like(indices.len().min(array.count()))?;
     for index in indices {
         A::push_item(&mut taken, array, *index)?;
     }

@@ -38,10 +38,10 @@ pub(crate) fn run(
             slots[slot.get()].slice_array(offset, length)?;
         }
         ArrayCommand::And(to, left, right) => {
-            slots[to.get()] = Slot::with_array(both(slots, left, right)?);
+            slots[to.get()] = Slot::with_array(and_kleene(slots, left, right)?);
         }
         ArrayCommand::Or(to, left, right) => {
-            slots[to.get()] = Slot::with_array(either(slots, left, right)?);
+            slots[to.get()] = Slot::with_array(or_kleene(slots, left, right)?);
         }
     }
     reply.extend_from_slice(b"ok")?;
@@ -77,7 +77,11 @@ fn array_of(
 /// # Errors
 ///
 /// `Kind`, `Length` or `OutOfMemory`.
-fn both(slots: &[Slot; 16], left: SlotIndex, right: SlotIndex) -> Result<BooleanArray, CommandError>
+fn and_kleene(
+    slots: &[Slot; 16],
+    left: SlotIndex,
+    right: SlotIndex,
+) -> Result<BooleanArray, CommandError>
     ensures { Gives (λ array. Array (boolean_items array)) result
         (after_kleene kleene_and (at slots.now left) (at slots.now right)) }
 {
@@ -90,7 +94,7 @@ fn both(slots: &[Slot; 16], left: SlotIndex, right: SlotIndex) -> Result<Boolean
 /// # Errors
 ///
 /// `Kind`, `Length` or `OutOfMemory`.
-fn either(
+fn or_kleene(
     slots: &[Slot; 16],
     left: SlotIndex,
     right: SlotIndex,

@@ -27,7 +27,7 @@ pub(crate) fn run(
 {
     match command {
         KernelCommand::Make(to, kernel) => {
-            let bitmap = made(slots, kernel)?;
+            let bitmap = new_bitmap(slots, kernel)?;
             slots[to.get()] = Slot {
                 contents: Contents::Frozen(bitmap),
             };
@@ -50,7 +50,7 @@ pub(crate) fn run(
 ///
 /// `Kind`, `Length` or `OutOfMemory`.
 #[tactic(auto, unfolding(crate::specs::KernelOutcomes::kernel_items))]
-fn made(slots: &[Slot; 16], kernel: Kernel) -> Result<Bitmap, CommandError>
+fn new_bitmap(slots: &[Slot; 16], kernel: Kernel) -> Result<Bitmap, CommandError>
     ensures { Gives (λ bitmap. items_of bitmap) result (kernel_items slots.now kernel) }
 {
     match kernel {

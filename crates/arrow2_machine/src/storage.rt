@@ -53,7 +53,7 @@ impl Slot {
         let Some(end) = offset.checked_add(length) else {
             return Err(Refused(LineError::Range));
         };
-        let mut bitmap = Bitmap::try_new(gather(alloc, bytes)?, end as usize)?;
+        let mut bitmap = Bitmap::try_new(bytes_of_hex(alloc, bytes)?, end as usize)?;
         bitmap.slice(offset as usize, length as usize);
         Ok(Slot {
             contents: Contents::Frozen(bitmap),
@@ -116,12 +116,12 @@ impl Slot {
 }
 
 /// Returns the bytes of a text of hexadecimal digits.
-fn gather(alloc: Global, bytes: HexText<'_>) -> Result<Vec<u8>, AllocError>
+fn bytes_of_hex(alloc: Global, bytes: HexText<'_>) -> Result<Vec<u8>, AllocError>
     ensures { IfOk result (λ vec. vec.items ≡ bytes.entry) }
 {
-    let mut gathered = Vec::with_capacity(alloc, bytes.len())?;
+    let mut decoded = Vec::with_capacity(alloc, bytes.len())?;
     for byte in bytes {
-        gathered.push(byte)?;
+        decoded.push(byte)?;
     }
-    Ok(gathered)
+    Ok(decoded)
 }

@@ -126,19 +126,19 @@ fn count_strings(array: Result<MutableBinaryArray<i32>>) -> Result<usize> {
 }
 
 /// An array of texts of a given logical type.
-fn texts_of_type(alloc: Global) -> Result<MutableUtf8Array<i32>> {
+fn texts_with_type(alloc: Global) -> Result<MutableUtf8Array<i32>> {
     let Ok(data_type) = Rc::new(alloc, DataType::Utf8) else {
         return Err(Error::Overflow);
     };
-    MutableUtf8Array::of_type(alloc, data_type)
+    MutableUtf8Array::with_capacity_from(alloc, data_type, 20, 20)
 }
 
 /// An array of byte strings of a given logical type.
-fn strings_of_type(alloc: Global) -> Result<MutableBinaryArray<i32>> {
+fn strings_with_type(alloc: Global) -> Result<MutableBinaryArray<i32>> {
     let Ok(data_type) = Rc::new(alloc, DataType::Binary) else {
         return Err(Error::Overflow);
     };
-    MutableBinaryArray::of_type(alloc, data_type)
+    MutableBinaryArray::with_capacity_from(alloc, data_type, 20, 20)
 }
 
 /// The text that an iterator gave.
@@ -163,8 +163,8 @@ fn growing(alloc: Global) -> [Row<usize>; 8] {
             count_texts(MutableUtf8Array::with_capacity(alloc, 20, 20)),
         ),
         (
-            "MutableUtf8Array::of_type",
-            count_texts(texts_of_type(alloc)),
+            "MutableUtf8Array::with_capacity_from",
+            count_texts(texts_with_type(alloc)),
         ),
         (
             "MutableUtf8Array::try_from_iter",
@@ -179,8 +179,8 @@ fn growing(alloc: Global) -> [Row<usize>; 8] {
             count_strings(MutableBinaryArray::with_capacity(alloc, 20, 20)),
         ),
         (
-            "MutableBinaryArray::of_type",
-            count_strings(strings_of_type(alloc)),
+            "MutableBinaryArray::with_capacity_from",
+            count_strings(strings_with_type(alloc)),
         ),
         (
             "MutableBinaryArray::try_from_iter",

@@ -3,6 +3,8 @@ pub mod GrowingTexts
 pub mod GrowthItems
 pub mod LastSlot
 pub mod CapacityForSlots
+pub mod PushedSlot
+pub mod SameSlots
 pub mod SlotItems
 pub mod SlotLists
 pub mod TextItems

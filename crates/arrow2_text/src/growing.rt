@@ -1,5 +1,5 @@
 //! Slots that grow: bytes between offsets, with their validity.
-ghost use Rattle.std.specs.Prelude.{◌≡◌, ◌+◌, ◌<◌, ◌≤◌, ◌^◌, ◌↔◌, ◌⊎◌, [], ◌∷◌, false, length, sum, count_by, option_map, slice_index_or, IfErr, IfOk, IsErrOf, IsNone, IsOk, OnOk};
+ghost use Rattle.std.specs.Prelude.{◌≡◌, ◌+◌, ◌<◌, ◌≤◌, ◌^◌, ◌↔◌, ◌⊎◌, [], ◌∷◌, ◌++◌, false, length, sum, count_by, option_map, slice_index_or, vec_capacity, IfErr, IfOk, IsErrOf, IsNone, IsOk, OnErr, OnOk};
 ghost use Rattle.arrow2_model.specs.Buffers.{buffer_items};
 ghost use Rattle.std.specs.Option.{is_none};
 ghost use Rattle.arrow2_walks.specs.Zipped.{slot, zipped};
@@ -200,21 +200,15 @@ impl<O: Offset> Growing<O> {
     pub(crate) fn push(&mut self, value: &[u8], valid: bool) -> Result<()>
         ensures { AppendsSlots O.MAX result self.old self.new (value.now ∷ []) (valid ∷ []) (length value.now) }
     {
-        self.reserve_below(1, value.len())?;
-        self.push_within(value, valid);
-        Ok(())
-    }
-
-    /// Appends a slot. Requires that the slot is within both capacities, and that the last offset does not pass
-    /// `O::MAX`.
-    fn push_within(&mut self, value: &[u8], valid: bool)
-        requires { HasCapacityFor O.MAX self.old 1 (length value.now) }
-        ensures { GrownBySlots self.old self.new (value.now ∷ []) (valid ∷ []) (length value.now) }
-    {
-        // Within the capacities none of these calls allocates, so none returns an error.
-        self.values.extend_from_slice(value).unwrap();
-        self.offsets.try_push_usize(value.len()).unwrap();
-        self.validity.push(valid).unwrap();
+        // For the proof alone: that a `usize` counts the offsets, and that the last is at most `O::MAX`.
+        let _ = self.offsets.len();
+        let _ = self.offsets.last();
+        self.offsets.try_push_usize(value.len())?;
+        let pushed = push_slot(&mut self.values, &mut self.validity, value, valid);
+        if pushed.is_err() {
+            let _ = self.offsets.pop();
+        }
+        pushed
     }
 
     /// Appends the `len` slots of `slots` from slot `start` on. Requires that `start + len` is at most the number of
@@ -324,6 +318,33 @@ impl<O: Offset> Growing<O> {
         let validity = Validity::new(offsets.len_proxy(), validity.into_validity()?);
         Ok(Slots::new(data_type, offsets, values, validity))
     }
+}
+
+/// Appends the bytes of a slot, and whether it is valid. After an error, both hold what they held.
+fn push_slot(
+    values: &mut Vec<u8>,
+    validity: &mut MutableBitmap,
+    value: &[u8],
+    valid: bool,
+) -> Result<()>
+    requires counted { length validity.old.items + 1 < 2 ^ 64 }
+    ensures ok_values { OnOk result (values.new.items ≡ values.old.items ++ value.now) }
+    ensures ok_valid { OnOk result (validity.new.items ≡ validity.old.items ++ valid ∷ []) }
+    ensures err_values { OnErr result (values.new.items ≡ values.old.items) }
+    ensures err_valid { OnErr result (validity.new.items ≡ validity.old.items) }
+    ensures only { IfErr result (λ e. e ≡ Error.OutOfMemory) }
+    ensures succeeds { length validity.old.items < validity.old.capacity →
+        length values.old.items + length value.now ≤ vec_capacity values.old → IsOk result }
+    ensures capacity { validity.old.capacity ≤ validity.new.capacity }
+    ensures byte_capacity { vec_capacity values.old ≤ vec_capacity values.new }
+{
+    let len = values.len();
+    values.extend_from_slice(value)?;
+    let pushed = validity.push(valid);
+    if pushed.is_err() {
+        values.truncate(len);
+    }
+    pushed
 }
 
 /// Returns a copy of the bytes of a slot, or `None` where `valid` is false.

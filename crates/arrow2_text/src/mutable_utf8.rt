@@ -85,19 +85,28 @@ impl<O: Offset> MutableUtf8Array<O> {
         MutableUtf8Array::with_capacity(alloc, 0, 0)
     }
 
-    /// Returns an array without items, of this logical type. Requires that the physical type of `data_type` is `Utf8`,
-    /// or `LargeUtf8` where `O` has 64 bits.
+    /// Returns an array without items, of this logical type, with capacity for `capacity` items and `byte_capacity`
+    /// bytes. Requires that the physical type of `data_type` is `Utf8`, or `LargeUtf8` where `O` has 64 bits.
     ///
     /// # Errors
     ///
+    /// `Overflow` exactly where `capacity` is `usize::MAX`, since there is one offset more than there are items; else
     /// `OutOfMemory` alone.
-    pub fn of_type(alloc: Global, data_type: Rc<DataType>) -> Result<MutableUtf8Array<O>>
+    pub fn with_capacity_from(
+        alloc: Global,
+        data_type: Rc<DataType>,
+        capacity: usize,
+        byte_capacity: usize,
+    ) -> Result<MutableUtf8Array<O>>
         requires { physical data_type.value ≡ text_layout O.IS_LARGE }
         ensures data_type { IfOk result (λ a. a.data_type ≡ data_type.value) }
         ensures items { IfOk result (λ a. (a.items ≡ []) × (a.bytes ≡ 0)) }
-        ensures only { IfErr result (λ e. e ≡ Error.OutOfMemory) }
+        ensures capacity { IfOk result (λ a.
+            (capacity ≤ a.capacity) × (byte_capacity ≤ a.byte_capacity)) }
+        ensures overflow { IsErrOf result Error.Overflow ↔ (2 ^ 64 ≤ capacity + 1) }
+        ensures only { IfErr result (λ e. (e ≡ Error.Overflow) ⊎ (e ≡ Error.OutOfMemory)) }
     {
-        let slots = Growing::with_capacity(data_type, alloc, 0, 0)?;
+        let slots = Growing::with_capacity(data_type, alloc, capacity, byte_capacity)?;
         Ok(MutableUtf8Array { slots })
     }
 
@@ -277,9 +286,9 @@ impl<O: Offset> MutableUtf8Array<O> {
         self.slots.push(text.as_bytes(), valid)
     }
 
-    /// Appends `len` items of `array` from item `start` on. The bytes under nulls are copied too. Contracts state only
-    /// the number of bytes of all these slots together. Requires that `start + len` is at most the length of `array`.
-    /// Within both capacities it does not allocate.
+    /// Appends `len` items of `array` from item `start` on. The bytes under nulls are copied too: of these, contracts
+    /// state only that they count in the number of appended bytes. Requires that `start + len` is at most the length of
+    /// `array`. Within both capacities it does not allocate.
     ///
     /// In arrow2 this call is in `growable`.
     ///

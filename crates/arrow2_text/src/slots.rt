@@ -6,19 +6,22 @@ ghost use Rattle.either.specs.Either.{MatchEither};
 ghost use Rattle.arrow2_model.specs.Buffers.{buffer_items, whole_buffer};
 ghost use Rattle.arrow2_model.specs.Parts.{part};
 ghost use Rattle.arrow2_offset.specs.Nested.{cut};
-ghost use Rattle.arrow2_offset.specs.Offsets.{last_of, offsets_of};
+ghost use Rattle.arrow2_model.specs.Storage.{items_of};
+ghost use Rattle.arrow2_offset.specs.Offsets.{last_of, lengths_of, offsets_of};
 ghost use Rattle.arrow2_walks.specs.Zipped.{zipped};
 ghost use Rattle.arrow2_validity.specs.OptionalValidity.{valid_items};
 ghost use Rattle.arrow2_text.specs.Binary.{binary_items, binary_parts, binary_values, sliced_binary, slot_offset, slots_between, slots_size, IsUnsliced, IsWhole};
 ghost use Rattle.arrow2_text.specs.Growth.{AreThawed};
 
 use crate::growing::Growing;
+use arrow2_bitmap::Bitmap;
 use arrow2_buffer::Buffer;
 use arrow2_datatypes::DataType;
 use arrow2_index::Offset;
 use arrow2_offset::{Offsets, OffsetsBuffer};
 use arrow2_types::{Error, Result};
 use arrow2_validity::Validity;
+use arrow2_walks::{SlicesIterator, laws};
 use either::Either;
 use std::alloc::AllocError;
 use std::convert::TryFrom;
@@ -210,11 +213,61 @@ impl<O: Offset> Slots<O> {
         ensures { Decides result (binary_items self.now ≡ binary_items other.now) }
     {
         let count = self.len();
-        if count != other.len() {
+        if count != other.len() || self.null_count() != other.null_count() {
             return false;
         }
-        for index in 0..count {
-            if !same_item(self.get(index), other.get(index)) {
+        match (self.validity().bitmap(), other.validity().bitmap()) {
+            (Some(valid), Some(others)) => valid == others && self.same_runs(other, valid),
+            // One has no bitmap, so none of its items is null, nor one of the other's.
+            _ => self.same_values(other, 0, count),
+        }
+    }
+
+    /// Returns whether the slots whose bits are set have the same bytes in both. Requires that there are as many bits
+    /// as either has slots.
+    fn same_runs(&self, other: &Slots<O>, valid: &Bitmap) -> bool
+        requires mine { length (items_of valid.now) ≡ length (binary_items self.now) }
+        requires others { length (items_of valid.now) ≡ length (binary_items other.now) }
+        ensures { Decides result (zipped (binary_values self.now) (items_of valid.now)
+            ≡ zipped (binary_values other.now) (items_of valid.now)) }
+    {
+        // For the proof alone: reading the lengths brings that there are as many values as items.
+        let _ = (self.len(), other.len());
+        laws::runs_lie_inside();
+        for (start, len) in SlicesIterator::new(valid) {
+            if !self.same_values(other, start, len) {
+                return false;
+            }
+        }
+        true
+    }
+
+    /// Returns whether the `len` slots from slot `start` on have the same bytes in both, also under nulls. Requires that
+    /// `start + len` is at most the number of slots of either.
+    fn same_values(&self, other: &Slots<O>, start: usize, len: usize) -> bool
+        requires mine { start + len ≤ length (binary_items self.now) }
+        requires others { start + len ≤ length (binary_items other.now) }
+        ensures { Decides result (part (binary_values self.now) start len
+            ≡ part (binary_values other.now) start len) }
+    {
+        let (bytes, others) = (self.bytes_of(start, len), other.bytes_of(start, len));
+        self.same_lengths(other, start, len) && bytes == others
+    }
+
+    /// Returns whether the `len` slots from slot `start` on have the same lengths in both. Requires that `start + len`
+    /// is at most the number of slots of either.
+    fn same_lengths(&self, other: &Slots<O>, start: usize, len: usize) -> bool
+        requires mine { start + len ≤ length (binary_items self.now) }
+        requires others { start + len ≤ length (binary_items other.now) }
+        ensures { Decides result (part (lengths_of (buffer_items self.now.offsets)) start len
+            ≡ part (lengths_of (buffer_items other.now.offsets)) start len) }
+    {
+        // For the proof alone: reading the lengths brings that there are as many lengths of slots as items.
+        let _ = (self.len(), other.len());
+        for index in start..start + len {
+            let (from, to) = self.offsets.start_end(index);
+            let (other_from, other_to) = other.offsets.start_end(index);
+            if to - from != other_to - other_from {
                 return false;
             }
         }
@@ -259,17 +312,6 @@ impl<O: Offset> Slots<O> {
         ensures same_length { length (valid_items result.3) ≡ slots_between result.1 }
     {
         (self.data_type, self.offsets, self.values, self.validity)
-    }
-}
-
-/// Returns whether two items are the same: both are null, or both have the same bytes.
-fn same_item(item: Option<&[u8]>, other: Option<&[u8]>) -> bool
-    ensures { Decides result (option_copied item.entry ≡ option_copied other.entry) }
-{
-    match (item, other) {
-        (Some(bytes), Some(others)) => bytes == others,
-        (None, None) => true,
-        _ => false,
     }
 }
 

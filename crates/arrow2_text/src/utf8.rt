@@ -386,19 +386,19 @@ impl<O: Offset> Utf8Array<O> {
         to_byte_strings(self.slots)
     }
 
-    /// Returns `Right` of an array that grows and takes over the storage, if all of these hold; else `Left` of the
-    /// array as it was:
+    /// Returns `Right` of an array that grows and takes over the storage, if all of these hold:
     ///
     /// - the offsets have no other owner, are not sliced, begin at 0, and end after the last byte;
     /// - the bytes have no other owner, and are not sliced;
     /// - the bitmap has no other owner, and begins at bit 0; or there is no bitmap.
     ///
-    /// Where there is no bitmap, `Right` has a new one whose items are all true.
+    /// Else returns `Left` of the array as it was. Where there is no bitmap, `Right` has a new one whose items are all
+    /// true.
     ///
     /// Proved: `Left` has the array as it was. `Right` has its items, its number of bytes and its logical type, and
     /// comes only where the offsets begin at 0 and end after the last byte, neither they nor the bytes are sliced, and
     /// the bitmap, if there is one, begins at bit 0. Not proved: that `Right` comes only where nobody shares the
-    /// storage, that it has the same storage, or that it comes where all of these hold.
+    /// storage, that it has the same storage, or that it comes whenever all the conditions of the list hold.
     ///
     /// Differs from arrow2, whose array that grows needs no bitmap where no item is null.
     ///
