@@ -84,8 +84,9 @@ struct ArrowArrayStream {
  * counts as 0 bytes, and a NULL validity means that there is no bitmap. In detail:
  * - Each `arrow2_bits_*` function of this header that returns a code calls a function of the library, which its comment
  *   names, and returns its code. There are two exceptions. Without a validity arrow2_bits_null_count calls nothing and
- *   returns ARROW2_OK. If both validities are missing, arrow2_bits_and_validity tests the size of `out` itself: if the
- *   size is wrong, it returns ARROW2_LENGTH, and if it is right and 0, ARROW2_OK, both without a call.
+ *   returns ARROW2_OK. If both validities are missing, arrow2_bits_and_validity tests the size of `out` itself. In two
+ *   cases it calls nothing: if the size is wrong, it returns ARROW2_LENGTH; if `length` and the size are 0, it returns
+ *   ARROW2_OK.
  * - A NULL pointer to bytes counts as 0 bytes, whatever `bytes_len`, `out_len`, `values_len` or `validity_len` is. The
  *   function then returns the code that it returns for an input or output of 0 bytes: ARROW2_RANGE, if an input is NULL
  *   and its `offset` or the `length` is not 0; ARROW2_LENGTH, if an output is NULL and `length` is not 0, unless
@@ -303,17 +304,18 @@ static inline struct arrow2_bits arrow2_bits_of_column(const struct ArrowArray *
 
 /* Where the check refused.
  *
- * `path` leads from the root to the array that was refused: the one that breaks the rule itself. With
- * ARROW2_C_SHORT_CHILD that is the child; if a child or a dictionary is NULL, was released, or has no format or a
- * negative count, it is that child or dictionary; if there are more sizes than buffers, it is the root. The path of the
- * root is empty. A step to a child is `list.0`, `fixed_list.0`, `map.0`, `struct.K` or `union.K`, by the format of the
- * parent; K counts children from 0 on. The step to a dictionary is `dictionary`. A `/` stands between two steps:
+ * `path` leads from the root to the array at fault. With ARROW2_C_SHORT_CHILD that is the child; if the child of a map
+ * is not a struct of two children, it is the map; if a child or a dictionary is NULL, was released, or has no format or
+ * a negative count, it is that child or dictionary; if there are more sizes than buffers, it is the root. The path of
+ * the root is empty. A step to a child is `list.0`, `fixed_list.0`, `map.0`, `struct.K` or `union.K`, by the format of
+ * the parent; K counts children from 0 on. The step to a dictionary is `dictionary`. A `/` stands between two steps:
  * `struct.3/list.0` is child 0 of a list, which is child 3 of a struct.
  *
- * `slot` is the slot at which the refused array breaks the rule, or -1 if the rule is about no slot. Slots are counted
- * from 0 at `array->offset`. If an offset of a binary, utf8, list or map array breaks a rule, the slot is the one that
- * ends at this offset; for the first offset it is slot 0. In a dense union each slot has its own offset, and `slot` is
- * the slot of the offset that breaks the rule. */
+ * `slot` is the slot at which this array breaks the rule, with the codes ARROW2_SPEC_NEGATIVE, ARROW2_SPEC_FALLING,
+ * ARROW2_PAST, ARROW2_UTF8, ARROW2_INDEX, ARROW2_C_TYPE and ARROW2_C_UNION_OFFSET. With all other codes it is -1. Slots
+ * are counted from 0 at `array->offset`. If an offset of a binary, utf8, list or map array breaks a rule, the slot is
+ * the one that ends at this offset; for the first offset it is slot 0. In a dense union each slot has its own offset,
+ * and `slot` is the slot of the offset that breaks the rule. */
 struct arrow2_where {
     char path[ARROW2_C_PATH];
     int64_t slot;
@@ -906,9 +908,10 @@ static inline uint32_t arrow2_c_check_content(struct arrow2_c_tree *tree, const 
 }
 
 /* Checks the counts and the buffers of an array. Of its children and its dictionary it checks only what
- * arrow2_c_check_head checks, and for a map that the child is a struct of two children. It uses their lengths: the
- * children of a struct, a fixed-size list or a sparse union must be long enough, offsets must be inside the child, and
- * indices inside the dictionary. If an array is refused, `tree` is left at that array. */
+ * arrow2_c_check_head checks. If the array is a map, it also checks that the child is a struct of two children. It uses
+ * the lengths of children and dictionary: the children of a struct, a fixed-size list or a sparse union must be long
+ * enough, offsets must be inside the child, and indices inside the dictionary. If an array is refused, `tree` is left
+ * at that array. */
 static inline uint32_t arrow2_c_check_own(struct arrow2_c_tree *tree, const struct arrow2_c_layout *layout,
                                           const struct ArrowSchema *schema, const struct ArrowArray *array,
                                           int64_t *slot) {
@@ -1006,7 +1009,8 @@ static inline uint32_t arrow2_array_check(const struct ArrowSchema *schema, cons
 
 /* The same check with sizes: `sizes` has the number of bytes of each buffer of the tree. Nothing outside these bytes is
  * read. The order of the sizes is depth first: the sizes of an array's own buffers, then those of its children in
- * order, then those of its dictionary. A NULL buffer takes a size too, usually 0.
+ * order, then those of its dictionary. A NULL buffer takes a size too. The size 0 is always enough for a NULL validity,
+ * and, if `length` is 0, for the offsets of binary, utf8, lists and maps and for the bytes of binary and utf8.
  *
  * - Values, and types and offsets of a union, need the bytes of offset + length items, also where `length` is 0 and
  *   where the buffer is NULL. An int32 array of length 0 and offset 5 needs 20 bytes of values: with NULL and the size

@@ -3,8 +3,9 @@
  * proved (docs/BINDINGS.md, which the package has too). This header is written by hand, with its inline function
  * arrow2_get_bit_inline, which is not proved.
  *
- * Rules for every call. A call tests its numbers and returns a code; only the four `_unchecked` calls do not test their
- * offsets. Breaking a rule about pointers, alignment, overlap, bools or threads is undefined behaviour.
+ * Rules for every call. A call tests its numbers and returns a code. Two things it does not test: that a pointer points
+ * to the number of items that comes with it, and, in the four `_unchecked` calls, the offsets. Breaking a rule about
+ * pointers, alignment, overlap, bools or threads is undefined behaviour.
  * - A slice is a pointer and its number of items. NULL is allowed only with 0 items, and never as `offsets` of the
  *   `_unchecked` calls. A pointer that is not NULL must point to the given number of items. It must be aligned for
  *   their type, even where that number is 0.
