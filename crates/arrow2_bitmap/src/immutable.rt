@@ -582,9 +582,24 @@ fn copied(bitmap: &Bitmap) -> Result<MutableBitmap>
     ensures ok { IfOk result (λ m. m.items ≡ items_of bitmap.now) }
     ensures only { IfErr result (λ e. e ≡ Error.OutOfMemory) }
 {
+    if bitmap.offset % 8 == 0 {
+        return copy_bytes(bitmap);
+    }
     let mut copy = MutableBitmap::with_capacity(bitmap.allocator(), bitmap.len())?;
     copy.extend_from_bitmap(bitmap)?;
     Ok(copy)
+}
+
+/// Returns a bitmap that grows, with a copy of the items. Requires that they begin at a byte boundary. Copies all bytes
+/// at once.
+fn copy_bytes(bitmap: &Bitmap) -> Result<MutableBitmap>
+    requires { bitmap.now.offset % 8 ≡ 0 }
+    ensures ok { IfOk result (λ m. m.items ≡ items_of bitmap.now) }
+    ensures only { IfErr result (λ e. e ≡ Error.OutOfMemory) }
+{
+    let (stored, _, length) = bitmap.as_slice();
+    let bytes = Vec::from_slice(bitmap.allocator(), stored)?;
+    Ok(MutableBitmap::from_vec(bytes, length))
 }
 
 impl<'a> IntoIterator for &'a Bitmap {
