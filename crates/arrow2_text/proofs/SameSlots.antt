@@ -1,10 +1,10 @@
--- Slots of two arrays that have the same bytes: by their lengths and all their bytes at once, and run by run of those that
--- are not null.
+-- Slots of two arrays that have the same bytes: by their lengths and all their bytes at once, and run by run of those
+-- that are not null.
 use Rattle.std.proofs.Common.{◌≡◌, ℕ, zero, suc, ◌+◌, ◌-◌, ◌<◌, ◌≤◌, ◌↔◌, ◌⊎◌, List, [], ◌∷◌, ◌++◌, Bool, true, false, not, cond, inl, inr, count_by, length, map, sum, take, drop, get_or, replicate, flat_map, refl, ap, sym, ◌∙◌, arith}
 use Rattle.std.specs.Prelude.{Option, None, Some, is_some}
 use Rattle.std.specs.Option.{is_none}
 use Rattle.std.proofs.Math.Seq.{take-add, take-append_seam, take-length}
-use Rattle.std.proofs.lemmas.List.{length-take, length-drop, take_all, ext_get_or, get_or-take, get_or-drop}
+use Rattle.std.proofs.lemmas.List.{append_cancel_left, length-take, length-drop, take_all, ext_get_or, get_or-take, get_or-drop}
 use Rattle.std.proofs.lemmas.List.Sums.{sum_by-cons}
 use Rattle.arrow2_model.specs.Parts.{part, falses}
 use Rattle.arrow2_offset.specs.Nested.{cut}
@@ -53,12 +53,8 @@ module _ {X : Type 0} where
       let mine : flat_map f left ≡ f r ++ flat_map f rest = ap (flat_map f) first in
       let others : flat_map h left ≡ f r ++ flat_map h rest = ap (flat_map h) first ∙ ap (λ l. l ++ flat_map h rest) (sym same) in (
         λ e. decides.0 (mine ∙ (ap (λ l. f r ++ l) e ∙ sym others)),
-        λ a. rests (f r) (flat_map f rest) (flat_map h rest) (sym mine ∙ (decides.1 a ∙ others)),
+        λ a. append_cancel_left (f r) (flat_map f rest) (flat_map h rest) (sym mine ∙ (decides.1 a ∙ others)),
       )
-    where
-      rests : (xs us zs : List X) → xs ++ us ≡ xs ++ zs → us ≡ zs
-      rests [] us zs e = e
-      rests (x ∷ xs) us zs e = rests xs us zs (tails x x _ _ e)
 
   -- it is not
   pub runs-differ : (f h : ℕ × ℕ → List X) (left rest : List (ℕ × ℕ)) (r : ℕ × ℕ) (A : Type 0) → left ≡ r ∷ rest → length (f r) ≡ length (h r) → (f r ≡ h r → ⊥) → ((flat_map f left ≡ flat_map h left) ↔ A) → A → ⊥

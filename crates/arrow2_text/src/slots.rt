@@ -242,8 +242,8 @@ impl<O: Offset> Slots<O> {
         true
     }
 
-    /// Returns whether the `len` slots from slot `start` on have the same bytes in both, also under nulls. Requires that
-    /// `start + len` is at most the number of slots of either.
+    /// Returns whether the `len` slots from slot `start` on have the same bytes in both, also under nulls. Requires
+    /// that `start + len` is at most the number of slots of either.
     fn same_values(&self, other: &Slots<O>, start: usize, len: usize) -> bool
         requires mine { start + len ≤ length (binary_items self.now) }
         requires others { start + len ≤ length (binary_items other.now) }
