@@ -70,8 +70,8 @@ impl BooleanArray {
     ///
     /// # Errors
     ///
-    /// If the lengths differ, `InvalidArgumentError`, or `OutOfMemory` where its message cannot be allocated. There is
-    /// no other error. After an error both bitmaps are dropped.
+    /// If the lengths differ, `InvalidArgumentError`, or `OutOfMemory`, in the code only where its message cannot be
+    /// allocated. There is no other error. After an error both bitmaps are dropped.
     pub fn try_new(values: Bitmap, validity: Option<Bitmap>) -> Result<BooleanArray>
         ensures ok { IfOk result (λ a. a ≡ record {
           values = values;

@@ -19,8 +19,8 @@ use std::ops::{BitAnd, BitAndAssign, BitOr, BitOrAssign, BitXor, BitXorAssign, N
 /// bits that `op` sets in the padding are cleared. Does not allocate. Requires that the `requires` of `op` holds for
 /// any word, not only for those of the bitmap.
 ///
-/// For any `op` the clauses state that each word of the result is one that the contract of `op` allows for the words at
-/// its index. If the contract of `op` allows one result for each, as a function on words or by a truth table, the
+/// For any `op` the clauses state that each item is a bit of a word that the contract of `op` allows for the word at the
+/// same index. If the contract of `op` fixes one result for each word, by a function on words or by a truth table, the
 /// clauses state the items.
 ///
 /// Differs from arrow2: the padding bits of the words count as false, and are false afterwards.
@@ -46,9 +46,9 @@ pub fn unary_assign<T: BitChunk, F: Fn(T) -> T>(bitmap: &mut MutableBitmap, op: 
 /// last words are padded with false, and bits that `op` sets in the padding are cleared. Does not allocate. Requires
 /// equal lengths, and that the `requires` of `op` holds for any two words, not only for those of the bitmaps.
 ///
-/// For any `op` the clauses state that each word of the result is one that the contract of `op` allows for the words at
-/// its index. If the contract of `op` allows one result for each, as a function on words or by a truth table, the
-/// clauses state the items.
+/// For any `op` the clauses state that each item is a bit of a word that the contract of `op` allows for the words at
+/// the word's index. If the contract of `op` fixes one result for each row of words, by a function on words or by a
+/// truth table, the clauses state the items.
 ///
 /// Differs from arrow2: the padding bits of the words count as false, and are false afterwards.
 pub fn binary_assign<T: BitChunk, F: Fn(T, T) -> T>(lhs: &mut MutableBitmap, rhs: &Bitmap, op: F)

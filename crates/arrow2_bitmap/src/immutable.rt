@@ -95,8 +95,9 @@ impl Bitmap {
     ///
     /// # Errors
     ///
-    /// Where `len` is above eight times the number of bytes: `InvalidArgumentError`, or `OutOfMemory` if the message
-    /// cannot be allocated. Where it is not, `OutOfMemory` is the only error. After an error the bytes are dropped.
+    /// Where `len` is above eight times the number of bytes: `InvalidArgumentError`, or `OutOfMemory`, in the code only
+    /// if the message cannot be allocated. Where it is not, `OutOfMemory` is the only error. After an error the bytes are
+    /// dropped.
     pub fn try_new(bytes: Vec<u8>, len: usize) -> Result<Bitmap>
         ensures accepted { OnOk result (len ≤ 8 * vec_len bytes) }
         ensures ok { IfOk result (λ b. b ≡ record {
@@ -676,9 +677,8 @@ impl fmt::Debug for Bitmap {
     ghost debug_output = { λ b. Some (shown
         (part b.bytes (b.offset / 8) ((b.offset % 8 + b.len + 7) / 8)) (b.offset % 8) b.len) };
 
-    /// If it returns `Ok`, exactly this text was written, whatever width, precision or flags the formatter has. The
-    /// clause states that only for a formatter that does not indent. Formatters indent only inside a `{:#?}`, for
-    /// example while they write a field.
+    /// If it returns `Ok` and the formatter does not indent, exactly this text was written, whatever width, precision or
+    /// flags the formatter has. For a formatter that indents, as inside a `{:#?}`, the clause states nothing.
     fn fmt<W: fmt::Write>(&self, f: &mut fmt::Formatter<W>) -> fmt::Result
         ensures styled { let b = self.now in WritesStyledOnOk W.write_str_gives f.old result (shown
             (part b.bytes (b.offset / 8) ((b.offset % 8 + b.len + 7) / 8)) (b.offset % 8) b.len) f.new }

@@ -10,7 +10,8 @@ use std::marker::Model;
 
 /// An iterator over the items of a [`Bitmap`], from both ends: contracts see the list of the items still to come.
 ///
-/// Differs from arrow2: it has no `nth` of its own. The standard library's `nth` calls `next` repeatedly.
+/// Differs from arrow2, whose iterator has an `nth` of its own: here the standard library's `nth` calls `next`
+/// repeatedly.
 #[derive(Debug, Drop)]
 pub struct IntoIter {
     values: Bitmap,

@@ -77,8 +77,9 @@ impl MutableBitmap {
     ///
     /// # Errors
     ///
-    /// Where `len` is above eight times the number of bytes: `InvalidArgumentError`, or `OutOfMemory` if the message
-    /// cannot be allocated. Where it is not, there is no error. After an error the bytes are dropped.
+    /// Where `len` is above eight times the number of bytes: `InvalidArgumentError`, or `OutOfMemory`, in the code only
+    /// if the message cannot be allocated. Where it is not, there is no error. After an error the bytes are
+    /// dropped.
     pub fn try_new(bytes: Vec<u8>, len: usize) -> Result<MutableBitmap>
         ensures accepted { IsOk result ↔ (len ≤ 8 * vec_len bytes) }
         ensures ok { IfOk result (λ m. m.items ≡ take len (bits bytes.items)) }
@@ -488,9 +489,8 @@ fn filled(alloc: Global, byte: u8, count: usize) -> std::result::Result<Vec<u8>,
 impl fmt::Debug for MutableBitmap {
     ghost debug_output = { λ m. Some (shown (canonical_bytes m.items) 0 (length m.items)) };
 
-    /// If it returns `Ok`, exactly this text was written, whatever width, precision or flags the formatter has. The
-    /// clause states that only for a formatter that does not indent. Formatters indent only inside a `{:#?}`, for
-    /// example while they write a field.
+    /// If it returns `Ok` and the formatter does not indent, exactly this text was written, whatever width, precision or
+    /// flags the formatter has. For a formatter that indents, as inside a `{:#?}`, the clause states nothing.
     fn fmt<W: fmt::Write>(&self, f: &mut fmt::Formatter<W>) -> fmt::Result
         ensures styled { WritesStyledOnOk W.write_str_gives f.old result
             (shown (canonical_bytes self.now.items) 0 (length self.now.items)) f.new }

@@ -23,7 +23,7 @@ rule_words Falling = codes "offsets must be monotonically increasing"
 abbrev pub not_offsets_message : List ℤ → List ℕ
 not_offsets_message xs = rule_words (first_broken xs)
 
--- an `OutOfSpec` error with this message; or running out of memory, where the message cannot be allocated
+-- an `OutOfSpec` error with this message; or `OutOfMemory`, on which this sets no condition
 abbrev pub IsOutOfSpecOrOutOfMemory : Error → List ℕ → Type 0
 IsOutOfSpecOrOutOfMemory (OutOfSpec text) words = string_bytes text ≡ words
 IsOutOfSpecOrOutOfMemory OutOfMemory words = Unit {0}

@@ -267,7 +267,7 @@ impl<O: Offset> OffsetsBuffer<O> {
 /// # Errors
 ///
 /// Exactly where the items are not offsets: `OutOfSpec` with the text of the rule that they break, or `OutOfMemory`. In
-/// the code `OutOfMemory` comes only if that text cannot be allocated. The buffer is then dropped.
+/// the code `OutOfMemory` comes only if that text cannot be allocated. After either error the buffer is dropped.
 impl<O: Offset> TryFrom<Buffer<O>> for OffsetsBuffer<O> {
     type Error = Error;
 
@@ -286,9 +286,9 @@ impl<O: Offset> TryFrom<Buffer<O>> for OffsetsBuffer<O> {
 ///
 /// # Errors
 ///
-/// Where the items are not offsets: `OutOfSpec` with the text of the rule that they break, or `OutOfMemory` if that
-/// text cannot be allocated. Where they are offsets, `OutOfMemory` is the only error. After an error the vector is
-/// dropped.
+/// Where the items are not offsets: `OutOfSpec` with the text of the rule that they break, or `OutOfMemory`, in the code
+/// only if that text cannot be allocated. Where they are offsets, `OutOfMemory` is the only error. After an error the
+/// vector is dropped.
 impl<O: Offset> TryFrom<Vec<O>> for OffsetsBuffer<O> {
     type Error = Error;
 

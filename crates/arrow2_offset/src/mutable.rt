@@ -237,8 +237,8 @@ impl<O: Offset> Offsets<O> {
         Ok(())
     }
 
-    /// Appends the lengths that an iterator yields. Requires that the iterator ends, and that the `requires` of its
-    /// `next` holds until then. Its size hint is not read. Within the capacity the call does not allocate.
+    /// Appends the lengths that an iterator yields. Requires that `next` may be called on the iterator, and that the
+    /// iterator ends. Its size hint is not read. Within the capacity the call does not allocate.
     ///
     /// Differs from arrow2, which wraps in its sums, and which keeps the appended lengths where it returns `Overflow`.
     ///
@@ -307,8 +307,8 @@ impl<O: Offset> Offsets<O> {
     /// # Errors
     ///
     /// `Overflow` exactly where the number of offsets would pass `usize::MAX`, else `OutOfMemory` alone. After either
-    /// error, the offsets are as they were. In arrow2 the number wraps, and offsets from the wrapped number on are
-    /// dropped.
+    /// error, the offsets are as they were. In arrow2 the number of offsets wraps, and the list is cut to the wrapped
+    /// number of offsets.
     pub fn extend_constant(&mut self, additional: usize) -> Result<()>
         // `Overflow` exactly where the number of offsets would be above 2 ^ 64 - 1.
         ensures { Grows error_of result self.old self.new (replicate additional 0)
@@ -494,7 +494,7 @@ impl<O: Offset> Offsets<O> {
 /// # Errors
 ///
 /// Exactly where the items are not offsets: `OutOfSpec` with the text of the rule that they break, or `OutOfMemory`. In
-/// the code `OutOfMemory` comes only if that text cannot be allocated. The vector is then dropped.
+/// the code `OutOfMemory` comes only if that text cannot be allocated. After either error the vector is dropped.
 impl<O: Offset> TryFrom<Vec<O>> for Offsets<O> {
     type Error = Error;
 
@@ -513,7 +513,7 @@ impl<O: Offset> TryFrom<Vec<O>> for Offsets<O> {
 ///
 /// # Errors
 ///
-/// If an allocation fails.
+/// `AllocError`, in the code only if an allocation fails. No clause states that.
 impl<O: Offset> Clone for Offsets<O> {
     ghost is_clone = { SameOffsets };
 

@@ -86,8 +86,8 @@ impl<T: NativeType> PrimitiveArray<T> {
     ///
     /// # Errors
     ///
-    /// `InvalidArgumentError`, or `OutOfMemory` if its message cannot be allocated, exactly if one of these holds. The
-    /// message is that of the first that holds:
+    /// `InvalidArgumentError`, or `OutOfMemory` (in the code only if its message cannot be allocated), exactly if one of
+    /// these holds. The message is that of the first that holds:
     ///
     /// - the validity has another length than the values;
     /// - the physical type of `data_type` is not that of `T`.

@@ -65,8 +65,8 @@ impl<O: Offset> BinaryArray<O> {
     ///
     /// # Errors
     ///
-    /// `InvalidArgumentError`, or `OutOfMemory` if its message cannot be allocated, exactly if one of these holds. The
-    /// message is that of the first that holds:
+    /// `InvalidArgumentError`, or `OutOfMemory` (in the code only if its message cannot be allocated), exactly if one of
+    /// these holds. The message is that of the first that holds:
     ///
     /// - the last offset is past the values;
     /// - the validity has another length than the number of slots;

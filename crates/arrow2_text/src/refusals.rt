@@ -19,7 +19,8 @@ use arrow2_utf8::{BrokenTexts, try_check_utf8};
 use arrow2_validity::Validity;
 use std::alloc::Global;
 
-/// Returns `InvalidArgumentError` with this message, or `OutOfMemory` if the message cannot be allocated.
+/// Returns `InvalidArgumentError` with this message, or `OutOfMemory`, in the code only if the message cannot be
+/// allocated.
 pub(crate) fn refusal(alloc: Global, words: &str) -> Error
     ensures { IsInvalidArgumentOrOutOfMemory result words.now }
 {

@@ -84,8 +84,8 @@ impl<O: Offset> Utf8Array<O> {
     ///
     /// # Errors
     ///
-    /// `InvalidArgumentError`, or `OutOfMemory` if its message cannot be allocated, exactly if one of these holds. The
-    /// message is that of the first that holds:
+    /// `InvalidArgumentError`, or `OutOfMemory` (in the code only if its message cannot be allocated), exactly if one of
+    /// these holds. The message is that of the first that holds:
     ///
     /// - the last offset is past the values;
     /// - a slot is not UTF-8: also a slot under a null, and a slot that begins inside a character;

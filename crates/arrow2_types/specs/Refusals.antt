@@ -5,13 +5,13 @@ use Rattle.arrow2_types.specs.declared.error.Error.TheVariants.{InvalidArgumentE
 use Rattle.arrow2_types.specs.declared.growth_error.GrowthError.{GrowthError}
 use Rattle.arrow2_types.specs.declared.growth_error.GrowthError.TheVariants as growth_error
 
--- an invalid argument with this message; or out of memory, where the message cannot be allocated
+-- an invalid argument with this message; or `OutOfMemory`, on which this sets no condition
 abbrev pub IsInvalidArgumentOrOutOfMemory : Error → List ℕ → Type 0
 IsInvalidArgumentOrOutOfMemory (InvalidArgumentError text) words = string_bytes text ≡ words
 IsInvalidArgumentOrOutOfMemory OutOfMemory words = Unit {0}
 IsInvalidArgumentOrOutOfMemory _ words = ⊥
 
--- if the call fails, the error has this message, or is `OutOfMemory` where the message cannot be allocated
+-- if the call fails, the error is an invalid argument with this message, or `OutOfMemory`
 abbrev pub FailsOnlyWith : {T : Type 0} → Result T Error → List ℕ → Type 0
 FailsOnlyWith r message = IfErr r (λ e. IsInvalidArgumentOrOutOfMemory e message)
 

@@ -53,8 +53,8 @@ impl Dictionary {
     ///
     /// # Errors
     ///
-    /// Exactly if a key is neither null nor below the number of texts: `InvalidArgumentError`, or `OutOfMemory` if its
-    /// message cannot be allocated.
+    /// Exactly if a key is neither null nor below the number of texts: `InvalidArgumentError`, or `OutOfMemory`, in the
+    /// code only if its message cannot be allocated.
     pub fn try_new(keys: PrimitiveArray<u32>, texts: Utf8Array<i32>) -> Result<Dictionary>
         ensures accepted { IsOk result ↔ All (IsInBoundsOrNull (λ key. pos key) (length (binary_items texts)))
             (primitive_items keys) }

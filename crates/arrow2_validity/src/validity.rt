@@ -65,8 +65,8 @@ impl Validity {
     ///
     /// # Errors
     ///
-    /// If the bitmap has another length, `InvalidArgumentError`, or `OutOfMemory` where its message cannot be
-    /// allocated. After an error the bitmap is dropped.
+    /// If the bitmap has another length, `InvalidArgumentError`, or `OutOfMemory`, in the code only where its message
+    /// cannot be allocated. After an error the bitmap is dropped.
     pub fn try_new(len: usize, bitmap: Option<Bitmap>) -> Result<Validity>
         ensures ok { IfOk result (λ v. v ≡ record { len = len; bitmap = bitmap }) }
         ensures len { IfOk result (λ v. length (valid_items v) ≡ len) }
@@ -248,7 +248,8 @@ fn append_part(bitmap: &Bitmap, start: usize, len: usize, grown: &mut MutableBit
 ///
 /// # Errors
 ///
-/// If the lengths differ, `InvalidArgumentError`, or `OutOfMemory` where its message cannot be allocated.
+/// If the lengths differ, `InvalidArgumentError`, or `OutOfMemory`, in the code only where its message cannot be
+/// allocated.
 pub fn check_same_length(values: usize, validity: &Bitmap) -> Result<()>
     ensures accepted { IsOk result ↔ (length (items_of validity.now) ≡ values) }
     ensures refused { FailsOnlyWith result (unequal_lengths_message (length (items_of validity.now)) values) }
