@@ -19,9 +19,9 @@ use std::ops::{BitAnd, BitAndAssign, BitOr, BitOrAssign, BitXor, BitXorAssign, N
 /// bits that `op` sets in the padding are cleared. Does not allocate. Requires that the `requires` of `op` holds for
 /// any word, not only for those of the bitmap.
 ///
-/// For any `op` the clauses state that each item is a bit of a word that the contract of `op` allows for the word at the
-/// same index. If the contract of `op` fixes one result for each word, by a function on words or by a truth table, the
-/// clauses state the items.
+/// For any `op` the clauses state that the items are the bits of result words, and that each result word is one that
+/// the contract of `op` allows for the input word at its index. If the contract of `op` fixes one result for each input
+/// word, by a function on words or by a truth table, the clauses state the items.
 ///
 /// Differs from arrow2: the padding bits of the words count as false, and are false afterwards.
 pub fn unary_assign<T: BitChunk, F: Fn(T) -> T>(bitmap: &mut MutableBitmap, op: F)
@@ -46,9 +46,9 @@ pub fn unary_assign<T: BitChunk, F: Fn(T) -> T>(bitmap: &mut MutableBitmap, op: 
 /// last words are padded with false, and bits that `op` sets in the padding are cleared. Does not allocate. Requires
 /// equal lengths, and that the `requires` of `op` holds for any two words, not only for those of the bitmaps.
 ///
-/// For any `op` the clauses state that each item is a bit of a word that the contract of `op` allows for the words at
-/// the word's index. If the contract of `op` fixes one result for each row of words, by a function on words or by a
-/// truth table, the clauses state the items.
+/// For any `op` the clauses state that the items are the bits of result words, and that each result word is one that
+/// the contract of `op` allows for the input words at its index. If the contract of `op` fixes one result for each row
+/// of input words, by a function on words or by a truth table, the clauses state the items.
 ///
 /// Differs from arrow2: the padding bits of the words count as false, and are false afterwards.
 pub fn binary_assign<T: BitChunk, F: Fn(T, T) -> T>(lhs: &mut MutableBitmap, rhs: &Bitmap, op: F)
@@ -236,8 +236,8 @@ impl Not for MutableBitmap {
     }
 }
 
-/// Replaces each item by whether it and the item of `rhs` at the same index are both true. Writes nothing where every
-/// item of `rhs` is true.
+/// Replaces each item by whether it and the item of `rhs` at the same index are both true. If every item of `rhs`
+/// is true, writes nothing.
 fn and_assign(lhs: &mut MutableBitmap, rhs: &Bitmap)
     requires same_length { length lhs.old.items ≡ length (items_of rhs.now) }
     ensures items { lhs.new.items ≡ each 8 (lhs.old.items ∷ items_of rhs.now ∷ []) }
@@ -250,8 +250,8 @@ fn and_assign(lhs: &mut MutableBitmap, rhs: &Bitmap)
     }
 }
 
-/// Replaces each item by whether it or the item of `rhs` at the same index is true, or both. Writes nothing where every
-/// item of `rhs` is false.
+/// Replaces each item by whether it or the item of `rhs` at the same index is true, or both. If every item of
+/// `rhs` is false, writes nothing.
 fn or_assign(lhs: &mut MutableBitmap, rhs: &Bitmap)
     requires same_length { length lhs.old.items ≡ length (items_of rhs.now) }
     ensures items { lhs.new.items ≡ each 14 (lhs.old.items ∷ items_of rhs.now ∷ []) }

@@ -24,9 +24,9 @@ use std::ops::{BitAnd, BitOr, BitXor, Not};
 /// at one index of several lists. Requires that all lists have `len` items, and that the `requires` of `op` holds for
 /// any words, not only for those of these lists.
 ///
-/// For any `op` the clauses state that each item is a bit of a word that the contract of `op` allows for the words at
-/// the word's index. If the contract of `op` fixes one result for each row of words, by a function on words or by a
-/// truth table, the clauses state the items.
+/// For any `op` the clauses state that the items are the bits of result words, and that each result word is one that
+/// the contract of `op` allows for the input words at its index. If the contract of `op` fixes one result for each row
+/// of input words, by a function on words or by a truth table, the clauses state the items.
 ///
 /// arrow2 has no such call.
 ///
@@ -73,9 +73,9 @@ pub fn from_rows<S: WordRows<u64>, F: Fn(S::Row) -> u64>(
 /// of the results, cut to the same length. Requires that the `requires` of `op` holds for any word, not only for those
 /// of the bitmap.
 ///
-/// For any `op` the clauses state that each item is a bit of a word that the contract of `op` allows for the word at the
-/// same index. If the contract of `op` fixes one result for each word, by a function on words or by a truth table, the
-/// clauses state the items.
+/// For any `op` the clauses state that the items are the bits of result words, and that each result word is one that
+/// the contract of `op` allows for the input word at its index. If the contract of `op` fixes one result for each input
+/// word, by a function on words or by a truth table, the clauses state the items.
 ///
 /// Differs from arrow2: the padding bits of the words count as false. In the code `op` is not called for words that hold
 /// no item, which no clause states. arrow2's `unary` returns no `Result`.
@@ -114,9 +114,9 @@ pub fn unary<F: Fn(u64) -> u64>(lhs: &Bitmap, op: F) -> Result<Bitmap>
 /// index, and returns the bits of the results, cut to the same length. Requires equal lengths, and that the `requires`
 /// of `op` holds for any two words, not only for those of the bitmaps.
 ///
-/// For any `op` the clauses state that each item is a bit of a word that the contract of `op` allows for the words at
-/// the word's index. If the contract of `op` fixes one result for each row of words, by a function on words or by a
-/// truth table, the clauses state the items.
+/// For any `op` the clauses state that the items are the bits of result words, and that each result word is one that
+/// the contract of `op` allows for the input words at its index. If the contract of `op` fixes one result for each row
+/// of input words, by a function on words or by a truth table, the clauses state the items.
 ///
 /// Differs from arrow2: the padding bits of the words count as false. In the code `op` is not called for words that hold
 /// no item, which no clause states. arrow2's `binary` returns no `Result`.

@@ -95,9 +95,9 @@ impl Bitmap {
     ///
     /// # Errors
     ///
-    /// Where `len` is above eight times the number of bytes: `InvalidArgumentError`, or `OutOfMemory`, in the code only
-    /// if the message cannot be allocated. Where it is not, `OutOfMemory` is the only error. After an error the bytes are
-    /// dropped.
+    /// If `len` is above eight times the number of bytes, `InvalidArgumentError` or `OutOfMemory`; in the code
+    /// `OutOfMemory` then comes only if the message cannot be allocated, which no clause states. If `len` is not above
+    /// it, `OutOfMemory` is the only error. After an error the bytes are dropped.
     pub fn try_new(bytes: Vec<u8>, len: usize) -> Result<Bitmap>
         ensures accepted { OnOk result (len ≤ 8 * vec_len bytes) }
         ensures ok { IfOk result (λ b. b ≡ record {
@@ -561,8 +561,8 @@ impl Bitmap {
         }
     }
 
-    /// Returns a bitmap that can be changed, with the same items. In the code it has the same bytes if
-    /// [`Bitmap::into_mut`] returns `Right`, otherwise a copy; no clause states that. arrow2 returns no `Result`.
+    /// Returns a bitmap that can be changed, with the same items. In the code it is over the same vector
+    /// if [`Bitmap::into_mut`] returns `Right`, otherwise a copy; no clause states that. arrow2 returns no `Result`.
     ///
     /// # Errors
     ///

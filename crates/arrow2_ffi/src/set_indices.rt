@@ -14,8 +14,8 @@ use arrow2_chunk::{BitChunk, BitChunkOnes};
 /// Finds the set bits among the `length` bits from bit `offset` on. Indices are relative to `offset`: index 0 is bit
 /// `offset`. The search begins at index `at`. Writes the indices of set bits to `indices`, in rising order, until
 /// `indices` is full or no set bit is left. Writes to `count` how many indices it wrote, and to `at` where the next
-/// call goes on. When `count` is below the length of `indices`, all set bits have been found. With length 0 that never
-/// happens: `count` is 0 then. What `indices` holds from `count` on is not specified.
+/// call goes on. When `count` is below the length of `indices`, all set bits have been found. With `indices`
+/// of length 0 that never happens: `count` is 0 then. What `indices` holds from `count` on is not specified.
 ///
 /// Returns `ARROW2_RANGE` exactly where the bits are not inside, or `at` is above `length`.
 #[unsafe(no_mangle)]
@@ -27,8 +27,8 @@ pub extern "C" fn arrow2_set_indices(
     indices: &mut [usize],
     count: &mut usize,
 ) -> u32
-    // The first `count` of `indices`, then those from `at.new` on, are the indices of set bits from `at.old` on; where
-    // `indices` is not full, `at.new` is `length`.
+    // The first `count` of `indices`, then the indices of set bits from `at.new` on, are the indices of set bits from
+    // `at.old` on; where `indices` is not full, `at.new` is `length`.
     ensures { FindsSetIndices result bytes.now offset length
         (index_outputs indices.old at.old count.old)
         (index_outputs indices.new at.new count.new) }

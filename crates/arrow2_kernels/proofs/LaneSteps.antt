@@ -218,6 +218,16 @@ same_table t u xs ys e =
     same false true = low_table 4 t 2 (omega arith)
     same false false = low_table 4 t 0 (omega arith)
 
+-- a table of one input is the one of its two lowest bits
+pub same_unary_table : (t u : ℕ) (xs : List Bool) → t % 4 ≡ u → each u (xs ∷ []) ≡ each t (xs ∷ [])
+same_unary_table t u xs e =
+    each_from t (xs ∷ []) (each u (xs ∷ [])) (length-each u (xs ∷ []))
+    (λ k h. get_or-each u (xs ∷ []) k h ∙ (ap (λ z. answer z (get_or xs k false ∷ [])) (sym e) ∙ same (get_or xs k false)))
+  where
+    same : (a : Bool) → answer (t % 4) (a ∷ []) ≡ answer t (a ∷ [])
+    same true = low_table 2 t 1 (omega arith)
+    same false = low_table 2 t 0 (omega arith)
+
 -- ---- outputs that are appended
 
 pub each-append : (t : ℕ) (a b d e : List Bool) → length a ≡ length d → length b ≡ length e → each t ((a ++ b) ∷ (d ++ e) ∷ []) ≡ each t (a ∷ d ∷ []) ++ each t (b ∷ e ∷ [])

@@ -29,7 +29,7 @@ pub fn assign_unary(bytes: &mut [u8], len: usize, t: u8)
     ensures canonical { IsCanonical bytes.new len }
     ensures items { take len (bits bytes.new) ≡ each t (take len (bits bytes.old) ∷ []) }
 {
-    write_unary(bytes, t);
+    write_by_unary_table(bytes, t);
     clear_padding(bytes, len);
 }
 
@@ -60,6 +60,18 @@ pub(crate) fn write_by_table(bytes: &mut [u8], other: &[u8], t: u8)
     }
 }
 
+/// Replaces each bit of `bytes` by the output of table `t`, of one input. Each table has a loop of its own.
+fn write_by_unary_table(bytes: &mut [u8], t: u8)
+    ensures { bits bytes.new ≡ each t (bits bytes.old ∷ []) }
+{
+    match t % 4 {
+        0 => write_unary(bytes, 0),
+        1 => write_unary(bytes, 1),
+        2 => write_unary(bytes, 2),
+        _ => write_unary(bytes, 3),
+    }
+}
+
 /// Does the same as [`write_by_table`], 32 bytes at a time, and then byte by byte.
 #[inline(always)]
 fn write_binary(bytes: &mut [u8], other: &[u8], t: u8)
@@ -79,8 +91,8 @@ fn write_binary(bytes: &mut [u8], other: &[u8], t: u8)
     }
 }
 
-/// Replaces each bit of `bytes` by the output of table `t`, of one input: 32 bytes at a time, and then byte by byte. One
-/// loop serves the four tables: on short inputs, to choose a loop would take longer than what it saves.
+/// Does the same as [`write_by_unary_table`], 32 bytes at a time, and then byte by byte.
+#[inline(always)]
 fn write_unary(bytes: &mut [u8], t: u8)
     ensures { bits bytes.new ≡ each t (bits bytes.old ∷ []) }
 {

@@ -72,7 +72,7 @@ impl<'a, O: Offset> Iterator for Lengths<'a, O> {
     /// Returns the number of lengths still to come as both bounds.
     fn size_hint(&self) -> (usize, Option<usize>)
         ensures exact { (result.0 ≡ length self.now) × (result.1 ≡ Some (length self.now)) }
-        // The trait requires these two, which follow.
+        // The trait requires `lower` and `upper`; both are consequences of `exact`.
         ensures lower { IsWithinCount result.0 (item_count (λ s. s) self.now) }
         ensures upper { IfSome result.1 (UpTo (item_count (λ s. s) self.now)) }
     {

@@ -116,8 +116,8 @@ impl<O: Offset> Offsets<O> {
         Ok(Offsets { offsets })
     }
 
-    /// Returns the offsets from 0 on with the lengths that an iterator yields. Requires that the iterator may be called
-    /// and ends. Its size hint is not read.
+    /// Returns the offsets from 0 on with the lengths that an iterator yields. Requires that `next` may be called on
+    /// the iterator, and that the iterator ends. Its size hint is not read.
     ///
     /// # Errors
     ///

@@ -15,9 +15,9 @@ use arrow2_types::{Error, Result};
 /// Returns the bitmap of the results of `op` for the three words of 64 items at each index. The last words are padded
 /// with false. Requires that all have equal lengths, and that the `requires` of `op` holds for every three words.
 ///
-/// For any `op` the clauses state that each item is a bit of a word that the contract of `op` allows for the words at
-/// the word's index. If the contract of `op` fixes one result for each row of words, by a function on words or by a
-/// truth table, the clauses state the items.
+/// For any `op` the clauses state that the items are the bits of result words, and that each result word is one that
+/// the contract of `op` allows for the input words at its index. If the contract of `op` fixes one result for each row
+/// of input words, by a function on words or by a truth table, the clauses state the items.
 ///
 /// Differs from arrow2: the padding bits of the words count as false. In the code `op` is not called for words that hold
 /// no item, which no clause states. arrow2's call returns no `Result`.
@@ -74,9 +74,9 @@ pub fn ternary<F: Fn(u64, u64, u64) -> u64>(
 /// Returns the bitmap of the results of `op` for the four words of 64 items at each index. The last words are padded
 /// with false. Requires that all have equal lengths, and that the `requires` of `op` holds for every four words.
 ///
-/// For any `op` the clauses state that each item is a bit of a word that the contract of `op` allows for the words at
-/// the word's index. If the contract of `op` fixes one result for each row of words, by a function on words or by a
-/// truth table, the clauses state the items.
+/// For any `op` the clauses state that the items are the bits of result words, and that each result word is one that
+/// the contract of `op` allows for the input words at its index. If the contract of `op` fixes one result for each row
+/// of input words, by a function on words or by a truth table, the clauses state the items.
 ///
 /// Differs from arrow2: the padding bits of the words count as false. In the code `op` is not called for words that hold
 /// no item, which no clause states. arrow2's call returns no `Result`.

@@ -8,5 +8,5 @@ pub returns-clause-items : goal.returns-clause-items
 returns-clause-items c =
     let old = c.args.bytes.now in
     let m = length-bits old in
-    c.clear_padding.ensures.items ∙ (ap (take c.args.len) c.write_unary.ensures
+    c.clear_padding.ensures.items ∙ (ap (take c.args.len) c.write_by_unary_table.ensures
     ∙ take-each1 c.args.t c.args.len (bits old) (omega (arith, m, c.requires.exact)))
