@@ -70,8 +70,8 @@ impl BooleanArray {
     ///
     /// # Errors
     ///
-    /// If the lengths differ, `InvalidArgumentError`, or `OutOfMemory`, in the code only where its message cannot be
-    /// allocated. There is no other error. After an error both bitmaps are dropped.
+    /// If the lengths differ, `InvalidArgumentError`, or `OutOfMemory`. The code returns `OutOfMemory` only if the message
+    /// cannot be allocated; no clause states that. There is no other error. After an error both bitmaps are dropped.
     pub fn try_new(values: Bitmap, validity: Option<Bitmap>) -> Result<BooleanArray>
         ensures ok { IfOk result (λ a. a ≡ record {
           values = values;
@@ -313,7 +313,7 @@ impl BooleanArray {
         // It has no bitmap exactly where neither array has one.
         ensures bitmap { IfOk result (λ a. IsNone a.validity.bitmap
             ↔ (IsNone self.now.validity.bitmap × IsNone other.now.validity.bitmap)) }
-        // Both are stored anew, and the only error is `OutOfMemory`.
+        // The values, and the validity bitmap if there is one, are packed. The only error is `OutOfMemory`.
         ensures storage { IfOk result (λ a. IsPacked a.values) }
         ensures packed { IfOk result (λ a. IfSome a.validity.bitmap (λ v. IsPacked v)) }
         ensures only { IfErr result (λ e. e ≡ Error.OutOfMemory) }
@@ -345,7 +345,7 @@ impl BooleanArray {
         // It has no bitmap exactly where neither array has one.
         ensures bitmap { IfOk result (λ a. IsNone a.validity.bitmap
             ↔ (IsNone self.now.validity.bitmap × IsNone other.now.validity.bitmap)) }
-        // Both are stored anew, and the only error is `OutOfMemory`.
+        // The values, and the validity bitmap if there is one, are packed. The only error is `OutOfMemory`.
         ensures storage { IfOk result (λ a. IsPacked a.values) }
         ensures packed { IfOk result (λ a. IfSome a.validity.bitmap (λ v. IsPacked v)) }
         ensures only { IfErr result (λ e. e ≡ Error.OutOfMemory) }
@@ -370,7 +370,7 @@ impl BooleanArray {
         // It has no bitmap exactly where neither array has one.
         ensures bitmap { IfOk result (λ a. IsNone a.validity.bitmap
             ↔ (IsNone self.now.validity.bitmap × IsNone other.now.validity.bitmap)) }
-        // Both are stored anew, and the only error is `OutOfMemory`.
+        // The values, and the validity bitmap if there is one, are packed. The only error is `OutOfMemory`.
         ensures storage { IfOk result (λ a. IsPacked a.values) }
         ensures packed { IfOk result (λ a. IfSome a.validity.bitmap (λ v. IsPacked v)) }
         ensures only { IfErr result (λ e. e ≡ Error.OutOfMemory) }
@@ -400,7 +400,7 @@ impl<'a> IntoIterator for &'a BooleanArray {
 }
 
 /// Shares the bytes. Does not allocate: in the code it fails only if a reference count would overflow. No clause states
-/// that.
+/// any of this.
 impl Clone for BooleanArray {
     ghost is_clone = { λ a copy. copy ≡ a };
 

@@ -191,8 +191,7 @@ pub extern "C" fn bench_options(
 
 /// The column of the options, pushed one by one.
 fn built(alloc: Global, values: &[i64], valid: &[bool]) -> Result<PrimitiveArray<i64>> {
-    let mut column = MutablePrimitiveArray::new(alloc)?;
-    column.reserve(values.len())?;
+    let mut column = MutablePrimitiveArray::with_capacity(alloc, values.len())?;
     for (value, valid) in values.iter().zip(valid) {
         column.push(valid.then_some(*value))?;
     }

@@ -99,6 +99,10 @@ pub no-overflow : {U : Type 0} (r : Result U Error) → IfErr r (λ e. e ≡ Out
 no-overflow (Ok u) only is = cc
 no-overflow (Err x) only is = cc
 
+-- what is returned is no error
+pub not-refused : {U : Type 0} (u : U) (e : Error) → Ok u ≡ Err e → ⊥
+not-refused u e is = cc
+
 pub refused-memory : {U : Type 0} (r : Result U Error) → IfErr r (λ e. e ≡ OutOfMemory) → IfErr r (λ e. (e ≡ Overflow) ⊎ (e ≡ OutOfMemory))
 refused-memory (Ok u) only = tt
 refused-memory (Err x) only = inr only

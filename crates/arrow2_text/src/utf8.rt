@@ -84,7 +84,7 @@ impl<O: Offset> Utf8Array<O> {
     ///
     /// # Errors
     ///
-    /// `InvalidArgumentError`, or `OutOfMemory` (in the code only if its message cannot be allocated), exactly if one of
+    /// `InvalidArgumentError`, or `OutOfMemory` (in the code only if the message cannot be allocated), exactly if one of
     /// these holds. The message is that of the first that holds:
     ///
     /// - the last offset is past the values;
@@ -392,15 +392,15 @@ impl<O: Offset> Utf8Array<O> {
     /// - the bytes have no other owner, and are not sliced;
     /// - the bitmap has no other owner, and begins at bit 0; or there is no bitmap.
     ///
-    /// Else returns `Left` of the array as it was. Where there is no bitmap, `Right` has a new one whose items are all
-    /// true.
+    /// Else returns `Left` of the array as it was. Where the offsets and the bytes can be taken over and there is no
+    /// bitmap, the call allocates memory for one.
     ///
     /// Proved: `Left` has the array as it was. `Right` has its items, its number of bytes and its logical type, and
     /// comes only where the offsets begin at 0 and end after the last byte, neither they nor the bytes are sliced, and
     /// the bitmap, if there is one, begins at bit 0. Not proved: that `Right` comes only where nobody shares the
     /// storage, that it has the same storage, or that it comes whenever all the conditions of the list hold.
     ///
-    /// Differs from arrow2, whose array that grows needs no bitmap where no item is null.
+    /// Differs from arrow2, whose array that grows needs no memory for a bitmap where no item is null.
     ///
     /// # Errors
     ///
@@ -440,7 +440,7 @@ impl<O: Offset> Utf8Array<O> {
 }
 
 /// Shares the logical type, the offsets, the bytes and the validity. Does not allocate: in the code it fails only if
-/// the reference count of an `Rc` would overflow. No clause states that.
+/// the reference count of an `Rc` would overflow. No clause states any of this.
 impl<O: Offset> Clone for Utf8Array<O> {
     ghost is_clone = { λ a copy. copy ≡ a };
 

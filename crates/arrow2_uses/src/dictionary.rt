@@ -16,7 +16,7 @@ use arrow2::error::{Error, Result};
 use std::alloc::Global;
 use std::marker::Model;
 
-/// Texts that repeat, each stored once: contracts see the list of the items, each `None` or the bytes of its text.
+/// Texts that repeat, where each need be stored only once: contracts see the list of the items, each `None` or the bytes of its text.
 #[derive(Drop)]
 pub struct Dictionary {
     keys: PrimitiveArray<u32>,
@@ -53,8 +53,9 @@ impl Dictionary {
     ///
     /// # Errors
     ///
-    /// Exactly if a key is neither null nor below the number of texts: `InvalidArgumentError`, or `OutOfMemory`, in the
-    /// code only if its message cannot be allocated.
+    /// Exactly if a key is neither null nor below the number of texts. The error is `InvalidArgumentError`, or
+    /// `OutOfMemory`. The code returns `OutOfMemory` only if the message of `InvalidArgumentError` cannot be allocated;
+    /// no clause states that.
     pub fn try_new(keys: PrimitiveArray<u32>, texts: Utf8Array<i32>) -> Result<Dictionary>
         ensures accepted { IsOk result ↔ All (IsInBoundsOrNull (λ key. pos key) (length (binary_items texts)))
             (primitive_items keys) }

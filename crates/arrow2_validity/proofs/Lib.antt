@@ -1,4 +1,5 @@
 pub mod ValidItems
+pub mod WithTrues
 pub mod ItemParts
 pub mod Slots
 pub mod Alike

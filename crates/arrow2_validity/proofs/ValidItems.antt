@@ -1,6 +1,6 @@
 -- Whether each item is valid, with a bitmap or without.
 use Rattle.std.proofs.Common.{Bor, ◌≡◌, ℕ, ◌+◌, ◌<◌, ◌≤◌, List, [], ◌∷◌, Bool, true, false, length, get_or, replicate, refl, ap, sym, ◌∙◌, arith}
-use Rattle.std.specs.Prelude.{Option, Some, None, MatchOption}
+use Rattle.std.specs.Prelude.{◌↔◌, Option, Some, None, IfSome, IsNone, MatchOption}
 use Rattle.std.specs.Option.{ForSome, option_copied}
 use Rattle.arrow2_model.specs.Bits.{bit}
 use Rattle.std.proofs.lemmas.List.{length-replicate, get_or-replicate, ext_get_or}
@@ -8,7 +8,7 @@ use Rattle.arrow2_model.specs.Parts.{part, falses}
 use Rattle.arrow2_model.specs.Storage.{BitmapStorage, items_of}
 use Rattle.arrow2_model.specs.Tables.{answer, each}
 use Rattle.arrow2_model.proofs.Parts.{get_or-part, length-part}
-use Rattle.arrow2_model.proofs.Counts.{falses-all_true}
+use Rattle.arrow2_model.proofs.Counts.{falses-all_true, falses-none}
 use Rattle.arrow2_model.proofs.Kernels.{each_from}
 use Rattle.arrow2_validity.specs.OptionalValidity.{items_or_true}
 
@@ -51,6 +51,12 @@ part-true n a m h =
 pub part-items_none : (n a m : ℕ) → a + m ≤ length (items_or_true n None) → items_or_true m None ≡ part (items_or_true n None) a m
 unfolding items_or_true
 part-items_none n a m h = let l = length-replicate n true in sym (part-true n a m (omega (arith, h)))
+
+-- a bitmap that is left out where nothing is false
+pub left-out : (n : ℕ) (vs : List Bool) (bitmap : Option BitmapStorage) → length vs ≡ n → (IsNone bitmap ↔ (falses vs ≡ 0)) → IfSome bitmap (λ b. items_of b ≡ vs) → items_or_true n bitmap ≡ vs
+unfolding items_or_true
+left-out n vs None e none some = ap (λ k. replicate k true) (sym e) ∙ sym (falses-none vs (none.0 refl))
+left-out n vs (Some b) e none some = some
 
 -- the bitmap that is returned, where there is one
 pub known-bitmap : (n : ℕ) (bitmap : Option BitmapStorage) (r : Option (Bor BitmapStorage)) → option_copied r ≡ bitmap
