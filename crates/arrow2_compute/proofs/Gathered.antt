@@ -63,3 +63,15 @@ stated-each f test indices d n e =
     (λ k l. let less : k < n = omega (arith, l, size) in
     get_or-map-range_with_len stated 0 n k k false less (omega arith)
     ∙ (ap test (sym (get_or-map f indices k d (f d) (omega (arith, less, e)))) ∙ sym (get_or-map test (map f indices) k (f d) false (omega (arith, less, e, m)))))
+
+-- slots, none of which is null, from the items that they are
+pub known-slots : {X : Type 0} (xs ys : List X) (vs : List Bool) → length vs ≡ length xs → zipped xs vs ≡ map (λ y. Some y) ys → xs ≡ ys
+known-slots [] [] vs e is = refl
+known-slots [] (y ∷ ys) vs e is = let never = is in cc
+known-slots (x ∷ xs) ys [] e is = absurd (omega (arith, e))
+known-slots (x ∷ xs) [] (v ∷ vs) e is = let never = is in cc
+known-slots (x ∷ xs) (y ∷ ys) (false ∷ vs) e is = let never : None ≡ Some y = cc in cc
+known-slots (x ∷ xs) (y ∷ ys) (true ∷ vs) e is =
+    let first : x ≡ y = cc in
+    let others : zipped xs vs ≡ map (λ y. Some y) ys = cc in
+    ap (λ z. z ∷ xs) first ∙ ap (λ zs. y ∷ zs) (known-slots xs ys vs (omega (arith, e)) others)

@@ -3,4 +3,5 @@ pub mod Masked
 pub mod Weighed
 pub mod Keys
 mod Gathered
+mod FilteredSlots
 mod Chosen

@@ -3,13 +3,18 @@ use Rattle.std.specs.Prelude.{ℕ, ◌+◌, ◌<◌, ◌≤◌, ◌^◌, ◌⊎�
 use Rattle.std.specs.Option.{option_map_or}
 use Rattle.arrow2_model.specs.Buffers.{buffer_items}
 use Rattle.arrow2_offset.specs.Offsets.{lengths_of}
-use Rattle.arrow2_text.specs.Binary.{BinaryParts, binary_items}
+use Rattle.arrow2_model.specs.Storage.{BitmapStorage}
+use Rattle.arrow2_text.specs.Binary.{BinaryParts, binary_items, binary_of}
 use Rattle.arrow2_text.specs.Growth.{AppendsBinary, GrowingBinary}
 use Rattle.arrow2_types.specs.declared.error.Error.{Error}
 
 -- the number of bytes of an item, 0 where it is null
 abbrev pub item_bytes : Option (List ℕ) → ℕ
 item_bytes item = option_map_or length item 0
+
+-- an array with this validity bitmap, or without one, in place of its own
+abbrev pub with_bitmap : BinaryParts → Option BitmapStorage → BinaryParts
+with_bitmap a bitmap = binary_of a.data_type a.offsets a.values bitmap
 
 -- the number of bytes of the slots of an array, under nulls too
 abbrev pub slot_bytes : BinaryParts → ℕ

@@ -1,14 +1,17 @@
 //! A trait for arrays of byte strings and of texts, with the calls that kernels need.
-ghost use Rattle.std.specs.Prelude.{◌≡◌, ◌+◌, ◌<◌, ◌≤◌, [], ℕ, length, IfOk, IfErr};
-ghost use Rattle.arrow2_compute.specs.Sizes.{AppendsItem, binary_item, slot_bytes};
+ghost use Rattle.std.specs.Prelude.{◌≡◌, ◌+◌, ◌<◌, ◌≤◌, [], None, ℕ, length, IfOk, IfErr};
+ghost use Rattle.arrow2_compute.specs.Sizes.{AppendsItem, binary_item, slot_bytes, with_bitmap};
 ghost use Rattle.arrow2_model.specs.Buffers.{buffer_items};
 ghost use Rattle.arrow2_model.specs.Parts.{part};
-ghost use Rattle.arrow2_text.specs.Binary.{BinaryParts, IsCompact, binary_items, slots_between, slots_size};
+ghost use Rattle.arrow2_text.specs.Binary.{BinaryParts, HasBitPerSlot, IsCompact, binary_items, slots_between, slots_size};
 ghost use Rattle.arrow2_text.specs.Growth.{AppendsBinary, GrowingBinary};
+ghost use Rattle.arrow2_validity.specs.OptionalValidity.{valid_items};
 
+use arrow2_bitmap::Bitmap;
 use arrow2_index::Offset;
 use arrow2_text::{BinaryArray, MutableBinaryArray, MutableUtf8Array, Utf8Array};
 use arrow2_types::{Error, Result};
+use arrow2_validity::Validity;
 
 /// An array of byte strings or of texts, with offsets of 32 or 64 bits. One set of kernels serves all four types.
 pub trait Binary: Drop {
@@ -29,6 +32,27 @@ pub trait Binary: Drop {
         ensures items { result ≡ length (binary_items (parts self.now)) }
         ensures slots { result ≡ slots_between (parts self.now).offsets }
         ensures fits { slot_bytes (parts self.now) ≤ GREATEST };
+
+    /// Returns the validity.
+    fn optional_validity(&self) -> &Validity
+        ensures value { result.now ≡ (parts self.now).validity }
+        ensures slots { length (valid_items result.now) ≡ slots_between (parts self.now).offsets };
+
+    /// Returns the array of the same slots, over the same storage, none of them null. Does not allocate: in the code it
+    /// fails only if a reference count would overflow, which no clause states.
+    ///
+    /// # Errors
+    ///
+    /// `OutOfMemory` alone.
+    fn without_validity(&self) -> Result<Self>
+        ensures value { IfOk result (λ a. parts a ≡ with_bitmap (parts self.now) None) }
+        ensures only { IfErr result (λ e. e ≡ Error.OutOfMemory) };
+
+    /// Returns the array of the same slots with this validity in place of its own. Requires that the validity, if there
+    /// is one, has a bit for each slot.
+    fn with_validity(self, validity: Option<Bitmap>) -> Self
+        requires same_length { HasBitPerSlot (parts self).offsets validity }
+        ensures { parts result ≡ with_bitmap (parts self) validity };
 
     /// Returns an array without items, of the same logical type, with capacity for `capacity` items. Requires that
     /// `capacity` is at most the number of items.
@@ -96,6 +120,18 @@ impl<O: Offset> Binary for BinaryArray<O> {
         self.len()
     }
 
+    fn optional_validity(&self) -> &Validity {
+        self.optional_validity()
+    }
+
+    fn without_validity(&self) -> Result<BinaryArray<O>> {
+        Ok(self.clone()?.with_validity(None))
+    }
+
+    fn with_validity(self, validity: Option<Bitmap>) -> BinaryArray<O> {
+        self.with_validity(validity)
+    }
+
     fn like(&self, capacity: usize) -> Result<MutableBinaryArray<O>> {
         // For the proof alone: that a `usize` counts the offsets, one more than there are items.
         let _ = self.offsets().len();
@@ -138,6 +174,18 @@ impl<O: Offset> Binary for Utf8Array<O> {
         // For the proof alone: reading the last offset brings the invariant that it is at most the greatest one.
         let _ = self.offsets().last();
         self.len()
+    }
+
+    fn optional_validity(&self) -> &Validity {
+        self.optional_validity()
+    }
+
+    fn without_validity(&self) -> Result<Utf8Array<O>> {
+        Ok(self.clone()?.with_validity(None))
+    }
+
+    fn with_validity(self, validity: Option<Bitmap>) -> Utf8Array<O> {
+        self.with_validity(validity)
     }
 
     fn like(&self, capacity: usize) -> Result<MutableUtf8Array<O>> {

@@ -1,6 +1,7 @@
 //! The items that a mask selects.
-ghost use Rattle.std.specs.Prelude.{◌≡◌, ◌+◌, ◌<◌, ◌≤◌, ◌^◌, ◌++◌, length, map, sum, IfOk, IfErr, OnOk, ◌↔◌, IsNone};
+ghost use Rattle.std.specs.Prelude.{◌≡◌, ◌+◌, ◌<◌, ◌≤◌, ◌^◌, ◌++◌, length, map, sum, IfOk, IfErr, IfSome, OnOk, ◌↔◌, IsNone};
 ghost use Rattle.arrow2_array.specs.Items.{boolean_items};
+ghost use Rattle.arrow2_bitmap.specs.Packed.{IsPacked};
 ghost use Rattle.arrow2_compute.specs.Masks.{is_true};
 ghost use Rattle.arrow2_model.specs.Bits.{unnum};
 ghost use Rattle.arrow2_model.specs.Buffers.{buffer_items};
@@ -95,6 +96,7 @@ fn selected_validity(validity: &Validity, mask: &Bitmap) -> Result<Validity>
         ≡ selected (valid_items validity.now) (items_of mask.now)) }
     ensures len { IfOk result (λ v. v.len + falses (items_of mask.now) ≡ length (items_of mask.now)) }
     ensures bitmap { IfOk result (λ v. IsNone v.bitmap ↔ IsNone validity.now.bitmap) }
+    ensures packed { IfOk result (λ v. IfSome v.bitmap (λ b. IsPacked b)) }
     ensures only { IfErr result (λ e. e ≡ Error.OutOfMemory) }
 {
     let count = mask.len() - mask.unset_bits();
@@ -109,6 +111,7 @@ fn selected_validity(validity: &Validity, mask: &Bitmap) -> Result<Validity>
 fn selected_bits(bitmap: &Bitmap, mask: &Bitmap) -> Result<Bitmap>
     requires same_length { length (items_of mask.now) ≡ length (items_of bitmap.now) }
     ensures items { IfOk result (λ b. items_of b ≡ selected (items_of bitmap.now) (items_of mask.now)) }
+    ensures packed { IfOk result (λ b. IsPacked b) }
     ensures only { IfErr result (λ e. e ≡ Error.OutOfMemory) }
 {
     let mut kept = MutableBitmap::with_capacity(mask.allocator(), mask.len() - mask.unset_bits())?;
@@ -173,7 +176,7 @@ fn true_items(mask: &BooleanArray) -> Result<Bitmap>
     }
 }
 
-/// Returns the byte strings or texts at whose index the mask is true, copied run by run. The result has a validity
+/// Returns the byte strings or texts at whose index the mask is true. The result has a validity
 /// bitmap exactly if an item of it is null. Requires that both have equal lengths.
 ///
 /// In arrow2 it is `filter`, whose mask is a boolean array.
@@ -188,6 +191,25 @@ pub fn filter_binary<A: Binary>(array: &A, mask: &Bitmap) -> Result<A>
     ensures data_type { IfOk result (λ a. (A.parts a).data_type ≡ (A.parts array.now).data_type) }
     ensures compact { IfOk result (λ a. IsCompact (A.parts a)) }
     // The bytes of the selected slots, under nulls too.
+    ensures bytes { IfOk result (λ a. length (buffer_items (A.parts a).values) ≡ sum (selected
+        (lengths_of (buffer_items (A.parts array.now).offsets)) (items_of mask.now))) }
+    ensures only { IfErr result (λ e. e ≡ Error.OutOfMemory) }
+{
+    let validity = selected_validity(array.optional_validity(), mask)?;
+    let kept = selected_slots(&array.without_validity()?, mask)?;
+    // For the proof alone: reading the validity brings the fact that it has an item for each slot.
+    let _ = kept.optional_validity();
+    Ok(kept.with_validity(validity.into_null_bitmap()))
+}
+
+/// Returns the slots at whose index the mask is true, copied run by run. Requires that both have equal lengths, and that
+/// no slot is null.
+fn selected_slots<A: Binary>(array: &A, mask: &Bitmap) -> Result<A>
+    requires same_length { length (items_of mask.now) ≡ length (binary_items (A.parts array.now)) }
+    ensures items { IfOk result (λ a. binary_items (A.parts a)
+        ≡ selected (binary_items (A.parts array.now)) (items_of mask.now)) }
+    ensures data_type { IfOk result (λ a. (A.parts a).data_type ≡ (A.parts array.now).data_type) }
+    ensures compact { IfOk result (λ a. IsCompact (A.parts a)) }
     ensures bytes { IfOk result (λ a. length (buffer_items (A.parts a).values) ≡ sum (selected
         (lengths_of (buffer_items (A.parts array.now).offsets)) (items_of mask.now))) }
     ensures only { IfErr result (λ e. e ≡ Error.OutOfMemory) }

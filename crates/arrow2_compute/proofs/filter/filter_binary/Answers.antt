@@ -1,69 +1,49 @@
-use Rattle.std.proofs.Common.{◌≡◌, ◌∙◌, ℕ, ◌+◌, ◌<◌, ◌≤◌, ◌^◌, length, sum, ap, sym, subst, arith}
-use Rattle.std.specs.Prelude.{IfOk}
-use Rattle.std.proofs.lemmas.Grind.{common_steps}
+use Rattle.std.proofs.Common.{◌∙◌, length, sum, ap, sym, subst}
 use Rattle.arrow2_model.specs.Buffers.{buffer_items}
-use Rattle.arrow2_model.specs.Parts.{part}
 use Rattle.arrow2_model.specs.Storage.{items_of}
 use Rattle.arrow2_offset.specs.Offsets.{lengths_of}
-use Rattle.arrow2_text.specs.Binary.{binary_items}
+use Rattle.arrow2_text.specs.Binary.{IsCompact, binary_items}
 use Rattle.arrow2_walks.specs.Selected.{selected}
-use Rattle.arrow2_walks.proofs.Left.{left-all, left-done}
-use Rattle.arrow2_walks.proofs.Selected.{length-selected, selected-runs}
-use Rattle.arrow2_compute.proofs.Filtered.{kept-fits}
-use Rattle.arrow2_compute.proofs.Weighed.{sum-first, sum-selected}
+use Rattle.arrow2_compute.proofs.FilteredSlots.{bits-kept, compact-kept, filtered, items-kept, mask-known, mask-slots}
 use Rattle.arrow2_compute.proofs.filter.filter_binary.Goals as goal
 
--- the run that comes was the first one left, and its items are those that are appended
-pub loop-start-preserved : goal.loop-start-preserved
-loop-start-preserved g c =
-    let items = binary_items (g.A.Binary.parts c.args.array.now) in
-    let lengths = lengths_of (buffer_items (g.A.Binary.parts c.args.array.now).offsets) in
-    let before = c.loop-start.invariant in
-    let first = c.in-Some.ensures.steps.runs in
-    let more = sum-first (λ (run : ℕ × ℕ). part lengths run.0 run.1) _ _ _ first in
-    record {
-      inside = left-all (λ (run : ℕ × ℕ). run.0 + run.1 ≤ length items) first before.inside;
-      done = left-done (λ (run : ℕ × ℕ). part items run.0 run.1) _ _ _ first c.in_ok-push_items.ensures.ok before.done;
-      bytes = omega (arith, more, c.in_ok-push_items.ensures.ok_bytes, before.bytes);
-      data_type = c.push_items.ensures.data_type ∙ before.data_type;
-    }
+pub selected_validity-requires : goal.selected_validity-requires
+selected_validity-requires g c =
+    let read = c.optional_validity.ensures in
+    record { same_length = mask-slots (g.A.Binary.parts c.args.array.now) _ _ c.requires.same_length read.value read.slots ∙ sym read.slots }
 
--- no more is kept than there is, and no more bytes
-pub returns-in_err-push_items-clause-only : goal.returns-in_err-push_items-clause-only
-returns-in_err-push_items-clause-only g c =
-    let items = binary_items (g.A.Binary.parts c.args.array.now) in
-    let lengths = lengths_of (buffer_items (g.A.Binary.parts c.args.array.now).offsets) in
-    let mask = items_of c.args.mask.now in
-    let cut = λ (run : ℕ × ℕ). part items run.0 run.1 in
-    let span = λ (run : ℕ × ℕ). part lengths run.0 run.1 in
-    let kept = g.A.Binary.growing c.loop-start.kept in
-    let first = c.in-Some.ensures.steps.runs in
-    let fits = kept-fits cut kept.items _ _ _ _ first c.loop-start.invariant.done in
-    let whole = ap length (selected-runs items mask c.requires.same_length) in
-    let few = length-selected items mask in
-    let counted : length kept.items + length (part items c.in-Some.start c.in-Some.len) < 2 ^ 64 = omega (arith, fits, whole, few, c.requires.same_length, c.count-count.ensures.items) in
-    let more = sum-first span _ _ _ first in
-    let slots : length mask ≡ length lengths = c.requires.same_length ∙ (sym c.count-count.ensures.items ∙ c.count-count.ensures.slots) in
-    let all = ap sum (selected-runs lengths mask slots) in
-    let most = sum-selected lengths mask in
-    let spare : kept.bytes + sum (part lengths c.in-Some.start c.in-Some.len) ≤ g.A.Binary.GREATEST = omega (arith, more, all, most, c.loop-start.invariant.bytes, c.count-count.ensures.fits) in
-    grind (arith, common_steps, counted, spare)
+pub selected_slots-requires : goal.selected_slots-requires
+selected_slots-requires g c =
+    let read = c.optional_validity.ensures in
+    record { same_length = mask-known (g.A.Binary.parts c.args.array.now) _ _ c.requires.same_length read.value read.slots _ c.in_ok-without_validity.ensures.value }
+
+pub with_validity-requires : goal.with_validity-requires
+with_validity-requires g c =
+    let read = c.optional_validity.ensures in
+    let also = c.optional_validity-2.ensures in
+    let valid = c.in_ok-validity.ensures in
+    let kept = filtered (g.A.Binary.parts c.args.array.now) _ (g.A.Binary.parts c.in_ok-kept.kept) _ _ _ _ c.requires.same_length read.value read.slots c.in_ok-without_validity.ensures.value c.in_ok-kept.ensures.items also.value also.slots valid.items valid.len in
+    record { same_length = bits-kept _ _ _ _ kept _ c.into_null_bitmap.ensures.items }
 
 pub returns-clause-items : goal.returns-clause-items
 returns-clause-items g c =
-    let items = binary_items (g.A.Binary.parts c.args.array.now) in
-    let mask = items_of c.args.mask.now in
-    let whole = selected-runs items mask c.requires.same_length in
-    let done = c.loop-start.invariant.done in
-    let all : (g.A.Binary.growing c.loop-start.kept).items ≡ selected items mask = grind (arith, common_steps, whole, done) in
-    subst (λ z. IfOk c.freeze.result (λ a. binary_items (g.A.Binary.parts a) ≡ z)) all c.freeze.ensures.items
+    let read = c.optional_validity.ensures in
+    let also = c.optional_validity-2.ensures in
+    let valid = c.in_ok-validity.ensures in
+    let kept = filtered (g.A.Binary.parts c.args.array.now) _ (g.A.Binary.parts c.in_ok-kept.kept) _ _ _ _ c.requires.same_length read.value read.slots c.in_ok-without_validity.ensures.value c.in_ok-kept.ensures.items also.value also.slots valid.items valid.len in
+    ap binary_items c.with_validity.ensures ∙ items-kept _ _ _ _ kept _ c.into_null_bitmap.ensures.items
+
+pub returns-clause-compact : goal.returns-clause-compact
+returns-clause-compact g c =
+    let read = c.optional_validity.ensures in
+    let also = c.optional_validity-2.ensures in
+    let valid = c.in_ok-validity.ensures in
+    let null = c.into_null_bitmap.ensures in
+    let kept = filtered (g.A.Binary.parts c.args.array.now) _ (g.A.Binary.parts c.in_ok-kept.kept) _ _ _ _ c.requires.same_length read.value read.slots c.in_ok-without_validity.ensures.value c.in_ok-kept.ensures.items also.value also.slots valid.items valid.len in
+    subst (λ p. IsCompact p) (sym c.with_validity.ensures) (compact-kept _ _ _ _ kept _ null.items valid.packed null.value null.none c.in_ok-kept.ensures.compact)
 
 pub returns-clause-bytes : goal.returns-clause-bytes
 returns-clause-bytes g c =
-    let lengths = lengths_of (buffer_items (g.A.Binary.parts c.args.array.now).offsets) in
-    let mask = items_of c.args.mask.now in
-    let slots : length mask ≡ length lengths = c.requires.same_length ∙ (sym c.count-count.ensures.items ∙ c.count-count.ensures.slots) in
-    let whole = ap sum (selected-runs lengths mask slots) in
-    let done = c.loop-start.invariant.bytes in
-    let all : (g.A.Binary.growing c.loop-start.kept).bytes ≡ sum (selected lengths mask) = grind (arith, common_steps, whole, done) in
-    subst (λ n. IfOk c.freeze.result (λ a. length (buffer_items (g.A.Binary.parts a).values) ≡ n)) all c.freeze.ensures.bytes
+    let ms = items_of c.args.mask.now in
+    ap (λ p. length (buffer_items p.values)) c.with_validity.ensures
+    ∙ (c.in_ok-kept.ensures.bytes ∙ ap (λ p. sum (selected (lengths_of (buffer_items p.offsets)) ms)) c.in_ok-without_validity.ensures.value)

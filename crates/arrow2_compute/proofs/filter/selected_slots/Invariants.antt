@@ -6,7 +6,7 @@ use Rattle.arrow2_model.specs.Storage.{items_of}
 use Rattle.arrow2_offset.specs.Offsets.{lengths_of}
 use Rattle.arrow2_text.specs.Binary.{binary_items}
 use Rattle.arrow2_walks.specs.Runs.{runs}
-use Rattle.arrow2_compute.proofs.filter.filter_binary.Given as goal
+use Rattle.arrow2_compute.proofs.filter.selected_slots.Given as goal
 
 abbrev pub invariant-loop-start : goal.invariant-loop-start
 invariant-loop-start g l =
