@@ -11,7 +11,8 @@
  * functions trust that every other pointer that is not NULL points to what the interface specifies. docs/BINDINGS.md
  * lists the buffers that may be anything.
  *
- * Functions and types whose names begin with `arrow2_c_` are internal: do not use them. */
+ * Functions, types and constants whose names begin with `arrow2_c_` or `ARROW2_C_KIND_` are internal: do not use
+ * them. */
 #ifndef ARROW2_C_DATA_H
 #define ARROW2_C_DATA_H
 
@@ -83,10 +84,10 @@ struct ArrowArrayStream {
  * The rules of arrow2_proved.h hold for these functions too, with two changes: NULL is allowed with any number and
  * counts as 0 bytes, and a NULL validity means that there is no bitmap. In detail:
  * - Each `arrow2_bits_*` function of this header that returns a code calls a function of the library, which its comment
- *   names, and returns its code. There are two exceptions. Without a validity arrow2_bits_null_count calls nothing and
- *   returns ARROW2_OK. If both validities are missing, arrow2_bits_and_validity tests the size of `out` itself. In two
- *   cases it calls nothing: if the size is wrong, it returns ARROW2_LENGTH; if `length` and the size are 0, it returns
- *   ARROW2_OK.
+ *   names, and returns the code of that function. There are two exceptions. Without a validity arrow2_bits_null_count
+ *   calls nothing and returns ARROW2_OK. If both validities are missing, arrow2_bits_and_validity tests the size of
+ *   `out` itself. If the size is wrong, it returns ARROW2_LENGTH. If `length` and the size are both 0, it returns
+ *   ARROW2_OK. In these two cases it calls nothing. Else it calls arrow2_unary_assign_table.
  * - A NULL pointer to bytes counts as 0 bytes, whatever `bytes_len`, `out_len`, `values_len` or `validity_len` is. The
  *   function then returns the code that it returns for an input or output of 0 bytes: ARROW2_RANGE, if an input is NULL
  *   and its `offset` or the `length` is not 0; ARROW2_LENGTH, if an output is NULL and `length` is not 0, unless
@@ -231,8 +232,8 @@ static inline uint32_t arrow2_bits_or_kleene(struct arrow2_bits left, struct arr
  * `n_buffers`; the buffer is NULL; `length` is 0 and the buffer holds values. A null array has no buffer, and each of
  * its items is null. So test the format before you take a validity, as `columns.c` of the examples does.
  *
- * Only the array's own offset is applied, and `array->length` bits belong to it. For a column of a batch call
- * arrow2_bits_of_column. */
+ * Only the array's own offset is applied. The result does not state how many bits there are: from its offset on, the
+ * array has `array->length` of them. For a column of a batch call arrow2_bits_of_column. */
 static inline struct arrow2_bits arrow2_bits_of(const struct ArrowArray *array, int index) {
     struct arrow2_bits bits = {NULL, 0, 0};
     if (index < 0 || index >= array->n_buffers || !array->buffers[index] || (index > 0 && array->length == 0)) {
@@ -268,7 +269,7 @@ static inline struct arrow2_bits arrow2_bits_of_column(const struct ArrowArray *
 /* The codes that only the check of an array returns. It returns some codes of arrow2_proved.h too. */
 /* A pointer that the array needs is NULL. */
 #define ARROW2_C_NULL 32u
-/* The schema or the array was released. */
+/* The schema or the array was released: its member `release` is NULL. */
 #define ARROW2_C_RELEASED 33u
 /* `length`, `offset`, `n_buffers` or `n_children` of the array is negative, or length + offset is above 2^63 - 1. */
 #define ARROW2_C_NEGATIVE 34u
