@@ -306,11 +306,12 @@ static inline struct arrow2_bits arrow2_bits_of_column(const struct ArrowArray *
 /* Where the check refused.
  *
  * `path` leads from the root to the array at fault. With ARROW2_C_SHORT_CHILD that is the child; if the child of a map
- * is not a struct of two children, it is the map; if a child or a dictionary is NULL, was released, or has no format or
- * a negative count, it is that child or dictionary; if there are more sizes than buffers, it is the root. The path of
- * the root is empty. A step to a child is `list.0`, `fixed_list.0`, `map.0`, `struct.K` or `union.K`, by the format of
- * the parent; K counts children from 0 on. The step to a dictionary is `dictionary`. A `/` stands between two steps:
- * `struct.3/list.0` is child 0 of a list, which is child 3 of a struct.
+ * is not a struct of two children, it is the map. If a child or a dictionary is NULL, was released, has no format, or
+ * has a `length`, `offset`, `n_children` or `n_buffers` that ARROW2_C_NEGATIVE refuses, it is that child or dictionary.
+ * If there are more sizes than buffers, it is the root. The path of the root is empty. A step to a child is `list.0`,
+ * `fixed_list.0`, `map.0`, `struct.K` or `union.K`, by the format of the parent; K counts children from 0 on. The step
+ * to a dictionary is `dictionary`. A `/` stands between two steps: `struct.3/list.0` is child 0 of a list, which is
+ * child 3 of a struct.
  *
  * `slot` is the slot at which this array breaks the rule, with the codes ARROW2_SPEC_NEGATIVE, ARROW2_SPEC_FALLING,
  * ARROW2_PAST, ARROW2_UTF8, ARROW2_INDEX, ARROW2_C_TYPE and ARROW2_C_UNION_OFFSET. With all other codes it is -1. Slots
@@ -605,9 +606,9 @@ static inline void arrow2_c_enter(struct arrow2_c_tree *tree, enum arrow2_c_kind
     tree->depth++;
 }
 
-/* Checks whether there are the buffers, sizes and children that the format requires, at most ARROW2_C_MAX_ARRAYS
- * children, and whether array and schema both have a dictionary or both have none. A dictionary is refused where the
- * format is not that of an integer. */
+/* Checks that there are the buffers and children that the format requires, and at most ARROW2_C_MAX_ARRAYS children;
+ * that a size is left for each buffer, where sizes were passed; and that array and schema both have a dictionary or
+ * both have none. A dictionary is refused where the format is not that of an integer. */
 static inline uint32_t arrow2_c_check_counts(struct arrow2_c_tree *tree, const struct arrow2_c_layout *layout,
                                              const struct ArrowSchema *schema, const struct ArrowArray *array) {
     int64_t children = layout->children < 0 ? schema->n_children : layout->children;
