@@ -10,4 +10,4 @@ pub use arrow2_primitive::{
 pub use arrow2_text::{
     BinaryArray, BinaryIter, MutableBinaryArray, MutableUtf8Array, Utf8Array, Utf8Iter,
 };
-pub use arrow2_validity::{MutableValidity, Validity, check_same_length};
+pub use arrow2_validity::{Validity, check_same_length};

@@ -11,7 +11,6 @@ ghost use Rattle.arrow2_array.specs.Items.{boolean_items, nulls};
 use crate::boolean::BooleanArray;
 use arrow2_bitmap::{Bitmap, MutableBitmap};
 use arrow2_types::{Error, Result};
-use arrow2_validity::MutableValidity;
 use std::alloc::Global;
 use std::convert::TryFrom;
 use std::marker::Model;
@@ -22,13 +21,12 @@ use std::marker::Model;
 /// `specs/Growth.antt`: the items after `Ok` and after an error, exactly when `Overflow` comes, that `OutOfMemory` is
 /// the only other error, and that the call succeeds within the capacity.
 ///
-/// Differs from arrow2: capacity that is reserved for items is reserved for the validity too, and no bit of the
-/// validity is written before the first null. Before `freeze`, only [`MutableBooleanArray::pop`] returns an item, and
-/// no call sets one.
+/// Differs from arrow2: the validity is always stored, and [`MutableBooleanArray::freeze`] leaves it out where no item
+/// is null. Before `freeze`, only [`MutableBooleanArray::pop`] returns an item, and no call sets one.
 #[derive(Drop)]
 pub struct MutableBooleanArray {
     values: MutableBitmap,
-    validity: MutableValidity,
+    validity: MutableBitmap,
 }
 
 impl Model for MutableBooleanArray {
@@ -55,7 +53,7 @@ impl MutableBooleanArray {
     {
         MutableBooleanArray {
             values: MutableBitmap::new(alloc),
-            validity: MutableValidity::new(alloc),
+            validity: MutableBitmap::new(alloc),
         }
     }
 
@@ -71,7 +69,7 @@ impl MutableBooleanArray {
     {
         Ok(MutableBooleanArray {
             values: MutableBitmap::with_capacity(alloc, capacity)?,
-            validity: MutableValidity::with_capacity(alloc, capacity)?,
+            validity: MutableBitmap::with_capacity(alloc, capacity)?,
         })
     }
 
@@ -214,7 +212,7 @@ impl MutableBooleanArray {
         ensures packed { IfOk result (λ a. IfSome a.validity.bitmap (λ v. IsPacked v)) }
         ensures only { IfErr result (λ e. e ≡ Error.OutOfMemory) }
     {
-        let validity = self.validity.into_bitmap()?;
+        let validity = self.validity.into_validity()?;
         let values = Bitmap::try_from(self.values)?;
         Ok(BooleanArray::new(values, validity))
     }

@@ -6,7 +6,7 @@ use arrow2_buffer::Buffer;
 use arrow2_datatypes::DataType;
 use arrow2_primitive::{MutablePrimitiveArray, PrimitiveArray};
 use arrow2_types::Result;
-use arrow2_validity::{MutableValidity, Validity, check_same_length};
+use arrow2_validity::{Validity, check_same_length};
 use either::Either;
 use std::alloc::Global;
 use std::convert::TryFrom;
@@ -173,17 +173,17 @@ fn both(alloc: Global) -> Result<usize> {
     Ok(one.both(&other)?.null_count())
 }
 
-/// The number of items of a growing validity, for which memory is reserved.
+/// The number of items of a growing validity. It has no bitmap, so that one is made.
 fn thawed_validity(alloc: Global) -> Result<usize> {
     match validity(None)?.into_mut(alloc)? {
         Either::Left(validity) => Ok(validity.len()),
-        Either::Right(grown) => Ok(grown.len()),
+        Either::Right(bitmap) => Ok(bitmap.len()),
     }
 }
 
-/// The number of items of a validity that grows, after those of another were appended.
+/// The number of items of a bitmap after which those of a validity begin.
 fn appended(alloc: Global) -> Result<usize> {
-    let mut grown = MutableValidity::from_bitmap(input(growing_items(alloc))?);
+    let mut grown = input(growing_items(alloc))?;
     let validity = validity(None)?;
     if validity.len() < 70 {
         return Ok(0);
@@ -203,65 +203,6 @@ fn checked(alloc: Global) -> Result<usize> {
     Ok(0)
 }
 
-/// The number of items of a validity that grows.
-fn validity_len(validity: Result<MutableValidity>) -> Result<usize> {
-    Ok(validity?.len())
-}
-
-/// The number of items after a null was pushed.
-fn pushed_null(alloc: Global) -> Result<usize> {
-    let mut validity = MutableValidity::new(alloc);
-    validity.push(false)?;
-    Ok(validity.len())
-}
-
-/// The number of items after nulls were appended.
-fn appended_nulls(alloc: Global) -> Result<usize> {
-    let mut validity = MutableValidity::new(alloc);
-    validity.extend_constant(90, false)?;
-    Ok(validity.len())
-}
-
-/// The number of items after those of a bitmap were appended.
-fn appended_bits(alloc: Global) -> Result<usize> {
-    let bitmap = items(alloc, 1)?;
-    let mut validity = MutableValidity::new(alloc);
-    validity.extend_from_bitmap(&bitmap, 0, bitmap.len())?;
-    Ok(validity.len())
-}
-
-/// The capacity after some was reserved.
-fn reserved(alloc: Global) -> Result<usize> {
-    let mut validity = MutableValidity::new(alloc);
-    validity.reserve(90)?;
-    Ok(validity.capacity() / 90)
-}
-
-/// The number of bits of a validity with a null, as a bitmap.
-fn frozen_validity(alloc: Global) -> Result<usize> {
-    let validity = MutableValidity::from_bitmap(input(growing_items(alloc))?);
-    Ok(validity.into_bitmap()?.map_or(0, |bitmap| bitmap.len()))
-}
-
-/// Validities that grow.
-fn growing_validities(alloc: Global) -> [Row<usize>; 7] {
-    [
-        (
-            "MutableValidity::with_capacity",
-            validity_len(MutableValidity::with_capacity(alloc, 90)),
-        ),
-        (
-            "MutableValidity::all_valid",
-            validity_len(MutableValidity::all_valid(alloc, 90)),
-        ),
-        ("MutableValidity::push", pushed_null(alloc)),
-        ("MutableValidity::extend_constant", appended_nulls(alloc)),
-        ("MutableValidity::extend_from_bitmap", appended_bits(alloc)),
-        ("MutableValidity::reserve", reserved(alloc)),
-        ("MutableValidity::into_bitmap", frozen_validity(alloc)),
-    ]
-}
-
 /// Which items are not null.
 fn validities(alloc: Global) -> [Row<usize>; 5] {
     [
@@ -278,7 +219,6 @@ pub(crate) fn all<R: Print + Eprint>(rt: &R, alloc: Global) -> Result<()> {
     made(rt, &given(alloc), &given(alloc));
     made(rt, &growing(alloc), &growing(alloc));
     made(rt, &validities(alloc), &validities(alloc));
-    made(rt, &growing_validities(alloc), &growing_validities(alloc));
     let other = one(alloc).or(one(alloc))?;
     for growth in [
         Growth::Push,

@@ -86,8 +86,8 @@ impl<T: NativeType> PrimitiveArray<T> {
     ///
     /// # Errors
     ///
-    /// `InvalidArgumentError`, or `OutOfMemory` (in the code only if the message cannot be allocated), exactly if one of
-    /// these holds. The message is that of the first that holds:
+    /// `InvalidArgumentError`, or `OutOfMemory` if its message cannot be allocated, exactly if one of these holds. The
+    /// message is that of the first that holds:
     ///
     /// - the validity has another length than the values;
     /// - the physical type of `data_type` is not that of `T`.
@@ -361,14 +361,14 @@ impl<T: NativeType> PrimitiveArray<T> {
     /// - the values have no other owner, and are not sliced;
     /// - the bitmap has no other owner, and begins at bit 0; or there is no bitmap.
     ///
-    /// Else returns `Left` of the array as it was. Where the values can be taken over and there is no bitmap, the call
-    /// allocates memory for one.
+    /// Else returns `Left` of the array as it was. Where there is no bitmap, `Right` has a new one whose items are all
+    /// true.
     ///
     /// Proved: `Left` has the array as it was, `Right` has its items and its logical type, and `Right` comes only if
     /// the values are not sliced, and the bitmap, if there is one, begins at bit 0. Not proved: that `Right` comes only
     /// if nobody shares the storage, that it has the same storage, or that it comes whenever both hold.
     ///
-    /// Differs from arrow2, whose array that grows needs no memory for a bitmap where no item is null.
+    /// Differs from arrow2, whose array that grows needs no bitmap where no item is null.
     ///
     /// # Errors
     ///
@@ -424,7 +424,7 @@ impl<T: NativeType> PrimitiveArray<T> {
 }
 
 /// Shares the logical type, the values and the validity. Does not allocate: in the code it fails only if the reference
-/// count of an `Rc` would overflow. No clause states any of this.
+/// count of an `Rc` would overflow. No clause states that.
 impl<T: NativeType> Clone for PrimitiveArray<T> {
     ghost is_clone = { λ a copy. copy ≡ a };
 

@@ -13,10 +13,11 @@ ghost use Rattle.arrow2_primitive.specs.Growth.{AppendsItems, MayYieldTooManyIte
 ghost use Rattle.arrow2_primitive.specs.Primitive.{primitive_items, GrowingPrimitive};
 
 use crate::array::{PrimitiveArray, native_type};
+use arrow2_bitmap::MutableBitmap;
 use arrow2_buffer::Buffer;
 use arrow2_datatypes::DataType;
 use arrow2_types::{Error, NativeType, Result};
-use arrow2_validity::{MutableValidity, Validity};
+use arrow2_validity::Validity;
 use std::alloc::Global;
 use std::convert::TryFrom;
 use std::marker::Model;
@@ -25,13 +26,13 @@ use std::rc::Rc;
 /// An array of native values that grows.
 ///
 /// Contracts see its logical type, its items, and its capacity, which is the number of items that fit before it
-/// allocates. Each call that appends has one `ensures`, the record `AppendsItems` of `specs/Growth.antt`. The record
+/// allocates. Each call that appends has one clause, the record `AppendsItems` of `specs/Growth.antt`. The record
 /// states the items after `Ok` and after an error, exactly when `Overflow` comes, that `OutOfMemory` is the only other
 /// error, and that the call succeeds within the capacity.
 ///
-/// Differs from arrow2: capacity that is reserved for items is reserved for the validity too, and no bit of the
-/// validity is written before the first null. Before `freeze` the only call that reads an item is
-/// [`MutablePrimitiveArray::pop`], and none sets one.
+/// Differs from arrow2: there always is a validity bitmap while the array grows, and [`MutablePrimitiveArray::freeze`]
+/// drops it where no item is null. Before `freeze` the only call that reads an item is [`MutablePrimitiveArray::pop`],
+/// and none sets one.
 ///
 /// # Examples
 ///
@@ -48,7 +49,7 @@ use std::rc::Rc;
 pub struct MutablePrimitiveArray<T: NativeType> {
     data_type: Rc<DataType>,
     values: Vec<T>,
-    validity: MutableValidity,
+    validity: MutableBitmap,
 }
 
 impl<T: NativeType> Model for MutablePrimitiveArray<T> {
@@ -108,7 +109,7 @@ impl<T: NativeType> MutablePrimitiveArray<T> {
         Ok(MutablePrimitiveArray {
             data_type: native_type::<T>(alloc)?,
             values: Vec::with_capacity(alloc, capacity)?,
-            validity: MutableValidity::with_capacity(alloc, capacity)?,
+            validity: MutableBitmap::with_capacity(alloc, capacity)?,
         })
     }
 
@@ -122,7 +123,7 @@ impl<T: NativeType> MutablePrimitiveArray<T> {
         MutablePrimitiveArray {
             data_type,
             values: Vec::new(alloc),
-            validity: MutableValidity::new(alloc),
+            validity: MutableBitmap::new(alloc),
         }
     }
 
@@ -190,7 +191,7 @@ impl<T: NativeType> MutablePrimitiveArray<T> {
     pub(crate) fn of_parts(
         data_type: Rc<DataType>,
         values: Vec<T>,
-        validity: MutableValidity,
+        validity: MutableBitmap,
     ) -> MutablePrimitiveArray<T>
         requires layout { physical data_type.value ≡ Primitive T.PRIMITIVE }
         requires same_length { length validity.items ≡ length values.items }
@@ -408,7 +409,7 @@ impl<T: NativeType> MutablePrimitiveArray<T> {
             validity,
         } = self;
         let values = Buffer::try_from(values)?;
-        let validity = validity.into_bitmap()?;
+        let validity = validity.into_validity()?;
         Ok(PrimitiveArray::new(data_type, values, validity))
     }
 

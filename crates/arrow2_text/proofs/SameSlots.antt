@@ -7,7 +7,6 @@ use Rattle.std.proofs.Math.Seq.{take-add, take-append_seam, take-length}
 use Rattle.std.proofs.lemmas.List.{append_cancel_left, length-take, length-drop, take_all, ext_get_or, get_or-take, get_or-drop}
 use Rattle.std.proofs.lemmas.List.Sums.{sum_by-cons}
 use Rattle.arrow2_model.specs.Parts.{part, falses}
-use Rattle.arrow2_model.proofs.Counts.{falses-none}
 use Rattle.arrow2_offset.specs.Nested.{cut}
 use Rattle.arrow2_offset.proofs.Nested.{extend-cut, part-cut}
 use Rattle.arrow2_walks.specs.Runs.{runs}
@@ -15,6 +14,7 @@ use Rattle.arrow2_walks.specs.Selected.{selected, non_null_values}
 use Rattle.arrow2_walks.proofs.Selected.{selected-runs, non_null_values-zipped}
 use Rattle.arrow2_walks.specs.Zipped.{zipped}
 use Rattle.arrow2_walks.proofs.Zipped.{nulls-zipped}
+use Rattle.arrow2_text.proofs.SlotLists.{all-true}
 
 module _ {X : Type 0} where
   heads : (x y : X) (xs ys : List X) → x ∷ xs ≡ y ∷ ys → x ≡ y
@@ -124,7 +124,7 @@ module _ {X : Type 0} where
       count xs vs us e g is = ap (count_by is_none) (sym is) ∙ nulls-zipped xs vs (omega (arith, e, g))
 
       whole : (vs : List Bool) → n ≡ length vs → falses vs ≡ 0 → vs ≡ replicate n true
-      whole vs g valid = falses-none vs valid ∙ ap (λ k. replicate k true) (sym g)
+      whole vs g valid = sym (all-true vs valid) ∙ ap (λ k. replicate k true) (sym g)
 
       no-false : (k : ℕ) → falses (replicate k true) ≡ 0
       no-false zero = refl

@@ -10,12 +10,13 @@ ghost use Rattle.arrow2_offset.specs.Nested.{cut};
 ghost use Rattle.arrow2_text.specs.Growth.{AppendsSlots, GrownBySlots, HasCapacityFor, LosesLastSlot, PopsSlot, ReservesSlots};
 
 use crate::slots::Slots;
+use arrow2_bitmap::MutableBitmap;
 use arrow2_buffer::Buffer;
 use arrow2_datatypes::DataType;
 use arrow2_index::Offset;
 use arrow2_offset::{Offsets, OffsetsBuffer};
 use arrow2_types::{Error, Result};
-use arrow2_validity::{MutableValidity, Validity};
+use arrow2_validity::Validity;
 use std::alloc::Global;
 use std::convert::TryFrom;
 use std::marker::Model;
@@ -27,7 +28,7 @@ pub(crate) struct Growing<O: Offset> {
     data_type: Rc<DataType>,
     offsets: Offsets<O>,
     values: Vec<u8>,
-    validity: MutableValidity,
+    validity: MutableBitmap,
 }
 
 impl<O: Offset> Model for Growing<O> {
@@ -72,7 +73,7 @@ impl<O: Offset> Growing<O> {
         ensures only { IfErr result (λ e. (e ≡ Error.Overflow) ⊎ (e ≡ Error.OutOfMemory)) }
     {
         let offsets = Offsets::with_capacity(alloc, capacity)?;
-        let validity = MutableValidity::with_capacity(alloc, capacity)?;
+        let validity = MutableBitmap::with_capacity(alloc, capacity)?;
         let values = Vec::with_capacity(alloc, byte_capacity)?;
         Ok(Growing {
             data_type,
@@ -110,7 +111,7 @@ impl<O: Offset> Growing<O> {
         data_type: Rc<DataType>,
         offsets: Offsets<O>,
         values: Vec<u8>,
-        validity: MutableValidity,
+        validity: MutableBitmap,
     ) -> Growing<O>
         // The offsets begin at 0, and cut all values into one slot for each item of the validity.
         requires start { offsets.start ≡ 0 }
@@ -314,7 +315,7 @@ impl<O: Offset> Growing<O> {
         } = self;
         let offsets = OffsetsBuffer::try_from(offsets)?;
         let values = Buffer::try_from(values)?;
-        let validity = Validity::new(offsets.len_proxy(), validity.into_bitmap()?);
+        let validity = Validity::new(offsets.len_proxy(), validity.into_validity()?);
         Ok(Slots::new(data_type, offsets, values, validity))
     }
 }
@@ -322,7 +323,7 @@ impl<O: Offset> Growing<O> {
 /// Appends the bytes of a slot, and whether it is valid. After an error, both hold what they held.
 fn push_slot(
     values: &mut Vec<u8>,
-    validity: &mut MutableValidity,
+    validity: &mut MutableBitmap,
     value: &[u8],
     valid: bool,
 ) -> Result<()>

@@ -29,9 +29,9 @@ use std::rc::Rc;
 /// `Overflow` comes, that `OutOfMemory` is the only other error, and that the call succeeds within both capacities
 /// where the last offset does not pass `O::MAX`.
 ///
-/// Differs from arrow2: capacity that is reserved for items is reserved for the validity too, and no bit of the
-/// validity is written before the first null. Before `freeze` the only call that reads an item is
-/// [`MutableUtf8Array::pop`], and none sets one.
+/// Differs from arrow2: there always is a validity bitmap while the array grows, and [`MutableUtf8Array::freeze`] drops
+/// it where no item is null. Before `freeze` the only call that reads an item is [`MutableUtf8Array::pop`], and none
+/// sets one.
 ///
 /// # Examples
 ///

@@ -276,7 +276,7 @@ impl<O: Offset> Slots<O> {
 
     /// Returns `Right` of slots that grow over the same storage, if the storage has no other owner, the offsets and the
     /// bytes are not sliced, the offsets begin at 0 and end after the last byte, and the bitmap begins at bit 0. Else
-    /// returns `Left` of the slots as they were. Where there is no bitmap, memory for one is allocated.
+    /// returns `Left` of the slots as they were. Where there is no bitmap, `Right` has a new one.
     pub(crate) fn into_mut(self) -> Result<Either<Slots<O>, Growing<O>>>
         ensures ok { IfOk result (λ r. AreThawed r self (binary_values self)) }
         // `Right` comes only where the offsets begin at 0 and end after the last byte, and nothing is sliced.
@@ -317,7 +317,7 @@ impl<O: Offset> Slots<O> {
 
 /// Returns `Right` of slots that grow over these parts, if the bytes and the bitmap have no other owner, the bytes are
 /// not sliced, and the bitmap begins at bit 0. Else returns `Left` of the slots of these parts. Where there is no
-/// bitmap, memory for one is allocated. Requires that the offsets begin at 0 and end after the last byte, and that the
+/// bitmap, `Right` has a new one. Requires that the offsets begin at 0 and end after the last byte, and that the
 /// validity has an item for each slot.
 fn thawed<O: Offset>(
     data_type: Rc<DataType>,

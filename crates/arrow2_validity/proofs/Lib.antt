@@ -1,5 +1,4 @@
 pub mod ValidItems
-pub mod WithTrues
 pub mod ItemParts
 pub mod Slots
 pub mod Alike

@@ -2,8 +2,6 @@
 #![tactic(auto)]
 
 pub mod fmt;
-mod mutable;
 mod validity;
 
-pub use mutable::MutableValidity;
 pub use validity::{Validity, check_same_length};

@@ -10,9 +10,8 @@ ghost use Rattle.arrow2_types.specs.Refusals.{FailsOnlyWith, error_of};
 ghost use Rattle.arrow2_validity.specs.OptionalValidity.{OptionalValidity, valid_items, sliced_validity};
 ghost use Rattle.arrow2_validity.specs.Refusals.{unequal_lengths_message};
 
-use crate::mutable::MutableValidity;
-use arrow2_bitmap::Bitmap;
 use arrow2_bitmap::bitmap_ops::and;
+use arrow2_bitmap::{Bitmap, MutableBitmap};
 use arrow2_types::{Error, Result};
 use either::Either;
 use std::alloc::{AllocError, Global};
@@ -66,7 +65,7 @@ impl Validity {
     ///
     /// # Errors
     ///
-    /// If the bitmap has another length, `InvalidArgumentError`, or `OutOfMemory`, in the code only where its message
+    /// If the bitmap has another length, `InvalidArgumentError`, or `OutOfMemory`, in the code only where the message
     /// cannot be allocated. After an error the bitmap is dropped.
     pub fn try_new(len: usize, bitmap: Option<Bitmap>) -> Result<Validity>
         ensures ok { IfOk result (λ v. v ≡ record { len = len; bitmap = bitmap }) }
@@ -158,16 +157,16 @@ impl Validity {
         bitmap?.into_validity()
     }
 
-    /// Returns `Right` of a validity that grows and has the same items, or `Left` of the validity as it was.
+    /// Returns `Right` of a bitmap that grows, or `Left` of the validity as it was.
     ///
     /// Where there is a bitmap, `Right` comes only if it begins at bit 0. In the code it comes exactly if it begins
-    /// there and nobody else shares its bytes; no clause states the condition on sharing. Without a bitmap, `Right`
-    /// comes.
+    /// there and nobody else shares its bytes; no clause states the condition on sharing. Without a bitmap, returns
+    /// `Right` of a new one whose items are all true.
     ///
     /// # Errors
     ///
     /// `OutOfMemory` alone, and only where there is no bitmap.
-    pub fn into_mut(self, alloc: Global) -> Result<Either<Validity, MutableValidity>>
+    pub fn into_mut(self, alloc: Global) -> Result<Either<Validity, MutableBitmap>>
         ensures ok { IfOk result (λ r. MatchEither r (λ v. v ≡ self) (λ m. m.items ≡ valid_items self)) }
         ensures made { IsNone self.bitmap → IfOk result (λ r. MatchEither r (λ _. ⊥) (λ _. ⊤)) }
         ensures begins { IfSome self.bitmap (λ b.
@@ -177,11 +176,11 @@ impl Validity {
     {
         let Validity { len, bitmap } = self;
         let Some(bitmap) = bitmap else {
-            return Ok(Either::Right(MutableValidity::all_valid(alloc, len)?));
+            return Ok(Either::Right(MutableBitmap::from_len_set(alloc, len)?));
         };
         match bitmap.into_mut() {
             Either::Left(bitmap) => Ok(Either::Left(Validity::new(len, Some(bitmap)))),
-            Either::Right(bitmap) => Ok(Either::Right(MutableValidity::from_bitmap(bitmap))),
+            Either::Right(bitmap) => Ok(Either::Right(bitmap)),
         }
     }
 
@@ -192,12 +191,12 @@ impl Validity {
     ///
     /// `Overflow` exactly where the new length would pass `usize::MAX`, else `OutOfMemory` alone. After either error,
     /// `grown` holds the items that it held.
-    pub fn append_to(&self, start: usize, len: usize, grown: &mut MutableValidity) -> Result<()>
+    pub fn append_to(&self, start: usize, len: usize, grown: &mut MutableBitmap) -> Result<()>
         requires inside { start + len ≤ length (valid_items self.now) }
         ensures { Appends error_of result grown.old grown.new (part (valid_items self.now) start len) }
     {
         match &self.bitmap {
-            Some(bitmap) => grown.extend_from_bitmap(bitmap, start, len),
+            Some(bitmap) => append_part(bitmap, start, len, grown),
             None => grown.extend_constant(len, true),
         }
     }
@@ -242,11 +241,24 @@ impl Clone for Validity {
     }
 }
 
+/// Appends to `grown` the `len` items of a bitmap from item `start` on. Requires that `start + len` is at most its
+/// length.
+#[tactic(auto, using(arrow2_model::proofs::Cursors::parts))]
+fn append_part(bitmap: &Bitmap, start: usize, len: usize, grown: &mut MutableBitmap) -> Result<()>
+    requires inside { start + len ≤ length (items_of bitmap.now) }
+    ensures { Appends error_of result grown.old grown.new (part (items_of bitmap.now) start len) }
+{
+    let (bytes, offset, _) = bitmap.as_slice();
+    let whole = bitmap.len();
+    prove!(start <= whole && len <= whole - start);
+    grown.extend_from_slice(bytes, offset + start, len)
+}
+
 /// Returns an error where a validity bitmap does not have one item for each value.
 ///
 /// # Errors
 ///
-/// If the lengths differ, `InvalidArgumentError`, or `OutOfMemory`, in the code only where its message cannot be
+/// If the lengths differ, `InvalidArgumentError`, or `OutOfMemory`, in the code only where the message cannot be
 /// allocated.
 pub fn check_same_length(values: usize, validity: &Bitmap) -> Result<()>
     ensures accepted { IsOk result ↔ (length (items_of validity.now) ≡ values) }

@@ -1,10 +1,9 @@
 use Rattle.std.proofs.Common.{◌≡◌, List, Bool, count_by, length, ap, sym, ◌∙◌, subst}
 use Rattle.arrow2_validity.specs.OptionalValidity.{valid_items}
-use Rattle.arrow2_validity.proofs.ValidItems.{left-out}
 use Rattle.arrow2_offset.proofs.Nested.{length-cut}
 use Rattle.arrow2_text.specs.Binary.{BinaryParts, binary_items, binary_values, IsCompact}
 use Rattle.arrow2_text.specs.Growth.{GrowingSlots}
-use Rattle.arrow2_text.proofs.GrowthItems.{bitmap-there}
+use Rattle.arrow2_text.proofs.GrowthItems.{bitmap-there, known-validity}
 use Rattle.arrow2_text.proofs.SlotLists.{frozen-values, compact-slots, packed-alone}
 use Rattle.std.specs.Prelude.{IfSome, ◌↔◌}
 use Rattle.std.specs.Option.{IsNone, is_none}
@@ -17,10 +16,10 @@ pub returns-clause-valid : goal.returns-clause-valid
 returns-clause-valid g c =
     let of_parts : BinaryParts → List Bool = λ s. valid_items s.validity in
     let of_growing : GrowingSlots → List Bool = λ s. s.valid in
-    let validity = c.in_ok-into_bitmap in
+    let validity = c.in_ok-into_validity in
     let count = c.len_proxy.ensures.slots ∙ (ap length c.in_ok-offsets.ensures.2 ∙ sym c.self.invariant.2) in
     ap of_parts c.new.ensures ∙ (ap valid_items c.new-validity.ensures.value
-    ∙ (left-out c.len_proxy.result c.self.inside.validity.items validity.field-0 (sym count) validity.ensures.none validity.ensures.items
+    ∙ (known-validity c.len_proxy.result c.self.inside.validity.items validity.field-0 count validity.ensures.none validity.ensures.items
     ∙ ap of_growing c.self.view_is))
 
 pub returns-clause-data_type : goal.returns-clause-data_type
@@ -35,7 +34,7 @@ returns-clause-values g c =
 
 pub returns-clause-bitmap : goal.returns-clause-bitmap
 returns-clause-bitmap g c =
-    let validity = c.in_ok-into_bitmap in
+    let validity = c.in_ok-into_validity in
     let slots = length-cut c.self.inside.values.items c.self.inside.offsets.lengths in
     let same : length c.args.self.valid ≡ length c.args.self.values = ap (λ s. length s.valid) (sym c.self.view_is) ∙ (c.self.invariant.2 ∙ (sym slots ∙ ap (λ s. length s.values) c.self.view_is)) in
     bitmap-there c.new.result.validity.bitmap validity.field-0 c.args.self.values c.args.self.valid c.self.inside.validity.items same (ap (λ s. s.valid) (sym c.self.view_is))
@@ -44,8 +43,8 @@ returns-clause-bitmap g c =
 pub returns-clause-compact : goal.returns-clause-compact
 returns-clause-compact g c =
     let offsets = c.in_ok-offsets.ensures in
-    let validity = c.in_ok-into_bitmap.ensures in
-    let packed = subst (λ v. IfSome v.bitmap (λ b. IsPacked b)) (sym c.new-validity.ensures.value) (packed-alone c.in_ok-into_bitmap.field-0 c.self.inside.validity.items validity.items validity.storage) in
+    let validity = c.in_ok-into_validity.ensures in
+    let packed = subst (λ v. IfSome v.bitmap (λ b. IsPacked b)) (sym c.new-validity.ensures.value) (packed-alone c.in_ok-into_validity.field-0 c.self.inside.validity.items validity.items validity.storage) in
     let bitmap : IsNone c.new.result.validity.bitmap ↔ (count_by is_none (binary_items c.new.result) ≡ 0) = rw (returns-clause-values g c, returns-clause-valid g c) (returns-clause-bitmap g c) in
     subst (λ s. IsCompact s) (sym c.new.ensures) (compact-slots _ c.self.inside.values.items c.self.inside.offsets.lengths _ c.self.invariant.1 offsets.0 (offsets.1 ∙ c.self.invariant.0) offsets.2 c.in_ok-values.ensures packed
     (subst (λ s. IsNone s.validity.bitmap ↔ (count_by is_none (binary_items s) ≡ 0)) c.new.ensures bitmap))
