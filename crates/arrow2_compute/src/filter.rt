@@ -176,8 +176,8 @@ fn true_items(mask: &BooleanArray) -> Result<Bitmap>
     }
 }
 
-/// Returns the byte strings or texts at whose index the mask is true. The result has a validity
-/// bitmap exactly if an item of it is null. Requires that both have equal lengths.
+/// Returns the byte strings or texts at whose index the mask is true. The result has a validity bitmap exactly if an
+/// item of it is null. Requires that both have equal lengths.
 ///
 /// In arrow2 it is `filter`, whose mask is a boolean array.
 ///
@@ -202,8 +202,7 @@ pub fn filter_binary<A: Binary>(array: &A, mask: &Bitmap) -> Result<A>
     Ok(kept.with_validity(validity.into_null_bitmap()))
 }
 
-/// Returns the slots at whose index the mask is true, copied run by run. Requires that both have equal lengths, and that
-/// no slot is null.
+/// Returns the items at whose index the mask is true, copied run by run. Requires that both have equal lengths.
 fn selected_slots<A: Binary>(array: &A, mask: &Bitmap) -> Result<A>
     requires same_length { length (items_of mask.now) ≡ length (binary_items (A.parts array.now)) }
     ensures items { IfOk result (λ a. binary_items (A.parts a)
