@@ -10,7 +10,7 @@ use crate::widths::write_narrow;
 use arrow2_types::{Error, Result};
 use std::alloc::{AllocError, Global};
 
-/// Returns a copy of the same offsets, in 64 bits each. They can be converted back.
+/// Returns a copy of the same offsets, in 64 bits each.
 ///
 /// Stands for arrow2's `From`.
 ///
@@ -53,7 +53,7 @@ impl TryFrom<Offsets<i64>> for Offsets<i32> {
     }
 }
 
-/// Returns a copy of the same offsets, in 64 bits each. They can be converted back.
+/// Returns a copy of the same offsets, in 64 bits each.
 ///
 /// Stands for arrow2's `From`.
 ///
