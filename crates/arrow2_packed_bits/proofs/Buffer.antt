@@ -124,10 +124,11 @@ cut_last bytes after n last x canonical e is was =
     mod_small x m h = let le = mod-le x m in omega (arith, le, h)
 
 -- an item in the last byte
-pub push_position : (bytes after : List ℕ) (n x y : ℕ) (v : Bool) → IsCanonical bytes n → 0 < n % 8 → x ≡ get_or bytes (n / 8) x → y ≡ from_bool v → after ≡ set bytes (n / 8) (bit_or x (y * 2 ^ (n % 8) % 256)) → IsCanonical after (n + 1) × (take (n + 1) (bits after) ≡ take n (bits bytes) ++ v ∷ [])
-push_position bytes after n x y v canonical some is value was =
-    let byte : x ≡ get_or bytes (n / 8) 0 = is ∙ get_or_default_zero bytes (n / 8) x (omega (arith, canonical.exact)) in
-    rw was (pushed_bit bytes n (bit_or x (y * 2 ^ (n % 8) % 2 ^ 8)) v canonical some (ap (λ z. bit_or z (y * 2 ^ (n % 8) % 2 ^ 8)) byte ∙ ap (λ z. bit_or (get_or bytes (n / 8) 0) (z * 2 ^ (n % 8) % 2 ^ 8)) value) (set_fits bytes (n / 8) (bit_or x (y * 2 ^ (n % 8) % 256)) canonical.fits (or_of_8 x (y * 2 ^ (n % 8) % 256) (rw byte (canonical.fits (n / 8))) (omega arith))))
+pub push_position : (bytes after : List ℕ) (n m x y : ℕ) (v : Bool) → IsCanonical bytes n → 0 < n % 8 → m ≡ length bytes → x ≡ get_or bytes (m - 1) x → y ≡ from_bool v → after ≡ set bytes (m - 1) (bit_or x (y * 2 ^ (n % 8) % 256)) → IsCanonical after (n + 1) × (take (n + 1) (bits after) ≡ take n (bits bytes) ++ v ∷ [])
+push_position bytes after n m x y v canonical some size is value was =
+    let last : m - 1 ≡ n / 8 = omega (arith, some, size, canonical.exact) in
+    let byte : x ≡ get_or bytes (n / 8) 0 = is ∙ (ap (λ i. get_or bytes i x) last ∙ get_or_default_zero bytes (n / 8) x (omega (arith, canonical.exact))) in
+    rw (was, last) (pushed_bit bytes n (bit_or x (y * 2 ^ (n % 8) % 2 ^ 8)) v canonical some (ap (λ z. bit_or z (y * 2 ^ (n % 8) % 2 ^ 8)) byte ∙ ap (λ z. bit_or (get_or bytes (n / 8) 0) (z * 2 ^ (n % 8) % 2 ^ 8)) value) (set_fits bytes (n / 8) (bit_or x (y * 2 ^ (n % 8) % 256)) canonical.fits (or_of_8 x (y * 2 ^ (n % 8) % 256) (rw byte (canonical.fits (n / 8))) (omega arith))))
 
 -- an item in a byte of its own
 pub push_byte : (bytes after : List ℕ) (n b : ℕ) (v : Bool) → IsCanonical bytes n → n % 8 ≡ 0 → after ≡ bytes ++ b ∷ [] → b ≡ from_bool v → IsCanonical after (n + 1) × (take (n + 1) (bits after) ≡ take n (bits bytes) ++ v ∷ [])

@@ -207,7 +207,9 @@ impl PackedBits {
         if position == 0 {
             self.bytes.push(u8::from(item))?;
         } else {
-            self.bytes[self.length / 8] |= u8::from(item) << position;
+            // The number of bytes is read rather than computed from the length, which was written at the last push.
+            let last = self.bytes.len() - 1;
+            self.bytes[last] |= u8::from(item) << position;
         }
         self.length += 1;
         Ok(())

@@ -18,7 +18,7 @@ pushed c =
       )
       | else-position-eq0 w ↦ rw w.self-inside-is (
         omega arith,
-        push_position b.bytes.items _ b.length w.index_mut.result.now w.from-else-position-eq0.result c.args.item c.self.invariant (omega (arith, w.if-position-eq0.false)) w.index_mut.ensures.value w.from-else-position-eq0.ensures refl,
+        push_position b.bytes.items _ b.length w.len-last.result w.index_mut.result.now w.from-else-position-eq0.result c.args.item c.self.invariant (omega (arith, w.if-position-eq0.false)) (w.len-last.ensures ∙ search rules) w.index_mut.ensures.value w.from-else-position-eq0.ensures refl,
       )
     ]
 
