@@ -522,6 +522,9 @@ fn shared_offsets(inputs: &Inputs) -> Vec<Line<'_>> {
     ]
 }
 
+/// The items of a short column.
+const FEW: usize = 100;
+
 /// The size of a line on a column, and whether it has nulls.
 struct Size<'a> {
     name: &'static str,
@@ -533,7 +536,7 @@ struct Size<'a> {
 
 /// Columns of a million items and of 100, without nulls and with nulls.
 fn sizes(inputs: &Inputs) -> [Size<'_>; 4] {
-    let nulls = &inputs.bytes[..];
+    let nulls = |items: usize| &inputs.bytes[..items.div_ceil(8)];
     let many = |name, validity| Size {
         name,
         length: MANY,
@@ -543,16 +546,16 @@ fn sizes(inputs: &Inputs) -> [Size<'_>; 4] {
     };
     let few = |name, validity| Size {
         name,
-        length: 100,
+        length: FEW,
         validity,
         times: 10_000,
         elements: (10_000, "calls"),
     };
     [
         many("", NONE),
-        many(", with nulls", nulls),
+        many(", with nulls", nulls(MANY)),
         few(" of 100 items", NONE),
-        few(" of 100 items, with nulls", nulls),
+        few(" of 100 items, with nulls", nulls(FEW)),
     ]
 }
 
@@ -562,8 +565,8 @@ fn built(inputs: &Inputs) -> Vec<Line<'_>> {
     vec![
         line("built from options", trues, (4 * MANY, "items"), vec![MANY; 4]),
         line("built from options, with nulls", items, (4 * MANY, "items"), vec![MANY; 4]),
-        line("built from 100 options", trues, (10_000, "calls"), vec![100; 10_000]),
-        line("built from 100 options, with nulls", items, (10_000, "calls"), vec![100; 10_000]),
+        line("built from 100 options", trues, (10_000, "calls"), vec![FEW; 10_000]),
+        line("built from 100 options, with nulls", items, (10_000, "calls"), vec![FEW; 10_000]),
     ]
 }
 
@@ -589,13 +592,13 @@ fn selected(inputs: &Inputs) -> Vec<Line<'_>> {
 }
 
 /// The indices of 100 items in another order.
-static SHUFFLED: [usize; 100] = shuffled();
+static SHUFFLED: [usize; FEW] = shuffled();
 
-const fn shuffled() -> [usize; 100] {
-    let mut indices = [0; 100];
+const fn shuffled() -> [usize; FEW] {
+    let mut indices = [0; FEW];
     let mut index = 0;
-    while index < 100 {
-        indices[index] = index * 37 % 100;
+    while index < FEW {
+        indices[index] = index * 37 % FEW;
         index += 1;
     }
     indices
