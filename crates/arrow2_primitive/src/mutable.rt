@@ -1,5 +1,5 @@
 //! An array of native values that grows.
-ghost use Rattle.std.specs.Prelude.{◌≡◌, ◌+◌, ◌<◌, ◌≤◌, ◌^◌, ◌↔◌, ◌⊎◌, ◌++◌, [], ◌∷◌, None, Some, length, map, replicate, IfOk, IfErr, IfSome, IsErrOf, IsOk, IfNone, MatchOption, OnOk, IsNone, IsTrue, count_by, Some};
+ghost use Rattle.std.specs.Prelude.{◌≡◌, ◌+◌, ◌<◌, ◌≤◌, ◌^◌, ◌↔◌, ◌⊎◌, ◌++◌, [], ◌∷◌, None, Some, length, map, replicate, IfOk, IfErr, IfSome, IsErrOf, IsOk, IfNone, MatchOption, OnErr, OnOk, IsNone, IsTrue, count_by, Some};
 ghost use Rattle.std.specs.Option.{is_none};
 ghost use Rattle.std.specs.Iterator.{IsFinite, IsFiniteIterable};
 ghost use Rattle.std.specs.Iterator.Runs.{WholeRun};
@@ -8,6 +8,7 @@ ghost use Rattle.arrow2_datatypes.specs.declared.physical_type.PhysicalType.TheV
 ghost use Rattle.arrow2_model.specs.Buffers.{buffer_items, whole_buffer};
 ghost use Rattle.arrow2_model.specs.Parts.{part};
 ghost use Rattle.arrow2_bitmap.specs.Packed.{IsPacked};
+ghost use Rattle.arrow2_types.specs.declared.growth_error.GrowthError.TheVariants as growth_error;
 ghost use Rattle.arrow2_walks.specs.Zipped.{zipped};
 ghost use Rattle.arrow2_primitive.specs.Growth.{AppendsItems, MayYieldTooManyItems};
 ghost use Rattle.arrow2_primitive.specs.Primitive.{primitive_items, GrowingPrimitive};
@@ -16,7 +17,7 @@ use crate::array::{PrimitiveArray, native_type};
 use arrow2_bitmap::MutableBitmap;
 use arrow2_buffer::Buffer;
 use arrow2_datatypes::DataType;
-use arrow2_types::{Error, NativeType, Result};
+use arrow2_types::{Error, GrowthError, NativeType, Result};
 use arrow2_validity::Validity;
 use std::alloc::Global;
 use std::convert::TryFrom;
@@ -269,7 +270,8 @@ impl<T: NativeType> MutablePrimitiveArray<T> {
         ensures { AppendsItems result self.old self.new (item ∷ []) }
     {
         if self.values.len() == self.values.capacity() {
-            return self.push_growing(item);
+            self.push_growing(item)?;
+            return Ok(());
         }
         self.validity.push(item.is_some())?;
         self.values.push_reserved(item.unwrap_or(T::default()));
@@ -413,12 +415,24 @@ impl<T: NativeType> MutablePrimitiveArray<T> {
         Ok(PrimitiveArray::new(data_type, values, validity))
     }
 
-    /// Reserves capacity for an item, and appends it.
-    fn push_growing(&mut self, item: Option<T>) -> Result<()>
-        ensures { AppendsItems result self.old self.new (item ∷ []) }
+    /// Appends an item where the vector of the values is full. It returns the small error: where `push` is inlined into
+    /// a loop, memory for an [`Error`] would be zeroed at each item.
+    fn push_growing(&mut self, item: Option<T>) -> std::result::Result<(), GrowthError>
+        requires full { self.old.capacity ≤ length self.old.items }
+        ensures ok { OnOk result (self.new.items ≡ self.old.items ++ item ∷ []) }
+        ensures err { OnErr result (self.new.items ≡ self.old.items) }
+        ensures data_type { self.new.data_type ≡ self.old.data_type }
+        ensures overflow { IsErrOf result growth_error.Overflow ↔ (2 ^ 64 ≤ length self.old.items + 1) }
+        ensures capacity { self.old.capacity ≤ self.new.capacity }
     {
-        self.reserve(1)?;
-        self.push_within(item);
+        if self.values.len() == usize::MAX {
+            return Err(GrowthError::Overflow);
+        }
+        self.values.reserve(1)?;
+        if self.validity.push(item.is_some()).is_err() {
+            return Err(GrowthError::OutOfMemory);
+        }
+        self.values.push_reserved(item.unwrap_or(T::default()));
         Ok(())
     }
 
