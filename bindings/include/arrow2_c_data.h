@@ -86,8 +86,8 @@ struct ArrowArrayStream {
  * - Each `arrow2_bits_*` function of this header that returns a code calls a function of the library, which its comment
  *   names, and returns the code of that function. There are two exceptions. Without a validity arrow2_bits_null_count
  *   calls nothing and returns ARROW2_OK. If both validities are missing, arrow2_bits_and_validity tests the size of
- *   `out` itself: if it is wrong, it calls nothing and returns ARROW2_LENGTH; if it and `length` are 0, it calls nothing
- *   and returns ARROW2_OK; else it calls arrow2_unary_assign_table.
+ *   `out` itself. With a wrong size the function calls nothing and returns ARROW2_LENGTH. If size and `length` are both
+ *   0, the function calls nothing and returns ARROW2_OK. Else it calls arrow2_unary_assign_table.
  * - A NULL pointer to bytes counts as 0 bytes, whatever `bytes_len`, `out_len`, `values_len` or `validity_len` is. The
  *   function then returns the code that it returns for an input or output of 0 bytes: ARROW2_RANGE, if an input is NULL
  *   and its `offset` or the `length` is not 0; ARROW2_LENGTH, if an output is NULL and `length` is not 0, unless
@@ -306,9 +306,9 @@ static inline struct arrow2_bits arrow2_bits_of_column(const struct ArrowArray *
 /* Where the check refused.
  *
  * `path` leads from the root to the array at fault. With ARROW2_C_SHORT_CHILD that is the child; if the child of a map
- * is not a struct of two children, it is the map. The path leads to a child or a dictionary that is NULL, was released,
- * has no format, or has a `length`, `offset`, `n_children` or `n_buffers` that ARROW2_C_NEGATIVE refuses. If there are
- * more sizes than buffers, it leads to the root. The path of the root is empty. A step to a child is `list.0`,
+ * is not a struct of two children, it is the map. If a child or a dictionary is NULL, was released, has no format, or
+ * has a number that ARROW2_C_NEGATIVE refuses, the path leads to this child or dictionary. If there are more sizes than
+ * buffers, it leads to the root. The path of the root is empty. A step to a child is `list.0`,
  * `fixed_list.0`, `map.0`, `struct.K` or `union.K`, by the format of the parent; K counts children from 0 on. The step
  * to a dictionary is `dictionary`. A `/` stands between two steps: `struct.3/list.0` is child 0 of a list, which is
  * child 3 of a struct.

@@ -372,15 +372,15 @@ impl<T: NativeType> PrimitiveArray<T> {
     ///
     /// # Errors
     ///
-    /// `OutOfMemory` alone, and only where nothing of the values is sliced off. The array is then dropped. In the code
-    /// it comes only if the values have no other owner, and one of these holds:
+    /// `OutOfMemory` alone, and only if the values are not sliced. The array is then dropped. In the code it comes only if
+    /// the values have no other owner, and one of these holds:
     ///
     /// - there is no bitmap;
     /// - the bitmap is shared, or begins at a bit other than 0.
     pub fn into_mut(self) -> Result<Either<PrimitiveArray<T>, MutablePrimitiveArray<T>>>
         ensures ok { IfOk result (λ r. MatchEither r (λ a. a ≡ self)
             (λ m. (m.items ≡ primitive_items self) × (m.data_type ≡ self.data_type))) }
-        // `Right` comes only where nothing of the values is sliced off, and a bitmap begins at bit 0. Where the values
+        // `Right` comes only where the values are not sliced, and a bitmap begins at bit 0. Where the values
         // are sliced, nothing is allocated.
         ensures whole { IfOk result (λ r. MatchEither r (λ _. ⊤) (λ _. self.values ≡ whole_buffer self.values.storage)) }
         ensures begins { IfSome self.validity.bitmap (λ b.

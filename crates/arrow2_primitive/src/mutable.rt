@@ -28,12 +28,12 @@ use std::rc::Rc;
 ///
 /// Contracts see its logical type, its items, and its capacity, which is the number of items that fit before it
 /// allocates. Each call that appends has one clause, the record `AppendsItems` of `specs/Growth.antt`. The record
-/// states the items after `Ok` and after an error, exactly when `Overflow` comes, that `OutOfMemory` is the only other
-/// error, and that the call succeeds within the capacity.
+/// states what the items are after `Ok` and after an error, in exactly which cases `Overflow` comes, that `OutOfMemory`
+/// is the only other error, and that the call succeeds within the capacity.
 ///
 /// Differs from arrow2: there always is a validity bitmap while the array grows, and [`MutablePrimitiveArray::freeze`]
 /// drops it where no item is null. Before `freeze` the only call that reads an item is [`MutablePrimitiveArray::pop`],
-/// and none sets one.
+/// and no call overwrites an item.
 ///
 /// # Examples
 ///
@@ -387,9 +387,9 @@ impl<T: NativeType> MutablePrimitiveArray<T> {
         self.validity.shrink_to_fit()
     }
 
-    /// Returns an array of the items. It stores one value for each item, also for a null, and nothing of the values is
-    /// sliced off. It has a validity bitmap exactly if an item is null. The values are moved and not copied, which no
-    /// clause states.
+    /// Returns an array of the items. It stores one value for each item, also for a null, and its values are the whole
+    /// of their storage. It has a validity bitmap exactly if an item is null. The values are moved and not copied, which
+    /// no clause states.
     ///
     /// Stands for arrow2's `From<MutablePrimitiveArray>`.
     ///
@@ -415,8 +415,8 @@ impl<T: NativeType> MutablePrimitiveArray<T> {
         Ok(PrimitiveArray::new(data_type, values, validity))
     }
 
-    /// Appends an item where the vector of the values is full. It returns the small error: where `push` is inlined into
-    /// a loop, memory for an [`Error`] would be zeroed at each item.
+    /// Appends an item where the vector of the values is full. It returns the one-byte `GrowthError`: with an [`Error`],
+    /// a loop into which `push` is inlined would zero memory for one at each item.
     fn push_growing(&mut self, item: Option<T>) -> std::result::Result<(), GrowthError>
         requires full { self.old.capacity ≤ length self.old.items }
         ensures ok { OnOk result (self.new.items ≡ self.old.items ++ item ∷ []) }
