@@ -232,8 +232,8 @@ uint32_t arrow2_runs(const uint8_t *bytes, size_t bytes_len, size_t offset, size
  * less. If `*count < indices_len`, all set bits are done, and `*at` equals `length`. The items of `indices` from
  * `*count` on may have been written too. For all set bits, call again until `*count` is below `indices_len`, which must
  * be at least 1 for that: with `indices_len` 0 this loop never ends, because `*count` is always 0. The new `*at` is
- * then at least the old one, and no set bit is passed over. ARROW2_RANGE: the range is not inside the bytes, or `*at` is
- * above `length`. */
+ * then at least the old one, and no set bit is passed over. ARROW2_RANGE: the range is not inside the bytes, or `*at`
+ * is above `length`. */
 uint32_t arrow2_set_indices(const uint8_t *bytes, size_t bytes_len, size_t offset, size_t length, size_t *at,
                             size_t *indices, size_t indices_len, size_t *count);
 

@@ -77,8 +77,8 @@ pub fn from_rows<S: WordRows<u64>, F: Fn(S::Row) -> u64>(
 /// the contract of `op` allows for the input word at its index. If the contract of `op` fixes the result, by a
 /// function on words or bit by bit by a truth table, the clauses fix each item.
 ///
-/// Differs from arrow2: the padding bits of the words count as false. The code does not call `op` for a last word that is
-/// all padding; no clause states this. arrow2's `unary` returns no `Result`.
+/// Differs from arrow2: the padding bits of the words count as false. The code does not call `op` for a last word that
+/// is all padding; no clause states this. arrow2's `unary` returns no `Result`.
 ///
 /// # Errors
 ///
@@ -118,8 +118,8 @@ pub fn unary<F: Fn(u64) -> u64>(lhs: &Bitmap, op: F) -> Result<Bitmap>
 /// the contract of `op` allows for the input words at its index. If the contract of `op` fixes the result, by a
 /// function on words or bit by bit by a truth table, the clauses fix each item.
 ///
-/// Differs from arrow2: the padding bits of the words count as false. The code does not call `op` for a last word that is
-/// all padding; no clause states this. arrow2's `binary` returns no `Result`.
+/// Differs from arrow2: the padding bits of the words count as false. The code does not call `op` for a last word that
+/// is all padding; no clause states this. arrow2's `binary` returns no `Result`.
 ///
 /// # Errors
 ///

@@ -404,9 +404,9 @@ impl Bitmap {
     }
 
     /// Returns an iterator over the items by words of `T`, from the first item on. In the contract, `spill` is the word
-    /// that `remainder` returns. Its lowest bits are the items after the last full word. Above them come stored bits that
-    /// follow the last item: if the bitmap has a full word, the other bits of the last item's byte; if it has none, all
-    /// later stored bits, as far as the word has room. All other bits of the word are 0.
+    /// that `remainder` returns. Its lowest bits are the items after the last full word. Above them come stored bits
+    /// that follow the last item: if the bitmap has a full word, the other bits of the last item's byte; if it has
+    /// none, all later stored bits, as far as the word has room. All other bits of the word are 0.
     pub fn chunks<T: BitChunk>(&self) -> BitChunks<'_, T>
         ensures items { result.items ≡ items_of self.now }
         ensures fits { length (items_of self.now) < 2 ^ 64 }
@@ -467,8 +467,8 @@ impl Bitmap {
     }
 
     /// Slices as [`Bitmap::slice`] does, and adds to `reads` the number of bytes that it reads to count the false items
-    /// of the slice. It is proved that the number added is at most `L / 16 + 4`, where `L` is the number of items before
-    /// the call, but not that every byte that the call reads is included.
+    /// of the slice. It is proved that the number added is at most `L / 16 + 4`, where `L` is the number of items
+    /// before the call, but not that every byte that the call reads is included.
     ///
     /// arrow2 counts no reads.
     pub fn slice_counted(&mut self, offset: usize, len: usize, reads: &mut Reads)
@@ -676,8 +676,8 @@ impl fmt::Debug for Bitmap {
     ghost debug_output = { λ b. Some (shown
         (part b.bytes (b.offset / 8) ((b.offset % 8 + b.len + 7) / 8)) (b.offset % 8) b.len) };
 
-    /// If it returns `Ok` and the formatter does not indent, it wrote exactly the text that the definition `shown` gives
-    /// for the bytes, the bit offset and the length, whatever width, precision or flags the formatter has. For a
+    /// If it returns `Ok` and the formatter does not indent, it wrote exactly the text that the definition `shown`
+    /// gives for the bytes, the bit offset and the length, whatever width, precision or flags the formatter has. For a
     /// formatter that indents, as inside a `{:#?}`, the clause states nothing.
     fn fmt<W: fmt::Write>(&self, f: &mut fmt::Formatter<W>) -> fmt::Result
         ensures styled { let b = self.now in WritesStyledOnOk W.write_str_gives f.old result (shown

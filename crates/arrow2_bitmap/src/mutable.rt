@@ -489,9 +489,9 @@ fn filled(alloc: Global, byte: u8, count: usize) -> std::result::Result<Vec<u8>,
 impl fmt::Debug for MutableBitmap {
     ghost debug_output = { λ m. Some (shown (canonical_bytes m.items) 0 (length m.items)) };
 
-    /// If it returns `Ok` and the formatter does not indent, it wrote exactly the text that the definition `shown` gives
-    /// for the items, whatever width, precision or flags the formatter has. For a formatter that indents, as inside a
-    /// `{:#?}`, the clause states nothing.
+    /// If it returns `Ok` and the formatter does not indent, it wrote exactly the text that the definition `shown`
+    /// gives for the items, whatever width, precision or flags the formatter has. For a formatter that indents, as
+    /// inside a `{:#?}`, the clause states nothing.
     fn fmt<W: fmt::Write>(&self, f: &mut fmt::Formatter<W>) -> fmt::Result
         ensures styled { WritesStyledOnOk W.write_str_gives f.old result
             (shown (canonical_bytes self.now.items) 0 (length self.now.items)) f.new }

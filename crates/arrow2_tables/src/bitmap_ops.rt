@@ -19,8 +19,8 @@ use arrow2_types::{Error, Result};
 /// the contract of `op` allows for the input words at its index. If the contract of `op` fixes the result, by a
 /// function on words or bit by bit by a truth table, the clauses fix each item.
 ///
-/// Differs from arrow2: the padding bits of the words count as false. In the code `op` is not called for words that hold
-/// no item, which no clause states. arrow2's call returns no `Result`.
+/// Differs from arrow2: the padding bits of the words count as false. In the code `op` is not called for words that
+/// hold no item, which no clause states. arrow2's call returns no `Result`.
 ///
 /// # Errors
 ///
@@ -78,8 +78,8 @@ pub fn ternary<F: Fn(u64, u64, u64) -> u64>(
 /// the contract of `op` allows for the input words at its index. If the contract of `op` fixes the result, by a
 /// function on words or bit by bit by a truth table, the clauses fix each item.
 ///
-/// Differs from arrow2: the padding bits of the words count as false. In the code `op` is not called for words that hold
-/// no item, which no clause states. arrow2's call returns no `Result`.
+/// Differs from arrow2: the padding bits of the words count as false. In the code `op` is not called for words that
+/// hold no item, which no clause states. arrow2's call returns no `Result`.
 ///
 /// # Errors
 ///

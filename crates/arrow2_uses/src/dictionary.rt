@@ -16,8 +16,8 @@ use arrow2::error::{Error, Result};
 use std::alloc::Global;
 use std::marker::Model;
 
-/// Texts that repeat, where each need be stored only once: contracts see the list of the items, each `None` or the bytes
-/// of its text.
+/// Texts that repeat, where each need be stored only once: contracts see the list of the items, each `None` or the
+/// bytes of its text.
 #[derive(Drop)]
 pub struct Dictionary {
     keys: PrimitiveArray<u32>,

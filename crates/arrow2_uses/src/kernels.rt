@@ -7,8 +7,8 @@ ghost use Rattle.arrow2.specs.Tables.{each};
 use arrow2::bitmap::{Bitmap, MutableBitmap, binary_assign_table, binary_table, unary};
 use arrow2::error::{Error, Result};
 
-/// Returns a bitmap that is true where `bitmap` is true and `other` is false. Bit 1 of the truth table is the output for
-/// these inputs. Only this bit is set, so the table is the number 0b10 = 2. Requires that both have equal lengths.
+/// Returns a bitmap that is true where `bitmap` is true and `other` is false. Bit 1 of the truth table is the output
+/// for these inputs. Only this bit is set, so the table is the number 0b10 = 2. Requires that both have equal lengths.
 ///
 /// # Errors
 ///
