@@ -372,8 +372,8 @@ impl<T: NativeType> PrimitiveArray<T> {
     ///
     /// # Errors
     ///
-    /// `OutOfMemory` alone, and only if the values are not sliced. The array is then dropped. In the code it comes only
-    /// if the values have no other owner, and one of these holds:
+    /// `OutOfMemory` alone; the array is then dropped. It is proved that this error comes only if the values are not
+    /// sliced. In the code, but not proved, it comes only if the values have no other owner, and one of these holds:
     ///
     /// - there is no bitmap;
     /// - the bitmap is shared, or begins at a bit other than 0.

@@ -387,9 +387,9 @@ impl<T: NativeType> MutablePrimitiveArray<T> {
         self.validity.shrink_to_fit()
     }
 
-    /// Returns an array of the items. It stores one value for each item, also for a null, and its values are the whole
-    /// of their storage. It has a validity bitmap exactly if an item is null. The values are moved and not copied,
-    /// which no clause states.
+    /// Returns an array of the items. It stores one value for each item, also for a null, and its values are not
+    /// sliced: they are all that their buffer stores. It has a validity bitmap exactly if an item is null. The values
+    /// are moved and not copied, which no clause states.
     ///
     /// Stands for arrow2's `From<MutablePrimitiveArray>`.
     ///
@@ -415,8 +415,8 @@ impl<T: NativeType> MutablePrimitiveArray<T> {
         Ok(PrimitiveArray::new(data_type, values, validity))
     }
 
-    /// Appends an item where the vector of the values is full. It returns the one-byte `GrowthError`: with an
-    /// [`Error`], a loop into which `push` is inlined would zero memory for one at each item.
+    /// Appends an item where the vector of the values is full. It returns the one-byte `GrowthError`. If
+    /// it returned an [`Error`], a loop with `push` inlined would zero the memory of an `Error` at each item.
     fn push_growing(&mut self, item: Option<T>) -> std::result::Result<(), GrowthError>
         requires full { self.old.capacity ≤ length self.old.items }
         ensures ok { OnOk result (self.new.items ≡ self.old.items ++ item ∷ []) }
