@@ -415,14 +415,15 @@ impl<T: NativeType> MutablePrimitiveArray<T> {
         Ok(PrimitiveArray::new(data_type, values, validity))
     }
 
-    /// Appends an item where the vector of the values is full. It returns the one-byte `GrowthError`. If
-    /// it returned an [`Error`], a loop with `push` inlined would zero the memory of an `Error` at each item.
+    /// Appends an item where the vector of the values is full. It returns the one-byte `GrowthError`. If it returned an
+    /// [`Error`], a loop with `push` inlined would zero the memory of an `Error` at each item.
     fn push_growing(&mut self, item: Option<T>) -> std::result::Result<(), GrowthError>
         requires full { self.old.capacity ≤ length self.old.items }
         ensures ok { OnOk result (self.new.items ≡ self.old.items ++ item ∷ []) }
         ensures err { OnErr result (self.new.items ≡ self.old.items) }
         ensures data_type { self.new.data_type ≡ self.old.data_type }
-        ensures overflow { IsErrOf result growth_error.Overflow ↔ (2 ^ 64 ≤ length self.old.items + 1) }
+        ensures overflow { IsErrOf result growth_error.Overflow ↔
+            (2 ^ 64 ≤ length self.old.items + 1) }
         ensures capacity { self.old.capacity ≤ self.new.capacity }
     {
         if self.values.len() == usize::MAX {
