@@ -422,8 +422,7 @@ impl<T: NativeType> MutablePrimitiveArray<T> {
         ensures ok { OnOk result (self.new.items ≡ self.old.items ++ item ∷ []) }
         ensures err { OnErr result (self.new.items ≡ self.old.items) }
         ensures data_type { self.new.data_type ≡ self.old.data_type }
-        ensures overflow { IsErrOf result growth_error.Overflow ↔
-            (2 ^ 64 ≤ length self.old.items + 1) }
+        ensures overflow { IsErrOf result growth_error.Overflow ↔ (2 ^ 64 ≤ length self.old.items + 1) }
         ensures capacity { self.old.capacity ≤ self.new.capacity }
     {
         if self.values.len() == usize::MAX {
