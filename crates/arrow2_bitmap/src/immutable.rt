@@ -404,9 +404,9 @@ impl Bitmap {
     }
 
     /// Returns an iterator over the items by words of `T`, from the first item on. In the contract, `spill` is the word
-    /// that `remainder` returns. Its lowest bits are the items after the last full word. Above them come stored bits
-    /// that follow the last item: if the bitmap has a full word, the other bits of the last item's byte; if it has
-    /// none, all later stored bits, as far as the word has room. All other bits of the word are 0.
+    /// that `remainder` returns. Its lowest bits are the items after the last full word. Above them come, as far as the
+    /// word has room, stored bits that follow the last item: if the bitmap has a full word, the other bits of the last
+    /// item's byte; if it has none, all later stored bits. All other bits of the word are 0.
     pub fn chunks<T: BitChunk>(&self) -> BitChunks<'_, T>
         ensures items { result.items ≡ items_of self.now }
         ensures fits { length (items_of self.now) < 2 ^ 64 }
