@@ -88,10 +88,9 @@ struct ArrowArrayStream {
  *   calls nothing and returns ARROW2_OK. If both validities are missing, arrow2_bits_and_validity tests the size of
  *   `out` itself. With a wrong size the function calls nothing and returns ARROW2_LENGTH. If size and `length` are both
  *   0, the function calls nothing and returns ARROW2_OK. Else it calls arrow2_unary_assign_table.
- * - A NULL pointer to bytes counts as 0 bytes, whatever `bytes_len`, `out_len`, `values_len` or `validity_len` is. The
- *   function then returns the code that it returns for an input or output of 0 bytes: ARROW2_RANGE, if an input is NULL
- *   and its `offset` or the `length` is not 0; ARROW2_LENGTH, if an output is NULL and `length` is not 0, unless
- *   something gives ARROW2_RANGE first.
+ * - A NULL pointer to bytes counts as 0 bytes, whatever `bytes_len`, `out_len`, `values_len` or `validity_len` is. So a
+ *   NULL input gives ARROW2_RANGE, unless its `offset` and the `length` are both 0. A NULL output gives ARROW2_LENGTH,
+ *   unless the `length` is 0. ARROW2_RANGE is tested first.
  * - The exception is a validity: there NULL means that there is no validity bitmap, so no item is null. Pass `(struct
  *   arrow2_bits){NULL, 0, 0}`, in C++ `arrow2_bits{nullptr, 0, 0}`. The functions that accept this are
  *   arrow2_bits_null_count, arrow2_bits_and_validity, and for their validity arguments arrow2_bits_and_kleene and

@@ -215,12 +215,12 @@ uint32_t arrow2_unpack(const uint8_t *bytes, size_t bytes_len, size_t offset, bo
  * `starts[k]` of the range and has `lengths[k]` bits. If `*at` is inside a run, only the part of that run from `*at` on
  * is reported. The call stops when the slices are full or no run is left. It writes the number of runs to `*count`, and
  * to `*at` the bit at which the next call begins its search. If the slices are full (`*count` is `starts_len`), the new
- * `*at` is after the last reported run. It is at most the first bit of the next run; if there is no next run, it is at
- * most `length`, and may be less. If `*count < starts_len`, all runs are done, and `*at` equals `length`. The items of
- * `starts` and `lengths` from `*count` on may have been written too. For all runs, call again until `*count` is below
- * `starts_len`, which must be at least 1 for that: with `starts_len` 0 this loop never ends, because `*count` is always
- * 0. Such a call may raise `*at`, but never past a set bit. ARROW2_RANGE: the range is not inside the bytes, or `*at`
- * is above `length`. Else ARROW2_LENGTH: `starts_len` is not `lengths_len`. */
+ * `*at` may be any bit after the last reported run, up to the first bit of the next run (up to `length`, if there is no
+ * next run). If `*count < starts_len`, all runs are done, and `*at` equals `length`. The items of `starts` and
+ * `lengths` from `*count` on may have been written too. For all runs, call again until `*count` is below `starts_len`,
+ * which must be at least 1 for that: with `starts_len` 0 this loop never ends, because `*count` is always 0. Such a
+ * call may raise `*at`, but never past a set bit. ARROW2_RANGE: the range is not inside the bytes, or `*at` is above
+ * `length`. Else ARROW2_LENGTH: `starts_len` is not `lengths_len`. */
 uint32_t arrow2_runs(const uint8_t *bytes, size_t bytes_len, size_t offset, size_t length, size_t *at, size_t *starts,
                      size_t starts_len, size_t *lengths, size_t lengths_len, size_t *count);
 

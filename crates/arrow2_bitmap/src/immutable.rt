@@ -95,9 +95,9 @@ impl Bitmap {
     ///
     /// # Errors
     ///
-    /// If `len` is above eight times the number of bytes, `InvalidArgumentError` or `OutOfMemory`; in the code
-    /// `OutOfMemory` then comes only if the message cannot be allocated, which no clause states. If `len` is not above
-    /// it, `OutOfMemory` is the only error. After an error the bytes are dropped.
+    /// If `len` is above eight times the number of bytes, the error is `InvalidArgumentError`, or `OutOfMemory` if its
+    /// text cannot be allocated. (No clause states that this is the only reason for `OutOfMemory`.) Otherwise
+    /// `OutOfMemory` is the only error. After an error the bytes are dropped.
     pub fn try_new(bytes: Vec<u8>, len: usize) -> Result<Bitmap>
         ensures accepted { OnOk result (len ≤ 8 * vec_len bytes) }
         ensures ok { IfOk result (λ b. b ≡ record {
@@ -404,9 +404,9 @@ impl Bitmap {
     }
 
     /// Returns an iterator over the items by words of `T`, from the first item on. In the contract, `spill` is the word
-    /// that `remainder` returns. Its lowest bits are the items after the last full word. Above them come, as far as the
-    /// word has room, stored bits that follow the last item: if the bitmap has a full word, the other bits of the last
-    /// item's byte; if it has none, all later stored bits. All other bits of the word are 0.
+    /// that `remainder` returns. Its lowest bits are the items after the last full word. The bits above them are stored
+    /// bits that follow the last item, as many as fit: those up to the end of the last item's byte, or, if the bitmap
+    /// has no full word, all of them. All other bits of the word are 0.
     pub fn chunks<T: BitChunk>(&self) -> BitChunks<'_, T>
         ensures items { result.items ≡ items_of self.now }
         ensures fits { length (items_of self.now) < 2 ^ 64 }

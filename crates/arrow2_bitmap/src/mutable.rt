@@ -77,9 +77,9 @@ impl MutableBitmap {
     ///
     /// # Errors
     ///
-    /// If `len` is above eight times the number of bytes, `InvalidArgumentError` or `OutOfMemory`; in the code
-    /// `OutOfMemory` then comes only if the message cannot be allocated, which no clause states. If `len` is not above
-    /// it, there is no error. After an error the bytes are dropped.
+    /// If `len` is above eight times the number of bytes, the error is `InvalidArgumentError`, or `OutOfMemory` if its
+    /// text cannot be allocated. (No clause states that this is the only reason for `OutOfMemory`.) Otherwise there is
+    /// no error. After an error the bytes are dropped.
     pub fn try_new(bytes: Vec<u8>, len: usize) -> Result<MutableBitmap>
         ensures accepted { IsOk result ↔ (len ≤ 8 * vec_len bytes) }
         ensures ok { IfOk result (λ m. m.items ≡ take len (bits bytes.items)) }

@@ -116,8 +116,8 @@ impl<O: Offset> Offsets<O> {
         Ok(Offsets { offsets })
     }
 
-    /// Returns the offsets from 0 on with the lengths that an iterator yields. Requires that `next` may be called on
-    /// the iterator, and that the iterator ends. Its size hint is not read.
+    /// Returns the offsets from 0 on with the lengths that an iterator yields. Requires that the iterator ends, and that
+    /// each call of its `next` meets the precondition of `next`. Its size hint is not read.
     ///
     /// # Errors
     ///
@@ -237,8 +237,8 @@ impl<O: Offset> Offsets<O> {
         Ok(())
     }
 
-    /// Appends the lengths that an iterator yields. Requires that `next` may be called on the iterator, and that the
-    /// iterator ends. Its size hint is not read. Within the capacity the call does not allocate.
+    /// Appends the lengths that an iterator yields. Requires that the iterator ends, and that each call of its `next`
+    /// meets the precondition of `next`. Its size hint is not read. Within the capacity the call does not allocate.
     ///
     /// Differs from arrow2, which wraps in its sums, and which keeps the appended lengths where it returns `Overflow`.
     ///
@@ -470,7 +470,7 @@ impl<O: Offset> Offsets<O> {
         append_lengths(&mut self.offsets, lengths)
     }
 
-    /// Appends the lengths between the offsets. Tests their sum before it allocates.
+    /// Appends the length of each slot of other offsets. Tests their sum before it allocates.
     fn append(&mut self, offsets: &[O]) -> std::result::Result<(), GrowthError>
         requires { AreOffsets (map O.value offsets.now) }
         ensures { GrowsUpTo (λ error. error) result self.old self.new
