@@ -134,7 +134,7 @@ fn compared(texts: &Utf8Array<i64>) -> Result<usize> {
         texts.len(),
         |index|
             requires { index < length (binary_items texts.now) }
-        { texts.is_valid(index) && texts.value(index) == first },
+        { texts.is_valid(index) & (texts.value(index) == first) },
     )?;
     Ok(same.unset_bits())
 }

@@ -2,7 +2,7 @@
 use Rattle.std.proofs.Common.{◌≡◌, ℕ, zero, suc, ◌+◌, ◌<◌, ◌≤◌, List, [], ◌∷◌, ◌++◌, Bool, length, take, get_or, refl, ap, sym, ◌∙◌, append_assoc, arith, add-one, inl, inr, rules}
 use Rattle.std.specs.Prelude.{◌^◌, ◌↔◌, ◌⊎◌, Result, Ok, Err, IfErr, IsErrOf}
 use Rattle.std.specs.List.{flat_map}
-use Rattle.std.proofs.lemmas.List.{length-append}
+use Rattle.std.proofs.lemmas.List.{append-nil, length-append}
 use Rattle.std.proofs.Math.Seq.{take-length}
 use Rattle.arrow2_types.specs.declared.error.Error.{Error}
 use Rattle.arrow2_types.specs.declared.error.Error.TheVariants.{Overflow, OutOfMemory}
@@ -22,10 +22,6 @@ module _ {X Y : Type 0} (f : Y → List X) where
   flat_map-next : (ys : List Y) (k : ℕ) (d : Y) → k < length ys → flat_map f (take (suc k) ys) ≡ flat_map f (take k ys) ++ f (get_or ys k d)
   flat_map-next [] k d h = absurd (omega (arith, h))
   flat_map-next (y ∷ ys) zero d h = append-nil (f y)
-    where
-      append-nil : (xs : List X) → xs ++ [] ≡ xs
-      append-nil [] = refl
-      append-nil (x ∷ xs) = ap (λ l. x ∷ l) (append-nil xs)
   flat_map-next (y ∷ ys) (suc k) d h = ap (λ l. f y ++ l) (flat_map-next ys k d (omega (arith, h))) ∙ sym (append_assoc (f y) (flat_map f (take k ys)) (f (get_or ys k d)))
 
   -- what comes of one item more

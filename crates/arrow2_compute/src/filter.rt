@@ -19,6 +19,7 @@ use arrow2_bitmap::bitmap_ops::and;
 use arrow2_bitmap::{Bitmap, MutableBitmap};
 use arrow2_buffer::Buffer;
 use arrow2_chunk::{BitChunk, BitChunkOnes};
+use arrow2_numeric::MaskedBlocks;
 use arrow2_primitive::PrimitiveArray;
 use arrow2_types::{Error, NativeType, Result};
 use arrow2_validity::Validity;
@@ -53,18 +54,13 @@ fn selected_values<T: NativeType>(
     mask: &Bitmap,
 ) -> std::result::Result<Vec<T>, AllocError>
     requires same_length { length (items_of mask.now) ≡ length values.now }
-    ensures { IfOk result (λ kept. kept.items ≡ selected values.entry.now (items_of mask.now)) }
+    ensures { IfOk result (λ kept. kept.items ≡ selected values.now (items_of mask.now)) }
 {
-    let mut values = values;
     let mut kept = Vec::with_capacity(mask.allocator(), mask.len() - mask.unset_bits())?;
-    let mut words = mask.chunks::<u64>();
-    while let Some(word) = words.next() {
-        let (block, rest) = values.split_at(64);
+    let mut blocks = MaskedBlocks::new(values, mask);
+    while let Some((block, word)) = blocks.next_block() {
         push_values(&mut kept, block, word)?;
-        values = rest;
     }
-    let last = BitChunk::masked(words.remainder(), words.remainder_len());
-    push_values(&mut kept, values, last)?;
     Ok(kept)
 }
 

@@ -1,20 +1,15 @@
 -- What is kept of a list, item by item; and that it is the least or the greatest.
-use Rattle.std.proofs.Common.{◌≡◌, ℕ, ◌-◌, List, [], ◌∷◌, ◌++◌, Bool, true, false, length, take, replicate, refl, ap, sym, subst, ◌∙◌, append_assoc, inl, inr, All}
+use Rattle.std.proofs.Common.{◌≡◌, List, [], ◌∷◌, ◌++◌, Bool, true, false, refl, ap, sym, subst, ◌∙◌, append_assoc, inl, inr, All}
 use Rattle.std.specs.Prelude.{◌⊎◌, Option, Some, None, Contains, IsTrue, MatchOption}
-use Rattle.std.specs.Option.{option_map_or}
+use Rattle.std.specs.Option.{option_map, option_map_or}
 use Rattle.std.specs.Cmp.{IsTotalOrder}
 use Rattle.std.specs.Ordering.{is_le, is_ge, is_lt, is_gt, ord_min, ord_max, ordering_reverse}
 use Rattle.std.specs.declared.cmp.Ordering.{Ordering}
 use Rattle.std.specs.declared.cmp.Ordering.TheVariants.{Less, Equal, Greater}
 use Rattle.std.proofs.lemmas.Cmp.{upto, tied_itself}
+use Rattle.std.proofs.lemmas.List.{append-nil}
 use Rattle.std.proofs.lemmas.List.Elements.{All-push, All-weaker, All-nil, Contains-append_left, Contains-push}
-use Rattle.arrow2_walks.specs.Selected.{selected}
 use Rattle.arrow2_numeric.specs.Aggregates.{best_from}
-use Rattle.arrow2_numeric.proofs.Selecting.{word-kept, last-kept}
-
-append-nil : {X : Type 0} (xs : List X) → xs ++ [] ≡ xs
-append-nil [] = refl
-append-nil (x ∷ xs) = ap (λ l. x ∷ l) (append-nil xs)
 
 module _ {X : Type 0} (f : X → X → X) where
   -- of two lists one after the other
@@ -22,19 +17,17 @@ module _ {X : Type 0} (f : X → X → X) where
   best-append best [] ys = refl
   best-append best (x ∷ xs) ys = best-append (Some (option_map_or (λ other. f other x) best x)) xs ys
 
-  -- after a word of the validity
-  pub word-best : (best next : Option X) (xs block others : List X) (ms m ns : List Bool) (all : Option X) → xs ≡ block ++ others → ms ≡ m ++ ns → length block ≡ length m
-      → next ≡ best_from f best (selected block m) → best_from f best (selected xs ms) ≡ all → best_from f next (selected others ns) ≡ all
-  word-best best next xs block others ms m ns all is-xs is-ms size is done =
-      let split = word-kept [] (selected block m) xs block others ms m ns (selected xs ms) is-xs is-ms size refl refl in
-      ap (λ b. best_from f b (selected others ns)) is ∙ (sym (best-append best (selected block m) (selected others ns)) ∙ (ap (best_from f best) split ∙ done))
+  -- of a value before the others
+  best-after : ((x y z : X) → f (f x y) z ≡ f x (f y z)) → (a x : X) (xs : List X) → best_from f (Some (f a x)) xs ≡ option_map (f a) (best_from f (Some x) xs)
+  best-after associative a x [] = refl
+  best-after associative a x (y ∷ ys) = ap (λ v. best_from f (Some v) ys) (associative a x y) ∙ best-after associative a (f x y) ys
 
-  -- after the last one
-  pub last-best : (best next : Option X) (xs block : List X) (ms m last : List Bool) (n : ℕ) (all : Option X) → take n block ≡ xs → take n m ≡ ms → last ≡ take n m ++ replicate (64 - n) false
-      → next ≡ best_from f best (selected block last) → best_from f best (selected xs ms) ≡ all → next ≡ all
-  last-best best next xs block ms m last n all is-xs is-ms is-last is done =
-      let whole = last-kept [] (selected block last) xs block ms m last n (selected xs ms) is-xs is-ms is-last refl refl in
-      is ∙ (ap (best_from f best) whole ∙ done)
+  -- of both halves of a list
+  pub best-halves : ((x y z : X) → f (f x y) z ≡ f x (f y z)) → (first middle best other : X) (front back left values : List X) (all : Option X) → values ≡ first ∷ front ++ middle ∷ back
+      → Some best ≡ best_from f (Some first) front → best_from f (Some other) left ≡ best_from f (Some middle) back → all ≡ best_from f (Some (f best other)) left → all ≡ best_from f None values
+  best-halves associative first middle best other front back left values all is-values is-best is-other is =
+      is ∙ (best-after associative best other left ∙ (ap (option_map (f best)) is-other ∙ (sym (best-after associative best middle back)
+      ∙ (ap (λ b. best_from f b (middle ∷ back)) is-best ∙ (sym (best-append (Some first) front (middle ∷ back)) ∙ ap (best_from f None) (sym is-values))))))
 
 pub ruleset best = (best-append)
 

@@ -11,8 +11,9 @@ use Rattle.arrow2_model.proofs.Bits.{get_or-unnum, length-unnum}
 use Rattle.arrow2_model.proofs.Words.{length-rest}
 use Rattle.arrow2_model.specs.Parts.{part}
 use Rattle.arrow2_chunk.specs.Ones.{ones}
-use Rattle.arrow2_walks.specs.Selected.{selected}
+use Rattle.arrow2_walks.specs.Selected.{non_null_values, selected}
 use Rattle.arrow2_walks.specs.Zipped.{slot, zipped}
+use Rattle.arrow2_walks.proofs.Selected.{non_null_values-zipped}
 
 all-true : unnum 64 (2 ^ 64 - 1) ≡ replicate 64 true
 unfolding unnum
@@ -20,7 +21,7 @@ all-true = refl
 
 module _ {X : Type 0} where
   -- of two lists one after the other
-  pub selected-append : (xs ys : List X) (ms ns : List Bool) → length xs ≡ length ms → selected (xs ++ ys) (ms ++ ns) ≡ selected xs ms ++ selected ys ns
+  selected-append : (xs ys : List X) (ms ns : List Bool) → length xs ≡ length ms → selected (xs ++ ys) (ms ++ ns) ≡ selected xs ms ++ selected ys ns
   selected-append [] ys [] ns e = refl
   selected-append [] ys (m ∷ ms) ns e = absurd (omega (arith, e))
   selected-append (x ∷ xs) ys [] ns e = absurd (omega (arith, e))
@@ -42,7 +43,7 @@ module _ {X : Type 0} where
   selected-zipped (x ∷ xs) (v ∷ vs) (false ∷ ms) e = selected-zipped xs vs ms (omega (arith, e))
 
   -- of a mask of which the first n items count
-  pub selected-masked : (xs : List X) (ms : List Bool) (n k : ℕ) → selected xs (take n ms ++ replicate k false) ≡ selected (take n xs) (take n ms)
+  selected-masked : (xs : List X) (ms : List Bool) (n k : ℕ) → selected xs (take n ms ++ replicate k false) ≡ selected (take n xs) (take n ms)
   selected-masked [] ms zero k = refl
   selected-masked [] ms (suc n) k = refl
   selected-masked (x ∷ xs) ms zero k = none-selected (x ∷ xs) k
@@ -51,7 +52,7 @@ module _ {X : Type 0} where
   selected-masked (x ∷ xs) (false ∷ ms) (suc n) k = selected-masked xs ms n k
 
   -- of a mask that is true throughout
-  pub selected-all : (xs : List X) (n : ℕ) → length xs ≤ n → selected xs (replicate n true) ≡ xs
+  selected-all : (xs : List X) (n : ℕ) → length xs ≤ n → selected xs (replicate n true) ≡ xs
   selected-all [] n h = refl
   selected-all (x ∷ xs) zero h = absurd (omega (arith, h))
   selected-all (x ∷ xs) (suc n) h = ap (λ l. x ∷ l) (selected-all xs n (omega (arith, h)))
@@ -110,6 +111,22 @@ module _ {X : Type 0} where
   one-at [] k d h = absurd (omega (arith, h))
   one-at (x ∷ xs) zero d h = refl
   one-at (x ∷ xs) (suc k) d h = one-at xs k d (omega (arith, h))
+
+  -- of a block and of the values after it
+  pub block-selected : (xs block others : List X) (ms m ns : List Bool) → xs ≡ block ++ others → ms ≡ m ++ ns → length block ≡ length m → selected xs ms ≡ selected block m ++ selected others ns
+  block-selected xs block others ms m ns is-xs is-ms size = ap (λ l. selected l ms) is-xs ∙ (ap (selected (block ++ others)) is-ms ∙ selected-append block others m ns size)
+
+  -- of the last block
+  pub last-selected : (xs : List X) (ms m last : List Bool) (n : ℕ) → take n xs ≡ xs → take n m ≡ ms → last ≡ take n m ++ replicate (64 - n) false → selected xs ms ≡ selected xs last
+  last-selected xs ms m last n whole is-ms is-last = sym (ap (selected xs) is-last ∙ (selected-masked xs m n (64 - n) ∙ (ap (λ l. selected l (take n m)) whole ∙ ap (selected xs) is-ms)))
+
+  -- of values whose items are known
+  pub valid-values : (slots : List X) (valid bits : List Bool) (items : List (Option X)) → zipped slots valid ≡ items → bits ≡ valid → selected slots bits ≡ non_null_values items
+  valid-values slots valid bits items whole is = ap (selected slots) is ∙ (sym (non_null_values-zipped slots valid) ∙ ap non_null_values whole)
+
+  -- where none of them is null
+  pub all-values : (slots : List X) (valid : List Bool) (items : List (Option X)) (n : ℕ) → zipped slots valid ≡ items → valid ≡ replicate n true → length slots ≤ n → slots ≡ non_null_values items
+  all-values slots valid items n whole all few = sym (selected-all slots n few) ∙ valid-values slots valid (replicate n true) items whole (sym all)
 
   -- what a word of the mask selects comes after the others
   pub word-kept : (kept grown xs block others : List X) (ms m ns : List Bool) (all : List X) → xs ≡ block ++ others → ms ≡ m ++ ns → length block ≡ length m

@@ -1,7 +1,17 @@
 -- Aggregates of the items that are not null.
-use Rattle.std.specs.Prelude.{◌≡◌, List, [], ◌∷◌, Option, Some, None, ℤ, pos, ◌+ℤ◌, All, Contains, MatchOption}
+use Rattle.std.specs.Prelude.{◌≡◌, ℕ, ◌-◌, ◌*◌, ◌^◌, ◌≤ℤ◌, List, [], ◌∷◌, Option, Some, None, ℤ, pos, ◌+ℤ◌, All, Contains, MatchOption}
 use Rattle.std.specs.Option.{option_map_or}
 use Rattle.arrow2_walks.specs.Selected.{non_null_values}
+
+-- the sum of the numbers that the values stand for
+abbrev pub sum_of : {X : Type 0} → (X → ℤ) → List X → ℤ
+sum_of value [] = pos 0
+sum_of value (x ∷ xs) = value x +ℤ sum_of value xs
+
+-- the range of sums of n numbers, each a number of at most 64 bits
+pub record IsInSumRange (n : ℕ) (total : ℤ) : Type 0 where
+  pub low : pos 0 ≤ℤ (total +ℤ pos (n * 2 ^ 63))
+  pub high : total ≤ℤ pos (n * (2 ^ 64 - 1))
 
 -- the sum of the numbers that the items that are not null stand for
 abbrev pub sum_of_non_null : {X : Type 0} → (X → ℤ) → List (Option X) → ℤ

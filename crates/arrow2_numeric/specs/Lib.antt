@@ -1,3 +1,4 @@
 pub mod Aggregates
 pub mod Pairs
 pub mod Casts
+pub mod MaskedBlocks

@@ -1,17 +1,22 @@
 //! Aggregates of all items of an array: the sum, the least item and the greatest item.
-ghost use Rattle.std.specs.Prelude.{◌≡◌, ◌<◌, ◌≤◌, ◌+◌, ◌-◌, ◌*◌, ◌^◌, ◌≤ℤ◌, ◌+ℤ◌, [], ◌∷◌, None, ℤ, length, pos, negsuc, IsTrue};
+ghost use Rattle.std.specs.Prelude.{◌≡◌, ◌<◌, ◌≤◌, ◌+◌, ◌-◌, ◌*◌, ◌^◌, ◌≤ℤ◌, ◌+ℤ◌, ◌*ℤ◌, [], ◌∷◌, None, ℤ, length, pos, negsuc, FitsSigned, IsTrue};
+ghost use Rattle.std.specs.Int.{w128};
 ghost use Rattle.std.specs.Option.{option_map_or};
 ghost use Rattle.std.specs.Ordering.{is_le, is_ge, ord_min, ord_max};
-ghost use Rattle.arrow2_numeric.specs.Aggregates.{best_from, sum_of_non_null, IsExtremum};
+ghost use Rattle.arrow2_numeric.specs.Aggregates.{best_from, sum_of, sum_of_non_null, IsExtremum, IsInSumRange};
 ghost use Rattle.arrow2_model.specs.Bits.{unnum};
 ghost use Rattle.arrow2_model.specs.Storage.{items_of};
 ghost use Rattle.arrow2_primitive.specs.Primitive.{primitive_items};
 ghost use Rattle.arrow2_walks.specs.Selected.{non_null_values, selected};
 
+use crate::masked_blocks::MaskedBlocks;
 use arrow2_bitmap::Bitmap;
-use arrow2_chunk::{BitChunk, BitChunkOnes};
+use arrow2_chunk::BitChunkOnes;
 use arrow2_primitive::PrimitiveArray;
 use arrow2_types::NativeType;
+
+/// The number of values that [`sum_of_block`] takes at most: the sum of so many halves fits 64 bits.
+const BLOCK: usize = 1 << 31;
 
 /// A native type of whole numbers of at most 64 bits. The sum of the values of any slice fits an `i128`.
 pub trait WholeNumber: NativeType {
@@ -130,30 +135,113 @@ impl WholeNumber for u64 {
 /// Returns the exact sum of the items that are not null, or 0 where each item is null. Does not allocate.
 ///
 /// Differs from arrow2, whose sum has the type of the items and wraps, and is `None` where each item is null.
-#[tactic(auto, using(crate::proofs::Sums::sums))]
 pub fn sum<T: WholeNumber>(array: &PrimitiveArray<T>) -> i128
     ensures { result ≡ sum_of_non_null T.integer (primitive_items array.now) }
 {
+    let values = array.values().as_slice();
+    match array.optional_validity().bitmap() {
+        Some(validity) => sum_of_valid(values, validity),
+        None => sum_of_values(values),
+    }
+}
+
+/// Returns the sum of these values.
+fn sum_of_values<T: WholeNumber>(values: &[T]) -> i128
+    ensures { result ≡ sum_of T.integer values.now }
+{
+    let count = T::count(values);
     let mut total = 0i128;
-    for index in 0..T::count(array.values().as_slice()) {
-        total = with_item(total, array.get(index), index);
+    let mut start = 0;
+    while count - start > BLOCK {
+        total = added(total, sum_of_block(&values[start..start + BLOCK]));
+        start += BLOCK;
+    }
+    added(total, sum_of_block(&values[start..]))
+}
+
+/// Returns the sum of at most [`BLOCK`] values. Adds up their upper and their lower halves, each sum in 64 bits: this
+/// loop vectorizes, and a sum in 128 bits does not.
+fn sum_of_block<T: WholeNumber>(values: &[T]) -> i128
+    requires few { length values.now ≤ 2 ^ 31 }
+    ensures sum { result ≡ sum_of T.integer values.now }
+    ensures range { IsInSumRange (length values.now) result }
+{
+    let mut sums = (0i64, 0u64);
+    for value in values {
+        sums = with_halves(sums, value.to_i128());
+    }
+    i128::from(sums.0) * (1 << 32) + i128::from(sums.1)
+}
+
+/// Returns sums of upper and of lower halves, with those of one more number.
+fn with_halves(sums: (i64, u64), number: i128) -> (i64, u64)
+    requires low { negsuc (2 ^ 63 - 1) ≤ℤ number }
+    requires high { number ≤ℤ pos (2 ^ 64 - 1) }
+    requires upper_low { negsuc (2 ^ 62 - 1) ≤ℤ sums.0 }
+    requires upper_high { sums.0 ≤ℤ pos (2 ^ 63 - 2 ^ 32) }
+    requires lower { sums.1 < 2 ^ 63 }
+    ensures whole { (result.0 *ℤ pos (2 ^ 32)) +ℤ pos result.1
+        ≡ ((sums.0 *ℤ pos (2 ^ 32)) +ℤ pos sums.1) +ℤ number }
+    ensures upper_low { sums.0 ≤ℤ (result.0 +ℤ pos (2 ^ 31)) }
+    ensures upper_high { result.0 ≤ℤ (sums.0 +ℤ pos (2 ^ 32 - 1)) }
+    ensures lower { result.1 ≤ sums.1 + (2 ^ 32 - 1) }
+{
+    let (upper, lower) = halves(number);
+    (sums.0 + upper, sums.1 + lower)
+}
+
+/// Returns the halves of a number of 64 bits: the upper one, rounded down, and the lower one, of 32 bits.
+fn halves(number: i128) -> (i64, u64)
+    requires low { negsuc (2 ^ 63 - 1) ≤ℤ number }
+    requires high { number ≤ℤ pos (2 ^ 64 - 1) }
+    ensures whole { (result.0 *ℤ pos (2 ^ 32)) +ℤ pos result.1 ≡ number }
+    ensures lower { result.1 < 2 ^ 32 }
+{
+    let upper = number >> 32;
+    let lower = number - upper * (1 << 32);
+    (upper as i64, lower as u64)
+}
+
+/// Returns the sum of all valid values. Requires that both have equal lengths.
+fn sum_of_valid<T: WholeNumber>(values: &[T], validity: &Bitmap) -> i128
+    requires same_length { length (items_of validity.now) ≡ length values.now }
+    ensures { result ≡ sum_of T.integer (selected values.now (items_of validity.now)) }
+{
+    let count = T::count(values);
+    let mut total = 0i128;
+    let mut blocks = MaskedBlocks::new(values, validity);
+    while let Some((block, word)) = blocks.next_block() {
+        total = added(total, sum_of_word(block, word));
     }
     total
 }
 
-/// Returns `total`, a sum of `count` items, plus one more item. A null adds nothing.
-fn with_item<T: WholeNumber>(total: i128, item: Option<T>, count: usize) -> i128
-    requires few { count < 2 ^ 63 }
-    requires low { pos 0 ≤ℤ (total +ℤ pos (count * 2 ^ 63)) }
-    requires high { total ≤ℤ pos (count * (2 ^ 64 - 1)) }
-    ensures sum { result ≡ total +ℤ sum_of_non_null T.integer (item ∷ []) }
-    ensures low { pos 0 ≤ℤ (result +ℤ pos ((count + 1) * 2 ^ 63)) }
-    ensures high { result ≤ℤ pos ((count + 1) * (2 ^ 64 - 1)) }
+/// Returns the sum of the values at whose index the bit of the word is set. Requires at most 64 values.
+#[tactic(auto, using(crate::proofs::Sums::sums, crate::proofs::Selecting::selecting))]
+fn sum_of_word<T: WholeNumber>(values: &[T], word: u64) -> i128
+    requires few { length values.now ≤ 64 }
+    ensures sum { result ≡ sum_of T.integer (selected values.now (unnum 64 word)) }
+    ensures range { IsInSumRange (length (selected values.now (unnum 64 word))) result }
 {
-    match item {
-        Some(value) => total + value.to_i128(),
-        None => total,
+    if word == u64::MAX {
+        return sum_of_block(values);
     }
+    let mut total = 0i128;
+    for position in BitChunkOnes::new(word) {
+        if let Some(value) = values.get(position) {
+            total = added(total, value.to_i128());
+        }
+    }
+    total
+}
+
+/// Returns the sum of two numbers, which fits. In a loop, the prover takes the result of a call for a number, and that of
+/// `+` for its bits.
+fn added(total: i128, more: i128) -> i128
+    requires { FitsSigned w128 (total +ℤ more) }
+    ensures { result ≡ total +ℤ more }
+{
+    total + more
 }
 
 /// A choice between two values.
@@ -210,33 +298,52 @@ pub fn max<T: NativeType + Ord>(array: &PrimitiveArray<T>) -> Option<T>
     best_item::<T, Greater>(array)
 }
 
-/// Returns the value that the choice keeps of all items that are not null, or `None` where each item is null.
+/// Returns the value that the choice keeps of all items that are not null, or `None` where each item is null. Requires
+/// that the choice is associative.
 fn best_item<T: NativeType, C: Choice<T>>(array: &PrimitiveArray<T>) -> Option<T>
+    requires associative { (x y z : T) → C.kept (C.kept x y) z ≡ C.kept x (C.kept y z) }
     ensures { result ≡ best_from C.kept None (non_null_values (primitive_items array.now)) }
 {
     let values = array.values().as_slice();
     match array.optional_validity().bitmap() {
         Some(validity) => best_valid::<T, C>(values, validity),
-        None => best_of::<T, C>(None, values),
+        None => best_of_halves::<T, C>(values),
     }
 }
 
-/// Returns the value that the choice keeps of all valid values, or `None` where none is valid. Reads the validity word
-/// by word. Requires that both have equal lengths.
+/// Returns the value that the choice keeps of these values, or `None` where there is none. Requires that the choice is
+/// associative. Reads both halves at once: the processor fetches two streams of values faster than one.
+fn best_of_halves<T: NativeType, C: Choice<T>>(values: &[T]) -> Option<T>
+    requires associative { (x y z : T) → C.kept (C.kept x y) z ≡ C.kept x (C.kept y z) }
+    ensures { result ≡ best_from C.kept None values.now }
+{
+    let (front, back) = values.split_at(values.len() / 2);
+    let (Some((first, front)), Some((middle, back))) = (front.split_first(), back.split_first())
+    else {
+        return best_of::<T, C>(None, values);
+    };
+    let mut best = *first;
+    let mut other = *middle;
+    for index in 0..front.len() {
+        best = C::of_two(best, front[index]);
+        other = C::of_two(other, back[index]);
+    }
+    // The back half has as many values as the front half, or one more.
+    best_of::<T, C>(Some(C::of_two(best, other)), &back[front.len()..])
+}
+
+/// Returns the value that the choice keeps of all valid values, or `None` where none is valid. Requires that both have
+/// equal lengths.
 fn best_valid<T: NativeType, C: Choice<T>>(values: &[T], validity: &Bitmap) -> Option<T>
     requires same_length { length (items_of validity.now) ≡ length values.now }
-    ensures { result ≡ best_from C.kept None (selected values.entry.now (items_of validity.now)) }
+    ensures { result ≡ best_from C.kept None (selected values.now (items_of validity.now)) }
 {
-    let mut values = values;
     let mut best = None;
-    let mut words = validity.chunks::<u64>();
-    while let Some(word) = words.next() {
-        let (block, rest) = values.split_at(64);
+    let mut blocks = MaskedBlocks::new(values, validity);
+    while let Some((block, word)) = blocks.next_block() {
         best = best_of_word::<T, C>(best, block, word);
-        values = rest;
     }
-    let last = BitChunk::masked(words.remainder(), words.remainder_len());
-    best_of_word::<T, C>(best, values, last)
+    best
 }
 
 /// Returns the value that the choice keeps of `best`, if there is one, and of the values at whose index the bit of the

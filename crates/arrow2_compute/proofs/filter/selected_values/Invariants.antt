@@ -1,10 +1,10 @@
-use Rattle.std.proofs.Common.{◌≡◌, ◌++◌, length}
+use Rattle.std.proofs.Common.{◌≡◌, ◌++◌}
 use Rattle.arrow2_model.specs.Storage.{items_of}
 use Rattle.arrow2_walks.specs.Selected.{selected}
 use Rattle.arrow2_compute.proofs.filter.selected_values.Given as goal
 
-abbrev pub invariant-loop-word : goal.invariant-loop-word
-invariant-loop-word g l = record {
-  same_length : length l.words.items ≡ length l.values;
-  done : l.kept.items ++ selected l.values l.words.items ≡ selected l.fn.values (items_of l.mask);
-}
+abbrev pub invariant-loop-block : goal.invariant-loop-block
+invariant-loop-block g l = l.kept.items ++ l.blocks.selected ≡ selected l.values (items_of l.mask)
+
+abbrev pub decreases-loop-block : goal.decreases-loop-block
+decreases-loop-block g l = l.blocks.count
