@@ -218,9 +218,9 @@ uint32_t arrow2_unpack(const uint8_t *bytes, size_t bytes_len, size_t offset, bo
  * `*at` may be any bit after the last reported run, up to the first bit of the next run (up to `length`, if there is no
  * next run). If `*count < starts_len`, all runs are done, and `*at` equals `length`. The items of `starts` and
  * `lengths` from `*count` on may have been written too. For all runs, call again until `*count` is below `starts_len`,
- * which must be at least 1 for that: with `starts_len` 0 this loop never ends, because `*count` is always 0. Such a
- * call may raise `*at`, but never past a set bit. ARROW2_RANGE: the range is not inside the bytes, or `*at` is above
- * `length`. Else ARROW2_LENGTH: `starts_len` is not `lengths_len`. */
+ * which must be at least 1 for that: with `starts_len` 0 this loop never ends, because `*count` is always 0. A call
+ * with `starts_len` 0 may raise `*at`, but never past a set bit. ARROW2_RANGE: the range is not inside the bytes, or
+ * `*at` is above `length`. Else ARROW2_LENGTH: `starts_len` is not `lengths_len`. */
 uint32_t arrow2_runs(const uint8_t *bytes, size_t bytes_len, size_t offset, size_t length, size_t *at, size_t *starts,
                      size_t starts_len, size_t *lengths, size_t lengths_len, size_t *count);
 
@@ -231,9 +231,9 @@ uint32_t arrow2_runs(const uint8_t *bytes, size_t bytes_len, size_t offset, size
  * `*at` is after the last index. It is at most the next set bit; if there is none, it is at most `length`, and may be
  * less. If `*count < indices_len`, all set bits are done, and `*at` equals `length`. The items of `indices` from
  * `*count` on may have been written too. For all set bits, call again until `*count` is below `indices_len`, which must
- * be at least 1 for that: with `indices_len` 0 this loop never ends, because `*count` is always 0. Such a call may
- * raise `*at`, but never past a set bit. ARROW2_RANGE: the range is not inside the bytes, or `*at` is above
- * `length`. */
+ * be at least 1 for that: with `indices_len` 0 this loop never ends, because `*count` is always 0. A call with
+ * `indices_len` 0 may raise `*at`, but never past a set bit. ARROW2_RANGE: the range is not inside the bytes, or `*at`
+ * is above `length`. */
 uint32_t arrow2_set_indices(const uint8_t *bytes, size_t bytes_len, size_t offset, size_t length, size_t *at,
                             size_t *indices, size_t indices_len, size_t *count);
 

@@ -14,8 +14,8 @@ const SECOND_CAPACITY: usize = 512;
 
 /// Returns the items of an iterator that ends, in order. Does not read its size hint.
 ///
-/// Takes one item, reserves capacity, and then fills this capacity in a loop of its own. The capacity does not change
-/// in that loop, so the compiler can vectorize it.
+/// Until the iterator ends, it takes one item, reserves capacity, and fills this capacity in an inner loop. The capacity
+/// does not change in the inner loop, so the compiler can vectorize it.
 pub(crate) fn collected<T: Drop, I: Iterator<Item = T>>(
     alloc: Global,
     source: I,

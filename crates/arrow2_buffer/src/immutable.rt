@@ -176,7 +176,7 @@ impl<T> Buffer<T> {
     }
 
     /// Changes the items in place by `change` if nobody else shares the storage, and returns whether it changed them.
-    /// No clause states when the result is true. Does not allocate. Requires that `change` may be called on the items.
+    /// No clause states when the result is true. Does not allocate. Requires that the items meet what `change` requires.
     ///
     /// arrow2 has [`Buffer::get_mut_slice`] alone.
     pub fn change_slice<F: FnOnce(&mut [T])>(&mut self, change: F) -> bool

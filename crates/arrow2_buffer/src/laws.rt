@@ -1,10 +1,10 @@
-//! Laws of a loan that has ended. The contract of each function is a law, and its body is empty.
+//! Laws of a buffer after a mutable borrow of its items. The contract of each function is a law, and its body is empty.
 ghost use Rattle.std.specs.Prelude.{◌≡◌, ◌+◌, ◌≤◌, List, length, take, drop};
 ghost use Rattle.arrow2_model.specs.Buffers.{BufferStorage, buffer_items};
 ghost use Rattle.arrow2_buffer.specs.Lent.{rewritten};
 
-/// After a loan of a buffer's items, the items that were written through the loan are the items of the buffer, and the
-/// items of the storage before and after them are as they were.
+/// When a mutable borrow of a buffer's items has ended, the items of the buffer are those that were written, and the
+/// items of the storage to the left and to the right of the buffer are unchanged.
 #[tactic(auto, using(crate::proofs::Overwritten::loans))]
 pub fn written_items_are_the_items<T>()
     ensures items { (b : BufferStorage T) (others : List T) → b.offset + b.len ≤ length b.storage →
