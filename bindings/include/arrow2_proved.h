@@ -228,12 +228,11 @@ uint32_t arrow2_runs(const uint8_t *bytes, size_t bytes_len, size_t offset, size
  * The search begins at bit `*at` of the range: set `*at` to 0 before the first call. Bit `indices[k]` of the range is
  * set, and the indices rise. The call stops when `indices` is full or no set bit is left. It writes the number of
  * indices to `*count`, and to `*at` the bit at which the next call begins its search. If `indices` is full, the new
- * `*at` is after the last index. It is at most the next set bit; if there is none, it is at most `length`, and may be
- * less. If `*count < indices_len`, all set bits are done, and `*at` equals `length`. The items of `indices` from
- * `*count` on may have been written too. For all set bits, call again until `*count` is below `indices_len`, which must
- * be at least 1 for that: with `indices_len` 0 this loop never ends, because `*count` is always 0. A call with
- * `indices_len` 0 may raise `*at`, but never past a set bit. ARROW2_RANGE: the range is not inside the bytes, or `*at`
- * is above `length`. */
+ * `*at` may be any bit after the last index, up to the next set bit (up to `length`, if there is none). If `*count <
+ * indices_len`, all set bits are done, and `*at` equals `length`. The items of `indices` from `*count` on may have been
+ * written too. For all set bits, call again until `*count` is below `indices_len`, which must be at least 1 for that:
+ * with `indices_len` 0 this loop never ends, because `*count` is always 0. A call with `indices_len` 0 may raise `*at`,
+ * but never past a set bit. ARROW2_RANGE: the range is not inside the bytes, or `*at` is above `length`. */
 uint32_t arrow2_set_indices(const uint8_t *bytes, size_t bytes_len, size_t offset, size_t length, size_t *at,
                             size_t *indices, size_t indices_len, size_t *count);
 
