@@ -54,8 +54,8 @@ extern "C" {
 
 /* The call succeeded. */
 #define ARROW2_OK 0u
-/* An index or a range is out of bounds, or a truth-table number is too large: above 3, 15 or 255 for one, two or three
- * inputs. */
+/* The argument `index` (the number of a bit), `*at`, or a range is out of bounds, or a truth-table number is too large:
+ * above 3, 15 or 255 for one, two or three inputs. */
 #define ARROW2_RANGE 1u
 /* An output slice is not exactly the required size (bits: (length + 7) / 8), `starts_len` differs from
  * `lengths_len`, the two slices of a widen or narrow call differ in length, or `out` of a rebase call has no item. */
@@ -73,11 +73,11 @@ extern "C" {
 #define ARROW2_SPEC_FALLING 7u
 /* The number of nulls is not the declared one. */
 #define ARROW2_NULLS 8u
-/* An offset is greater than the number of bytes or child items that the offsets index. */
+/* An offset is greater than the number of bytes or of child items that the offsets point into. */
 #define ARROW2_PAST 9u
 /* The bytes of a slot are not UTF-8. */
 #define ARROW2_UTF8 10u
-/* An index is negative, or not below the number of items that it points into. */
+/* An item of `indices` (an index of a dictionary) is negative, or not below the argument `items`. */
 #define ARROW2_INDEX 11u
 
 /* ---- Bits */

@@ -14,8 +14,8 @@ const SECOND_CAPACITY: usize = 512;
 
 /// Returns the items of an iterator that ends, in order. Does not read its size hint.
 ///
-/// Until the iterator ends, it takes one item, reserves capacity, and fills this capacity in an inner loop. The capacity
-/// does not change in the inner loop, so the compiler can vectorize it.
+/// Repeats until the iterator ends: takes one item, reserves capacity, and fills this capacity in an inner loop. The
+/// capacity does not change in the inner loop, so the compiler can vectorize it.
 pub(crate) fn collected<T: Drop, I: Iterator<Item = T>>(
     alloc: Global,
     source: I,
@@ -69,8 +69,8 @@ fn filled<T: Drop, I: Iterator<Item = T>>(items: Vec<T>, source: &mut I) -> (Vec
     }
 }
 
-/// Reserves `LEAST_CAPACITY` for an empty vector. Otherwise reserves capacity for further items: three times the length
-/// of the vector, but at least `SECOND_CAPACITY - LEAST_CAPACITY`.
+/// Reserves `LEAST_CAPACITY` for an empty vector. Otherwise reserves capacity for three times as many further items as
+/// the vector has, but for at least `SECOND_CAPACITY - LEAST_CAPACITY` of them.
 fn grow_capacity<T>(items: &mut Vec<T>) -> Result<(), AllocError>
     ensures items { items.new.items ≡ items.old.items }
     ensures ok { OnOk result (vec_len items.new < vec_capacity items.new) }

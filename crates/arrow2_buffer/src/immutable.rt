@@ -73,7 +73,7 @@ impl<T> Buffer<T> {
 
     /// Returns the number of items.
     ///
-    /// arrow2's documentation counts bytes.
+    /// arrow2's `len` returns this number too; its documentation says bytes.
     pub fn len(&self) -> usize
         ensures items { result ≡ length (buffer_items self.now) }
         ensures value { result ≡ self.now.len }
