@@ -69,8 +69,8 @@ fn filled<T: Drop, I: Iterator<Item = T>>(items: Vec<T>, source: &mut I) -> (Vec
     }
 }
 
-/// Reserves `LEAST_CAPACITY` for an empty vector. Otherwise reserves capacity for three times as many further items as
-/// the vector has, but for at least `SECOND_CAPACITY - LEAST_CAPACITY` of them.
+/// Reserves `LEAST_CAPACITY` for an empty vector. Otherwise, for a vector of n items, reserves capacity for 3 * n more,
+/// or for `SECOND_CAPACITY - LEAST_CAPACITY` more if that is greater.
 fn grow_capacity<T>(items: &mut Vec<T>) -> Result<(), AllocError>
     ensures items { items.new.items ≡ items.old.items }
     ensures ok { OnOk result (vec_len items.new < vec_capacity items.new) }
