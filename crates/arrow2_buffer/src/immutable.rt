@@ -206,8 +206,8 @@ impl<T> Buffer<T> {
     /// as it was, as `Left`. Does not allocate.
     ///
     /// It is proved that `Left` has the buffer as it was, and that `Right` has the same items and comes only if nothing
-    /// is sliced off. No clause is on sharing: it is not proved that `Right` comes only if nobody else shares the
-    /// storage, nor that it comes whenever nobody else shares it and nothing is sliced off.
+    /// is sliced off. The contract does not mention sharing. So two things are not proved: that a buffer whose storage
+    /// is shared always gives `Left`, and that a whole buffer whose storage is not shared always gives `Right`.
     ///
     /// Differs from arrow2, which gives the whole vector of a sliced buffer.
     pub fn into_mut(self) -> Either<Self, Vec<T>>
@@ -345,8 +345,8 @@ impl<T: PartialEq> PartialEq for Buffer<T> {
 
     ghost laws = { on_per buffer_items (lists_per T.laws) };
 
-    /// Where `==` of any two items is true exactly if they are the same, `==` of two buffers is true exactly if their
-    /// lists of items are the same.
+    /// For item types whose `==` is true exactly for identical values, such as integers, two buffers are equal exactly if
+    /// their lists of items are identical.
     fn eq(&self, other: &Self) -> bool
         ensures items { result ≡ pointwise T.eq (buffer_items self.now) (buffer_items other.now) }
         ensures same { ((x y : T) → Decides (T.eq x y) (x ≡ y)) →
