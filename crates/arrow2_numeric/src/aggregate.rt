@@ -15,7 +15,7 @@ use arrow2_chunk::BitChunkOnes;
 use arrow2_primitive::PrimitiveArray;
 use arrow2_types::NativeType;
 
-/// The number of values that [`sum_of_block`] takes at most: the sum of so many halves fits 64 bits.
+/// The greatest number of values that [`sum_of_block`] takes: the sum of their halves fits 64 bits.
 const BLOCK: usize = 1 << 31;
 
 /// A native type of whole numbers of at most 64 bits. The sum of the values of any slice fits an `i128`.
