@@ -405,7 +405,7 @@ impl Bitmap {
 
     /// Returns an iterator over the items by words of `T`, from the first item on. In the contract, `spill` is the word
     /// that `remainder` returns. Its lowest bits are the items after the last full word. The bits above them are stored
-    /// bits that follow the last item, as far as they fit: those up to the end of the last item's byte, or, if the bitmap
+    /// bits that follow the last item, as far as they fit: up to the end of the last item's byte, or, if the bitmap
     /// has no full word, all of them. All other bits of the word are 0.
     pub fn chunks<T: BitChunk>(&self) -> BitChunks<'_, T>
         ensures items { result.items ≡ items_of self.now }
