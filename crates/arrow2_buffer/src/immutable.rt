@@ -176,7 +176,7 @@ impl<T> Buffer<T> {
     }
 
     /// Changes the items in place by `change` if nobody else shares the storage, and returns whether it changed them.
-    /// No clause states when the result is true. Does not allocate. Requires that the items meet what `change` requires.
+    /// No clause states when the result is true. Does not allocate. The items must meet what `change` requires.
     ///
     /// arrow2 has [`Buffer::get_mut_slice`] alone.
     pub fn change_slice<F: FnOnce(&mut [T])>(&mut self, change: F) -> bool
@@ -345,8 +345,8 @@ impl<T: PartialEq> PartialEq for Buffer<T> {
 
     ghost laws = { on_per buffer_items (lists_per T.laws) };
 
-    /// For item types whose `==` is true exactly for identical values, such as integers, two buffers are equal exactly if
-    /// their lists of items are identical.
+    /// For item types whose `==` is true exactly for identical values, such as integers, two buffers are equal exactly
+    /// if their lists of items are identical.
     fn eq(&self, other: &Self) -> bool
         ensures items { result ≡ pointwise T.eq (buffer_items self.now) (buffer_items other.now) }
         ensures same { ((x y : T) → Decides (T.eq x y) (x ≡ y)) →
