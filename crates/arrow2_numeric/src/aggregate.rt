@@ -235,8 +235,8 @@ fn sum_of_word<T: WholeNumber>(values: &[T], word: u64) -> i128
     total
 }
 
-/// Returns the sum of two numbers, which fits. In a loop, the prover takes the result of a call for a number, and the
-/// result of `+` for its bits.
+/// Returns the sum of two numbers, which fits. In a loop, the prover takes the result of a call for a number, and that of
+/// `+` for its bits.
 fn added(total: i128, more: i128) -> i128
     requires { FitsSigned w128 (total +ℤ more) }
     ensures { result ≡ total +ℤ more }

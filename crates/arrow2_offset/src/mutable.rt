@@ -116,8 +116,8 @@ impl<O: Offset> Offsets<O> {
         Ok(Offsets { offsets })
     }
 
-    /// Returns the offsets from 0 on with the lengths that an iterator yields. Requires that the iterator ends, and
-    /// that each call of its `next` meets the precondition of `next`. Its size hint is not read.
+    /// Returns the offsets from 0 on with the lengths that an iterator yields. Requires that the iterator ends, and that
+    /// each call of its `next` meets the precondition of `next`. Its size hint is not read.
     ///
     /// # Errors
     ///
