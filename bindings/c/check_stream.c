@@ -35,13 +35,13 @@ static void print_column(const struct ArrowSchema *schema, struct arrow2_bits va
            nulls_of(schema, validity, rows));
 }
 
-/* Prints the columns of a batch, or the batch itself where it is no struct, or why it is refused. Returns whether it is
+/* Prints the columns of a batch, or the batch itself where it is no struct, or why it is rejected. Returns whether it is
  * right. */
 static bool print_batch(const struct ArrowSchema *schema, const struct ArrowArray *batch) {
     struct arrow2_where where;
     uint32_t code = arrow2_array_check(schema, batch, &where);
     if (code != ARROW2_OK) {
-        printf("refused: %s, at \"%s\" slot %lld\n", arrow2_code_text(code), where.path, (long long)where.slot);
+        printf("rejected: %s, at \"%s\" slot %lld\n", arrow2_code_text(code), where.path, (long long)where.slot);
         return false;
     }
     printf("%-12s %-8s %6s %6s\n", "column", "format", "rows", "nulls");
@@ -72,7 +72,7 @@ static int check_stream(struct ArrowArrayStream *stream) {
             break;
         }
         wrong += !print_batch(&schema, &batch);
-        batch.release(&batch); /* also after a refusal */
+        batch.release(&batch); /* also after an error */
     }
     if (schema.release) {
         schema.release(&schema);

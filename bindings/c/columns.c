@@ -95,7 +95,7 @@ static uint32_t print_batch(const struct ArrowSchema *schema, const struct Arrow
 }
 
 /* Checks a batch, prints it, and releases schema and batch. Returns the code of the check, or of the first call that
- * refuses. */
+ * fails. */
 static uint32_t check_and_print(struct ArrowSchema schema, struct ArrowArray batch) {
     struct arrow2_where where;
     uint32_t code = arrow2_array_check(&schema, &batch, &where);
@@ -104,7 +104,7 @@ static uint32_t check_and_print(struct ArrowSchema schema, struct ArrowArray bat
     } else {
         code = print_batch(&schema, &batch);
     }
-    if (batch.release) { /* also after a refusal; NULL if it was released before */
+    if (batch.release) { /* also after an error; NULL if it was released before */
         batch.release(&batch);
     }
     if (schema.release) {

@@ -4,7 +4,7 @@
 #include <stdio.h>
 #include <stdlib.h>
 
-/* Ends the program where a call refuses. */
+/* Ends the program where a call returns an error. */
 static void expect_ok(uint32_t code, const char *call) {
     if (code != ARROW2_OK) {
         fprintf(stderr, "%s: code %u\n", call, (unsigned)code);
@@ -47,7 +47,7 @@ int main(void) {
         }
     } while (count == 2);
 
-    /* A range that is not inside is refused, and nothing is written. */
+    /* A range that is not inside is an error, and nothing is written. */
     size_t zeros = 77;
     uint32_t code = arrow2_count_zeros(both, sizeof both, 8, 9, &zeros);
     printf("bits 8 to 16 of 16: code %u, zeros %zu\n", (unsigned)code, zeros);

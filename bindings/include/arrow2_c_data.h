@@ -3,7 +3,7 @@
  *
  * The contents of buffers (bits, offsets, texts and indices) are tested by calls of the library, which are proved. The
  * exception is the slots of unions, which code of this header tests. The code that traverses the tree of an array is
- * written by hand here (docs/BINDINGS.md, which the package has too).
+ * in this header and written by hand: see docs/BINDINGS.md, which is in the package too.
  *
  * The interface does not state the number of bytes of a buffer. `arrow2_array_check` trusts that each buffer has the
  * bytes that format, length, offset and last offset require. `arrow2_array_check_sized` gets the number of bytes of
@@ -83,11 +83,12 @@ struct ArrowArrayStream {
  *
  * The rules of arrow2_proved.h hold for these functions too, with two changes: NULL is allowed with any number and
  * counts as 0 bytes, and a NULL validity means that there is no bitmap. In detail:
- * - Each `arrow2_bits_*` function of this header that returns a code calls a function of the library, which its comment
- *   names, and returns the code of that function. There are two exceptions. Without a validity arrow2_bits_null_count
- *   calls nothing and returns ARROW2_OK. If both validities are missing, arrow2_bits_and_validity tests the size of
- *   `out` itself. With a wrong size the function calls nothing and returns ARROW2_LENGTH. If size and `length` are both
- *   0, the function calls nothing and returns ARROW2_OK. Else it calls arrow2_unary_assign_table.
+ * - Each `arrow2_bits_*` function of this header that returns a code calls one function of the library, and returns its
+ *   code. The comment above the inline function names the function of the library. There are two exceptions. Without a
+ *   validity arrow2_bits_null_count calls nothing and returns ARROW2_OK. If both validities are missing,
+ *   arrow2_bits_and_validity tests the size of `out` itself. With a wrong size the function calls nothing and returns
+ *   ARROW2_LENGTH. If size and `length` are both 0, the function calls nothing and returns ARROW2_OK. Else it calls
+ *   arrow2_unary_assign_table.
  * - A NULL pointer to bytes counts as 0 bytes, whatever `bytes_len`, `out_len`, `values_len` or `validity_len` is. So a
  *   NULL input gives ARROW2_RANGE, unless its `offset` and the `length` are both 0. A NULL output gives ARROW2_LENGTH,
  *   unless the `length` is 0. ARROW2_RANGE is tested first.
@@ -231,8 +232,9 @@ static inline uint32_t arrow2_bits_or_kleene(struct arrow2_bits left, struct arr
  * `n_buffers`; the buffer is NULL; `length` is 0 and the buffer holds values. A null array has no buffer, and each of
  * its items is null. So test the format before you take a validity, as `columns.c` of the examples does.
  *
- * Only the array's own offset is applied. The result does not state how many bits there are: from its offset on, the
- * array has `array->length` of them. For a column of a batch call arrow2_bits_of_column. */
+ * Only the array's own offset is applied. The result does not state how many bits there are: there are
+ * `array->length` bits, and the first is bit `offset` of the result. For a column of a batch call
+ * arrow2_bits_of_column. */
 static inline struct arrow2_bits arrow2_bits_of(const struct ArrowArray *array, int index) {
     struct arrow2_bits bits = {NULL, 0, 0};
     if (index < 0 || index >= array->n_buffers || !array->buffers[index] || (index > 0 && array->length == 0)) {
@@ -272,12 +274,13 @@ static inline struct arrow2_bits arrow2_bits_of_column(const struct ArrowArray *
 #define ARROW2_C_RELEASED 33u
 /* `length`, `offset`, `n_buffers` or `n_children` of the array is negative, or length + offset is above 2^63 - 1. */
 #define ARROW2_C_NEGATIVE 34u
-/* The check does not know the format, and refuses the array. */
+/* The check does not know the format, and rejects the array. */
 #define ARROW2_C_FORMAT 35u
 /* `n_buffers` is not the number that the format requires. */
 #define ARROW2_C_BUFFERS 36u
-/* `n_children` of the array or of the schema is not the number that the format requires, the two differ, or the child
- * of a map is not a struct of two children. */
+/* `n_children` of the array or of the schema is not the number that the format requires; or, for a struct,
+ * `n_children` of the array differs from that of the schema; or the schema of the child of a map is not that of a
+ * struct of two children. */
 #define ARROW2_C_CHILDREN 37u
 /* A child of a struct, a fixed-size list or a sparse union has fewer items than its parent needs. (For lists and maps
  * the code is ARROW2_PAST, for dense unions ARROW2_C_UNION_OFFSET.) */
@@ -302,15 +305,15 @@ static inline struct arrow2_bits arrow2_bits_of_column(const struct ArrowArray *
 /* More bytes than the longest path needs. */
 #define ARROW2_C_PATH 1280
 
-/* Where the check refused.
+/* Where the check failed.
  *
- * `path` leads from the root to the array at fault. With ARROW2_C_SHORT_CHILD that is the child; if the child of a map
- * is not a struct of two children, it is the map. If a child or a dictionary is NULL, was released, has no format, or
- * has a number that ARROW2_C_NEGATIVE refuses, the path leads to this child or dictionary. If there are more sizes than
- * buffers, it leads to the root. The path of the root is empty. A step to a child is `list.0`,
- * `fixed_list.0`, `map.0`, `struct.K` or `union.K`, by the format of the parent; K counts children from 0 on. The step
- * to a dictionary is `dictionary`. A `/` stands between two steps: `struct.3/list.0` is child 0 of a list, which is
- * child 3 of a struct.
+ * `path` leads from the root to the array at fault. With ARROW2_C_SHORT_CHILD it leads to the child. If the schema of a
+ * map's child is not that of a struct of two children, it leads to the map. If a child or a dictionary is NULL, was
+ * released, has no format, or has a number that ARROW2_C_NEGATIVE rejects, the path leads to this child or dictionary.
+ * If there are more sizes than buffers, it leads to the root. The path of the root is empty. A step to a child is
+ * `list.0`, `fixed_list.0`, `map.0`, `struct.K` or `union.K`, by the format of the parent; K counts children from 0 on.
+ * The step to a dictionary is `dictionary`. A `/` stands between two steps: `struct.3/list.0` is child 0 of a list,
+ * which is child 3 of a struct.
  *
  * `slot` is the slot at which this array breaks the rule, with the codes ARROW2_SPEC_NEGATIVE, ARROW2_SPEC_FALLING,
  * ARROW2_PAST, ARROW2_UTF8, ARROW2_INDEX, ARROW2_C_TYPE and ARROW2_C_UNION_OFFSET. With all other codes it is -1. Slots
@@ -391,7 +394,7 @@ static inline struct arrow2_c_layout arrow2_c_layout_of(enum arrow2_c_kind kind,
 }
 
 /* Returns the number of bytes of a decimal, `d:precision,scale` or `d:precision,scale,bits`, or 0 if the format is not
- * one of these two. */
+ * one of these two, or has a number that is not allowed. */
 static inline size_t arrow2_c_decimal(const char *at) {
     size_t precision, scale, bits = 128;
     if (!arrow2_c_number(&at, &precision) || precision == 0 || *at++ != ',') {
@@ -541,7 +544,7 @@ static inline const char *arrow2_c_kind_name(enum arrow2_c_kind kind) {
 
 /* If `tree->where` is not NULL, writes there `slot` and the path of the array that the check has reached. Returns
  * `code`. */
-static inline uint32_t arrow2_c_refuse(const struct arrow2_c_tree *tree, uint32_t code, int64_t slot) {
+static inline uint32_t arrow2_c_reject(const struct arrow2_c_tree *tree, uint32_t code, int64_t slot) {
     if (!tree->where) {
         return code;
     }
@@ -565,7 +568,7 @@ static inline uint32_t arrow2_c_refuse(const struct arrow2_c_tree *tree, uint32_
 
 /* The same if `code` is an error; else only returns `code`. */
 static inline uint32_t arrow2_c_unless_ok(const struct arrow2_c_tree *tree, uint32_t code, int64_t slot) {
-    return code == ARROW2_OK ? code : arrow2_c_refuse(tree, code, slot);
+    return code == ARROW2_OK ? code : arrow2_c_reject(tree, code, slot);
 }
 
 /* ---- One array */
@@ -578,8 +581,8 @@ struct arrow2_c_buffer {
     size_t length;
 };
 
-/* Checks that schema and array are not NULL and not released, that the format is not NULL, that no count of the array
- * is negative, and that length + offset does not overflow. */
+/* Checks that schema and array are not NULL and not released, that the format is not NULL, that `length`, `offset`,
+ * `n_children` and `n_buffers` of the array are not negative, and that length + offset does not overflow. */
 static inline uint32_t arrow2_c_check_head(const struct ArrowSchema *schema, const struct ArrowArray *array) {
     if (!schema || !array) {
         return ARROW2_C_NULL;
@@ -607,7 +610,7 @@ static inline void arrow2_c_enter(struct arrow2_c_tree *tree, enum arrow2_c_kind
 
 /* Checks that there are the buffers and children that the format requires, and at most ARROW2_C_MAX_ARRAYS children;
  * that a size is left for each buffer, where sizes were passed; and that array and schema both have a dictionary or
- * both have none. A dictionary is refused where the format is not that of an integer. */
+ * both have none. A dictionary is rejected where the format is not that of an integer. */
 static inline uint32_t arrow2_c_check_counts(struct arrow2_c_tree *tree, const struct arrow2_c_layout *layout,
                                              const struct ArrowSchema *schema, const struct ArrowArray *array) {
     int64_t children = layout->children < 0 ? schema->n_children : layout->children;
@@ -632,7 +635,7 @@ static inline uint32_t arrow2_c_check_counts(struct arrow2_c_tree *tree, const s
     return ARROW2_OK;
 }
 
-/* Checks the head of each child and of the dictionary, so that their lengths can be read. If a head is refused, `tree`
+/* Checks the head of each child and of the dictionary, so that their lengths can be read. If a head is rejected, `tree`
  * is left at that child or dictionary. */
 static inline uint32_t arrow2_c_check_heads(struct arrow2_c_tree *tree, enum arrow2_c_kind kind,
                                             const struct ArrowSchema *schema, const struct ArrowArray *array) {
@@ -692,8 +695,8 @@ static inline uint32_t arrow2_c_check_validity(const struct arrow2_c_tree *tree,
                                  buffer.offset, buffer.length, array->null_count);
 }
 
-/* Checks that a buffer is long enough for the array's values, and not NULL where it must not be. A value is one bit
- * where `bits` is true, else `width` bytes. */
+/* Checks that a buffer is long enough for the array's values, and that it is not NULL if values are read from it. A
+ * value is one bit where `bits` is true, else `width` bytes. */
 static inline uint32_t arrow2_c_check_values(struct arrow2_c_buffer values, bool bits, size_t width) {
     uint32_t code = bits ? arrow2_bits_check(values.size, values.offset, values.length)
                          : arrow2_values_check(values.size, width, values.offset, values.length);
@@ -731,7 +734,7 @@ static inline uint32_t arrow2_c_check_offsets(struct arrow2_c_buffer offsets, si
     return code;
 }
 
-/* Whether the offsets of byte strings or texts are inside their bytes, and texts are UTF-8. */
+/* Checks whether the offsets of byte strings or texts are inside their bytes, and texts are UTF-8. */
 static inline uint32_t arrow2_c_check_bytes(struct arrow2_c_buffer offsets, struct arrow2_c_buffer values, size_t width,
                                             bool texts, int64_t *slot) {
     size_t last, index = 0;
@@ -827,8 +830,8 @@ static inline uint32_t arrow2_c_check_union(struct arrow2_c_buffer types, const 
     return ARROW2_OK;
 }
 
-/* Checks the buffers of a union: its types and, if it is dense, its offsets must be long enough, not NULL where they
- * are read, and (offsets) aligned. Then checks its slots. */
+/* Checks that the types of a union, and its offsets if it is dense, are long enough and are not NULL where they are
+ * read. Offsets that are read must also be aligned. Then checks the slots of the union. */
 static inline uint32_t arrow2_c_check_union_buffers(const struct arrow2_c_tree *tree, const char *named, bool dense,
                                                     const struct ArrowArray *array, int64_t *slot) {
     struct arrow2_c_buffer types = arrow2_c_buffer_of(tree, array, 0), offsets = types;
@@ -857,12 +860,12 @@ static inline uint32_t arrow2_c_check_lengths(struct arrow2_c_tree *tree, enum a
     return ARROW2_OK;
 }
 
-/* Whether the child of a map is a struct of two children. */
+/* Whether the schema of the child of a map is that of a struct of two children. */
 static inline bool arrow2_c_is_entries(const struct ArrowSchema *entries) {
     return strcmp(entries->format, "+s") == 0 && entries->n_children == 2;
 }
 
-/* Whether the values of an array of no children are all there and right. */
+/* Checks whether the values of an array of no children are all there and right. */
 static inline uint32_t arrow2_c_check_flat(const struct arrow2_c_tree *tree, const struct arrow2_c_layout *layout,
                                            const struct ArrowArray *array, int64_t *slot) {
     struct arrow2_c_buffer second = arrow2_c_buffer_of(tree, array, 1);
@@ -878,9 +881,9 @@ static inline uint32_t arrow2_c_check_flat(const struct arrow2_c_tree *tree, con
                                   (size_t)array->dictionary->length, slot);
 }
 
-/* Checks what the layout of the array requires, except the validity: its buffers, its `null_count` if it is a null
- * array, and the lengths of its children. Requires that its counts and the heads of its children have passed their
- * checks. */
+/* Checks the buffers of an array (but not its validity), the `null_count` of a null array, and the lengths of the
+ * children, as the layout requires. Call this only after the counts of the array and the heads of its children were
+ * checked. */
 static inline uint32_t arrow2_c_check_content(struct arrow2_c_tree *tree, const struct arrow2_c_layout *layout,
                                               const struct ArrowSchema *schema, const struct ArrowArray *array,
                                               int64_t *slot) {
@@ -909,10 +912,10 @@ static inline uint32_t arrow2_c_check_content(struct arrow2_c_tree *tree, const 
 }
 
 /* Checks the counts and the buffers of an array. Of its children and its dictionary it checks only what
- * arrow2_c_check_head checks. If the array is a map, it also checks that the child is a struct of two children. It uses
- * the lengths of children and dictionary: the children of a struct, a fixed-size list or a sparse union must be long
- * enough, offsets must be inside the child, and indices inside the dictionary. If an array is refused, `tree` is left
- * at that array. */
+ * arrow2_c_check_head checks. If the array is a map, it also checks that the schema of the child is that of a struct of
+ * two children. It uses the lengths of children and dictionary: the children of a struct, a fixed-size list or a sparse
+ * union must be long enough, offsets must be inside the child, and indices inside the dictionary. If an array is
+ * rejected, `tree` is left at that array. */
 static inline uint32_t arrow2_c_check_own(struct arrow2_c_tree *tree, const struct arrow2_c_layout *layout,
                                           const struct ArrowSchema *schema, const struct ArrowArray *array,
                                           int64_t *slot) {
@@ -936,14 +939,14 @@ static inline uint32_t arrow2_c_check_tree(struct arrow2_c_tree *tree, const str
     struct arrow2_c_layout layout;
     int64_t slot = -1;
     if (tree->depth >= ARROW2_C_MAX_DEPTH || tree->arrays++ >= ARROW2_C_MAX_ARRAYS) {
-        return arrow2_c_refuse(tree, ARROW2_C_TOO_LARGE, -1);
+        return arrow2_c_reject(tree, ARROW2_C_TOO_LARGE, -1);
     }
     if (!arrow2_c_read_format(schema->format, &layout)) {
-        return arrow2_c_refuse(tree, ARROW2_C_FORMAT, -1);
+        return arrow2_c_reject(tree, ARROW2_C_FORMAT, -1);
     }
     uint32_t code = arrow2_c_check_own(tree, &layout, schema, array, &slot);
     if (code != ARROW2_OK) {
-        return arrow2_c_refuse(tree, code, slot);
+        return arrow2_c_reject(tree, code, slot);
     }
     tree->next_size += tree->sizes ? (size_t)layout.buffers : 0;
     for (int64_t i = 0; i < array->n_children; i++) {
@@ -978,7 +981,7 @@ static inline uint32_t arrow2_c_check_root(const struct ArrowSchema *schema, con
         code = arrow2_c_check_tree(&tree, schema, array);
     }
     if (code == ARROW2_OK && sizes && tree.next_size != sizes_len) {
-        return arrow2_c_refuse(&tree, ARROW2_C_SIZES, -1);
+        return arrow2_c_reject(&tree, ARROW2_C_SIZES, -1);
     }
     return code;
 }
@@ -987,13 +990,13 @@ static inline uint32_t arrow2_c_check_root(const struct ArrowSchema *schema, con
  * first rule that is broken. The page has the order of the rules, what is not tested, and where they are stricter than
  * the Arrow format; for example, the bytes of a null slot of a text must be UTF-8 too.
  *
- * The codes are those above except ARROW2_C_SIZES, and these of arrow2_proved.h: ARROW2_RANGE (a buffer would have to
- * be larger than 2^56 bytes; only arrow2_array_check_sized finds a buffer that is too short), ARROW2_NULLS,
- * ARROW2_SPEC_NEGATIVE, ARROW2_SPEC_FALLING, ARROW2_PAST, ARROW2_UTF8 and ARROW2_INDEX. `schema` and `array` may be
- * NULL: the code is then ARROW2_C_NULL. `where` may be NULL.
+ * It returns the codes ARROW2_C_* above, but never ARROW2_C_SIZES. It also returns these codes of arrow2_proved.h:
+ * ARROW2_RANGE, ARROW2_NULLS, ARROW2_SPEC_NEGATIVE, ARROW2_SPEC_FALLING, ARROW2_PAST, ARROW2_UTF8 and ARROW2_INDEX.
+ * ARROW2_RANGE means that a buffer would have to be larger than 2^56 bytes; only arrow2_array_check_sized finds a
+ * buffer that is too short. `schema` and `array` may be NULL: the code is then ARROW2_C_NULL. `where` may be NULL.
  *
  * Schema and array stay the caller's, whatever the code is: nothing in them is changed, kept or released. The caller
- * releases both, also after a refusal: `if (array.release) array.release(&array);`, since with ARROW2_C_RELEASED
+ * releases both, also after an error: `if (array.release) array.release(&array);`, since with ARROW2_C_RELEASED
  * `release` may be NULL.
  *
  * If the code is ARROW2_OK, all offsets and indices that the check read are aligned. Plain values are possibly not
@@ -1001,7 +1004,7 @@ static inline uint32_t arrow2_c_check_root(const struct ArrowSchema *schema, con
  *
  * If the code is not ARROW2_OK and `where` is not NULL, `*where` is written; else it stays as it was. Nothing is read
  * past the bytes that format, length, offset and last offset require. Since the sizes of buffers are not known, 2^56
- * bytes are taken as the size of each. An array that would need a larger buffer is refused, with ARROW2_PAST for an
+ * bytes are taken as the size of each. An array that would need a larger buffer is rejected, with ARROW2_PAST for an
  * offset into binary or utf8 bytes, else with ARROW2_RANGE. */
 static inline uint32_t arrow2_array_check(const struct ArrowSchema *schema, const struct ArrowArray *array,
                                           struct arrow2_where *where) {
@@ -1015,12 +1018,12 @@ static inline uint32_t arrow2_array_check(const struct ArrowSchema *schema, cons
  *
  * - Values, and types and offsets of a union, need the bytes of offset + length items, also where `length` is 0 and
  *   where the buffer is NULL. An int32 array of length 0 and offset 5 needs 20 bytes of values: with NULL and the size
- *   0 the code is ARROW2_RANGE, where arrow2_array_check returns ARROW2_OK.
+ *   0 the code is ARROW2_RANGE, and arrow2_array_check returns ARROW2_OK for the same array.
  * - A validity needs the bytes of offset + length bits. If it is NULL its size is not used.
  * - Offsets of binary, utf8, lists and maps need the bytes of offset + length + 1 offsets. The buffer of the bytes of
  *   binary and utf8 needs the bytes up to the last offset. If `length` is 0 neither size is used.
  *
- * NULL `sizes` counts as an empty list, whatever `sizes_len` is: any tree that has a buffer is refused, with
+ * NULL `sizes` counts as an empty list, whatever `sizes_len` is: any tree that has a buffer is rejected, with
  * ARROW2_C_SIZES unless an earlier rule is broken. To check without sizes call arrow2_array_check.
  * ARROW2_C_SIZES: there are more or fewer sizes than buffers. */
 static inline uint32_t arrow2_array_check_sized(const struct ArrowSchema *schema, const struct ArrowArray *array,
@@ -1033,7 +1036,7 @@ static inline uint32_t arrow2_array_check_sized(const struct ArrowSchema *schema
 static inline const char *arrow2_code_text(uint32_t code) {
     static const char *const of_library[] = {
         "right",
-        "a range ends outside its buffer, or a table number is too large",
+        "an index or a range is out of bounds, or a table number is too large",
         "a slice does not have the required length",
         "a number is above the greatest offset",
         "out of memory",

@@ -3,9 +3,9 @@
  * proved (docs/BINDINGS.md, which the package has too). This header is written by hand, with its inline function
  * arrow2_get_bit_inline, which is not proved.
  *
- * Rules for every call. A call tests its numbers and returns a code. Two things it does not test: that a pointer points
- * to the number of items that comes with it, and, in the four `_unchecked` calls, the offsets. Breaking a rule about
- * pointers, alignment, overlap, bools or threads is undefined behaviour.
+ * Rules for every call. A call tests its numbers and returns a code; the four `_unchecked` calls do not test the
+ * offsets. No call tests the rules about pointers, alignment, overlap, bools and threads: breaking one of them is
+ * undefined behaviour.
  * - A slice is a pointer and its number of items. NULL is allowed only with 0 items, and never as `offsets` of the
  *   `_unchecked` calls. A pointer that is not NULL must point to the given number of items. It must be aligned for
  *   their type, even where that number is 0.
@@ -239,9 +239,10 @@ uint32_t arrow2_set_indices(const uint8_t *bytes, size_t bytes_len, size_t offse
 /* ---- Offsets of 32 and of 64 bits
  *
  * "Offsets" are a list of one or more numbers: none is negative, and none is below the one before it. Slot i spans from
- * offset i to offset i + 1. If the numbers are not offsets, each call that takes them, except the `_unchecked` ones,
- * returns one of the next three codes, before any other. ARROW2_SPEC_EMPTY: there is no number. ARROW2_SPEC_NEGATIVE:
- * the first is negative. ARROW2_SPEC_FALLING: the first is not negative, and some number is below the one before it.
+ * offset i to offset i + 1. Each call that takes offsets, except the `_unchecked` ones, tests this first: if the
+ * numbers are not offsets, it returns one of the next three codes, whatever other rule is broken. ARROW2_SPEC_EMPTY:
+ * there is no number. ARROW2_SPEC_NEGATIVE: the first is negative. ARROW2_SPEC_FALLING: the first is not negative, and
+ * some number is below the one before it.
  *
  * The four `_unchecked` calls test no offset. Their numbers must be offsets, so there must be at least one; else the
  * behaviour is undefined, and memory outside `offsets` may be read. They never return one of the three codes above.
@@ -322,8 +323,9 @@ uint32_t arrow2_offsets32_check_inside(const int32_t *offsets, size_t offsets_le
 uint32_t arrow2_offsets64_check_inside(const int64_t *offsets, size_t offsets_len, size_t items, size_t *index);
 
 /* Checks whether the numbers are offsets, none is above `values_len`, and the values of each slot, from its offset to
- * the next, are UTF-8. The first two are checked as arrow2_offsets32_check_inside does, with `values_len` as `items`.
- * Then ARROW2_UTF8: a slot is not UTF-8; `*index` is the first such slot. */
+ * the next, are UTF-8. The first two conditions are tested as by arrow2_offsets32_check_inside or
+ * arrow2_offsets64_check_inside, with `values_len` as `items`. Then ARROW2_UTF8: a slot is not UTF-8; `*index` is the
+ * first such slot. */
 uint32_t arrow2_texts32_check(const int32_t *offsets, size_t offsets_len, const uint8_t *values, size_t values_len,
                               size_t *index);
 uint32_t arrow2_texts64_check(const int64_t *offsets, size_t offsets_len, const uint8_t *values, size_t values_len,

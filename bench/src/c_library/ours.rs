@@ -32,11 +32,11 @@ fn changed(
     runs: &[usize],
     call: impl Fn(usize, &mut [u8]) -> Result<(), Error>,
 ) -> usize {
-    let mut refused = 0;
+    let mut failed = 0;
     for run in runs {
-        refused += usize::from(call(*run, black_box(&mut bytes)).is_err());
+        failed += usize::from(call(*run, black_box(&mut bytes)).is_err());
     }
-    digest_of_bytes(&bytes).wrapping_add(refused)
+    digest_of_bytes(&bytes).wrapping_add(failed)
 }
 
 pub fn count_zeros(on: &FourBits, runs: &[usize]) -> usize {
@@ -148,12 +148,12 @@ fn both_written(
 ) -> usize {
     let mut validity = vec![0; bytes_for(length)];
     let mut values = vec![0; bytes_for(length)];
-    let mut refused = 0;
+    let mut failed = 0;
     for run in runs {
         let answer = call(*run, black_box(&mut values), black_box(&mut validity));
-        refused += usize::from(answer.is_err());
+        failed += usize::from(answer.is_err());
     }
-    (digest_of_bytes(&values) ^ digest_of_bytes(&validity)).wrapping_add(refused)
+    (digest_of_bytes(&values) ^ digest_of_bytes(&validity)).wrapping_add(failed)
 }
 
 pub fn and_kleene(on: &FourBits, runs: &[usize]) -> usize {
@@ -211,12 +211,12 @@ pub fn pack(items: &[bool], runs: &[usize]) -> usize {
 pub fn unpack(on: &FourBits, runs: &[usize]) -> usize {
     let [input, ..] = on.inputs;
     let mut items = vec![false; on.length];
-    let mut refused = 0;
+    let mut failed = 0;
     for run in runs {
         let items = &mut black_box(&mut items)[..*run];
-        refused += usize::from(arrow2_proved::unpack(input, items).is_err());
+        failed += usize::from(arrow2_proved::unpack(input, items).is_err());
     }
-    digest(items.into_iter().map(usize::from)).wrapping_add(refused)
+    digest(items.into_iter().map(usize::from)).wrapping_add(failed)
 }
 
 /// The numbers that a call writes to a slice of `length` numbers, once it was made for each run.
@@ -226,11 +226,11 @@ fn numbers_written<T: Copy + Default + Into<i64>>(
     call: impl Fn(usize, &mut [T]) -> Result<(), Error>,
 ) -> usize {
     let mut out = vec![T::default(); length];
-    let mut refused = 0;
+    let mut failed = 0;
     for run in runs {
-        refused += usize::from(call(*run, black_box(&mut out)).is_err());
+        failed += usize::from(call(*run, black_box(&mut out)).is_err());
     }
-    digest(out.into_iter().map(|number| number.into() as usize)).wrapping_add(refused)
+    digest(out.into_iter().map(|number| number.into() as usize)).wrapping_add(failed)
 }
 
 fn check<O: Offset>(offsets: &[O], runs: &[usize]) -> usize {
@@ -256,12 +256,12 @@ fn check_texts<O: Offset>(offsets: &[O], texts: &[u8], runs: &[usize]) -> usize 
 
 fn lengths<O: Offset>(offsets: &[O], runs: &[usize]) -> usize {
     let mut out = vec![0; offsets.len() - 1];
-    let mut refused = 0;
+    let mut failed = 0;
     for run in runs {
         let answer = O::lengths(&offsets[..*run], black_box(&mut out));
-        refused += usize::from(answer.is_err());
+        failed += usize::from(answer.is_err());
     }
-    digest(out).wrapping_add(refused)
+    digest(out).wrapping_add(failed)
 }
 
 fn from_lengths<O: Offset + Default + Into<i64>>(lengths: &[usize], runs: &[usize]) -> usize {
@@ -294,11 +294,11 @@ pub fn offsets32_lengths_unchecked(on: &Slots, runs: &[usize]) -> usize {
         return 0;
     };
     let mut out = vec![0; on.offsets32.len() - 1];
-    let mut refused = 0;
+    let mut failed = 0;
     for _ in runs {
-        refused += usize::from(black_box(offsets).lengths(black_box(&mut out)).is_err());
+        failed += usize::from(black_box(offsets).lengths(black_box(&mut out)).is_err());
     }
-    digest(out).wrapping_add(refused)
+    digest(out).wrapping_add(failed)
 }
 
 pub fn offsets64_lengths(on: &Slots, runs: &[usize]) -> usize {

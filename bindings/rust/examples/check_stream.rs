@@ -96,7 +96,7 @@ fn main() {
                     (0..view.len()).filter_map(|slot| view.slot(slot)).map(String::from_utf8_lossy).collect();
                 println!("{} rows: {}", view.len(), texts.join(" "));
             }
-            Err(refused) => println!("refused: {refused}"),
+            Err(rejected) => println!("rejected: {rejected}"),
         }
     }
 }

@@ -8,7 +8,7 @@
 //! let mut stream = unsafe { Stream::from_raw(open()) };
 //! let schema = stream.schema().unwrap();
 //! while let Some(batch) = stream.next_batch().unwrap() {
-//!     let view = batch.check(&schema).map_err(|refused| refused.broken).unwrap();
+//!     let view = batch.check(&schema).map_err(|rejected| rejected.broken).unwrap();
 //!     println!("{} rows", view.len());
 //! }
 //! ```
@@ -20,7 +20,7 @@ mod owned;
 mod view;
 
 pub use abi::{ArrowArray, ArrowArrayStream, ArrowSchema};
-pub use check::{Broken, MAX_ARRAYS, MAX_DEPTH, Path, Refused, check_raw};
+pub use check::{Broken, MAX_ARRAYS, MAX_DEPTH, Path, Rejected, check_raw};
 pub use layout::{Kind, Layout};
 pub use owned::{Array, Schema, Stream, StreamError};
 pub use view::{Offsets, View};

@@ -1,9 +1,9 @@
-//! Why a call refuses.
+//! Why a call fails.
 
 use crate::sys;
 use core::fmt;
 
-/// Why a call refused. Nothing was written.
+/// Why a call failed. Nothing was written.
 #[derive(Clone, Copy, Debug, PartialEq, Eq)]
 pub enum Error {
     /// An index or a range is out of bounds, or a truth-table number is too large: above 3, 15 or 255 for one, two or
@@ -33,7 +33,7 @@ pub enum Error {
     Index,
 }
 
-/// Why a check refused, and where.
+/// Why a check failed, and where.
 #[derive(Clone, Copy, Debug, PartialEq, Eq)]
 pub struct ErrorAt {
     /// Why.
@@ -96,7 +96,7 @@ fn error_of(code: u32) -> Error {
     }
 }
 
-/// The same for the code of a check, which also writes where it refused: `at`.
+/// The same for the code of a check, which also writes where it failed: `at`.
 #[inline]
 pub(crate) fn to_result_at(code: u32, at: usize) -> Result<(), ErrorAt> {
     to_result(code).map_err(|error| ErrorAt { error, at })

@@ -4,7 +4,7 @@
 //! adds the guarantees of Rust's slices: no pointer is null, and a slice that is written overlaps none that is read.
 //!
 //! Bit `i` of bytes is bit `i % 8` of byte `i / 8`, the lowest first. Lengths and offsets of bits are in bits, and may
-//! be any numbers. A call that refuses writes nothing. Only `c_data` allocates; no call panics.
+//! be any numbers. A call that fails writes nothing. Only `c_data` allocates; no call panics.
 //!
 //! ```
 //! use arrow2_proved::{Bits, binary_table, count_zeros};

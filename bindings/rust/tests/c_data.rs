@@ -109,8 +109,8 @@ fn values_of_one_width_begin_at_the_first_item() {
     let view = owner.check(&of_type).unwrap();
     assert_eq!(view.bytes(), Some(&[40, 0, 50, 0][..]));
     assert!(owner.check_sized(&of_type, &[0, 6]).is_ok());
-    let refused = owner.check_sized(&of_type, &[0, 5]).unwrap_err();
-    assert_eq!(refused.broken, Broken::Part(Error::Range));
+    let rejected = owner.check_sized(&of_type, &[0, 5]).unwrap_err();
+    assert_eq!(rejected.broken, Broken::Part(Error::Range));
     assert!(view.validity().is_none() && view.offsets().is_none());
 }
 
@@ -141,17 +141,17 @@ fn of_no_item_no_boolean_is_read() {
 }
 
 #[test]
-fn what_is_refused_has_no_view() {
+fn what_is_rejected_has_no_view() {
     let releases = Releases::new(0);
     let mut buffers = texts(b"ab\xc3\xa9y");
     let of_type = unsafe { Schema::from_raw(schema(&releases, c"u")) };
     let owner = unsafe { Array::from_raw(array(&releases, 3, 0, &mut buffers)) };
-    let refused = owner.check(&of_type).unwrap_err();
-    assert_eq!((refused.broken, refused.slot), (Broken::Part(Error::NotUtf8), Some(1)));
-    assert_eq!(refused.to_string(), "\"\": a text is not UTF-8 at slot 1");
+    let rejected = owner.check(&of_type).unwrap_err();
+    assert_eq!((rejected.broken, rejected.slot), (Broken::Part(Error::NotUtf8), Some(1)));
+    assert_eq!(rejected.to_string(), "\"\": a text is not UTF-8 at slot 1");
 }
 
-unsafe extern "C" fn refuse(_: *mut ArrowArrayStream, _: *mut ArrowSchema) -> c_int {
+unsafe extern "C" fn fail(_: *mut ArrowArrayStream, _: *mut ArrowSchema) -> c_int {
     5
 }
 
@@ -172,10 +172,10 @@ unsafe extern "C" fn release_stream(stream: *mut ArrowArrayStream) {
 }
 
 #[test]
-fn a_stream_that_refuses_says_why() {
+fn a_stream_that_fails_says_why() {
     let releases = Releases::new(0);
     let raw = ArrowArrayStream {
-        get_schema: Some(refuse),
+        get_schema: Some(fail),
         get_next: Some(last),
         get_last_error: Some(text),
         release: Some(release_stream),

@@ -48,15 +48,15 @@ fn sizes() {
 
 /// The first rule that the numbers break, by plain loops.
 fn offsets_checked(offsets: &[i64], items: usize) -> Result<(), ErrorAt> {
-    let refused = |error, at| Err(ErrorAt { error, at });
-    let Some(first) = offsets.first() else { return refused(Error::NoOffset, 0) };
+    let rejected = |error, at| Err(ErrorAt { error, at });
+    let Some(first) = offsets.first() else { return rejected(Error::NoOffset, 0) };
     if *first < 0 {
-        return refused(Error::NegativeOffset, 0);
+        return rejected(Error::NegativeOffset, 0);
     }
     if let Some(at) = offsets.windows(2).position(|two| two[1] < two[0]) {
-        return refused(Error::FallingOffsets, at + 1);
+        return rejected(Error::FallingOffsets, at + 1);
     }
-    offsets.iter().position(|it| *it as usize > items).map_or(Ok(()), |at| refused(Error::PastOffset, at))
+    offsets.iter().position(|it| *it as usize > items).map_or(Ok(()), |at| rejected(Error::PastOffset, at))
 }
 
 /// Offsets, or one time in four numbers that are near to some.

@@ -31,25 +31,25 @@ unsafe extern "C" fn in_rust(
     let sizes = (!sizes.is_null()).then(|| unsafe { slice::from_raw_parts(sizes, count) });
     match unsafe { check_raw(schema, array, sizes) } {
         Ok(()) => 0,
-        Err(refused) => {
+        Err(rejected) => {
             // SAFETY: as above.
             if let Some(position) = unsafe { position.as_mut() } {
                 let mut path = String::new();
-                write!(path, "{}", refused.path).unwrap();
-                position.slot = refused.slot.map_or(-1, |slot| slot as i64);
+                write!(path, "{}", rejected.path).unwrap();
+                position.slot = rejected.slot.map_or(-1, |slot| slot as i64);
                 position.path.fill(0);
                 for (to, from) in position.path[..1279].iter_mut().zip(path.bytes()) {
                     *to = from as c_char;
                 }
             }
-            refused.broken.code()
+            rejected.broken.code()
         }
     }
 }
 
 /// One test: the arrays in C are made with the help of globals.
 #[test]
-fn hostile_arrays_are_refused_and_nothing_is_read_outside() {
+fn hostile_arrays_are_rejected_and_nothing_is_read_outside() {
     // SAFETY: the library makes its arrays itself, and no other thread calls it.
     let failed = [false, true].map(|pages| unsafe { arrow2_hostile_run(in_rust, pages) });
     assert_eq!(failed, [0, 0]);

@@ -136,7 +136,7 @@ fn tables_in_place() {
         for count in 1..=4 {
             let table = random.table(count as u32);
             let mut out = random.out(length);
-            // Bytes of another length are refused by it, after all ranges.
+            // Bytes of another length are rejected by it, after all ranges.
             let own = if out.len() == bytes_for(length) { out.clone() } else { vec![0; bytes_for(length)] };
             let mut inputs = vec![Bits { bytes: &own, offset: 0 }];
             inputs.extend(&others[..count - 1]);

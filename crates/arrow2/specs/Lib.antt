@@ -3,7 +3,7 @@ pub mod Iterators
 pub mod Errors
 pub mod Growth
 pub mod Printed
-pub mod RefusalMessages
+pub mod FailureMessages
 pub use Rattle.arrow2_model.specs.Buffers
 pub use Rattle.arrow2_model.specs.Canonical
 pub use Rattle.arrow2_model.specs.Digits
@@ -22,7 +22,7 @@ pub use Rattle.arrow2_model.specs.Words
 pub use Rattle.arrow2_kernels.specs.WordResults
 pub use Rattle.arrow2_walks.specs.Zipped
 pub use Rattle.arrow2_types.specs.ErrorTexts
-pub use Rattle.arrow2_types.specs.Refusals
+pub use Rattle.arrow2_types.specs.Failures
 pub use Rattle.arrow2_bits.specs.ChunksMut
 pub use Rattle.arrow2_bits.specs.CountedBytes
 pub use Rattle.arrow2_bits.specs.LentChunk

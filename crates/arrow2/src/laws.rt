@@ -1,4 +1,4 @@
-//! Laws that a caller's proof calls: functions with an empty body, whose contract is the law. arrow2 has none.
+//! Laws that a caller's proof calls. Each is the contract of a function with an empty body. arrow2 has none.
 
 pub use arrow2_bitmap::laws as bitmaps;
 pub use arrow2_buffer::laws as buffers;

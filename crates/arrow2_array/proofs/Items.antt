@@ -1,12 +1,11 @@
 -- The lemmas on boolean arrays, shared ones and ones that grow.
-use Rattle.std.proofs.Common.{◌≡◌, ◌∙◌, ◌↔◌, ℕ, zero, suc, ◌<◌, List, [], ◌∷◌, ◌++◌, Bool, true, false, length, get_or, map, replicate, refl, ap, sym, arith}
-use Rattle.std.specs.Prelude.{Option, Some, None, MatchOption, IsNone, IfSome, is_some, unwrap_or, slice_get}
+use Rattle.std.proofs.Common.{◌≡◌, ◌∙◌, ℕ, zero, suc, ◌<◌, List, [], ◌∷◌, ◌++◌, Bool, true, false, length, get_or, map, replicate, refl, ap, sym, arith}
+use Rattle.std.specs.Prelude.{Option, Some, None, MatchOption, is_some, unwrap_or, slice_get}
 use Rattle.std.specs.Bool.{then_some}
 use Rattle.std.proofs.lemmas.List.{length-replicate, length-map}
 use Rattle.std.proofs.Math.Nat.{min-le_left, min-le_right, le-min}
-use Rattle.arrow2_model.specs.Parts.{falses}
 use Rattle.arrow2_model.specs.Storage.{BitmapStorage, items_of}
-use Rattle.arrow2_model.proofs.Counts.{falses-all_true, falses-none}
+use Rattle.arrow2_model.proofs.Counts.{falses-all_true}
 use Rattle.arrow2_model.proofs.Parts.{part-part, length-part}
 use Rattle.arrow2_walks.specs.Zipped.{slot, zipped}
 use Rattle.arrow2_walks.proofs.Zipped.{append-zipped, at-zipped, push-zipped, slot-option}
@@ -59,11 +58,5 @@ fill-zipped xs vs n o d e =
 pub popped : (xs vs more others : List Bool) (x v : Bool) (o : Option Bool) → length vs ≡ length xs → xs ≡ more ++ x ∷ [] → vs ≡ others ++ v ∷ [] → o ≡ then_some v x → length others ≡ length more → zipped xs vs ≡ zipped more others ++ o ∷ []
 popped xs vs more others x v o e is-x is-v is-o f =
     ap (λ l. zipped l vs) is-x ∙ (ap (zipped (more ++ x ∷ [])) is-v ∙ (push-zipped more others x v f ∙ ap (λ z. zipped more others ++ z ∷ []) (sym (as_slot x v) ∙ sym is-o)))
-
--- a validity whose bitmap is left out where nothing is false
-pub left-out : (n : ℕ) (vs : List Bool) (validity : Option BitmapStorage) → length vs ≡ n → (IsNone validity ↔ (falses vs ≡ 0)) → IfSome validity (λ b. items_of b ≡ vs) → items_or_true n validity ≡ vs
-unfolding items_or_true
-left-out n vs None e none some = ap (λ k. replicate k true) (sym e) ∙ sym (falses-none vs (none.0 refl))
-left-out n vs (Some b) e none some = some
 
 pub ruleset growing = (arrays, fill-zipped, part-part, length-part, length-replicate, length-map, min-le_left, min-le_right, le-min)

@@ -1,4 +1,4 @@
-//! An array of booleans, each of which may be null.
+//! An array of nullable booleans.
 ghost use Rattle.std.specs.Prelude.{◌≡◌, ◌+◌, ◌≤◌, ◌<◌, ◌↔◌, [], ◌∷◌, Bool, Option, Some, None, length, map, slice_index_or, option_map, OnOk, IsOk, IsNone, IfOk, IfErr, IfSome, IsTrue, MatchOption};
 ghost use Rattle.std.specs.Bool.{beq};
 ghost use Rattle.std.specs.Cmp.{partial_equiv_from_equiv, bool_eq_equiv, on_equiv};
@@ -11,9 +11,9 @@ ghost use Rattle.arrow2_model.specs.Storage.{items_of};
 ghost use Rattle.arrow2_model.specs.Tables.{each};
 ghost use Rattle.arrow2_bitmap.specs.Packed.{IsPacked};
 ghost use Rattle.arrow2_walks.specs.Zipped.{zipped};
-ghost use Rattle.arrow2_types.specs.Refusals.{FailsOnlyWith};
+ghost use Rattle.arrow2_types.specs.Failures.{FailsOnlyWith};
 ghost use Rattle.arrow2_validity.specs.OptionalValidity.{valid_items};
-ghost use Rattle.arrow2_validity.specs.Refusals.{unequal_lengths_message};
+ghost use Rattle.arrow2_validity.specs.Failures.{unequal_lengths_message};
 ghost use Rattle.arrow2_array.specs.Items.{boolean_items, sliced_boolean, nulls};
 ghost use Rattle.arrow2_array.specs.Kleene.{by_items, kleene, kleene_and, kleene_or, known_table, values_table};
 
@@ -27,7 +27,7 @@ use arrow2_validity::Validity;
 use std::alloc::{AllocError, Global};
 use std::marker::Model;
 
-/// An array of booleans, each of which may be null.
+/// An array of nullable booleans.
 ///
 /// Contracts see its values and its validity; `boolean_items` is the list of its items. Slices and clones share the
 /// bytes of both.
@@ -70,8 +70,9 @@ impl BooleanArray {
     ///
     /// # Errors
     ///
-    /// If the lengths differ, `InvalidArgumentError`, or `OutOfMemory`. The code returns `OutOfMemory` only if the message
-    /// cannot be allocated; no clause states that. There is no other error. After an error both bitmaps are dropped.
+    /// If the lengths differ, `InvalidArgumentError`, or `OutOfMemory`. The code returns `OutOfMemory` only if the
+    /// message cannot be allocated; no clause states that. There is no other error. After an error both bitmaps are
+    /// dropped.
     pub fn try_new(values: Bitmap, validity: Option<Bitmap>) -> Result<BooleanArray>
         ensures ok { IfOk result (λ a. a ≡ record {
           values = values;
@@ -83,7 +84,7 @@ impl BooleanArray {
         ensures len { IfOk result (λ a. length (boolean_items a) ≡ length (items_of values)) }
         ensures accepted { IsOk result ↔ ForSome validity (λ v. length (items_of v)
             ≡ length (items_of values)) }
-        ensures refused { ForSome validity (λ v.
+        ensures rejected { ForSome validity (λ v.
             FailsOnlyWith result (unequal_lengths_message (length (items_of v)) (length (items_of values)))) }
     {
         let validity = Validity::try_new(values.len(), validity)?;
@@ -293,7 +294,7 @@ impl BooleanArray {
     /// if either is null, else true. The values of the result are `and` of the values of both arrays, also under nulls.
     /// Requires that both arrays have equal lengths.
     ///
-    /// In arrow2 it is `compute::boolean_kleene::and`, which refuses unequal lengths.
+    /// In arrow2 it is `compute::boolean_kleene::and`, which returns an error for unequal lengths.
     ///
     /// # Errors
     ///
@@ -325,7 +326,7 @@ impl BooleanArray {
     /// null if either is null, else false. The values of the result are `or` of the values of both arrays, also under
     /// nulls. Requires that both arrays have equal lengths.
     ///
-    /// In arrow2 it is `compute::boolean_kleene::or`, which refuses unequal lengths.
+    /// In arrow2 it is `compute::boolean_kleene::or`, which returns an error for unequal lengths.
     ///
     /// # Errors
     ///

@@ -56,7 +56,7 @@ impl Operator {
         }
     }
 
-    /// Returns the table of which results are known.
+    /// Returns the truth table of the validity of the results.
     fn known(self) -> u16
         ensures { result ≡ known_table self }
     {
@@ -66,7 +66,7 @@ impl Operator {
         }
     }
 
-    /// Returns the table of which results are known, where one of the two items is not null.
+    /// Returns the truth table of the validity of the results, where one of the two items is not null.
     fn known_paired(self) -> u8
         ensures { result ≡ paired_table self }
     {

@@ -1,6 +1,6 @@
 //! An array of booleans that grows.
 ghost use Rattle.std.specs.Prelude.{◌≡◌, ◌+◌, ◌≤◌, ◌^◌, ◌↔◌, ◌⊎◌, ◌++◌, [], ◌∷◌, None, length, replicate, IfOk, IfErr, IsErrOf, IsOk, IfNone, IsNone, IfSome, IsTrue, MatchOption, OnOk};
-ghost use Rattle.arrow2_types.specs.Refusals.{error_of};
+ghost use Rattle.arrow2_types.specs.Failures.{error_of};
 ghost use Rattle.arrow2_model.specs.Parts.{part};
 ghost use Rattle.arrow2_model.specs.Storage.{items_of};
 ghost use Rattle.arrow2_packed_bits.specs.Growth.{Appends};

@@ -37,11 +37,11 @@ module _ {X : Type 0} where
 module _ {X Y : Type 0} where
   pub stated-pairs : (xs : List X) (ys : List Y) (items : List Bool) (returns : Bor X → Bor Y → Bool → Type 0) (test : X → Y → Bool) → length xs ≡ length ys → length items ≡ length xs
       → ((k : ℕ) → k < length xs → IsPairResultAt xs ys returns k (get_or items k false)) → ReturnsOnPairs xs ys returns test → items ≡ zip2 test xs ys
-  stated-pairs xs ys items returns test alike size given states =
-      let l = length-zip2 test xs ys alike in
+  stated-pairs xs ys items returns test same_lengths size given states =
+      let l = length-zip2 test xs ys same_lengths in
       ext_get_or false items (zip2 test xs ys) (size ∙ sym l) (λ k h.
       let less : k < length xs = omega (arith, h, size) in
-      let more : k < length ys = omega (arith, less, alike) in
+      let more : k < length ys = omega (arith, less, same_lengths) in
       let one = given k less in
       states k one.left one.right (get_or items k false) less one.is_left one.is_right one.returned
       ∙ (ap (λ x. test x one.right.now) (sym one.is_left)

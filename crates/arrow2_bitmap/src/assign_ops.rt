@@ -76,7 +76,7 @@ pub fn binary_assign<T: BitChunk, F: Fn(T, T) -> T>(lhs: &mut MutableBitmap, rhs
 }
 
 /// Replaces each word by the result of `op` for it and the word of `chunks` at the same index, as `binary_assign` does.
-/// Requires that `chunks` has as many items as the bitmap.
+/// Requires that `chunks` has the length of the bitmap.
 fn assign_chunks<T: BitChunk, I: BitChunkIterExact<T> + Drop, F: Fn(T, T) -> T>(
     lhs: &mut MutableBitmap,
     chunks: I,

@@ -41,7 +41,7 @@ pub fn from_rows<S: WordRows<u64>, F: Fn(S::Row) -> u64>(
 ) -> Result<Bitmap>
     // `op` accepts any words, and each list of `rows` has `len` items.
     requires callable { F.IsAlwaysCallable op }
-    requires alike { S.alike rows }
+    requires same_lengths { S.same_lengths rows }
     requires len { S.len rows ≡ len }
     // If the results of `op` are those of a mathematical function `f` on words: the items are the bits of the results
     // of `f` for the rows, in their order, cut to `len`. The number of a word of type `u64` is the word: `λ x. x`.

@@ -1,7 +1,7 @@
 //! The test that bytes can hold a given number of bits.
 ghost use Rattle.std.specs.Prelude.{◌≡◌, ◌*◌, ◌≤◌, ◌↔◌, IsOk, IfOk, vec_len, string_bytes};
-ghost use Rattle.arrow2_types.specs.Refusals.{FailsOnlyWith};
-ghost use Rattle.arrow2_bitmap.specs.Refusals.{too_long};
+ghost use Rattle.arrow2_types.specs.Failures.{FailsOnlyWith};
+ghost use Rattle.arrow2_bitmap.specs.Failures.{too_long};
 
 use arrow2_types::{Error, Result};
 use std::alloc::{AllocError, Global};
@@ -9,18 +9,18 @@ use std::alloc::{AllocError, Global};
 /// Returns an error if `len` is above eight times the number of bytes. The message names `subject`.
 pub(crate) fn check_length(subject: &str, len: usize, bytes: &Vec<u8>) -> Result<()>
     ensures accepted { IsOk result ↔ (len ≤ 8 * vec_len bytes.now) }
-    ensures refused { FailsOnlyWith result (too_long subject.now len (vec_len bytes.now)) }
+    ensures rejected { FailsOnlyWith result (too_long subject.now len (vec_len bytes.now)) }
 {
     if len > bytes.len().saturating_mul(8) {
-        let text = refusal(*bytes.allocator(), subject, len, bytes.len())?;
+        let text = message(*bytes.allocator(), subject, len, bytes.len())?;
         return Err(Error::InvalidArgumentError(text));
     }
     Ok(())
 }
 
-/// Returns the message that refuses `len` bits in `bytes` bytes.
-#[tactic(auto, unfolding(crate::specs::Refusals::too_long))]
-fn refusal(
+/// Returns the message for `len` bits in `bytes` bytes.
+#[tactic(auto, unfolding(crate::specs::Failures::too_long))]
+fn message(
     alloc: Global,
     subject: &str,
     len: usize,

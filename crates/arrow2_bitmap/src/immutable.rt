@@ -15,12 +15,12 @@ ghost use Rattle.arrow2_model.specs.Shown.{shown};
 ghost use Rattle.arrow2_model.specs.Touched.{slice_reads};
 ghost use Rattle.arrow2_model.specs.Words.{spill};
 ghost use Rattle.arrow2_model.specs.Storage.{BitmapStorage, items_of};
-ghost use Rattle.arrow2_types.specs.Refusals.{FailsOnlyWith};
+ghost use Rattle.arrow2_types.specs.Failures.{FailsOnlyWith};
 ghost use Rattle.arrow2_types.specs.declared.error.Error.TheVariants.{OutOfMemory};
 ghost use Rattle.arrow2_bitmap.specs.Predicates.{ReturnsBelow, ReturnsOnEach, ReturnsOnPairs, IsResultAt, IsPairResultAt, IsCallableWithEach, IsCallableWithPairs};
 ghost use Rattle.arrow2_bitmap.specs.Iterators.{MayYieldTooMany};
 ghost use Rattle.arrow2_bitmap.specs.Packed.{IsPacked, packed_storage};
-ghost use Rattle.arrow2_bitmap.specs.Refusals.{too_long};
+ghost use Rattle.arrow2_bitmap.specs.Failures.{too_long};
 ghost use Rattle.std.specs.declared.alloc.Global.{Global};
 ghost use Rattle.std.specs.Fmt.{WritesStyledOnOk};
 
@@ -107,7 +107,7 @@ impl Bitmap {
         }) }
         ensures items { IfOk result (λ b. items_of b ≡ take len (bits bytes.items)) }
         ensures len { IfOk result (λ b. length (items_of b) ≡ len) }
-        ensures refused { 8 * vec_len bytes < len →
+        ensures rejected { 8 * vec_len bytes < len →
             FailsOnlyWith result (too_long (codes "The offset + length") len (vec_len bytes)) }
         ensures only { len ≤ 8 * vec_len bytes → IfErr result (λ e. e ≡ Error.OutOfMemory) }
     {

@@ -1,5 +1,5 @@
-//! Laws of bitmaps that grow: of their bytes, and of appended items. The contract of each function is a law, and its
-//! body is empty.
+//! Laws of bitmaps that grow: of their bytes, and of appended items. Each is the contract of a function with
+//! an empty body.
 ghost use Rattle.std.specs.Prelude.{◌≡◌, ◌↔◌, ◌++◌, ℕ, List, Bool, length, take, drop};
 ghost use Rattle.arrow2_model.specs.Canonical.{canonical_bytes};
 ghost use Rattle.arrow2_bitmap.specs.Packed.{packed_storage};

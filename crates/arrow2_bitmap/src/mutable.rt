@@ -13,10 +13,10 @@ ghost use Rattle.arrow2_bitmap.specs.Packed.{packed_storage};
 ghost use Rattle.arrow2_model.specs.Shown.{shown};
 ghost use Rattle.arrow2_model.specs.Storage.{GrowingBitmap, items_of};
 ghost use Rattle.arrow2_model.specs.Tables.{each};
-ghost use Rattle.arrow2_types.specs.Refusals.{FailsOnlyWith, error_of};
+ghost use Rattle.arrow2_types.specs.Failures.{FailsOnlyWith, error_of};
 ghost use Rattle.arrow2_packed_bits.specs.Growth.{Appends};
 ghost use Rattle.arrow2_bitmap.specs.Iterators.{MayYieldTooMany};
-ghost use Rattle.arrow2_bitmap.specs.Refusals.{too_long};
+ghost use Rattle.arrow2_bitmap.specs.Failures.{too_long};
 ghost use Rattle.std.specs.declared.alloc.Global.{Global};
 ghost use Rattle.std.specs.Fmt.{WritesStyledOnOk};
 
@@ -85,7 +85,7 @@ impl MutableBitmap {
         ensures ok { IfOk result (λ m. m.items ≡ take len (bits bytes.items)) }
         ensures len { IfOk result (λ m. length m.items ≡ len) }
         ensures capacity { IfOk result (λ m. m.capacity ≡ min (8 * vec_capacity bytes) (2 ^ 64 - 1)) }
-        ensures refused { FailsOnlyWith result (too_long (codes "The length") len (vec_len bytes)) }
+        ensures rejected { FailsOnlyWith result (too_long (codes "The length") len (vec_len bytes)) }
     {
         check_length("The length", len, &bytes)?;
         Ok(MutableBitmap::from_vec(bytes, len))

@@ -182,8 +182,8 @@ struct Counted {
     end: usize,
 }
 
-/// Counts the set bits of the next `words` words of `N` bytes too, unless `times` is 0. Requires that `times` is at most
-/// 1.
+/// Counts the set bits of the next `words` words of `N` bytes too, unless `times` is 0. Requires that `times` is at
+/// most 1.
 #[inline(always)]
 fn with_words<T: BitChunk, const N: usize>(
     stored: &mut Stored<'_>,

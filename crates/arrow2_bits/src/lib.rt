@@ -26,9 +26,9 @@ pub use iterator::BitmapIter;
 pub use reads::Reads;
 pub use stored::Stored;
 
-/// The masks of `set`, in one table, so that a loop over bits has one address to compute. At index i: the byte with bit i
-/// clear and every other bit set. At index 8 + i: zero, which is written for false. At index 16 + i: the byte with bit i
-/// set and every other bit clear, which is written for true.
+/// The masks of `set`, in one table, so that a loop over bits has one address to compute. At index i: the byte with bit
+/// i clear and every other bit set. At index 8 + i: zero, which is written for false. At index 16 + i: the byte with
+/// bit i set and every other bit clear, which is written for true.
 const MASKS: [u8; 24] = [
     254, 253, 251, 247, 239, 223, 191, 127, 0, 0, 0, 0, 0, 0, 0, 0, 1, 2, 4, 8, 16, 32, 64, 128,
 ];

@@ -44,7 +44,7 @@ impl<T> Bytes<T> {
 
     /// Returns the vector that holds the items. Does not allocate.
     ///
-    /// Replaces arrow2's `get_vec`, which only that crate can call.
+    /// Replaces `get_vec` of the original arrow2, which is private to that crate.
     pub fn into_vec(self) -> Vec<T>
         ensures { result.items ≡ self }
     {

@@ -1,4 +1,4 @@
-//! The items of an iterator in a vector.
+//! Collects the items of an iterator into a vector.
 ghost use Rattle.std.specs.Prelude.{◌≡◌, ◌<◌, ◌≤◌, IfOk, OnOk, None, true, false, vec_len, vec_capacity};
 ghost use Rattle.std.specs.Iterator.Runs.{WholeRun};
 ghost use Rattle.std.specs.Iterator.{IsFinite, Yields, YieldsThen, size};

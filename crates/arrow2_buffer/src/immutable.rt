@@ -35,8 +35,8 @@ use std::slice::Iter;
 /// It is a part of the storage that an `Rc` holds: clones and slices share that storage, and do not allocate. Lengths
 /// and offsets count items.
 ///
-/// Differs from arrow2: it shares by `Rc` and not across threads, and [`Buffer::as_slice`] returns the slice of its
-/// items, since there is no `Deref` to a slice.
+/// Differs from arrow2: it shares by `Rc` and not across threads, and does not deref to a slice: call
+/// [`Buffer::as_slice`].
 ///
 /// # Examples
 ///
@@ -360,7 +360,7 @@ impl<T: Eq> Eq for Buffer<T> {
     ghost laws = { on_equiv buffer_items (lists_equiv T.Eq.laws) };
 }
 
-/// Prints the text of [`Buffer::as_slice`].
+/// Prints the buffer as a slice of its items.
 impl<T: fmt::Debug> fmt::Debug for Buffer<T> {
     ghost debug_output = { λ b. debug_list T.debug_output (buffer_items b) };
 

@@ -1,4 +1,5 @@
-//! Laws of a buffer after a mutable borrow of its items. The contract of each function is a law, and its body is empty.
+//! A law on what a buffer holds after a mutable borrow of its items has ended. A law is the contract of a function with
+//! an empty body.
 ghost use Rattle.std.specs.Prelude.{◌≡◌, ◌+◌, ◌≤◌, List, length, take, drop};
 ghost use Rattle.arrow2_model.specs.Buffers.{BufferStorage, buffer_items};
 ghost use Rattle.arrow2_buffer.specs.Lent.{rewritten};

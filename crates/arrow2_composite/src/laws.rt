@@ -1,4 +1,4 @@
-//! Laws of equality, order and hash. The contract of each function is a law, and its body is empty.
+//! Laws of equality, order and hash. Each is the contract of a function with an empty body.
 ghost use Rattle.std.specs.Prelude.{◌≡◌, IsTrue, ℤ};
 ghost use Rattle.std.specs.Ordering.{is_eq};
 ghost use Rattle.arrow2_composite.specs.declared.interval.days_ms.{days_ms};

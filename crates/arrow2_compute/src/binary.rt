@@ -78,8 +78,8 @@ pub trait Binary: Drop {
         ensures { AppendsItem GREATEST result (growing grown.old) (growing grown.new)
             (binary_item (parts array.now) index) };
 
-    /// Appends the `len` items of `array` from item `start` on. Copies the bytes under nulls too, of which contracts
-    /// state the number alone. Requires that `start + len` is at most the length of `array`.
+    /// Appends the `len` items of `array` from item `start` on. Copies the bytes under nulls too; contracts state
+    /// only their number. Requires that `start + len` is at most the length of `array`.
     ///
     /// # Errors
     ///

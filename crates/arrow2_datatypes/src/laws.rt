@@ -1,4 +1,4 @@
-//! Laws of the type tables. The contract of each function is a law, and its body is empty.
+//! Laws of the type tables. Each is the contract of a function with an empty body.
 ghost use Rattle.std.specs.Prelude.{◌≡◌, IsTrue};
 ghost use Rattle.arrow2_types.specs.declared.primitive.PrimitiveType.{PrimitiveType};
 ghost use Rattle.arrow2_datatypes.specs.declared.DataType.{DataType};

@@ -15,7 +15,7 @@ not_offsets xs code stated same = record {
   length = λ are. absurd (stated.broken are);
   only = λ are. absurd (stated.broken are);
   ok = λ e. absurd (stated.other e);
-  refused = λ _. same;
+  rejected = λ _. same;
 }
 
 -- the slice does not have the length
@@ -25,7 +25,7 @@ ill_fitting xs are mis same = record {
   length = λ _. (λ _. mis, λ _. refl);
   only = λ _. inr refl;
   ok = λ e. absurd (omega (arith, e));
-  refused = λ _. same;
+  rejected = λ _. same;
 }
 
 -- the call succeeded
@@ -35,7 +35,7 @@ written xs are fit is = record {
   length = λ _. (λ e. absurd (omega (arith, e)), λ mis. absurd (mis fit));
   only = λ _. inl refl;
   ok = λ _. is;
-  refused = λ other. absurd (other refl);
+  rejected = λ other. absurd (other refl);
 }
 
 -- ---- with a second one
@@ -48,7 +48,7 @@ not_offsets_or second xs code stated same = record {
   second = λ are. absurd (stated.broken are);
   only = λ are. absurd (stated.broken are);
   ok = λ e. absurd (stated.other e);
-  refused = λ _. same;
+  rejected = λ _. same;
 }
 
 -- the slice does not have the length
@@ -59,7 +59,7 @@ ill_fitting_or second xs apart are mis same = record {
   second = λ _. (λ e. absurd (omega (arith, e, apart)), λ h. absurd (h.0 refl));
   only = λ _. inr (inl refl);
   ok = λ e. absurd (omega (arith, e));
-  refused = λ _. same;
+  rejected = λ _. same;
 }
 
 -- something is not within the bound
@@ -70,7 +70,7 @@ beyond_or second xs apart not_ok are fit over same = record {
   second = λ _. (λ _. (apart, over), λ _. refl);
   only = λ _. inr (inr refl);
   ok = λ e. absurd (not_ok e);
-  refused = λ _. same;
+  rejected = λ _. same;
 }
 
 -- the call succeeded
@@ -81,5 +81,5 @@ written_or second xs not_ok are fit under is = record {
   second = λ _. (λ e. absurd (omega (arith, e, not_ok)), λ h. absurd (h.1 under));
   only = λ _. inl refl;
   ok = λ _. is;
-  refused = λ other. absurd (other refl);
+  rejected = λ other. absurd (other refl);
 }

@@ -2,7 +2,7 @@
 use Rattle.std.proofs.Common.{◌≡◌, ◌∙◌, ℕ, List, length, sym, arith}
 use Rattle.std.specs.Prelude.{ℤ}
 use Rattle.arrow2_offset.specs.Offsets.{AreOffsets}
-use Rattle.arrow2_offset.specs.Refusals.{first_broken}
+use Rattle.arrow2_offset.specs.Failures.{first_broken}
 use Rattle.arrow2_offset.specs.declared.check.BrokenRule.{BrokenRule}
 use Rattle.arrow2_offset.specs.declared.check.BrokenRule.TheVariants.{Empty, Negative, Falling}
 use Rattle.arrow2_ffi.specs.declared.codes.TheConstants.{ARROW2_UTF8}

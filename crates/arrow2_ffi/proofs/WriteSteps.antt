@@ -11,7 +11,7 @@ module _ {inside holds done unchanged : Type 0} where
     length = (λ e. absurd (omega (arith, e)), λ h. absurd (h.1 as_many));
     only = inl refl;
     ok = λ _. is;
-    refused = λ other. absurd (other refl);
+    rejected = λ other. absurd (other refl);
   }
 
   -- the fact at success may be replaced by a consequence of it
@@ -21,5 +21,5 @@ module _ {inside holds done unchanged : Type 0} where
     length = w.length;
     only = w.only;
     ok = λ e. states (w.ok e);
-    refused = w.refused;
+    rejected = w.rejected;
   }

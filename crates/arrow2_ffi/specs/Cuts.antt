@@ -1,7 +1,7 @@
 -- Offsets together with what they index: the code of a check, and the index that it writes.
 use Rattle.std.specs.Prelude.{◌≡◌, ◌≢◌, ℕ, ◌+◌, ◌-◌, ◌<◌, ◌≤◌, ◌↔◌, ℤ, pos, ◌<ℤ◌, ◌≤ℤ◌, List, length, slice_index_or}
 use Rattle.arrow2_offset.specs.Offsets.{AreOffsets, last_of}
-use Rattle.arrow2_offset.specs.Refusals.{first_broken}
+use Rattle.arrow2_offset.specs.Failures.{first_broken}
 use Rattle.arrow2_utf8.specs.Texts.{AreTexts, IsFirstNonUtf8, slot_values}
 use Rattle.arrow2_ffi.specs.declared.codes.TheConstants.{ARROW2_OK, ARROW2_PAST, ARROW2_SPEC_FALLING, ARROW2_UTF8}
 use Rattle.arrow2_ffi.specs.Rules.{rule_code}

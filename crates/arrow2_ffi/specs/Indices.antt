@@ -18,8 +18,8 @@ pub record IsFirstOutside (xs : List ℤ) (valid : List Bool) (n k : ℕ) : Type
   pub before : (j : ℕ) → j < k → IsIndexOrNull xs valid n j
   pub outside : ¬ IsIndexOrNull xs valid n k
 
--- the result of a search for an item that is neither null nor an index below n: none where there is no such item, else the
--- first
+-- the result of a search for an item that is neither null nor an index below n: none where there is no such item, else
+-- the first
 abbrev pub FindsFirstOutside : (result : Option ℕ) (xs : List ℤ) (validity : Option (List ℕ × ℕ)) (n : ℕ) → Type 0
 FindsFirstOutside result xs validity n = MatchOption result ((k : ℕ) → k < length xs → IsIndexOrNull xs (valid_items validity (length xs)) n k) (λ slot. IsFirstOutside xs (valid_items validity (length xs)) n slot)
 

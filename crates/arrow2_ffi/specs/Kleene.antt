@@ -98,8 +98,8 @@ pub record StoresOptionalKleene (f : NullableOperator) (t known n : ℕ) (left r
 abbrev pub WritesOptionalKleene : (code : ℕ) → NullableOperator → (t known n : ℕ) → (left right : OptionalInput) → (values new_values validity new_validity : List ℕ) → Type 0
 WritesOptionalKleene code f t known n left right values new_values validity new_validity = Writes code (IsWholeInside n left × IsWholeInside n right) (HasBytesForBits values n × HasBytesForBits validity n) (StoresOptionalKleene f t known n left right new_values new_validity) ((new_values ≡ values) × (new_validity ≡ validity))
 
--- the code of a call that stores `and` by Kleene's logic of n items of both inputs: its values are those of table 8, its
--- validity is that of table 53060
+-- the code of a call that stores `and` by Kleene's logic of n items of both inputs: its values are those of table 8,
+-- its validity is that of table 53060
 abbrev pub WritesKleeneAnd : (code n : ℕ) → (left right : Input) → (values new_values validity new_validity : List ℕ) → Type 0
 WritesKleeneAnd code n left right values new_values validity new_validity = WritesKleene code kleene_and 8 53060 n left right values new_values validity new_validity
 

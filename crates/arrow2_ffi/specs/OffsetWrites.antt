@@ -2,11 +2,12 @@
 use Rattle.std.specs.Prelude.{◌≡◌, ◌≢◌, ◌+◌, ◌-◌, ◌<◌, ◌≤◌, ℕ, ℤ, pos, ◌↔◌, ◌⊎◌, List, length as len, map}
 use Rattle.arrow2_model.specs.Parts.{part}
 use Rattle.arrow2_offset.specs.Offsets.{AreOffsets, lengths_of, offsets_list}
-use Rattle.arrow2_offset.specs.Refusals.{first_broken}
+use Rattle.arrow2_offset.specs.Failures.{first_broken}
 use Rattle.arrow2_ffi.specs.declared.codes.TheConstants.{ARROW2_OK, ARROW2_RANGE, ARROW2_LENGTH}
 use Rattle.arrow2_ffi.specs.Rules.{rule_code}
 
--- the code of a call on the numbers xs that writes if they are offsets and a slice has the length that it needs (`sized`)
+-- the code of a call on the numbers xs that writes if they are offsets and a slice has the length that it needs
+-- (`sized`)
 pub record WritesFromOffsets (code : ℕ) (xs : List ℤ) (sized written unchanged : Type 0) : Type 0 where
   -- for numbers that are not offsets, `code` is that of the rule which they break first
   pub broken : ¬ AreOffsets xs → code ≡ rule_code (first_broken xs)
@@ -17,7 +18,7 @@ pub record WritesFromOffsets (code : ℕ) (xs : List ℤ) (sized written unchang
   -- with ARROW2_OK the call wrote what `written` states
   pub ok : code ≡ ARROW2_OK → written
   -- with any other code nothing was written
-  pub refused : code ≢ ARROW2_OK → unchanged
+  pub rejected : code ≢ ARROW2_OK → unchanged
 
 -- the code of a call as of WritesFromOffsets that also needs `within`, and returns the code `other` if that is not true
 pub record WritesFromOffsetsOr (code : ℕ) (xs : List ℤ) (sized within : Type 0) (other : ℕ) (written unchanged : Type 0) : Type 0 where
@@ -32,10 +33,10 @@ pub record WritesFromOffsetsOr (code : ℕ) (xs : List ℤ) (sized within : Type
   -- with ARROW2_OK the call wrote what `written` states
   pub ok : code ≡ ARROW2_OK → written
   -- with any other code nothing was written
-  pub refused : code ≢ ARROW2_OK → unchanged
+  pub rejected : code ≢ ARROW2_OK → unchanged
 
--- the code of a call that writes the lengths of the slots between the numbers xs: with ARROW2_LENGTH the output does not
--- have an item for each slot
+-- the code of a call that writes the lengths of the slots between the numbers xs: with ARROW2_LENGTH the output does
+-- not have an item for each slot
 abbrev pub WritesLengths : (code : ℕ) (xs : List ℤ) (old new : List ℕ) → Type 0
 WritesLengths code xs old new = WritesFromOffsets code xs (len xs ≡ len old + 1) (new ≡ lengths_of xs) (new ≡ old)
 
@@ -43,8 +44,8 @@ WritesLengths code xs old new = WritesFromOffsets code xs (len xs ≡ len old + 
 abbrev pub rebased : List ℤ → ℕ → ℕ → List ℤ
 rebased xs from n = map pos (offsets_list 0 (part (lengths_of xs) from (n - 1)))
 
--- the code of a call that makes `new` of n rebased offsets: with ARROW2_LENGTH n is 0, with ARROW2_RANGE there are fewer
--- than n numbers from index `from` on
+-- the code of a call that makes `new` of n rebased offsets: with ARROW2_LENGTH n is 0, with ARROW2_RANGE there are
+-- fewer than n numbers from index `from` on
 abbrev pub RebasesTo : (code : ℕ) (xs : List ℤ) (from n : ℕ) (new : List ℤ) (unchanged : Type 0) → Type 0
 RebasesTo code xs from n new unchanged = WritesFromOffsetsOr code xs (0 < n) (from + n ≤ len xs) ARROW2_RANGE (new ≡ rebased xs from n) unchanged
 

@@ -7,8 +7,8 @@ use Rattle.arrow2_walks.specs.Runs.{runs_from}
 use Rattle.arrow2_ffi.specs.Ranges.{HaveEqualLengths, IsInside}
 use Rattle.arrow2_ffi.specs.Writes.{Resumes, Writes}
 
--- a call wrote the first `count` of the runs from index `at_old` on, their first indices to one list and their lengths to
--- another; there was capacity for `capacity` runs, and `at_new` is the index to go on from
+-- a call wrote the first `count` of the runs from index `at_old` on, their first indices to one list and their lengths
+-- to another; there was capacity for `capacity` runs, and `at_new` is the index to go on from
 abbrev pub WritesRuns : (items : List Bool) (count capacity : ℕ) (starts lengths : List ℕ) (at_old at_new end : ℕ) → Type 0
 WritesRuns items count capacity starts lengths at_old at_new end = Resumes (zip (take count starts) (take count lengths)) (runs_from items at_old) (runs_from items at_new) count capacity at_old at_new end
 

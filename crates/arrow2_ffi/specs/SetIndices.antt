@@ -25,7 +25,7 @@ pub record IndexOutputs : Type 0 where
 abbrev pub index_outputs : (indices : List ℕ) (at count : ℕ) → IndexOutputs
 index_outputs indices at count = record { indices = indices; at = at; count = count }
 
--- the code of a call that finds the set bits among n bits of bytes from bit `offset` on, and its outputs before and after
--- it
+-- the code of a call that finds the set bits among n bits of bytes from bit `offset` on, and its outputs before and
+-- after it
 abbrev pub FindsSetIndices : (code : ℕ) (bytes : List ℕ) (offset n : ℕ) (old new : IndexOutputs) → Type 0
 FindsSetIndices code bytes offset n old new = WritesIf code (IsInside bytes offset n × (old.at ≤ n)) ARROW2_RANGE (WritesSetIndices (part (bits bytes) offset n) new.count (length old.indices) new.indices old.at new.at n) (new ≡ old)

@@ -20,18 +20,18 @@ pub record Writes (code : ℕ) (inside sized written unchanged : Type 0) : Type 
   -- with ARROW2_OK the call wrote what `written` states
   pub ok : code ≡ ARROW2_OK → written
   -- with any other code nothing was written
-  pub refused : code ≢ ARROW2_OK → unchanged
+  pub rejected : code ≢ ARROW2_OK → unchanged
 
 -- the code of a call that writes if `fits` is true, and returns the code `other` if it is not
 pub record WritesIf (code : ℕ) (fits : Type 0) (other : ℕ) (written unchanged : Type 0) : Type 0 where
   -- `code` is `other` exactly where `fits` is not true
-  pub refusal : (code ≡ other) ↔ ¬ fits
+  pub rejection : (code ≡ other) ↔ ¬ fits
   -- `code` is ARROW2_OK or `other`
   pub only : (code ≡ ARROW2_OK) ⊎ (code ≡ other)
   -- with ARROW2_OK the call wrote what `written` states
   pub ok : code ≡ ARROW2_OK → written
   -- with any other code nothing was written
-  pub refused : code ≢ ARROW2_OK → unchanged
+  pub rejected : code ≢ ARROW2_OK → unchanged
 
 -- the first n bits of bytes are those of a list, there is no spare byte, and no padding bit is set
 pub record Stores (bytes : List ℕ) (n : ℕ) (list : List Bool) : Type 0 where

@@ -22,7 +22,7 @@ impl<'a> WordRows<u64> for BoolWords<'a> {
 
     ghost row_at = { λ s j. word 64 s.items.now j ∷ [] };
 
-    ghost alike = { λ s. Unit {0} };
+    ghost same_lengths = { λ s. Unit {0} };
 
     fn next_row(&mut self) -> Option<u64> {
         if self.items.len() < 64 {

@@ -35,7 +35,7 @@ fn assign_outputs<S: WordRows<u64>, F: Fn(u64, S::Row) -> u64>(
     op: F,
 )
     requires callable { F.IsAlwaysCallable op }
-    requires alike { S.alike rows }
+    requires same_lengths { S.same_lengths rows }
     requires len { S.len rows ≡ len }
     requires exact { HasBytesForBits bytes.old len }
     ensures canonical { IsCanonical bytes.new len }
@@ -143,8 +143,9 @@ pub(crate) fn write_four<const T: u16>(
     );
 }
 
-/// Overwrites `out`, from bit 0 on, with the first `len` bits. Requires that they are inside their bytes, and that `out`
-/// has exactly the bytes that they need. The function is inlined: for 64 bytes a call would take a fifth of the time.
+/// Overwrites `out`, from bit 0 on, with the first `len` bits. Requires that they are inside their bytes, and that
+/// `out` has exactly the bytes that they need. The function is inlined: for 64 bytes a call would take a fifth of the
+/// time.
 #[inline(always)]
 pub(crate) fn copy(bits: Bits<'_>, len: usize, out: &mut [u8])
     requires inside { HasBits bits len }

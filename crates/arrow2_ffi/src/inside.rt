@@ -5,7 +5,7 @@ ghost use Rattle.arrow2_offset.specs.Offsets.{AreOffsets, last_of};
 ghost use Rattle.arrow2_ffi.specs.Cuts.{IsFirstFalling, IsFirstPast, ChecksOffsets, ChecksTexts};
 
 use crate::codes::{ARROW2_OK, ARROW2_PAST, ARROW2_SPEC_FALLING, ARROW2_UTF8};
-use crate::offsets::calls::refusal;
+use crate::offsets::calls::error_code;
 use arrow2_index::Offset;
 use arrow2_offset::slices::last;
 use arrow2_utf8::{BrokenTextArray, BrokenTexts, try_check_offsets_and_utf8};
@@ -15,7 +15,7 @@ use arrow2_utf8::{BrokenTextArray, BrokenTexts, try_check_offsets_and_utf8};
 pub(crate) fn check_inside<O: Offset>(offsets: &[O], items: usize, index: &mut usize) -> u32
     ensures { ChecksOffsets result (map O.value offsets.now) items index.old index.new }
 {
-    if let Some(code) = refusal(offsets) {
+    if let Some(code) = error_code(offsets) {
         if code == ARROW2_SPEC_FALLING {
             *index = first_falling(offsets);
         }

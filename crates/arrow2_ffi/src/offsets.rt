@@ -2,7 +2,7 @@
 //! offset is negative, and none is below the one before it.
 ghost use Rattle.std.specs.Prelude.{◌≡◌, ◌≢◌, ◌+◌, ◌<◌, ◌↔◌, ◌⊎◌, pos, map, length};
 ghost use Rattle.arrow2_offset.specs.Offsets.{AreOffsets, last_offset, offsets_list};
-ghost use Rattle.arrow2_offset.specs.Refusals.{first_broken};
+ghost use Rattle.arrow2_offset.specs.Failures.{first_broken};
 ghost use Rattle.arrow2_ffi.specs.OffsetWrites.{WritesLengths, WritesRebased};
 ghost use Rattle.arrow2_ffi.specs.Rules.{rule_code};
 
@@ -64,7 +64,7 @@ pub extern "C" fn arrow2_offsets32_from_lengths(
         ((result ≢ ARROW2_LENGTH) × (2147483647 < last_offset start lengths.now)) }
     ensures only { (result ≡ ARROW2_OK) ⊎ (result ≡ ARROW2_LENGTH) ⊎ (result ≡ ARROW2_OVERFLOW) }
     ensures ok { result ≡ ARROW2_OK → out.new ≡ map pos (offsets_list start lengths.now) }
-    ensures refused { result ≢ ARROW2_OK → out.new ≡ out.old }
+    ensures rejected { result ≢ ARROW2_OK → out.new ≡ out.old }
 {
     sums(start, lengths, out)
 }
@@ -152,7 +152,7 @@ pub extern "C" fn arrow2_offsets64_from_lengths(
         ((result ≢ ARROW2_LENGTH) × (9223372036854775807 < last_offset start lengths.now)) }
     ensures only { (result ≡ ARROW2_OK) ⊎ (result ≡ ARROW2_LENGTH) ⊎ (result ≡ ARROW2_OVERFLOW) }
     ensures ok { result ≡ ARROW2_OK → out.new ≡ map pos (offsets_list start lengths.now) }
-    ensures refused { result ≢ ARROW2_OK → out.new ≡ out.old }
+    ensures rejected { result ≢ ARROW2_OK → out.new ≡ out.old }
 {
     sums(start, lengths, out)
 }

@@ -57,7 +57,7 @@ fn write_runs(
 ) -> (usize, usize)
     requires inside { HasBits bits end }
     requires within { at ≤ end }
-    requires alike { length starts.old ≡ length lengths.old }
+    requires same_lengths { length starts.old ≡ length lengths.old }
     ensures { WritesRuns (first_bits bits.entry end) result.0 (length starts.old) starts.new lengths.new
         at result.1 end }
 {

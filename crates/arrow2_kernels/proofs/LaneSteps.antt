@@ -296,10 +296,10 @@ tail_is old more xs at was is =
 pub block_written : (t : ℕ) (old left right ys xs items after : List ℕ) (at len : ℕ) → length left ≡ length right → xs ≡ items → items ≡ old ++ left → at ≡ length old → len ≡ length items → length ys ≡ length (take (length xs - at) (drop at xs))
     → bits ys ≡ each t (bits (take (length xs - at) (drop at xs)) ∷ take (8 * length (take (length xs - at) (drop at xs))) (bits right) ∷ [])
     → bits (take len (put_mid at (length xs - at) xs ys ++ drop (length (put_mid at (length xs - at) xs ys)) items)) ≡ bits old ++ each t (bits left ∷ bits right ∷ [])
-block_written t old left right ys xs items after at len alike e was is all size results =
+block_written t old left right ys xs items after at len same_lengths e was is all size results =
     let part = tail_is old left xs at (e ∙ was) is in
     ap bits (tail_written old left ys xs items at len e was is (size ∙ ap length part) all)
-    ∙ (bits-append old ys ∙ ap (λ (b : List Bool). bits old ++ b) (results ∙ (ap (λ (p : List ℕ). each t (bits p ∷ take (8 * length p) (bits right) ∷ [])) part ∙ appended t left right alike)))
+    ∙ (bits-append old ys ∙ ap (λ (b : List Bool). bits old ++ b) (results ∙ (ap (λ (p : List ℕ). each t (bits p ∷ take (8 * length p) (bits right) ∷ [])) part ∙ appended t left right same_lengths)))
 
 -- exactly the bytes that hold the outputs
 pub length-results : (t n m : ℕ) (left right bytes : List ℕ) → n ≤ 8 * length left → m ≡ (n + 7) / 8 → bits bytes ≡ each t (bits (take m left) ∷ bits (take m right) ∷ []) → length bytes ≡ (n + 7) / 8

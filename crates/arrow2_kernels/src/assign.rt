@@ -21,7 +21,7 @@ pub fn assign_rows<T: BitChunk, S: WordRows<T>, F: Fn(T, S::Row) -> T>(
     op: F,
 )
     requires callable { F.IsAlwaysCallable op }
-    requires alike { S.alike rows }
+    requires same_lengths { S.same_lengths rows }
     requires len { S.len rows ≡ len }
     requires exact { length bytes.old ≡ (len + 7) / 8 }
     // Padding bits are false.

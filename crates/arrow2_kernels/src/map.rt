@@ -23,7 +23,7 @@ pub fn write_rows<S: WordRows<u64>, F: Fn(S::Row) -> u64>(
 )
     // `op` accepts each row, and each list of `rows` has `len` items.
     requires callable { F.IsAlwaysCallable op }
-    requires alike { S.alike rows }
+    requires same_lengths { S.same_lengths rows }
     requires len { S.len rows ≡ len }
     requires exact { length bytes.old ≡ (len + 7) / 8 }
     // Padding bits are false.
@@ -55,7 +55,7 @@ pub fn map_rows<S: WordRows<u64>, F: Fn(S::Row) -> u64>(
     op: F,
 ) -> Result<Vec<u8>, AllocError>
     requires callable { F.IsAlwaysCallable op }
-    requires alike { S.alike rows }
+    requires same_lengths { S.same_lengths rows }
     requires len { S.len rows ≡ len }
     ensures canonical { IfOk result (λ v. IsCanonical v.items len) }
     ensures items { (f : List ℕ → ℕ) → ComputesRows 64 S.words (λ x. x) (F.post op) f →

@@ -22,19 +22,19 @@ pub trait WordRows<B: BitChunk>: Drop {
     ghost row_at: { Self → ℕ → List ℕ };
 
     // All lists have equal lengths.
-    ghost alike: { Self → Type 0 };
+    ghost same_lengths: { Self → Type 0 };
 
     /// Returns the next row, or `None` where fewer items are left than a word has.
     fn next_row(&mut self) -> Option<Self::Row>
-        requires { alike self.old }
-        ensures alike { alike self.new }
+        requires { same_lengths self.old }
+        ensures same_lengths { same_lengths self.new }
         ensures row { GivesRow B.WIDTH words (len self.old) (row_at self.old) result
             (len self.new) (row_at self.new) };
 
     /// Returns the row of the remaining items, with each word filled with false. Requires that fewer items remain than
     /// a word has.
     fn rest_row(&self) -> Self::Row
-        requires alike { alike self.now }
+        requires same_lengths { same_lengths self.now }
         requires short { len self.now < B.WIDTH }
         ensures row { words result ≡ row_at self.now 0 }
         ensures fits { AreWords B.WIDTH (words result) };
@@ -56,7 +56,7 @@ impl<B: BitChunk> WordRows<B> for NoList {
 
     ghost row_at = { λ s j. [] };
 
-    ghost alike = { λ s. Unit {0} };
+    ghost same_lengths = { λ s. Unit {0} };
 
     fn next_row(&mut self) -> Option<()> {
         if self.left < B::WIDTH {
@@ -85,7 +85,7 @@ impl<B: BitChunk, I: BitChunkIterExact<B> + Drop> WordRows<B> for OneList<I> {
 
     ghost row_at = { λ s j. word B.WIDTH (I.cursor s.chunks).items j ∷ [] };
 
-    ghost alike = { λ s. Unit {0} };
+    ghost same_lengths = { λ s. Unit {0} };
 
     fn next_row(&mut self) -> Option<B> {
         self.chunks.next()
@@ -114,7 +114,7 @@ impl<B: BitChunk, L: WordRows<B>, R: WordRows<B>> WordRows<B> for ZipRows<L, R> 
 
     ghost row_at = { λ s j. L.row_at s.left j ++ R.row_at s.right j };
 
-    ghost alike = { λ s. L.alike s.left × R.alike s.right × (L.len s.left ≡ R.len s.right) };
+    ghost same_lengths = { λ s. L.same_lengths s.left × R.same_lengths s.right × (L.len s.left ≡ R.len s.right) };
 
     fn next_row(&mut self) -> Option<(L::Row, R::Row)> {
         let left = self.left.next_row()?;
@@ -144,7 +144,7 @@ impl<'a> WordRows<u64> for Pair<'a> {
     ghost row_at = { λ p j. word 64 p.lists.left.chunks.items j
         ∷ word 64 p.lists.right.chunks.items j ∷ [] };
 
-    ghost alike = { λ p. length p.lists.left.chunks.items ≡ length p.lists.right.chunks.items };
+    ghost same_lengths = { λ p. length p.lists.left.chunks.items ≡ length p.lists.right.chunks.items };
 
     fn next_row(&mut self) -> Option<(u64, u64)> {
         self.lists.next_row()

@@ -59,7 +59,7 @@ pub fn map_unary(alloc: Global, list: &[u8], len: usize, t: u8) -> Result<Vec<u8
 /// empty, and that `left` and `right` have the same number of bytes.
 fn append_blocks(bytes: &mut Vec<u8>, left: &[u8], right: &[u8], t: u8) -> Result<(), AllocError>
     requires empty { bytes.old.items ≡ [] }
-    requires alike { length left.now ≡ length right.now }
+    requires same_lengths { length left.now ≡ length right.now }
     ensures { OnOk result (bits bytes.new.items ≡ each t (bits left.now ∷ bits right.now ∷ [])) }
 {
     let whole = left.len() / BLOCK;
@@ -73,7 +73,7 @@ fn append_blocks(bytes: &mut Vec<u8>, left: &[u8], right: &[u8], t: u8) -> Resul
 /// Appends the outputs of table `t` for each bit of `left` and `right`. Requires that both have the same number of
 /// bytes.
 fn append_binary(bytes: &mut Vec<u8>, left: &[u8], right: &[u8], t: u8) -> Result<(), AllocError>
-    requires alike { length left.now ≡ length right.now }
+    requires same_lengths { length left.now ≡ length right.now }
     ensures { OnOk result (bits bytes.new.items ≡ bits bytes.old.items
         ++ each t (bits left.now ∷ bits right.now ∷ [])) }
 {

@@ -20,7 +20,7 @@ pub data Held : Type 0 where
   Array : List (Option Bool) → Held
 
 infixl 10 ◌>>=◌
--- the next result of a value, unless it is refused
+-- the next result of a value, unless it is an error
 abbrev pub ◌>>=◌ : {A B : Type 0} → Result A LineError → (A → Result B LineError) → Result B LineError
 (Ok x) >>= f = f x
 (Err e) >>= f = Err e

@@ -7,7 +7,7 @@ use Rattle.arrow2_script.specs.declared.command.Command.TheVariants.{Bitmap, Off
 use Rattle.arrow2_machine.specs.declared.line_error.LineError.{LineError}
 use Rattle.arrow2_machine.specs.declared.line_error.LineError.TheVariants.{Syntax}
 use Rattle.arrow2_machine.specs.Held.{Held, Nothing}
-use Rattle.arrow2_machine.specs.Replies.{refused_text}
+use Rattle.arrow2_machine.specs.Replies.{rejected_text}
 use Rattle.arrow2_machine.specs.BitmapOutcomes.{bitmap_outcome}
 use Rattle.arrow2_machine.specs.OffsetOutcomes.{offset_outcome}
 use Rattle.arrow2_machine.specs.ValueOutcomes.{value_outcome}
@@ -26,12 +26,12 @@ outcome slots (Kernel command) = kernel_outcome slots command
 outcome slots (Growth command) = growth_outcome slots command
 outcome slots (Array command) = array_outcome slots command
 
--- the slots and the reply of a line; a line that is refused changes no slot
+-- the slots and the reply of a line; a line that is rejected changes no slot
 abbrev pub slots_and_reply : List Held → Result (List Held × List ℕ) LineError → List Held × List ℕ
 slots_and_reply slots (Ok after) = after
-slots_and_reply slots (Err e) = (slots, refused_text e)
+slots_and_reply slots (Err e) = (slots, rejected_text e)
 
--- the result of a line: one that is no command is refused
+-- the result of a line: one that is no command is rejected
 abbrev pub outcome_of : List Held → Option Command → Result (List Held × List ℕ) LineError
 outcome_of slots None = Err Syntax
 outcome_of slots (Some command) = outcome slots command

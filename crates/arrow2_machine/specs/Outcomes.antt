@@ -4,59 +4,59 @@ use Rattle.arrow2.specs.Errors as errors
 use Rattle.arrow2_machine.specs.declared.line_error.LineError.{LineError}
 use Rattle.arrow2_machine.specs.declared.line_error.LineError.TheVariants.{Range, Overflow}
 use Rattle.arrow2_machine.specs.declared.line_error.CommandError.{CommandError}
-use Rattle.arrow2_machine.specs.declared.line_error.CommandError.TheVariants.{Refused, OutOfMemory}
+use Rattle.arrow2_machine.specs.declared.line_error.CommandError.TheVariants.{Rejected, OutOfMemory}
 use Rattle.arrow2_machine.specs.Held.{Held, Nothing}
 
 -- the error of a command, by the error of the call that it made
 abbrev pub command_error : errors.Error → CommandError
-command_error errors.Overflow = Refused Overflow
-command_error (errors.InvalidArgumentError t) = Refused Range
-command_error (errors.OutOfSpec t) = Refused Range
+command_error errors.Overflow = Rejected Overflow
+command_error (errors.InvalidArgumentError t) = Rejected Range
+command_error (errors.OutOfSpec t) = Rejected Range
 command_error errors.OutOfMemory = OutOfMemory
 command_error (errors.NotYetImplemented t) = OutOfMemory
 command_error (errors.External message t) = OutOfMemory
 command_error (errors.Io e) = OutOfMemory
 command_error (errors.ExternalFormat t) = OutOfMemory
 
--- the machine refuses for this reason, unless an allocation failed
+-- the machine returns this error, unless an allocation failed
 abbrev pub Fails : {Y : Type 0} → CommandError → Result Y LineError → Type 0
 Fails OutOfMemory answer = Unit {0}
-Fails (Refused refusal) answer = answer ≡ Err refusal
+Fails (Rejected error) answer = answer ≡ Err error
 
 -- the result, seen by view, is that of the machine, unless an allocation failed
 abbrev pub Gives : {X Y : Type 0} → (X → Y) → Result X CommandError → Result Y LineError → Type 0
 Gives view (Ok x) answer = answer ≡ Ok (view x)
 Gives view (Err e) answer = Fails e answer
 
--- the result, seen by view, is that of the machine, its refusals included
+-- the result, seen by view, is that of the machine, its errors included
 abbrev pub Answers : {X Y : Type 0} → (X → Y) → Result X LineError → Result Y LineError → Type 0
 Answers view (Ok x) answer = answer ≡ Ok (view x)
-Answers view (Err refusal) answer = answer ≡ Err refusal
+Answers view (Err error) answer = answer ≡ Err error
 
 -- a command is carried out as the machine does it: the slots and the reply are unspecified only where an allocation
 -- failed
 pub record Carries (r : Result Unit CommandError) (old new : List Held) (before after : List ℕ) (machine : Result (List Held × List ℕ) LineError) : Type 0 where
   -- the slots are the machine's, and its reply is appended
   pub ok : OnOk r (IsOkAnd machine (λ a. (new ≡ a.0) × (after ≡ before ++ a.1)))
-  -- the machine refuses for the same reason
-  pub refused : IfErr r (λ e. Fails e machine)
-  -- a refusal changes nothing
+  -- the machine returns the same error
+  pub rejected : IfErr r (λ e. Fails e machine)
+  -- an error changes nothing
   pub err : IfErr r (λ e. e ≢ OutOfMemory → (new ≡ old) × (after ≡ before))
 
 -- the reply of the machine is appended; where an allocation failed, a part of it may have been appended
 pub record Writes (r : Result Unit CommandError) (before after : List ℕ) (machine : Result (List ℕ) LineError) : Type 0 where
   -- it is the machine's
   pub ok : OnOk r (IsOkAnd machine (λ text. after ≡ before ++ text))
-  -- the machine refuses for the same reason
-  pub refused : IfErr r (λ e. Fails e machine)
-  -- a refusal changes nothing
+  -- the machine returns the same error
+  pub rejected : IfErr r (λ e. Fails e machine)
+  -- an error changes nothing
   pub err : IfErr r (λ e. e ≢ OutOfMemory → after ≡ before)
 
 -- a slot turns into the value that the machine makes of it: where an allocation failed, its old value is gone
 pub record Turns (r : Result Unit CommandError) (old new : Held) (machine : Result Held LineError) : Type 0 where
   -- it holds the machine's value
   pub gives : Gives (λ _. new) r machine
-  -- a refusal changes nothing
+  -- an error changes nothing
   pub err : IfErr r (λ e. e ≢ OutOfMemory → new ≡ old)
   -- it holds nothing where an allocation failed
   pub memory : r ≡ Err OutOfMemory → new ≡ Nothing

@@ -6,13 +6,13 @@ use Rattle.arrow2_script.specs.Words.{bit_byte}
 use Rattle.arrow2_machine.specs.declared.line_error.LineError.{LineError}
 use Rattle.arrow2_machine.specs.declared.line_error.LineError.TheVariants.{Syntax, Kind, Range, Length, Overflow}
 
--- the reply to a line that is refused
-abbrev pub refused_text : LineError → List ℕ
-refused_text Syntax = codes "error syntax"
-refused_text Kind = codes "error kind"
-refused_text Range = codes "error range"
-refused_text Length = codes "error length"
-refused_text Overflow = codes "error overflow"
+-- the reply to a line that is rejected
+abbrev pub rejected_text : LineError → List ℕ
+rejected_text Syntax = codes "error syntax"
+rejected_text Kind = codes "error kind"
+rejected_text Range = codes "error range"
+rejected_text Length = codes "error length"
+rejected_text Overflow = codes "error overflow"
 
 -- the reply with an item, or that there is none
 abbrev pub item_reply : Option Bool → List ℕ

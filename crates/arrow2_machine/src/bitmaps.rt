@@ -6,7 +6,7 @@ ghost use Rattle.arrow2_machine.specs.Replies.{item_reply};
 ghost use Rattle.arrow2_machine.specs.BitmapOutcomes.{after_push, after_pop, item_at, after_freeze, after_thaw, after_slice, false_count, item_text, part_inside, bitmap_outcome};
 ghost use Rattle.arrow2_machine.specs.Outcomes.{Gives, Carries, Writes, Answers, Turns};
 
-use crate::line_error::CommandError::Refused;
+use crate::line_error::CommandError::Rejected;
 use crate::line_error::{CommandError, LineError};
 use crate::ranges::is_inside;
 use crate::replies::{write_item, write_items, write_number};
@@ -76,7 +76,7 @@ impl Slot {
                 bitmap.push(bit)?;
                 Ok(())
             }
-            _ => Err(Refused(LineError::Kind)),
+            _ => Err(Rejected(LineError::Kind)),
         }
     }
 
@@ -126,7 +126,7 @@ impl Slot {
             }
             other => {
                 self.contents = other;
-                Err(Refused(LineError::Kind))
+                Err(Rejected(LineError::Kind))
             }
         }
     }
@@ -146,7 +146,7 @@ impl Slot {
             }
             other => {
                 self.contents = other;
-                Err(Refused(LineError::Kind))
+                Err(Rejected(LineError::Kind))
             }
         }
     }
@@ -192,7 +192,7 @@ impl Slot {
         match &self.contents {
             Contents::Frozen(bitmap) => write_items(bitmap.iter(), out)?,
             Contents::Growing(bitmap) => write_items(bitmap.iter(), out)?,
-            _ => return Err(Refused(LineError::Kind)),
+            _ => return Err(Rejected(LineError::Kind)),
         }
         Ok(())
     }

@@ -4,7 +4,7 @@ ghost use Rattle.arrow2.specs.Storage.{items_of};
 ghost use Rattle.arrow2_machine.specs.GrowthOutcomes.{after_fill, after_append, growth_outcome};
 ghost use Rattle.arrow2_machine.specs.Outcomes.{Gives, Carries};
 
-use crate::line_error::CommandError::Refused;
+use crate::line_error::CommandError::Rejected;
 use crate::line_error::{CommandError, LineError};
 use crate::slot::{Contents, Slot};
 use arrow2::bitmap::Bitmap;
@@ -46,7 +46,7 @@ impl Slot {
                 bitmap.extend_constant(additional as usize, bit)?;
                 Ok(())
             }
-            _ => Err(Refused(LineError::Kind)),
+            _ => Err(Rejected(LineError::Kind)),
         }
     }
 
@@ -64,7 +64,7 @@ impl Slot {
                 bitmap.extend_from_bitmap(other)?;
                 Ok(())
             }
-            _ => Err(Refused(LineError::Kind)),
+            _ => Err(Rejected(LineError::Kind)),
         }
     }
 }

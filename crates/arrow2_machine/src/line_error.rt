@@ -1,11 +1,11 @@
-//! Why a line is refused.
+//! Why a line is rejected.
 ghost use Rattle.std.specs.Prelude.{◌≡◌};
-ghost use Rattle.arrow2_machine.specs.Replies.{refused_text};
+ghost use Rattle.arrow2_machine.specs.Replies.{rejected_text};
 
 use arrow2::error::Error;
 use std::alloc::{AllocError, AllocFailed};
 
-/// Why a line is refused. A line that is refused changes no slot.
+/// Why a line is rejected. A line that is rejected changes no slot.
 #[derive(Clone, Copy, Debug, PartialEq, Eq)]
 pub enum LineError {
     /// The line is no command.
@@ -21,9 +21,9 @@ pub enum LineError {
 }
 
 impl LineError {
-    /// Returns the reply to a refused line, without a line end.
+    /// Returns the reply to a rejected line, without a line end.
     pub fn text(self) -> &'static [u8]
-        ensures { result.now ≡ refused_text self }
+        ensures { result.now ≡ rejected_text self }
     {
         match self {
             LineError::Syntax => b"error syntax",
@@ -38,19 +38,19 @@ impl LineError {
 /// Why a command was not carried out.
 #[derive(Clone, Copy, Debug, PartialEq, Eq)]
 pub enum CommandError {
-    /// The machine refuses the line.
-    Refused(LineError),
+    /// The machine rejects the line.
+    Rejected(LineError),
     /// An allocation failed.
     OutOfMemory,
 }
 
 impl From<LineError> for CommandError {
-    ghost use Rattle.arrow2_machine.specs.declared.line_error.CommandError.TheVariants.{Refused};
+    ghost use Rattle.arrow2_machine.specs.declared.line_error.CommandError.TheVariants.{Rejected};
 
-    ghost from_gives = { λ refusal error. error ≡ Refused refusal };
+    ghost from_gives = { λ line_error error. error ≡ Rejected line_error };
 
-    fn from(refusal: LineError) -> CommandError {
-        CommandError::Refused(refusal)
+    fn from(error: LineError) -> CommandError {
+        CommandError::Rejected(error)
     }
 }
 
@@ -75,7 +75,7 @@ impl<T: Drop> From<AllocFailed<T>> for CommandError {
     }
 }
 
-/// `Overflow` becomes the refusal `Overflow`. `InvalidArgumentError` and `OutOfSpec` become the refusal `Range`.
+/// `Overflow` becomes `LineError::Overflow`. `InvalidArgumentError` and `OutOfSpec` become `LineError::Range`.
 /// `OutOfMemory` stays `OutOfMemory`, and so would the four others, which no call of a command returns.
 impl From<Error> for CommandError {
     ghost use Rattle.arrow2_machine.specs.Outcomes.{command_error};
@@ -84,8 +84,8 @@ impl From<Error> for CommandError {
 
     fn from(error: Error) -> CommandError {
         match error {
-            Error::Overflow => CommandError::Refused(LineError::Overflow),
-            Error::InvalidArgumentError(_) | Error::OutOfSpec(_) => CommandError::Refused(
+            Error::Overflow => CommandError::Rejected(LineError::Overflow),
+            Error::InvalidArgumentError(_) | Error::OutOfSpec(_) => CommandError::Rejected(
                 LineError::Range,
             ),
             // `OutOfMemory`: no call of a command returns another error, and the enum may get more.

@@ -5,7 +5,7 @@ ghost use Rattle.arrow2_machine.specs.Held.{Nothing};
 ghost use Rattle.arrow2_machine.specs.Machine.{outcome, step, text};
 ghost use Rattle.arrow2_machine.specs.Outcomes.{Carries};
 
-use crate::line_error::CommandError::Refused;
+use crate::line_error::CommandError::Rejected;
 use crate::line_error::{CommandError, LineError};
 use crate::slot::Slot;
 use crate::{arrays, bitmaps, growth, kernels, offsets, storage, values};
@@ -62,8 +62,8 @@ impl Machine {
         }
     }
 
-    /// Runs one line, and appends its reply and a line end. A line that is refused changes no slot; its reply states
-    /// why it is refused.
+    /// Runs one line, and appends its reply and a line end. A line that is rejected changes no slot; its reply states
+    /// why it is rejected.
     ///
     /// # Errors
     ///
@@ -81,11 +81,11 @@ impl Machine {
     {
         let outcome = match parse(line) {
             Some(command) => self.run(alloc, command, reply),
-            None => Err(Refused(LineError::Syntax)),
+            None => Err(Rejected(LineError::Syntax)),
         };
         match outcome {
             Ok(()) => {}
-            Err(Refused(refusal)) => reply.extend_from_slice(refusal.text())?,
+            Err(Rejected(error)) => reply.extend_from_slice(error.text())?,
             Err(CommandError::OutOfMemory) => return Err(AllocError),
         }
         reply.push(b'\n')?;

@@ -7,7 +7,7 @@ ghost use Rattle.arrow2_machine.specs.Replies.{offset_reply};
 ghost use Rattle.arrow2_machine.specs.OffsetOutcomes.{after_new_offsets, after_lengths, after_offset_pop, offset_text, after_offsets_freeze, offsets_inside, after_offsets_slice, zip_text, offset_outcome};
 ghost use Rattle.arrow2_machine.specs.Outcomes.{Gives, Carries, Writes, Answers, Turns};
 
-use crate::line_error::CommandError::Refused;
+use crate::line_error::CommandError::Rejected;
 use crate::line_error::{CommandError, LineError};
 use crate::ranges::is_inside;
 use crate::replies::{write_offset, write_offsets, write_slots};
@@ -61,7 +61,7 @@ impl Slot {
         ensures { Gives (λ slot. slot) result (after_new_offsets first) }
     {
         let Ok(first) = i32::try_from(first) else {
-            return Err(Refused(LineError::Range));
+            return Err(Rejected(LineError::Range));
         };
         Ok(Slot {
             contents: Contents::GrowingOffsets(offsets_of(alloc, first)?),
@@ -82,7 +82,7 @@ impl Slot {
                 offsets.try_push_usize(length as usize)?;
                 Ok(())
             }
-            _ => Err(Refused(LineError::Kind)),
+            _ => Err(Rejected(LineError::Kind)),
         }
     }
 
@@ -100,7 +100,7 @@ impl Slot {
                 extend(offsets, lengths)?;
                 Ok(())
             }
-            _ => Err(Refused(LineError::Kind)),
+            _ => Err(Rejected(LineError::Kind)),
         }
     }
 
@@ -132,7 +132,7 @@ impl Slot {
         match &self.contents {
             Contents::FrozenOffsets(offsets) => write_offsets(offsets.as_slice(), out)?,
             Contents::GrowingOffsets(offsets) => write_offsets(offsets.as_slice(), out)?,
-            _ => return Err(Refused(LineError::Kind)),
+            _ => return Err(Rejected(LineError::Kind)),
         }
         Ok(())
     }
@@ -152,7 +152,7 @@ impl Slot {
             }
             other => {
                 self.contents = other;
-                Err(Refused(LineError::Kind))
+                Err(Rejected(LineError::Kind))
             }
         }
     }
@@ -184,12 +184,12 @@ impl Slot {
         match (&self.contents, &validity.contents) {
             (Contents::FrozenOffsets(offsets), Contents::Frozen(validity)) => {
                 if offsets.len_proxy() != validity.len() {
-                    return Err(Refused(LineError::Length));
+                    return Err(Rejected(LineError::Length));
                 }
                 write_slots(offsets.lengths(), validity.iter(), out)?;
                 Ok(())
             }
-            _ => Err(Refused(LineError::Kind)),
+            _ => Err(Rejected(LineError::Kind)),
         }
     }
 }

@@ -3,7 +3,7 @@ ghost use Rattle.std.specs.Prelude.{◌≡◌, OnErr, IfOk};
 ghost use Rattle.arrow2_machine.specs.StorageOutcomes.{after_raw, after_set, word_text, run_text, storage_outcome};
 ghost use Rattle.arrow2_machine.specs.Outcomes.{Gives, Carries, Writes, Answers};
 
-use crate::line_error::CommandError::Refused;
+use crate::line_error::CommandError::Rejected;
 use crate::line_error::{CommandError, LineError};
 use crate::replies::{write_runs, write_words};
 use crate::slot::{Contents, Slot};
@@ -51,7 +51,7 @@ impl Slot {
         ensures { Gives (λ slot. slot) result (after_raw bytes.entry offset length) }
     {
         let Some(end) = offset.checked_add(length) else {
-            return Err(Refused(LineError::Range));
+            return Err(Rejected(LineError::Range));
         };
         let mut bitmap = Bitmap::try_new(bytes_of_hex(alloc, bytes)?, end as usize)?;
         bitmap.slice(offset as usize, length as usize);
@@ -91,7 +91,7 @@ impl Slot {
         ensures { Writes result out.old.items out.new.items (word_text self.now width) }
     {
         let Contents::Frozen(bitmap) = &self.contents else {
-            return Err(Refused(LineError::Kind));
+            return Err(Rejected(LineError::Kind));
         };
         match width {
             Width::Bits8 => write_words(bitmap.chunks::<u8>(), |word| word as usize, out)?,

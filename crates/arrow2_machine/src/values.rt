@@ -3,7 +3,7 @@ ghost use Rattle.std.specs.Prelude.{◌≡◌};
 ghost use Rattle.arrow2_machine.specs.ValueOutcomes.{after_copy, are_equal, value_outcome};
 ghost use Rattle.arrow2_machine.specs.Outcomes.{Gives, Carries};
 
-use crate::line_error::CommandError::Refused;
+use crate::line_error::CommandError::Rejected;
 use crate::line_error::{CommandError, LineError};
 use crate::replies::write_item;
 use crate::slot::{Contents, Slot};
@@ -44,7 +44,7 @@ impl Slot {
             Contents::Frozen(bitmap) => Contents::Frozen(bitmap.clone()?),
             Contents::FrozenOffsets(offsets) => Contents::FrozenOffsets(offsets.clone()?),
             Contents::Array(array) => Contents::Array(array.clone()?),
-            _ => return Err(Refused(LineError::Kind)),
+            _ => return Err(Rejected(LineError::Kind)),
         };
         Ok(Slot { contents })
     }

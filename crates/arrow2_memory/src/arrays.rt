@@ -1,5 +1,5 @@
 //! Boolean arrays of given items, and arrays that grow.
-use crate::calls::{Row, input, made, refused, show};
+use crate::calls::{Row, input, made, ran_out, show};
 use crate::walks::array;
 use arrow2_array::{BooleanArray, MutableBooleanArray};
 use arrow2_types::Result;
@@ -71,9 +71,9 @@ fn grow(growth: Growth, array: &mut MutableBooleanArray, other: &BooleanArray) -
 fn grown<R: Print + Eprint>(rt: &R, alloc: Global, growth: Growth, other: &BooleanArray) {
     let mut array = MutableBooleanArray::new(alloc);
     let (call, made) = grow(growth, &mut array, other);
-    if refused(rt, call, &made) {
+    if ran_out(rt, call, &made) {
         if !array.is_empty() {
-            show(rt, "changed though refused", &array.len());
+            show(rt, "changed though it failed", &array.len());
         }
         let (_, again) = grow(growth, &mut array, other);
         show(rt, call, &again);

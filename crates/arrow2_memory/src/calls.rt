@@ -16,12 +16,12 @@ pub(crate) fn input<T: Drop>(made: Result<T>) -> Result<T> {
 }
 
 /// Returns whether an allocation of the call failed. If one did, prints the name of the call to standard error.
-pub(crate) fn refused<R: Eprint, T>(rt: &R, call: &str, made: &Result<T>) -> bool {
-    let refused = matches!(made, Err(Error::OutOfMemory));
-    if refused {
+pub(crate) fn ran_out<R: Eprint, T>(rt: &R, call: &str, made: &Result<T>) -> bool {
+    let ran_out = matches!(made, Err(Error::OutOfMemory));
+    if ran_out {
         let _ = eprintln!(rt; "{call}");
     }
-    refused
+    ran_out
 }
 
 /// Shows the name of a call and a value.
@@ -32,8 +32,8 @@ pub(crate) fn show<R: Print, T: fmt::Debug>(rt: &R, call: &str, value: &T) {
 /// Shows the results of calls. Where an allocation of a call failed, shows the result of its second time.
 pub(crate) fn made<R: Print + Eprint, T: fmt::Debug>(rt: &R, rows: &[Row<T>], again: &[Row<T>]) {
     for ((call, one), (_, other)) in rows.iter().zip(again) {
-        let refused = refused(rt, call, one) || matches!(one, Err(Error::Overflow));
-        show(rt, call, if refused { other } else { one });
+        let ran_out = ran_out(rt, call, one) || matches!(one, Err(Error::Overflow));
+        show(rt, call, if ran_out { other } else { one });
     }
 }
 
@@ -52,7 +52,7 @@ pub(crate) fn changed<R: Print + Eprint, T: Clone + Drop + PartialEq + fmt::Debu
 ) -> Result<()> {
     let mut value = copied(before)?;
     let (call, made) = change.change(&mut value);
-    if refused(rt, call, &made) {
+    if ran_out(rt, call, &made) {
         compare(rt, &value, before);
         let (_, again) = change.change(&mut value);
         show(rt, call, &again);
@@ -74,6 +74,6 @@ fn copied<T: Clone + Drop>(value: &T) -> Result<T> {
 /// Shows the value if it differs from what it was before.
 fn compare<R: Print, T: fmt::Debug + PartialEq>(rt: &R, value: &T, before: &T) {
     if *value != *before {
-        show(rt, "changed though refused", value);
+        show(rt, "changed though it failed", value);
     }
 }

@@ -52,7 +52,7 @@ fn taken(alloc: Global) -> [Row<MutableBitmap>; 2] {
     ]
 }
 
-/// The validity that a bitmap is turned into.
+/// The validity that a bitmap becomes.
 fn validity(alloc: Global) -> Result<Option<Bitmap>> {
     input(growing_items(alloc))?.into_validity()
 }

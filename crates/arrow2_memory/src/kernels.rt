@@ -26,22 +26,22 @@ use std::alloc::Global;
 use std::io::{Eprint, Print};
 use std::rc::Rc;
 
-/// The array of three numbers, one of which is null.
+/// The array of three numbers, with one null.
 fn numbers(alloc: Global) -> Result<PrimitiveArray<i32>> {
     input(PrimitiveArray::from_options(alloc, &[Some(1), None, Some(3)]))
 }
 
-/// The array of three numbers, none of which is null.
+/// The array of three numbers, without a null.
 fn valid_numbers(alloc: Global) -> Result<PrimitiveArray<i32>> {
     input(PrimitiveArray::from_slice(alloc, &[1, 2, 3]))
 }
 
-/// The array of three texts, one of which is null.
+/// The array of three texts, with one null.
 fn texts(alloc: Global) -> Result<Utf8Array<i32>> {
     input(Utf8Array::from_options(alloc, &[Some("first"), None, Some("third")]))
 }
 
-/// The array of three booleans, one of which is null.
+/// The array of three booleans, with one null.
 fn booleans(alloc: Global) -> Result<BooleanArray> {
     input(BooleanArray::from_options(alloc, &[Some(true), None, Some(true)]))
 }

@@ -1,5 +1,5 @@
 //! Arrays of numbers, and which of their items are not null.
-use crate::calls::{Row, input, made, refused, show};
+use crate::calls::{Row, input, made, ran_out, show};
 use crate::items::{growing_items, items};
 use arrow2_bitmap::Bitmap;
 use arrow2_buffer::Buffer;
@@ -38,7 +38,7 @@ fn frozen(alloc: Global) -> Result<PrimitiveArray<i32>> {
     grown.freeze()
 }
 
-/// An array that was turned into a growing one, frozen again. It has no validity, so that one is made.
+/// An array that became a growing one, frozen again. It has no validity, so that one is made.
 fn thawed(alloc: Global) -> Result<PrimitiveArray<i32>> {
     match one(alloc)?.into_mut()? {
         Either::Left(array) => Ok(array),
@@ -146,9 +146,9 @@ fn grown<R: Print + Eprint>(
     other: &PrimitiveArray<i32>,
 ) {
     let (call, made) = grow(growth, array, other);
-    if refused(rt, call, &made) {
+    if ran_out(rt, call, &made) {
         if !array.is_empty() {
-            show(rt, "changed though refused", &array.len());
+            show(rt, "changed though it failed", &array.len());
         }
         let (_, again) = grow(growth, array, other);
         show(rt, call, &again);
@@ -192,12 +192,12 @@ fn appended(alloc: Global) -> Result<usize> {
     Ok(grown.len())
 }
 
-/// The number of items of a validity that is refused.
+/// The number of items of a validity that is rejected.
 fn of_another_length(alloc: Global) -> Result<usize> {
     Ok(Validity::try_new(3, Some(items(alloc, 1)?))?.len())
 }
 
-/// A bitmap that is refused.
+/// A bitmap that is rejected.
 fn checked(alloc: Global) -> Result<usize> {
     check_same_length(3, &items(alloc, 1)?)?;
     Ok(0)

@@ -1,6 +1,6 @@
 //! Calls that do not allocate: other owners, pushes below the capacity, and changes in place. Their inputs are made
 //! first, so that no allocation comes after the first line that they show.
-use crate::calls::{input, refused, show};
+use crate::calls::{input, ran_out, show};
 use crate::items::{growing_items, items};
 use crate::offsets::five_shared;
 use crate::walks::array;
@@ -35,7 +35,7 @@ fn owners_of_offsets<R: Print>(rt: &R, offsets: &OffsetsBuffer<i32>) {
 fn push_items<R: Print + Eprint>(rt: &R, bitmap: &mut MutableBitmap) {
     for i in 0..20usize {
         let pushed = bitmap.push(i % 3 == 0);
-        refused(rt, "MutableBitmap::push below the capacity", &pushed);
+        ran_out(rt, "MutableBitmap::push below the capacity", &pushed);
     }
     show(rt, "MutableBitmap::push below the capacity", bitmap);
 }
@@ -44,7 +44,7 @@ fn push_items<R: Print + Eprint>(rt: &R, bitmap: &mut MutableBitmap) {
 fn push_lengths<R: Print + Eprint>(rt: &R, offsets: &mut Offsets<i32>) {
     for length in 0..20usize {
         let pushed = offsets.try_push_usize(length);
-        refused(rt, "Offsets::try_push_usize below the capacity", &pushed);
+        ran_out(rt, "Offsets::try_push_usize below the capacity", &pushed);
     }
     show(rt, "Offsets::try_push_usize below the capacity", offsets);
 }
@@ -53,7 +53,7 @@ fn push_lengths<R: Print + Eprint>(rt: &R, offsets: &mut Offsets<i32>) {
 fn push_options<R: Print + Eprint>(rt: &R, array: &mut MutableBooleanArray) {
     for i in 0..20usize {
         let pushed = array.push((i % 3 > 0).then_some(i % 2 == 0));
-        refused(rt, "MutableBooleanArray::push below the capacity", &pushed);
+        ran_out(rt, "MutableBooleanArray::push below the capacity", &pushed);
     }
     show(
         rt,

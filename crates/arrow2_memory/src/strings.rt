@@ -1,5 +1,5 @@
 //! Arrays of byte strings and of texts.
-use crate::calls::{Row, input, made, refused, show};
+use crate::calls::{Row, input, made, ran_out, show};
 use arrow2_buffer::Buffer;
 use arrow2_datatypes::DataType;
 use arrow2_offset::OffsetsBuffer;
@@ -23,21 +23,21 @@ fn strings(alloc: Global) -> Result<BinaryArray<i32>> {
     input(texts(alloc)?.into_binary())
 }
 
-/// The array of no texts, from parts that are refused.
+/// The array of no texts, from parts that are rejected.
 fn typed_texts(alloc: Global) -> Result<Utf8Array<i32>> {
     let offsets = input(OffsetsBuffer::new(alloc))?;
     let values = input(Buffer::new(alloc))?;
     Utf8Array::try_new(DataType::Binary, offsets, values, None)
 }
 
-/// The array of no byte strings, from parts that are refused.
+/// The array of no byte strings, from parts that are rejected.
 fn typed_strings(alloc: Global) -> Result<BinaryArray<i32>> {
     let offsets = input(OffsetsBuffer::new(alloc))?;
     let values = input(Buffer::new(alloc))?;
     BinaryArray::try_new(DataType::Utf8, offsets, values, None)
 }
 
-/// The texts of an array that was turned into a growing one, frozen again. They have no validity, so that one is made.
+/// The texts of an array that became a growing one, frozen again. They have no validity, so that one is made.
 fn thawed_texts(alloc: Global) -> Result<Utf8Array<i32>> {
     match texts(alloc)?.into_mut()? {
         Either::Left(array) => Ok(array),
@@ -45,7 +45,7 @@ fn thawed_texts(alloc: Global) -> Result<Utf8Array<i32>> {
     }
 }
 
-/// The byte strings of an array that was turned into a growing one, frozen again.
+/// The byte strings of an array that became a growing one, frozen again.
 fn thawed_strings(alloc: Global) -> Result<BinaryArray<i32>> {
     match strings(alloc)?.into_mut()? {
         Either::Left(array) => Ok(array),
@@ -267,9 +267,9 @@ impl Grows<BinaryArray<i32>> for MutableBinaryArray<i32> {
 fn grown<R: Print + Eprint, A, B: Grows<A>>(rt: &R, growth: Growth, array: &mut B, other: &A) {
     let before = array.count();
     let (call, made) = array.grow(growth, other);
-    if refused(rt, call, &made) {
+    if ran_out(rt, call, &made) {
         if array.count() != before {
-            show(rt, "changed though refused", &array.count());
+            show(rt, "changed though it failed", &array.count());
         }
         let (_, again) = array.grow(growth, other);
         show(rt, call, &again);

@@ -1,5 +1,5 @@
 //! Boolean arrays, and bitmaps in pieces.
-use crate::calls::{Row, made, refused, show};
+use crate::calls::{Row, made, ran_out, show};
 use crate::items::items;
 use arrow2_array::BooleanArray;
 use arrow2_bitmap::Bitmap;
@@ -8,7 +8,7 @@ use arrow2_walks::Pieces;
 use std::alloc::Global;
 use std::io::{Eprint, Print};
 
-/// Kleene's logic, and an array that is refused.
+/// Kleene's logic, and an array that is rejected.
 fn arrays(array: &BooleanArray) -> [Row<BooleanArray>; 3] {
     [
         ("BooleanArray::and_kleene", array.and_kleene(array)),
@@ -57,9 +57,9 @@ fn cut<R: Print + Eprint>(rt: &R, pieces: &mut Pieces) -> Result<()> {
     let count = pieces.len();
     let first = pieces.get(0).clone()?;
     let res = halve(pieces);
-    if refused(rt, "Pieces::cut", &res) {
+    if ran_out(rt, "Pieces::cut", &res) {
         if pieces.len() != count || *pieces.get(0) != first {
-            show(rt, "Pieces::cut changed though refused", &pieces.len());
+            show(rt, "Pieces::cut changed though it failed", &pieces.len());
         }
         return halve(pieces);
     }

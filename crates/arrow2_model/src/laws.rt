@@ -1,4 +1,4 @@
-//! Laws of the definitions. The contract of each function is a law, and its body is empty.
+//! Laws of the definitions. Each is the contract of a function with an empty body.
 ghost use Rattle.std.specs.Prelude.{◌≡◌, ◌↔◌, ℕ, ◌+◌, ◌-◌, ◌*◌, ◌/◌, ◌%◌, ◌<◌, ◌≤◌, ◌^◌, List, ◌∷◌, [], ◌++◌, Bool, true, length, codes, count_by, false, replicate, slice_get, slice_index, Some, take, IsTrue};
 ghost use Rattle.std.specs.Bool.{beq};
 ghost use Rattle.std.specs.Cmp.Lexicographic.{pointwise};

@@ -5,7 +5,7 @@ use Rattle.std.specs.List.{AllZip}
 use Rattle.std.proofs.lemmas.Bool.{cases_order}
 use Rattle.std.proofs.lemmas.List.Elements.{All-head, All-tail}
 use Rattle.std.proofs.lemmas.List.{get_or-take, length-take}
-use Rattle.arrow2_types.specs.Refusals.{IsInvalidArgumentOrOutOfMemory}
+use Rattle.arrow2_types.specs.Failures.{IsInvalidArgumentOrOutOfMemory}
 use Rattle.arrow2_types.specs.declared.error.Error.{Error}
 use Rattle.arrow2_types.specs.declared.error.Error.TheVariants.{OutOfMemory}
 use Rattle.arrow2_numeric.specs.Casts.{Fits, IsCast, IsFirstMisfit, IsSameNumber}
@@ -66,6 +66,6 @@ pub if-err : {V E : Type 0} {P Q : E → Type 0} (r : Result V E) → ((e : E) �
 if-err (Ok v) gives p = tt
 if-err (Err e) gives p = gives e p
 
--- any refusal becomes the error of memory
+-- any error becomes the error of memory
 pub out_of_memory : (e : Error) (words : List ℕ) → e ≡ OutOfMemory → IsInvalidArgumentOrOutOfMemory e words
 out_of_memory e words is = subst (λ (z : Error). IsInvalidArgumentOrOutOfMemory z words) (sym is) tt

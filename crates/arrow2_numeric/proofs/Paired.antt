@@ -44,11 +44,11 @@ pub tested-pairs : {X Y : Type 0} (xs : List X) (ys : List Y) (items : List Bool
     → length xs ≡ length ys → length items ≡ length xs
     → ((k : ℕ) → k < length xs → IsTestedAt xs ys states k (get_or items k false))
     → ((x : X) (y : Y) (said : Bool) → states x y said → said ≡ test x y) → items ≡ zip2 test xs ys
-tested-pairs xs ys items states test alike size given stated =
-    let l = length-zip2 test xs ys alike in
+tested-pairs xs ys items states test same_lengths size given stated =
+    let l = length-zip2 test xs ys same_lengths in
     ext_get_or false items (zip2 test xs ys) (size ∙ sym l) (λ k h.
     let less : k < length xs = omega (arith, h, size) in
-    let more : k < length ys = omega (arith, less, alike) in
+    let more : k < length ys = omega (arith, less, same_lengths) in
     let one = given k less in
     stated one.left one.right (get_or items k false) one.returned
     ∙ (ap (λ x. test x one.right) (sym one.is_left)

@@ -24,6 +24,6 @@ pub record IsFirstMisfit {X : Type 0} (value : X → ℤ) (fits : ℤ → Type 0
   pub others : All (Fits value fits) (take index items)
   pub this : ¬ (Fits value fits (slice_index_or items index None))
 
--- the message that refuses this item
+-- the message for this item
 unfoldable pub not_fitting_message : ℕ → List ℕ
 not_fitting_message index = codes "item " ++ (decimal index ++ codes " does not fit the type")

@@ -207,6 +207,7 @@ fn sum_of_valid<T: WholeNumber>(values: &[T], validity: &Bitmap) -> i128
     requires same_length { length (items_of validity.now) ≡ length values.now }
     ensures { result ≡ sum_of T.integer (selected values.now (items_of validity.now)) }
 {
+    // For the proof alone: there are fewer than 2⁶³ values, so the sum fits. `count` is not read.
     let count = T::count(values);
     let mut total = 0i128;
     let mut blocks = MaskedBlocks::new(values, validity);
@@ -235,8 +236,8 @@ fn sum_of_word<T: WholeNumber>(values: &[T], word: u64) -> i128
     total
 }
 
-/// Returns the sum of two numbers, which fits. In a loop, the prover takes the result of a call for a number, and that of
-/// `+` for its bits.
+/// Returns the sum of two numbers, which fits. In a loop, the prover takes the result of a call for a number, and that
+/// of `+` for its bits.
 fn added(total: i128, more: i128) -> i128
     requires { FitsSigned w128 (total +ℤ more) }
     ensures { result ≡ total +ℤ more }
@@ -328,7 +329,7 @@ fn best_of_halves<T: NativeType, C: Choice<T>>(values: &[T]) -> Option<T>
         best = C::of_two(best, front[index]);
         other = C::of_two(other, back[index]);
     }
-    // The back half has as many values as the front half, or one more.
+    // The back half has the length of the front half, or one value more.
     best_of::<T, C>(Some(C::of_two(best, other)), &back[front.len()..])
 }
 

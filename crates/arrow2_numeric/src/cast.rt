@@ -2,7 +2,7 @@
 ghost use Rattle.std.specs.Prelude.{◌≡◌, ◌↔◌, ℕ, count_by, IfOk, IfErr, IsNone, IsOk, MatchBool, OnOk, All};
 ghost use Rattle.std.specs.List.{AllZip};
 ghost use Rattle.std.specs.Option.{is_none};
-ghost use Rattle.arrow2_types.specs.Refusals.{IsInvalidArgumentOrOutOfMemory};
+ghost use Rattle.arrow2_types.specs.Failures.{IsInvalidArgumentOrOutOfMemory};
 ghost use Rattle.arrow2_datatypes.specs.Types.{physical};
 ghost use Rattle.arrow2_datatypes.specs.declared.physical_type.PhysicalType.TheVariants.{Primitive};
 ghost use Rattle.arrow2_numeric.specs.Casts.{IsCast, IsSameNumber, IsFirstMisfit, Fits, not_fitting_message};
@@ -67,7 +67,7 @@ pub fn try_primitive_to_primitive<I: NativeType + PrimInt, O: NativeType + PrimI
         IsNone a.validity.bitmap ↔ (count_by is_none (primitive_items a) ≡ 0)) }
     // `Ok` only if all numbers fit; else the message names the first one that does not.
     ensures accepted { OnOk result (All (Fits I.value O.fits) (primitive_items array.now)) }
-    ensures refused { IfErr result (λ e. (index : ℕ) →
+    ensures rejected { IfErr result (λ e. (index : ℕ) →
         IsFirstMisfit I.value O.fits (primitive_items array.now) index →
         IsInvalidArgumentOrOutOfMemory e (not_fitting_message index)) }
     ensures only { All (Fits I.value O.fits) (primitive_items array.now) →
@@ -82,7 +82,7 @@ fn check_fits<I: NativeType + PrimInt, O: NativeType + PrimInt>(
     array: &PrimitiveArray<I>,
 ) -> Result<()>
     ensures accepted { OnOk result (All (Fits I.value O.fits) (primitive_items array.now)) }
-    ensures refused { IfErr result (λ e. (index : ℕ) →
+    ensures rejected { IfErr result (λ e. (index : ℕ) →
         IsFirstMisfit I.value O.fits (primitive_items array.now) index →
         IsInvalidArgumentOrOutOfMemory e (not_fitting_message index)) }
     ensures only { All (Fits I.value O.fits) (primitive_items array.now) → IsOk result }

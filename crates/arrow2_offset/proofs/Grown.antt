@@ -1,4 +1,4 @@
--- Growth that is not refused.
+-- Growth that succeeds.
 use Rattle.std.proofs.Common.{ℕ, ◌≤◌, List, Ok, rules}
 use Rattle.arrow2_types.specs.declared.growth_error.GrowthError.{GrowthError}
 use Rattle.arrow2_offset.specs.Offsets.{GrowingOffsets, GrownBy, slots}

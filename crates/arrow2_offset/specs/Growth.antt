@@ -11,7 +11,7 @@ use Rattle.arrow2_offset.specs.Offsets.{GrowingOffsets, slots, last_of_growing, 
 pub record Grows {T E : Type 0} (as_error : GrowthError → E) (r : Result T E) (old new : GrowingOffsets) (more : List ℕ) (reached greatest : ℕ) : Type 0 where
   -- the lengths come after the others, from the same start
   pub ok : OnOk r (GrownBy more old new)
-  -- a refusal leaves the start and the lengths as they were
+  -- an error leaves the start and the lengths as they were
   pub err : OnErr r (SameOffsets old new)
   -- the slots that were there are within the capacity
   pub within_capacity : slots old ≤ old.capacity
@@ -35,7 +35,7 @@ pub record GrowsByIterator {S T E : Type 0} (as_error : GrowthError → E) (r : 
   pub ok : OnOk r (WholeRun steps lengths (λ run. GrownBy run.items old new))
   -- the last offset does not pass `greatest`
   pub fits : OnOk r (last_of_growing new ≤ greatest)
-  -- a refusal leaves the start and the lengths as they were
+  -- an error leaves the start and the lengths as they were
   pub err : OnErr r (SameOffsets old new)
   -- the slots that were there are within the capacity
   pub within_capacity : slots old ≤ old.capacity

@@ -4,4 +4,4 @@ pub mod Lengths
 pub mod NewOffsets
 pub mod Nested
 pub mod Offsets
-pub mod Refusals
+pub mod Failures

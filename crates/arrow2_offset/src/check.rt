@@ -1,7 +1,7 @@
 //! The test that a list is offsets.
 ghost use Rattle.std.specs.Prelude.{◌≡◌, ℕ, ◌+◌, ◌<◌, ◌≤ℤ◌, ◌↔◌, pos, length, map, slice_index_or, OnOk, IsOk, IfErr, IfSome, IfNone, IsNone, IsTrue};
 ghost use Rattle.arrow2_offset.specs.Offsets.{AreOffsets, AreOffsetsUpTo};
-ghost use Rattle.arrow2_offset.specs.Refusals.{IsOutOfSpecOrOutOfMemory, first_broken, rule_words, not_offsets_message};
+ghost use Rattle.arrow2_offset.specs.Failures.{IsOutOfSpecOrOutOfMemory, first_broken, rule_words, not_offsets_message};
 
 use arrow2_index::Offset;
 use arrow2_types::{Error, Result};
@@ -45,7 +45,7 @@ pub fn broken_rule<O: Offset>(offsets: &[O]) -> Option<BrokenRule>
 pub(crate) fn try_check_offsets<O: Offset>(alloc: Global, offsets: &[O]) -> Result<()>
     ensures ok { OnOk result (AreOffsetsUpTo O.MAX (map O.value offsets.now)) }
     ensures accepted { AreOffsets (map O.value offsets.now) → IsOk result }
-    ensures refused { IfErr result (λ e.
+    ensures rejected { IfErr result (λ e.
         IsOutOfSpecOrOutOfMemory e (not_offsets_message (map O.value offsets.now))) }
 {
     match broken_rule(offsets) {

@@ -34,8 +34,8 @@ impl TryFrom<Offsets<i32>> for Offsets<i64> {
 ///
 /// # Errors
 ///
-/// `Overflow` exactly where the last offset is above 2147483647, else `OutOfMemory` alone. After either error the offsets
-/// are dropped.
+/// `Overflow` exactly where the last offset is above 2147483647, else `OutOfMemory` alone. After either error the
+/// offsets are dropped.
 impl TryFrom<Offsets<i64>> for Offsets<i32> {
     type Error = Error;
 

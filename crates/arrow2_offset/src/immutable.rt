@@ -5,7 +5,7 @@ ghost use Rattle.std.specs.Cmp.{partial_equiv_from_equiv, int_eq_equiv, on_equiv
 ghost use Rattle.std.specs.Cmp.Lexicographic.{pointwise, lists_equiv};
 ghost use Rattle.either.specs.Either.{MatchEither};
 ghost use Rattle.arrow2_types.specs.declared.error.Error.TheVariants.{OutOfMemory};
-ghost use Rattle.arrow2_offset.specs.Refusals.{IsOutOfSpecOrOutOfMemory, not_offsets_message};
+ghost use Rattle.arrow2_offset.specs.Failures.{IsOutOfSpecOrOutOfMemory, not_offsets_message};
 ghost use Rattle.arrow2_model.specs.Parts.{part};
 ghost use Rattle.arrow2_model.specs.Buffers.{buffer_items, whole_buffer};
 ghost use Rattle.arrow2_offset.specs.Offsets.{AreOffsets, AreOffsetsUpTo, offset_at, offsets_of, offsets_list, start_of, lengths_of, last_of, numbers_of};
@@ -82,7 +82,7 @@ impl<O: Offset> OffsetsBuffer<O> {
         ensures items { MatchEither result (λ b. b ≡ self) (λ o.
             (map pos (offsets_of o) ≡ buffer_items self) × (o.start ≡ start_of (buffer_items self))
             × (o.lengths ≡ lengths_of (buffer_items self))) }
-        // `Right` has the whole storage: nothing is sliced off.
+        // `Right` comes only where the items are the whole storage.
         ensures whole { MatchEither result (λ _. ⊤) (λ o. map pos (offsets_of o) ≡ self.storage) }
     {
         let OffsetsBuffer { buffer } = self;
@@ -286,9 +286,9 @@ impl<O: Offset> TryFrom<Buffer<O>> for OffsetsBuffer<O> {
 ///
 /// # Errors
 ///
-/// Where the items are not offsets: `OutOfSpec` with the text of the rule that they break, or `OutOfMemory`, in the code
-/// only if that text cannot be allocated. Where they are offsets, `OutOfMemory` is the only error. After an error the
-/// vector is dropped.
+/// Where the items are not offsets: `OutOfSpec` with the text of the rule that they break, or `OutOfMemory`, in the
+/// code only if that text cannot be allocated. Where they are offsets, `OutOfMemory` is the only error. After an error
+/// the vector is dropped.
 impl<O: Offset> TryFrom<Vec<O>> for OffsetsBuffer<O> {
     type Error = Error;
 

@@ -1,4 +1,4 @@
-//! Laws of the definitions of offsets: functions with an empty body, whose contracts are theorems.
+//! Laws of the definitions of offsets. Each is the contract of a function with an empty body.
 ghost use Rattle.std.specs.Prelude.{◌≡◌, ℕ, ℤ, ◌+◌, ◌≤◌, ◌++◌, ◌↔◌, List, length, map, pos, slice_index_or};
 ghost use Rattle.arrow2_offset.specs.Offsets.{running_sums, offsets_list, offset_at, last_offset, AreOffsets, start_of, lengths_of, GrowingOffsets, SameOffsets, offsets_of};
 

@@ -12,8 +12,8 @@ ghost use Rattle.arrow2_offset.specs.Offsets.{AreOffsets, offset_at, AreOffsetsU
 ghost use Rattle.arrow2_offset.specs.Iterators.{MayYieldPast};
 ghost use Rattle.arrow2_offset.specs.Growth.{Grows, GrowsUpTo, GrowsByIterator};
 ghost use Rattle.arrow2_offset.specs.NewOffsets.{growing_offsets_of};
-ghost use Rattle.arrow2_offset.specs.Refusals.{IsOutOfSpecOrOutOfMemory, not_offsets_message};
-ghost use Rattle.arrow2_types.specs.Refusals.{error_of};
+ghost use Rattle.arrow2_offset.specs.Failures.{IsOutOfSpecOrOutOfMemory, not_offsets_message};
+ghost use Rattle.arrow2_types.specs.Failures.{error_of};
 ghost use Rattle.arrow2_types.specs.declared.growth_error.GrowthError.TheVariants as growth_error;
 
 use crate::append_lengths::{LEAST_CAPACITY, append_lengths};
@@ -116,8 +116,8 @@ impl<O: Offset> Offsets<O> {
         Ok(Offsets { offsets })
     }
 
-    /// Returns the offsets from 0 on with the lengths that an iterator yields. Requires that the iterator ends, and that
-    /// each call of its `next` meets the precondition of `next`. Its size hint is not read.
+    /// Returns the offsets from 0 on with the lengths that an iterator yields. Requires that the iterator ends, and
+    /// that each call of its `next` meets the precondition of `next`. Its size hint is not read.
     ///
     /// # Errors
     ///
@@ -181,7 +181,7 @@ impl<O: Offset> Offsets<O> {
     /// `OutOfMemory` alone, also where a `usize` cannot count the offsets. After an error, the offsets are as they
     /// were.
     pub fn reserve(&mut self, additional: usize) -> Result<()>
-        // The offsets stay, and `additional` more lengths fit.
+        // The offsets stay. After `Ok`, `additional` more lengths fit.
         ensures items { SameOffsets self.old self.new }
         ensures ok { OnOk result (slots self.old + additional ≤ self.new.capacity) }
         // The capacity never falls. The number of slots is at most the capacity, since the length of a `Vec` is at most

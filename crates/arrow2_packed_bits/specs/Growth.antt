@@ -4,12 +4,12 @@ use Rattle.arrow2_model.specs.Storage.{GrowingBitmap}
 use Rattle.arrow2_types.specs.declared.growth_error.GrowthError.{GrowthError}
 use Rattle.arrow2_types.specs.declared.growth_error.GrowthError.TheVariants.{Overflow, OutOfMemory}
 
--- growth by the items `more`, all of them or none, where `as_error` turns a refusal of growth into the error of the
+-- growth by the items `more`, all of them or none, where `as_error` turns a `GrowthError` into the error of the
 -- call
 pub record Appends {T E : Type 0} (as_error : GrowthError → E) (r : Result T E) (old new : GrowingBitmap) (more : List Bool) : Type 0 where
   -- they come after the others
   pub ok : OnOk r (new.items ≡ old.items ++ more)
-  -- a refusal leaves the items
+  -- an error leaves the items
   pub err : OnErr r (new.items ≡ old.items)
   -- a usize counts the items that were there
   pub fits : length old.items < 2 ^ 64

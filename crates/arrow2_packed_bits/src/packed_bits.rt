@@ -322,7 +322,7 @@ impl PackedBits {
     )
         // `op` accepts every word and row, and each list of `rows` has the same length as this list.
         requires callable { F.IsAlwaysCallable op }
-        requires alike { S.alike rows }
+        requires same_lengths { S.same_lengths rows }
         requires len { S.len rows ≡ length self.old.items }
         // If the results of `op` are those of a function `f` of the own word and a row:
         ensures kernel { (f : List ℕ → ℕ) (xss : List (List Bool)) →

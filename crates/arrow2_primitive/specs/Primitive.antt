@@ -27,7 +27,7 @@ sliced_primitive a offset n = record {
   validity = sliced_validity a.validity offset n;
 }
 
--- the message that refuses a logical type with another layout
+-- the message for a logical type with another layout
 abbrev pub other_layout_message : List ℕ
 other_layout_message = codes "PrimitiveArray can only be initialized with a DataType whose physical type is Primitive"
 

@@ -19,7 +19,8 @@ interval_unit_name YearMonth = codes "YearMonth"
 interval_unit_name DayTime = codes "DayTime"
 interval_unit_name MonthDayNano = codes "MonthDayNano"
 
--- the text of a type with the layout of a native type: nothing is stated of a type with a time zone, nor of an extension
+-- the text of a type with the layout of a native type: nothing is stated of a type with a time zone, nor of an
+-- extension
 abbrev pub type_output : DataType → Option (List ℕ)
 type_output Int8 = Some (codes "Int8")
 type_output Int16 = Some (codes "Int16")

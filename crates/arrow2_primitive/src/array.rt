@@ -1,4 +1,4 @@
-//! An array of native values, each of which may be null.
+//! An array of nullable native values.
 ghost use Rattle.std.specs.Prelude.{◌≡◌, ◌+◌, ◌<◌, ◌≤◌, ◌↔◌, None, Some, length, map, count_by, replicate, true, slice_index_or, ⊤, OnOk, IsNone, IsOk, IfOk, IfErr, IfSome, IsTrue, MatchOption, option_map};
 ghost use Rattle.std.specs.List.{slice_get};
 ghost use Rattle.std.specs.Option.{ForSome, is_none, is_some};
@@ -9,9 +9,9 @@ ghost use Rattle.arrow2_model.specs.Parts.{part};
 ghost use Rattle.arrow2_bitmap.specs.Packed.{IsPacked};
 ghost use Rattle.arrow2_walks.specs.Selected.{non_null_values};
 ghost use Rattle.arrow2_model.specs.Storage.{items_of};
-ghost use Rattle.arrow2_types.specs.Refusals.{FailsOnlyWith};
+ghost use Rattle.arrow2_types.specs.Failures.{FailsOnlyWith};
 ghost use Rattle.arrow2_validity.specs.OptionalValidity.{valid_items};
-ghost use Rattle.arrow2_validity.specs.Refusals.{unequal_lengths_message};
+ghost use Rattle.arrow2_validity.specs.Failures.{unequal_lengths_message};
 ghost use Rattle.arrow2_walks.specs.Zipped.{zipped};
 ghost use Rattle.arrow2_datatypes.specs.Types.{of_primitive, physical};
 ghost use Rattle.arrow2_datatypes.specs.declared.physical_type.PhysicalType.TheVariants.{Primitive};
@@ -32,7 +32,7 @@ use std::marker::Model;
 use std::rc::Rc;
 use std::slice::Iter;
 
-/// An array of native values, each of which may be null.
+/// An array of nullable native values.
 ///
 /// Contracts see its logical type, its values and its validity. Slices and clones share all three. `primitive_items` is
 /// the list of its items.
@@ -466,7 +466,7 @@ pub(crate) fn native_type<T: NativeType>(
 /// Returns an error exactly if the physical type of `data_type` is not that of `T`.
 fn check_layout<T: NativeType>(alloc: Global, data_type: &DataType) -> Result<()>
     ensures ok { OnOk result (physical data_type.now ≡ Primitive T.PRIMITIVE) }
-    ensures refused { ¬ (physical data_type.now ≡ Primitive T.PRIMITIVE) →
+    ensures rejected { ¬ (physical data_type.now ≡ Primitive T.PRIMITIVE) →
         FailsOnlyWith result other_layout_message }
     ensures only { physical data_type.now ≡ Primitive T.PRIMITIVE → IsOk result }
 {

@@ -1,4 +1,4 @@
-//! Arrays of native values, each of which may be null: shared ones, and ones that grow.
+//! Arrays of nullable native values: shared ones, and ones that grow.
 #![tactic(auto)]
 
 mod array;

@@ -290,7 +290,7 @@ impl<T: NativeType> MutablePrimitiveArray<T> {
         self.push(None)
     }
 
-    /// Appends values, none of which is null. Within the capacity it does not allocate.
+    /// Appends values that are not null. Within the capacity it does not allocate.
     ///
     /// # Errors
     ///

@@ -75,15 +75,15 @@ own = numerals_by_value (AllDigits 10) tells_digits
 pub number_of-digits : (word : List ℕ) (r : Option ℕ) → 0 < length word → ¬ ((1 < length word) × (get_or word 0 0 ≡ 48))
     → IfSome r (λ n. AllDigits 10 word × (n ≡ digits_value 10 word)) → IfSome r (λ n. n < 2 ^ 64)
     → IfNone r (¬ (AllDigits 10 word × (digits_value 10 word < 2 ^ 64))) → r ≡ number_of word
-number_of-digits word (Some n) some plain parsed fits refused =
+number_of-digits word (Some n) some plain parsed fits rejected =
     let one : get_or word 0 0 ≡ 48 → length word ≡ 1 = λ e. let short : 1 < length word → ⊥ = λ l. plain (l, e) in omega (arith, short, some) in
     let small : digits_value 10 word < 2 ^ 64 = rw (← parsed.1) fits in
     let same = decimal-digits_value own word parsed.0 some one small in
     ap Some parsed.1 ∙ sym (ap number_of (sym same) ∙ number_of-decimal (digits_value 10 word) small)
-number_of-digits word None some plain parsed fits refused =
+number_of-digits word None some plain parsed fits rejected =
     sym (number_of-none word (λ n h e.
     let is = decimal_is_IsNumeral n h in
-    refused (rw e at is.0.1, let v : digits_value 10 word ≡ n = ap (digits_value 10) (sym e) ∙ is.1 in omega (arith, v, h))))
+    rejected (rw e at is.0.1, let v : digits_value 10 word ≡ n = ap (digits_value 10) (sym e) ∙ is.1 in omega (arith, v, h))))
 
 -- the word of a number below a bound
 pub below_of-decimal : (bound n : ℕ) → bound ≤ 2 ^ 64 → n < bound → below_of bound (decimal n) ≡ Some n

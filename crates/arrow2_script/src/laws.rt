@@ -1,4 +1,4 @@
-//! Laws of the script's grammar. The contract of each function is a law, and its body is empty.
+//! Laws of the script's grammar. Each is the contract of a function with an empty body.
 ghost use Rattle.std.specs.Prelude.{◌≡◌, ◌<◌, ◌≤◌, ◌^◌, ◌∷◌, [], ◌↔◌, ℕ, List, Bool, Option, Some, IfSome, length};
 ghost use Rattle.std.specs.Fmt.{decimal};
 ghost use Rattle.std.specs.List.{All};

@@ -37,8 +37,8 @@ module _ {T : Type 0} (max : ℕ) (old new : GrowingSlots) (values : List (List 
     byte_capacity = omega (arith, r.byte_capacity, g.byte_capacity);
   }
 
-  refused-by : (e : Error) → ReservesSlots {T = T} max (Err e) old new slots n → AppendsSlots {T = T} max (Err e) old new values valid bytes
-  refused-by e r = record {
+  failed-by : (e : Error) → ReservesSlots {T = T} max (Err e) old new slots n → AppendsSlots {T = T} max (Err e) old new values valid bytes
+  failed-by e r = record {
     same = r.same;
     ok_values = tt;
     ok_valid = tt;
@@ -55,7 +55,7 @@ module _ {T : Type 0} (max : ℕ) (old new : GrowingSlots) (values : List (List 
     byte_capacity = r.byte_capacity;
   }
 
-  -- and are not where it was refused
+  -- and are not where it failed
   pub not-appended : (e : Error) (r : Result T Error) → IsErr r × IsErrAnd r (λ y. y ≡ e) → ReservesSlots {T = T} max (Err e) old new slots n → AppendsSlots max r old new values valid bytes
   not-appended e (Ok q) h p = let never = h.0 in cc
-  not-appended e (Err y) h p = subst (λ z. AppendsSlots {T = T} max (Err z) old new values valid bytes) (sym h.1) (refused-by e p)
+  not-appended e (Err y) h p = subst (λ z. AppendsSlots {T = T} max (Err z) old new values valid bytes) (sym h.1) (failed-by e p)

@@ -94,18 +94,18 @@ pub made-type : (r : Result BinaryParts Error) {held all : DataType} → IfOk r 
 made-type (Ok a) h e = h ∙ e
 made-type (Err x) h e = tt
 
--- refused memory is no overflow
+-- out of memory is no overflow
 pub no-overflow : {U : Type 0} (r : Result U Error) → IfErr r (λ e. e ≡ OutOfMemory) → r ≡ Err Overflow → ⊥
 no-overflow (Ok u) only is = cc
 no-overflow (Err x) only is = cc
 
 -- what is returned is no error
-pub not-refused : {U : Type 0} (u : U) (e : Error) → Ok u ≡ Err e → ⊥
-not-refused u e is = cc
+pub not-failed : {U : Type 0} (u : U) (e : Error) → Ok u ≡ Err e → ⊥
+not-failed u e is = cc
 
-pub refused-memory : {U : Type 0} (r : Result U Error) → IfErr r (λ e. e ≡ OutOfMemory) → IfErr r (λ e. (e ≡ Overflow) ⊎ (e ≡ OutOfMemory))
-refused-memory (Ok u) only = tt
-refused-memory (Err x) only = inr only
+pub only-memory : {U : Type 0} (r : Result U Error) → IfErr r (λ e. e ≡ OutOfMemory) → IfErr r (λ e. (e ≡ Overflow) ⊎ (e ≡ OutOfMemory))
+only-memory (Ok u) only = tt
+only-memory (Err x) only = inr only
 
 -- how many bytes items have, by their references
 pub bytes-by_reference : (xs : List (Option (Bor (List ℕ)))) → sum (map (λ o. option_map_or length (option_copied o) 0) xs) ≡ bytes_of_items (items_by_bytes xs)

@@ -1,16 +1,13 @@
--- Growth by slots is growth by items; and what a builder's validity becomes.
-use Rattle.std.proofs.Common.{◌≡◌, ℕ, ◌+◌, ◌≤◌, List, [], ◌∷◌, ◌++◌, Bool, true, false, count_by, length, map, replicate, ap, subst, sym, refl, ◌∙◌, arith}
-use Rattle.std.specs.Prelude.{Option, Some, None, MatchOption, IsErr, IsErrAnd, Result, Ok, Err, ◌↔◌, IfSome, is_some, option_map}
+-- Growth by slots is growth by items; and whether a builder's validity becomes a bitmap.
+use Rattle.std.proofs.Common.{◌≡◌, ℕ, ◌+◌, ◌≤◌, List, [], ◌∷◌, ◌++◌, Bool, true, false, count_by, length, map, ap, subst, sym, refl, ◌∙◌, arith}
+use Rattle.std.specs.Prelude.{Option, Some, None, MatchOption, IsErr, IsErrAnd, Result, Ok, Err, ◌↔◌, is_some, option_map}
 use Rattle.std.proofs.lemmas.List.{map-append}
 use Rattle.std.specs.Option.{IsNone, is_none}
 use Rattle.arrow2_types.specs.declared.error.Error.{Error}
 use Rattle.arrow2_walks.specs.Zipped.{slot, zipped}
 use Rattle.arrow2_walks.proofs.Zipped.{length-zipped, append-zipped, nulls-zipped, push-zipped}
 use Rattle.arrow2_model.specs.Parts.{falses}
-use Rattle.arrow2_model.specs.Storage.{BitmapStorage, items_of}
-use Rattle.arrow2_validity.specs.OptionalValidity.{items_or_true}
-use Rattle.arrow2_validity.proofs.ValidItems.{items-none, items-some}
-use Rattle.arrow2_text.proofs.SlotLists.{all-true}
+use Rattle.arrow2_model.specs.Storage.{BitmapStorage}
 use Rattle.arrow2_validity.proofs.Slots.{known-zipped}
 use Rattle.arrow2_text.specs.Growth.{AppendsBinary, AppendsSlots, GrowingBinary, GrowingSlots, PopsBinary, PopsSlot, growing_binary}
 
@@ -48,11 +45,6 @@ module _ {T : Type 0} (max : ℕ) (old new : GrowingSlots) (values : List (List 
         capacity = a.capacity;
         byte_capacity = a.byte_capacity;
       }
-
--- what a builder's validity becomes
-pub known-validity : (n : ℕ) (vs : List Bool) (r : Option BitmapStorage) → n ≡ length vs → (IsNone r ↔ (falses vs ≡ 0)) → IfSome r (λ b. items_of b ≡ vs) → items_or_true n r ≡ vs
-known-validity n vs None e none some = items-none n ∙ (ap (λ k. replicate k true) e ∙ all-true vs (none.0 refl))
-known-validity n vs (Some b) e none some = items-some n b ∙ some
 
 -- where there is a bitmap, by how many items are null
 pub bitmap-there : (made known : Option BitmapStorage) (values : List (List ℕ)) (valid vs : List Bool) → length valid ≡ length values → valid ≡ vs → made ≡ known → (IsNone known ↔ (falses vs ≡ 0)) → (IsNone made ↔ (count_by is_none (zipped values valid) ≡ 0))
@@ -171,9 +163,9 @@ module _ {V U : Type 0} (f : V → List ℕ) (g : U → List ℕ) (old new : Gro
         empty = λ e. refl;
       }
 
-  -- and where it was refused
-  pub refused-as : (x : Error) → PopsBinary f (Err x) old new → PopsBinary g (Err x) old new
-  refused-as x p = record {
+  -- and where it failed
+  pub failed-as : (x : Error) → PopsBinary f (Err x) old new → PopsBinary g (Err x) old new
+  failed-as x p = record {
     last = tt;
     none = tt;
     bytes = tt;
@@ -187,6 +179,6 @@ module _ {V U : Type 0} (f : V → List ℕ) (g : U → List ℕ) (old new : Gro
     empty = p.empty;
   }
 
-  pub refused-through : (x : Error) (r : Result (Option (Option U)) Error) → IsErr r × IsErrAnd r (λ y. y ≡ x) → PopsBinary f (Err x) old new → PopsBinary g r old new
-  refused-through x (Ok q) h p = let never = h.0 in cc
-  refused-through x (Err y) h p = subst (λ z. PopsBinary g (Err z) old new) (sym h.1) (refused-as x p)
+  pub failed-through : (x : Error) (r : Result (Option (Option U)) Error) → IsErr r × IsErrAnd r (λ y. y ≡ x) → PopsBinary f (Err x) old new → PopsBinary g r old new
+  failed-through x (Ok q) h p = let never = h.0 in cc
+  failed-through x (Err y) h p = subst (λ z. PopsBinary g (Err z) old new) (sym h.1) (failed-as x p)

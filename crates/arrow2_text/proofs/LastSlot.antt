@@ -73,9 +73,9 @@ module _ {V : Type 0} (bytes_of : V → List ℕ) where
         empty = λ e. refl;
       }
 
-  refused-slot : (old : GrowingSlots) (e : Error) (last : ℕ) → length old.valid ≡ length old.values → last + 1 ≡ length old.valid → e ≡ OutOfMemory
+  failed-slot : (old : GrowingSlots) (e : Error) (last : ℕ) → length old.valid ≡ length old.values → last + 1 ≡ length old.valid → e ≡ OutOfMemory
       → (get_or old.valid last false ≡ false → false ≡ true) → PopsSlot bytes_of (Err e) old old
-  refused-slot old e last same h memory succeeds = record {
+  failed-slot old e last same h memory succeeds = record {
     same = same;
     same_left = same;
     some = tt;
@@ -95,7 +95,7 @@ module _ {V : Type 0} (bytes_of : V → List ℕ) where
   pub not-popped : (old : GrowingSlots) (e : Error) (r : Result (Option (Option V)) Error) (last : ℕ) → IsErr r × IsErrAnd r (λ y. y ≡ e) → length old.valid ≡ length old.values → last + 1 ≡ length old.valid → e ≡ OutOfMemory
       → (get_or old.valid last false ≡ false → false ≡ true) → PopsSlot bytes_of r old old
   not-popped old e (Ok q) last is same h memory succeeds = let never = is.0 in cc
-  not-popped old e (Err y) last is same h memory succeeds = subst (λ z. PopsSlot bytes_of (Err z) old old) (sym is.1) (refused-slot old e last same h memory succeeds)
+  not-popped old e (Err y) last is same h memory succeeds = subst (λ z. PopsSlot bytes_of (Err z) old old) (sym is.1) (failed-slot old e last same h memory succeeds)
 
 last-is : {X : Type 0} (front : List X) (x d : X) (xs : List X) → xs ≡ front ++ x ∷ [] → get_or xs (length front) d ≡ x
 last-is front x d xs e = ap (λ l. get_or l (length front) d) e ∙ get_or-append_seam front x [] d

@@ -5,7 +5,7 @@ use Rattle.std.proofs.Math.Seq.{take-append_seam}
 use Rattle.std.proofs.lemmas.List.{length-append}
 use Rattle.arrow2_types.specs.declared.error.Error.{Error}
 use Rattle.arrow2_types.specs.declared.error.Error.TheVariants.{Overflow, OutOfMemory}
-use Rattle.arrow2_types.specs.Refusals.{error_of}
+use Rattle.arrow2_types.specs.Failures.{error_of}
 use Rattle.arrow2_datatypes.specs.declared.DataType.{DataType}
 use Rattle.arrow2_offset.specs.Growth.{Grows}
 use Rattle.arrow2_offset.specs.Nested.{cut}
@@ -49,10 +49,10 @@ module _ {T : Type 0} (max : ℕ) (d : DataType) (o p : GrowingOffsets) (xs valu
         byte_capacity = more-bytes;
       }
 
-  -- the offsets refuse
-  refused-by : (e : Error) → Grows {T = T} error_of (Err e) o p (length value ∷ []) (last_of_growing o + sum (length value ∷ [])) max → length vs + 1 < 2 ^ 64 → last_of_growing o ≤ max
+  -- the offsets return an error
+  failed-by : (e : Error) → Grows {T = T} error_of (Err e) o p (length value ∷ []) (last_of_growing o + sum (length value ∷ [])) max → length vs + 1 < 2 ^ 64 → last_of_growing o ≤ max
       → AppendsSlots {T = T} max (Err e) (slots_of d o xs vs c b) (slots_of d p xs vs c b) (value ∷ []) (v ∷ []) (length value)
-  refused-by e g counted fits =
+  failed-by e g counted fits =
       let slots = length-cut xs o.lengths in
       record {
         same = omega (arith, same_length, slots);
@@ -74,9 +74,9 @@ module _ {T : Type 0} (max : ℕ) (d : DataType) (o p : GrowingOffsets) (xs valu
   pub not-pushed : (e : Error) (r : Result T Error) → IsErr r × IsErrAnd r (λ y. y ≡ e) → Grows {T = T} error_of (Err e) o p (length value ∷ []) (last_of_growing o + sum (length value ∷ [])) max → length vs + 1 < 2 ^ 64 → last_of_growing o ≤ max
       → AppendsSlots max r (slots_of d o xs vs c b) (slots_of d p xs vs c b) (value ∷ []) (v ∷ []) (length value)
   not-pushed e (Ok q) h g counted fits = let never = h.0 in cc
-  not-pushed e (Err y) h g counted fits = subst (λ z. AppendsSlots {T = T} max (Err z) (slots_of d o xs vs c b) (slots_of d p xs vs c b) (value ∷ []) (v ∷ []) (length value)) (sym h.1) (refused-by e g counted fits)
+  not-pushed e (Err y) h g counted fits = subst (λ z. AppendsSlots {T = T} max (Err z) (slots_of d o xs vs c b) (slots_of d p xs vs c b) (value ∷ []) (v ∷ []) (length value)) (sym h.1) (failed-by e g counted fits)
 
-  -- the offsets have grown, bytes or validity refuse, and the offset is taken back
+  -- the offsets have grown, bytes or validity return an error, and the offset is taken back
   pub taken-back : (r : Result T Error) (t : T) (q : GrowingOffsets) (ys : List ℕ) (ws : List Bool) (e f : ℕ) → is_err r ≡ true → Grows error_of (Ok t) o p (length value ∷ []) (last_of_growing o + sum (length value ∷ [])) max → q.lengths ≡ take (length p.lengths - 1) p.lengths → q.capacity ≡ p.capacity → OnErr r (ys ≡ xs) → OnErr r (ws ≡ vs)
       → IfErr r (λ y. y ≡ OutOfMemory) → (length vs < c → length xs + length value ≤ b → IsOk r) → length vs + 1 < 2 ^ 64 → c ≤ e → b ≤ f
       → AppendsSlots max r (slots_of d o xs vs c b) (slots_of d q ys ws e f) (value ∷ []) (v ∷ []) (length value)

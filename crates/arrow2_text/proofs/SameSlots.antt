@@ -14,7 +14,7 @@ use Rattle.arrow2_walks.specs.Selected.{selected, non_null_values}
 use Rattle.arrow2_walks.proofs.Selected.{selected-runs, non_null_values-zipped}
 use Rattle.arrow2_walks.specs.Zipped.{zipped}
 use Rattle.arrow2_walks.proofs.Zipped.{nulls-zipped}
-use Rattle.arrow2_text.proofs.SlotLists.{all-true}
+use Rattle.arrow2_model.proofs.Counts.{falses-none}
 
 module _ {X : Type 0} where
   heads : (x y : X) (xs ys : List X) → x ∷ xs ≡ y ∷ ys → x ≡ y
@@ -124,7 +124,7 @@ module _ {X : Type 0} where
       count xs vs us e g is = ap (count_by is_none) (sym is) ∙ nulls-zipped xs vs (omega (arith, e, g))
 
       whole : (vs : List Bool) → n ≡ length vs → falses vs ≡ 0 → vs ≡ replicate n true
-      whole vs g valid = sym (all-true vs valid) ∙ ap (λ k. replicate k true) (sym g)
+      whole vs g valid = falses-none vs valid ∙ ap (λ k. replicate k true) (sym g)
 
       no-false : (k : ℕ) → falses (replicate k true) ≡ 0
       no-false zero = refl

@@ -1,13 +1,13 @@
 -- Slots between offsets with their validity.
-use Rattle.std.proofs.Common.{◌≡◌, ℕ, ℤ, ◌+◌, ◌≤◌, List, [], ◌∷◌, ◌++◌, Bool, true, false, not, cond, get_or, length, sum, count_by, take, drop, replicate, refl, ap, sym, ◌∙◌, arith}
+use Rattle.std.proofs.Common.{◌≡◌, ℕ, ℤ, ◌+◌, ◌≤◌, List, [], ◌∷◌, ◌++◌, Bool, false, get_or, length, sum, count_by, take, drop, ap, sym, ◌∙◌, arith}
 use Rattle.std.proofs.Math.Nat.{min-le_left, min-le_right, le-min}
 use Rattle.std.proofs.lemmas.List.{length-append, length-drop, length-take, take_all, take_more, take-append-drop}
-use Rattle.std.proofs.lemmas.List.Sums.{sum_by-cons, sum_by-append}
+use Rattle.std.proofs.lemmas.List.Sums.{sum_by-append}
 use Rattle.std.proofs.Math.Seq.{get_or-append_seam, take-add, take-length}
 use Rattle.std.specs.Prelude.{IfSome, Option, Some, None, MatchOption, ◌↔◌}
 use Rattle.std.specs.Option.{IsNone, is_none}
 use Rattle.arrow2_model.specs.Buffers.{BufferStorage, buffer_items, whole_buffer}
-use Rattle.arrow2_model.specs.Parts.{falses, part}
+use Rattle.arrow2_model.specs.Parts.{part}
 use Rattle.arrow2_model.specs.Storage.{BitmapStorage, items_of}
 use Rattle.arrow2_bitmap.specs.Packed.{IsPacked, packed_storage}
 use Rattle.arrow2_offset.specs.Nested.{cut}
@@ -19,16 +19,6 @@ use Rattle.arrow2_walks.specs.Zipped.{zipped}
 use Rattle.arrow2_walks.proofs.Zipped.{length-zipped}
 use Rattle.arrow2_validity.proofs.Slots.{arrays}
 use Rattle.arrow2_text.specs.Binary.{BinaryParts, IsCompact, binary_items}
-
--- where none is false all are true
-pub all-true : (vs : List Bool) → falses vs ≡ 0 → replicate (length vs) true ≡ vs
-all-true [] h = refl
-all-true (true ∷ vs) h =
-    let b = sum_by-cons (λ v. cond (not v) 1 0) true vs in
-    ap (λ l. true ∷ l) (all-true vs (omega (arith, b, h)))
-all-true (false ∷ vs) h =
-    let b = sum_by-cons (λ v. cond (not v) 1 0) false vs in
-    absurd (omega (arith, b, h))
 
 -- slots of others after them, by the bytes that these span
 pub append-slots : {X : Type 0} (xs ys : List X) (start a k n : ℕ) (ns ms : List ℕ) → sum ns ≡ length xs → n ≡ sum (part ms a k) → cut (xs ++ part ys (start + sum (take a ms)) n) (ns ++ part ms a k) ≡ cut xs ns ++ part (cut (drop start ys) ms) a k

@@ -2,4 +2,4 @@ pub mod AllTexts
 pub mod ArrayTexts
 pub mod Binary
 pub mod Growth
-pub mod Refusals
+pub mod Failures

@@ -1,4 +1,4 @@
-//! An array of byte strings, each of which may be null.
+//! An array of nullable byte strings.
 ghost use Rattle.std.specs.Prelude.{◌≡◌, ◌+◌, ◌<◌, ◌≤◌, ◌↔◌, ◌⊎◌, [], None, Some, true, length, map, count_by, replicate, slice_index_or, sum, IsErrOf, IsNone, IfErr, IfOk, IsTrue, MatchOption, option_map, ⊤, IsOk};
 ghost use Rattle.std.specs.Option.{is_none, is_some, option_copied};
 ghost use Rattle.either.specs.Either.{MatchEither};
@@ -9,14 +9,14 @@ ghost use Rattle.arrow2_walks.specs.Zipped.{zipped};
 ghost use Rattle.arrow2_offset.specs.Offsets.{last_of};
 ghost use Rattle.arrow2_validity.specs.OptionalValidity.{valid_items};
 ghost use Rattle.arrow2_datatypes.specs.Types.{physical};
-ghost use Rattle.arrow2_types.specs.Refusals.{FailsOnlyWith};
+ghost use Rattle.arrow2_types.specs.Failures.{FailsOnlyWith};
 ghost use Rattle.arrow2_text.specs.Binary.{HasBitPerSlot, binary_items, binary_layout, binary_of, binary_values, default_binary, sliced_binary, slots_between, IsCompact, IsUnsliced, IsWhole};
 ghost use Rattle.arrow2_text.specs.Growth.{bytes_of_items, items_by_bytes};
-ghost use Rattle.arrow2_text.specs.Refusals.{RefusesParts, other_binary_layout_message, past_the_values_message};
+ghost use Rattle.arrow2_text.specs.Failures.{RejectsParts, other_binary_layout_message, past_the_values_message};
 
+use crate::checks::{binary_type, check_binary};
 use crate::iterator::BinaryIter;
 use crate::mutable_binary::MutableBinaryArray;
-use crate::refusals::{binary_type, check_binary};
 use crate::slots::Slots;
 use arrow2_bitmap::Bitmap;
 use arrow2_buffer::Buffer;
@@ -30,7 +30,7 @@ use std::alloc::{AllocError, Global};
 use std::marker::Model;
 use std::rc::Rc;
 
-/// An array of byte strings, each of which may be null: offsets cut one buffer of bytes into slots.
+/// An array of nullable byte strings: offsets cut one buffer of bytes into slots.
 ///
 /// Contracts see its logical type, its offsets, its bytes and its validity. Slices and clones share all four.
 /// `binary_items` is the list of its items, in which an item is a list of bytes or null.
@@ -65,8 +65,8 @@ impl<O: Offset> BinaryArray<O> {
     ///
     /// # Errors
     ///
-    /// `InvalidArgumentError`, or `OutOfMemory` (in the code only if the message cannot be allocated), exactly if one of
-    /// these holds. The message is that of the first that holds:
+    /// `InvalidArgumentError`, or `OutOfMemory` (in the code only if the message cannot be allocated), exactly if one
+    /// of these holds. The message is that of the first that holds:
     ///
     /// - the last offset is past the values;
     /// - the validity has another length than the number of slots;
@@ -84,7 +84,7 @@ impl<O: Offset> BinaryArray<O> {
         // The last offset is checked first.
         ensures past { length (buffer_items values) < last_of (buffer_items offsets) →
             FailsOnlyWith result past_the_values_message }
-        ensures refusals { RefusesParts result offsets validity
+        ensures rejected { RejectsParts result offsets validity
             (last_of (buffer_items offsets) ≤ length (buffer_items values))
             (physical data_type ≡ binary_layout O.IS_LARGE) other_binary_layout_message }
     {

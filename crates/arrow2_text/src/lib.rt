@@ -1,14 +1,14 @@
-//! Arrays of byte strings and of texts, each of which may be null: shared ones, and ones that grow.
+//! Arrays of nullable byte strings and texts: shared ones, and ones that grow.
 #![tactic(auto)]
 
 mod binary;
+mod checks;
 mod equal;
 mod fmt;
 mod growing;
 mod iterator;
 mod mutable_binary;
 mod mutable_utf8;
-mod refusals;
 mod slots;
 mod utf8;
 

@@ -10,8 +10,8 @@ ghost use Rattle.arrow2_text.specs.Growth.{AppendsBinary, MayYieldPastOffset, Po
 ghost use Rattle.arrow2_model.specs.Buffers.{buffer_items};
 
 use crate::binary::BinaryArray;
+use crate::checks::binary_type;
 use crate::growing::Growing;
-use crate::refusals::binary_type;
 use arrow2_datatypes::DataType;
 use arrow2_index::Offset;
 use arrow2_types::{Error, Result};

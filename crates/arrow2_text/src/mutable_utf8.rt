@@ -11,8 +11,8 @@ ghost use Rattle.arrow2_text.specs.AllTexts.{AreUtf8};
 ghost use Rattle.arrow2_text.specs.Growth.{AppendsBinary, MayYieldPastOffset, PopsBinary, growing_binary, items_by_bytes, HasItems};
 ghost use Rattle.arrow2_model.specs.Buffers.{buffer_items};
 
+use crate::checks::text_type;
 use crate::growing::Growing;
-use crate::refusals::text_type;
 use crate::utf8::Utf8Array;
 use arrow2_datatypes::DataType;
 use arrow2_index::Offset;

@@ -223,15 +223,15 @@ impl<O: Offset> Slots<O> {
         }
     }
 
-    /// Returns whether the slots whose bits are set have the same bytes in both. Requires that there are as many bits
-    /// as either has slots.
+    /// Returns whether the slots whose bits are set have the same bytes in both. Requires that `valid` has a bit for each slot
+    /// of either.
     fn same_runs(&self, other: &Slots<O>, valid: &Bitmap) -> bool
         requires mine { length (items_of valid.now) ≡ length (binary_items self.now) }
         requires others { length (items_of valid.now) ≡ length (binary_items other.now) }
         ensures { Decides result (zipped (binary_values self.now) (items_of valid.now)
             ≡ zipped (binary_values other.now) (items_of valid.now)) }
     {
-        // For the proof alone: reading the lengths brings that there are as many values as items.
+        // For the proof alone: reading the lengths brings that each item has a value.
         let _ = (self.len(), other.len());
         laws::runs_lie_inside();
         for (start, len) in SlicesIterator::new(valid) {
@@ -262,7 +262,7 @@ impl<O: Offset> Slots<O> {
         ensures { Decides result (part (lengths_of (buffer_items self.now.offsets)) start len
             ≡ part (lengths_of (buffer_items other.now.offsets)) start len) }
     {
-        // For the proof alone: reading the lengths brings that there are as many lengths of slots as items.
+        // For the proof alone: reading the lengths brings that each item has the length of a slot.
         let _ = (self.len(), other.len());
         for index in start..start + len {
             let (from, to) = self.offsets.start_end(index);

@@ -1,4 +1,4 @@
-//! An array of texts, each of which may be null.
+//! An array of nullable texts.
 ghost use Rattle.std.specs.Prelude.{◌≡◌, ◌+◌, ◌<◌, ◌≤◌, ◌↔◌, ◌⊎◌, [], None, Some, true, length, map, count_by, replicate, slice_index_or, sum, IsErrOf, IsNone, IfErr, IfOk, IsTrue, MatchOption, option_map, ⊤, IsOk};
 ghost use Rattle.std.specs.Option.{is_none, is_some, option_copied};
 ghost use Rattle.either.specs.Either.{MatchEither};
@@ -10,15 +10,15 @@ ghost use Rattle.arrow2_offset.specs.Offsets.{last_of};
 ghost use Rattle.arrow2_validity.specs.OptionalValidity.{valid_items};
 ghost use Rattle.arrow2_datatypes.specs.Types.{physical};
 ghost use Rattle.arrow2_utf8.specs.Texts.{AreTexts};
-ghost use Rattle.arrow2_types.specs.Refusals.{FailsOnlyWith};
+ghost use Rattle.arrow2_types.specs.Failures.{FailsOnlyWith};
 ghost use Rattle.arrow2_text.specs.Binary.{HasBitPerSlot, binary_items, binary_of, binary_values, default_binary, default_text, sliced_binary, slots_between, text_layout, IsCompact, IsUnsliced, IsWhole};
 ghost use Rattle.arrow2_text.specs.Growth.{bytes_of_items, items_by_bytes};
-ghost use Rattle.arrow2_text.specs.Refusals.{RefusesParts, not_utf8, other_text_layout_message, past_the_values_message};
+ghost use Rattle.arrow2_text.specs.Failures.{RejectsParts, not_utf8, other_text_layout_message, past_the_values_message};
 
 use crate::binary::BinaryArray;
+use crate::checks::{binary_type, check_utf8, text_type};
 use crate::iterator::Utf8Iter;
 use crate::mutable_utf8::MutableUtf8Array;
-use crate::refusals::{binary_type, check_utf8, text_type};
 use crate::slots::Slots;
 use arrow2_bitmap::Bitmap;
 use arrow2_buffer::Buffer;
@@ -33,7 +33,7 @@ use std::marker::Model;
 use std::rc::Rc;
 use std::str;
 
-/// An array of texts, each of which may be null: offsets cut one buffer of bytes into slots. Each slot is UTF-8, also
+/// An array of nullable texts: offsets cut one buffer of bytes into slots. Each slot is UTF-8, also
 /// under a null.
 ///
 /// Contracts see its logical type, its offsets, its bytes and its validity. Slices and clones share all four.
@@ -84,8 +84,8 @@ impl<O: Offset> Utf8Array<O> {
     ///
     /// # Errors
     ///
-    /// `InvalidArgumentError`, or `OutOfMemory` (in the code only if the message cannot be allocated), exactly if one of
-    /// these holds. The message is that of the first that holds:
+    /// `InvalidArgumentError`, or `OutOfMemory` (in the code only if the message cannot be allocated), exactly if one
+    /// of these holds. The message is that of the first that holds:
     ///
     /// - the last offset is past the values;
     /// - a slot is not UTF-8: also a slot under a null, and a slot that begins inside a character;
@@ -105,7 +105,7 @@ impl<O: Offset> Utf8Array<O> {
             FailsOnlyWith result past_the_values_message }
         ensures broken { last_of (buffer_items offsets) ≤ length (buffer_items values) →
             ¬ AreTexts (buffer_items offsets) (buffer_items values) → FailsOnlyWith result not_utf8 }
-        ensures refusals { RefusesParts result offsets validity
+        ensures rejected { RejectsParts result offsets validity
             (AreTexts (buffer_items offsets) (buffer_items values))
             (physical data_type ≡ text_layout O.IS_LARGE) other_text_layout_message }
     {

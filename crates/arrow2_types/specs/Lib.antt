@@ -1,2 +1,2 @@
 pub mod ErrorTexts
-pub mod Refusals
+pub mod Failures

@@ -7,7 +7,7 @@ use std::str::Utf8Error;
 use std::string::{FromUtf8Error, ToString};
 use std::{fmt, io};
 
-/// Why a call was refused.
+/// Why a call failed.
 ///
 /// Differs from arrow2: `External` holds a text instead of a boxed error, `OutOfMemory` replaces an abort, and
 /// `Overflow` means overflow alone.

@@ -1,6 +1,6 @@
 //! Why a value does not grow, in one byte.
 ghost use Rattle.std.specs.Prelude.{◌≡◌};
-ghost use Rattle.arrow2_types.specs.Refusals.{error_of};
+ghost use Rattle.arrow2_types.specs.Failures.{error_of};
 ghost use Rattle.arrow2_types.specs.declared.growth_error.GrowthError.TheVariants.{OutOfMemory};
 
 use crate::error::Error;

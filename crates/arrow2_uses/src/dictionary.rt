@@ -4,7 +4,7 @@ ghost use Rattle.std.specs.Option.{option_copied};
 ghost use Rattle.arrow2.specs.Binary.{binary_items};
 ghost use Rattle.arrow2.specs.Parts.{part};
 ghost use Rattle.arrow2.specs.Primitive.{primitive_items};
-ghost use Rattle.arrow2.specs.Refusals.{FailsOnlyWith, IsInvalidArgumentOrOutOfMemory};
+ghost use Rattle.arrow2.specs.Failures.{FailsOnlyWith, IsInvalidArgumentOrOutOfMemory};
 ghost use Rattle.arrow2.specs.Selected.{selected};
 ghost use Rattle.arrow2.specs.Storage.{items_of};
 ghost use Rattle.arrow2.specs.Take.{IsInBoundsOrNull, item_at};
@@ -16,8 +16,8 @@ use arrow2::error::{Error, Result};
 use std::alloc::Global;
 use std::marker::Model;
 
-/// Texts that repeat, where each need be stored only once: contracts see the list of the items, each `None` or the
-/// bytes of its text.
+/// A column of texts that needs to store a repeated text only once. Contracts see the list of its items, each `None`
+/// or the bytes of a text.
 #[derive(Drop)]
 pub struct Dictionary {
     keys: PrimitiveArray<u32>,
@@ -40,8 +40,8 @@ impl Model for Dictionary {
 
 #[tactic(auto, using(arrow2::proofs::Keys::keys))]
 impl Dictionary {
-    /// Returns the column of the texts at these keys, null where the key is null. Requires that each key is null or
-    /// below the number of texts.
+    /// Returns the column of the texts at these keys, null where the key or its text is null. Requires that each key
+    /// is null or below the number of texts.
     pub fn new(keys: PrimitiveArray<u32>, texts: Utf8Array<i32>) -> Dictionary
         requires inside { All (IsInBoundsOrNull (λ key. pos key) (length (binary_items texts)))
             (primitive_items keys) }
@@ -50,19 +50,19 @@ impl Dictionary {
         Dictionary { keys, texts }
     }
 
-    /// Returns the column of the texts at these keys, null where the key is null.
+    /// Returns the column of the texts at these keys, null where the key or its text is null.
     ///
     /// # Errors
     ///
-    /// Exactly if a key is neither null nor below the number of texts. The error is `InvalidArgumentError`, or
-    /// `OutOfMemory`. The code returns `OutOfMemory` only if the message of `InvalidArgumentError` cannot be allocated;
-    /// no clause states that.
+    /// Returns an error exactly if a key is neither null nor below the number of texts. The error is
+    /// `InvalidArgumentError`, or `OutOfMemory`. The code returns `OutOfMemory` only if the message of
+    /// `InvalidArgumentError` cannot be allocated; no clause states that.
     pub fn try_new(keys: PrimitiveArray<u32>, texts: Utf8Array<i32>) -> Result<Dictionary>
         ensures accepted { IsOk result ↔ All (IsInBoundsOrNull (λ key. pos key) (length (binary_items texts)))
             (primitive_items keys) }
         ensures ok { IfOk result (λ d. d
             ≡ map (item_at (λ key. pos key) (binary_items texts)) (primitive_items keys)) }
-        ensures refused { FailsOnlyWith result (codes "key out of bounds") }
+        ensures rejected { FailsOnlyWith result (codes "key out of bounds") }
     {
         if !are_in_bounds(&keys, texts.len()) {
             return Err(out_of_bounds(texts.values().allocator()));
@@ -142,7 +142,7 @@ fn is_in_bounds(key: Option<u32>, len: usize) -> bool
     }
 }
 
-/// Returns the error that refuses a key.
+/// Returns the error for a key.
 fn out_of_bounds(alloc: Global) -> Error
     ensures { IsInvalidArgumentOrOutOfMemory result (codes "key out of bounds") }
 {

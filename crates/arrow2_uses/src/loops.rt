@@ -17,15 +17,15 @@ use std::convert::TryFrom;
 /// # Errors
 ///
 /// `Overflow` or `OutOfMemory`.
-pub fn turned(alloc: Global, b: &Bitmap) -> Result<Bitmap>
+pub fn negated(alloc: Global, b: &Bitmap) -> Result<Bitmap>
     ensures items { IfOk result (λ r. items_of r ≡ map not (items_of b.now)) }
     ensures only { IfErr result (λ e. (e ≡ Error.Overflow) ⊎ (e ≡ Error.OutOfMemory)) }
 {
-    let mut turned = MutableBitmap::with_capacity(alloc, b.len())?;
+    let mut negated = MutableBitmap::with_capacity(alloc, b.len())?;
     for item in b.iter() {
-        turned.push(!item)?;
+        negated.push(!item)?;
     }
-    Bitmap::try_from(turned)
+    Bitmap::try_from(negated)
 }
 
 /// Returns the number of true items, counted word by word.

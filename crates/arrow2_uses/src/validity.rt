@@ -40,7 +40,7 @@ pub fn nulls_by_halves(validity: &Bitmap) -> usize
     validity.null_count_range(0, middle) + validity.null_count_range(middle, rest)
 }
 
-/// Returns the validity of three items, of which only the middle one is null. The items of literal bytes are computed
+/// Returns the validity of three items. Only the middle one is null. The items of literal bytes are computed
 /// by `unfolding`.
 ///
 /// # Errors

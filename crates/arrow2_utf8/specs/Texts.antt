@@ -2,7 +2,7 @@
 use Rattle.std.specs.Prelude.{◌≡◌, ℕ, ◌<◌, ◌≤◌, ℤ, List, [], length, take, drop, slice_index_or, All, IsUtf8}
 use Rattle.arrow2_offset.specs.Nested.{cut}
 use Rattle.arrow2_offset.specs.Offsets.{AreOffsets, start_of, lengths_of, last_of}
-use Rattle.arrow2_offset.specs.Refusals.{first_broken}
+use Rattle.arrow2_offset.specs.Failures.{first_broken}
 use Rattle.arrow2_utf8.specs.declared.specification.BrokenTexts.{BrokenTexts}
 use Rattle.arrow2_utf8.specs.declared.specification.BrokenTexts.TheVariants.{PastTheValues, NotUtf8}
 use Rattle.arrow2_utf8.specs.declared.specification.BrokenTextArray.{BrokenTextArray}

@@ -1,3 +1,3 @@
 pub mod OptionalValidity
-pub mod Refusals
+pub mod Failures
 pub mod ItemTexts

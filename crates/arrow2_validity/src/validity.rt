@@ -6,9 +6,9 @@ ghost use Rattle.arrow2_model.specs.Parts.{falses, part};
 ghost use Rattle.arrow2_model.specs.Storage.{items_of};
 ghost use Rattle.arrow2_model.specs.Tables.{each};
 ghost use Rattle.arrow2_packed_bits.specs.Growth.{Appends};
-ghost use Rattle.arrow2_types.specs.Refusals.{FailsOnlyWith, error_of};
+ghost use Rattle.arrow2_types.specs.Failures.{FailsOnlyWith, error_of};
 ghost use Rattle.arrow2_validity.specs.OptionalValidity.{OptionalValidity, valid_items, sliced_validity};
-ghost use Rattle.arrow2_validity.specs.Refusals.{unequal_lengths_message};
+ghost use Rattle.arrow2_validity.specs.Failures.{unequal_lengths_message};
 
 use arrow2_bitmap::bitmap_ops::and;
 use arrow2_bitmap::{Bitmap, MutableBitmap};
@@ -71,7 +71,7 @@ impl Validity {
         ensures ok { IfOk result (λ v. v ≡ record { len = len; bitmap = bitmap }) }
         ensures len { IfOk result (λ v. length (valid_items v) ≡ len) }
         ensures accepted { IsOk result ↔ ForSome bitmap (λ b. length (items_of b) ≡ len) }
-        ensures refused { ForSome bitmap (λ b.
+        ensures rejected { ForSome bitmap (λ b.
             FailsOnlyWith result (unequal_lengths_message (length (items_of b)) len)) }
     {
         if let Some(bitmap) = &bitmap {
@@ -262,18 +262,18 @@ fn append_part(bitmap: &Bitmap, start: usize, len: usize, grown: &mut MutableBit
 /// allocated.
 pub fn check_same_length(values: usize, validity: &Bitmap) -> Result<()>
     ensures accepted { IsOk result ↔ (length (items_of validity.now) ≡ values) }
-    ensures refused { FailsOnlyWith result (unequal_lengths_message (length (items_of validity.now)) values) }
+    ensures rejected { FailsOnlyWith result (unequal_lengths_message (length (items_of validity.now)) values) }
 {
     if validity.len() != values {
-        let text = refusal(validity.allocator(), validity.len(), values)?;
+        let text = message(validity.allocator(), validity.len(), values)?;
         return Err(Error::InvalidArgumentError(text));
     }
     Ok(())
 }
 
-/// Returns the message that refuses a validity of this length for `values` values.
-#[tactic(auto, unfolding(crate::specs::Refusals::unequal_lengths_message))]
-fn refusal(alloc: Global, validity: usize, values: usize) -> std::result::Result<String, AllocError>
+/// Returns the message for a validity of this length, for `values` values.
+#[tactic(auto, unfolding(crate::specs::Failures::unequal_lengths_message))]
+fn message(alloc: Global, validity: usize, values: usize) -> std::result::Result<String, AllocError>
     ensures { IfOk result (λ text. string_bytes text ≡ unequal_lengths_message validity values) }
 {
     format!(in alloc;

@@ -10,7 +10,8 @@ pub record IsFirst (items : List Bool) (offset at end : ℕ) (value : Bool) (p :
   pub others : (k : ℕ) → at ≤ k → k < p → get_or items (offset + k) false ≡ not value
   pub there : p < end → get_or items (offset + p) false ≡ value
 
--- the lowest `buffered` bits of a word are those from index `at` on, counted from bit `offset` on, and none is past `end`
+-- the lowest `buffered` bits of a word are those from index `at` on, counted from bit `offset` on, and none is past
+-- `end`
 pub record IsRead (items : List Bool) (offset end at word buffered : ℕ) : Type 0 where
   pub few : buffered ≤ 64
   pub within : at + buffered ≤ end

@@ -34,7 +34,8 @@ HasEqualLengths rest valid s = length (rest (values_of s)) ≡ length (valid (va
 abbrev pub MayHaveEqualLengths : {S T A : Type 0} → (S → List A) → (T → List Bool) → ZipValidity S T → Type 0
 MayHaveEqualLengths rest valid s = MatchZip s (λ _. Unit {0}) (HasEqualLengths rest valid)
 
--- where P holds for a state, each step of `steps` from this state is also one of `like`, and P holds for the state after it
+-- where P holds for a state, each step of `steps` from this state is also one of `like`, and P holds for the state
+-- after it
 abbrev pub StepsAlike : {S R : Type 0} → (S → Type 0) → (S → R → S → Type 0) → (S → R → S → Type 0) → Type 0
 StepsAlike {S} {R} P steps like = (s t : S) (r : R) → P s → steps s r t → like s r t × P t
 

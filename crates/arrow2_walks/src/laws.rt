@@ -1,4 +1,4 @@
-//! Laws of the iterators. The contract of each function is a law, and its body is empty.
+//! Laws of the iterators. Each is the contract of a function with an empty body.
 ghost use Rattle.std.specs.Prelude.{◌≡◌, ◌↔◌, ℕ, ◌+◌, ◌<◌, ◌≤◌, All, Bool, List, false, get_or, length, slice_index_or, true};
 ghost use Rattle.std.specs.List.{sum_by, flat_map};
 ghost use Rattle.arrow2_model.specs.Parts.{falses, part};

@@ -99,7 +99,7 @@ impl Pieces {
         ensures joined { joined self.new.pieces ≡ joined self.old.pieces }
         ensures bound { let n = length (joined self.old.pieces) in
             8 * self.new.reads ≤ 2 * (n * lg n) + 30 * (length self.new.pieces - 1) }
-        // A cut that is refused changes and counts nothing.
+        // A cut that fails changes and counts nothing.
         ensures err { OnErr result (self.new ≡ self.old) }
         ensures only { IfErr result (λ e. e ≡ Error.OutOfMemory) }
     {
@@ -119,7 +119,7 @@ fn cut_in_two(bitmaps: &mut Vec<Bitmap>, p: usize, i: usize, reads: &mut Reads) 
     // Where the budget of reads held, it holds afterwards, also after an error.
     ensures paid { IsWithinBudget (map piece_of bitmaps.old.items) reads.old →
         IsWithinBudget (map piece_of bitmaps.new.items) reads.new }
-    // A cut that is refused changes and counts nothing.
+    // A cut that fails changes and counts nothing.
     ensures err { OnErr result (bitmaps.new.items ≡ bitmaps.old.items) }
     ensures uncounted { OnErr result (reads.new ≡ reads.old) }
     ensures only { IfErr result (λ e. e ≡ Error.OutOfMemory) }

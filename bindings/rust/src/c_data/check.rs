@@ -30,12 +30,12 @@ pub enum Broken {
     Released,
     /// A length, an offset, or a number of buffers or children is negative, or length + offset is above 2^63 - 1.
     Negative,
-    /// The check does not know the format, and refuses the array.
+    /// The check does not know the format, and rejects the array.
     Format,
     /// The number of buffers is not the one that the format requires.
     Buffers,
     /// The number of children of the array or of the schema is not the one that the format requires, the two differ, or
-    /// the child of a map is not a struct of two children.
+    /// the schema of the child of a map is not that of a struct of two children.
     Children,
     /// A child has fewer items than its parent needs.
     ShortChild,
@@ -130,7 +130,7 @@ impl fmt::Display for Path {
 
 /// The rule that an array breaks, and where.
 #[derive(Clone, Debug, PartialEq, Eq)]
-pub struct Refused {
+pub struct Rejected {
     /// The rule.
     pub broken: Broken,
     /// Where the array is in the tree.
@@ -140,14 +140,14 @@ pub struct Refused {
     pub slot: Option<usize>,
 }
 
-impl fmt::Display for Refused {
+impl fmt::Display for Rejected {
     fn fmt(&self, f: &mut fmt::Formatter<'_>) -> fmt::Result {
         write!(f, "\"{}\": {}", self.path, self.broken)?;
         self.slot.map_or(Ok(()), |slot| write!(f, " at slot {slot}"))
     }
 }
 
-impl core::error::Error for Refused {}
+impl core::error::Error for Rejected {}
 
 /// A rule that is broken, and the slot.
 struct Fault(Broken, Option<usize>);
@@ -164,22 +164,22 @@ impl From<Error> for Fault {
     }
 }
 
-/// A refusal of offsets, by the slot that ends there.
-fn of_offset(refused: ErrorAt) -> Fault {
-    Fault(Broken::Part(refused.error), Some(refused.at.saturating_sub(1)))
+/// An error in offsets, by the slot that ends there.
+fn of_offset(error: ErrorAt) -> Fault {
+    Fault(Broken::Part(error.error), Some(error.at.saturating_sub(1)))
 }
 
-/// A refusal by the slot.
-fn of_slot(refused: ErrorAt) -> Fault {
-    Fault(Broken::Part(refused.error), Some(refused.at))
+/// An error in a slot.
+fn of_slot(error: ErrorAt) -> Fault {
+    Fault(Broken::Part(error.error), Some(error.at))
 }
 
 /// Whether an array is one of a schema, by the sizes in bytes of the tree's buffers: those of an array, then those of
 /// its children in order, then those of its dictionary. A buffer that is null takes a size too. `Some` of no size is an
-/// empty list: any tree that has a buffer is refused, with [`Broken::Sizes`] unless an earlier rule is broken.
+/// empty list: any tree that has a buffer is rejected, with [`Broken::Sizes`] unless an earlier rule is broken.
 ///
 /// With `None` the buffers are read to the length that format, length, offset and last offset require. Each is taken to
-/// have 2^56 bytes: what would need more is refused, with [`Error::PastOffset`] for an offset into binary or utf8
+/// have 2^56 bytes: what would need more is rejected, with [`Error::PastOffset`] for an offset into binary or utf8
 /// bytes, else with [`Error::Range`].
 ///
 /// It is stricter than Arrow: the bytes of a null slot of a text must be UTF-8 too, and offsets and indices that are
@@ -197,16 +197,16 @@ pub unsafe fn check_raw(
     schema: *const ArrowSchema,
     array: *const ArrowArray,
     sizes: Option<&[usize]>,
-) -> Result<(), Refused> {
+) -> Result<(), Rejected> {
     let mut tree = Tree { sizes, next_size: 0, arrays: 0, path: Path::default() };
     let node = Node { schema, array };
     // SAFETY: the caller's.
     unsafe {
-        node.check_head().map_err(|broken| tree.refuse(broken.into()))?;
+        node.check_head().map_err(|broken| tree.reject(broken.into()))?;
         tree.check_tree(node)?;
     }
     match sizes {
-        Some(sizes) if sizes.len() != tree.next_size => Err(tree.refuse(Broken::Sizes.into())),
+        Some(sizes) if sizes.len() != tree.next_size => Err(tree.reject(Broken::Sizes.into())),
         _ => Ok(()),
     }
 }
@@ -349,8 +349,8 @@ struct Tree<'s> {
 }
 
 impl Tree<'_> {
-    fn refuse(&self, fault: Fault) -> Refused {
-        Refused { broken: fault.0, path: self.path.clone(), slot: fault.1 }
+    fn reject(&self, fault: Fault) -> Rejected {
+        Rejected { broken: fault.0, path: self.path.clone(), slot: fault.1 }
     }
 
     /// Goes to child `index` of an array by its format, or to its dictionary.
@@ -373,16 +373,16 @@ impl Tree<'_> {
     }
 
     /// Whether a node whose head was checked is right, and all below it.
-    unsafe fn check_tree(&mut self, node: Node) -> Result<(), Refused> {
+    unsafe fn check_tree(&mut self, node: Node) -> Result<(), Rejected> {
         if self.path.0.len() >= MAX_DEPTH || self.arrays >= MAX_ARRAYS {
-            return Err(self.refuse(Broken::TooLarge.into()));
+            return Err(self.reject(Broken::TooLarge.into()));
         }
         self.arrays += 1;
         // SAFETY: the caller's; the head was checked.
         unsafe {
             let format = CStr::from_ptr((*node.schema).format).to_bytes();
-            let layout = Layout::read(format).ok_or_else(|| self.refuse(Broken::Format.into()))?;
-            self.check_own(node, &layout).map_err(|fault| self.refuse(fault))?;
+            let layout = Layout::read(format).ok_or_else(|| self.reject(Broken::Format.into()))?;
+            self.check_own(node, &layout).map_err(|fault| self.reject(fault))?;
             self.next_size += if self.sizes.is_some() { layout.buffers } else { 0 };
             for index in 0..(*node.array).n_children as usize {
                 self.enter(layout.kind, Some(index));
@@ -588,7 +588,7 @@ impl Tree<'_> {
     }
 }
 
-/// Whether the child of a map is a struct of two.
+/// Whether the schema of the child of a map is that of a struct of two children.
 unsafe fn is_entries(entries: Node) -> bool {
     // SAFETY: its head was checked.
     unsafe { CStr::from_ptr((*entries.schema).format) == c"+s" && (*entries.schema).n_children == 2 }

@@ -1,7 +1,7 @@
 //! Owners: their arrays and schemas are released exactly once, when they are dropped.
 
 use super::abi::{ArrowArray, ArrowArrayStream, ArrowSchema};
-use super::check::{Refused, check_raw};
+use super::check::{Rejected, check_raw};
 use super::view::View;
 use core::ffi::{CStr, c_int};
 use core::mem::{ManuallyDrop, MaybeUninit};
@@ -72,7 +72,7 @@ impl Array {
     /// # Errors
     ///
     /// The first rule that it breaks, and where.
-    pub fn check<'a>(&'a self, schema: &'a Schema) -> Result<View<'a>, Refused> {
+    pub fn check<'a>(&'a self, schema: &'a Schema) -> Result<View<'a>, Rejected> {
         // SAFETY: both owners follow the interface, as their `from_raw` requires.
         unsafe {
             check_raw(&schema.0, &self.0, None)?;
@@ -85,7 +85,7 @@ impl Array {
     /// # Errors
     ///
     /// The first rule that it breaks, and where.
-    pub fn check_sized<'a>(&'a self, schema: &'a Schema, sizes: &[usize]) -> Result<View<'a>, Refused> {
+    pub fn check_sized<'a>(&'a self, schema: &'a Schema, sizes: &[usize]) -> Result<View<'a>, Rejected> {
         // SAFETY: as of `check`.
         unsafe {
             check_raw(&schema.0, &self.0, Some(sizes))?;

@@ -238,7 +238,7 @@ fn a_null_in_a_mask_drops_the_item(rt: HostRuntime) {
     assert_array(&rt, alloc, filter_by_array(&array, &mask), &[None, Some(6)]);
 }
 
-/// Returns how many numbers were cast, or the text of the error that refused them.
+/// Returns how many numbers were cast, or the text of the error.
 fn text_of_cast(
     alloc: Global,
     cast: Result<PrimitiveArray<u8>>,
@@ -249,7 +249,7 @@ fn text_of_cast(
     }
 }
 
-/// Checks that numbers are cast to these, or refused with this text.
+/// Checks that numbers are cast to these, or rejected with this text.
 fn is_cast(rt: &impl Abort, alloc: Global, from: &[Option<i64>], to: &[Option<u8>], text: &str) {
     let array = array_of(rt, alloc, from, 1);
     let data_type = ok(rt, Rc::new(alloc, datatypes::DataType::UInt8));

@@ -113,25 +113,25 @@ fn a_sum_leaves_nulls_out(rt: HostRuntime) {
     assert_that(&rt, sum(&array) == -295);
 }
 
-/// Checks that an array is refused with this text.
-fn refuses(rt: &impl Abort, alloc: Global, call: Result<PrimitiveArray<i64>>, text: &str) {
-    let error = call.err().expect(rt, "it is refused");
+/// Checks that an array is rejected with this text.
+fn rejects(rt: &impl Abort, alloc: Global, call: Result<PrimitiveArray<i64>>, text: &str) {
+    let error = call.err().expect(rt, "an error");
     assert_text(rt, format!(in alloc; "{error}"), text);
 }
 
 #[test]
-fn arrays_are_refused_by_what_is_wrong(rt: HostRuntime) {
+fn arrays_are_rejected_by_what_is_wrong(rt: HostRuntime) {
     let alloc = rt.alloc();
     let values = ok(&rt, Buffer::<i64>::new(alloc));
     let copy = ok(&rt, values.clone());
     let validity = mask_of(&rt, alloc, 2);
-    refuses(
+    rejects(
         &rt,
         alloc,
         PrimitiveArray::try_new(datatypes::DataType::Int64, values, Some(validity)),
         "Invalid argument error: The length of the validity (2) must equal the length of the values (0)",
     );
-    refuses(
+    rejects(
         &rt,
         alloc,
         PrimitiveArray::try_new(datatypes::DataType::Int32, copy, None),

@@ -58,7 +58,7 @@ fn is_taken(rt: &impl Abort, alloc: Global, bytes: &[u8], offsets: &[i32], taken
 }
 
 #[test]
-fn texts_that_begin_inside_a_character_are_refused(rt: HostRuntime) {
+fn texts_that_begin_inside_a_character_are_rejected(rt: HostRuntime) {
     let alloc = rt.alloc();
     is_taken(&rt, alloc, "aé".as_bytes(), &[0, 1, 3], true);
     is_taken(&rt, alloc, "aé".as_bytes(), &[0, 2, 3], false);

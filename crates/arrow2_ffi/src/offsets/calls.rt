@@ -2,7 +2,7 @@
 ghost use Rattle.std.specs.Prelude.{◌≡◌, ◌≢◌, ◌+◌, ◌-◌, ◌<◌, ◌↔◌, ◌⊎◌, pos, map, length, IfNone, IfSome};
 ghost use Rattle.arrow2_offset.specs.Offsets.{AreOffsets, AreOffsetsUpTo, last_offset, lengths_of, offsets_list};
 ghost use Rattle.arrow2_model.specs.Parts.{part};
-ghost use Rattle.arrow2_offset.specs.Refusals.{first_broken};
+ghost use Rattle.arrow2_offset.specs.Failures.{first_broken};
 ghost use Rattle.arrow2_ffi.specs.OffsetWrites.{RebasesTo, WritesFromOffsets};
 ghost use Rattle.arrow2_ffi.specs.Rules.{rule_code, ReportsBrokenRule};
 
@@ -15,7 +15,7 @@ use arrow2_offset::slices::{fits, last, write_lengths, write_part, write_sums};
 use arrow2_offset::{BrokenRule, broken_rule};
 
 /// Returns the code of the first rule that the numbers break, or `None` where they are offsets.
-pub(crate) fn refusal<O: Offset>(offsets: &[O]) -> Option<u32>
+pub(crate) fn error_code<O: Offset>(offsets: &[O]) -> Option<u32>
     ensures none { IfNone result (AreOffsetsUpTo O.MAX (map O.value offsets.now)) }
     ensures some { IfSome result (λ code. ReportsBrokenRule code (map O.value offsets.now)) }
 {
@@ -33,7 +33,7 @@ pub(crate) fn check<O: Offset>(offsets: &[O]) -> u32
     ensures broken { result ≢ ARROW2_OK →
         result ≡ rule_code (first_broken (map O.value offsets.now)) }
 {
-    refusal(offsets).unwrap_or(ARROW2_OK)
+    error_code(offsets).unwrap_or(ARROW2_OK)
 }
 
 /// Writes the length of each slot: the next offset minus its own.
@@ -42,7 +42,7 @@ pub(crate) fn lengths<O: Offset>(offsets: &[O], lengths: &mut [usize]) -> u32
         (length offsets.now ≡ length lengths.old + 1)
         (lengths.new ≡ lengths_of (map O.value offsets.now)) (lengths.new ≡ lengths.old) }
 {
-    match refusal(offsets) {
+    match error_code(offsets) {
         Some(code) => code,
         None => lengths_unchecked(offsets, lengths),
     }
@@ -70,7 +70,7 @@ pub(crate) fn sums<O: Offset>(start: usize, lengths: &[usize], offsets: &mut [O]
     ensures only { (result ≡ ARROW2_OK) ⊎ (result ≡ ARROW2_LENGTH) ⊎ (result ≡ ARROW2_OVERFLOW) }
     ensures ok { result ≡ ARROW2_OK → map O.value offsets.new
         ≡ map pos (offsets_list start lengths.now) }
-    ensures refused { result ≢ ARROW2_OK → offsets.new ≡ offsets.old }
+    ensures rejected { result ≢ ARROW2_OK → offsets.new ≡ offsets.old }
 {
     if offsets.is_empty() || offsets.len() - 1 != lengths.len() {
         return ARROW2_LENGTH;
@@ -87,7 +87,7 @@ pub(crate) fn rebase<O: Offset>(offsets: &[O], from: usize, out: &mut [O]) -> u3
     ensures { RebasesTo result (map O.value offsets.now) from (length out.old)
         (map O.value out.new) (out.new ≡ out.old) }
 {
-    match refusal(offsets) {
+    match error_code(offsets) {
         Some(code) => code,
         None => rebase_unchecked(offsets, from, out),
     }

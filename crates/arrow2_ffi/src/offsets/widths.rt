@@ -4,7 +4,7 @@ ghost use Rattle.arrow2_offset.specs.Offsets.{AreOffsets, last_of};
 ghost use Rattle.arrow2_ffi.specs.OffsetWrites.{WritesFromOffsets, WritesFromOffsetsOr};
 
 use crate::codes::{ARROW2_LENGTH, ARROW2_OK, ARROW2_OVERFLOW};
-use crate::offsets::calls::refusal;
+use crate::offsets::calls::error_code;
 use arrow2_offset::slices::last;
 use arrow2_offset::widths::{write_narrow, write_wide};
 
@@ -17,7 +17,7 @@ pub extern "C" fn arrow2_offsets_widen(offsets: &[i32], out: &mut [i64]) -> u32
     ensures { WritesFromOffsets result offsets.now (length out.old ≡ length offsets.now)
         (out.new ≡ offsets.now) (out.new ≡ out.old) }
 {
-    if let Some(code) = refusal(offsets) {
+    if let Some(code) = error_code(offsets) {
         return code;
     }
     if out.len() != offsets.len() {
@@ -38,7 +38,7 @@ pub extern "C" fn arrow2_offsets_narrow(offsets: &[i64], out: &mut [i32]) -> u32
         (last_of offsets.now ≤ 2147483647) ARROW2_OVERFLOW
         (out.new ≡ offsets.now) (out.new ≡ out.old) }
 {
-    if let Some(code) = refusal(offsets) {
+    if let Some(code) = error_code(offsets) {
         return code;
     }
     if out.len() != offsets.len() {

@@ -3,7 +3,7 @@ ghost use Rattle.std.specs.Prelude.{◌≡◌, length};
 ghost use Rattle.arrow2_model.specs.Storage.{items_of};
 ghost use Rattle.arrow2_array.specs.Items.{boolean_items};
 
-use super::checks::{assert_that, gives, ok, refuses, shows};
+use super::checks::{assert_that, gives, ok, rejects, shows};
 use arrow2_array::{BooleanArray, MutableBooleanArray};
 use arrow2_bitmap::Bitmap;
 use arrow2_types::Result;
@@ -60,12 +60,12 @@ fn falses(rt: &impl Abort, alloc: Global, length: usize) -> Bitmap {
 }
 
 #[test]
-fn a_validity_of_another_length_is_refused(rt: HostRuntime) {
+fn a_validity_of_another_length_is_rejected(rt: HostRuntime) {
     let alloc = rt.alloc();
     let made = BooleanArray::try_new(falses(&rt, alloc, 3), Some(falses(&rt, alloc, 2)));
     let text =
         "Invalid argument error: The length of the validity (2) must equal the length of the values (3)";
-    refuses(&rt, alloc, made, text);
+    rejects(&rt, alloc, made, text);
 }
 
 #[test]
@@ -89,7 +89,7 @@ fn made(rt: &impl Abort, alloc: Global, made: Result<BooleanArray>, text: &str) 
     shows(rt, alloc, &array, text);
 }
 
-/// The call was not refused.
+/// The call succeeded.
 fn grew(rt: &impl Abort, growth: Result<()>) {
     assert_that(rt, growth.is_ok());
 }

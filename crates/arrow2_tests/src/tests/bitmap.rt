@@ -2,7 +2,7 @@
 ghost use Rattle.std.specs.Prelude.{◌≡◌, IfOk, length};
 ghost use Rattle.arrow2_model.specs.Storage.{items_of};
 
-use super::checks::{assert_that, bytes_of, gives, has, makes, ok, refuses, right, shows, stores};
+use super::checks::{assert_that, bytes_of, gives, has, makes, ok, rejects, right, shows, stores};
 use super::lists;
 use arrow2_bitmap::bitmap_ops::unary;
 use arrow2_bitmap::{Bitmap, IntoIter, MutableBitmap};
@@ -79,16 +79,16 @@ fn a_moved_slice_shows_the_bytes_that_it_touches(rt: HostRuntime) {
 }
 
 #[test]
-fn a_length_past_the_bytes_is_refused(rt: HostRuntime) {
+fn a_length_past_the_bytes_is_rejected(rt: HostRuntime) {
     let alloc = rt.alloc();
     let made = Bitmap::try_new(Vec::new(alloc), 1);
     let text =
         "Invalid argument error: The offset + length of the bitmap (1) must be `<=` to the number of bytes times 8 (0)";
-    refuses(&rt, alloc, made, text);
+    rejects(&rt, alloc, made, text);
     let made = MutableBitmap::try_new(bytes_of(&rt, alloc, &[1, 2]), 17);
     let text =
         "Invalid argument error: The length of the bitmap (17) must be `<=` to the number of bytes times 8 (16)";
-    refuses(&rt, alloc, made, text);
+    rejects(&rt, alloc, made, text);
 }
 
 #[test]

@@ -96,14 +96,14 @@ pub(super) fn stores(rt: &impl Abort, made: Result<MutableBitmap>, bytes: &[u8])
     has(rt, ok(rt, made).as_slice(), bytes);
 }
 
-/// Returns the error of a call that refused.
-pub(super) fn refused<T: Drop, E>(rt: &impl Abort, call: std::result::Result<T, E>) -> E {
+/// Returns the error of a call that failed.
+pub(super) fn failed<T: Drop, E>(rt: &impl Abort, call: std::result::Result<T, E>) -> E {
     call.err().expect(rt, "accepted")
 }
 
-/// The call refused with the text.
-pub(super) fn refuses<T: Drop>(rt: &impl Abort, alloc: Global, made: Result<T>, text: &str) {
-    prints(rt, alloc, &refused(rt, made), text);
+/// The call failed with the text.
+pub(super) fn rejects<T: Drop>(rt: &impl Abort, alloc: Global, made: Result<T>, text: &str) {
+    prints(rt, alloc, &failed(rt, made), text);
 }
 
 /// The call returned `Overflow`.

@@ -1,5 +1,5 @@
-//! Offsets as their callers see them: worked examples, texts of refusals, and calls that no command of a script makes.
-use super::checks::{assert_that, gives, has, left, ok, overflows, refuses, right};
+//! Offsets as their callers see them: worked examples, texts of errors, and calls that no command of a script makes.
+use super::checks::{assert_that, gives, has, left, ok, overflows, rejects, right};
 use arrow2_buffer::Buffer;
 use arrow2_offset::{Offsets, OffsetsBuffer};
 use arrow2_types::Result;
@@ -168,24 +168,24 @@ fn large_offsets_end_at_their_greatest(rt: HostRuntime) {
     overflows(&rt, Offsets::<i64>::with_capacity(alloc, usize::MAX));
 }
 
-/// The numbers are refused with the text, growing and shared.
-fn is_refused(rt: &impl Abort, alloc: Global, items: &[i32], text: &str) {
+/// The numbers are rejected with the text, growing and shared.
+fn is_rejected(rt: &impl Abort, alloc: Global, items: &[i32], text: &str) {
     let vector = ok(rt, items.to_vec(alloc));
-    refuses(rt, alloc, Offsets::try_from(vector), text);
+    rejects(rt, alloc, Offsets::try_from(vector), text);
     let vector = ok(rt, items.to_vec(alloc));
-    refuses(rt, alloc, OffsetsBuffer::try_from(vector), text);
+    rejects(rt, alloc, OffsetsBuffer::try_from(vector), text);
     let vector = ok(rt, items.to_vec(alloc));
     let buffer = ok(rt, Buffer::try_from(vector));
-    refuses(rt, alloc, OffsetsBuffer::try_from(buffer), text);
+    rejects(rt, alloc, OffsetsBuffer::try_from(buffer), text);
 }
 
 #[test]
-fn what_is_no_offsets_is_refused_by_the_first_rule(rt: HostRuntime) {
+fn what_is_no_offsets_is_rejected_by_the_first_rule(rt: HostRuntime) {
     let alloc = rt.alloc();
-    is_refused(&rt, alloc, &[], "offsets must have at least one element");
-    is_refused(&rt, alloc, &[-1], "offsets must be larger than 0");
+    is_rejected(&rt, alloc, &[], "offsets must have at least one element");
+    is_rejected(&rt, alloc, &[-1], "offsets must be larger than 0");
     let text = "offsets must be monotonically increasing";
-    is_refused(&rt, alloc, &[2, 1], text);
+    is_rejected(&rt, alloc, &[2, 1], text);
 }
 
 /// Offsets have these items in the greater width, and converted back to the smaller width they are the same again. So

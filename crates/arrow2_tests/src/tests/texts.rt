@@ -1,4 +1,4 @@
-//! Texts between offsets, given in full, and the refusals of the test of such texts.
+//! Texts between offsets, given in full, and the errors of the test of such texts.
 use super::checks::{assert_that, ok};
 use arrow2_offset::{BrokenRule, OffsetsBuffer};
 use arrow2_utf8::{

@@ -3,7 +3,7 @@ use Rattle.arrow2_model.specs.Bits.{bits}
 use Rattle.arrow2_model.specs.Parts.{part}
 use Rattle.arrow2_model.proofs.Parts.{part-part}
 use Rattle.arrow2_model.proofs.Cursors.{length-part_bits}
-use Rattle.arrow2_types.specs.Refusals.{error_of}
+use Rattle.arrow2_types.specs.Failures.{error_of}
 use Rattle.arrow2_packed_bits.specs.Growth.{Appends}
 use Rattle.arrow2_array.proofs.mutable.extend_part.Goals as goal
 

@@ -15,9 +15,9 @@ returns-in_ok-results-clause-items c =
     let b : List Bool = items_of c.args.rhs.now in
     let ll = shown_length l.0.now a l.1 l.2 c.as_slice-left_offset.ensures.inside c.as_slice-left_offset.ensures.items in
     let lr = shown_length r.0.now b r.1 r.2 c.as_slice-right_offset.ensures.inside c.as_slice-right_offset.ensures.items in
-    let alike : l.2 ≡ r.2 = sym ll ∙ (c.requires.same_length ∙ lr) in
+    let same_lengths : l.2 ≡ r.2 = sym ll ∙ (c.requires.same_length ∙ lr) in
     let own = shown_items l.0.now a l.1 l.2 (omega (arith, c.if-left_offset-eq0.true)) c.as_slice-left_offset.ensures.items in
-    let paired = ap (λ (n : ℕ). take n (bits r.0.now)) alike ∙ shown_items r.0.now b r.1 r.2 (omega (arith, c.if-right_offset-eq0.true)) c.as_slice-right_offset.ensures.items in
+    let paired = ap (λ (n : ℕ). take n (bits r.0.now)) same_lengths ∙ shown_items r.0.now b r.1 r.2 (omega (arith, c.if-right_offset-eq0.true)) c.as_slice-right_offset.ensures.items in
     IfOk-weaker c.from_u8_vec.result _ _
     (λ m e. e ∙ (c.in_ok-results.ensures.items ∙ (ap (λ xs. each c.args.t (xs ∷ take l.2 (bits r.0.now) ∷ [])) own ∙ ap (λ ys. each c.args.t (a ∷ ys ∷ [])) paired)))
     c.from_u8_vec.ensures.items

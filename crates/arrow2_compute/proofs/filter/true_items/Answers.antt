@@ -13,9 +13,9 @@ pub returns-in-Some-clause-items : goal.returns-in-Some-clause-items
 returns-in-Some-clause-items c =
     let xs = items_of c.values.result.now in
     let vs = items_of c.in-Some.bitmap.now in
-    let alike : length xs ≡ length vs = omega (arith, c.values.ensures.len, c.optional_validity.ensures.len, ap length c.in-Some.ensures.items) in
+    let same_lengths : length xs ≡ length vs = omega (arith, c.values.ensures.len, c.optional_validity.ensures.len, ap length c.in-Some.ensures.items) in
     let slots : zipped xs vs ≡ boolean_items c.args.mask.now = ap (λ b. zipped (items_of b) vs) c.values.ensures.value ∙ (ap (zipped (items_of c.args.mask.now.values)) c.in-Some.ensures.items ∙ c.optional_validity.ensures.zipped) in
-    let all : each 8 (xs ∷ vs ∷ []) ≡ map is_true (boolean_items c.args.mask.now) = masked xs vs alike ∙ ap (map is_true) slots in
+    let all : each 8 (xs ∷ vs ∷ []) ≡ map is_true (boolean_items c.args.mask.now) = masked xs vs same_lengths ∙ ap (map is_true) slots in
     subst (λ (z : List Bool). IfOk c.and.result (λ b. items_of b ≡ z)) all c.and.ensures.items
 
 pub returns-in_ok-clone-in-None-clause-items : goal.returns-in_ok-clone-in-None-clause-items

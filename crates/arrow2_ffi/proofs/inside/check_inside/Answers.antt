@@ -3,7 +3,7 @@ use Rattle.std.specs.Prelude.{ℤ, pos, negsuc, ◌<ℤ◌, ◌≤ℤ◌, slice_
 use Rattle.std.proofs.lemmas.Bool.{cases_lt}
 use Rattle.std.proofs.lemmas.Int.{ints}
 use Rattle.arrow2_offset.specs.Offsets.{AreOffsets}
-use Rattle.arrow2_offset.specs.Refusals.{first_broken}
+use Rattle.arrow2_offset.specs.Failures.{first_broken}
 use Rattle.arrow2_offset.proofs.Order.{offsets_stated}
 use Rattle.arrow2_ffi.specs.declared.codes.TheConstants.{ARROW2_SPEC_FALLING}
 use Rattle.arrow2_ffi.specs.Rules.{rule_code}

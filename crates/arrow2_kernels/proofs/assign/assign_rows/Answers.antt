@@ -12,7 +12,7 @@ use Rattle.arrow2_kernels.proofs.assign.assign_rows.Goals as goal
 pub loop-row-init : goal.loop-row-init
 loop-row-init g c = record {
   callable = search rules;
-  alike = search rules;
+  same_lengths = search rules;
   size = search rules;
   fits = λ k. (c.type_inv.bytes k).fits;
   whole = zero-mod g.T.NativeType.SIZE;
@@ -44,7 +44,7 @@ loop-row-preserved g c =
     let same : (k : ℕ) → (k < 8 * at) ⊎ (8 * at + w ≤ k) → _ = λ k h. c.put_word.ensures.kept k (elim h [ inl lt ↦ inl lt | inr ge ↦ inr (omega (arith, ge, wide, c.SIZE-in-Some.ensures)) ]) in
     record {
       callable = before.callable;
-      alike = c.next_row.ensures.alike;
+      same_lengths = c.next_row.ensures.same_lengths;
       size = search rules;
       fits = λ k. (c.type_inv.bytes k).fits;
       whole = next.0;

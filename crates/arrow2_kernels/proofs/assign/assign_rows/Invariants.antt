@@ -8,7 +8,7 @@ use Rattle.arrow2_kernels.proofs.assign.assign_rows.Given as goal
 abbrev pub invariant-loop-row : goal.invariant-loop-row
 invariant-loop-row g l = record {
   callable : goal.F-IsAlwaysCallable g l.op;
-  alike : g.S.WordRows.alike l.rows;
+  same_lengths : g.S.WordRows.same_lengths l.rows;
   size : length l.bytes ≡ length l.fn.bytes;
   fits : (k : ℕ) → slice_index l.bytes k < 256;
   whole : l.at % g.T.NativeType.SIZE ≡ 0;

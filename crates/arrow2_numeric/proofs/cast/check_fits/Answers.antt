@@ -2,7 +2,7 @@ use Rattle.std.proofs.Common.{◌<◌, ℕ, List, Option, None, length, get_or, 
 use Rattle.std.specs.Prelude.{All}
 use Rattle.std.proofs.lemmas.List.{take_all}
 use Rattle.std.proofs.lemmas.List.Elements.{All-more}
-use Rattle.arrow2_types.specs.Refusals.{IsInvalidArgumentOrOutOfMemory}
+use Rattle.arrow2_types.specs.Failures.{IsInvalidArgumentOrOutOfMemory}
 use Rattle.arrow2_primitive.specs.Primitive.{primitive_items}
 use Rattle.arrow2_numeric.specs.Casts.{Fits, not_fitting_message}
 use Rattle.arrow2_numeric.proofs.Converted.{first-misfit}
@@ -17,8 +17,8 @@ loop-index-preserved g c =
     All-more P items c.loop-index.index None less c.loop-index.invariant (subst (λ (o : Option _). P o) c.get.ensures here)
 
 -- each item before it fits, so it is the first
-pub returns-then-not-item_fits-clause-refused : goal.returns-then-not-item_fits-clause-refused
-returns-then-not-item_fits-clause-refused g c other first =
+pub returns-then-not-item_fits-clause-rejected : goal.returns-then-not-item_fits-clause-rejected
+returns-then-not-item_fits-clause-rejected g c other first =
     let P = Fits g.I.Number.value g.O.Number.fits in
     let items = primitive_items c.args.array.now in
     let index = c.loop-index.index in

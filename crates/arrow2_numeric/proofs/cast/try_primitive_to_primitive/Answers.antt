@@ -9,6 +9,6 @@ returns-clause-items g c =
     (λ a h. same-numbers g.I.Number.value g.O.Number.value g.O.Number.fits (primitive_items c.args.array.now) (primitive_items a) c.in_ok-check_fits.ensures.accepted h)
     c.primitive_to_primitive.ensures.items
 
-pub returns-clause-refused : goal.returns-clause-refused
-returns-clause-refused g c =
+pub returns-clause-rejected : goal.returns-clause-rejected
+returns-clause-rejected g c =
     if-err c.primitive_to_primitive.result (λ e is index first. out_of_memory e (not_fitting_message index) is) c.primitive_to_primitive.ensures.only

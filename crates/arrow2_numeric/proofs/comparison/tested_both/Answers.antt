@@ -20,9 +20,9 @@ returns-clause-items g c outcome stated =
     let ws = valid_items c.args.rhs.now.validity in
     let left : c.as_slice-left.result.now ≡ xs = c.as_slice-left.ensures ∙ ap buffer_items c.values-values.ensures.value in
     let right : c.as_slice-right.result.now ≡ ys = c.as_slice-right.ensures ∙ ap buffer_items c.values.ensures.value in
-    let alike : length c.as_slice-left.result.now ≡ length c.as_slice-right.result.now = omega (arith, ap length c.as_slice-left.ensures, ap length c.as_slice-right.ensures, c.values-values.ensures.len, c.values.ensures.len, c.requires.same_length) in
+    let same_lengths : length c.as_slice-left.result.now ≡ length c.as_slice-right.result.now = omega (arith, ap length c.as_slice-left.ensures, ap length c.as_slice-right.ensures, c.values-values.ensures.len, c.values.ensures.len, c.requires.same_length) in
     let made : items_of c.in_ok-tested.tested ≡ zip2 outcome c.as_slice-left.result.now c.as_slice-right.result.now =
-    tested-pairs c.as_slice-left.result.now c.as_slice-right.result.now (items_of c.in_ok-tested.tested) _ outcome alike c.in_ok-tested.ensures.len c.in_ok-tested.ensures.results stated in
+    tested-pairs c.as_slice-left.result.now c.as_slice-right.result.now (items_of c.in_ok-tested.tested) _ outcome same_lengths c.in_ok-tested.ensures.len c.in_ok-tested.ensures.results stated in
     let same : zip2 outcome c.as_slice-left.result.now c.as_slice-right.result.now ≡ zip2 outcome xs ys = ap (λ l. zip2 outcome l c.as_slice-right.result.now) left ∙ ap (zip2 outcome xs) right in
     let one : valid_items c.optional_validity.result.now ≡ vs = ap valid_items c.optional_validity.ensures.value in
     let other : valid_items c.optional_validity-2.result.now ≡ ws = ap valid_items c.optional_validity-2.ensures.value in

@@ -2,7 +2,7 @@ use Rattle.std.proofs.Common.{length, ap, sym, ◌∙◌}
 use Rattle.arrow2_model.specs.Storage.{items_of}
 use Rattle.arrow2_walks.specs.Zipped.{zipped}
 use Rattle.arrow2_array.specs.Items.{boolean_items}
-use Rattle.arrow2_array.proofs.Items.{left-out}
+use Rattle.arrow2_validity.proofs.ValidItems.{left-out}
 use Rattle.arrow2_array.proofs.mutable.MutableBooleanArray.freeze.Goals as goal
 
 pub returns-clause-items : goal.returns-clause-items

@@ -9,10 +9,10 @@ returns-in_ok-write_offsets-in-FrozenOffsets c =
     let s = c.as_slice in
     let xs = buffer_items c.in-FrozenOffsets.offsets in
     let words = offsets_said s.result.now (offsets_list (start_of xs) (lengths_of xs)) (s.ensures.offsets ∙ s.ensures.by_lengths) in
-    record { ok = rw (← c.self.view_is, c.in-FrozenOffsets.is, ← words) c.in_ok-write_offsets-in-FrozenOffsets.ensures; refused = search rules; err = search rules }
+    record { ok = rw (← c.self.view_is, c.in-FrozenOffsets.is, ← words) c.in_ok-write_offsets-in-FrozenOffsets.ensures; rejected = search rules; err = search rules }
 
 pub returns-in_ok-write_offsets-in-GrowingOffsets : goal.returns-in_ok-write_offsets-in-GrowingOffsets
 returns-in_ok-write_offsets-in-GrowingOffsets c =
     let s = c.as_slice-in-GrowingOffsets in
     let words = offsets_said s.result.now (offsets_of c.in-GrowingOffsets.offsets) s.ensures.offsets in
-    record { ok = rw (← c.self.view_is, c.in-GrowingOffsets.is, ← words) c.in_ok-write_offsets-in-GrowingOffsets.ensures; refused = search rules; err = search rules }
+    record { ok = rw (← c.self.view_is, c.in-GrowingOffsets.is, ← words) c.in_ok-write_offsets-in-GrowingOffsets.ensures; rejected = search rules; err = search rules }

@@ -1,6 +1,6 @@
 use Rattle.std.proofs.Common.{arith, ◌≡◌, ◌∙◌, ◌+◌, sym, ap}
 use Rattle.std.specs.Prelude.{pos}
-use Rattle.arrow2_types.specs.Refusals.{error_of}
+use Rattle.arrow2_types.specs.Failures.{error_of}
 use Rattle.arrow2_offset.specs.Offsets.{last_of_growing}
 use Rattle.arrow2_offset.proofs.Growing.{length_slots, repeated}
 use Rattle.arrow2_offset.proofs.Grown.{grown}

@@ -2,7 +2,7 @@ use Rattle.std.proofs.Common.{◌∙◌, ◌+◌, ◌<◌, ap, length, subst, sy
 use Rattle.std.specs.Prelude.{Err}
 use Rattle.std.specs.Option.{option_copied, option_map_or}
 use Rattle.arrow2_types.specs.declared.error.Error.TheVariants.{Overflow}
-use Rattle.arrow2_text.proofs.Collected.{all-taken, bytes-by_reference, count-taken, handed-on, made-items, made-type, no-overflow, not-refused, past-taken, refused-memory, sum-taken-more, taken-more, made-bytes, measured-all}
+use Rattle.arrow2_text.proofs.Collected.{all-taken, bytes-by_reference, count-taken, handed-on, made-items, made-type, no-overflow, not-failed, past-taken, only-memory, sum-taken-more, taken-more, made-bytes, measured-all}
 use Rattle.arrow2_text.specs.Growth.{bytes_of_items, items_by_bytes}
 use Rattle.arrow2_text.proofs.binary.BinaryArray.from_options.Goals as goal
 
@@ -30,7 +30,7 @@ returns-in_err-push-clause-overflow g c = λ is.
     let items = c.args.items.now in
     let i = c.loop-item.item-index in
     subst (λ n. g.O.Offset.MAX < n) (bytes-by_reference items)
-    (past-taken (λ o. option_map_or length (option_copied o) 0) g.O.Offset.MAX items i _ c.loop-item.array.bytes (length c.loop-item.array.items) c.loop-item-test.true (λ h. not-refused _ _ (c.in_ok-array.ensures.overflow.1 h)) (kept.bytes ∙ sym (bytes-by_reference (take i items))) (count-taken option_copied items i kept.items)
+    (past-taken (λ o. option_map_or length (option_copied o) 0) g.O.Offset.MAX items i _ c.loop-item.array.bytes (length c.loop-item.array.items) c.loop-item-test.true (λ h. not-failed _ _ (c.in_ok-array.ensures.overflow.1 h)) (kept.bytes ∙ sym (bytes-by_reference (take i items))) (count-taken option_copied items i kept.items)
     (c.in_err-push.ensures.overflow.0 (ap (λ e. Err e) (handed-on c.from_residual-in_err-push.result Overflow c.in_err-push.field-0.0 c.from_residual-in_err-push.ensures.1 is))))
 
 pub returns-clause-items : goal.returns-clause-items
@@ -43,7 +43,7 @@ pub returns-clause-overflow : goal.returns-clause-overflow
 returns-clause-overflow g c = λ is. absurd (no-overflow c.freeze.result c.freeze.ensures.only is)
 
 pub returns-clause-only : goal.returns-clause-only
-returns-clause-only g c = refused-memory c.freeze.result c.freeze.ensures.only
+returns-clause-only g c = only-memory c.freeze.result c.freeze.ensures.only
 
 pub returns-clause-bytes : goal.returns-clause-bytes
 returns-clause-bytes g c = made-bytes c.freeze.result c.freeze.ensures.bytes (measured-all (λ items. bytes_of_items (items_by_bytes items)) c.args.items.now c.loop-item.item-index c.loop-item-test.false c.loop-item.invariant.bytes)

@@ -3,7 +3,8 @@ use Rattle.arrow2_validity.specs.OptionalValidity.{valid_items}
 use Rattle.arrow2_offset.proofs.Nested.{length-cut}
 use Rattle.arrow2_text.specs.Binary.{BinaryParts, binary_items, binary_values, IsCompact}
 use Rattle.arrow2_text.specs.Growth.{GrowingSlots}
-use Rattle.arrow2_text.proofs.GrowthItems.{bitmap-there, known-validity}
+use Rattle.arrow2_text.proofs.GrowthItems.{bitmap-there}
+use Rattle.arrow2_validity.proofs.ValidItems.{left-out}
 use Rattle.arrow2_text.proofs.SlotLists.{frozen-values, compact-slots, packed-alone}
 use Rattle.std.specs.Prelude.{IfSome, ◌↔◌}
 use Rattle.std.specs.Option.{IsNone, is_none}
@@ -19,7 +20,7 @@ returns-clause-valid g c =
     let validity = c.in_ok-into_validity in
     let count = c.len_proxy.ensures.slots ∙ (ap length c.in_ok-offsets.ensures.2 ∙ sym c.self.invariant.2) in
     ap of_parts c.new.ensures ∙ (ap valid_items c.new-validity.ensures.value
-    ∙ (known-validity c.len_proxy.result c.self.inside.validity.items validity.field-0 count validity.ensures.none validity.ensures.items
+    ∙ (left-out c.len_proxy.result c.self.inside.validity.items validity.field-0 (sym count) validity.ensures.none validity.ensures.items
     ∙ ap of_growing c.self.view_is))
 
 pub returns-clause-data_type : goal.returns-clause-data_type

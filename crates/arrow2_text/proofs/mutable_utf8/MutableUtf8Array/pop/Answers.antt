@@ -3,7 +3,7 @@ use Rattle.std.specs.Prelude.{Err, Ok, string_bytes}
 use Rattle.arrow2_datatypes.specs.Types.{physical}
 use Rattle.arrow2_text.specs.Growth.{growing_binary}
 use Rattle.arrow2_text.proofs.GrowingTexts.{last-text, left-texts}
-use Rattle.arrow2_text.proofs.GrowthItems.{pops-as, pops-items, refused-through}
+use Rattle.arrow2_text.proofs.GrowthItems.{pops-as, pops-items, failed-through}
 use Rattle.arrow2_text.proofs.mutable_utf8.MutableUtf8Array.pop.Goals as goal
 
 pub as_texts-requires : goal.as_texts-requires
@@ -29,4 +29,4 @@ invariant_of-self-2 g c = (
 pub returns-in_err-item : goal.returns-in_err-item
 returns-in_err-item g c =
     let items = pops-items (λ value. value.items) c.self.inside.slots c.pop.new.self (Err c.in_err-item.field-0.0) c.in_err-item.ensures in
-    rw (← c.self.view_is) (refused-through (λ value. value.items) string_bytes (growing_binary c.self.inside.slots) (growing_binary c.pop.new.self) c.in_err-item.field-0.0 c.from_residual.result c.from_residual.ensures items)
+    rw (← c.self.view_is) (failed-through (λ value. value.items) string_bytes (growing_binary c.self.inside.slots) (growing_binary c.pop.new.self) c.in_err-item.field-0.0 c.from_residual.result c.from_residual.ensures items)

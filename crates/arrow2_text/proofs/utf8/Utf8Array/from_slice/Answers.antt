@@ -2,7 +2,7 @@ use Rattle.std.proofs.Common.{◌∙◌, ap, length, take, count_by, map, sum}
 use Rattle.std.specs.Prelude.{Some, Err}
 use Rattle.std.specs.Option.{is_none}
 use Rattle.arrow2_types.specs.declared.error.Error.TheVariants.{Overflow}
-use Rattle.arrow2_text.proofs.Collected.{all-taken, count-taken, handed-on, made-items, made-type, no-bitmap, no-overflow, not-refused, none-null, past-taken, refused-memory, sum-taken-more, taken-more, made-bytes, measured-all}
+use Rattle.arrow2_text.proofs.Collected.{all-taken, count-taken, handed-on, made-items, made-type, no-bitmap, no-overflow, not-failed, none-null, past-taken, only-memory, sum-taken-more, taken-more, made-bytes, measured-all}
 use Rattle.arrow2_text.proofs.utf8.Utf8Array.from_slice.Goals as goal
 
 pub loop-value-init : goal.loop-value-init
@@ -28,7 +28,7 @@ returns-in_err-push-clause-overflow g c = λ is.
     let kept = c.loop-value.invariant in
     let values = c.args.values.now in
     let i = c.loop-value.value-index in
-    past-taken (λ value. length value.now) g.O.Offset.MAX values i _ c.loop-value.array.bytes (length c.loop-value.array.items) c.loop-value-test.true (λ h. not-refused _ _ (c.in_ok-array.ensures.overflow.1 h)) kept.bytes (count-taken (λ value. Some value.now) values i kept.items)
+    past-taken (λ value. length value.now) g.O.Offset.MAX values i _ c.loop-value.array.bytes (length c.loop-value.array.items) c.loop-value-test.true (λ h. not-failed _ _ (c.in_ok-array.ensures.overflow.1 h)) kept.bytes (count-taken (λ value. Some value.now) values i kept.items)
     (c.in_err-push.ensures.overflow.0 (ap (λ e. Err e) (handed-on c.from_residual-in_err-push.result Overflow c.in_err-push.field-0.0 c.from_residual-in_err-push.ensures.1 is)))
 
 pub returns-clause-bitmap : goal.returns-clause-bitmap
@@ -46,7 +46,7 @@ pub returns-clause-overflow : goal.returns-clause-overflow
 returns-clause-overflow g c = λ is. absurd (no-overflow c.freeze.result c.freeze.ensures.only is)
 
 pub returns-clause-only : goal.returns-clause-only
-returns-clause-only g c = refused-memory c.freeze.result c.freeze.ensures.only
+returns-clause-only g c = only-memory c.freeze.result c.freeze.ensures.only
 
 pub returns-clause-bytes : goal.returns-clause-bytes
 returns-clause-bytes g c = made-bytes c.freeze.result c.freeze.ensures.bytes (measured-all (λ values. sum (map (λ value. length value.now) values)) c.args.values.now c.loop-value.value-index c.loop-value-test.false c.loop-value.invariant.bytes)

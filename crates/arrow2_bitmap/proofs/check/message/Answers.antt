@@ -1,5 +1,5 @@
-use Rattle.arrow2_bitmap.specs.Refusals.{too_long}
-use Rattle.arrow2_bitmap.proofs.check.refusal.Goals as goal
+use Rattle.arrow2_bitmap.specs.Failures.{too_long}
+use Rattle.arrow2_bitmap.proofs.check.message.Goals as goal
 
 pub returns : goal.returns
 unfolding too_long

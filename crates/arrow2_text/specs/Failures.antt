@@ -5,8 +5,8 @@ use Rattle.arrow2_model.specs.Buffers.{BufferStorage}
 use Rattle.arrow2_model.specs.Storage.{BitmapStorage, items_of}
 use Rattle.arrow2_types.specs.declared.error.Error.{Error}
 use Rattle.arrow2_types.specs.declared.error.Error.TheVariants.{OutOfMemory}
-use Rattle.arrow2_types.specs.Refusals.{FailsOnlyWith}
-use Rattle.arrow2_validity.specs.Refusals.{unequal_lengths_message}
+use Rattle.arrow2_types.specs.Failures.{FailsOnlyWith}
+use Rattle.arrow2_validity.specs.Failures.{unequal_lengths_message}
 use Rattle.arrow2_text.specs.Binary.{HasBitPerSlot, slots_between}
 
 -- the message where the last offset is past the values
@@ -25,12 +25,12 @@ other_text_layout_message = codes "Utf8Array can only be initialized with DataTy
 abbrev pub not_utf8 : List ℕ
 not_utf8 = codes "the values of each slot must be UTF-8"
 
--- how parts of an array are refused: `Fits` states that the values fit the offsets, which is checked first, and
+-- how parts of an array are rejected: `Fits` states that the values fit the offsets, which is checked first, and
 -- `LaidOut` that the logical type has the layout of the array
-pub record RefusesParts {T : Type 0} (r : Result T Error) (offsets : BufferStorage ℤ) (validity : Option BitmapStorage) (Fits LaidOut : Type 0) (other_layout : List ℕ) : Type 0 where
+pub record RejectsParts {T : Type 0} (r : Result T Error) (offsets : BufferStorage ℤ) (validity : Option BitmapStorage) (Fits LaidOut : Type 0) (other_layout : List ℕ) : Type 0 where
   -- parts that are accepted fit
   pub accepted : OnOk r (Fits × HasBitPerSlot offsets validity × LaidOut)
-  -- a validity of another length is refused first, then another layout
+  -- a validity of another length is rejected first, then another layout
   pub unequal : Fits → ForSome validity (λ v. ¬ (length (items_of v) ≡ slots_between offsets) → FailsOnlyWith r (unequal_lengths_message (length (items_of v)) (slots_between offsets)))
   pub layout : Fits → HasBitPerSlot offsets validity → ¬ LaidOut → FailsOnlyWith r other_layout
   -- for parts that fit, the only error is running out of memory

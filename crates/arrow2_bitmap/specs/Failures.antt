@@ -1,4 +1,4 @@
--- The message that refuses a length past the bytes.
+-- The message for a length past the bytes.
 use Rattle.std.specs.Prelude.{ℕ, ◌-◌, ◌*◌, ◌^◌, ◌++◌, List, codes, decimal, min}
 
 -- the number of bits that the bytes hold, at most the greatest `usize`

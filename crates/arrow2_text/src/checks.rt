@@ -2,12 +2,12 @@
 ghost use Rattle.std.specs.Prelude.{◌≡◌, ◌<◌, ◌≤◌, ◌↔◌, length, IfOk, IsOk, IsTrue};
 ghost use Rattle.arrow2_model.specs.Buffers.{buffer_items};
 ghost use Rattle.arrow2_offset.specs.Offsets.{last_of};
-ghost use Rattle.arrow2_types.specs.Refusals.{FailsOnlyWith, IsInvalidArgumentOrOutOfMemory};
+ghost use Rattle.arrow2_types.specs.Failures.{FailsOnlyWith, IsInvalidArgumentOrOutOfMemory};
 ghost use Rattle.arrow2_datatypes.specs.Types.{physical};
 ghost use Rattle.arrow2_utf8.specs.Texts.{AreTexts};
 ghost use Rattle.arrow2_validity.specs.OptionalValidity.{valid_items};
 ghost use Rattle.arrow2_text.specs.Binary.{binary_layout, default_binary, default_text, slots_between, text_layout};
-ghost use Rattle.arrow2_text.specs.Refusals.{RefusesParts, not_utf8, other_binary_layout_message, other_text_layout_message, past_the_values_message};
+ghost use Rattle.arrow2_text.specs.Failures.{RejectsParts, not_utf8, other_binary_layout_message, other_text_layout_message, past_the_values_message};
 
 use arrow2_bitmap::Bitmap;
 use arrow2_buffer::Buffer;
@@ -21,7 +21,7 @@ use std::alloc::Global;
 
 /// Returns `InvalidArgumentError` with this message, or `OutOfMemory`, in the code only if the message cannot be
 /// allocated.
-pub(crate) fn refusal(alloc: Global, words: &str) -> Error
+pub(crate) fn invalid_argument(alloc: Global, words: &str) -> Error
     ensures { IsInvalidArgumentOrOutOfMemory result words.now }
 {
     match String::from_str(alloc, words) {
@@ -37,10 +37,10 @@ pub(crate) fn check_bounds<O: Offset>(
     values: usize,
 ) -> Result<()>
     ensures accepted { IsOk result ↔ (last_of (buffer_items offsets.now) ≤ values) }
-    ensures refused { FailsOnlyWith result past_the_values_message }
+    ensures rejected { FailsOnlyWith result past_the_values_message }
 {
     if offsets.last().to_usize() > values {
-        return Err(refusal(alloc, "offsets must not exceed the values length"));
+        return Err(invalid_argument(alloc, "offsets must not exceed the values length"));
     }
     Ok(())
 }
@@ -61,9 +61,9 @@ pub(crate) fn check_texts<O: Offset>(
     match try_check_utf8(offsets, values) {
         Ok(()) => Ok(()),
         Err(BrokenTexts::PastTheValues) => {
-            Err(refusal(alloc, "offsets must not exceed the values length"))
+            Err(invalid_argument(alloc, "offsets must not exceed the values length"))
         }
-        Err(BrokenTexts::NotUtf8(_)) => Err(refusal(
+        Err(BrokenTexts::NotUtf8(_)) => Err(invalid_argument(
             alloc,
             "the values of each slot must be UTF-8",
         )),
@@ -73,10 +73,10 @@ pub(crate) fn check_texts<O: Offset>(
 /// Returns an error exactly if the physical type of `data_type` is not that of byte strings.
 pub(crate) fn check_binary_layout<O: Offset>(alloc: Global, data_type: &DataType) -> Result<()>
     ensures accepted { IsOk result ↔ (physical data_type.now ≡ binary_layout O.IS_LARGE) }
-    ensures refused { FailsOnlyWith result other_binary_layout_message }
+    ensures rejected { FailsOnlyWith result other_binary_layout_message }
 {
     if !is_binary(data_type.to_physical_type(), O::IS_LARGE) {
-        return Err(refusal(
+        return Err(invalid_argument(
             alloc,
             "BinaryArray can only be initialized with DataType::Binary or DataType::LargeBinary",
         ));
@@ -87,10 +87,10 @@ pub(crate) fn check_binary_layout<O: Offset>(alloc: Global, data_type: &DataType
 /// Returns an error exactly if the physical type of `data_type` is not that of texts.
 pub(crate) fn check_text_layout<O: Offset>(alloc: Global, data_type: &DataType) -> Result<()>
     ensures accepted { IsOk result ↔ (physical data_type.now ≡ text_layout O.IS_LARGE) }
-    ensures refused { FailsOnlyWith result other_text_layout_message }
+    ensures rejected { FailsOnlyWith result other_text_layout_message }
 {
     if !is_text(data_type.to_physical_type(), O::IS_LARGE) {
-        return Err(refusal(
+        return Err(invalid_argument(
             alloc,
             "Utf8Array can only be initialized with DataType::Utf8 or DataType::LargeUtf8",
         ));
@@ -112,7 +112,7 @@ pub(crate) fn check_binary<O: Offset>(
     ensures len { IfOk result (λ v. length (valid_items v) ≡ slots_between offsets.now) }
     ensures past { length (buffer_items values.now) < last_of (buffer_items offsets.now) →
         FailsOnlyWith result past_the_values_message }
-    ensures refusals { RefusesParts result offsets.now validity
+    ensures rejected { RejectsParts result offsets.now validity
         (last_of (buffer_items offsets.now) ≤ length (buffer_items values.now))
         (physical data_type.now ≡ binary_layout O.IS_LARGE) other_binary_layout_message }
 {
@@ -139,7 +139,7 @@ pub(crate) fn check_utf8<O: Offset>(
         FailsOnlyWith result past_the_values_message }
     ensures broken { last_of (buffer_items offsets.now) ≤ length (buffer_items values.now) →
         ¬ AreTexts (buffer_items offsets.now) (buffer_items values.now) → FailsOnlyWith result not_utf8 }
-    ensures refusals { RefusesParts result offsets.now validity
+    ensures rejected { RejectsParts result offsets.now validity
         (AreTexts (buffer_items offsets.now) (buffer_items values.now))
         (physical data_type.now ≡ text_layout O.IS_LARGE) other_text_layout_message }
 {

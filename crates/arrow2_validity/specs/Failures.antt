@@ -1,4 +1,4 @@
--- The message that refuses a validity with another length than the values.
+-- The message for a validity with another length than the values.
 use Rattle.std.specs.Prelude.{ℕ, ◌++◌, List, codes, decimal}
 
 -- the message, with the length of the validity and the number of values

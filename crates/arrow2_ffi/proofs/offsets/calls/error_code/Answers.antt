@@ -1,11 +1,11 @@
 use Rattle.std.proofs.Common.{◌≡◌, ap, List, map, arith}
 use Rattle.std.specs.Prelude.{ℤ, Some, IsNone}
 use Rattle.arrow2_offset.specs.Offsets.{AreOffsets}
-use Rattle.arrow2_offset.specs.Refusals.{first_broken}
+use Rattle.arrow2_offset.specs.Failures.{first_broken}
 use Rattle.arrow2_offset.specs.declared.check.BrokenRule.{BrokenRule}
 use Rattle.arrow2_offset.specs.declared.check.BrokenRule.TheVariants.{Empty, Negative, Falling}
 use Rattle.arrow2_ffi.specs.Rules.{rule_code, ReportsBrokenRule}
-use Rattle.arrow2_ffi.proofs.offsets.calls.refusal.Goals as goal
+use Rattle.arrow2_ffi.proofs.offsets.calls.error_code.Goals as goal
 
 -- the code of the rule that is broken first determines it
 states : (rule : BrokenRule) (xs : List ℤ) → (AreOffsets xs → IsNone (Some rule)) → rule ≡ first_broken xs → ReportsBrokenRule (rule_code rule) xs

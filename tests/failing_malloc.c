@@ -1,5 +1,5 @@
-/* Preloaded, it lets one allocation fail: the one whose number, from 1 on, REFUSE gives, and reports it on descriptor
-   3. Where REFUSE is 0 none fails, and it writes a line there for each. It takes no header, since the kit's compiler
+/* Preloaded, it lets one allocation fail: the one whose number, from 1 on, FAILING gives, and reports it on descriptor
+   3. Where FAILING is 0 none fails, and it writes a line there for each. It takes no header, since the kit's compiler
    comes without any. */
 typedef __SIZE_TYPE__ size_t;
 
@@ -11,11 +11,11 @@ extern long write(int descriptor, const void *bytes, size_t count);
 /* The next library that has a name, as <dlfcn.h> declares it. */
 #define NEXT ((void *)-1L)
 
-static int refused(void) {
+static int fails(void) {
     static long left = -1;
     static int lists;
     if (left < 0) {
-        const char *number = getenv("REFUSE");
+        const char *number = getenv("FAILING");
         left = number ? atol(number) : 0;
         lists = left == 0;
     }
@@ -23,7 +23,7 @@ static int refused(void) {
         write(3, "requested\n", 10);
     if (left == 0 || --left > 0)
         return 0;
-    write(3, "refused\n", 8);
+    write(3, "failed\n", 7);
     return 1;
 }
 
@@ -31,12 +31,12 @@ void *malloc(size_t size) {
     static void *(*next)(size_t);
     if (!next)
         next = (void *(*)(size_t))dlsym(NEXT, "malloc");
-    return refused() ? 0 : next(size);
+    return fails() ? 0 : next(size);
 }
 
 void *realloc(void *block, size_t size) {
     static void *(*next)(void *, size_t);
     if (!next)
         next = (void *(*)(void *, size_t))dlsym(NEXT, "realloc");
-    return refused() ? 0 : next(block, size);
+    return fails() ? 0 : next(block, size);
 }
