@@ -77,7 +77,7 @@ extern "C" {
 #define ARROW2_PAST 9u
 /* The bytes of a slot are not UTF-8. */
 #define ARROW2_UTF8 10u
-/* An item of `indices` (an index of a dictionary) is negative, or not below the argument `items`. */
+/* An item of `indices` (an index of a dictionary) is not null, and is negative or not below the argument `items`. */
 #define ARROW2_INDEX 11u
 
 /* ---- Bits */
