@@ -54,7 +54,7 @@ impl<T> Bytes<T> {
 
     /// Returns the allocator of the vector.
     ///
-    /// arrow2 has no such call, since its allocator is not a value.
+    /// arrow2 has no such call: there, all memory comes from the global allocator.
     pub fn allocator(&self) -> Global
         ensures { (other : Global) → result ≡ other }
     {

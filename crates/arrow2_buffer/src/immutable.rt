@@ -85,7 +85,7 @@ impl<T> Buffer<T> {
 
     /// Returns the allocator of the buffer's storage, which can be used to make a new buffer.
     ///
-    /// arrow2 has no such call, since its allocator is not a value.
+    /// arrow2 has no such call: there, all memory comes from the global allocator.
     pub fn allocator(&self) -> Global
         ensures { (other : Global) → result ≡ other }
     {
@@ -114,7 +114,7 @@ impl<T> Buffer<T> {
         &self.storage.as_slice()[self.offset..self.offset + self.len]
     }
 
-    /// Returns an iterator over the items, each by reference, from both ends.
+    /// Returns a double-ended iterator over references to the items.
     pub fn iter(&self) -> Iter<'_, T>
         ensures items { iter_rest result ≡ buffer_items self.now }
         ensures runs { IterYieldsInOrder T }

@@ -8,7 +8,7 @@ use crate::immutable::Buffer;
 use std::alloc::AllocError;
 use std::marker::Model;
 
-/// An iterator over the items of a [`Buffer`], from both ends: contracts see the list of the items still to come.
+/// A double-ended iterator over the items of a [`Buffer`]: contracts see the list of the items still to come.
 ///
 /// Differs from arrow2: it has a public name, and `nth` is the standard library's, which calls `next`.
 #[derive(Debug, Drop)]
