@@ -54,7 +54,7 @@ impl<T> Bytes<T> {
 
     /// Returns the allocator of the vector.
     ///
-    /// arrow2 has no such call: there, all memory comes from the global allocator.
+    /// arrow2 has no such call: there, code allocates without naming an allocator.
     pub fn allocator(&self) -> Global
         ensures { (other : Global) → result ≡ other }
     {

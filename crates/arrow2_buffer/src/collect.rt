@@ -5,8 +5,8 @@ ghost use Rattle.std.specs.Iterator.{IsFinite, Yields, YieldsThen, size};
 
 use std::alloc::{AllocError, Global};
 
-/// The first capacity that is reserved, in items. For items of eight bytes, it is a little less than the largest block
-/// that glibc keeps in its cache of each thread.
+/// The first capacity that is reserved, in items. With items of eight bytes these are 960 bytes, a little less than the
+/// largest block that glibc keeps in its cache for each thread.
 const LEAST_CAPACITY: usize = 120;
 
 /// The second capacity that is reserved, in items.
@@ -40,8 +40,8 @@ pub(crate) fn collected<T: Drop, I: Iterator<Item = T>>(
     }
 }
 
-/// Appends items of an iterator while there is spare capacity. Returns the items, and whether the iterator may yield
-/// more.
+/// Appends items of an iterator to a vector while the vector has spare capacity. Returns the vector, and whether the
+/// iterator may yield more.
 fn filled<T: Drop, I: Iterator<Item = T>>(items: Vec<T>, source: &mut I) -> (Vec<T>, bool)
     // The iterator can be advanced, and ends.
     requires can { I.can_next source.old }

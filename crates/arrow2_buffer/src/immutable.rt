@@ -85,7 +85,7 @@ impl<T> Buffer<T> {
 
     /// Returns the allocator of the buffer's storage, which can be used to make a new buffer.
     ///
-    /// arrow2 has no such call: there, all memory comes from the global allocator.
+    /// arrow2 has no such call: there, code allocates without naming an allocator.
     pub fn allocator(&self) -> Global
         ensures { (other : Global) → result ≡ other }
     {
@@ -370,7 +370,7 @@ impl<T: fmt::Debug> fmt::Debug for Buffer<T> {
 }
 
 /// Returns a buffer of the same storage, offset and length. Does not allocate: it fails only if the reference count
-/// would overflow, which no clause states.
+/// would overflow. No clause states this.
 impl<T: Drop> Clone for Buffer<T> {
     ghost is_clone = { λ b copy. copy ≡ b };
 

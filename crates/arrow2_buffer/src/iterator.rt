@@ -10,7 +10,7 @@ use std::marker::Model;
 
 /// A double-ended iterator over the items of a [`Buffer`]: contracts see the list of the items still to come.
 ///
-/// Differs from arrow2: it has a public name, and `nth` is the standard library's, which calls `next`.
+/// Differs from arrow2: callers can name this type, and `nth` is the default method of `Iterator`, which calls `next`.
 #[derive(Debug, Drop)]
 pub struct IntoIter<T: Copy> {
     values: Buffer<T>,
@@ -94,7 +94,7 @@ impl<T: Copy> ExactSizeIterator for IntoIter<T> {
 }
 
 /// Returns an iterator over the same items still to come. Does not allocate: it fails only if the buffer's reference
-/// count would overflow, which no clause states.
+/// count would overflow. No clause states this.
 impl<T: Copy> Clone for IntoIter<T> {
     ghost is_clone = { λ i copy. copy ≡ i };
 
