@@ -4,7 +4,7 @@ use Rattle.std.proofs.Common.{◌≡◌, ℕ, ◌<◌, List, Bool, true, false, 
 use Rattle.std.specs.Prelude.{Option, None}
 use Rattle.std.specs.Option.{is_none}
 use Rattle.arrow2_walks.specs.Zipped.{slot, zipped}
-pub use Rattle.arrow2_walks.proofs.Selected.{selected-more, chosen-more, selected-more_of, chosen-more_of, length-selected, count-selected, selected-runs, non_null_values-append, non_null_values-more, non_null_values-zipped, selections}
+pub use Rattle.arrow2_walks.proofs.Selections.{selected-more, chosen-more, selected-more_of, chosen-more_of, length-selected, count-selected, selected-runs, non_null_values-append, non_null_values-more, non_null_values-zipped, selections}
 pub use Rattle.arrow2_walks.proofs.Zipped.{length-zipped, at-zipped, item-zipped, part-zipped, append-zipped, push-zipped, slot-option, nulls-zipped, columns}
 
 module _ {X : Type 0} (xs : List X) (vs : List Bool) (items : List (Option X)) (k : ℕ) (d : X) (v : Bool) where

@@ -1,6 +1,6 @@
 pub mod Columns
 pub mod Keys
-pub mod Nested
+pub mod NestedLists
 pub mod Rulesets
 pub mod Runs
 pub mod Words

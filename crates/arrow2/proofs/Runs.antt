@@ -1,2 +1,2 @@
 -- Lemmas on an iterator over runs, by the runs still to come.
-pub use Rattle.arrow2_walks.proofs.Left.{left-all, left-done, part-between}
+pub use Rattle.arrow2_walks.proofs.RemainingItems.{left-all, left-done, part-between}

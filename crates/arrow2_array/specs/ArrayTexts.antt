@@ -9,10 +9,10 @@ item_word (Some false) = codes "false"
 item_word None = codes "None"
 
 -- the words of items, with a comma between
-unfoldable pub listed : List (Option Bool) → List ℕ
-listed [] = []
-listed (item ∷ items) = item_word item ++ flat_map (λ other. codes ", " ++ item_word other) items
+unfoldable pub comma_list : List (Option Bool) → List ℕ
+comma_list [] = []
+comma_list (item ∷ items) = item_word item ++ flat_map (λ other. codes ", " ++ item_word other) items
 
 -- the items in brackets, after the name of the type
 abbrev pub array_text : List (Option Bool) → List ℕ
-array_text items = codes "BooleanArray[" ++ (listed items ++ codes "]")
+array_text items = codes "BooleanArray[" ++ (comma_list items ++ codes "]")

@@ -4,7 +4,7 @@ ghost use Rattle.arrow2_model.specs.Storage.{items_of};
 ghost use Rattle.arrow2_model.specs.Tables.{each};
 ghost use Rattle.arrow2_validity.specs.OptionalValidity.{valid_items};
 ghost use Rattle.arrow2_array.specs.Kleene.{paired_table, known_table, values_table};
-ghost use Rattle.arrow2_bitmap.specs.Packed.{IsPacked};
+ghost use Rattle.arrow2_bitmap.specs.PackedBitmaps.{IsPacked};
 
 use arrow2_bitmap::Bitmap;
 use arrow2_tables::bitmap_ops::{quaternary_table, ternary_table};
@@ -57,7 +57,7 @@ impl Operator {
     }
 
     /// Returns the truth table of the validity of the results.
-    fn known(self) -> u16
+    fn validity_table(self) -> u16
         ensures { result ≡ known_table self }
     {
         match self {
@@ -67,7 +67,7 @@ impl Operator {
     }
 
     /// Returns the truth table of the validity of the results, where one of the two items is not null.
-    fn known_paired(self) -> u8
+    fn pair_validity_table(self) -> u8
         ensures { result ≡ paired_table self }
     {
         match self {
@@ -102,8 +102,8 @@ pub(crate) fn validity_by(
     // The only error is `OutOfMemory`.
     ensures only { IfErr result (λ e. e ≡ Error.OutOfMemory) }
 {
-    let t = operator.known();
-    let paired = operator.known_paired();
+    let t = operator.validity_table();
+    let paired = operator.pair_validity_table();
     let len = left.len();
     match (left_validity.bitmap(), right_validity.bitmap()) {
         (None, None) => Ok(Validity::all_valid(len)),

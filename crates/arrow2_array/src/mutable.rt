@@ -4,7 +4,7 @@ ghost use Rattle.arrow2_types.specs.Failures.{error_of};
 ghost use Rattle.arrow2_model.specs.Parts.{part};
 ghost use Rattle.arrow2_model.specs.Storage.{items_of};
 ghost use Rattle.arrow2_packed_bits.specs.Growth.{Appends};
-ghost use Rattle.arrow2_bitmap.specs.Packed.{IsPacked};
+ghost use Rattle.arrow2_bitmap.specs.PackedBitmaps.{IsPacked};
 ghost use Rattle.arrow2_array.specs.Growth.{AppendsBooleans};
 ghost use Rattle.arrow2_array.specs.Items.{boolean_items, nulls};
 

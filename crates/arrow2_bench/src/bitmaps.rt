@@ -63,7 +63,7 @@ pub extern "C" fn bench_bitmaps(
     } else if call == b"not".as_slice() {
         on_bitmaps(alloc, bytes, parts, runs, not)
     } else if call == b"unary".as_slice() {
-        on_bitmaps(alloc, bytes, parts, runs, rotated)
+        on_bitmaps(alloc, bytes, parts, runs, rotate_words)
     } else {
         usize::MAX
     }
@@ -127,7 +127,7 @@ fn not(bitmap: &Bitmap) -> Result<usize> {
 }
 
 /// Counts the false items of a new bitmap by a word function that does not act bit by bit.
-fn rotated(bitmap: &Bitmap) -> Result<usize> {
+fn rotate_words(bitmap: &Bitmap) -> Result<usize> {
     Ok(unary(bitmap, |word| word.rotate_left(1))?.unset_bits())
 }
 

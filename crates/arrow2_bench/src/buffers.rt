@@ -15,7 +15,7 @@ pub extern "C" fn bench_buffer(alloc: Global, call: &[u8], items: &[u64], parts:
     } else if call == b"into_iter".as_slice() {
         on_slices(alloc, items, parts, added_up)
     } else if call == b"as_slice".as_slice() {
-        on_slices(alloc, items, parts, mixed)
+        on_slices(alloc, items, parts, mix)
     } else {
         usize::MAX
     }
@@ -65,7 +65,7 @@ fn added_up(buffer: Buffer<u64>) -> usize {
 }
 
 /// Mixes the items into one number, each by reference.
-fn mixed(buffer: Buffer<u64>) -> usize {
+fn mix(buffer: Buffer<u64>) -> usize {
     let mut all = 0u64;
     for item in buffer.as_slice() {
         all = all.rotate_left(1) ^ *item;

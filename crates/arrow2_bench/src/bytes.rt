@@ -25,7 +25,7 @@ pub extern "C" fn bench_bits(alloc: Global, call: &[u8], bytes: &[u8], parts: &[
     } else if call == b"iter".as_slice() {
         on_each(parts, |part| ones_of(bytes, part))
     } else if call == b"sliced".as_slice() {
-        on_whole(alloc, bytes, parts, sliced)
+        on_whole(alloc, bytes, parts, count_slice)
     } else {
         usize::MAX
     }
@@ -62,7 +62,7 @@ fn ones_of(bytes: &[u8], part: &Part) -> Result<usize> {
 }
 
 /// Counts the items of a slice that are false.
-fn sliced(whole: &Bitmap, part: &Part) -> Result<usize> {
+fn count_slice(whole: &Bitmap, part: &Part) -> Result<usize> {
     if !part.is_within(whole.len()) {
         return Ok(0);
     }
@@ -73,7 +73,7 @@ fn sliced(whole: &Bitmap, part: &Part) -> Result<usize> {
 #[unsafe(no_mangle)]
 pub extern "C" fn bench_bytes(alloc: Global, call: &[u8], bytes: &[u8], runs: &[usize]) -> usize {
     if call == b"from_u8_slice".as_slice() {
-        on_each(runs, |length| copied(alloc, bytes, *length))
+        on_each(runs, |length| copy_and_count(alloc, bytes, *length))
     } else if call == b"pop".as_slice() {
         on_each(runs, |length| pop(alloc, bytes, *length))
     } else if call == b"change_next".as_slice() {
@@ -151,7 +151,7 @@ fn pieces(whole: &Bitmap, cuts: &usize) -> Result<usize> {
 }
 
 /// Counts the first bits of copied bytes that are not set.
-fn copied(alloc: Global, bytes: &[u8], length: usize) -> Result<usize> {
+fn copy_and_count(alloc: Global, bytes: &[u8], length: usize) -> Result<usize> {
     if bytes.len().saturating_mul(8) < length {
         return Ok(0);
     }

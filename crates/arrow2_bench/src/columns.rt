@@ -31,7 +31,7 @@ pub extern "C" fn bench_columns(
         runs,
     };
     if call == b"filter".as_slice() {
-        on_columns(alloc, &inputs, filtered)
+        on_columns(alloc, &inputs, filter_and_add)
     } else if call == b"lt_scalar".as_slice() {
         on_columns(alloc, &inputs, below)
     } else if call == b"lt".as_slice() {
@@ -41,7 +41,7 @@ pub extern "C" fn bench_columns(
     } else if call == b"min".as_slice() {
         on_columns(alloc, &inputs, least)
     } else if call == b"copy".as_slice() {
-        on_columns(alloc, &inputs, copied)
+        on_columns(alloc, &inputs, copy_values)
     } else {
         usize::MAX
     }
@@ -99,7 +99,7 @@ pub(crate) fn bitmap(alloc: Global, bytes: &[u8], len: usize) -> Result<Bitmap> 
 }
 
 /// Counts the items that the mask selects, and adds the last value.
-fn filtered(column: &PrimitiveArray<i64>, mask: &Bitmap) -> Result<usize> {
+fn filter_and_add(column: &PrimitiveArray<i64>, mask: &Bitmap) -> Result<usize> {
     if column.len() != mask.len() {
         return Ok(0);
     }
@@ -139,7 +139,7 @@ fn least(column: &PrimitiveArray<i64>, _: &Bitmap) -> Result<usize> {
 }
 
 /// The absolute value of the last value of a copy, or 0 where there is none.
-fn copied(column: &PrimitiveArray<i64>, _: &Bitmap) -> Result<usize> {
+fn copy_values(column: &PrimitiveArray<i64>, _: &Bitmap) -> Result<usize> {
     let values = column.values();
     let copy = Buffer::try_from(Vec::from_slice(values.allocator(), values.as_slice())?)?;
     match copy.as_slice().last() {
@@ -184,13 +184,13 @@ pub extern "C" fn bench_options(
     runs: &[usize],
 ) -> usize {
     on_each(runs, |run| match (values.get(..*run), valid.get(..*run)) {
-        (Some(values), Some(valid)) => last_and_count(&built(alloc, values, valid)?),
+        (Some(values), Some(valid)) => last_and_count(&build(alloc, values, valid)?),
         _ => Ok(0),
     })
 }
 
 /// The column of the options, pushed one by one.
-fn built(alloc: Global, values: &[i64], valid: &[bool]) -> Result<PrimitiveArray<i64>> {
+fn build(alloc: Global, values: &[i64], valid: &[bool]) -> Result<PrimitiveArray<i64>> {
     let mut column = MutablePrimitiveArray::with_capacity(alloc, values.len())?;
     for (value, valid) in values.iter().zip(valid) {
         column.push(valid.then_some(*value))?;

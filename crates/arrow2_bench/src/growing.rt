@@ -141,13 +141,13 @@ pub extern "C" fn bench_assign(
     runs: &[usize],
 ) -> usize {
     if call == b"xor_assign".as_slice() {
-        changed(alloc, own, bytes, parts, runs, xor_assign::<u64>)
+        change_by_runs(alloc, own, bytes, parts, runs, xor_assign::<u64>)
     } else if call == b"xor_assign_by_bytes".as_slice() {
-        changed(alloc, own, bytes, parts, runs, xor_assign::<u8>)
+        change_by_runs(alloc, own, bytes, parts, runs, xor_assign::<u8>)
     } else if call == b"and_assign".as_slice() {
-        changed(alloc, own, bytes, parts, runs, and_assign)
+        change_by_runs(alloc, own, bytes, parts, runs, and_assign)
     } else if call == b"binary_assign_table".as_slice() {
-        changed(alloc, own, bytes, parts, runs, equal_by_table)
+        change_by_runs(alloc, own, bytes, parts, runs, equal_by_table)
     } else if call == b"unary_assign_table".as_slice() {
         turned_by_table(alloc, own, runs)
     } else {
@@ -156,7 +156,7 @@ pub extern "C" fn bench_assign(
 }
 
 /// Changes a growing bitmap by the bitmaps that the runs choose, and counts the items that are false then.
-fn changed<F: Fn(&mut MutableBitmap, &Bitmap)>(
+fn change_by_runs<F: Fn(&mut MutableBitmap, &Bitmap)>(
     alloc: Global,
     own: &[u8],
     bytes: &[u8],

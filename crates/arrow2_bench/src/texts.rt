@@ -34,7 +34,7 @@ pub extern "C" fn bench_texts(
         runs,
     };
     let sum = if call == b"try_new".as_slice() {
-        made(alloc, &inputs)
+        make_each_run(alloc, &inputs)
     } else if call == b"push".as_slice() {
         built_each(alloc, &inputs)
     } else if call == b"compared".as_slice() {
@@ -60,7 +60,7 @@ struct Inputs<'a> {
 }
 
 /// Makes the column of all texts again for each run, and adds up their numbers.
-fn made(alloc: Global, inputs: &Inputs<'_>) -> Result<usize> {
+fn make_each_run(alloc: Global, inputs: &Inputs<'_>) -> Result<usize> {
     let mut sum = 0usize;
     for _ in inputs.runs {
         sum = sum.wrapping_add(texts(alloc, inputs)?.len());
@@ -71,19 +71,19 @@ fn made(alloc: Global, inputs: &Inputs<'_>) -> Result<usize> {
 /// Adds up the bytes of copies of prefixes.
 fn built_each(alloc: Global, inputs: &Inputs<'_>) -> Result<usize> {
     let texts = texts(alloc, inputs)?;
-    Ok(on_each(inputs.runs, |run| built(&first(&texts, *run)?)))
+    Ok(on_each(inputs.runs, |run| push_each(&first(&texts, *run)?)))
 }
 
 /// Compares each text of prefixes with the first one.
 fn compared_each(alloc: Global, inputs: &Inputs<'_>) -> Result<usize> {
     let texts = texts(alloc, inputs)?;
-    Ok(on_each(inputs.runs, |run| compared(&first(&texts, *run)?)))
+    Ok(on_each(inputs.runs, |run| compare_with_first(&first(&texts, *run)?)))
 }
 
 /// Compares slices of prefixes.
 fn sliced_each(alloc: Global, inputs: &Inputs<'_>) -> Result<usize> {
     let texts = texts(alloc, inputs)?;
-    Ok(on_each(inputs.runs, |run| sliced(&first(&texts, *run)?)))
+    Ok(on_each(inputs.runs, |run| slice_and_compare(&first(&texts, *run)?)))
 }
 
 /// Filters prefixes by a prefix of the mask.
@@ -92,7 +92,7 @@ fn filtered_each(alloc: Global, inputs: &Inputs<'_>) -> Result<usize> {
     let mask = bitmap(alloc, inputs.mask, texts.len())?;
     Ok(on_each(inputs.runs, |run| {
         let mask = mask.clone()?.sliced(0, (*run).min(mask.len()));
-        filtered(&first(&texts, *run)?, &mask)
+        filter_texts(&first(&texts, *run)?, &mask)
     }))
 }
 
@@ -115,7 +115,7 @@ fn texts(alloc: Global, inputs: &Inputs<'_>) -> Result<Utf8Array<i64>> {
 }
 
 /// The number of bytes of a copy that is pushed text by text.
-fn built(texts: &Utf8Array<i64>) -> Result<usize> {
+fn push_each(texts: &Utf8Array<i64>) -> Result<usize> {
     let mut copy = MutableUtf8Array::<i64>::new(texts.values().allocator())?;
     for index in 0..texts.len() {
         copy.push(texts.get(index))?;
@@ -124,7 +124,7 @@ fn built(texts: &Utf8Array<i64>) -> Result<usize> {
 }
 
 /// Counts the texts that are null or differ from the first slot.
-fn compared(texts: &Utf8Array<i64>) -> Result<usize> {
+fn compare_with_first(texts: &Utf8Array<i64>) -> Result<usize> {
     if texts.is_empty() {
         return Ok(0);
     }
@@ -140,7 +140,7 @@ fn compared(texts: &Utf8Array<i64>) -> Result<usize> {
 }
 
 /// Returns 1 where a copy of the texts, sliced as the texts are, is equal to them.
-fn sliced(texts: &Utf8Array<i64>) -> Result<usize> {
+fn slice_and_compare(texts: &Utf8Array<i64>) -> Result<usize> {
     let Some(len) = texts.len().checked_sub(1) else {
         return Ok(0);
     };
@@ -149,7 +149,7 @@ fn sliced(texts: &Utf8Array<i64>) -> Result<usize> {
 }
 
 /// The number of bytes of the texts that the mask selects.
-fn filtered(texts: &Utf8Array<i64>, mask: &Bitmap) -> Result<usize> {
+fn filter_texts(texts: &Utf8Array<i64>, mask: &Bitmap) -> Result<usize> {
     if texts.len() != mask.len() {
         return Ok(0);
     }

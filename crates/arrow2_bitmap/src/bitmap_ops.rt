@@ -1,11 +1,11 @@
 //! New bitmaps from word functions and truth tables, and the operators on shared bitmaps.
 ghost use Rattle.std.specs.Prelude.{◌≡◌, ℕ, List, Bool, [], ◌∷◌, length, replicate, IfOk, IfErr, IfSome, IsTrue, MatchResult, ◌⊎◌};
-ghost use Rattle.arrow2_model.specs.Kernels.{word, joined, kernel, unary_kernel, binary_kernel, ComputesUnary, ComputesBinary};
+ghost use Rattle.arrow2_model.specs.Kernels.{word, bits_of_words, kernel, unary_kernel, binary_kernel, ComputesUnary, ComputesBinary};
 ghost use Rattle.arrow2_model.specs.Storage.{items_of};
 ghost use Rattle.arrow2_model.specs.Tables.{each, IsBitwiseUnary, IsBitwiseBinary};
 ghost use Rattle.arrow2_types.specs.declared.error.Error.TheVariants.{OutOfMemory};
 ghost use Rattle.arrow2_kernels.specs.WordResults.{AreJoinedResults, MayReturnRow};
-ghost use Rattle.arrow2_bitmap.specs.Packed.{IsPacked};
+ghost use Rattle.arrow2_bitmap.specs.PackedBitmaps.{IsPacked};
 ghost use Rattle.arrow2_model.specs.Rows.{AreRowsOf, IsBitwiseOnRows, ComputesRows};
 
 use crate::immutable::Bitmap;
@@ -46,7 +46,7 @@ pub fn from_rows<S: WordRows<u64>, F: Fn(S::Row) -> u64>(
     // If the results of `op` are those of a mathematical function `f` on words: the items are the bits of the results
     // of `f` for the rows, in their order, cut to `len`. The number of a word of type `u64` is the word: `λ x. x`.
     ensures items { (f : List ℕ → ℕ) → ComputesRows 64 S.words (λ x. x) (F.post op) f →
-        IfOk result (λ b. items_of b ≡ joined 64 (λ j. f (S.row_at rows j)) len) }
+        IfOk result (λ b. items_of b ≡ bits_of_words 64 (λ j. f (S.row_at rows j)) len) }
     // If, besides, the rows are the words of some `lists` of booleans: the items are `kernel 64 f lists`.
     ensures kernel { (f : List ℕ → ℕ) (lists : List (List Bool)) →
         ComputesRows 64 S.words (λ x. x) (F.post op) f →
@@ -225,7 +225,7 @@ pub fn and(lhs: &Bitmap, rhs: &Bitmap) -> Result<Bitmap>
     ensures only { IfErr result (λ e. e ≡ Error.OutOfMemory) }
 {
     if one_is_all(lhs, rhs, false) {
-        filled(lhs.allocator(), lhs.len(), false)
+        constant_bitmap(lhs.allocator(), lhs.len(), false)
     } else {
         binary_table(lhs, rhs, 0b1000)
     }
@@ -247,7 +247,7 @@ pub fn or(lhs: &Bitmap, rhs: &Bitmap) -> Result<Bitmap>
     ensures only { IfErr result (λ e. e ≡ Error.OutOfMemory) }
 {
     if one_is_all(lhs, rhs, true) {
-        filled(lhs.allocator(), lhs.len(), true)
+        constant_bitmap(lhs.allocator(), lhs.len(), true)
     } else {
         binary_table(lhs, rhs, 0b1110)
     }
@@ -271,7 +271,7 @@ pub fn xor(lhs: &Bitmap, rhs: &Bitmap) -> Result<Bitmap>
     let left = value_of_all(lhs);
     let right = value_of_all(rhs);
     match (left, right) {
-        (Some(left), Some(right)) => filled(lhs.allocator(), lhs.len(), left != right),
+        (Some(left), Some(right)) => constant_bitmap(lhs.allocator(), lhs.len(), left != right),
         _ => binary_table(lhs, rhs, 0b0110),
     }
 }
@@ -378,7 +378,7 @@ fn value_of_all(bitmap: &Bitmap) -> Option<bool>
 }
 
 /// Returns a bitmap of `len` items, all of them `value`.
-fn filled(alloc: Global, len: usize, value: bool) -> Result<Bitmap>
+fn constant_bitmap(alloc: Global, len: usize, value: bool) -> Result<Bitmap>
     ensures items { IfOk result (λ b. items_of b ≡ replicate len value) }
     ensures storage { IfOk result (λ b. IsPacked b) }
     ensures only { IfErr result (λ e. e ≡ Error.OutOfMemory) }

@@ -19,7 +19,7 @@ ghost use Rattle.arrow2_types.specs.Failures.{FailsOnlyWith};
 ghost use Rattle.arrow2_types.specs.declared.error.Error.TheVariants.{OutOfMemory};
 ghost use Rattle.arrow2_bitmap.specs.Predicates.{ReturnsBelow, ReturnsOnEach, ReturnsOnPairs, IsResultAt, IsPairResultAt, IsCallableWithEach, IsCallableWithPairs};
 ghost use Rattle.arrow2_bitmap.specs.Iterators.{MayYieldTooMany};
-ghost use Rattle.arrow2_bitmap.specs.Packed.{IsPacked, packed_storage};
+ghost use Rattle.arrow2_bitmap.specs.PackedBitmaps.{IsPacked, packed_storage};
 ghost use Rattle.arrow2_bitmap.specs.Failures.{too_long};
 ghost use Rattle.std.specs.declared.alloc.Global.{Global};
 ghost use Rattle.std.specs.Fmt.{WritesStyledOnOk};
@@ -571,14 +571,14 @@ impl Bitmap {
         ensures only { IfErr result (λ e. e ≡ Error.OutOfMemory) }
     {
         match self.into_mut() {
-            Either::Left(shared) => copied(&shared),
+            Either::Left(shared) => copy_items(&shared),
             Either::Right(own) => Ok(own),
         }
     }
 }
 
 /// Returns a bitmap that grows, with a copy of the items. Allocates once.
-fn copied(bitmap: &Bitmap) -> Result<MutableBitmap>
+fn copy_items(bitmap: &Bitmap) -> Result<MutableBitmap>
     ensures ok { IfOk result (λ m. m.items ≡ items_of bitmap.now) }
     ensures only { IfErr result (λ e. e ≡ Error.OutOfMemory) }
 {

@@ -2,7 +2,7 @@
 //! an empty body.
 ghost use Rattle.std.specs.Prelude.{◌≡◌, ◌↔◌, ◌++◌, ℕ, List, Bool, length, take, drop};
 ghost use Rattle.arrow2_model.specs.Canonical.{canonical_bytes};
-ghost use Rattle.arrow2_bitmap.specs.Packed.{packed_storage};
+ghost use Rattle.arrow2_bitmap.specs.PackedBitmaps.{packed_storage};
 ghost use Rattle.arrow2_model.specs.Storage.{BitmapStorage, GrowingBitmap, items_of};
 
 /// Two bitmaps that grow, of equal length, are equal exactly if their bytes are.

@@ -9,7 +9,7 @@ ghost use Rattle.std.specs.Cmp.Lexicographic.{pointwise, lists_equiv};
 ghost use Rattle.arrow2_model.specs.Bits.{bits};
 ghost use Rattle.arrow2_model.specs.Parts.{falses, part};
 ghost use Rattle.arrow2_model.specs.Canonical.{canonical_bytes};
-ghost use Rattle.arrow2_bitmap.specs.Packed.{packed_storage};
+ghost use Rattle.arrow2_bitmap.specs.PackedBitmaps.{packed_storage};
 ghost use Rattle.arrow2_model.specs.Shown.{shown};
 ghost use Rattle.arrow2_model.specs.Storage.{GrowingBitmap, items_of};
 ghost use Rattle.arrow2_model.specs.Tables.{each};
@@ -24,7 +24,7 @@ use crate::check::check_length;
 use crate::immutable::Bitmap;
 use arrow2_bits::{BitmapIter, bytes_for, count_zeros, get_bit};
 use arrow2_packed_bits::PackedBits;
-use arrow2_packed_bits::packing::{collected, packed};
+use arrow2_packed_bits::packing::{collect_bits, pack_bits};
 use arrow2_types::{Error, Result};
 use std::alloc::{AllocError, Global};
 use std::convert::TryFrom;
@@ -125,12 +125,12 @@ impl MutableBitmap {
     /// # Errors
     ///
     /// `OutOfMemory` alone.
-    #[tactic(auto, using(arrow2_packed_bits::proofs::Filled::filling))]
+    #[tactic(auto, using(arrow2_packed_bits::proofs::ConstantBytes::filling))]
     pub fn from_len_zeroed(alloc: Global, len: usize) -> Result<MutableBitmap>
         ensures ok { IfOk result (λ m. m.items ≡ replicate len false) }
         ensures only { IfErr result (λ e. e ≡ Error.OutOfMemory) }
     {
-        let zeros = filled(alloc, 0, bytes_for(len))?;
+        let zeros = constant_bytes(alloc, 0, bytes_for(len))?;
         Ok(MutableBitmap::from_vec(zeros, len))
     }
 
@@ -139,12 +139,12 @@ impl MutableBitmap {
     /// # Errors
     ///
     /// `OutOfMemory` alone.
-    #[tactic(auto, using(arrow2_packed_bits::proofs::Filled::filling))]
+    #[tactic(auto, using(arrow2_packed_bits::proofs::ConstantBytes::filling))]
     pub fn from_len_set(alloc: Global, len: usize) -> Result<MutableBitmap>
         ensures ok { IfOk result (λ m. m.items ≡ replicate len true) }
         ensures only { IfErr result (λ e. e ≡ Error.OutOfMemory) }
     {
-        let ones = filled(alloc, u8::MAX, bytes_for(len))?;
+        let ones = constant_bytes(alloc, u8::MAX, bytes_for(len))?;
         Ok(MutableBitmap::from_vec(ones, len))
     }
 
@@ -170,7 +170,7 @@ impl MutableBitmap {
             (it : I.IntoIter) × I.into_iter_gives iter it × MayYieldTooMany I.IntoIter.next_gives it }
         ensures only { IfErr result (λ e. (e ≡ Error.Overflow) ⊎ (e ≡ Error.OutOfMemory)) }
     {
-        let (bytes, length) = collected(alloc, iter.into_iter())?;
+        let (bytes, length) = collect_bits(alloc, iter.into_iter())?;
         Ok(MutableBitmap::from_vec(bytes, length))
     }
 
@@ -183,7 +183,7 @@ impl MutableBitmap {
         ensures ok { IfOk result (λ m. m.items ≡ items.now) }
         ensures only { IfErr result (λ e. e ≡ Error.OutOfMemory) }
     {
-        Ok(MutableBitmap::from_vec(packed(alloc, items)?, items.len()))
+        Ok(MutableBitmap::from_vec(pack_bits(alloc, items)?, items.len()))
     }
 
     /// Appends one item. Below the capacity it does not allocate. arrow2 returns no `Result`, and its length may wrap.
@@ -479,7 +479,7 @@ impl Eq for MutableBitmap {
 }
 
 /// Returns `count` bytes, each of them `byte`.
-fn filled(alloc: Global, byte: u8, count: usize) -> std::result::Result<Vec<u8>, AllocError>
+fn constant_bytes(alloc: Global, byte: u8, count: usize) -> std::result::Result<Vec<u8>, AllocError>
     ensures { IfOk result (λ bytes. bytes.items ≡ replicate count byte) }
 {
     vec![in alloc; byte; count]

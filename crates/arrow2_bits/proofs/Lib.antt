@@ -1,9 +1,9 @@
-pub mod Compared
-pub mod Counted
+pub mod ZeroCounts
 pub mod LaneCounts
 pub mod Lending
-pub mod Loaded
-pub mod Merged
 pub mod NextChunk
-pub mod Spilled
 pub mod Tables
+pub mod WordComparison
+pub mod WordIterators
+pub mod WordLoads
+pub mod WordMerges

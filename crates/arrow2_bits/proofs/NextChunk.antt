@@ -2,7 +2,7 @@
 use Rattle.std.proofs.Common.{◌≡◌, ◌≤◌, ◌<◌, ◌+◌, ◌-◌, ◌/◌, ◌⊎◌, inl, inr, ℕ, Bool, true, false, nat_le, if◌then◌else◌, List, ◌++◌, length, take, drop, ap, ◌∙◌, refl, arith}
 use Rattle.std.proofs.Math.Nat.{div-eq-sub-div}
 use Rattle.std.proofs.lemmas.List.{length-append, length-drop, length-take-le, take-append-drop, nil_from_length}
-use Rattle.arrow2_model.specs.Buffers.{overwritten}
+use Rattle.arrow2_model.specs.Buffers.{overwrite}
 use Rattle.arrow2_bits.specs.ChunksMut.{ChunkCursorMut, chunks_left, next_len, past}
 
 -- one chunk fewer
@@ -24,9 +24,9 @@ whole-chunk cursor p = elim (either (nat_le cursor.size (length cursor.bytes - c
 pub left-past : (cursor : ChunkCursorMut) (written : List ℕ) → length written ≡ cursor.size → 0 < cursor.size → cursor.size ≤ length cursor.bytes - cursor.at → chunks_left cursor ≡ chunks_left (past cursor cursor.size written) + 1
 left-past cursor written e p h =
     let following = drop (length written) (drop cursor.at cursor.bytes) in
-    let same : length (overwritten cursor.bytes cursor.at written) ≡ length cursor.bytes =
+    let same : length (overwrite cursor.bytes cursor.at written) ≡ length cursor.bytes =
     omega (arith, length-append (take cursor.at cursor.bytes) (written ++ following), length-append written following, length-take-le cursor.at cursor.bytes (omega arith), length-drop (length written) (drop cursor.at cursor.bytes), length-drop cursor.at cursor.bytes) in
-    one-fewer cursor.size (length cursor.bytes - cursor.at) (length (overwritten cursor.bytes cursor.at written) - (cursor.at + cursor.size)) p h (omega (arith, same))
+    one-fewer cursor.size (length cursor.bytes - cursor.at) (length (overwrite cursor.bytes cursor.at written) - (cursor.at + cursor.size)) p h (omega (arith, same))
 
 -- where nothing was lent the iterator stays
 pub past-none : (cursor : ChunkCursorMut) (written : List ℕ) → next_len cursor ≡ 0 → length written ≡ 0 → past cursor (next_len cursor) written ≡ cursor

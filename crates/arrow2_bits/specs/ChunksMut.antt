@@ -1,7 +1,7 @@
 -- The model of an iterator by chunks that are borrowed mutably.
 use Rattle.std.specs.Prelude.{◌≡◌, ℕ, ◌+◌, ◌-◌, ◌/◌, List, Option, nat_le, if◌then◌else◌, drop, length, MatchOption}
 use Rattle.std.specs.Borrow.{MutBor}
-use Rattle.arrow2_model.specs.Buffers.{overwritten}
+use Rattle.arrow2_model.specs.Buffers.{overwrite}
 use Rattle.arrow2_model.specs.Parts.{part}
 
 -- the iterator: the bytes of its chunks, the index of the next chunk in them, the number of bytes of a chunk, the bytes
@@ -27,7 +27,7 @@ next_len cursor = if nat_le cursor.size (length cursor.bytes - cursor.at) then c
 
 -- the iterator moved past its next n bytes, over which `written` is written
 abbrev pub past : ChunkCursorMut → ℕ → List ℕ → ChunkCursorMut
-past cursor n written = record cursor { bytes = overwritten cursor.bytes cursor.at written; at = cursor.at + n }
+past cursor n written = record cursor { bytes = overwrite cursor.bytes cursor.at written; at = cursor.at + n }
 
 -- one call of `next`: it returns the next chunk, and the iterator keeps neither this chunk nor the bytes before it; or
 -- no chunk is left, and the iterator stays as it was

@@ -91,7 +91,7 @@ impl<'a, T: BitChunk> BitChunks<'a, T> {
         let shift = offset % 8;
         let size = T::SIZE;
         let count = len / 8 / size;
-        let following = spilled(bytes, shift, len, count * size);
+        let following = remainder_bytes(bytes, shift, len, count * size);
         BitChunks {
             bytes,
             shift,
@@ -189,7 +189,7 @@ impl<'a, T: BitChunk> ExactSizeIterator for BitChunks<'a, T> {
 
 /// Returns the bytes in which the remainder is stored: all bytes where `start` is 0, else those from byte `start` up to
 /// the byte that holds the last of the `len` bits from bit `shift` on.
-fn spilled(bytes: &[u8], shift: usize, len: usize, start: usize) -> &[u8]
+fn remainder_bytes(bytes: &[u8], shift: usize, len: usize, start: usize) -> &[u8]
     requires position { shift < 8 }
     requires within { shift + len ≤ 8 * length bytes.now }
     requires order { start ≤ len / 8 }

@@ -77,7 +77,7 @@ impl<'a, T: BitChunk> BitChunksExactMut<'a, T> {
 }
 
 impl<'a, T> BitChunksExactMut<'a, T> {
-    ghost use Rattle.arrow2_bits.specs.LentChunk.{LendsBytes, LendsPart, LendsNext, LendsNextIf, LendsRemainder};
+    ghost use Rattle.arrow2_bits.specs.ChunkLoans.{LendsBytes, LendsPart, LendsNext, LendsNextIf, LendsRemainder};
 
     /// Returns the next chunk as a mutable slice, or `None` where no chunk is left. Afterwards the iterator is past the
     /// chunk and holds the bytes that were written through the slice, and every other byte is as it was.

@@ -129,7 +129,7 @@ fn zeros_in_bytes(stored: &mut Stored<'_>, first: usize, count: usize) -> usize
     ensures reads { stored.new.reads ≡ stored.old.reads + count }
 {
     let pairs = count / 64;
-    let counted = Counted {
+    let counted = OnesUpTo {
         ones: ones_in_blocks(stored, first, pairs),
         end: first + 64 * pairs,
     };
@@ -177,7 +177,7 @@ fn ones_in_block(stored: &mut Stored<'_>, at: usize) -> usize
 
 /// The number of set bits of the bytes from a first byte on up to byte `end`.
 #[derive(Clone, Copy)]
-struct Counted {
+struct OnesUpTo {
     ones: usize,
     end: usize,
 }
@@ -188,10 +188,10 @@ struct Counted {
 fn with_words<T: BitChunk, const N: usize>(
     stored: &mut Stored<'_>,
     first: usize,
-    counted: Counted,
+    counted: OnesUpTo,
     words: usize,
     times: usize,
-) -> Counted
+) -> OnesUpTo
     // The words are inside the bytes, and no number overflows.
     requires width { T.WIDTH ≡ 8 * N }
     requires once { times ≤ 1 }
@@ -212,7 +212,7 @@ fn with_words<T: BitChunk, const N: usize>(
     if times == 0 {
         return counted;
     }
-    Counted {
+    OnesUpTo {
         ones: counted.ones + ones_in_words::<T, N>(stored, counted.end, words),
         end: counted.end + N * words,
     }

@@ -1,2 +1,2 @@
-pub mod Overwritten
+pub mod Overwrites
 pub mod Part

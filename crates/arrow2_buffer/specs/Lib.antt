@@ -1,2 +1,2 @@
-pub mod Lent
-pub mod LentItems
+pub mod ItemLoans
+pub mod Loans

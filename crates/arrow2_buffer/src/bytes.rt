@@ -2,7 +2,7 @@
 ghost use Rattle.std.specs.Prelude.{◌≡◌, ◌-◌, ◌≤◌, [], length, IfSome};
 ghost use Rattle.arrow2_model.specs.Parts.{part};
 ghost use Rattle.std.specs.Borrow.{sem};
-ghost use Rattle.arrow2_buffer.specs.Lent.{LendsOwned, LendsPart};
+ghost use Rattle.arrow2_buffer.specs.Loans.{LendsOwned, LendsPart};
 ghost use Rattle.std.specs.declared.alloc.Global.{Global};
 
 use std::alloc::Global;

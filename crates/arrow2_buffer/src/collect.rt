@@ -16,7 +16,7 @@ const SECOND_CAPACITY: usize = 512;
 ///
 /// Repeats until the iterator ends: takes one item, reserves capacity, and fills this capacity in an inner loop. The
 /// capacity does not change in the inner loop, so the compiler can vectorize it.
-pub(crate) fn collected<T: Drop, I: Iterator<Item = T>>(
+pub(crate) fn collect_items<T: Drop, I: Iterator<Item = T>>(
     alloc: Global,
     source: I,
 ) -> Result<Vec<T>, AllocError>
@@ -32,7 +32,7 @@ pub(crate) fn collected<T: Drop, I: Iterator<Item = T>>(
         };
         grow_capacity(&mut items)?;
         items.push_reserved(item);
-        let (full, went_on) = filled(items, &mut source);
+        let (full, went_on) = fill_capacity(items, &mut source);
         items = full;
         if !went_on {
             return Ok(items);
@@ -42,7 +42,7 @@ pub(crate) fn collected<T: Drop, I: Iterator<Item = T>>(
 
 /// Appends items of an iterator to a vector while the vector has spare capacity. Returns the vector, and whether the
 /// iterator may yield more.
-fn filled<T: Drop, I: Iterator<Item = T>>(items: Vec<T>, source: &mut I) -> (Vec<T>, bool)
+fn fill_capacity<T: Drop, I: Iterator<Item = T>>(items: Vec<T>, source: &mut I) -> (Vec<T>, bool)
     // The iterator can be advanced, and ends.
     requires can { I.can_next source.old }
     requires ends { IsFinite (I.remaining source.old) }

@@ -14,13 +14,13 @@ ghost use Rattle.std.specs.Bool.{Decides};
 ghost use Rattle.std.specs.Cmp.Lexicographic.{pointwise, lists_per, lists_equiv};
 ghost use Rattle.arrow2_types.specs.declared.error.Error.TheVariants.{OutOfMemory};
 ghost use Rattle.arrow2_model.specs.Parts.{part};
-ghost use Rattle.arrow2_model.specs.Buffers.{buffer_items, whole_buffer, overwritten};
-ghost use Rattle.arrow2_buffer.specs.Lent.{LendsOwnedPart, ReplacesPart};
+ghost use Rattle.arrow2_model.specs.Buffers.{buffer_items, whole_buffer, overwrite};
+ghost use Rattle.arrow2_buffer.specs.Loans.{LendsOwnedPart, ReplacesPart};
 ghost use Rattle.either.specs.Either.{MatchEither};
 ghost use Rattle.std.specs.declared.alloc.Global.{Global};
 
 use crate::bytes::Bytes;
-use crate::collect::collected;
+use crate::collect::collect_items;
 use arrow2_types::{Error, Result};
 use either::Either;
 use std::alloc::{AllocError, Global};
@@ -69,7 +69,7 @@ impl<T> Model for Buffer<T> {
 
 #[tactic(auto, using(crate::proofs::Part::slicing))]
 impl<T> Buffer<T> {
-    ghost use Rattle.arrow2_buffer.specs.LentItems.{LendsItems};
+    ghost use Rattle.arrow2_buffer.specs.ItemLoans.{LendsItems};
 
     /// Returns the number of items.
     ///
@@ -185,7 +185,7 @@ impl<T> Buffer<T> {
             tt (buffer_items self.new)) }
         ensures others { OnTrue result (self.new
             ≡ record self.old
-            { storage = overwritten self.old.storage self.old.offset (buffer_items self.new) }) }
+            { storage = overwrite self.old.storage self.old.offset (buffer_items self.new) }) }
         ensures same { OnFalse result (self.new ≡ self.old) }
     {
         let start = self.offset;
@@ -298,7 +298,7 @@ impl<T: Drop> Buffer<T> {
             × WholeRun I.IntoIter.next_gives it (λ p. b ≡ whole_buffer p.items)) }
         ensures only { IfErr result (λ e. e ≡ OutOfMemory) }
     {
-        let items = collected(alloc, iter.into_iter())?;
+        let items = collect_items(alloc, iter.into_iter())?;
         Buffer::try_from(items)
     }
 }

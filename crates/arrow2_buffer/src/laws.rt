@@ -2,19 +2,19 @@
 //! an empty body.
 ghost use Rattle.std.specs.Prelude.{◌≡◌, ◌+◌, ◌≤◌, List, length, take, drop};
 ghost use Rattle.arrow2_model.specs.Buffers.{BufferStorage, buffer_items};
-ghost use Rattle.arrow2_buffer.specs.Lent.{rewritten};
+ghost use Rattle.arrow2_buffer.specs.Loans.{overwrite_lent};
 
 /// When a mutable borrow of a buffer's items has ended, the items of the buffer are those that were written, and the
 /// items of the storage to the left and to the right of the buffer are unchanged.
-#[tactic(auto, using(crate::proofs::Overwritten::loans))]
+#[tactic(auto, using(crate::proofs::Overwrites::loans))]
 pub fn written_items_are_the_items<T>()
     ensures items { (b : BufferStorage T) (others : List T) → b.offset + b.len ≤ length b.storage →
         length others ≡ b.len →
-        buffer_items (record b { storage = rewritten b.storage b.offset others }) ≡ others }
+        buffer_items (record b { storage = overwrite_lent b.storage b.offset others }) ≡ others }
     ensures before { (b : BufferStorage T) (others : List T) → b.offset + b.len ≤ length b.storage →
-        length others ≡ b.len → take b.offset (rewritten b.storage b.offset others)
+        length others ≡ b.len → take b.offset (overwrite_lent b.storage b.offset others)
         ≡ take b.offset b.storage }
     ensures following { (b : BufferStorage T) (others : List T) → let end = b.offset + b.len in
         end ≤ length b.storage → length others ≡ b.len →
-        drop end (rewritten b.storage b.offset others) ≡ drop end b.storage }
+        drop end (overwrite_lent b.storage b.offset others) ≡ drop end b.storage }
 {}

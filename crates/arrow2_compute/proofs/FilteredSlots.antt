@@ -4,19 +4,19 @@ use Rattle.std.specs.Prelude.{◌↔◌, Option, Some, None, IfSome, IsNone}
 use Rattle.std.proofs.lemmas.List.{length-map, length-replicate}
 use Rattle.arrow2_model.specs.Parts.{falses}
 use Rattle.arrow2_model.specs.Storage.{BitmapStorage, items_of}
-use Rattle.arrow2_offset.proofs.Nested.{length-cut}
-use Rattle.arrow2_bitmap.specs.Packed.{IsPacked}
+use Rattle.arrow2_offset.proofs.NestedLists.{length-cut}
+use Rattle.arrow2_bitmap.specs.PackedBitmaps.{IsPacked}
 use Rattle.arrow2_text.specs.Binary.{BinaryParts, IsCompact, binary_items, binary_values, slots_between}
 use Rattle.arrow2_validity.specs.OptionalValidity.{OptionalValidity, items_or_true, valid_items}
 use Rattle.arrow2_validity.proofs.Slots.{zipped-true}
 use Rattle.arrow2_validity.proofs.ValidItems.{items-none, items-some}
-use Rattle.arrow2_walks.specs.Selected.{selected}
+use Rattle.arrow2_walks.specs.Selections.{selection}
 use Rattle.arrow2_walks.specs.Zipped.{zipped}
-use Rattle.arrow2_walks.proofs.Selected.{count-selected}
+use Rattle.arrow2_walks.proofs.Selections.{count-selected}
 use Rattle.arrow2_walks.proofs.Zipped.{length-zipped, nulls-zipped}
 use Rattle.arrow2_numeric.proofs.Selecting.{selected-true, selected-zipped}
 use Rattle.arrow2_compute.specs.Sizes.{with_bitmap}
-use Rattle.arrow2_compute.proofs.Gathered.{known-slots}
+use Rattle.arrow2_compute.proofs.ItemsAtIndices.{known-slots}
 
 -- there is one list of bytes for each slot
 length-values : (a : BinaryParts) → length (binary_values a) ≡ slots_between a.offsets
@@ -47,39 +47,39 @@ module _ (a : BinaryParts) (w : OptionalValidity) (ms : List Bool) (same : lengt
 pub record AreFiltered (a k : BinaryParts) (ms : List Bool) (v : OptionalValidity) : Type 0 where
   pub known : length (valid_items a.validity) ≡ slots_between a.offsets
   pub same : length ms ≡ slots_between a.offsets
-  pub kept : binary_items k ≡ selected (binary_items (with_bitmap a None)) ms
+  pub kept : binary_items k ≡ selection (binary_items (with_bitmap a None)) ms
   pub sized : length (valid_items k.validity) ≡ slots_between k.offsets
-  pub chosen : valid_items v ≡ selected (valid_items a.validity) ms
+  pub chosen : valid_items v ≡ selection (valid_items a.validity) ms
   pub counted : v.len + falses ms ≡ length ms
 
 -- by the validities that were read, and the array without its own
 pub filtered : (a s k : BinaryParts) (w u v : OptionalValidity) (ms : List Bool) → length ms ≡ length (binary_items a) → w ≡ a.validity → length (valid_items w) ≡ slots_between a.offsets → s ≡ with_bitmap a None
-    → binary_items k ≡ selected (binary_items s) ms → u ≡ k.validity → length (valid_items u) ≡ slots_between k.offsets → valid_items v ≡ selected (valid_items w) ms → v.len + falses ms ≡ length ms → AreFiltered a k ms v
+    → binary_items k ≡ selection (binary_items s) ms → u ≡ k.validity → length (valid_items u) ≡ slots_between k.offsets → valid_items v ≡ selection (valid_items w) ms → v.len + falses ms ≡ length ms → AreFiltered a k ms v
 filtered a s k w u v ms same is slots all kept also also-slots chosen counted = record {
   known = ap (λ z. length (valid_items z)) (sym is) ∙ slots;
   same = mask-slots a w ms same is slots;
-  kept = kept ∙ ap (λ p. selected (binary_items p) ms) all;
+  kept = kept ∙ ap (λ p. selection (binary_items p) ms) all;
   sized = ap (λ z. length (valid_items z)) (sym also) ∙ also-slots;
-  chosen = chosen ∙ ap (λ z. selected (valid_items z) ms) is;
+  chosen = chosen ∙ ap (λ z. selection (valid_items z) ms) is;
   counted = counted;
 }
 
 module _ (a k : BinaryParts) (ms : List Bool) (v : OptionalValidity) (f : AreFiltered a k ms v) where
-  selected-known : selected (map (λ x. Some x) (binary_values a)) ms ≡ map (λ x. Some x) (selected (binary_values a) ms)
+  selected-known : selection (map (λ x. Some x) (binary_values a)) ms ≡ map (λ x. Some x) (selection (binary_values a) ms)
   selected-known =
       let values = binary_values a in
       let n = length values in
       let long = count-selected values ms (f.same ∙ sym (length-values a)) in
       let also = count-selected (replicate n true) ms (f.same ∙ (sym (length-values a) ∙ sym (length-replicate n true))) in
-      ap (λ l. selected l ms) (sym (zipped-true values))
+      ap (λ l. selection l ms) (sym (zipped-true values))
       ∙ (selected-zipped values (replicate n true) ms (length-replicate n true)
-      ∙ (ap (zipped (selected values ms)) (selected-true n ms ∙ ap (λ m. replicate m true) (omega (arith, long, also)))
-      ∙ zipped-true (selected values ms)))
+      ∙ (ap (zipped (selection values ms)) (selected-true n ms ∙ ap (λ m. replicate m true) (omega (arith, long, also)))
+      ∙ zipped-true (selection values ms)))
 
   -- the slots are those that the mask selects
-  values-kept : binary_values k ≡ selected (binary_values a) ms
-  values-kept = known-slots (binary_values k) (selected (binary_values a) ms) (valid_items k.validity) (f.sized ∙ sym (length-values k))
-      (f.kept ∙ (ap (λ l. selected l ms) (all-known a) ∙ selected-known))
+  values-kept : binary_values k ≡ selection (binary_values a) ms
+  values-kept = known-slots (binary_values k) (selection (binary_values a) ms) (valid_items k.validity) (f.sized ∙ sym (length-values k))
+      (f.kept ∙ (ap (λ l. selection l ms) (all-known a) ∙ selected-known))
 
   -- there are as many of them as the validity has items
   len-kept : v.len ≡ slots_between k.offsets
@@ -101,10 +101,10 @@ module _ (a k : BinaryParts) (ms : List Bool) (v : OptionalValidity) (f : AreFil
     bits-kept m e = ap length (sym (items-some v.len m) ∙ (ap (items_or_true v.len) (sym e) ∙ left)) ∙ length-valid
 
     -- the items are those that the mask selects
-    pub items-kept : binary_items (with_bitmap k b) ≡ selected (binary_items a) ms
+    pub items-kept : binary_items (with_bitmap k b) ≡ selection (binary_items a) ms
     items-kept =
         ap (zipped (binary_values k)) (same-valid ∙ f.chosen)
-        ∙ (ap (λ xs. zipped xs (selected (valid_items a.validity) ms)) values-kept
+        ∙ (ap (λ xs. zipped xs (selection (valid_items a.validity) ms)) values-kept
         ∙ sym (selected-zipped (binary_values a) (valid_items a.validity) ms (f.known ∙ sym (length-values a))))
 
     -- the array is compact, where its bitmap is left out exactly if no item is null

@@ -4,12 +4,12 @@ use Rattle.std.specs.Prelude.{Option, None, ℤ}
 use Rattle.std.proofs.lemmas.List.{length-map}
 use Rattle.std.proofs.lemmas.List.Elements.{All-cons, All-head, All-nil, All-tail}
 use Rattle.arrow2_model.proofs.Parts.{part-map}
-use Rattle.arrow2_walks.specs.Selected.{selected}
+use Rattle.arrow2_walks.specs.Selections.{selection}
 use Rattle.arrow2_compute.specs.Take.{IsInBoundsOrNull, item_at}
 
 -- f of each item that a mask selects, as the item at each key
 module _ {X Y : Type 0} (f : X → Y) where
-  pub selected-map : (xs : List X) (mask : List Bool) → selected (map f xs) mask ≡ map f (selected xs mask)
+  pub selected-map : (xs : List X) (mask : List Bool) → selection (map f xs) mask ≡ map f (selection xs mask)
   selected-map [] mask = refl
   selected-map (x ∷ xs) [] = refl
   selected-map (x ∷ xs) (true ∷ mask) = ap (λ rest. f x ∷ rest) (selected-map xs mask)
@@ -32,15 +32,15 @@ module _ {I : Type 0} (value : I → ℤ) (n : ℕ) where
   pub key-in_bounds : (keys : List (Option I)) (k : ℕ) (key : Option I) → key ≡ get_or keys k None → All (IsInBoundsOrNull value n) keys → IsInBoundsOrNull value n key
   key-in_bounds keys k key is all = subst (IsInBoundsOrNull value n) (sym is) (found-in_bounds keys k all)
 
-  chosen-in_bounds : (keys : List (Option I)) (mask : List Bool) → All (IsInBoundsOrNull value n) keys → All (IsInBoundsOrNull value n) (selected keys mask)
+  chosen-in_bounds : (keys : List (Option I)) (mask : List Bool) → All (IsInBoundsOrNull value n) keys → All (IsInBoundsOrNull value n) (selection keys mask)
   chosen-in_bounds [] mask all = all
   chosen-in_bounds (key ∷ keys) [] all = All-nil (IsInBoundsOrNull value n)
   chosen-in_bounds (key ∷ keys) (true ∷ mask) all =
-      All-cons (IsInBoundsOrNull value n) key (selected keys mask) (All-head (IsInBoundsOrNull value n) key keys all) (chosen-in_bounds keys mask (All-tail (IsInBoundsOrNull value n) key keys all))
+      All-cons (IsInBoundsOrNull value n) key (selection keys mask) (All-head (IsInBoundsOrNull value n) key keys all) (chosen-in_bounds keys mask (All-tail (IsInBoundsOrNull value n) key keys all))
   chosen-in_bounds (key ∷ keys) (false ∷ mask) all = chosen-in_bounds keys mask (All-tail (IsInBoundsOrNull value n) key keys all)
 
   -- those that a mask selects
-  pub selected-in_bounds : (keys kept : List (Option I)) (mask : List Bool) → kept ≡ selected keys mask → All (IsInBoundsOrNull value n) keys → All (IsInBoundsOrNull value n) kept
+  pub selected-in_bounds : (keys kept : List (Option I)) (mask : List Bool) → kept ≡ selection keys mask → All (IsInBoundsOrNull value n) keys → All (IsInBoundsOrNull value n) kept
   selected-in_bounds keys kept mask is all = subst (All (IsInBoundsOrNull value n)) (sym is) (chosen-in_bounds keys mask all)
 
 pub ruleset keys = (length-map, at-keys, key-in_bounds, part-map, selected-map)

@@ -1,7 +1,7 @@
-pub mod Filtered
-pub mod Masked
-pub mod Weighed
+pub mod KernelLoops
+pub mod Masks
+pub mod ByteCounts
 pub mod Keys
-mod Gathered
+mod ItemsAtIndices
 mod FilteredSlots
-mod Chosen
+mod Choices

@@ -26,7 +26,7 @@ pub trait Nullable {
     ghost known: { Self → List Bool };
 
     /// Returns the validity of the items.
-    fn known(&self) -> &Validity
+    fn known_validity(&self) -> &Validity
         ensures value { result.now ≡ stored self.now }
         ensures items { valid_items result.now ≡ known self.now };
 
@@ -39,7 +39,7 @@ impl<T: NativeType> Nullable for PrimitiveArray<T> {
 
     ghost known = { λ a. map is_some (primitive_items a) };
 
-    fn known(&self) -> &Validity {
+    fn known_validity(&self) -> &Validity {
         self.optional_validity()
     }
 
@@ -53,7 +53,7 @@ impl Nullable for BooleanArray {
 
     ghost known = { λ a. map is_some (boolean_items a) };
 
-    fn known(&self) -> &Validity {
+    fn known_validity(&self) -> &Validity {
         self.optional_validity()
     }
 
@@ -67,7 +67,7 @@ impl<O: Offset> Nullable for BinaryArray<O> {
 
     ghost known = { λ a. map is_some (binary_items a) };
 
-    fn known(&self) -> &Validity {
+    fn known_validity(&self) -> &Validity {
         self.optional_validity()
     }
 
@@ -81,7 +81,7 @@ impl<O: Offset> Nullable for Utf8Array<O> {
 
     ghost known = { λ a. map is_some (binary_items a) };
 
-    fn known(&self) -> &Validity {
+    fn known_validity(&self) -> &Validity {
         self.optional_validity()
     }
 
@@ -100,7 +100,7 @@ pub fn is_null<A: Nullable>(array: &A) -> Result<BooleanArray>
     ensures validity { IfOk result (λ a. IsNone a.validity.bitmap) }
     ensures only { IfErr result (λ e. e ≡ Error.OutOfMemory) }
 {
-    let nulls = nulls_of(array.allocator(), array.known())?;
+    let nulls = nulls_of(array.allocator(), array.known_validity())?;
     Ok(BooleanArray::new(nulls, None))
 }
 
@@ -116,7 +116,7 @@ pub fn is_not_null<A: Nullable>(array: &A) -> Result<BooleanArray>
     ensures validity { IfOk result (λ a. IsNone a.validity.bitmap) }
     ensures only { IfErr result (λ e. e ≡ Error.OutOfMemory) }
 {
-    let known = known_of(array.allocator(), array.known())?;
+    let known = known_of(array.allocator(), array.known_validity())?;
     Ok(BooleanArray::new(known, None))
 }
 

@@ -21,7 +21,7 @@ use arrow2_types::{Error, NativeType, Result};
 /// # Errors
 ///
 /// `Overflow` or `OutOfMemory`. `Overflow` is possible only if a `usize` cannot count the items.
-#[tactic(auto, using(crate::proofs::Filtered::joining))]
+#[tactic(auto, using(crate::proofs::KernelLoops::joining))]
 pub fn concatenate<T: NativeType>(
     first: &PrimitiveArray<T>,
     others: &[&PrimitiveArray<T>],
@@ -52,7 +52,7 @@ pub fn concatenate<T: NativeType>(
 ///
 /// If the slots of all arrays together, null slots too, have more bytes than the greatest offset, or if a `usize`
 /// cannot count the items: `Overflow` or `OutOfMemory`, never `Ok`. Otherwise the only error is `OutOfMemory`.
-#[tactic(auto, using(crate::proofs::Filtered::joining))]
+#[tactic(auto, using(crate::proofs::KernelLoops::joining))]
 pub fn concatenate_binary<A: Binary>(first: &A, others: &[&A]) -> Result<A>
     ensures items { IfOk result (λ a.
         binary_items (A.parts a) ≡ joined_items (λ array. A.parts array.now) (A.parts first.now) others.now) }
@@ -83,7 +83,7 @@ pub fn concatenate_binary<A: Binary>(first: &A, others: &[&A]) -> Result<A>
 /// # Errors
 ///
 /// `Overflow` or `OutOfMemory`. `Overflow` is possible only if a `usize` cannot count the items.
-#[tactic(auto, using(crate::proofs::Filtered::joining))]
+#[tactic(auto, using(crate::proofs::KernelLoops::joining))]
 pub fn concatenate_boolean(first: &BooleanArray, others: &[&BooleanArray]) -> Result<BooleanArray>
     ensures items { IfOk result (λ a. boolean_items a
         ≡ boolean_items first.now ++ flat_map (λ array. boolean_items array.now) others.now) }

@@ -1,7 +1,7 @@
 //! The items that a mask selects.
 ghost use Rattle.std.specs.Prelude.{◌≡◌, ◌+◌, ◌<◌, ◌≤◌, ◌^◌, ◌++◌, length, map, sum, IfOk, IfErr, IfSome, OnOk, ◌↔◌, IsNone};
 ghost use Rattle.arrow2_array.specs.Items.{boolean_items};
-ghost use Rattle.arrow2_bitmap.specs.Packed.{IsPacked};
+ghost use Rattle.arrow2_bitmap.specs.PackedBitmaps.{IsPacked};
 ghost use Rattle.arrow2_compute.specs.Masks.{is_true};
 ghost use Rattle.arrow2_model.specs.Bits.{unnum};
 ghost use Rattle.arrow2_model.specs.Buffers.{buffer_items};
@@ -11,7 +11,7 @@ ghost use Rattle.arrow2_offset.specs.Offsets.{lengths_of};
 ghost use Rattle.arrow2_primitive.specs.Primitive.{primitive_items};
 ghost use Rattle.arrow2_text.specs.Binary.{IsCompact, binary_items};
 ghost use Rattle.arrow2_validity.specs.OptionalValidity.{valid_items};
-ghost use Rattle.arrow2_walks.specs.Selected.{selected};
+ghost use Rattle.arrow2_walks.specs.Selections.{selection};
 
 use crate::binary::Binary;
 use arrow2_array::BooleanArray;
@@ -37,7 +37,7 @@ use std::convert::TryFrom;
 pub fn filter<T: NativeType>(array: &PrimitiveArray<T>, mask: &Bitmap) -> Result<PrimitiveArray<T>>
     requires same_length { length (items_of mask.now) ≡ length (primitive_items array.now) }
     ensures items { IfOk result (λ a.
-        primitive_items a ≡ selected (primitive_items array.now) (items_of mask.now)) }
+        primitive_items a ≡ selection (primitive_items array.now) (items_of mask.now)) }
     ensures data_type { IfOk result (λ a. a.data_type ≡ array.now.data_type) }
     ensures bitmap { IfOk result (λ a. IsNone a.validity.bitmap ↔ IsNone array.now.validity.bitmap) }
     ensures only { IfErr result (λ e. e ≡ Error.OutOfMemory) }
@@ -54,7 +54,7 @@ fn selected_values<T: NativeType>(
     mask: &Bitmap,
 ) -> std::result::Result<Vec<T>, AllocError>
     requires same_length { length (items_of mask.now) ≡ length values.now }
-    ensures { IfOk result (λ kept. kept.items ≡ selected values.now (items_of mask.now)) }
+    ensures { IfOk result (λ kept. kept.items ≡ selection values.now (items_of mask.now)) }
 {
     let mut kept = Vec::with_capacity(mask.allocator(), mask.len() - mask.unset_bits())?;
     let mut blocks = MaskedBlocks::new(values, mask);
@@ -72,7 +72,7 @@ fn push_values<T: NativeType>(
     word: u64,
 ) -> std::result::Result<(), AllocError>
     requires few { length values.now ≤ 64 }
-    ensures { OnOk result (kept.new.items ≡ kept.old.items ++ selected values.now (unnum 64 word)) }
+    ensures { OnOk result (kept.new.items ≡ kept.old.items ++ selection values.now (unnum 64 word)) }
 {
     if word == u64::MAX {
         return kept.extend_from_slice(values);
@@ -89,7 +89,7 @@ fn push_values<T: NativeType>(
 fn selected_validity(validity: &Validity, mask: &Bitmap) -> Result<Validity>
     requires same_length { length (items_of mask.now) ≡ length (valid_items validity.now) }
     ensures items { IfOk result (λ v. valid_items v
-        ≡ selected (valid_items validity.now) (items_of mask.now)) }
+        ≡ selection (valid_items validity.now) (items_of mask.now)) }
     ensures len { IfOk result (λ v. v.len + falses (items_of mask.now) ≡ length (items_of mask.now)) }
     ensures bitmap { IfOk result (λ v. IsNone v.bitmap ↔ IsNone validity.now.bitmap) }
     ensures packed { IfOk result (λ v. IfSome v.bitmap (λ b. IsPacked b)) }
@@ -106,7 +106,7 @@ fn selected_validity(validity: &Validity, mask: &Bitmap) -> Result<Validity>
 /// lengths.
 fn selected_bits(bitmap: &Bitmap, mask: &Bitmap) -> Result<Bitmap>
     requires same_length { length (items_of mask.now) ≡ length (items_of bitmap.now) }
-    ensures items { IfOk result (λ b. items_of b ≡ selected (items_of bitmap.now) (items_of mask.now)) }
+    ensures items { IfOk result (λ b. items_of b ≡ selection (items_of bitmap.now) (items_of mask.now)) }
     ensures packed { IfOk result (λ b. IsPacked b) }
     ensures only { IfErr result (λ e. e ≡ Error.OutOfMemory) }
 {
@@ -126,8 +126,8 @@ fn selected_bits(bitmap: &Bitmap, mask: &Bitmap) -> Result<Bitmap>
 /// `usize::MAX`.
 #[tactic(auto, using(arrow2_numeric::proofs::Selecting::selecting))]
 fn push_bits(kept: &mut MutableBitmap, block: u64, word: u64) -> Result<()>
-    requires fits { length kept.old.items + length (selected (unnum 64 block) (unnum 64 word)) < 2 ^ 64 }
-    ensures ok { OnOk result (kept.new.items ≡ kept.old.items ++ selected (unnum 64 block) (unnum 64 word)) }
+    requires fits { length kept.old.items + length (selection (unnum 64 block) (unnum 64 word)) < 2 ^ 64 }
+    ensures ok { OnOk result (kept.new.items ≡ kept.old.items ++ selection (unnum 64 block) (unnum 64 word)) }
     ensures only { IfErr result (λ e. e ≡ Error.OutOfMemory) }
 {
     if word == u64::MAX {
@@ -153,7 +153,7 @@ pub fn filter_by_array<T: NativeType>(
 ) -> Result<PrimitiveArray<T>>
     requires same_length { length (boolean_items mask.now) ≡ length (primitive_items array.now) }
     ensures items { IfOk result (λ a. primitive_items a
-        ≡ selected (primitive_items array.now) (map is_true (boolean_items mask.now))) }
+        ≡ selection (primitive_items array.now) (map is_true (boolean_items mask.now))) }
     ensures data_type { IfOk result (λ a. a.data_type ≡ array.now.data_type) }
     ensures bitmap { IfOk result (λ a. IsNone a.validity.bitmap ↔ IsNone array.now.validity.bitmap) }
     ensures only { IfErr result (λ e. e ≡ Error.OutOfMemory) }
@@ -183,11 +183,11 @@ fn true_items(mask: &BooleanArray) -> Result<Bitmap>
 pub fn filter_binary<A: Binary>(array: &A, mask: &Bitmap) -> Result<A>
     requires same_length { length (items_of mask.now) ≡ length (binary_items (A.parts array.now)) }
     ensures items { IfOk result (λ a. binary_items (A.parts a)
-        ≡ selected (binary_items (A.parts array.now)) (items_of mask.now)) }
+        ≡ selection (binary_items (A.parts array.now)) (items_of mask.now)) }
     ensures data_type { IfOk result (λ a. (A.parts a).data_type ≡ (A.parts array.now).data_type) }
     ensures compact { IfOk result (λ a. IsCompact (A.parts a)) }
     // The bytes of the selected slots, under nulls too.
-    ensures bytes { IfOk result (λ a. length (buffer_items (A.parts a).values) ≡ sum (selected
+    ensures bytes { IfOk result (λ a. length (buffer_items (A.parts a).values) ≡ sum (selection
         (lengths_of (buffer_items (A.parts array.now).offsets)) (items_of mask.now))) }
     ensures only { IfErr result (λ e. e ≡ Error.OutOfMemory) }
 {
@@ -202,10 +202,10 @@ pub fn filter_binary<A: Binary>(array: &A, mask: &Bitmap) -> Result<A>
 fn selected_slots<A: Binary>(array: &A, mask: &Bitmap) -> Result<A>
     requires same_length { length (items_of mask.now) ≡ length (binary_items (A.parts array.now)) }
     ensures items { IfOk result (λ a. binary_items (A.parts a)
-        ≡ selected (binary_items (A.parts array.now)) (items_of mask.now)) }
+        ≡ selection (binary_items (A.parts array.now)) (items_of mask.now)) }
     ensures data_type { IfOk result (λ a. (A.parts a).data_type ≡ (A.parts array.now).data_type) }
     ensures compact { IfOk result (λ a. IsCompact (A.parts a)) }
-    ensures bytes { IfOk result (λ a. length (buffer_items (A.parts a).values) ≡ sum (selected
+    ensures bytes { IfOk result (λ a. length (buffer_items (A.parts a).values) ≡ sum (selection
         (lengths_of (buffer_items (A.parts array.now).offsets)) (items_of mask.now))) }
     ensures only { IfErr result (λ e. e ≡ Error.OutOfMemory) }
 {
@@ -229,7 +229,7 @@ fn selected_slots<A: Binary>(array: &A, mask: &Bitmap) -> Result<A>
 pub fn filter_boolean(array: &BooleanArray, mask: &Bitmap) -> Result<BooleanArray>
     requires same_length { length (items_of mask.now) ≡ length (boolean_items array.now) }
     ensures items { IfOk result (λ a.
-        boolean_items a ≡ selected (boolean_items array.now) (items_of mask.now)) }
+        boolean_items a ≡ selection (boolean_items array.now) (items_of mask.now)) }
     ensures bitmap { IfOk result (λ a. IsNone a.validity.bitmap ↔ IsNone array.now.validity.bitmap) }
     ensures only { IfErr result (λ e. e ≡ Error.OutOfMemory) }
 {

@@ -7,7 +7,7 @@ ghost use Rattle.arrow2_compute.specs.Sizes.{AppendsItem, binary_item, item_byte
 ghost use Rattle.arrow2_primitive.specs.Primitive.{primitive_items};
 ghost use Rattle.arrow2_text.specs.Binary.{IsCompact, binary_items};
 ghost use Rattle.arrow2_validity.specs.OptionalValidity.{valid_items};
-ghost use Rattle.arrow2_walks.specs.Selected.{chosen};
+ghost use Rattle.arrow2_walks.specs.Selections.{choice};
 
 use crate::binary::Binary;
 use arrow2_array::BooleanArray;
@@ -36,7 +36,7 @@ pub fn if_then_else<T: NativeType>(
     requires left { length (items_of mask.now) ≡ length (primitive_items lhs.now) }
     requires right { length (items_of mask.now) ≡ length (primitive_items rhs.now) }
     ensures items { IfOk result (λ a. primitive_items a
-        ≡ chosen (items_of mask.now) (primitive_items lhs.now) (primitive_items rhs.now)) }
+        ≡ choice (items_of mask.now) (primitive_items lhs.now) (primitive_items rhs.now)) }
     ensures data_type { IfOk result (λ a. a.data_type ≡ lhs.now.data_type) }
     ensures bitmap { IfOk result (λ a.
         IsNone a.validity.bitmap ↔ (IsNone lhs.now.validity.bitmap × IsNone rhs.now.validity.bitmap)) }
@@ -58,7 +58,7 @@ fn chosen_values<T: NativeType>(
 ) -> std::result::Result<Vec<T>, AllocError>
     requires left { length (items_of mask.now) ≡ length lhs.now }
     requires right { length (items_of mask.now) ≡ length rhs.now }
-    ensures { IfOk result (λ v. v.items ≡ chosen (items_of mask.now) lhs.now rhs.now) }
+    ensures { IfOk result (λ v. v.items ≡ choice (items_of mask.now) lhs.now rhs.now) }
 {
     let mut values = Vec::with_capacity(mask.allocator(), mask.len())?;
     for position in 0..mask.len() {
@@ -81,7 +81,7 @@ fn chosen_validity(mask: &Bitmap, lhs: &Validity, rhs: &Validity) -> Result<Vali
     requires left { length (items_of mask.now) ≡ length (valid_items lhs.now) }
     requires right { length (items_of mask.now) ≡ length (valid_items rhs.now) }
     ensures items { IfOk result (λ v. valid_items v
-        ≡ chosen (items_of mask.now) (valid_items lhs.now) (valid_items rhs.now)) }
+        ≡ choice (items_of mask.now) (valid_items lhs.now) (valid_items rhs.now)) }
     ensures len { IfOk result (λ v. v.len ≡ length (items_of mask.now)) }
     ensures bitmap { IfOk result (λ v.
         IsNone v.bitmap ↔ (IsNone lhs.now.bitmap × IsNone rhs.now.bitmap)) }
@@ -110,7 +110,7 @@ fn chosen_bits(mask: &Bitmap, lhs: &Bitmap, rhs: &Bitmap) -> Result<Bitmap>
     requires left { length (items_of mask.now) ≡ length (items_of lhs.now) }
     requires right { length (items_of mask.now) ≡ length (items_of rhs.now) }
     ensures items { IfOk result (λ b.
-        items_of b ≡ chosen (items_of mask.now) (items_of lhs.now) (items_of rhs.now)) }
+        items_of b ≡ choice (items_of mask.now) (items_of lhs.now) (items_of rhs.now)) }
     ensures len { IfOk result (λ b. length (items_of b) ≡ length (items_of mask.now)) }
     ensures only { IfErr result (λ e. e ≡ Error.OutOfMemory) }
 {
@@ -129,22 +129,22 @@ fn chosen_bits(mask: &Bitmap, lhs: &Bitmap, rhs: &Bitmap) -> Result<Bitmap>
 ///
 /// If the chosen items together have more bytes than the greatest offset: `Overflow` or `OutOfMemory`, never `Ok`.
 /// Otherwise the only error is `OutOfMemory`.
-#[tactic(auto, using(crate::proofs::Weighed::weighed))]
+#[tactic(auto, using(crate::proofs::ByteCounts::weighed))]
 pub fn if_then_else_binary<A: Binary>(mask: &Bitmap, lhs: &A, rhs: &A) -> Result<A>
     // The mask has an item for each slot of both arrays.
     requires left { length (items_of mask.now) ≡ length (binary_items (A.parts lhs.now)) }
     requires right { length (items_of mask.now) ≡ length (binary_items (A.parts rhs.now)) }
     // The chosen items, the logical type of `lhs`, and how the items are stored.
-    ensures items { IfOk result (λ a. binary_items (A.parts a) ≡ chosen (items_of mask.now)
+    ensures items { IfOk result (λ a. binary_items (A.parts a) ≡ choice (items_of mask.now)
         (binary_items (A.parts lhs.now)) (binary_items (A.parts rhs.now))) }
     ensures data_type { IfOk result (λ a. (A.parts a).data_type ≡ (A.parts lhs.now).data_type) }
     ensures compact { IfOk result (λ a. IsCompact (A.parts a)) }
     ensures bytes { IfOk result (λ a. length (buffer_items (A.parts a).values) ≡ sum_by item_bytes
-        (chosen (items_of mask.now) (binary_items (A.parts lhs.now)) (binary_items (A.parts rhs.now)))) }
+        (choice (items_of mask.now) (binary_items (A.parts lhs.now)) (binary_items (A.parts rhs.now)))) }
     // Whether their bytes fit the greatest offset, and which errors come.
     ensures overflow { IsErrOf result Error.Overflow → A.GREATEST < sum_by item_bytes
-        (chosen (items_of mask.now) (binary_items (A.parts lhs.now)) (binary_items (A.parts rhs.now))) }
-    ensures fits { OnOk result (sum_by item_bytes (chosen (items_of mask.now)
+        (choice (items_of mask.now) (binary_items (A.parts lhs.now)) (binary_items (A.parts rhs.now))) }
+    ensures fits { OnOk result (sum_by item_bytes (choice (items_of mask.now)
         (binary_items (A.parts lhs.now)) (binary_items (A.parts rhs.now))) ≤ A.GREATEST) }
     ensures only { IfErr result (λ e. (e ≡ Error.Overflow) ⊎ (e ≡ Error.OutOfMemory)) }
 {
@@ -192,7 +192,7 @@ pub fn if_then_else_boolean(
     requires left { length (items_of mask.now) ≡ length (boolean_items lhs.now) }
     requires right { length (items_of mask.now) ≡ length (boolean_items rhs.now) }
     ensures items { IfOk result (λ a. boolean_items a
-        ≡ chosen (items_of mask.now) (boolean_items lhs.now) (boolean_items rhs.now)) }
+        ≡ choice (items_of mask.now) (boolean_items lhs.now) (boolean_items rhs.now)) }
     ensures bitmap { IfOk result (λ a.
         IsNone a.validity.bitmap ↔ (IsNone lhs.now.validity.bitmap × IsNone rhs.now.validity.bitmap)) }
     ensures only { IfErr result (λ e. e ≡ Error.OutOfMemory) }

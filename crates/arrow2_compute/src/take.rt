@@ -186,7 +186,7 @@ fn item_at<T: NativeType, I: Index>(array: &PrimitiveArray<T>, index: Option<I>)
 ///
 /// If the taken items together have more bytes than the greatest offset: `Overflow` or `OutOfMemory`, never `Ok`.
 /// Otherwise the only error is `OutOfMemory`.
-#[tactic(auto, using(crate::proofs::Weighed::weighed))]
+#[tactic(auto, using(crate::proofs::ByteCounts::weighed))]
 pub fn take_binary<A: Binary>(array: &A, indices: &[usize]) -> Result<A>
     requires inside { All (λ index. index < length (binary_items (A.parts array.now))) indices.now }
     // The items at the indices, the logical type, and how the items are stored.

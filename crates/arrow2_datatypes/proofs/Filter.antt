@@ -4,7 +4,7 @@ use Rattle.std.specs.Prelude.{filter}
 use Rattle.std.specs.List.{enumerate_from, SwappedAt}
 use Rattle.std.proofs.lemmas.List.{take_more, map-append, length-take, append-nil, take-set-le, drop-set-lt, get_or-drop, drop-drop, length-set}
 use Rattle.std.proofs.lemmas.List.Elements.{filter-append}
-use Rattle.arrow2_datatypes.specs.Filter.{accepted}
+use Rattle.arrow2_datatypes.specs.Filter.{filter_indexed}
 
 enumerate-append : {X : Type 0} (n : ℕ) (xs ys : List X) → enumerate_from n (xs ++ ys) ≡ enumerate_from n xs ++ enumerate_from (n + length xs) ys
 enumerate-append n [] ys = rw add-zero refl
@@ -14,7 +14,7 @@ one_accepted : {X : Type 0} (accepts : ℕ → X → Bool) (n : ℕ) (x : X) →
 one_accepted {X} accepts n x = elim (accepts n x) as (λ b. map (λ (p : ℕ × X). p.1) (cond b ((n, x) ∷ []) []) ≡ cond b (x ∷ []) []) [ true ↦ refl | false ↦ refl ]
 
 -- one item more is kept where it is accepted
-accepted_more : {X : Type 0} (accepts : ℕ → X → Bool) (front : List X) (n : ℕ) (x : X) → length front ≡ n → accepted accepts (front ++ x ∷ []) ≡ accepted accepts front ++ cond (accepts n x) (x ∷ []) []
+accepted_more : {X : Type 0} (accepts : ℕ → X → Bool) (front : List X) (n : ℕ) (x : X) → length front ≡ n → filter_indexed accepts (front ++ x ∷ []) ≡ filter_indexed accepts front ++ cond (accepts n x) (x ∷ []) []
 accepted_more {X} accepts front n x e =
     let test : ℕ × X → Bool = λ p. accepts p.0 p.1 in
     let second : ℕ × X → X = λ p. p.1 in
@@ -22,13 +22,13 @@ accepted_more {X} accepts front n x e =
     ap (λ es. map second (filter test es)) (enumerate-append 0 front (x ∷ []))
     ∙ (ap (map second) (filter-append test (enumerate_from 0 front) (enumerate_from (0 + length front) (x ∷ [])))
     ∙ (map-append second (filter test (enumerate_from 0 front)) (filter test (enumerate_from (0 + length front) (x ∷ [])))
-    ∙ (ap (λ k. accepted accepts front ++ map second (filter test (enumerate_from k (x ∷ [])))) z
-    ∙ ap (λ t. accepted accepts front ++ t) (one_accepted accepts n x))))
+    ∙ (ap (λ k. filter_indexed accepts front ++ map second (filter test (enumerate_from k (x ∷ [])))) z
+    ∙ ap (λ t. filter_indexed accepts front ++ t) (one_accepted accepts n x))))
 
 -- the items up to the one at an index, in two
-taken_more : {X : Type 0} (accepts : ℕ → X → Bool) (first : List X) (n : ℕ) (x : X) → n < length first → x ≡ get_or first n x → accepted accepts (take (n + 1) first) ≡ accepted accepts (take n first) ++ cond (accepts n x) (x ∷ []) []
+taken_more : {X : Type 0} (accepts : ℕ → X → Bool) (first : List X) (n : ℕ) (x : X) → n < length first → x ≡ get_or first n x → filter_indexed accepts (take (n + 1) first) ≡ filter_indexed accepts (take n first) ++ cond (accepts n x) (x ∷ []) []
 taken_more accepts first n x h e =
-    ap (accepted accepts) (take_more first n x h ∙ ap (λ y. take n first ++ y ∷ []) (sym e))
+    ap (filter_indexed accepts) (take_more first n x h ∙ ap (λ y. take n first ++ y ∷ []) (sym e))
     ∙ accepted_more accepts (take n first) n x (omega (arith, h, length-take n first))
 
 -- a list is as long as before two of its items were swapped
@@ -54,18 +54,18 @@ left_at first now n x e =
     ap (λ k. get_or now k x) (sym z) ∙ (sym (get_or-drop n now 0 x) ∙ (ap (λ t. get_or t 0 x) e ∙ (get_or-drop n first 0 x ∙ ap (λ k. get_or first k x) z)))
 
 -- the item at an index was put after those that are kept
-pub kept_more : {X : Type 0} (accepts : ℕ → X → Bool) (first now then : List X) (kept n : ℕ) (x : X) → kept ≤ n → n < length first → length now ≡ length first → drop n now ≡ drop n first → x ≡ get_or now n x → accepts n x ≡ true → SwappedAt now then kept n → take kept now ≡ accepted accepts (take n first) → take (kept + 1) then ≡ accepted accepts (take (n + 1) first)
+pub kept_more : {X : Type 0} (accepts : ℕ → X → Bool) (first now then : List X) (kept n : ℕ) (x : X) → kept ≤ n → n < length first → length now ≡ length first → drop n now ≡ drop n first → x ≡ get_or now n x → accepts n x ≡ true → SwappedAt now then kept n → take kept now ≡ filter_indexed accepts (take n first) → take (kept + 1) then ≡ filter_indexed accepts (take (n + 1) first)
 kept_more accepts first now then kept n x low inside same_len same here taken swapped done =
     take_more then kept x (omega (arith, low, inside, same_len, length_stays now then kept n x swapped))
     ∙ (ap (λ y. take kept then ++ y ∷ []) (swapped.0 x ∙ sym here)
     ∙ (ap (λ t. t ++ x ∷ []) (front_stays now then kept n x low swapped ∙ done)
-    ∙ (ap (λ b. accepted accepts (take n first) ++ cond b (x ∷ []) []) (sym taken)
+    ∙ (ap (λ b. filter_indexed accepts (take n first) ++ cond b (x ∷ []) []) (sym taken)
     ∙ sym (taken_more accepts first n x inside (here ∙ left_at first now n x same)))))
 
 -- the item at an index was passed over
-pub kept_same : {X : Type 0} (accepts : ℕ → X → Bool) (first now : List X) (kept n : ℕ) (x : X) → n < length first → drop n now ≡ drop n first → x ≡ get_or now n x → accepts n x ≡ false → take kept now ≡ accepted accepts (take n first) → take kept now ≡ accepted accepts (take (n + 1) first)
+pub kept_same : {X : Type 0} (accepts : ℕ → X → Bool) (first now : List X) (kept n : ℕ) (x : X) → n < length first → drop n now ≡ drop n first → x ≡ get_or now n x → accepts n x ≡ false → take kept now ≡ filter_indexed accepts (take n first) → take kept now ≡ filter_indexed accepts (take (n + 1) first)
 kept_same accepts first now kept n x inside same here passed done =
     done
-    ∙ (sym (append-nil (accepted accepts (take n first)))
-    ∙ (ap (λ b. accepted accepts (take n first) ++ cond b (x ∷ []) []) (sym passed)
+    ∙ (sym (append-nil (filter_indexed accepts (take n first)))
+    ∙ (ap (λ b. filter_indexed accepts (take n first) ++ cond b (x ∷ []) []) (sym passed)
     ∙ sym (taken_more accepts first n x inside (here ∙ left_at first now n x same))))

@@ -13,5 +13,5 @@ abbrev pub ReturnsOnFields : List Field → (ℕ → Bor Field → Bool → Type
 ReturnsOnFields fields results accepts = (index : ℕ) (field : Bor Field) (answer : Bool) → index < length fields → slice_index_or fields index field.now ≡ field.now → results index field answer → answer ≡ accepts index field.now
 
 -- the items for which `accepts` is true, given the index of the item and the item, in order
-abbrev pub accepted : {X : Type 0} → (ℕ → X → Bool) → List X → List X
-accepted {X} accepts items = map (λ (p : ℕ × X). p.1) (filter (λ p. accepts p.0 p.1) (enumerate_from 0 items))
+abbrev pub filter_indexed : {X : Type 0} → (ℕ → X → Bool) → List X → List X
+filter_indexed {X} accepts items = map (λ (p : ℕ × X). p.1) (filter (λ p. accepts p.0 p.1) (enumerate_from 0 items))

@@ -2,7 +2,7 @@
 ghost use Rattle.std.specs.Prelude.{◌≡◌, ℕ, Bool, length};
 ghost use Rattle.std.specs.BTreeMap.{IsEmpty};
 ghost use Rattle.arrow2_datatypes.specs.declared.field.Field.{Field};
-ghost use Rattle.arrow2_datatypes.specs.Filter.{ReturnsOnFields, IsCallableWithFields, accepted};
+ghost use Rattle.arrow2_datatypes.specs.Filter.{ReturnsOnFields, IsCallableWithFields, filter_indexed};
 
 use crate::{Field, Metadata};
 use std::alloc::Global;
@@ -61,7 +61,7 @@ impl Schema {
         requires { IsCallableWithFields (F.pre predicate) self.fields.items }
         ensures fields { (accepts : ℕ → Field → Bool) →
             ReturnsOnFields self.fields.items (F.post predicate) accepts →
-            result.fields.items ≡ accepted accepts self.fields.items }
+            result.fields.items ≡ filter_indexed accepts self.fields.items }
         ensures metadata { result.metadata ≡ self.metadata }
     {
         let mut fields = self.fields;

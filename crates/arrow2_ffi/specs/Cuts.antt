@@ -1,7 +1,7 @@
 -- Offsets together with what they index: the code of a check, and the index that it writes.
 use Rattle.std.specs.Prelude.{◌≡◌, ◌≢◌, ℕ, ◌+◌, ◌-◌, ◌<◌, ◌≤◌, ◌↔◌, ℤ, pos, ◌<ℤ◌, ◌≤ℤ◌, List, length, slice_index_or}
 use Rattle.arrow2_offset.specs.Offsets.{AreOffsets, last_of}
-use Rattle.arrow2_offset.specs.Failures.{first_broken}
+use Rattle.arrow2_offset.specs.Failures.{first_broken_rule}
 use Rattle.arrow2_utf8.specs.Texts.{AreTexts, IsFirstNonUtf8, slot_values}
 use Rattle.arrow2_ffi.specs.declared.codes.TheConstants.{ARROW2_OK, ARROW2_PAST, ARROW2_SPEC_FALLING, ARROW2_UTF8}
 use Rattle.arrow2_ffi.specs.Rules.{rule_code}
@@ -24,7 +24,7 @@ pub record ChecksOffsets (code : ℕ) (xs : List ℤ) (n old new : ℕ) : Type 0
   -- `code` is ARROW2_OK exactly where the numbers are offsets and the last one is at most n
   pub ok : (code ≡ ARROW2_OK) ↔ (AreOffsets xs × (last_of xs ≤ n))
   -- for numbers that are not offsets, `code` is that of the rule which they break first
-  pub broken : ¬ AreOffsets xs → code ≡ rule_code (first_broken xs)
+  pub broken : ¬ AreOffsets xs → code ≡ rule_code (first_broken_rule xs)
   -- for offsets whose last one is above n, `code` is ARROW2_PAST
   pub past : AreOffsets xs → n < last_of xs → code ≡ ARROW2_PAST
   -- with ARROW2_SPEC_FALLING, `new` is the index of the first number that is below the one before it

@@ -4,7 +4,7 @@ ghost use Rattle.arrow2_model.specs.Kernels.{word};
 
 use arrow2_chunk::BitChunk;
 use arrow2_kernels::WordRows;
-use arrow2_packed_bits::packing::{padded, word_of};
+use arrow2_packed_bits::packing::{padded_block, word_of};
 
 /// Booleans, read as rows of one word: each row has the next 64 of them.
 #[derive(Drop)]
@@ -28,12 +28,12 @@ impl<'a> WordRows<u64> for BoolWords<'a> {
         if self.items.len() < 64 {
             return None;
         }
-        let word = word_of(&padded(&self.items[..64]));
+        let word = word_of(&padded_block(&self.items[..64]));
         self.items = &self.items[64..];
         Some(word)
     }
 
     fn rest_row(&self) -> u64 {
-        BitChunk::masked(word_of(&padded(self.items)), self.items.len())
+        BitChunk::masked(word_of(&padded_block(self.items)), self.items.len())
     }
 }

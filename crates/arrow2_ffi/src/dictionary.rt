@@ -3,7 +3,7 @@ ghost use Rattle.std.specs.Prelude.{map, pos};
 ghost use Rattle.arrow2_ffi.specs.Indices.{ChecksIndices};
 ghost use Rattle.arrow2_ffi.specs.Validities.{given_validity};
 
-use crate::indexed::check;
+use crate::index_checks::check;
 use crate::validities::given_validity;
 
 /// Checks that each index that is not null is at least 0 and below `items`. If `all_valid` is true, no index is null,

@@ -11,7 +11,7 @@ pub mod codes;
 pub mod cuts;
 pub mod dictionary;
 mod in_place;
-mod indexed;
+mod index_checks;
 mod inside;
 pub mod kleene;
 pub mod kleene_optional;

@@ -2,7 +2,7 @@
 //! offset is negative, and none is below the one before it.
 ghost use Rattle.std.specs.Prelude.{◌≡◌, ◌≢◌, ◌+◌, ◌<◌, ◌↔◌, ◌⊎◌, pos, map, length};
 ghost use Rattle.arrow2_offset.specs.Offsets.{AreOffsets, last_offset, offsets_list};
-ghost use Rattle.arrow2_offset.specs.Failures.{first_broken};
+ghost use Rattle.arrow2_offset.specs.Failures.{first_broken_rule};
 ghost use Rattle.arrow2_ffi.specs.OffsetWrites.{WritesLengths, WritesRebased};
 ghost use Rattle.arrow2_ffi.specs.Rules.{rule_code};
 
@@ -20,7 +20,7 @@ use crate::offsets::calls::{check, lengths, lengths_unchecked, rebase, rebase_un
 #[unsafe(no_mangle)]
 pub extern "C" fn arrow2_offsets32_check(offsets: &[i32]) -> u32
     ensures ok { result ≡ ARROW2_OK ↔ AreOffsets offsets.now }
-    ensures broken { result ≢ ARROW2_OK → result ≡ rule_code (first_broken offsets.now) }
+    ensures broken { result ≢ ARROW2_OK → result ≡ rule_code (first_broken_rule offsets.now) }
 {
     check(offsets)
 }
@@ -108,7 +108,7 @@ pub extern "C" fn arrow2_offsets32_rebase_unchecked(
 #[unsafe(no_mangle)]
 pub extern "C" fn arrow2_offsets64_check(offsets: &[i64]) -> u32
     ensures ok { result ≡ ARROW2_OK ↔ AreOffsets offsets.now }
-    ensures broken { result ≢ ARROW2_OK → result ≡ rule_code (first_broken offsets.now) }
+    ensures broken { result ≢ ARROW2_OK → result ≡ rule_code (first_broken_rule offsets.now) }
 {
     check(offsets)
 }

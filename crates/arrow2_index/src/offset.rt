@@ -2,7 +2,7 @@
 ghost use Rattle.std.specs.Prelude.{◌≡◌, ◌≤◌, ◌<◌, ◌^◌, ◌↔◌, ℕ, pos, Bool, true, false};
 ghost use Rattle.std.proofs.Common.{arith};
 ghost use Rattle.std.specs.Int as width;
-ghost use Rattle.arrow2_model.proofs.Signed.{fits_below, below_fits};
+ghost use Rattle.arrow2_model.proofs.SignedNumbers.{fits_below, below_fits};
 
 use crate::index::Index;
 

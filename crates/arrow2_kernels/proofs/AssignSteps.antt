@@ -9,11 +9,11 @@ use borrow.Rule.Slice.PartMut.{put_mid}
 use Rattle.arrow2_model.specs.Bits.{bit, bits, unnum}
 use Rattle.arrow2_model.specs.Parts.{part}
 use Rattle.arrow2_model.specs.Canonical.{IsCanonical}
-use Rattle.arrow2_model.specs.Kernels.{word, joined}
+use Rattle.arrow2_model.specs.Kernels.{word, bits_of_words}
 use Rattle.arrow2_kernels.specs.WordResults.{AreJoinedResults}
 use Rattle.arrow2_model.proofs.Bits.{length-unnum, get_or-unnum, bits-append, length-bits}
 use Rattle.arrow2_model.proofs.Bytes.{take-bits, drop-bits}
-use Rattle.arrow2_model.proofs.Joined.{joined_from}
+use Rattle.arrow2_model.proofs.BitsOfWords.{joined_from}
 use Rattle.arrow2_model.proofs.Numbers.{bit-num, num-part-lt, same_from_bits}
 use Rattle.arrow2_model.proofs.Parts.{get_or-part}
 
@@ -146,7 +146,7 @@ pub kept_word : (old bytes after : List ℕ) (p w : ℕ) → Kept old bytes p �
 kept_word old bytes after p w kept same k h = same k (inr h) ∙ kept k (omega arith)
 
 -- all words were written
-pub done_all : (w n : ℕ) (g : ℕ → ℕ) (bytes : List ℕ) → 0 < w → n ≤ 8 * length bytes → Done w g bytes n → take n (bits bytes) ≡ joined w g n
+pub done_all : (w n : ℕ) (g : ℕ → ℕ) (bytes : List ℕ) → 0 < w → n ≤ 8 * length bytes → Done w g bytes n → take n (bits bytes) ≡ bits_of_words w g n
 done_all w n g bytes pos spare done =
     let l = length-bits bytes in
     let t = length-take-le n (bits bytes) (omega (arith, l)) in

@@ -8,7 +8,7 @@ use lib.Lanes.{zip2, put_chunk, chunk}
 use Rattle.std.proofs.lemmas.Bool.{cases_lt}
 use Rattle.std.proofs.Math.Seq.{take-add}
 use borrow.Rule.Slice.PartMut.{put_mid}
-use Rattle.arrow2_kernels.proofs.Written.{whole_written}
+use Rattle.arrow2_kernels.proofs.VectorWrites.{whole_written}
 use Rattle.std.proofs.lemmas.List.{take_at, drop_at, drop_all, append-nil, length-append, length-drop, get_or_append_left, get_or-append_right, take-take, get_or-take, length-take-le, get_or-replicate, get_or_past, take_all}
 use Rattle.std.proofs.lemmas.Simd.{length-put_chunk, get_or-zip2, get_or-chunk, get_or-put_chunk_below, get_or-put_chunk_at, get_or-put_chunk_above}
 use Rattle.arrow2_model.specs.Bits.{bit, bits, unnum}

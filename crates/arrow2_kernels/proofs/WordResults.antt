@@ -2,16 +2,16 @@
 use Rattle.std.proofs.Common.{◌≡◌, ℕ, ◌*◌, ◌/◌, ◌%◌, ◌^◌, ◌<◌, List, [], ◌∷◌, Bool, false, get_or, ap, sym, subst, ◌∙◌, arith}
 use Rattle.std.proofs.Math.Nat.{mul-div-le, mod-lt}
 use Rattle.arrow2_model.specs.Bits.{unnum}
-use Rattle.arrow2_model.specs.Kernels.{joined}
+use Rattle.arrow2_model.specs.Kernels.{bits_of_words}
 use Rattle.arrow2_model.specs.Rows.{ComputesOwnRows}
 use Rattle.arrow2_model.proofs.Bits.{get_or-unnum}
-use Rattle.arrow2_model.proofs.Joined.{joined_from, length-joined, get_or-joined}
+use Rattle.arrow2_model.proofs.BitsOfWords.{joined_from, length-joined, get_or-joined}
 use Rattle.arrow2_kernels.specs.WordResults.{AreJoinedResults, MayReturnOwn, MayReturnRow, MayReturnBinary}
 
 -- words that agree at each index below the end
-same_words : (w n : ℕ) (g h : ℕ → ℕ) → 0 < w → ((j : ℕ) → w * j < n → unnum w (g j) ≡ unnum w (h j)) → joined w g n ≡ joined w h n
+same_words : (w n : ℕ) (g h : ℕ → ℕ) → 0 < w → ((j : ℕ) → w * j < n → unnum w (g j) ≡ unnum w (h j)) → bits_of_words w g n ≡ bits_of_words w h n
 same_words w n g h pos same =
-    joined_from w h n (joined w g n) pos (length-joined w g n pos) (λ k less.
+    joined_from w h n (bits_of_words w g n) pos (length-joined w g n pos) (λ k less.
     let j : ℕ = k / w in
     let i : ℕ = k % w in
     let inside : i < w = mod-lt k pos in
@@ -20,7 +20,7 @@ same_words w n g h pos same =
 
 -- where the results of a closure are those of a function, the items are those of this function
 pub computed_items : {X R : Type 0} (w n : ℕ) (numbers : R → List ℕ) (number : X → ℕ) (gives : X → R → X → Type 0) (own : ℕ → ℕ) (row : ℕ → List ℕ) (f : List ℕ → ℕ) (items : List Bool) → 0 < w → ((j : ℕ) → own j < 2 ^ w)
-    → ComputesOwnRows w numbers number gives f → AreJoinedResults w n (λ j. MayReturnOwn w numbers number gives (own j) (row j)) items → items ≡ joined w (λ j. f (own j ∷ row j)) n
+    → ComputesOwnRows w numbers number gives f → AreJoinedResults w n (λ j. MayReturnOwn w numbers number gives (own j) (row j)) items → items ≡ bits_of_words w (λ j. f (own j ∷ row j)) n
 computed_items w n numbers number gives own row f items pos fits computes are =
     are.2 ∙ same_words w n are.0 (λ j. f (own j ∷ row j)) pos (λ j less.
     let may = are.1 j less in
@@ -30,7 +30,7 @@ computed_items w n numbers number gives own row f items pos fits computes are =
 
 -- other lengths and conditions
 pub results_as : (w n m : ℕ) (allowed other : ℕ → ℕ → Type 0) (items : List Bool) → n ≡ m → ((j y : ℕ) → allowed j y → other j y) → AreJoinedResults w n allowed items → AreJoinedResults w m other items
-results_as w n m allowed other items same to are = (are.0, λ j less. to j (are.0 j) (are.1 j (omega (arith, same, less))), are.2 ∙ ap (joined w are.0) same)
+results_as w n m allowed other items same to are = (are.0, λ j less. to j (are.0 j) (are.1 j (omega (arith, same, less))), are.2 ∙ ap (bits_of_words w are.0) same)
 
 -- what a closure of an own word and the word of another list may return
 pub binary_result : {X : Type 0} (w : ℕ) (number : X → ℕ) (gives : X → X → X → Type 0) (a b y : ℕ) → MayReturnOwn w (λ x. number x ∷ []) number gives a (b ∷ []) y → MayReturnBinary number gives a b y

@@ -1,10 +1,10 @@
 -- What a word function may return, where its contract allows several results for a word.
 use Rattle.std.specs.Prelude.{◌≡◌, ℕ, ◌*◌, ◌<◌, List, Bool}
-use Rattle.arrow2_model.specs.Kernels.{AreWords, joined}
+use Rattle.arrow2_model.specs.Kernels.{AreWords, bits_of_words}
 
 -- the items are the first n of the bits of words, w bits a word: the word at each index is one that is allowed there
 abbrev pub AreJoinedResults : ℕ → ℕ → (ℕ → ℕ → Type 0) → List Bool → Type 0
-AreJoinedResults w n allowed items = (results : ℕ → ℕ) × ((j : ℕ) → w * j < n → allowed j (results j)) × (items ≡ joined w results n)
+AreJoinedResults w n allowed items = (results : ℕ → ℕ) × ((j : ℕ) → w * j < n → allowed j (results j)) × (items ≡ bits_of_words w results n)
 
 -- a closure of words may return the word y for the word a, or for the words a and b
 abbrev pub MayReturnUnary : {X : Type 0} → (X → ℕ) → (X → X → Type 0) → ℕ → ℕ → Type 0

@@ -2,7 +2,7 @@
 ghost use Rattle.std.specs.Prelude.{◌≡◌, ◌+◌, ◌-◌, ◌*◌, ◌/◌, ◌<◌, ◌≤◌, ◌^◌, ◌⊎◌, ℕ, List, ◌∷◌, false, take, length, slice_index_or};
 ghost use Rattle.arrow2_model.specs.Bits.{bit, bits};
 ghost use Rattle.arrow2_model.specs.Canonical.{IsCanonical};
-ghost use Rattle.arrow2_model.specs.Kernels.{word, joined};
+ghost use Rattle.arrow2_model.specs.Kernels.{word, bits_of_words};
 ghost use Rattle.arrow2_model.specs.Rows.{ComputesOwnRows};
 ghost use Rattle.arrow2_kernels.specs.WordResults.{AreJoinedResults, MayReturnOwn};
 
@@ -29,7 +29,7 @@ pub fn assign_rows<T: BitChunk, S: WordRows<T>, F: Fn(T, S::Row) -> T>(
     // If the results of `op` are those of a mathematical function `f` on words:
     ensures items { (f : List ℕ → ℕ) →
         ComputesOwnRows T.WIDTH S.words T.number (F.post op) f →
-        take len (bits bytes.new) ≡ joined T.WIDTH (λ j.
+        take len (bits bytes.new) ≡ bits_of_words T.WIDTH (λ j.
         f (word T.WIDTH (take len (bits bytes.old)) j ∷ S.row_at rows j)) len }
     // For any `op`: the word at each index is one that `op` may return for the words at this index.
     ensures results { AreJoinedResults T.WIDTH len (λ j. MayReturnOwn T.WIDTH S.words T.number (F.post op)
@@ -59,14 +59,14 @@ fn word_at<T: BitChunk>(bytes: &[u8], at: usize, count: usize) -> T
         ≡ slice_index_or (bits bytes.now) (8 * at + i) false }
     ensures fits { T.number result < 2 ^ T.WIDTH }
 {
-    let block = padded(&bytes[at..at + count]);
+    let block = padded_bytes(&bytes[at..at + count]);
     T::from_ne_slice(&block[..T::SIZE])
 }
 
 /// Returns eight bytes that begin with these bytes. Requires that there are at most eight. The function is inlined,
 /// since it is called for each word.
 #[inline(always)]
-fn padded(bytes: &[u8]) -> [u8; 8]
+fn padded_bytes(bytes: &[u8]) -> [u8; 8]
     requires { length bytes.now ≤ 8 }
     ensures front { take (length bytes.now) result ≡ bytes.now }
     ensures size { length result ≡ 8 }

@@ -2,7 +2,7 @@
 ghost use Rattle.std.specs.Prelude.{◌≡◌, ◌+◌, ◌/◌, ℕ, List, Bool, take, IfOk, length};
 ghost use Rattle.arrow2_model.specs.Bits.{bits};
 ghost use Rattle.arrow2_model.specs.Canonical.{IsCanonical};
-ghost use Rattle.arrow2_model.specs.Kernels.{joined};
+ghost use Rattle.arrow2_model.specs.Kernels.{bits_of_words};
 ghost use Rattle.arrow2_model.specs.Rows.{IsBitwiseOnRows, AreRowsOf, ComputesRows};
 ghost use Rattle.arrow2_model.specs.Tables.{each};
 ghost use Rattle.arrow2_kernels.specs.WordResults.{AreJoinedResults, MayReturnRow};
@@ -30,7 +30,7 @@ pub fn write_rows<S: WordRows<u64>, F: Fn(S::Row) -> u64>(
     ensures canonical { IsCanonical bytes.new len }
     // If the results of `op` are those of a mathematical function `f` on words:
     ensures items { (f : List ℕ → ℕ) → ComputesRows 64 S.words (λ x. x) (F.post op) f →
-        take len (bits bytes.new) ≡ joined 64 (λ j. f (S.row_at rows j)) len }
+        take len (bits bytes.new) ≡ bits_of_words 64 (λ j. f (S.row_at rows j)) len }
     // For every truth table `t` by which `op` computes each bit: the items are the outputs of `t`.
     ensures table { (t : ℕ) (lists : List (List Bool)) →
         IsBitwiseOnRows 64 S.words (λ x. x) (F.post op) t → AreRowsOf 64 lists (S.row_at rows) len →
@@ -60,7 +60,7 @@ pub fn map_rows<S: WordRows<u64>, F: Fn(S::Row) -> u64>(
     ensures canonical { IfOk result (λ v. IsCanonical v.items len) }
     ensures items { (f : List ℕ → ℕ) → ComputesRows 64 S.words (λ x. x) (F.post op) f →
         IfOk result (λ v. take len (bits v.items)
-        ≡ joined 64 (λ j. f (S.row_at rows j)) len) }
+        ≡ bits_of_words 64 (λ j. f (S.row_at rows j)) len) }
     ensures results { IfOk result (λ v. AreJoinedResults 64 len
         (λ j. MayReturnRow 64 S.words (λ x. x) (F.post op) (S.row_at rows j)) (take len (bits v.items))) }
 {

@@ -13,9 +13,9 @@ pub(crate) fn unary_lanes(table: u16, x: u8x32) -> u8x32
     ensures results { (k i : ℕ) → k < 32 → i < 8 →
         bit (slice_index result k) i ≡ answer table (bit (slice_index x k) i ∷ []) }
 {
-    let yes = filled(BitChunk::bit(table, 1));
-    let no = filled(BitChunk::bit(table, 0));
-    chosen(x, yes, no)
+    let yes = splat_bit(BitChunk::bit(table, 1));
+    let no = splat_bit(BitChunk::bit(table, 0));
+    select(x, yes, no)
 }
 
 /// Returns the outputs of a table of two inputs, for each bit of each lane.
@@ -28,12 +28,12 @@ pub(crate) fn binary_lanes(table: u16, x: u8x32, y: u8x32) -> u8x32
 {
     let yes = unary_lanes(table >> 2, x);
     let no = unary_lanes(table, x);
-    chosen(y, yes, no)
+    select(y, yes, no)
 }
 
 /// Returns, at each bit, the bit of `yes` where the bit of `which` is set, and the bit of `no` elsewhere.
 #[inline(always)]
-fn chosen(which: u8x32, yes: u8x32, no: u8x32) -> u8x32
+fn select(which: u8x32, yes: u8x32, no: u8x32) -> u8x32
     ensures long { length result ≡ 32 }
     ensures chosen { (k i : ℕ) → k < 32 → i < 8 →
         bit (slice_index result k) i
@@ -45,7 +45,7 @@ fn chosen(which: u8x32, yes: u8x32, no: u8x32) -> u8x32
 
 /// Returns the vector whose bits are all `value`.
 #[inline(always)]
-fn filled(value: bool) -> u8x32
+fn splat_bit(value: bool) -> u8x32
     ensures { (k i : ℕ) → k < 32 → i < 8 → bit (slice_index result k) i ≡ value }
 {
     if value {

@@ -11,9 +11,9 @@ pub fn unary_outputs<T: BitChunk>(table: u16, x: T) -> T
     ensures results { (i : ℕ) → i < T.WIDTH →
         bit (T.number result) i ≡ answer table (bit (T.number x) i ∷ []) }
 {
-    let yes = filled(x, BitChunk::bit(table, 1));
-    let no = filled(x, BitChunk::bit(table, 0));
-    chosen(x, yes, no)
+    let yes = splat_bit(x, BitChunk::bit(table, 1));
+    let no = splat_bit(x, BitChunk::bit(table, 0));
+    select(x, yes, no)
 }
 
 /// Returns the outputs of a table of two inputs, bit by bit.
@@ -24,7 +24,7 @@ pub fn binary_outputs<T: BitChunk>(table: u16, x: T, y: T) -> T
 {
     let yes = unary_outputs(table >> 2, x);
     let no = unary_outputs(table, x);
-    chosen(y, yes, no)
+    select(y, yes, no)
 }
 
 /// Returns the outputs of a table of three inputs, bit by bit.
@@ -36,7 +36,7 @@ pub fn ternary_outputs<T: BitChunk>(table: u16, x: T, y: T, z: T) -> T
 {
     let yes = binary_outputs(table >> 4, x, y);
     let no = binary_outputs(table, x, y);
-    chosen(z, yes, no)
+    select(z, yes, no)
 }
 
 /// Returns the outputs of a table of four inputs, bit by bit.
@@ -48,11 +48,11 @@ pub fn quaternary_outputs<T: BitChunk>(table: u16, x: T, y: T, z: T, v: T) -> T
 {
     let yes = ternary_outputs(table >> 8, x, y, z);
     let no = ternary_outputs(table, x, y, z);
-    chosen(v, yes, no)
+    select(v, yes, no)
 }
 
 /// Returns, at each bit, the bit of `yes` where the bit of `which` is set, and the bit of `no` elsewhere.
-fn chosen<T: BitChunk>(which: T, yes: T, no: T) -> T
+fn select<T: BitChunk>(which: T, yes: T, no: T) -> T
     ensures { (i : ℕ) → i < T.WIDTH →
         bit (T.number result) i
         ≡ (if bit (T.number which) i then bit (T.number yes) i else bit
@@ -62,7 +62,7 @@ fn chosen<T: BitChunk>(which: T, yes: T, no: T) -> T
 }
 
 /// Returns the word whose bits are all `value`, of the type of `like`.
-fn filled<T: BitChunk>(like: T, value: bool) -> T
+fn splat_bit<T: BitChunk>(like: T, value: bool) -> T
     ensures { (i : ℕ) → i < T.WIDTH → bit (T.number result) i ≡ value }
 {
     let zeros = like.bit_xor(like);

@@ -8,55 +8,55 @@ use Rattle.arrow2_script.specs.declared.array_command.ArrayCommand.{ArrayCommand
 use Rattle.arrow2_script.specs.declared.array_command.ArrayCommand.TheVariants as command
 use Rattle.arrow2_machine.specs.declared.line_error.LineError.{LineError}
 use Rattle.arrow2_machine.specs.declared.line_error.LineError.TheVariants.{Length}
-use Rattle.arrow2_machine.specs.Held.{Held, Array, ◌>>=◌, at, frozen, array, with_slot, with_reply}
+use Rattle.arrow2_machine.specs.SlotValues.{SlotValue, Array, ◌>>=◌, at, frozen_list, array, with_slot, with_reply}
 use Rattle.arrow2_machine.specs.BitmapOutcomes.{part_inside}
 use Rattle.arrow2_machine.specs.KernelOutcomes.{two_lists}
 use Rattle.arrow2_machine.specs.Replies.{array_items_text}
 
 -- a boolean array: its values are the items of one slot, and it is null where the items of another slot are false;
 -- without another slot no item is null
-abbrev pub after_new_array : Held → Option Held → Result Held LineError
+abbrev pub after_new_array : SlotValue → Option SlotValue → Result SlotValue LineError
 after_new_array values None = do
-  items ← frozen values
+  items ← frozen_list values
   Ok (Array (map (λ item. Some item) items))
 after_new_array values (Some validity) = do
   lists ← two_lists values validity
   Ok (Array (zipped lists.0 lists.1))
 
 -- the text of a slot's boolean array
-abbrev pub array_text : Held → Result (List ℕ) LineError
+abbrev pub array_text : SlotValue → Result (List ℕ) LineError
 array_text held = do
   items ← array held
   Ok (array_items_text items)
 
 -- the number of null items of a slot's boolean array
-abbrev pub null_count : Held → Result ℕ LineError
+abbrev pub null_count : SlotValue → Result ℕ LineError
 null_count held = do
   items ← array held
   Ok (nulls items)
 
 -- a slot after its boolean array is cut to its n items from item i on
-abbrev pub after_array_slice : Held → ℕ → ℕ → Result Held LineError
+abbrev pub after_array_slice : SlotValue → ℕ → ℕ → Result SlotValue LineError
 after_array_slice held i n = do
   items ← array held
   inside ← part_inside items i n
   Ok (Array inside)
 
 -- two boolean arrays of equal length
-abbrev pub two_arrays : Held → Held → Result (List (Option Bool) × List (Option Bool)) LineError
+abbrev pub two_arrays : SlotValue → SlotValue → Result (List (Option Bool) × List (Option Bool)) LineError
 two_arrays a b = do
   x ← array a
   y ← array b
   if length x == length y then Ok (x, y) else Err Length
 
 -- the array that an operator of Kleene's logic makes from two boolean arrays, item by item
-abbrev pub after_kleene : (Option Bool → Option Bool → Option Bool) → Held → Held → Result Held LineError
+abbrev pub after_kleene : (Option Bool → Option Bool → Option Bool) → SlotValue → SlotValue → Result SlotValue LineError
 after_kleene operator a b = do
   arrays ← two_arrays a b
   Ok (Array (by_items operator arrays.0 arrays.1))
 
 -- the slots after a command on boolean arrays, and its reply
-unfoldable pub array_outcome : List Held → ArrayCommand → Result (List Held × List ℕ) LineError
+unfoldable pub array_outcome : List SlotValue → ArrayCommand → Result (List SlotValue × List ℕ) LineError
 array_outcome slots (command.New d v m) = with_slot slots d (after_new_array (at slots v) (option_map (at slots) m))
 array_outcome slots (command.List s) = with_reply slots (array_text (at slots s))
 array_outcome slots (command.Nulls s) = do

@@ -7,46 +7,46 @@ use Rattle.arrow2_script.specs.declared.kernel_command.Kernel.{Kernel}
 use Rattle.arrow2_script.specs.declared.kernel_command.Kernel.TheVariants as kernel
 use Rattle.arrow2_machine.specs.declared.line_error.LineError.{LineError}
 use Rattle.arrow2_machine.specs.declared.line_error.LineError.TheVariants.{Length}
-use Rattle.arrow2_machine.specs.Held.{Held, Frozen, Growing, ◌>>=◌, at, growing, frozen, with_slot}
+use Rattle.arrow2_machine.specs.SlotValues.{SlotValue, Frozen, Growing, ◌>>=◌, at, growing_list, frozen_list, with_slot}
 
 -- two frozen lists of equal length
-abbrev pub two_lists : Held → Held → Result (List Bool × List Bool) LineError
+abbrev pub two_lists : SlotValue → SlotValue → Result (List Bool × List Bool) LineError
 two_lists a b = do
-  x ← frozen a
-  y ← frozen b
+  x ← frozen_list a
+  y ← frozen_list b
   if length x == length y then Ok (x, y) else Err Length
 
 -- three of them
-abbrev pub three_lists : Held → Held → Held → Result (List Bool × List Bool × List Bool) LineError
+abbrev pub three_lists : SlotValue → SlotValue → SlotValue → Result (List Bool × List Bool × List Bool) LineError
 three_lists a b c = do
-  x ← frozen a
-  y ← frozen b
-  z ← frozen c
+  x ← frozen_list a
+  y ← frozen_list b
+  z ← frozen_list c
   if length x == length y && length x == length z then Ok (x, y, z) else Err Length
 
 -- four of them
-abbrev pub four_lists : Held → Held → Held → Held → Result (List Bool × List Bool × List Bool × List Bool) LineError
+abbrev pub four_lists : SlotValue → SlotValue → SlotValue → SlotValue → Result (List Bool × List Bool × List Bool × List Bool) LineError
 four_lists a b c e = do
-  x ← frozen a
-  y ← frozen b
-  z ← frozen c
-  v ← frozen e
+  x ← frozen_list a
+  y ← frozen_list b
+  z ← frozen_list c
+  v ← frozen_list e
   if length x == length y && length x == length z && length x == length v then Ok (x, y, z, v) else Err Length
 
 -- the outputs of a table for the items of one slot, and for those of two
-abbrev pub table_of_one : ℕ → Held → Result (List Bool) LineError
+abbrev pub table_of_one : ℕ → SlotValue → Result (List Bool) LineError
 table_of_one t a = do
-  items ← frozen a
+  items ← frozen_list a
   Ok (each t (items ∷ []))
 
-abbrev pub table_of_two : ℕ → Held → Held → Result (List Bool) LineError
+abbrev pub table_of_two : ℕ → SlotValue → SlotValue → Result (List Bool) LineError
 table_of_two t a b = do
   lists ← two_lists a b
   Ok (each t (lists.0 ∷ lists.1 ∷ []))
 
 -- the list that an operator or a table makes; the operators are tables too: `and` is the table whose only set bit is
 -- that of two true inputs
-unfoldable pub kernel_items : List Held → Kernel → Result (List Bool) LineError
+unfoldable pub kernel_items : List SlotValue → Kernel → Result (List Bool) LineError
 kernel_items slots (kernel.And a b) = table_of_two 8 (at slots a) (at slots b)
 kernel_items slots (kernel.Or a b) = table_of_two 14 (at slots a) (at slots b)
 kernel_items slots (kernel.Xor a b) = table_of_two 6 (at slots a) (at slots b)
@@ -61,23 +61,23 @@ kernel_items slots (kernel.Quaternary t a b c e) = do
   Ok (each t (lists.0 ∷ lists.1 ∷ lists.2 ∷ lists.3 ∷ []))
 
 -- a slot after its items become the outputs of a table for them
-abbrev pub after_assign_unary : Held → ℕ → Result Held LineError
+abbrev pub after_assign_unary : SlotValue → ℕ → Result SlotValue LineError
 after_assign_unary held t = do
-  items ← growing held
+  items ← growing_list held
   Ok (Growing (each t (items ∷ [])))
 
 -- a slot after its items become the outputs of a table for them and other items
-abbrev pub after_assign_binary : Held → ℕ → List Bool → Result Held LineError
+abbrev pub after_assign_binary : SlotValue → ℕ → List Bool → Result SlotValue LineError
 after_assign_binary held t others = do
-  items ← growing held
+  items ← growing_list held
   if length items == length others then Ok (Growing (each t (items ∷ others ∷ []))) else Err Length
 
 -- the slots after a command that combines bitmaps, and its reply
-unfoldable pub kernel_outcome : List Held → KernelCommand → Result (List Held × List ℕ) LineError
+unfoldable pub kernel_outcome : List SlotValue → KernelCommand → Result (List SlotValue × List ℕ) LineError
 kernel_outcome slots (Make d kernel) = do
   items ← kernel_items slots kernel
   with_slot slots d (Ok (Frozen items))
 kernel_outcome slots (AssignUnary s t width) = with_slot slots s (after_assign_unary (at slots s) t)
 kernel_outcome slots (AssignBinary s t width a) = do
-  others ← frozen (at slots a)
+  others ← frozen_list (at slots a)
   with_slot slots s (after_assign_binary (at slots s) t others)

@@ -1,12 +1,12 @@
 pub mod ArrayOutcomes
 pub mod BitmapOutcomes
 pub mod GrowthOutcomes
-pub mod Held
 pub mod KernelOutcomes
 pub mod Machine
 pub mod OffsetOutcomes
 pub mod Outcomes
 pub mod Replies
+pub mod SlotValues
 pub mod Slots
 pub mod StorageOutcomes
 pub mod ValueOutcomes

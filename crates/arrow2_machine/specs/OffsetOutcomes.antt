@@ -8,7 +8,7 @@ use Rattle.arrow2_script.specs.declared.offset_command.OffsetCommand.{OffsetComm
 use Rattle.arrow2_script.specs.declared.offset_command.OffsetCommand.TheVariants as command
 use Rattle.arrow2_machine.specs.declared.line_error.LineError.{LineError}
 use Rattle.arrow2_machine.specs.declared.line_error.LineError.TheVariants.{Range, Length, Overflow}
-use Rattle.arrow2_machine.specs.Held.{Offsets, Held, FrozenOffsets, GrowingOffsets, ◌>>=◌, at, frozen, growing_offsets, frozen_offsets, any_offsets, offset_list, with_slot, with_reply}
+use Rattle.arrow2_machine.specs.SlotValues.{Offsets, SlotValue, FrozenOffsets, GrowingOffsets, ◌>>=◌, at, frozen_list, growing_offsets, frozen_offsets, any_offsets, offset_list, with_slot, with_reply}
 use Rattle.arrow2_machine.specs.Replies.{words_text, slot_word}
 
 -- the greatest offset
@@ -16,11 +16,11 @@ abbrev pub greatest : ℕ
 greatest = 2147483647
 
 -- a slot with growing offsets that are one offset only
-abbrev pub after_new_offsets : ℕ → Result Held LineError
+abbrev pub after_new_offsets : ℕ → Result SlotValue LineError
 after_new_offsets first = if nat_lt greatest first then Err Range else Ok (GrowingOffsets (record { start = first; lengths = [] }))
 
 -- a slot after lengths are appended to it
-abbrev pub after_lengths : Held → List ℕ → Result Held LineError
+abbrev pub after_lengths : SlotValue → List ℕ → Result SlotValue LineError
 after_lengths held lengths = do
   o ← growing_offsets held
   if nat_lt greatest (last_offset o.start o.lengths + sum lengths) then Err Overflow else Ok (GrowingOffsets (record o { lengths = o.lengths ++ lengths }))
@@ -30,19 +30,19 @@ abbrev pub last_offset_reply : Offsets → List ℕ
 last_offset_reply o = if length o.lengths == 0 then codes "none" else decimal (last_offset o.start o.lengths)
 
 -- the offsets of a slot after its last offset is taken off, and the reply with that offset
-abbrev pub after_offset_pop : Held → Result (Held × List ℕ) LineError
+abbrev pub after_offset_pop : SlotValue → Result (SlotValue × List ℕ) LineError
 after_offset_pop held = do
   o ← growing_offsets held
   Ok (GrowingOffsets (record o { lengths = take (length o.lengths - 1) o.lengths }), last_offset_reply o)
 
 -- the text of a slot's offsets
-abbrev pub offset_text : Held → Result (List ℕ) LineError
+abbrev pub offset_text : SlotValue → Result (List ℕ) LineError
 offset_text held = do
   o ← any_offsets held
   Ok (words_text (map decimal (offset_list o)))
 
 -- a slot after its offsets are frozen
-abbrev pub after_offsets_freeze : Held → Result Held LineError
+abbrev pub after_offsets_freeze : SlotValue → Result SlotValue LineError
 after_offsets_freeze held = do
   o ← growing_offsets held
   Ok (FrozenOffsets o)
@@ -52,21 +52,21 @@ abbrev pub offsets_inside : Offsets → ℕ → ℕ → Result Offsets LineError
 offsets_inside o i n = if n == 0 || nat_lt (length o.lengths + 1) (i + n) then Err Range else Ok (record { start = offset_at o.start o.lengths i; lengths = part o.lengths i (n - 1) })
 
 -- a slot after it is cut to its n offsets from offset i on
-abbrev pub after_offsets_slice : Held → ℕ → ℕ → Result Held LineError
+abbrev pub after_offsets_slice : SlotValue → ℕ → ℕ → Result SlotValue LineError
 after_offsets_slice held i n = do
   o ← frozen_offsets held
   inside ← offsets_inside o i n
   Ok (FrozenOffsets inside)
 
 -- the text of a slot's lengths, with `null` where another slot's items are false
-abbrev pub zip_text : Held → Held → Result (List ℕ) LineError
+abbrev pub zip_text : SlotValue → SlotValue → Result (List ℕ) LineError
 zip_text offsets validity = do
   o ← frozen_offsets offsets
-  items ← frozen validity
+  items ← frozen_list validity
   if length o.lengths == length items then Ok (words_text (map slot_word (zipped o.lengths items))) else Err Length
 
 -- the slots after a command on offsets, and its reply
-unfoldable pub offset_outcome : List Held → OffsetCommand → Result (List Held × List ℕ) LineError
+unfoldable pub offset_outcome : List SlotValue → OffsetCommand → Result (List SlotValue × List ℕ) LineError
 offset_outcome slots (command.New s first) = with_slot slots s (after_new_offsets first)
 offset_outcome slots (command.Push s n) = with_slot slots s (after_lengths (at slots s) (n ∷ []))
 offset_outcome slots (command.Pop s) = do

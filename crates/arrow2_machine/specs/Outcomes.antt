@@ -5,7 +5,7 @@ use Rattle.arrow2_machine.specs.declared.line_error.LineError.{LineError}
 use Rattle.arrow2_machine.specs.declared.line_error.LineError.TheVariants.{Range, Overflow}
 use Rattle.arrow2_machine.specs.declared.line_error.CommandError.{CommandError}
 use Rattle.arrow2_machine.specs.declared.line_error.CommandError.TheVariants.{Rejected, OutOfMemory}
-use Rattle.arrow2_machine.specs.Held.{Held, Nothing}
+use Rattle.arrow2_machine.specs.SlotValues.{SlotValue, Nothing}
 
 -- the error of a command, by the error of the call that it made
 abbrev pub command_error : errors.Error → CommandError
@@ -35,7 +35,7 @@ Answers view (Err error) answer = answer ≡ Err error
 
 -- a command is carried out as the machine does it: the slots and the reply are unspecified only where an allocation
 -- failed
-pub record Carries (r : Result Unit CommandError) (old new : List Held) (before after : List ℕ) (machine : Result (List Held × List ℕ) LineError) : Type 0 where
+pub record Carries (r : Result Unit CommandError) (old new : List SlotValue) (before after : List ℕ) (machine : Result (List SlotValue × List ℕ) LineError) : Type 0 where
   -- the slots are the machine's, and its reply is appended
   pub ok : OnOk r (IsOkAnd machine (λ a. (new ≡ a.0) × (after ≡ before ++ a.1)))
   -- the machine returns the same error
@@ -53,7 +53,7 @@ pub record Writes (r : Result Unit CommandError) (before after : List ℕ) (mach
   pub err : IfErr r (λ e. e ≢ OutOfMemory → after ≡ before)
 
 -- a slot turns into the value that the machine makes of it: where an allocation failed, its old value is gone
-pub record Turns (r : Result Unit CommandError) (old new : Held) (machine : Result Held LineError) : Type 0 where
+pub record Turns (r : Result Unit CommandError) (old new : SlotValue) (machine : Result SlotValue LineError) : Type 0 where
   -- it holds the machine's value
   pub gives : Gives (λ _. new) r machine
   -- an error changes nothing

@@ -4,8 +4,8 @@ use Rattle.arrow2.specs.Buffers.{buffer_items}
 use Rattle.arrow2.specs.Items.{boolean_items}
 use Rattle.arrow2.specs.Offsets.{start_of, lengths_of}
 use Rattle.arrow2.specs.Storage.{items_of}
-use Rattle.arrow2_machine.specs.Held.{Held}
-use Rattle.arrow2_machine.specs.Held as machine
+use Rattle.arrow2_machine.specs.SlotValues.{SlotValue}
+use Rattle.arrow2_machine.specs.SlotValues as machine
 use Rattle.arrow2_machine.specs.declared.slot.Contents.{Contents}
 use Rattle.arrow2_machine.specs.declared.slot.Contents.TheVariants.{Nothing, Frozen, Growing, FrozenOffsets, GrowingOffsets, Array}
 
@@ -14,7 +14,7 @@ abbrev pub offsets_in : List ℤ → machine.Offsets
 offsets_in offsets = record { start = start_of offsets; lengths = lengths_of offsets }
 
 -- a bitmap or a boolean array as its list, and offsets as their first offset and their lengths
-abbrev pub held_in : Contents → Held
+abbrev pub held_in : Contents → SlotValue
 held_in Nothing = machine.Nothing
 held_in (Frozen bitmap) = machine.Frozen (items_of bitmap)
 held_in (Growing bitmap) = machine.Growing bitmap.items

@@ -1,7 +1,7 @@
 //! The commands on boolean arrays: the effect of each on its slots, and its reply.
 ghost use Rattle.std.specs.Prelude.{◌≡◌, length, option_map, OnErr, IfOk};
 ghost use Rattle.arrow2_machine.specs.BitmapOutcomes.{part_inside};
-ghost use Rattle.arrow2_machine.specs.Held.{at, array as array_in, Array};
+ghost use Rattle.arrow2_machine.specs.SlotValues.{at, array as array_in, Array};
 ghost use Rattle.arrow2_machine.specs.ArrayOutcomes.{after_new_array, array_text, null_count, after_array_slice, two_arrays, after_kleene, array_outcome};
 ghost use Rattle.arrow2.specs.Items.{boolean_items};
 ghost use Rattle.arrow2.specs.Kleene.{kleene_and, kleene_or};
@@ -67,7 +67,7 @@ fn array_of(
             let (values, validity) = two_bitmaps(slots, values, validity)?;
             BooleanArray::new(values.clone()?, Some(validity.clone()?))
         }
-        None => BooleanArray::new(slots[values.get()].frozen()?.clone()?, None),
+        None => BooleanArray::new(slots[values.get()].frozen_bitmap()?.clone()?, None),
     };
     Ok(array)
 }

@@ -1,7 +1,7 @@
 //! The commands on bitmaps: the effect of each on its slots, and its reply.
 ghost use Rattle.std.specs.Prelude.{◌≡◌, slice_get, OnErr};
 ghost use Rattle.arrow2.specs.Storage.{items_of};
-ghost use Rattle.arrow2_machine.specs.Held.{Growing};
+ghost use Rattle.arrow2_machine.specs.SlotValues.{Growing};
 ghost use Rattle.arrow2_machine.specs.Replies.{item_reply};
 ghost use Rattle.arrow2_machine.specs.BitmapOutcomes.{after_push, after_pop, item_at, after_freeze, after_thaw, after_slice, false_count, item_text, part_inside, bitmap_outcome};
 ghost use Rattle.arrow2_machine.specs.Outcomes.{Gives, Carries, Writes, Answers, Turns};

@@ -23,7 +23,7 @@ pub(crate) fn run(
     match command {
         GrowthCommand::Fill(slot, additional, bit) => slots[slot.get()].fill(additional, bit)?,
         GrowthCommand::Append(to, from) => {
-            let other = slots[from.get()].frozen()?.clone()?;
+            let other = slots[from.get()].frozen_bitmap()?.clone()?;
             slots[to.get()].append(&other)?;
         }
     }

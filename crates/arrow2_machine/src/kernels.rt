@@ -2,7 +2,7 @@
 ghost use Rattle.std.specs.Prelude.{◌≡◌, [], ◌∷◌, length, OnErr, IfOk};
 ghost use Rattle.arrow2.specs.Storage.{items_of};
 ghost use Rattle.arrow2.specs.Tables.{each};
-ghost use Rattle.arrow2_machine.specs.Held.{at, frozen as frozen_in};
+ghost use Rattle.arrow2_machine.specs.SlotValues.{at, frozen_list as frozen_in};
 ghost use Rattle.arrow2_machine.specs.KernelOutcomes.{two_lists, three_lists, four_lists, kernel_items, after_assign_unary, after_assign_binary, kernel_outcome};
 ghost use Rattle.arrow2_machine.specs.Outcomes.{Gives, Carries, Answers};
 
@@ -36,8 +36,8 @@ pub(crate) fn run(
             slots[slot.get()].assign(table, width)?;
         }
         KernelCommand::AssignBinary(slot, table, width, other) => {
-            let other = slots[other.get()].frozen()?.clone()?;
-            slots[slot.get()].assign_paired(table, width, &other)?;
+            let other = slots[other.get()].frozen_bitmap()?.clone()?;
+            slots[slot.get()].assign_binary(table, width, &other)?;
         }
     }
     reply.extend_from_slice(b"ok")?;
@@ -66,9 +66,9 @@ fn new_bitmap(slots: &[Slot; 16], kernel: Kernel) -> Result<Bitmap, CommandError
             let (left, right) = two_bitmaps(slots, left, right)?;
             Ok(xor(left, right)?)
         }
-        Kernel::Not(from) => Ok(unary_table(slots[from.get()].frozen()?, 1)?),
+        Kernel::Not(from) => Ok(unary_table(slots[from.get()].frozen_bitmap()?, 1)?),
         Kernel::Unary(table, from) => Ok(unary_table(
-            slots[from.get()].frozen()?,
+            slots[from.get()].frozen_bitmap()?,
             table.get() as u8,
         )?),
         Kernel::Binary(table, first, second) => {
@@ -100,8 +100,8 @@ pub(crate) fn two_bitmaps(
         (two_lists (at slots.now first) (at slots.now second)) }
     ensures same_length { IfOk result (λ b. length (items_of b.0.now) ≡ length (items_of b.1.now)) }
 {
-    let first = slots[first.get()].frozen()?;
-    let second = slots[second.get()].frozen()?;
+    let first = slots[first.get()].frozen_bitmap()?;
+    let second = slots[second.get()].frozen_bitmap()?;
     if first.len() == second.len() {
         Ok((first, second))
     } else {
@@ -127,9 +127,9 @@ fn three_bitmaps(
     ensures same_length3 { IfOk result (λ b. length (items_of b.0.now)
         ≡ length (items_of b.2.now)) }
 {
-    let first = slots[first.get()].frozen()?;
-    let second = slots[second.get()].frozen()?;
-    let third = slots[third.get()].frozen()?;
+    let first = slots[first.get()].frozen_bitmap()?;
+    let second = slots[second.get()].frozen_bitmap()?;
+    let third = slots[third.get()].frozen_bitmap()?;
     if first.len() == second.len() && first.len() == third.len() {
         Ok((first, second, third))
     } else {
@@ -163,10 +163,10 @@ fn four_bitmaps(
     ensures same_length4 { IfOk result (λ b. length (items_of b.0.now)
         ≡ length (items_of b.3.now)) }
 {
-    let first = slots[first.get()].frozen()?;
-    let second = slots[second.get()].frozen()?;
-    let third = slots[third.get()].frozen()?;
-    let fourth = slots[fourth.get()].frozen()?;
+    let first = slots[first.get()].frozen_bitmap()?;
+    let second = slots[second.get()].frozen_bitmap()?;
+    let third = slots[third.get()].frozen_bitmap()?;
+    let fourth = slots[fourth.get()].frozen_bitmap()?;
     if first.len() == second.len() && first.len() == third.len() && first.len() == fourth.len() {
         Ok((first, second, third, fourth))
     } else {
@@ -180,7 +180,7 @@ impl Slot {
     /// # Errors
     ///
     /// Only `Kind`.
-    pub(crate) fn frozen(&self) -> Result<&Bitmap, LineError>
+    pub(crate) fn frozen_bitmap(&self) -> Result<&Bitmap, LineError>
         ensures { Answers (λ bitmap. items_of bitmap.now) result (frozen_in self.now) }
     {
         match &self.contents {
@@ -214,7 +214,7 @@ impl Slot {
     /// # Errors
     ///
     /// `Kind`, or else `Length`. They change nothing.
-    fn assign_paired(
+    fn assign_binary(
         &mut self,
         table: Below<16>,
         width: Width,
@@ -227,7 +227,7 @@ impl Slot {
         match &mut self.contents {
             Contents::Growing(bitmap) => {
                 if bitmap.len() == other.len() {
-                    assign_table_paired(bitmap, table, width, other);
+                    assign_binary_table(bitmap, table, width, other);
                     Ok(())
                 } else {
                     Err(LineError::Length)
@@ -253,7 +253,7 @@ fn assign_table(bitmap: &mut MutableBitmap, table: Below<4>, width: Width)
 
 /// Replaces each item by the output of a table for it and the item of `other` at the same index. Requires that both
 /// bitmaps have equal lengths.
-fn assign_table_paired(bitmap: &mut MutableBitmap, table: Below<16>, width: Width, other: &Bitmap)
+fn assign_binary_table(bitmap: &mut MutableBitmap, table: Below<16>, width: Width, other: &Bitmap)
     requires same_length { length bitmap.old.items ≡ length (items_of other.now) }
     ensures { bitmap.new.items ≡ each table (bitmap.old.items ∷ items_of other.now ∷ []) }
 {

@@ -1,7 +1,7 @@
 //! The machine: sixteen slots, the effect of a line on them, and the replies to a whole script.
 ghost use Rattle.std.specs.Prelude.{◌≡◌, ◌++◌, IfOk, OnOk, replicate};
-ghost use Rattle.arrow2_script.specs.Lines.{ended};
-ghost use Rattle.arrow2_machine.specs.Held.{Nothing};
+ghost use Rattle.arrow2_script.specs.Lines.{with_newline};
+ghost use Rattle.arrow2_machine.specs.SlotValues.{Nothing};
 ghost use Rattle.arrow2_machine.specs.Machine.{outcome, step, text};
 ghost use Rattle.arrow2_machine.specs.Outcomes.{Carries};
 
@@ -23,9 +23,9 @@ pub struct Machine {
 
 impl Model for Machine {
     ghost use Rattle.std.specs.Prelude.{List};
-    ghost use Rattle.arrow2_machine.specs.Held.{Held};
+    ghost use Rattle.arrow2_machine.specs.SlotValues.{SlotValue};
 
-    ghost Value = { List Held };
+    ghost Value = { List SlotValue };
 
     ghost view = { λ m. m.slots };
 }
@@ -77,7 +77,7 @@ impl Machine {
     ) -> Result<(), AllocError>
         ensures slots { OnOk result (self.new ≡ (step self.old line.now).0) }
         ensures reply { OnOk result (reply.new.items ≡ reply.old.items
-            ++ ended (step self.old line.now).1) }
+            ++ with_newline (step self.old line.now).1) }
     {
         let outcome = match parse(line) {
             Some(command) => self.run(alloc, command, reply),

@@ -1,6 +1,6 @@
 //! A slot of the machine.
 ghost use Rattle.std.specs.Prelude.{◌≡◌};
-ghost use Rattle.arrow2_machine.specs.Held.{Nothing};
+ghost use Rattle.arrow2_machine.specs.SlotValues.{Nothing};
 
 use arrow2::array::BooleanArray;
 use arrow2::bitmap::{Bitmap, MutableBitmap};
@@ -31,9 +31,9 @@ pub(crate) struct Slot {
 }
 
 impl Model for Slot {
-    ghost use Rattle.arrow2_machine.specs.Held.{Held};
+    ghost use Rattle.arrow2_machine.specs.SlotValues.{SlotValue};
 
-    ghost Value = { Held };
+    ghost Value = { SlotValue };
 
     ghost use Rattle.arrow2_machine.specs.Slots.{held_in};
 

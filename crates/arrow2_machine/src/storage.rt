@@ -110,7 +110,7 @@ impl Slot {
     fn write_runs(&self, out: &mut Vec<u8>) -> Result<(), CommandError>
         ensures { Writes result out.old.items out.new.items (run_text self.now) }
     {
-        write_runs(SlicesIterator::new(self.frozen()?), out)?;
+        write_runs(SlicesIterator::new(self.frozen_bitmap()?), out)?;
         Ok(())
     }
 }

@@ -63,7 +63,7 @@ impl Write for Narrow {
 }
 
 /// The output of a replay, and its result.
-fn stated<R: Read + Drop, W: Write>(
+fn output_and_result<R: Read + Drop, W: Write>(
     alloc: Global,
     reader: R,
     writer: W,
@@ -75,7 +75,7 @@ fn stated<R: Read + Drop, W: Write>(
 }
 
 /// The same byte, `count` times.
-fn repeated(alloc: Global, byte: u8, count: usize) -> Result<Vec<u8>, AllocError> {
+fn repeat_byte(alloc: Global, byte: u8, count: usize) -> Result<Vec<u8>, AllocError> {
     vec![in alloc; byte; count]
 }
 
@@ -96,7 +96,7 @@ fn scripts_end_with_or_without_a_line_end(rt: HostRuntime) -> Result<(), Fail> {
         ),
     ];
     for (script, replies) in rows {
-        let (out, result) = stated(rt.alloc(), script, Vec::new(rt.alloc()));
+        let (out, result) = output_and_result(rt.alloc(), script, Vec::new(rt.alloc()));
         assert_eq!(&rt; result, Ok(()));
         assert_eq!(&rt; out.as_slice(), replies);
     }
@@ -105,8 +105,8 @@ fn scripts_end_with_or_without_a_line_end(rt: HostRuntime) -> Result<(), Fail> {
 
 #[test]
 fn long_line(rt: HostRuntime) -> Result<(), Fail> {
-    let script = repeated(rt.alloc(), b'x', 1_000_000)?;
-    let (out, result) = stated(rt.alloc(), script.as_slice(), Vec::new(rt.alloc()));
+    let script = repeat_byte(rt.alloc(), b'x', 1_000_000)?;
+    let (out, result) = output_and_result(rt.alloc(), script.as_slice(), Vec::new(rt.alloc()));
     assert_eq!(&rt; result, Ok(()));
     assert_eq!(&rt; out.as_slice(), b"error syntax\n".as_slice());
     Ok(())
@@ -125,7 +125,7 @@ fn readers(rt: HostRuntime) -> Result<(), Fail> {
             fails_at,
             calls: 0,
         };
-        let (out, result) = stated(rt.alloc(), reader, Vec::new(rt.alloc()));
+        let (out, result) = output_and_result(rt.alloc(), reader, Vec::new(rt.alloc()));
         assert_eq!(&rt; result, outcome);
         assert_eq!(&rt; out.as_slice(), written);
     }
@@ -149,7 +149,7 @@ fn writers(rt: HostRuntime) -> Result<(), Fail> {
             calls: 0,
             flush_fails,
         };
-        let (writer, result) = stated(rt.alloc(), FIRST, writer);
+        let (writer, result) = output_and_result(rt.alloc(), FIRST, writer);
         assert_eq!(&rt; result, outcome);
         assert_eq!(&rt; writer.taken.as_slice(), written);
     }

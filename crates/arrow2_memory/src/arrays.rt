@@ -1,5 +1,5 @@
 //! Boolean arrays of given items, and arrays that grow.
-use crate::calls::{Row, input, made, ran_out, show};
+use crate::calls::{Row, input, ran_out, show, show_results};
 use crate::walks::array;
 use arrow2_array::{BooleanArray, MutableBooleanArray};
 use arrow2_types::Result;
@@ -7,26 +7,26 @@ use std::alloc::Global;
 use std::io::{Eprint, Print};
 
 /// Arrays of given items.
-fn given(alloc: Global) -> [Row<BooleanArray>; 2] {
+fn new_arrays(alloc: Global) -> [Row<BooleanArray>; 2] {
     let items = [Some(true), None, Some(false)];
     [
         (
             "BooleanArray::from_options",
             BooleanArray::from_options(alloc, &items),
         ),
-        ("MutableBooleanArray::freeze", frozen(alloc)),
+        ("MutableBooleanArray::freeze", frozen_array(alloc)),
     ]
 }
 
 /// The array of three nulls, frozen.
-fn frozen(alloc: Global) -> Result<BooleanArray> {
+fn frozen_array(alloc: Global) -> Result<BooleanArray> {
     let mut grown = MutableBooleanArray::new(alloc);
     input(grown.extend_constant(3, None))?;
     grown.freeze()
 }
 
 /// Returns the number of items of an array that has spare capacity.
-fn reserved(alloc: Global) -> [Row<usize>; 1] {
+fn arrays_with_capacity(alloc: Global) -> [Row<usize>; 1] {
     let array = MutableBooleanArray::with_capacity(alloc, 20);
     [(
         "MutableBooleanArray::with_capacity",
@@ -68,7 +68,7 @@ fn grow(growth: Growth, array: &mut MutableBooleanArray, other: &BooleanArray) -
 
 /// Changes an empty array, and shows how many items it has then. Where an allocation failed, it must still be empty,
 /// and is changed once more.
-fn grown<R: Print + Eprint>(rt: &R, alloc: Global, growth: Growth, other: &BooleanArray) {
+fn grow_and_show<R: Print + Eprint>(rt: &R, alloc: Global, growth: Growth, other: &BooleanArray) {
     let mut array = MutableBooleanArray::new(alloc);
     let (call, made) = grow(growth, &mut array, other);
     if ran_out(rt, call, &made) {
@@ -85,8 +85,12 @@ fn grown<R: Print + Eprint>(rt: &R, alloc: Global, growth: Growth, other: &Boole
 
 /// Makes each of these calls.
 pub(crate) fn all<R: Print + Eprint>(rt: &R, alloc: Global) -> Result<()> {
-    made(rt, &given(alloc), &given(alloc));
-    made(rt, &reserved(alloc), &reserved(alloc));
+    show_results(rt, &new_arrays(alloc), &new_arrays(alloc));
+    show_results(
+        rt,
+        &arrays_with_capacity(alloc),
+        &arrays_with_capacity(alloc),
+    );
     let other = array(alloc).or(array(alloc))?;
     for growth in [
         Growth::Push,
@@ -95,7 +99,7 @@ pub(crate) fn all<R: Print + Eprint>(rt: &R, alloc: Global) -> Result<()> {
         Growth::ExtendFromArray,
         Growth::Reserve,
     ] {
-        grown(rt, alloc, growth, &other);
+        grow_and_show(rt, alloc, growth, &other);
     }
     Ok(())
 }

@@ -1,5 +1,5 @@
 //! Bitmaps that are made, read and combined.
-use crate::calls::{Row, made};
+use crate::calls::{Row, show_results};
 use crate::items::items;
 use arrow2_bitmap::bitmap_ops::{
     and, binary, binary_table, from_rows, or, unary, unary_table, xor,
@@ -13,7 +13,7 @@ use std::convert::TryFrom;
 use std::io::{Eprint, Print};
 
 /// Bitmaps of given bits.
-fn given(alloc: Global) -> [Row<Bitmap>; 4] {
+fn new_bitmaps(alloc: Global) -> [Row<Bitmap>; 4] {
     let bytes = [0b1011_0110, 0b1];
     let items = [true, false, true];
     [
@@ -28,12 +28,12 @@ fn given(alloc: Global) -> [Row<Bitmap>; 4] {
 }
 
 /// The bitmap of 600 items of an iterator, which allocates more than once.
-fn collected(alloc: Global) -> Result<Bitmap> {
+fn bitmap_of_iterator(alloc: Global) -> Result<Bitmap> {
     Bitmap::try_from_iter(alloc, (0..600usize).map(|i| i % 3 == 0))
 }
 
 /// Bitmaps of the results of functions of numbers and of items.
-fn answered(alloc: Global) -> [Row<Bitmap>; 3] {
+fn bitmaps_of_functions(alloc: Global) -> [Row<Bitmap>; 3] {
     let bytes = [0b1011_0110, 0b1];
     [
         (
@@ -52,7 +52,7 @@ fn answered(alloc: Global) -> [Row<Bitmap>; 3] {
 }
 
 /// Bitmaps of a vector, of a growing bitmap and of an iterator.
-fn moved(alloc: Global) -> [Row<Bitmap>; 5] {
+fn bitmaps_of_others(alloc: Global) -> [Row<Bitmap>; 5] {
     let none = MutableBitmap::new(alloc);
     [
         (
@@ -62,7 +62,7 @@ fn moved(alloc: Global) -> [Row<Bitmap>; 5] {
         ("Bitmap::try_new", Bitmap::try_new(Vec::new(alloc), 0)),
         ("Bitmap::try_new", Bitmap::try_new(Vec::new(alloc), 9)),
         ("TryFrom<MutableBitmap> for Bitmap", Bitmap::try_from(none)),
-        ("Bitmap::try_from_iter", collected(alloc)),
+        ("Bitmap::try_from_iter", bitmap_of_iterator(alloc)),
     ]
 }
 
@@ -131,12 +131,16 @@ fn by_names(bitmap: &Bitmap) -> [Row<Bitmap>; 7] {
 
 /// Makes each of these calls.
 pub(crate) fn all<R: Print + Eprint>(rt: &R, alloc: Global) -> Result<()> {
-    made(rt, &given(alloc), &given(alloc));
-    made(rt, &answered(alloc), &answered(alloc));
-    made(rt, &moved(alloc), &moved(alloc));
+    show_results(rt, &new_bitmaps(alloc), &new_bitmaps(alloc));
+    show_results(
+        rt,
+        &bitmaps_of_functions(alloc),
+        &bitmaps_of_functions(alloc),
+    );
+    show_results(rt, &bitmaps_of_others(alloc), &bitmaps_of_others(alloc));
     let bitmap = items(alloc, 1).or(items(alloc, 1))?;
-    made(rt, &by_words(&bitmap), &by_words(&bitmap));
-    made(rt, &by_tables(&bitmap), &by_tables(&bitmap));
-    made(rt, &by_names(&bitmap), &by_names(&bitmap));
+    show_results(rt, &by_words(&bitmap), &by_words(&bitmap));
+    show_results(rt, &by_tables(&bitmap), &by_tables(&bitmap));
+    show_results(rt, &by_names(&bitmap), &by_names(&bitmap));
     Ok(())
 }

@@ -30,7 +30,11 @@ pub(crate) fn show<R: Print, T: fmt::Debug>(rt: &R, call: &str, value: &T) {
 }
 
 /// Shows the results of calls. Where an allocation of a call failed, shows the result of its second time.
-pub(crate) fn made<R: Print + Eprint, T: fmt::Debug>(rt: &R, rows: &[Row<T>], again: &[Row<T>]) {
+pub(crate) fn show_results<R: Print + Eprint, T: fmt::Debug>(
+    rt: &R,
+    rows: &[Row<T>],
+    again: &[Row<T>],
+) {
     for ((call, one), (_, other)) in rows.iter().zip(again) {
         let ran_out = ran_out(rt, call, one) || matches!(one, Err(Error::Overflow));
         show(rt, call, if ran_out { other } else { one });
@@ -45,12 +49,12 @@ pub(crate) trait Change<T> {
 
 /// Shows a copy of the value after a change. If an allocation failed, tests that the copy still equals the value, and
 /// makes the change again.
-pub(crate) fn changed<R: Print + Eprint, T: Clone + Drop + PartialEq + fmt::Debug, C: Change<T>>(
-    rt: &R,
-    before: &T,
-    change: &C,
-) -> Result<()> {
-    let mut value = copied(before)?;
+pub(crate) fn show_change<
+    R: Print + Eprint,
+    T: Clone + Drop + PartialEq + fmt::Debug,
+    C: Change<T>,
+>(rt: &R, before: &T, change: &C) -> Result<()> {
+    let mut value = copy(before)?;
     let (call, made) = change.change(&mut value);
     if ran_out(rt, call, &made) {
         compare(rt, &value, before);
@@ -64,7 +68,7 @@ pub(crate) fn changed<R: Print + Eprint, T: Clone + Drop + PartialEq + fmt::Debu
 }
 
 /// Returns a copy of the value, whose allocation may fail once.
-fn copied<T: Clone + Drop>(value: &T) -> Result<T> {
+fn copy<T: Clone + Drop>(value: &T) -> Result<T> {
     match value.clone() {
         Ok(copy) => Ok(copy),
         Err(_) => value.clone().map_err(Error::from),

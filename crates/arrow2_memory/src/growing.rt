@@ -1,5 +1,5 @@
 //! Bitmaps that grow.
-use crate::calls::{Change, Row, changed, input, made};
+use crate::calls::{Change, Row, input, show_change, show_results};
 use crate::items::{BYTES, growing_items, items};
 use arrow2_bitmap::{Bitmap, MutableBitmap};
 use arrow2_types::Result;
@@ -12,7 +12,7 @@ fn of_every_third(alloc: Global) -> Result<MutableBitmap> {
 }
 
 /// Growing bitmaps of given bits.
-fn given(alloc: Global) -> [Row<MutableBitmap>; 6] {
+fn new_bitmaps(alloc: Global) -> [Row<MutableBitmap>; 6] {
     let items = [true, false, true];
     [
         (
@@ -40,15 +40,15 @@ fn given(alloc: Global) -> [Row<MutableBitmap>; 6] {
 }
 
 /// A copy.
-fn copied(alloc: Global) -> Result<MutableBitmap> {
+fn copy(alloc: Global) -> Result<MutableBitmap> {
     Ok(input(growing_items(alloc))?.clone()?)
 }
 
 /// Growing bitmaps of other bitmaps.
-fn taken(alloc: Global) -> [Row<MutableBitmap>; 2] {
+fn bitmaps_of_others(alloc: Global) -> [Row<MutableBitmap>; 2] {
     [
         ("Bitmap::make_mut", growing_items(alloc)),
-        ("Clone for MutableBitmap", copied(alloc)),
+        ("Clone for MutableBitmap", copy(alloc)),
     ]
 }
 
@@ -114,7 +114,7 @@ fn reserve_and_shrink(bitmap: &mut MutableBitmap) -> Result<()> {
 }
 
 /// Each way in which an empty bitmap grows.
-fn grown<R: Print + Eprint>(rt: &R, alloc: Global) -> Result<()> {
+fn grow_each_way<R: Print + Eprint>(rt: &R, alloc: Global) -> Result<()> {
     let empty = MutableBitmap::new(alloc);
     let other = items(alloc, 1).or(items(alloc, 1))?;
     for growth in &[
@@ -126,15 +126,15 @@ fn grown<R: Print + Eprint>(rt: &R, alloc: Global) -> Result<()> {
         Growth::Reserve,
         Growth::ShrinkToFit,
     ] {
-        changed(rt, &empty, growth)?;
+        show_change(rt, &empty, growth)?;
     }
     Ok(())
 }
 
 /// Makes each of these calls.
 pub(crate) fn all<R: Print + Eprint>(rt: &R, alloc: Global) -> Result<()> {
-    made(rt, &given(alloc), &given(alloc));
-    made(rt, &taken(alloc), &taken(alloc));
-    made(rt, &validities(alloc), &validities(alloc));
-    grown(rt, alloc)
+    show_results(rt, &new_bitmaps(alloc), &new_bitmaps(alloc));
+    show_results(rt, &bitmaps_of_others(alloc), &bitmaps_of_others(alloc));
+    show_results(rt, &validities(alloc), &validities(alloc));
+    grow_each_way(rt, alloc)
 }

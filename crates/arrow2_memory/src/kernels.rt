@@ -5,7 +5,7 @@ ghost use Rattle.arrow2_model.specs.Storage.{items_of};
 ghost use Rattle.arrow2_primitive.specs.Primitive.{primitive_items};
 ghost use Rattle.arrow2_text.specs.Binary.{binary_items};
 
-use crate::calls::{Row, input, made};
+use crate::calls::{Row, input, show_results};
 use arrow2_array::BooleanArray;
 use arrow2_bitmap::Bitmap;
 use arrow2_compute::boolean::{is_not_null, is_null};
@@ -16,8 +16,8 @@ use arrow2_compute::take::{take, take_binary, take_boolean, take_by_array};
 use arrow2_datatypes::DataType;
 use arrow2_numeric::cast::{primitive_to_primitive, try_primitive_to_primitive};
 use arrow2_numeric::comparison::{
-    eq, eq_scalar, gt, gt_eq, gt_eq_scalar, gt_scalar, lt, lt_eq, lt_eq_scalar, lt_scalar, neq,
-    neq_scalar, tested,
+    compare_each, eq, eq_scalar, gt, gt_eq, gt_eq_scalar, gt_scalar, lt, lt_eq, lt_eq_scalar,
+    lt_scalar, neq, neq_scalar,
 };
 use arrow2_primitive::PrimitiveArray;
 use arrow2_text::Utf8Array;
@@ -52,7 +52,7 @@ fn mask(alloc: Global) -> Result<Bitmap> {
 }
 
 /// Comparisons with a number.
-fn compared_with_number(array: &PrimitiveArray<i32>) -> [Row<BooleanArray>; 7] {
+fn comparisons_with_number(array: &PrimitiveArray<i32>) -> [Row<BooleanArray>; 7] {
     [
         ("eq_scalar", eq_scalar(array, 2)),
         ("neq_scalar", neq_scalar(array, 2)),
@@ -60,12 +60,12 @@ fn compared_with_number(array: &PrimitiveArray<i32>) -> [Row<BooleanArray>; 7] {
         ("lt_eq_scalar", lt_eq_scalar(array, 2)),
         ("gt_scalar", gt_scalar(array, 2)),
         ("gt_eq_scalar", gt_eq_scalar(array, 2)),
-        ("tested", tested(array, |value| *value == 3)),
+        ("compare_each", compare_each(array, |value| *value == 3)),
     ]
 }
 
 /// Comparisons of an array with itself.
-fn compared(array: &PrimitiveArray<i32>) -> [Row<BooleanArray>; 6] {
+fn comparisons(array: &PrimitiveArray<i32>) -> [Row<BooleanArray>; 6] {
     [
         ("eq", eq(array, array)),
         ("neq", neq(array, array)),
@@ -160,7 +160,7 @@ fn cast_all(array: &PrimitiveArray<i32>, alloc: Global) -> Result<PrimitiveArray
 }
 
 /// Two nulls of an array, by an array of indices.
-fn taken(array: &PrimitiveArray<i32>, alloc: Global) -> [Row<PrimitiveArray<i32>>; 1] {
+fn items_by_array(array: &PrimitiveArray<i32>, alloc: Global) -> [Row<PrimitiveArray<i32>>; 1] {
     [("take_by_array", taken_by_array(array, alloc))]
 }
 
@@ -174,20 +174,24 @@ fn casts(array: &PrimitiveArray<i32>, alloc: Global) -> [Row<PrimitiveArray<u8>>
 
 /// Makes the calls on an array of numbers alone.
 fn on_numbers<R: Print + Eprint>(rt: &R, array: &PrimitiveArray<i32>, alloc: Global) {
-    made(
+    show_results(
         rt,
-        &compared_with_number(array),
-        &compared_with_number(array),
+        &comparisons_with_number(array),
+        &comparisons_with_number(array),
     );
-    made(rt, &compared(array), &compared(array));
-    made(rt, &casts(array, alloc), &casts(array, alloc));
-    made(rt, &taken(array, alloc), &taken(array, alloc));
+    show_results(rt, &comparisons(array), &comparisons(array));
+    show_results(rt, &casts(array, alloc), &casts(array, alloc));
+    show_results(
+        rt,
+        &items_by_array(array, alloc),
+        &items_by_array(array, alloc),
+    );
 }
 
 /// Makes the calls on an array without a validity.
 fn on_valid_numbers<R: Print + Eprint>(rt: &R, alloc: Global) -> Result<()> {
     let array = valid_numbers(alloc).or(valid_numbers(alloc))?;
-    made(rt, &nulls(&array), &nulls(&array));
+    show_results(rt, &nulls(&array), &nulls(&array));
     Ok(())
 }
 
@@ -199,7 +203,7 @@ fn on_masked_numbers<R: Print + Eprint>(
     mask: &Bitmap,
 ) {
     if array.len() == 3 && booleans.len() == 3 && mask.len() == 3 {
-        made(
+        show_results(
             rt,
             &chosen_numbers(array, booleans, mask),
             &chosen_numbers(array, booleans, mask),
@@ -210,7 +214,7 @@ fn on_masked_numbers<R: Print + Eprint>(
 /// Makes the calls on booleans and a mask.
 fn on_masked_booleans<R: Print + Eprint>(rt: &R, array: &BooleanArray, mask: &Bitmap) {
     if array.len() == 3 && mask.len() == 3 {
-        made(
+        show_results(
             rt,
             &chosen_booleans(array, mask),
             &chosen_booleans(array, mask),
@@ -221,7 +225,7 @@ fn on_masked_booleans<R: Print + Eprint>(rt: &R, array: &BooleanArray, mask: &Bi
 /// Makes the calls on texts and a mask.
 fn on_masked_texts<R: Print + Eprint>(rt: &R, array: &Utf8Array<i32>, mask: &Bitmap) {
     if array.len() == 3 && mask.len() == 3 {
-        made(rt, &chosen_texts(array, mask), &chosen_texts(array, mask));
+        show_results(rt, &chosen_texts(array, mask), &chosen_texts(array, mask));
     }
 }
 

@@ -1,5 +1,5 @@
 //! Arrays of numbers, and which of their items are not null.
-use crate::calls::{Row, input, made, ran_out, show};
+use crate::calls::{Row, input, ran_out, show, show_results};
 use crate::items::{growing_items, items};
 use arrow2_bitmap::Bitmap;
 use arrow2_buffer::Buffer;
@@ -21,7 +21,7 @@ fn one(alloc: Global) -> Result<PrimitiveArray<i32>> {
 }
 
 /// The array of a logical type of its own.
-fn typed(alloc: Global) -> Result<PrimitiveArray<i32>> {
+fn array_of_type(alloc: Global) -> Result<PrimitiveArray<i32>> {
     let values = input(Buffer::new(alloc))?;
     PrimitiveArray::try_new(DataType::Date32, values, None)
 }
@@ -32,14 +32,14 @@ fn over_vector(alloc: Global) -> Result<PrimitiveArray<i32>> {
 }
 
 /// The array of two nulls, frozen.
-fn frozen(alloc: Global) -> Result<PrimitiveArray<i32>> {
+fn frozen_array(alloc: Global) -> Result<PrimitiveArray<i32>> {
     let mut grown = input(MutablePrimitiveArray::new(alloc))?;
     input(grown.extend_constant(2, None))?;
     grown.freeze()
 }
 
 /// An array that became a growing one, frozen again. It has no validity, so that one is made.
-fn thawed(alloc: Global) -> Result<PrimitiveArray<i32>> {
+fn thaw_and_freeze(alloc: Global) -> Result<PrimitiveArray<i32>> {
     match one(alloc)?.into_mut()? {
         Either::Left(array) => Ok(array),
         Either::Right(array) => input(array.freeze()),
@@ -47,9 +47,9 @@ fn thawed(alloc: Global) -> Result<PrimitiveArray<i32>> {
 }
 
 /// Arrays of given items.
-fn given(alloc: Global) -> [Row<PrimitiveArray<i32>>; 6] {
+fn new_arrays(alloc: Global) -> [Row<PrimitiveArray<i32>>; 6] {
     [
-        ("PrimitiveArray::try_new", typed(alloc)),
+        ("PrimitiveArray::try_new", array_of_type(alloc)),
         ("PrimitiveArray::from_vec", over_vector(alloc)),
         (
             "PrimitiveArray::from_slice",
@@ -59,8 +59,8 @@ fn given(alloc: Global) -> [Row<PrimitiveArray<i32>>; 6] {
             "PrimitiveArray::from_options",
             PrimitiveArray::from_options(alloc, &ITEMS),
         ),
-        ("PrimitiveArray::into_mut", thawed(alloc)),
-        ("MutablePrimitiveArray::freeze", frozen(alloc)),
+        ("PrimitiveArray::into_mut", thaw_and_freeze(alloc)),
+        ("MutablePrimitiveArray::freeze", frozen_array(alloc)),
     ]
 }
 
@@ -70,7 +70,7 @@ fn count(array: Result<MutablePrimitiveArray<i32>>) -> Result<usize> {
 }
 
 /// The number of items of an array that an iterator gave.
-fn collected(alloc: Global) -> Result<usize> {
+fn collect_and_count(alloc: Global) -> Result<usize> {
     count(MutablePrimitiveArray::try_from_iter(alloc, ITEMS))
 }
 
@@ -85,7 +85,10 @@ fn growing(alloc: Global) -> [Row<usize>; 3] {
             "MutablePrimitiveArray::with_capacity",
             count(MutablePrimitiveArray::with_capacity(alloc, 20)),
         ),
-        ("MutablePrimitiveArray::try_from_iter", collected(alloc)),
+        (
+            "MutablePrimitiveArray::try_from_iter",
+            collect_and_count(alloc),
+        ),
     ]
 }
 
@@ -139,7 +142,7 @@ fn grow(
 
 /// Changes an empty array, and shows how many items it has then. Where an allocation failed, it must still be empty,
 /// and is changed once more.
-fn grown<R: Print + Eprint>(
+fn grow_and_show<R: Print + Eprint>(
     rt: &R,
     growth: Growth,
     array: &mut MutablePrimitiveArray<i32>,
@@ -182,7 +185,7 @@ fn thawed_validity(alloc: Global) -> Result<usize> {
 }
 
 /// The number of items of a bitmap after which those of a validity begin.
-fn appended(alloc: Global) -> Result<usize> {
+fn append_validity(alloc: Global) -> Result<usize> {
     let mut grown = input(growing_items(alloc))?;
     let validity = validity(None)?;
     if validity.len() < 70 {
@@ -198,7 +201,7 @@ fn of_another_length(alloc: Global) -> Result<usize> {
 }
 
 /// A bitmap that is rejected.
-fn checked(alloc: Global) -> Result<usize> {
+fn check_bitmap(alloc: Global) -> Result<usize> {
     check_same_length(3, &items(alloc, 1)?)?;
     Ok(0)
 }
@@ -208,17 +211,17 @@ fn validities(alloc: Global) -> [Row<usize>; 5] {
     [
         ("Validity::both", both(alloc)),
         ("Validity::into_mut", thawed_validity(alloc)),
-        ("Validity::append_to", appended(alloc)),
+        ("Validity::append_to", append_validity(alloc)),
         ("Validity::try_new", of_another_length(alloc)),
-        ("check_same_length", checked(alloc)),
+        ("check_same_length", check_bitmap(alloc)),
     ]
 }
 
 /// Makes each of these calls.
 pub(crate) fn all<R: Print + Eprint>(rt: &R, alloc: Global) -> Result<()> {
-    made(rt, &given(alloc), &given(alloc));
-    made(rt, &growing(alloc), &growing(alloc));
-    made(rt, &validities(alloc), &validities(alloc));
+    show_results(rt, &new_arrays(alloc), &new_arrays(alloc));
+    show_results(rt, &growing(alloc), &growing(alloc));
+    show_results(rt, &validities(alloc), &validities(alloc));
     let other = one(alloc).or(one(alloc))?;
     for growth in [
         Growth::Push,
@@ -230,7 +233,7 @@ pub(crate) fn all<R: Print + Eprint>(rt: &R, alloc: Global) -> Result<()> {
         Growth::Reserve,
     ] {
         let mut array = MutablePrimitiveArray::like(&other)?;
-        grown(rt, growth, &mut array, &other);
+        grow_and_show(rt, growth, &mut array, &other);
     }
     Ok(())
 }

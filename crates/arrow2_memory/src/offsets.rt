@@ -1,5 +1,5 @@
 //! Offsets and buffers.
-use crate::calls::{Change, Row, changed, input, made};
+use crate::calls::{Change, Row, input, show_change, show_results};
 use arrow2_buffer::Buffer;
 use arrow2_offset::{Offsets, OffsetsBuffer};
 use arrow2_types::Result;
@@ -13,7 +13,7 @@ fn five(alloc: Global) -> Result<Offsets<i32>> {
 }
 
 /// Those offsets, shared.
-pub(crate) fn five_shared(alloc: Global) -> Result<OffsetsBuffer<i32>> {
+pub(crate) fn shared_five(alloc: Global) -> Result<OffsetsBuffer<i32>> {
     OffsetsBuffer::try_from(five(alloc)?)
 }
 
@@ -24,27 +24,27 @@ fn five_wide(alloc: Global) -> Result<Offsets<i64>> {
 
 /// Those offsets in the greater width, shared.
 fn five_shared_wide(alloc: Global) -> Result<OffsetsBuffer<i64>> {
-    OffsetsBuffer::try_from(&input(five_shared(alloc))?)
+    OffsetsBuffer::try_from(&input(shared_five(alloc))?)
 }
 
 /// A copy.
-fn copied(alloc: Global) -> Result<Offsets<i32>> {
+fn copy(alloc: Global) -> Result<Offsets<i32>> {
     Ok(five(alloc)?.clone()?)
 }
 
 /// Offsets of the smaller width.
-fn narrowed(alloc: Global) -> Result<Offsets<i32>> {
+fn narrow_offsets(alloc: Global) -> Result<Offsets<i32>> {
     Offsets::try_from(input(five_wide(alloc))?)
 }
 
 /// Shared offsets of the smaller width.
-fn shared_narrowed(alloc: Global) -> Result<OffsetsBuffer<i32>> {
+fn shared_narrow_offsets(alloc: Global) -> Result<OffsetsBuffer<i32>> {
     OffsetsBuffer::try_from(&input(five_shared_wide(alloc))?)
 }
 
 /// Shared offsets of a buffer whose numbers are offsets.
 fn of_buffer(alloc: Global) -> Result<OffsetsBuffer<i32>> {
-    OffsetsBuffer::try_from(input(five_shared(alloc))?.into_inner())
+    OffsetsBuffer::try_from(input(shared_five(alloc))?.into_inner())
 }
 
 /// Shared offsets of a buffer whose numbers are not offsets.
@@ -68,7 +68,7 @@ fn buffers(alloc: Global) -> [Row<Buffer<u32>>; 3] {
 }
 
 /// Offsets of given lengths, and offsets of the lengths of an iterator, which allocate more than once.
-fn given(alloc: Global) -> [Row<Offsets<i32>>; 6] {
+fn new_offsets(alloc: Global) -> [Row<Offsets<i32>>; 6] {
     [
         ("Offsets::new", Offsets::new(alloc)),
         ("Offsets::new_zeroed", Offsets::new_zeroed(alloc, 9)),
@@ -89,20 +89,23 @@ fn given(alloc: Global) -> [Row<Offsets<i32>>; 6] {
 }
 
 /// Offsets that are made of others.
-fn taken(alloc: Global) -> [Row<Offsets<i32>>; 2] {
+fn offsets_of_others(alloc: Global) -> [Row<Offsets<i32>>; 2] {
     [
-        ("Clone for Offsets<O>", copied(alloc)),
-        ("TryFrom<Offsets<i64>> for Offsets<i32>", narrowed(alloc)),
+        ("Clone for Offsets<O>", copy(alloc)),
+        (
+            "TryFrom<Offsets<i64>> for Offsets<i32>",
+            narrow_offsets(alloc),
+        ),
     ]
 }
 
 /// Offsets of the greater width.
-fn widened(alloc: Global) -> [Row<Offsets<i64>>; 1] {
+fn wide_offsets(alloc: Global) -> [Row<Offsets<i64>>; 1] {
     [("TryFrom<Offsets<i32>> for Offsets<i64>", five_wide(alloc))]
 }
 
 /// Shared offsets.
-fn shared(alloc: Global) -> [Row<OffsetsBuffer<i32>>; 6] {
+fn shared_offsets(alloc: Global) -> [Row<OffsetsBuffer<i32>>; 6] {
     let of_offsets = "TryFrom<Offsets<O>> for OffsetsBuffer<O>";
     let of_buffers = "TryFrom<Buffer<O>> for OffsetsBuffer<O>";
     let of_wide = "TryFrom<&OffsetsBuffer<i64>> for OffsetsBuffer<i32>";
@@ -112,15 +115,15 @@ fn shared(alloc: Global) -> [Row<OffsetsBuffer<i32>>; 6] {
             "TryFrom<Vec<O>> for OffsetsBuffer<O>",
             OffsetsBuffer::try_from(Vec::new(alloc)),
         ),
-        (of_offsets, five_shared(alloc)),
+        (of_offsets, shared_five(alloc)),
         (of_buffers, of_buffer(alloc)),
         (of_buffers, of_no_offsets(alloc)),
-        (of_wide, shared_narrowed(alloc)),
+        (of_wide, shared_narrow_offsets(alloc)),
     ]
 }
 
 /// Shared offsets of the greater width.
-fn shared_widened(alloc: Global) -> [Row<OffsetsBuffer<i64>>; 1] {
+fn shared_wide_offsets(alloc: Global) -> [Row<OffsetsBuffer<i64>>; 1] {
     let call = "TryFrom<&OffsetsBuffer<i32>> for OffsetsBuffer<i64>";
     [(call, five_shared_wide(alloc))]
 }
@@ -183,7 +186,7 @@ fn extend_by_two(offsets: &mut Offsets<i32>, other: &OffsetsBuffer<i32>) -> Resu
 }
 
 /// Each way in which offsets grow.
-fn grown<R: Print + Eprint>(
+fn grow_and_show<R: Print + Eprint>(
     rt: &R,
     before: &Offsets<i32>,
     shared: &OffsetsBuffer<i32>,
@@ -197,7 +200,7 @@ fn grown<R: Print + Eprint>(
         Growth::Reserve,
         Growth::ShrinkToFit,
     ] {
-        changed(rt, before, growth)?;
+        show_change(rt, before, growth)?;
     }
     Ok(())
 }
@@ -205,17 +208,17 @@ fn grown<R: Print + Eprint>(
 /// Each way in which offsets without a length grow.
 fn grown_from_none<R: Print + Eprint>(rt: &R, alloc: Global) -> Result<()> {
     let none = Offsets::new(alloc).or(Offsets::new(alloc))?;
-    grown(rt, &none, &five_shared(alloc).or(five_shared(alloc))?)?;
-    changed(rt, &none, &five(alloc).or(five(alloc))?)
+    grow_and_show(rt, &none, &shared_five(alloc).or(shared_five(alloc))?)?;
+    show_change(rt, &none, &five(alloc).or(five(alloc))?)
 }
 
 /// Makes each of these calls.
 pub(crate) fn all<R: Print + Eprint>(rt: &R, alloc: Global) -> Result<()> {
-    made(rt, &buffers(alloc), &buffers(alloc));
-    made(rt, &given(alloc), &given(alloc));
-    made(rt, &taken(alloc), &taken(alloc));
-    made(rt, &widened(alloc), &widened(alloc));
-    made(rt, &shared(alloc), &shared(alloc));
-    made(rt, &shared_widened(alloc), &shared_widened(alloc));
+    show_results(rt, &buffers(alloc), &buffers(alloc));
+    show_results(rt, &new_offsets(alloc), &new_offsets(alloc));
+    show_results(rt, &offsets_of_others(alloc), &offsets_of_others(alloc));
+    show_results(rt, &wide_offsets(alloc), &wide_offsets(alloc));
+    show_results(rt, &shared_offsets(alloc), &shared_offsets(alloc));
+    show_results(rt, &shared_wide_offsets(alloc), &shared_wide_offsets(alloc));
     grown_from_none(rt, alloc)
 }

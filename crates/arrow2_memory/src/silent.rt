@@ -2,7 +2,7 @@
 //! first, so that no allocation comes after the first line that they show.
 use crate::calls::{input, ran_out, show};
 use crate::items::{growing_items, items};
-use crate::offsets::five_shared;
+use crate::offsets::shared_five;
 use crate::walks::array;
 use arrow2_array::{BooleanArray, MutableBooleanArray};
 use arrow2_bitmap::assign_ops::{
@@ -63,19 +63,19 @@ fn push_options<R: Print + Eprint>(rt: &R, array: &mut MutableBooleanArray) {
 }
 
 /// Moves the bits of a word.
-fn moved<T: BitChunk>(word: T) -> T {
+fn shift_bits<T: BitChunk>(word: T) -> T {
     word.up(1)
 }
 
 /// Moves the bits of the second word, and combines both.
-fn combined<T: BitChunk>(one: T, other: T) -> T {
+fn combine<T: BitChunk>(one: T, other: T) -> T {
     one.bit_xor(other.up(1))
 }
 
 /// A function of two words of `T`, where the lengths are equal.
 fn assign_binary<T: BitChunk>(lhs: &mut MutableBitmap, rhs: &Bitmap) {
     if lhs.len() == rhs.len() {
-        binary_assign(lhs, rhs, combined::<T>);
+        binary_assign(lhs, rhs, combine::<T>);
     }
 }
 
@@ -88,7 +88,7 @@ fn assign_table<T: BitChunk>(lhs: &mut MutableBitmap, rhs: &Bitmap) {
 
 /// Changes by words of `T`.
 fn words<R: Print, T: BitChunk>(rt: &R, lhs: &mut MutableBitmap, rhs: &Bitmap) {
-    unary_assign(lhs, moved::<T>);
+    unary_assign(lhs, shift_bits::<T>);
     show(rt, "unary_assign", lhs);
     assign_binary::<T>(lhs, rhs);
     show(rt, "binary_assign", lhs);
@@ -122,7 +122,7 @@ fn assign(lhs: &mut MutableBitmap, operator: Operator, rhs: &Bitmap) {
 }
 
 /// Returns the operator's result for its left side, or that side where the lengths differ.
-fn applied(lhs: MutableBitmap, operator: Operator, rhs: &Bitmap) -> MutableBitmap {
+fn apply(lhs: MutableBitmap, operator: Operator, rhs: &Bitmap) -> MutableBitmap {
     if lhs.len() != rhs.len() {
         return lhs;
     }
@@ -143,11 +143,11 @@ fn operators<R: Print>(rt: &R, mut lhs: MutableBitmap, rhs: &Bitmap) {
     show(rt, "&=", &lhs);
     lhs = !lhs;
     show(rt, "!", &lhs);
-    lhs = applied(lhs, Operator::Xor, rhs);
+    lhs = apply(lhs, Operator::Xor, rhs);
     show(rt, "^", &lhs);
-    lhs = applied(lhs, Operator::And, rhs);
+    lhs = apply(lhs, Operator::And, rhs);
     show(rt, "&", &lhs);
-    lhs = applied(lhs, Operator::Or, rhs);
+    lhs = apply(lhs, Operator::Or, rhs);
     show(rt, "|", &lhs);
 }
 
@@ -157,27 +157,27 @@ fn sides(alloc: Global) -> Result<(MutableBitmap, Bitmap)> {
 }
 
 /// The inputs of pushes.
-fn reserved(alloc: Global) -> Result<(MutableBitmap, Offsets<i32>)> {
+fn empty_with_capacity(alloc: Global) -> Result<(MutableBitmap, Offsets<i32>)> {
     let bitmap = MutableBitmap::with_capacity(alloc, 20)?;
     Ok((bitmap, Offsets::with_capacity(alloc, 20)?))
 }
 
 /// An array that is pushed to. An error becomes `Overflow`, as for each input.
-fn roomy_array(alloc: Global) -> Result<MutableBooleanArray> {
+fn array_with_capacity(alloc: Global) -> Result<MutableBooleanArray> {
     input(MutableBooleanArray::with_capacity(alloc, 20))
 }
 
 /// The values that are cloned.
-fn owned(alloc: Global) -> Result<(BooleanArray, OffsetsBuffer<i32>)> {
-    Ok((array(alloc)?, five_shared(alloc)?))
+fn values_to_clone(alloc: Global) -> Result<(BooleanArray, OffsetsBuffer<i32>)> {
+    Ok((array(alloc)?, shared_five(alloc)?))
 }
 
 /// Makes each of these calls.
 pub(crate) fn all<R: Print + Eprint>(rt: &R, alloc: Global) -> Result<()> {
     let (mut lhs, rhs) = sides(alloc).or(sides(alloc))?;
-    let (mut bitmap, mut offsets) = reserved(alloc).or(reserved(alloc))?;
-    let mut options = roomy_array(alloc).or(roomy_array(alloc))?;
-    let (array, shared) = owned(alloc).or(owned(alloc))?;
+    let (mut bitmap, mut offsets) = empty_with_capacity(alloc).or(empty_with_capacity(alloc))?;
+    let mut options = array_with_capacity(alloc).or(array_with_capacity(alloc))?;
+    let (array, shared) = values_to_clone(alloc).or(values_to_clone(alloc))?;
     let _ = println!(rt; "calls that do not allocate");
     owners(rt, &array);
     owners_of_offsets(rt, &shared);

@@ -1,5 +1,5 @@
 //! Arrays of byte strings and of texts.
-use crate::calls::{Row, input, made, ran_out, show};
+use crate::calls::{Row, input, ran_out, show, show_results};
 use arrow2_buffer::Buffer;
 use arrow2_datatypes::DataType;
 use arrow2_offset::OffsetsBuffer;
@@ -70,12 +70,12 @@ fn frozen_strings(alloc: Global) -> Result<BinaryArray<i32>> {
 }
 
 /// The byte strings of texts.
-fn copied(alloc: Global) -> Result<BinaryArray<i32>> {
+fn binary_copy(alloc: Global) -> Result<BinaryArray<i32>> {
     texts(alloc)?.to_binary()
 }
 
 /// The texts as byte strings.
-fn turned(alloc: Global) -> Result<BinaryArray<i32>> {
+fn binary_from_texts(alloc: Global) -> Result<BinaryArray<i32>> {
     texts(alloc)?.into_binary()
 }
 
@@ -110,8 +110,8 @@ fn given_strings(alloc: Global) -> [Row<BinaryArray<i32>>; 7] {
         ("BinaryArray::try_new", typed_strings(alloc)),
         ("BinaryArray::into_mut", thawed_strings(alloc)),
         ("MutableBinaryArray::freeze", frozen_strings(alloc)),
-        ("Utf8Array::to_binary", copied(alloc)),
-        ("Utf8Array::into_binary", turned(alloc)),
+        ("Utf8Array::to_binary", binary_copy(alloc)),
+        ("Utf8Array::into_binary", binary_from_texts(alloc)),
     ]
 }
 
@@ -264,7 +264,12 @@ impl Grows<BinaryArray<i32>> for MutableBinaryArray<i32> {
 
 /// Changes an array, and shows how many items it has then. Where an allocation failed, shows whether the number of
 /// items changed, and changes the array once more.
-fn grown<R: Print + Eprint, A, B: Grows<A>>(rt: &R, growth: Growth, array: &mut B, other: &A) {
+fn grow_and_show<R: Print + Eprint, A, B: Grows<A>>(
+    rt: &R,
+    growth: Growth,
+    array: &mut B,
+    other: &A,
+) {
     let before = array.count();
     let (call, made) = array.grow(growth, other);
     if ran_out(rt, call, &made) {
@@ -280,7 +285,7 @@ fn grown<R: Print + Eprint, A, B: Grows<A>>(rt: &R, growth: Growth, array: &mut 
 }
 
 /// The array that is changed. It has no items, or for the removal of an item those of another array.
-fn started<A, B: Grows<A>>(alloc: Global, growth: Growth, other: &A) -> Result<B> {
+fn array_to_grow<A, B: Grows<A>>(alloc: Global, growth: Growth, other: &A) -> Result<B> {
     let mut array = B::empty(alloc).or(B::empty(alloc))?;
     if matches!(growth, Growth::Pop) {
         fill(&mut array, other)?;
@@ -299,7 +304,11 @@ fn fill<A, B: Grows<A>>(array: &mut B, other: &A) -> Result<()> {
 }
 
 /// Makes each change of arrays of a type.
-fn each_grown<R: Print + Eprint, A, B: Grows<A>>(rt: &R, alloc: Global, other: &A) -> Result<()> {
+fn grow_each_way<R: Print + Eprint, A, B: Grows<A>>(
+    rt: &R,
+    alloc: Global,
+    other: &A,
+) -> Result<()> {
     for growth in [
         Growth::Push,
         Growth::PushNull,
@@ -307,19 +316,19 @@ fn each_grown<R: Print + Eprint, A, B: Grows<A>>(rt: &R, alloc: Global, other: &
         Growth::Reserve,
         Growth::Pop,
     ] {
-        let mut array: B = started(alloc, growth, other)?;
-        grown(rt, growth, &mut array, other);
+        let mut array: B = array_to_grow(alloc, growth, other)?;
+        grow_and_show(rt, growth, &mut array, other);
     }
     Ok(())
 }
 
 /// Makes each of these calls.
 pub(crate) fn all<R: Print + Eprint>(rt: &R, alloc: Global) -> Result<()> {
-    made(rt, &given_texts(alloc), &given_texts(alloc));
-    made(rt, &given_strings(alloc), &given_strings(alloc));
-    made(rt, &growing(alloc), &growing(alloc));
+    show_results(rt, &given_texts(alloc), &given_texts(alloc));
+    show_results(rt, &given_strings(alloc), &given_strings(alloc));
+    show_results(rt, &growing(alloc), &growing(alloc));
     let texts = texts(alloc).or(texts(alloc))?;
-    each_grown::<_, _, MutableUtf8Array<i32>>(rt, alloc, &texts)?;
+    grow_each_way::<_, _, MutableUtf8Array<i32>>(rt, alloc, &texts)?;
     let strings = strings(alloc).or(strings(alloc))?;
-    each_grown::<_, _, MutableBinaryArray<i32>>(rt, alloc, &strings)
+    grow_each_way::<_, _, MutableBinaryArray<i32>>(rt, alloc, &strings)
 }

@@ -1,5 +1,5 @@
 //! Boolean arrays, and bitmaps in pieces.
-use crate::calls::{Row, made, ran_out, show};
+use crate::calls::{Row, ran_out, show, show_results};
 use crate::items::items;
 use arrow2_array::BooleanArray;
 use arrow2_bitmap::Bitmap;
@@ -79,7 +79,7 @@ fn cut_often<R: Print + Eprint>(rt: &R, alloc: Global) -> Result<()> {
 /// Makes each of these calls.
 pub(crate) fn all<R: Print + Eprint>(rt: &R, alloc: Global) -> Result<()> {
     let array = array(alloc).or(array(alloc))?;
-    made(rt, &arrays(&array), &arrays(&array));
-    made(rt, &wholes(alloc), &wholes(alloc));
+    show_results(rt, &arrays(&array), &arrays(&array));
+    show_results(rt, &wholes(alloc), &wholes(alloc));
     cut_often(rt, alloc)
 }

@@ -10,7 +10,7 @@ use Rattle.std.proofs.lemmas.Int.{to_z_pos, to_z-of_z}
 use Rattle.std.proofs.Math.Nat.{div-div-eq-div-mul, div-one, mod-eq_of_lt, mod-lt, mul-add, mul_assoc, mul_comm, mul_left_comm, one-le-pow, pow-suc, pow-succ'}
 use Rattle.std.proofs.lemmas.List.{reverse-append, length-reverse, reverse-reverse, get_or-reverse, get_or_past, get_or-take, get_or-drop, length-append, length-drop, append_assoc, drop-drop, take-append-drop, length-take, take_more, take_all}
 use mir.Val.{bits as width_bits, hbits}
-use Rattle.arrow2_model.specs.Digits.{residue, low_digits, digits, digits_number, natural_from, centred, integer_from}
+use Rattle.arrow2_model.specs.Digits.{residue, low_digits, digits, digits_number, natural_from, signed_residue, integer_from}
 
 -- ---- one digit more
 
@@ -217,13 +217,13 @@ pub ruleset unsigned_bytes = (wrote_low, wrote_high, low_read_back, high_read_ba
 abbrev pub IsSize : Width → ℕ → Type 0
 IsSize w n = (256 ^ n ≡ 2 ^ width_bits w) × (2 * 2 ^ hbits w ≡ 2 ^ width_bits w)
 
-centred_low : (m x : ℕ) → 2 * x < m → centred m x ≡ pos x
+centred_low : (m x : ℕ) → 2 * x < m → signed_residue m x ≡ pos x
 centred_low m x h = grind (arith, nat_tests)
 
-centred_high : (m x : ℕ) → m ≤ 2 * x → centred m x ≡ negsuc (m - suc x)
+centred_high : (m x : ℕ) → m ≤ 2 * x → signed_residue m x ≡ negsuc (m - suc x)
 centred_high m x h = grind (arith, nat_tests)
 
-pub residue-centred : (m x : ℕ) → x < m → residue m (centred m x) ≡ x
+pub residue-centred : (m x : ℕ) → x < m → residue m (signed_residue m x) ≡ x
 residue-centred m x h = elim (cases_lt (2 * x) m) [
   | inl low ↦ ap (residue m) (centred_low m x low) ∙ mod-eq_of_lt h
   | inr high ↦
@@ -242,7 +242,7 @@ of_z_is w n (negsuc x) s f =
     rw small (omega arith)
 
 -- std's signed number of bits
-pub to_z_is : (w : Width) (n x : ℕ) → IsSize w n → cast_signed w x ≡ centred (256 ^ n) x
+pub to_z_is : (w : Width) (n x : ℕ) → IsSize w n → cast_signed w x ≡ signed_residue (256 ^ n) x
 to_z_is w n x s = let a = s.0 in let b = s.1 in elim (cases_lt x (2 ^ hbits w)) [
   | inl low ↦ to_z_pos w x low ∙ sym (centred_low (256 ^ n) x (omega arith))
   | inr high ↦
@@ -277,7 +277,7 @@ residue-lt m (pos x) h = mod-lt x h
 residue-lt m (negsuc x) h = omega arith
 
 -- a signed number of n bytes is the one that lies in the middle
-pub centred-residue : (w : Width) (n : ℕ) (z : ℤ) → IsSize w n → FitsSigned w z → centred (256 ^ n) (residue (256 ^ n) z) ≡ z
+pub centred-residue : (w : Width) (n : ℕ) (z : ℤ) → IsSize w n → FitsSigned w z → signed_residue (256 ^ n) (residue (256 ^ n) z) ≡ z
 centred-residue w n z s f = sym (to_z_is w n (residue (256 ^ n) z) s) ∙ (ap (cast_signed w) (sym (of_z_is w n z s f)) ∙ to_z-of_z w z f)
 
 -- a number of n bytes is that of its digits
@@ -286,7 +286,7 @@ unfolding digits integer_from
 integer_from-digits w n z s f =
     let a = s.0 in
     let small : residue (256 ^ n) z < 256 ^ n = residue-lt (256 ^ n) z (pow_pos256 n) in
-    ap (centred (256 ^ n)) (natural_from-low_digits n (residue (256 ^ n) z) small)
+    ap (signed_residue (256 ^ n)) (natural_from-low_digits n (residue (256 ^ n) z) small)
     ∙ (sym (to_z_is w n (residue (256 ^ n) z) s) ∙ (ap (cast_signed w) (sym (of_z_is w n z s f)) ∙ to_z-of_z w z f))
 
 pub integer_low_back : (w : Width) (n : ℕ) (z : ℤ) (bytes : List ℕ) → IsSize w n → FitsSigned w z → bytes ≡ bytes_low_first 0 n (cast_unsigned w z) → integer_from n bytes ≡ z
@@ -298,7 +298,7 @@ integer_high_back w n z bytes s f e =
 
 pub integer_read : (w : Width) (n x : ℕ) (z : ℤ) (bytes : List ℕ) → IsSize w n → x ≡ natural_from n bytes → z ≡ cast_signed w x → z ≡ integer_from n bytes
 unfolding integer_from
-integer_read w n x z bytes s e r = r ∙ (to_z_is w n x s ∙ ap (centred (256 ^ n)) e)
+integer_read w n x z bytes s e r = r ∙ (to_z_is w n x s ∙ ap (signed_residue (256 ^ n)) e)
 
 -- ---- signed numbers at each width
 

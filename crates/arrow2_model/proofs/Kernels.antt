@@ -15,7 +15,7 @@ use Rattle.arrow2_model.proofs.Bits.{length-unnum, get_or-unnum}
 use Rattle.arrow2_model.proofs.Numbers.{bit-num, num-part-lt}
 use Rattle.arrow2_model.proofs.Parts.{get_or-part}
 use Rattle.arrow2_model.proofs.Words.{get_or-words}
-use Rattle.arrow2_model.proofs.Joined.{length-joined, same_joined, get_or-joined}
+use Rattle.arrow2_model.proofs.BitsOfWords.{length-joined, same_joined, get_or-joined}
 
 pub word-item : (w : ℕ) (items : List Bool) (j : ℕ) → j < div_ceil (length items) w → get_or (words w items) j 0 ≡ word w items j
 word-item w items j h = get_or-words w items j h

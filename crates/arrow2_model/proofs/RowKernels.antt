@@ -1,20 +1,20 @@
 -- Kernels of lists that are read row by row.
 use Rattle.std.proofs.Common.{◌≡◌, ℕ, ◌<◌, List, [], ◌∷◌, Bool, slice_index, ap, sym, ◌∙◌, refl}
 use Rattle.arrow2_model.specs.Bits.{unnum}
-use Rattle.arrow2_model.specs.Kernels.{joined, kernel, words_at, common_length, unary_kernel, binary_kernel, ternary_kernel, quaternary_kernel}
+use Rattle.arrow2_model.specs.Kernels.{bits_of_words, kernel, words_at, common_length, unary_kernel, binary_kernel, ternary_kernel, quaternary_kernel}
 use Rattle.arrow2_model.specs.Tables.{each}
-use Rattle.arrow2_model.proofs.Joined.{same_joined}
+use Rattle.arrow2_model.proofs.BitsOfWords.{same_joined}
 use Rattle.arrow2_model.proofs.Kernels.{table_word, table_outputs, kernel_of_table}
 use Rattle.arrow2_model.specs.Rows.{AreRowsOf, IsBitwiseOnRows, IsBitwiseOnOwnRows, ComputesRows, ComputesOwnRows}
 
 -- the rows joined are the kernel of the lists
-pub rows_kernel : (w n : ℕ) (f : List ℕ → ℕ) (lists : List (List Bool)) (row : ℕ → List ℕ) → 0 < w → AreRowsOf w lists row n → joined w (λ j. f (row j)) n ≡ kernel w f lists
+pub rows_kernel : (w n : ℕ) (f : List ℕ → ℕ) (lists : List (List Bool)) (row : ℕ → List ℕ) → 0 < w → AreRowsOf w lists row n → bits_of_words w (λ j. f (row j)) n ≡ kernel w f lists
 unfolding kernel
 rows_kernel w n f lists row p are =
-    ap (joined w (λ j. f (row j))) (sym are.0)
+    ap (bits_of_words w (λ j. f (row j))) (sym are.0)
     ∙ same_joined w (λ j. f (row j)) (λ j. f (words_at w lists j)) (common_length lists) p (λ j. ap (λ (r : List ℕ). unnum w (f r)) (are.1 j))
 
-pub rows_table : (w n t : ℕ) (lists : List (List Bool)) (row : ℕ → List ℕ) → 0 < w → AreRowsOf w lists row n → joined w (λ j. table_word w t (row j)) n ≡ each t lists
+pub rows_table : (w n t : ℕ) (lists : List (List Bool)) (row : ℕ → List ℕ) → 0 < w → AreRowsOf w lists row n → bits_of_words w (λ j. table_word w t (row j)) n ≡ each t lists
 rows_table w n t lists row p are = rows_kernel w n (table_word w t) lists row p are ∙ kernel_of_table w t lists p
 
 -- a function that acts by a table is the table's word function

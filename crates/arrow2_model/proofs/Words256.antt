@@ -3,7 +3,7 @@ use Rattle.std.proofs.Common.{◌≡◌, ℕ, zero, suc, ◌+◌, ◌-◌, ◌*�
 use Rattle.std.specs.Prelude.{ℤ, pos, negsuc, ◌+ℤ◌, ◌-ℤ◌, ◌*ℤ◌, neg_ℤ, ◌≢◌, ◌==◌, FitsSigned}
 use Rattle.std.specs.Int.{cast_unsigned, cast_signed, w128, int_wrapping_neg}
 use Rattle.std.proofs.lemmas.Int.{ints, to_z-of_z}
-use Rattle.arrow2_model.specs.Digits.{residue, centred, words_value, high_word, low_word, digits, low_digits, integer_from, natural_from, digits_number}
+use Rattle.arrow2_model.specs.Digits.{residue, signed_residue, words_value, high_word, low_word, digits, low_digits, integer_from, natural_from, digits_number}
 use Rattle.arrow2_model.proofs.Digits.{residue-lt, residue-centred, centred-residue, slice_index-take-lt, slice_index-drop-lt, of_z_is, to_z_is, length-digits, slice_index-reverse-lt, digits_of_integer, integer_from-digits, take_first, drop_first}
 use Rattle.std.proofs.Math.Nat.{div-div-eq-div-mul, div-one, mod-eq_of_lt, mul_left_comm, pow-succ'}
 use Rattle.std.proofs.lemmas.Bool.Decides.{nat_tests, same_from_decides, Decides-like, Decides-eqb, Decides-int_eq}
@@ -43,16 +43,16 @@ residue-words (negsuc a) lo =
 
 pub low_word-words : (hi lo : ℤ) → FitsSigned w128 lo → low_word (words_value hi lo) ≡ lo
 unfolding low_word
-low_word-words hi lo f = ap (centred (2 ^ 128)) (residue-words hi lo) ∙ centred-residue w128 16 lo (refl, refl) f
+low_word-words hi lo f = ap (signed_residue (2 ^ 128)) (residue-words hi lo) ∙ centred-residue w128 16 lo (refl, refl) f
 
 pub words-value : (v : ℤ) → words_value (high_word v) (low_word v) ≡ v
 unfolding high_word low_word words_value
 words-value (pos x) =
-    let e : residue (2 ^ 128) (centred (2 ^ 128) (x % 2 ^ 128)) ≡ x % 2 ^ 128 = residue-centred (2 ^ 128) (x % 2 ^ 128) (omega arith) in
+    let e : residue (2 ^ 128) (signed_residue (2 ^ 128) (x % 2 ^ 128)) ≡ x % 2 ^ 128 = residue-centred (2 ^ 128) (x % 2 ^ 128) (omega arith) in
     rw e (omega (arith, ints))
 words-value (negsuc x) =
     let r : ℕ = 2 ^ 128 - 1 - x % 2 ^ 128 in
-    let e : residue (2 ^ 128) (centred (2 ^ 128) r) ≡ r = residue-centred (2 ^ 128) r (omega arith) in
+    let e : residue (2 ^ 128) (signed_residue (2 ^ 128) r) ≡ r = residue-centred (2 ^ 128) r (omega arith) in
     rw e (omega (arith, ints))
 
 -- ---- negation
@@ -117,7 +117,7 @@ digits-words hi lo =
 
 pub first_half : (bytes : List ℕ) → integer_from 16 bytes ≡ integer_from 16 (take 16 bytes)
 unfolding integer_from natural_from
-first_half bytes = ap (λ (ds : List ℕ). centred (256 ^ 16) (digits_number ds)) (sym (take-take 16 16 bytes (omega arith)))
+first_half bytes = ap (λ (ds : List ℕ). signed_residue (256 ^ 16) (digits_number ds)) (sym (take-take 16 16 bytes (omega arith)))
 
 -- bytes are the digits of the number that is read from them
 pub digits_of_words : (bytes : List ℕ) → length bytes ≡ 32 → ((k : ℕ) → slice_index bytes k < 256) → digits 32 (words_value (integer_from 16 (drop 16 bytes)) (integer_from 16 bytes)) ≡ bytes
@@ -163,8 +163,8 @@ pub negated_both : (hi lo h l v : ℤ) → FitsSigned w128 lo → lo ≢ pos 0 �
 negated_both hi lo h l v f z e m w =
     let n : ℕ = residue (2 ^ 128) lo in
     let small = low_lt lo in
-    let middle : centred (2 ^ 128) n ≡ lo = centred-residue w128 16 lo (refl, refl) f in
-    let above : 0 < n = above_zero n (λ t. z (sym middle ∙ ap (centred (2 ^ 128)) t)) in
+    let middle : signed_residue (2 ^ 128) n ≡ lo = centred-residue w128 16 lo (refl, refl) f in
+    let above : 0 < n = above_zero n (λ t. z (sym middle ∙ ap (signed_residue (2 ^ 128)) t)) in
     let bits : cast_unsigned w128 lo ≡ n = of_z_is w128 16 lo (refl, refl) f in
     let rest : (2 ^ 128 - cast_unsigned w128 lo) % 2 ^ 128 ≡ 2 ^ 128 - n = rw bits (mod-eq_of_lt (omega arith)) in
     let back : residue (2 ^ 128) l ≡ 2 ^ 128 - n =

@@ -17,5 +17,5 @@ abbrev pub whole_buffer : {X : Type 0} → List X → BufferStorage X
 whole_buffer items = record { storage = items; offset = 0; len = length items }
 
 -- a list after its items from index i on were overwritten by others, which are meant to end at or before its end
-abbrev pub overwritten : {X : Type 0} → List X → ℕ → List X → List X
-overwritten items i others = take i items ++ (others ++ drop (length others) (drop i items))
+abbrev pub overwrite : {X : Type 0} → List X → ℕ → List X → List X
+overwrite items i others = take i items ++ (others ++ drop (length others) (drop i items))

@@ -26,12 +26,12 @@ unfoldable pub natural_from : ℕ → List ℕ → ℕ
 natural_from n bytes = digits_number (take n bytes)
 
 -- the whole number that is x modulo m and lies from -(m / 2) to below m / 2
-abbrev pub centred : ℕ → ℕ → ℤ
-centred m x = (if nat_lt (2 * x) m then pos x else negsuc (m - suc x))
+abbrev pub signed_residue : ℕ → ℕ → ℤ
+signed_residue m x = (if nat_lt (2 * x) m then pos x else negsuc (m - suc x))
 
 -- the signed number of the first n bytes, in two's complement
 unfoldable pub integer_from : ℕ → List ℕ → ℤ
-integer_from n bytes = centred (256 ^ n) (natural_from n bytes)
+integer_from n bytes = signed_residue (256 ^ n) (natural_from n bytes)
 
 -- the value of a number of 256 bits whose words are hi and lo: hi * 2 ^ 128 + (lo mod 2 ^ 128)
 unfoldable pub words_value : ℤ → ℤ → ℤ
@@ -42,4 +42,4 @@ unfoldable pub high_word : ℤ → ℤ
 high_word v = int_div_euclid v (pos (2 ^ 128))
 
 unfoldable pub low_word : ℤ → ℤ
-low_word v = centred (2 ^ 128) (residue (2 ^ 128) v)
+low_word v = signed_residue (2 ^ 128) (residue (2 ^ 128) v)

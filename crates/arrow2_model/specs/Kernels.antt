@@ -20,13 +20,13 @@ abbrev pub common_length : List (List Bool) → ℕ
 common_length lists = length (slice_index_or lists 0 [])
 
 -- the first n of the bits of the words at indices 0, 1 and so on, w bits a word
-unfoldable pub joined : ℕ → (ℕ → ℕ) → ℕ → List Bool
-joined w word_of n = take n (flat_map (λ j. unnum w (word_of j)) (range_with_len 0 (div_ceil n w)))
+unfoldable pub bits_of_words : ℕ → (ℕ → ℕ) → ℕ → List Bool
+bits_of_words w word_of n = take n (flat_map (λ j. unnum w (word_of j)) (range_with_len 0 (div_ceil n w)))
 
 -- the list that the word function f gives for lists of equal length: the bits of its result for word 0 of each list,
 -- then the bits of its result for word 1 of each list, and so on, cut to the length of the lists
 unfoldable pub kernel : ℕ → (List ℕ → ℕ) → List (List Bool) → List Bool
-kernel w f lists = joined w (λ j. f (words_at w lists j)) (common_length lists)
+kernel w f lists = bits_of_words w (λ j. f (words_at w lists j)) (common_length lists)
 
 -- the same of a word function of one word, of two, of three and of four
 unfoldable pub unary_kernel : ℕ → (ℕ → ℕ) → List Bool → List Bool

@@ -1,6 +1,6 @@
 pub mod Sums
-pub mod Compared
-pub mod Paired
+pub mod Comparisons
+pub mod Pairs
 pub mod Best
-pub mod Converted
+pub mod Casts
 pub mod Selecting

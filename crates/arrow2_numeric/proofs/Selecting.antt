@@ -11,9 +11,9 @@ use Rattle.arrow2_model.proofs.Bits.{get_or-unnum, length-unnum}
 use Rattle.arrow2_model.proofs.Words.{length-rest}
 use Rattle.arrow2_model.specs.Parts.{part}
 use Rattle.arrow2_chunk.specs.Ones.{ones}
-use Rattle.arrow2_walks.specs.Selected.{non_null_values, selected}
+use Rattle.arrow2_walks.specs.Selections.{non_null_values, selection}
 use Rattle.arrow2_walks.specs.Zipped.{slot, zipped}
-use Rattle.arrow2_walks.proofs.Selected.{non_null_values-zipped}
+use Rattle.arrow2_walks.proofs.Selections.{non_null_values-zipped}
 
 all-true : unnum 64 (2 ^ 64 - 1) ≡ replicate 64 true
 unfolding unnum
@@ -21,20 +21,20 @@ all-true = refl
 
 module _ {X : Type 0} where
   -- of two lists one after the other
-  selected-append : (xs ys : List X) (ms ns : List Bool) → length xs ≡ length ms → selected (xs ++ ys) (ms ++ ns) ≡ selected xs ms ++ selected ys ns
+  selected-append : (xs ys : List X) (ms ns : List Bool) → length xs ≡ length ms → selection (xs ++ ys) (ms ++ ns) ≡ selection xs ms ++ selection ys ns
   selected-append [] ys [] ns e = refl
   selected-append [] ys (m ∷ ms) ns e = absurd (omega (arith, e))
   selected-append (x ∷ xs) ys [] ns e = absurd (omega (arith, e))
   selected-append (x ∷ xs) ys (true ∷ ms) ns e = ap (λ l. x ∷ l) (selected-append xs ys ms ns (omega (arith, e)))
   selected-append (x ∷ xs) ys (false ∷ ms) ns e = selected-append xs ys ms ns (omega (arith, e))
 
-  none-selected : (xs : List X) (n : ℕ) → selected xs (replicate n false) ≡ []
+  none-selected : (xs : List X) (n : ℕ) → selection xs (replicate n false) ≡ []
   none-selected [] n = refl
   none-selected (x ∷ xs) zero = refl
   none-selected (x ∷ xs) (suc n) = none-selected xs n
 
   -- of values with their validity
-  pub selected-zipped : (xs : List X) (vs ms : List Bool) → length vs ≡ length xs → selected (zipped xs vs) ms ≡ zipped (selected xs ms) (selected vs ms)
+  pub selected-zipped : (xs : List X) (vs ms : List Bool) → length vs ≡ length xs → selection (zipped xs vs) ms ≡ zipped (selection xs ms) (selection vs ms)
   selected-zipped [] [] ms e = refl
   selected-zipped [] (v ∷ vs) ms e = absurd (omega (arith, e))
   selected-zipped (x ∷ xs) [] ms e = absurd (omega (arith, e))
@@ -43,7 +43,7 @@ module _ {X : Type 0} where
   selected-zipped (x ∷ xs) (v ∷ vs) (false ∷ ms) e = selected-zipped xs vs ms (omega (arith, e))
 
   -- of a mask of which the first n items count
-  selected-masked : (xs : List X) (ms : List Bool) (n k : ℕ) → selected xs (take n ms ++ replicate k false) ≡ selected (take n xs) (take n ms)
+  selected-masked : (xs : List X) (ms : List Bool) (n k : ℕ) → selection xs (take n ms ++ replicate k false) ≡ selection (take n xs) (take n ms)
   selected-masked [] ms zero k = refl
   selected-masked [] ms (suc n) k = refl
   selected-masked (x ∷ xs) ms zero k = none-selected (x ∷ xs) k
@@ -52,12 +52,12 @@ module _ {X : Type 0} where
   selected-masked (x ∷ xs) (false ∷ ms) (suc n) k = selected-masked xs ms n k
 
   -- of a mask that is true throughout
-  selected-all : (xs : List X) (n : ℕ) → length xs ≤ n → selected xs (replicate n true) ≡ xs
+  selected-all : (xs : List X) (n : ℕ) → length xs ≤ n → selection xs (replicate n true) ≡ xs
   selected-all [] n h = refl
   selected-all (x ∷ xs) zero h = absurd (omega (arith, h))
   selected-all (x ∷ xs) (suc n) h = ap (λ l. x ∷ l) (selected-all xs n (omega (arith, h)))
 
-  selected-first : (xs : List X) (m : Bool) (ms : List Bool) → selected xs (m ∷ ms) ≡ cond m (take 1 xs) [] ++ selected (drop 1 xs) ms
+  selected-first : (xs : List X) (m : Bool) (ms : List Bool) → selection xs (m ∷ ms) ≡ cond m (take 1 xs) [] ++ selection (drop 1 xs) ms
   selected-first [] true ms = refl
   selected-first [] false ms = refl
   selected-first (x ∷ xs) true ms = refl
@@ -71,7 +71,7 @@ module _ {X : Type 0} where
   drop-more : (xs : List X) (k : ℕ) → drop (k + 1) xs ≡ drop 1 (drop k xs)
   drop-more xs k = rw add-one (drop-next xs k)
 
-  nothing-selected : (xs : List X) → selected xs [] ≡ []
+  nothing-selected : (xs : List X) → selection xs [] ≡ []
   nothing-selected [] = refl
   nothing-selected (x ∷ xs) = refl
 
@@ -80,18 +80,18 @@ module _ {X : Type 0} where
   cut-one false xs k ks = refl
 
   cut-from : (xs : List X) (p : ℕ → Bool) (k : ℕ) (ms : List Bool) → ((i : ℕ) → i < length ms → p (k + i) ≡ get_or ms i false)
-      → flat_map (λ j. part xs j 1) (filter p (range_with_len k (length ms))) ≡ selected (drop k xs) ms
+      → flat_map (λ j. part xs j 1) (filter p (range_with_len k (length ms))) ≡ selection (drop k xs) ms
   cut-from xs p k [] h = sym (nothing-selected (drop k xs))
   cut-from xs p k (m ∷ ms) h =
       let here : p k ≡ m = ap p (omega arith) ∙ h 0 (omega arith) in
       let others = cut-from xs p (k + 1) ms (λ i l. ap p (omega arith) ∙ h (suc i) (omega (arith, l))) in
       cut-one (p k) xs k (filter p (range_with_len (k + 1) (length ms)))
       ∙ (ap (λ b. cond b (part xs k 1) [] ++ flat_map (λ j. part xs j 1) (filter p (range_with_len (k + 1) (length ms)))) here
-      ∙ (ap (λ l. cond m (part xs k 1) [] ++ l) (others ∙ ap (λ l. selected l ms) (drop-more xs k))
+      ∙ (ap (λ l. cond m (part xs k 1) [] ++ l) (others ∙ ap (λ l. selection l ms) (drop-more xs k))
       ∙ sym (selected-first (drop k xs) m ms)))
 
   -- what the indices of the true items cut out
-  pub cut-ones : (xs : List X) (ms : List Bool) → flat_map (λ j. part xs j 1) (ones ms) ≡ selected xs ms
+  pub cut-ones : (xs : List X) (ms : List Bool) → flat_map (λ j. part xs j 1) (ones ms) ≡ selection xs ms
   unfolding ones
   cut-ones xs ms = cut-from xs (λ i. get_or ms i false) 0 ms (λ i l. ap (λ j. get_or ms j false) (omega arith))
 
@@ -103,8 +103,8 @@ ones-inside ms = All-filter (λ k. get_or ms k false) (λ position. position < l
 
 module _ {X : Type 0} where
   -- of a word all of whose bits are set
-  pub selected-max : (xs : List X) (w : ℕ) → w ≡ 2 ^ 64 - 1 → length xs ≤ 64 → selected xs (unnum 64 w) ≡ xs
-  selected-max xs w e h = ap (λ v. selected xs (unnum 64 v)) e ∙ (ap (selected xs) all-true ∙ selected-all xs 64 h)
+  pub selected-max : (xs : List X) (w : ℕ) → w ≡ 2 ^ 64 - 1 → length xs ≤ 64 → selection xs (unnum 64 w) ≡ xs
+  selected-max xs w e h = ap (λ v. selection xs (unnum 64 v)) e ∙ (ap (selection xs) all-true ∙ selected-all xs 64 h)
 
   -- one item, as a part
   pub one-at : (xs : List X) (k : ℕ) (d : X) → k < length xs → part xs k 1 ≡ get_or xs k d ∷ []
@@ -113,16 +113,16 @@ module _ {X : Type 0} where
   one-at (x ∷ xs) (suc k) d h = one-at xs k d (omega (arith, h))
 
   -- of a block and of the values after it
-  pub block-selected : (xs block others : List X) (ms m ns : List Bool) → xs ≡ block ++ others → ms ≡ m ++ ns → length block ≡ length m → selected xs ms ≡ selected block m ++ selected others ns
-  block-selected xs block others ms m ns is-xs is-ms size = ap (λ l. selected l ms) is-xs ∙ (ap (selected (block ++ others)) is-ms ∙ selected-append block others m ns size)
+  pub block-selected : (xs block others : List X) (ms m ns : List Bool) → xs ≡ block ++ others → ms ≡ m ++ ns → length block ≡ length m → selection xs ms ≡ selection block m ++ selection others ns
+  block-selected xs block others ms m ns is-xs is-ms size = ap (λ l. selection l ms) is-xs ∙ (ap (selection (block ++ others)) is-ms ∙ selected-append block others m ns size)
 
   -- of the last block
-  pub last-selected : (xs : List X) (ms m last : List Bool) (n : ℕ) → take n xs ≡ xs → take n m ≡ ms → last ≡ take n m ++ replicate (64 - n) false → selected xs ms ≡ selected xs last
-  last-selected xs ms m last n whole is-ms is-last = sym (ap (selected xs) is-last ∙ (selected-masked xs m n (64 - n) ∙ (ap (λ l. selected l (take n m)) whole ∙ ap (selected xs) is-ms)))
+  pub last-selected : (xs : List X) (ms m last : List Bool) (n : ℕ) → take n xs ≡ xs → take n m ≡ ms → last ≡ take n m ++ replicate (64 - n) false → selection xs ms ≡ selection xs last
+  last-selected xs ms m last n whole is-ms is-last = sym (ap (selection xs) is-last ∙ (selected-masked xs m n (64 - n) ∙ (ap (λ l. selection l (take n m)) whole ∙ ap (selection xs) is-ms)))
 
   -- of values whose items are known
-  pub valid-values : (slots : List X) (valid bits : List Bool) (items : List (Option X)) → zipped slots valid ≡ items → bits ≡ valid → selected slots bits ≡ non_null_values items
-  valid-values slots valid bits items whole is = ap (selected slots) is ∙ (sym (non_null_values-zipped slots valid) ∙ ap non_null_values whole)
+  pub valid-values : (slots : List X) (valid bits : List Bool) (items : List (Option X)) → zipped slots valid ≡ items → bits ≡ valid → selection slots bits ≡ non_null_values items
+  valid-values slots valid bits items whole is = ap (selection slots) is ∙ (sym (non_null_values-zipped slots valid) ∙ ap non_null_values whole)
 
   -- where none of them is null
   pub all-values : (slots : List X) (valid : List Bool) (items : List (Option X)) (n : ℕ) → zipped slots valid ≡ items → valid ≡ replicate n true → length slots ≤ n → slots ≡ non_null_values items
@@ -130,39 +130,39 @@ module _ {X : Type 0} where
 
   -- what a word of the mask selects comes after the others
   pub word-kept : (kept grown xs block others : List X) (ms m ns : List Bool) (all : List X) → xs ≡ block ++ others → ms ≡ m ++ ns → length block ≡ length m
-      → grown ≡ kept ++ selected block m → kept ++ selected xs ms ≡ all → grown ++ selected others ns ≡ all
+      → grown ≡ kept ++ selection block m → kept ++ selection xs ms ≡ all → grown ++ selection others ns ≡ all
   word-kept kept grown xs block others ms m ns all is-xs is-ms size more done =
-      ap (λ l. l ++ selected others ns) more
-      ∙ (append_assoc kept (selected block m) (selected others ns)
+      ap (λ l. l ++ selection others ns) more
+      ∙ (append_assoc kept (selection block m) (selection others ns)
       ∙ (ap (λ l. kept ++ l) (sym (selected-append block others m ns size))
-      ∙ (ap (λ l. kept ++ selected l (m ++ ns)) (sym is-xs) ∙ (ap (λ l. kept ++ selected xs l) (sym is-ms) ∙ done))))
+      ∙ (ap (λ l. kept ++ selection l (m ++ ns)) (sym is-xs) ∙ (ap (λ l. kept ++ selection xs l) (sym is-ms) ∙ done))))
 
   -- and what the last one selects is the end
   pub last-kept : (kept grown xs block : List X) (ms m last : List Bool) (n : ℕ) (all : List X) → take n block ≡ xs → take n m ≡ ms → last ≡ take n m ++ replicate (64 - n) false
-      → grown ≡ kept ++ selected block last → kept ++ selected xs ms ≡ all → grown ≡ all
+      → grown ≡ kept ++ selection block last → kept ++ selection xs ms ≡ all → grown ≡ all
   last-kept kept grown xs block ms m last n all is-xs is-ms is-last more done =
-      more ∙ (ap (λ l. kept ++ selected block l) is-last
+      more ∙ (ap (λ l. kept ++ selection block l) is-last
       ∙ (ap (λ l. kept ++ l) (selected-masked block m n (64 - n))
-      ∙ (ap (λ l. kept ++ selected l (take n m)) is-xs ∙ (ap (λ l. kept ++ selected xs l) is-ms ∙ done))))
+      ∙ (ap (λ l. kept ++ selection l (take n m)) is-xs ∙ (ap (λ l. kept ++ selection xs l) is-ms ∙ done))))
 
   -- what is kept and what the next word selects are no more than all
   pub word-fits : (kept xs block others : List X) (ms m ns : List Bool) (all : List X) → xs ≡ block ++ others → ms ≡ m ++ ns → length block ≡ length m
-      → kept ++ selected xs ms ≡ all → length kept + length (selected block m) ≤ length all
+      → kept ++ selection xs ms ≡ all → length kept + length (selection block m) ≤ length all
   word-fits kept xs block others ms m ns all is-xs is-ms size done =
-      let e = word-kept kept (kept ++ selected block m) xs block others ms m ns all is-xs is-ms size refl done in
-      let l = length-append (kept ++ selected block m) (selected others ns) in
-      let n = length-append kept (selected block m) in
+      let e = word-kept kept (kept ++ selection block m) xs block others ms m ns all is-xs is-ms size refl done in
+      let l = length-append (kept ++ selection block m) (selection others ns) in
+      let n = length-append kept (selection block m) in
       omega (arith, l, n, ap length e)
 
   pub last-fits : (kept xs block : List X) (ms m last : List Bool) (n : ℕ) (all : List X) → take n block ≡ xs → take n m ≡ ms → last ≡ take n m ++ replicate (64 - n) false
-      → kept ++ selected xs ms ≡ all → length kept + length (selected block last) ≤ length all
+      → kept ++ selection xs ms ≡ all → length kept + length (selection block last) ≤ length all
   last-fits kept xs block ms m last n all is-xs is-ms is-last done =
-      let e = last-kept kept (kept ++ selected block last) xs block ms m last n all is-xs is-ms is-last refl done in
-      let l = length-append kept (selected block last) in
+      let e = last-kept kept (kept ++ selection block last) xs block ms m last n all is-xs is-ms is-last refl done in
+      let l = length-append kept (selection block last) in
       omega (arith, l, ap length e)
 
 -- what is selected of true items
-pub selected-true : (n : ℕ) (ms : List Bool) → selected (replicate n true) ms ≡ replicate (length (selected (replicate n true) ms)) true
+pub selected-true : (n : ℕ) (ms : List Bool) → selection (replicate n true) ms ≡ replicate (length (selection (replicate n true) ms)) true
 selected-true zero ms = refl
 selected-true (suc n) [] = refl
 selected-true (suc n) (true ∷ ms) = ap (λ l. true ∷ l) (selected-true n ms)

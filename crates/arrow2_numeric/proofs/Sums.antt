@@ -6,7 +6,7 @@ use Rattle.std.specs.List.{flat_map}
 use Rattle.std.proofs.lemmas.Int.{ints}
 use Rattle.std.proofs.Math.IntN.{+ℤ_idl, +ℤ_idr, +ℤ_assoc}
 use Rattle.arrow2_model.specs.Parts.{part}
-use Rattle.arrow2_walks.specs.Selected.{non_null_values}
+use Rattle.arrow2_walks.specs.Selections.{non_null_values}
 use Rattle.arrow2_numeric.specs.Aggregates.{sum_of, sum_of_non_null, IsInSumRange}
 use Rattle.arrow2_numeric.proofs.Selecting.{one-at}
 

@@ -1,7 +1,7 @@
 -- Aggregates of the items that are not null.
 use Rattle.std.specs.Prelude.{◌≡◌, ℕ, ◌-◌, ◌*◌, ◌^◌, ◌≤ℤ◌, List, [], ◌∷◌, Option, Some, None, ℤ, pos, ◌+ℤ◌, All, Contains, MatchOption}
 use Rattle.std.specs.Option.{option_map_or}
-use Rattle.arrow2_walks.specs.Selected.{non_null_values}
+use Rattle.arrow2_walks.specs.Selections.{non_null_values}
 
 -- the sum of the numbers that the values stand for
 abbrev pub sum_of : {X : Type 0} → (X → ℤ) → List X → ℤ

@@ -7,7 +7,7 @@ ghost use Rattle.arrow2_numeric.specs.Aggregates.{best_from, sum_of, sum_of_non_
 ghost use Rattle.arrow2_model.specs.Bits.{unnum};
 ghost use Rattle.arrow2_model.specs.Storage.{items_of};
 ghost use Rattle.arrow2_primitive.specs.Primitive.{primitive_items};
-ghost use Rattle.arrow2_walks.specs.Selected.{non_null_values, selected};
+ghost use Rattle.arrow2_walks.specs.Selections.{non_null_values, selection};
 
 use crate::masked_blocks::MaskedBlocks;
 use arrow2_bitmap::Bitmap;
@@ -153,10 +153,10 @@ fn sum_of_values<T: WholeNumber>(values: &[T]) -> i128
     let mut total = 0i128;
     let mut start = 0;
     while count - start > BLOCK {
-        total = added(total, sum_of_block(&values[start..start + BLOCK]));
+        total = exact_sum(total, sum_of_block(&values[start..start + BLOCK]));
         start += BLOCK;
     }
-    added(total, sum_of_block(&values[start..]))
+    exact_sum(total, sum_of_block(&values[start..]))
 }
 
 /// Returns the sum of at most [`BLOCK`] values. Adds up their upper and their lower halves, each sum in 64 bits: this
@@ -205,14 +205,14 @@ fn halves(number: i128) -> (i64, u64)
 /// Returns the sum of all valid values. Requires that both have equal lengths.
 fn sum_of_valid<T: WholeNumber>(values: &[T], validity: &Bitmap) -> i128
     requires same_length { length (items_of validity.now) ≡ length values.now }
-    ensures { result ≡ sum_of T.integer (selected values.now (items_of validity.now)) }
+    ensures { result ≡ sum_of T.integer (selection values.now (items_of validity.now)) }
 {
     // For the proof alone: there are fewer than 2⁶³ values, so the sum fits. `count` is not read.
     let count = T::count(values);
     let mut total = 0i128;
     let mut blocks = MaskedBlocks::new(values, validity);
     while let Some((block, word)) = blocks.next_block() {
-        total = added(total, sum_of_word(block, word));
+        total = exact_sum(total, sum_of_word(block, word));
     }
     total
 }
@@ -221,8 +221,8 @@ fn sum_of_valid<T: WholeNumber>(values: &[T], validity: &Bitmap) -> i128
 #[tactic(auto, using(crate::proofs::Sums::sums, crate::proofs::Selecting::selecting))]
 fn sum_of_word<T: WholeNumber>(values: &[T], word: u64) -> i128
     requires few { length values.now ≤ 64 }
-    ensures sum { result ≡ sum_of T.integer (selected values.now (unnum 64 word)) }
-    ensures range { IsInSumRange (length (selected values.now (unnum 64 word))) result }
+    ensures sum { result ≡ sum_of T.integer (selection values.now (unnum 64 word)) }
+    ensures range { IsInSumRange (length (selection values.now (unnum 64 word))) result }
 {
     if word == u64::MAX {
         return sum_of_block(values);
@@ -230,7 +230,7 @@ fn sum_of_word<T: WholeNumber>(values: &[T], word: u64) -> i128
     let mut total = 0i128;
     for position in BitChunkOnes::new(word) {
         if let Some(value) = values.get(position) {
-            total = added(total, value.to_i128());
+            total = exact_sum(total, value.to_i128());
         }
     }
     total
@@ -238,7 +238,7 @@ fn sum_of_word<T: WholeNumber>(values: &[T], word: u64) -> i128
 
 /// Returns the sum of two numbers, which fits. In a loop, the prover takes the result of a call for a number, and that
 /// of `+` for its bits.
-fn added(total: i128, more: i128) -> i128
+fn exact_sum(total: i128, more: i128) -> i128
     requires { FitsSigned w128 (total +ℤ more) }
     ensures { result ≡ total +ℤ more }
 {
@@ -337,7 +337,7 @@ fn best_of_halves<T: NativeType, C: Choice<T>>(values: &[T]) -> Option<T>
 /// equal lengths.
 fn best_valid<T: NativeType, C: Choice<T>>(values: &[T], validity: &Bitmap) -> Option<T>
     requires same_length { length (items_of validity.now) ≡ length values.now }
-    ensures { result ≡ best_from C.kept None (selected values.now (items_of validity.now)) }
+    ensures { result ≡ best_from C.kept None (selection values.now (items_of validity.now)) }
 {
     let mut best = None;
     let mut blocks = MaskedBlocks::new(values, validity);
@@ -352,7 +352,7 @@ fn best_valid<T: NativeType, C: Choice<T>>(values: &[T], validity: &Bitmap) -> O
 #[tactic(auto, using(crate::proofs::Best::best, crate::proofs::Selecting::selecting))]
 fn best_of_word<T: NativeType, C: Choice<T>>(best: Option<T>, values: &[T], word: u64) -> Option<T>
     requires few { length values.now ≤ 64 }
-    ensures { result ≡ best_from C.kept best (selected values.now (unnum 64 word)) }
+    ensures { result ≡ best_from C.kept best (selection values.now (unnum 64 word)) }
 {
     if word == u64::MAX {
         return best_of::<T, C>(best, values);

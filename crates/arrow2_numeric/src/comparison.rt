@@ -23,7 +23,7 @@ use arrow2_types::{Error, NativeType, Result};
 /// # Errors
 ///
 /// `OutOfMemory` alone.
-pub fn tested<T: NativeType, F: Fn(&T) -> bool>(
+pub fn compare_each<T: NativeType, F: Fn(&T) -> bool>(
     array: &PrimitiveArray<T>,
     test: F,
 ) -> Result<BooleanArray>
@@ -55,7 +55,7 @@ pub fn eq_scalar<T: NativeType>(array: &PrimitiveArray<T>, scalar: T) -> Result<
     ensures validity { IfOk result (λ a. a.validity ≡ array.now.validity) }
     ensures only { IfErr result (λ e. e ≡ Error.OutOfMemory) }
 {
-    tested(array, |value| *value == scalar)
+    compare_each(array, |value| *value == scalar)
 }
 
 /// Returns, item by item, whether the value differs from the scalar, and null where the item is null.
@@ -69,7 +69,7 @@ pub fn neq_scalar<T: NativeType>(array: &PrimitiveArray<T>, scalar: T) -> Result
     ensures validity { IfOk result (λ a. a.validity ≡ array.now.validity) }
     ensures only { IfErr result (λ e. e ≡ Error.OutOfMemory) }
 {
-    tested(array, |value| *value != scalar)
+    compare_each(array, |value| *value != scalar)
 }
 
 /// Returns, item by item, whether the value is below the scalar, and null where the item is null.
@@ -86,7 +86,7 @@ pub fn lt_scalar<T: NativeType + PartialOrd>(
     ensures validity { IfOk result (λ a. a.validity ≡ array.now.validity) }
     ensures only { IfErr result (λ e. e ≡ Error.OutOfMemory) }
 {
-    tested(array, |value| *value < scalar)
+    compare_each(array, |value| *value < scalar)
 }
 
 /// Returns, item by item, whether the value is at most the scalar, and null where the item is null.
@@ -103,7 +103,7 @@ pub fn lt_eq_scalar<T: NativeType + PartialOrd>(
     ensures validity { IfOk result (λ a. a.validity ≡ array.now.validity) }
     ensures only { IfErr result (λ e. e ≡ Error.OutOfMemory) }
 {
-    tested(array, |value| *value <= scalar)
+    compare_each(array, |value| *value <= scalar)
 }
 
 /// Returns, item by item, whether the value is above the scalar, and null where the item is null.
@@ -120,7 +120,7 @@ pub fn gt_scalar<T: NativeType + PartialOrd>(
     ensures validity { IfOk result (λ a. a.validity ≡ array.now.validity) }
     ensures only { IfErr result (λ e. e ≡ Error.OutOfMemory) }
 {
-    tested(array, |value| *value > scalar)
+    compare_each(array, |value| *value > scalar)
 }
 
 /// Returns, item by item, whether the value is at least the scalar, and null where the item is null.
@@ -137,7 +137,7 @@ pub fn gt_eq_scalar<T: NativeType + PartialOrd>(
     ensures validity { IfOk result (λ a. a.validity ≡ array.now.validity) }
     ensures only { IfErr result (λ e. e ≡ Error.OutOfMemory) }
 {
-    tested(array, |value| *value >= scalar)
+    compare_each(array, |value| *value >= scalar)
 }
 
 /// Returns, index by index, the result of `test` for the values of both arrays, and null where either item is null. The
@@ -147,7 +147,7 @@ pub fn gt_eq_scalar<T: NativeType + PartialOrd>(
 /// # Errors
 ///
 /// `OutOfMemory` alone.
-fn tested_both<T: NativeType, F: Fn(T, T) -> bool>(
+fn compare_pairs<T: NativeType, F: Fn(T, T) -> bool>(
     lhs: &PrimitiveArray<T>,
     rhs: &PrimitiveArray<T>,
     test: F,
@@ -192,7 +192,7 @@ pub fn eq<T: NativeType>(lhs: &PrimitiveArray<T>, rhs: &PrimitiveArray<T>) -> Re
         IsNone a.validity.bitmap ↔ (IsNone lhs.now.validity.bitmap × IsNone rhs.now.validity.bitmap)) }
     ensures only { IfErr result (λ e. e ≡ Error.OutOfMemory) }
 {
-    tested_both(lhs, rhs, |left, right| left == right)
+    compare_pairs(lhs, rhs, |left, right| left == right)
 }
 
 /// Returns, index by index, whether the item of `lhs` differs from that of `rhs`, and null where either is null.
@@ -209,7 +209,7 @@ pub fn neq<T: NativeType>(lhs: &PrimitiveArray<T>, rhs: &PrimitiveArray<T>) -> R
         IsNone a.validity.bitmap ↔ (IsNone lhs.now.validity.bitmap × IsNone rhs.now.validity.bitmap)) }
     ensures only { IfErr result (λ e. e ≡ Error.OutOfMemory) }
 {
-    tested_both(lhs, rhs, |left, right| left != right)
+    compare_pairs(lhs, rhs, |left, right| left != right)
 }
 
 /// Returns, index by index, whether the item of `lhs` is below that of `rhs`, and null where either is null. Requires
@@ -229,7 +229,7 @@ pub fn lt<T: NativeType + PartialOrd>(
         IsNone a.validity.bitmap ↔ (IsNone lhs.now.validity.bitmap × IsNone rhs.now.validity.bitmap)) }
     ensures only { IfErr result (λ e. e ≡ Error.OutOfMemory) }
 {
-    tested_both(lhs, rhs, |left, right| left < right)
+    compare_pairs(lhs, rhs, |left, right| left < right)
 }
 
 /// Returns, index by index, whether the item of `lhs` is at most that of `rhs`, and null where either is null. Requires
@@ -249,7 +249,7 @@ pub fn lt_eq<T: NativeType + PartialOrd>(
         IsNone a.validity.bitmap ↔ (IsNone lhs.now.validity.bitmap × IsNone rhs.now.validity.bitmap)) }
     ensures only { IfErr result (λ e. e ≡ Error.OutOfMemory) }
 {
-    tested_both(lhs, rhs, |left, right| left <= right)
+    compare_pairs(lhs, rhs, |left, right| left <= right)
 }
 
 /// Returns, index by index, whether the item of `lhs` is above that of `rhs`, and null where either is null. Requires
@@ -269,7 +269,7 @@ pub fn gt<T: NativeType + PartialOrd>(
         IsNone a.validity.bitmap ↔ (IsNone lhs.now.validity.bitmap × IsNone rhs.now.validity.bitmap)) }
     ensures only { IfErr result (λ e. e ≡ Error.OutOfMemory) }
 {
-    tested_both(lhs, rhs, |left, right| left > right)
+    compare_pairs(lhs, rhs, |left, right| left > right)
 }
 
 /// Returns, index by index, whether the item of `lhs` is at least that of `rhs`, and null where either is null.
@@ -289,5 +289,5 @@ pub fn gt_eq<T: NativeType + PartialOrd>(
         IsNone a.validity.bitmap ↔ (IsNone lhs.now.validity.bitmap × IsNone rhs.now.validity.bitmap)) }
     ensures only { IfErr result (λ e. e ≡ Error.OutOfMemory) }
 {
-    tested_both(lhs, rhs, |left, right| left >= right)
+    compare_pairs(lhs, rhs, |left, right| left >= right)
 }

@@ -2,7 +2,7 @@
 ghost use Rattle.std.specs.Prelude.{◌≡◌, [], length, IfSome, IsNone};
 ghost use Rattle.arrow2_model.specs.Storage.{items_of};
 ghost use Rattle.arrow2_numeric.specs.MaskedBlocks.{BlocksLeft, IsNextBlock};
-ghost use Rattle.arrow2_walks.specs.Selected.{selected};
+ghost use Rattle.arrow2_walks.specs.Selections.{selection};
 
 use arrow2_bitmap::Bitmap;
 use arrow2_bits::BitChunks;
@@ -22,13 +22,13 @@ pub struct MaskedBlocks<'a, T: NativeType> {
 impl<'a, T: NativeType> Model for MaskedBlocks<'a, T> {
     ghost use Rattle.std.specs.Prelude.{◌≡◌, ◌⊎◌, length};
     ghost use Rattle.arrow2_numeric.specs.MaskedBlocks.{BlocksLeft};
-    ghost use Rattle.arrow2_walks.specs.Selected.{selected};
+    ghost use Rattle.arrow2_walks.specs.Selections.{selection};
 
     ghost Value = { BlocksLeft T };
 
     ghost view = { λ b. record {
       count = length b.values.now;
-      selected = selected b.values.now b.words.items;
+      selected = selection b.values.now b.words.items;
     } };
 
     ghost invariant = { λ b. (length b.values.now ≡ 0) ⊎ (length b.words.items ≡ length b.values.now) };
@@ -39,7 +39,7 @@ impl<'a, T: NativeType> MaskedBlocks<'a, T> {
     pub fn new(values: &'a [T], mask: &'a Bitmap) -> MaskedBlocks<'a, T>
         requires same_length { length (items_of mask.now) ≡ length values.now }
         ensures count { result.count ≡ length values.entry.now }
-        ensures selected { result.selected ≡ selected values.entry.now (items_of mask.entry.now) }
+        ensures selected { result.selected ≡ selection values.entry.now (items_of mask.entry.now) }
     {
         MaskedBlocks {
             values,

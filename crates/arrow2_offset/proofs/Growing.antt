@@ -11,7 +11,7 @@ use Rattle.arrow2_model.specs.Buffers.{BufferStorage, buffer_items, whole_buffer
 use Rattle.arrow2_offset.specs.Offsets.{running_sums, offsets_list, numbers_of, AreOffsets, AreOffsetsUpTo, start_of, lengths_of, offset_at, last_of}
 use Rattle.arrow2_offset.proofs.OffsetLists.{Spells, spells, spelled, length-lengths_of, get_or-offsets, repeat_spells, take_spells, part_spells, map-replicate, sum-append, sum-cons}
 use Rattle.arrow2_model.proofs.Parts.{part-map}
-use Rattle.arrow2_offset.proofs.Nested.{sum-part}
+use Rattle.arrow2_offset.proofs.NestedLists.{sum-part}
 use Rattle.arrow2_offset.proofs.Appending.{pushed as pushed_one, last_grown, same_naturals, value_at, value_last}
 
 -- ---- sums

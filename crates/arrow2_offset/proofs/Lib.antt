@@ -1,12 +1,12 @@
 pub mod Appending
-pub mod Frozen
+pub mod BufferParts
 pub mod Growing
 pub mod Grown
-pub mod Listed
-pub mod Nested
+pub mod OffsetLaws
+pub mod NestedLists
 pub mod OffsetLists
 pub mod Order
 pub mod Same
 pub mod SliceSteps
 pub mod Cursor
-pub mod Written
+pub mod ItemWrites

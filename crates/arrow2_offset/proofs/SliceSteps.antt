@@ -8,8 +8,8 @@ use Rattle.arrow2_model.specs.Parts.{part}
 use Rattle.arrow2_offset.proofs.OffsetLists.{get_or-offsets, get_or-offsets_list, length-lengths_of, length-running_sums, part_spells}
 use Rattle.arrow2_model.proofs.Parts.{get_or-part}
 use Rattle.arrow2_offset.proofs.Appending.{value_at}
-use Rattle.arrow2_offset.proofs.Written.{one_more}
-use Rattle.arrow2_offset.proofs.Nested.{sum-part}
+use Rattle.arrow2_offset.proofs.ItemWrites.{one_more}
+use Rattle.arrow2_offset.proofs.NestedLists.{sum-part}
 use Rattle.arrow2_offset.proofs.Growing.{sum-take-le, sum-take-next}
 
 -- ---- one item more is written, of the values that the items stand for

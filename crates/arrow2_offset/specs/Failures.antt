@@ -7,10 +7,10 @@ use Rattle.arrow2_types.specs.declared.error.Error.TheVariants.{OutOfSpec, OutOf
 
 -- for a list that is not offsets, the first rule that it breaks: that there is a number; else that the first number is
 -- not negative; else that no number is below the one before it
-abbrev pub first_broken : List ℤ → BrokenRule
-first_broken [] = Empty
-first_broken (negsuc n ∷ xs) = Negative
-first_broken (pos n ∷ xs) = Falling
+abbrev pub first_broken_rule : List ℤ → BrokenRule
+first_broken_rule [] = Empty
+first_broken_rule (negsuc n ∷ xs) = Negative
+first_broken_rule (pos n ∷ xs) = Falling
 
 -- the message for a broken rule, which is arrow2's text: in it, "larger than 0" stands for not negative, and
 -- "monotonically increasing" for none below the one before it
@@ -21,7 +21,7 @@ rule_words Falling = codes "offsets must be monotonically increasing"
 
 -- the message for a list that is not offsets, by the first rule that the list breaks
 abbrev pub not_offsets_message : List ℤ → List ℕ
-not_offsets_message xs = rule_words (first_broken xs)
+not_offsets_message xs = rule_words (first_broken_rule xs)
 
 -- an `OutOfSpec` error with this message; or `OutOfMemory`, on which this sets no condition
 abbrev pub IsOutOfSpecOrOutOfMemory : Error → List ℕ → Type 0

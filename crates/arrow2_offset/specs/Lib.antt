@@ -2,6 +2,6 @@ pub mod Iterators
 pub mod Growth
 pub mod Lengths
 pub mod NewOffsets
-pub mod Nested
+pub mod NestedLists
 pub mod Offsets
 pub mod Failures

@@ -43,7 +43,7 @@ pub(crate) fn append_lengths<O: Offset, I: Iterator<Item = usize> + Drop>(
 {
     let count = offsets.len();
     let empty = Vec::new(*offsets.allocator());
-    let (grown, all) = appended(mem::replace(offsets, empty), lengths);
+    let (grown, all) = append_sums(mem::replace(offsets, empty), lengths);
     *offsets = grown;
     if all.is_err() {
         offsets.truncate(count);
@@ -58,7 +58,7 @@ pub(crate) fn append_lengths<O: Offset, I: Iterator<Item = usize> + Drop>(
 /// never fall, so it is enough to compare the last sum with `O::MAX` each time capacity is reserved, and once at the
 /// end.
 #[inline(never)]
-fn appended<O: Offset, I: Iterator<Item = usize> + Drop>(
+fn append_sums<O: Offset, I: Iterator<Item = usize> + Drop>(
     mut offsets: Vec<O>,
     lengths: I,
 ) -> (Vec<O>, Result<(), GrowthError>)

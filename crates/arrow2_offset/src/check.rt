@@ -1,7 +1,7 @@
 //! The test that a list is offsets.
 ghost use Rattle.std.specs.Prelude.{◌≡◌, ℕ, ◌+◌, ◌<◌, ◌≤ℤ◌, ◌↔◌, pos, length, map, slice_index_or, OnOk, IsOk, IfErr, IfSome, IfNone, IsNone, IsTrue};
 ghost use Rattle.arrow2_offset.specs.Offsets.{AreOffsets, AreOffsetsUpTo};
-ghost use Rattle.arrow2_offset.specs.Failures.{IsOutOfSpecOrOutOfMemory, first_broken, rule_words, not_offsets_message};
+ghost use Rattle.arrow2_offset.specs.Failures.{IsOutOfSpecOrOutOfMemory, first_broken_rule, rule_words, not_offsets_message};
 
 use arrow2_index::Offset;
 use arrow2_types::{Error, Result};
@@ -24,7 +24,7 @@ pub enum BrokenRule {
 pub fn broken_rule<O: Offset>(offsets: &[O]) -> Option<BrokenRule>
     ensures none { IfNone result (AreOffsetsUpTo O.MAX (map O.value offsets.now)) }
     ensures accepted { AreOffsets (map O.value offsets.now) → IsNone result }
-    ensures broken { IfSome result (λ rule. rule ≡ first_broken (map O.value offsets.now)) }
+    ensures broken { IfSome result (λ rule. rule ≡ first_broken_rule (map O.value offsets.now)) }
 {
     if offsets.is_empty() {
         return Some(BrokenRule::Empty);

@@ -25,7 +25,7 @@ impl TryFrom<Offsets<i32>> for Offsets<i64> {
 
     fn try_from(offsets: Offsets<i32>) -> Result<Self> {
         let offsets = offsets.into_inner();
-        let wide = widened(*offsets.allocator(), offsets.as_slice())?;
+        let wide = widen(*offsets.allocator(), offsets.as_slice())?;
         Ok(Offsets::of_vec(wide))
     }
 }
@@ -48,7 +48,7 @@ impl TryFrom<Offsets<i64>> for Offsets<i32> {
             return Err(Error::Overflow);
         }
         let offsets = offsets.into_inner();
-        let narrow = narrowed(*offsets.allocator(), offsets.as_slice())?;
+        let narrow = narrow(*offsets.allocator(), offsets.as_slice())?;
         Ok(Offsets::of_vec(narrow))
     }
 }
@@ -68,7 +68,7 @@ impl<'a> TryFrom<&'a OffsetsBuffer<i32>> for OffsetsBuffer<i64> {
         × (last_of (buffer_items offsets.now) ≤ 2147483647)) (λ e. e ≡ OutOfMemory) };
 
     fn try_from(offsets: &'a OffsetsBuffer<i32>) -> Result<Self> {
-        let wide = widened(offsets.buffer().allocator(), offsets.as_slice())?;
+        let wide = widen(offsets.buffer().allocator(), offsets.as_slice())?;
         OffsetsBuffer::try_from(Offsets::of_vec(wide))
     }
 }
@@ -89,14 +89,14 @@ impl<'a> TryFrom<&'a OffsetsBuffer<i64>> for OffsetsBuffer<i32> {
         if *offsets.last() > i64::from(i32::MAX) {
             return Err(Error::Overflow);
         }
-        let narrow = narrowed(offsets.buffer().allocator(), offsets.as_slice())?;
+        let narrow = narrow(offsets.buffer().allocator(), offsets.as_slice())?;
         OffsetsBuffer::try_from(Offsets::of_vec(narrow))
     }
 }
 
 /// Returns the same numbers, in 64 bits each. Writes each number once: to fill a vector with zeros first would take a
 /// third longer.
-fn widened(alloc: Global, offsets: &[i32]) -> std::result::Result<Vec<i64>, AllocError>
+fn widen(alloc: Global, offsets: &[i32]) -> std::result::Result<Vec<i64>, AllocError>
     ensures { IfOk result (λ wide. wide.items ≡ offsets.now) }
 {
     let mut wide = Vec::with_capacity(alloc, offsets.len())?;
@@ -107,7 +107,7 @@ fn widened(alloc: Global, offsets: &[i32]) -> std::result::Result<Vec<i64>, Allo
 }
 
 /// Returns the same numbers, in 32 bits each. Requires that they are offsets of at most 2147483647.
-fn narrowed(alloc: Global, offsets: &[i64]) -> std::result::Result<Vec<i32>, AllocError>
+fn narrow(alloc: Global, offsets: &[i64]) -> std::result::Result<Vec<i32>, AllocError>
     requires { AreOffsetsUpTo 2147483647 offsets.now }
     ensures { IfOk result (λ narrow. narrow.items ≡ offsets.now) }
 {

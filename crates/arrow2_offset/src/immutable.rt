@@ -56,7 +56,7 @@ impl<O: Offset> Model for OffsetsBuffer<O> {
     ghost invariant = { λ b. AreOffsetsUpTo O.MAX (buffer_items (numbers_of O.value b.buffer)) };
 }
 
-#[tactic(auto, using(crate::proofs::Frozen::frozen))]
+#[tactic(auto, using(crate::proofs::BufferParts::frozen))]
 impl<O: Offset> OffsetsBuffer<O> {
     /// Returns the offsets of no slot: the single offset 0.
     ///

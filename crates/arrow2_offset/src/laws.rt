@@ -4,7 +4,7 @@ ghost use Rattle.arrow2_offset.specs.Offsets.{running_sums, offsets_list, offset
 
 /// A list of signed numbers is offsets exactly if it is the list that some start and some lengths give. Then the start
 /// is its `start_of`, and the lengths are its `lengths_of`.
-#[tactic(auto, using(crate::proofs::Listed::listed))]
+#[tactic(auto, using(crate::proofs::OffsetLaws::listed))]
 pub fn offsets_are_a_start_and_lengths()
     ensures list { (xs : List ℤ) → AreOffsets xs →
         xs ≡ map pos (offsets_list (start_of xs) (lengths_of xs)) }
@@ -18,7 +18,7 @@ pub fn offsets_are_a_start_and_lengths()
 
 /// Item k of the list of offsets is `offset_at`: the start plus the sum of the first k lengths. No offset is above the
 /// last one. There is one offset more than there are lengths.
-#[tactic(auto, using(crate::proofs::Listed::listed))]
+#[tactic(auto, using(crate::proofs::OffsetLaws::listed))]
 pub fn offset_is_a_sum()
     ensures sum { (start : ℕ) (lengths : List ℕ) (k : ℕ) → k ≤ length lengths →
         slice_index_or (offsets_list start lengths) k 0 ≡ offset_at start lengths k }
@@ -30,7 +30,7 @@ pub fn offset_is_a_sum()
 
 /// Appending lengths keeps all old offsets, and appends one offset for each new length: the old last offset plus the
 /// sum of the new lengths up to and including this one.
-#[tactic(auto, using(crate::proofs::Listed::listed))]
+#[tactic(auto, using(crate::proofs::OffsetLaws::listed))]
 pub fn appended_lengths_append_offsets()
     ensures { (start : ℕ) (lengths others : List ℕ) →
         offsets_list start (lengths ++ others) ≡ offsets_list start lengths
@@ -38,7 +38,7 @@ pub fn appended_lengths_append_offsets()
 {}
 
 /// Lists of offsets are equal exactly if their starts and their lengths are.
-#[tactic(auto, using(crate::proofs::Listed::listed))]
+#[tactic(auto, using(crate::proofs::OffsetLaws::listed))]
 pub fn lists_tell_starts_and_lengths_apart()
     ensures { (a b : ℕ) (ms ns : List ℕ) →
         offsets_list a ms ≡ offsets_list b ns ↔ ((a ≡ b) × (ms ≡ ns)) }
@@ -46,7 +46,7 @@ pub fn lists_tell_starts_and_lengths_apart()
 
 /// If `wide` has the same offsets as `narrow`, and `back` the same as `wide`, then `back` and `narrow` are the same
 /// list. So offsets of 32 bits that are converted to 64 bits and back are the same list as before.
-#[tactic(auto, using(crate::proofs::Listed::listed))]
+#[tactic(auto, using(crate::proofs::OffsetLaws::listed))]
 pub fn same_offsets_are_transitive()
     ensures { (narrow wide back : GrowingOffsets) → SameOffsets narrow wide →
         SameOffsets wide back → offsets_of back ≡ offsets_of narrow }

@@ -13,7 +13,7 @@ pub(crate) fn total_length<O: Offset>(offsets: &[O]) -> usize
 }
 
 /// Returns where slot `index` starts and where it ends. Requires that `index` is below the number of slots.
-#[tactic(auto, using(crate::proofs::Frozen::frozen))]
+#[tactic(auto, using(crate::proofs::BufferParts::frozen))]
 pub(crate) fn slot_span<O: Offset>(offsets: &[O], index: usize) -> (usize, usize)
     requires valid { AreOffsets (map O.value offsets.now) }
     requires inside { index < length (lengths_of (map O.value offsets.now)) }

@@ -1,6 +1,6 @@
-pub mod Asked
 pub mod Buffer
-pub mod Filled
+pub mod ConstantBytes
 pub mod PackedWords
-pub mod Pushed
 pub mod Whole
+pub mod WordPushes
+pub mod WordsOfResults

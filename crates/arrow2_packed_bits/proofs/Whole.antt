@@ -13,7 +13,7 @@ use Rattle.arrow2_model.proofs.Bytes.{take-bits, drop-bits, part-bits-drop}
 use Rattle.arrow2_model.proofs.Parts.{part-add}
 use Rattle.arrow2_model.proofs.Cursors.{length-part_bits}
 use Rattle.arrow2_packed_bits.proofs.Buffer.{AreBytes, append_fits}
-use Rattle.arrow2_packed_bits.proofs.Pushed.{Hold, held, before}
+use Rattle.arrow2_packed_bits.proofs.WordPushes.{Hold, held, before}
 
 -- ---- whole bytes
 

@@ -240,7 +240,7 @@ impl PackedBits {
             let following = BitChunk::to_ne_bytes(BitChunk::down(word, 8 - position));
             push_first(&mut self.bytes, &following, bytes_for(position + count) - 1)?;
             let last = &mut self.bytes[self.length / 8];
-            *last = merged(*last, word, position);
+            *last = merge_bits(*last, word, position);
         }
         self.length += count;
         Ok(())
@@ -447,7 +447,7 @@ fn push_first(bytes: &mut Vec<u8>, eight: &[u8; 8], count: usize) -> Result<(), 
 
 /// Returns the byte with the lowest bits of `word` written from bit `position` on. Requires that `position` is below 8,
 /// and that the bits of the byte from bit `position` on are not set.
-fn merged(byte: u8, word: u64, position: usize) -> u8
+fn merge_bits(byte: u8, word: u64, position: usize) -> u8
     requires position { position < 8 }
     requires clear { (i : ℕ) → position ≤ i → i < 8 → bit byte i ≡ false }
     ensures kept { (i : ℕ) → i < position → bit result i ≡ bit byte i }

@@ -18,7 +18,7 @@ use std::simd::prelude::*;
 /// # Errors
 ///
 /// `Overflow` only if the iterator may yield more than `usize::MAX` items. `OutOfMemory` where an allocation fails.
-pub fn collected<I: Iterator<Item = bool> + Drop>(
+pub fn collect_bits<I: Iterator<Item = bool> + Drop>(
     alloc: Global,
     items: I,
 ) -> Result<(Vec<u8>, usize), GrowthError>
@@ -78,7 +78,7 @@ fn fill<I: Iterator<Item = bool>>(items: &mut I, block: &mut [bool; 64]) -> usiz
 /// # Errors
 ///
 /// If an allocation fails.
-pub fn packed(alloc: Global, items: &[bool]) -> Result<Vec<u8>, AllocError>
+pub fn pack_bits(alloc: Global, items: &[bool]) -> Result<Vec<u8>, AllocError>
     ensures enough { IfOk result (λ bytes. length items.now ≤ 8 * vec_len bytes) }
     ensures items { IfOk result (λ bytes. take (length items.now) (bits bytes.items) ≡ items.now) }
 {
@@ -87,7 +87,7 @@ pub fn packed(alloc: Global, items: &[bool]) -> Result<Vec<u8>, AllocError>
     for block in blocks {
         bytes.extend_from_slice(&BitChunk::to_ne_bytes(word_of(block)))?;
     }
-    let last = word_of(&padded(rest));
+    let last = word_of(&padded_block(rest));
     bytes.extend_from_slice(&BitChunk::to_ne_bytes(last))?;
     Ok(bytes)
 }
@@ -112,7 +112,7 @@ fn lanes_of(items: &[bool; 64]) -> [u8; 64]
 }
 
 /// Returns the items, followed by false. Requires that there are at most 64 items.
-pub fn padded(items: &[bool]) -> [bool; 64]
+pub fn padded_block(items: &[bool]) -> [bool; 64]
     requires { length items.now ≤ 64 }
     ensures front { take (length items.now) result ≡ items.now }
     ensures rest { drop (length items.now) result ≡ replicate (64 - length items.now) false }

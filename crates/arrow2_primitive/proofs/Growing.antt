@@ -10,7 +10,7 @@ use Rattle.arrow2_model.specs.Storage.{BitmapStorage, items_of}
 use Rattle.arrow2_model.proofs.Counts.{falses-none}
 use Rattle.arrow2_model.proofs.Parts.{length-part}
 use Rattle.arrow2_walks.specs.Zipped.{slot, zipped}
-use Rattle.arrow2_walks.proofs.Left.{part-between}
+use Rattle.arrow2_walks.proofs.RemainingItems.{part-between}
 use Rattle.arrow2_walks.proofs.Zipped.{append-zipped, part-zipped, push-zipped, slot-option}
 use Rattle.arrow2_validity.specs.OptionalValidity.{items_or_true}
 use Rattle.arrow2_validity.proofs.Slots.{arrays, zipped-true}

@@ -2,7 +2,7 @@
 ghost use Rattle.std.specs.Prelude.{◌≡◌, length, Some, IfSome};
 ghost use Rattle.std.specs.Iterator.{YieldsFirst, YieldsLast, item_count, UpTo};
 ghost use Rattle.std.specs.Iterator.SizeHint.{IsWithinCount};
-ghost use Rattle.arrow2_walks.specs.Selected.{non_null_values};
+ghost use Rattle.arrow2_walks.specs.Selections.{non_null_values};
 ghost use Rattle.arrow2_primitive.specs.Primitive.{primitive_items};
 
 use crate::array::PrimitiveArray;
@@ -114,7 +114,7 @@ pub struct NonNullValuesIter<'a, T: NativeType> {
 
 impl<'a, T: NativeType> Model for NonNullValuesIter<'a, T> {
     ghost use Rattle.std.specs.Prelude.{List};
-    ghost use Rattle.arrow2_walks.specs.Selected.{non_null_values};
+    ghost use Rattle.arrow2_walks.specs.Selections.{non_null_values};
 
     ghost Value = { List T };
 

@@ -7,7 +7,7 @@ ghost use Rattle.arrow2_datatypes.specs.Types.{of_primitive, physical};
 ghost use Rattle.arrow2_datatypes.specs.declared.physical_type.PhysicalType.TheVariants.{Primitive};
 ghost use Rattle.arrow2_model.specs.Buffers.{buffer_items, whole_buffer};
 ghost use Rattle.arrow2_model.specs.Parts.{part};
-ghost use Rattle.arrow2_bitmap.specs.Packed.{IsPacked};
+ghost use Rattle.arrow2_bitmap.specs.PackedBitmaps.{IsPacked};
 ghost use Rattle.arrow2_types.specs.declared.growth_error.GrowthError.TheVariants as growth_error;
 ghost use Rattle.arrow2_walks.specs.Zipped.{zipped};
 ghost use Rattle.arrow2_primitive.specs.Growth.{AppendsItems, MayYieldTooManyItems};
@@ -165,11 +165,11 @@ impl<T: NativeType> MutablePrimitiveArray<T> {
             (it : I.IntoIter) × I.into_iter_gives iter it × MayYieldTooManyItems I.IntoIter.next_gives it }
         ensures only { IfErr result (λ e. (e ≡ Error.Overflow) ⊎ (e ≡ Error.OutOfMemory)) }
     {
-        MutablePrimitiveArray::collected(alloc, iter.into_iter())
+        MutablePrimitiveArray::collect_items(alloc, iter.into_iter())
     }
 
     /// Returns the array of the items of an iterator that ends.
-    fn collected<I: Iterator<Item = Option<T>> + Drop>(
+    fn collect_items<I: Iterator<Item = Option<T>> + Drop>(
         alloc: Global,
         items: I,
     ) -> Result<MutablePrimitiveArray<T>>

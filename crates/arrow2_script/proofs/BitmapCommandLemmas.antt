@@ -3,8 +3,8 @@ use Rattle.std.proofs.Common.{◌≡◌, refl, ℕ, List, ◌∷◌, true, codes
 use Rattle.std.specs.Prelude.{Some, None}
 use Rattle.std.specs.List.{list_all}
 use Rattle.std.proofs.lemmas.Option.{none-some}
-use Rattle.arrow2_script.specs.BitmapCommands.{bitmap_named, frozen_named, bitmap_words, BitmapFits}
-use Rattle.arrow2_script.specs.Commands.{named, command_of}
+use Rattle.arrow2_script.specs.BitmapCommands.{bitmap_command_of, frozen_command_of, bitmap_words, BitmapFits}
+use Rattle.arrow2_script.specs.Commands.{named_command, command_of}
 use Rattle.arrow2_script.specs.declared.bitmap_command.BitmapCommand.{BitmapCommand}
 use Rattle.arrow2_script.specs.declared.bitmap_command.BitmapCommand.TheVariants.{New, Push, Pop, Get, Freeze, Thaw, Slice, Count, Bits}
 use Rattle.arrow2_script.specs.declared.command.Command.TheVariants as Kinds
@@ -13,8 +13,8 @@ use Rattle.arrow2_script.proofs.SpellingLemmas.{is_word}
 use Rattle.arrow2_script.proofs.WordLemmas.{bit_of-byte, bits_of-text, number_of-decimal, slot_of-decimal}
 
 -- words that are parsed as a command on bitmaps are its words
-pub bitmap_parses : (name : List ℕ) (words : List (List ℕ)) (command : BitmapCommand) → bitmap_named name words ≡ Some command → Parses BitmapFits bitmap_words name words command
-unfolding bitmap_named frozen_named is_word
+pub bitmap_parses : (name : List ℕ) (words : List (List ℕ)) (command : BitmapCommand) → bitmap_command_of name words ≡ Some command → Parses BitmapFits bitmap_words name words command
+unfolding bitmap_command_of frozen_command_of is_word
 bitmap_parses name words command =
     let parses = Parses BitmapFits bitmap_words in
     at_row parses (codes "new") refl (more slots (more bit_texts no_more)) (λ p. New p.0 p.1.0) (λ p f w. (f.0, refl, w)) words name command _ (
@@ -30,7 +30,7 @@ bitmap_parses name words command =
 
 -- the words of a command on bitmaps are parsed as it
 pub bitmap_of-words : (command : BitmapCommand) → BitmapFits command → command_of (bitmap_words command) ≡ Some (Kinds.Bitmap command)
-unfolding command_of named bitmap_named frozen_named
+unfolding command_of named_command bitmap_command_of frozen_command_of
 bitmap_of-words (New slot bits) fits = rw (slot_of-decimal slot fits, bits_of-text bits) refl
 bitmap_of-words (Push slot bit) fits = rw (slot_of-decimal slot fits, bit_of-byte bit) refl
 bitmap_of-words (Pop slot) fits = rw (slot_of-decimal slot fits) refl

@@ -5,7 +5,7 @@ use Rattle.std.specs.Option.{option_or}
 use Rattle.std.specs.List.{list_any, list_all}
 use Rattle.std.proofs.lemmas.Option.{none-some}
 use Rattle.arrow2_script.specs.Lines.{parts_of, words_of, is_blank}
-use Rattle.arrow2_script.specs.Commands.{bitmap_named, offset_named, value_named, storage_named, kernel_named, growth_named, array_named, named, command_of, command_in, command_words, Fits}
+use Rattle.arrow2_script.specs.Commands.{bitmap_command_of, offset_command_of, value_command_of, storage_command_of, kernel_command_of, growth_command_of, array_command_of, named_command, command_of, command_in, command_words, Fits}
 use Rattle.arrow2_script.specs.declared.command.Command.{Command}
 use Rattle.arrow2_script.specs.declared.command.Command.TheVariants.{Bitmap, Offset, Value, Storage, Kernel, Growth, Array}
 use Rattle.arrow2_script.proofs.KindLemmas.{Parses}
@@ -24,16 +24,16 @@ either_way : {A : Type 0} (a b : Option A) (y : A) → option_or a b ≡ Some y 
 either_way None b y e = inr e
 either_way (Some x) b y e = inl e
 
-named_parses : (name : List ℕ) (words : List (List ℕ)) (command : Command) → named name words ≡ Some command → Parses Fits command_words name words command
-unfolding named
+named_parses : (name : List ℕ) (words : List (List ℕ)) (command : Command) → named_command name words ≡ Some command → Parses Fits command_words name words command
+unfolding named_command
 named_parses name words command =
-    of_kind Bitmap (bitmap_named name words) (bitmap_parses name words) _ (
-    of_kind Offset (offset_named name words) (offset_parses name words) _ (
-    of_kind Value (value_named name words) (value_parses name words) _ (
-    of_kind Storage (storage_named name words) (storage_parses name words) _ (
-    of_kind Kernel (kernel_named name words) (kernel_parses name words) _ (
-    of_kind Growth (growth_named name words) (growth_parses name words) _ (
-    only_kind Array (array_named name words) (array_parses name words)))))))
+    of_kind Bitmap (bitmap_command_of name words) (bitmap_parses name words) _ (
+    of_kind Offset (offset_command_of name words) (offset_parses name words) _ (
+    of_kind Value (value_command_of name words) (value_parses name words) _ (
+    of_kind Storage (storage_command_of name words) (storage_parses name words) _ (
+    of_kind Kernel (kernel_command_of name words) (kernel_parses name words) _ (
+    of_kind Growth (growth_command_of name words) (growth_parses name words) _ (
+    only_kind Array (array_command_of name words) (array_parses name words)))))))
   where
     only_kind : {K : Type 0} (kind : K → Command) (read : Option K) → ((c : K) → read ≡ Some c → Parses Fits command_words name words (kind c)) → option_map kind read ≡ Some command → Parses Fits command_words name words command
     only_kind kind read parses e =
@@ -87,7 +87,7 @@ unfolding command_in words_of command_of
 command_in-parts line = whichever (list_any is_blank (parts_of line)) (parts_of line) (blank_states_none (parts_of line))
 
 -- the command of a line, from its first part and the others
-pub first_part : (line name : List ℕ) (others : List (List ℕ)) → parts_of line ≡ name ∷ others → command_in line ≡ named name others
+pub first_part : (line name : List ℕ) (others : List (List ℕ)) → parts_of line ≡ name ∷ others → command_in line ≡ named_command name others
 unfolding command_of
 first_part line name others e = sym (command_in-parts line) ∙ ap command_of e
 

@@ -3,8 +3,8 @@ use Rattle.std.proofs.Common.{◌≡◌, refl, ℕ, List, ◌∷◌, true, arith
 use Rattle.std.specs.Prelude.{Some, None}
 use Rattle.std.specs.List.{list_all}
 use Rattle.std.proofs.lemmas.Option.{none-some}
-use Rattle.arrow2_script.specs.KernelCommands.{kernel_named, operator_named, table_named, kernel_words, KernelFits}
-use Rattle.arrow2_script.specs.Commands.{bitmap_named, frozen_named, offset_named, frozen_offsets_named, value_named, storage_named, named, command_of}
+use Rattle.arrow2_script.specs.KernelCommands.{kernel_command_of, operator_command_of, table_command_of, kernel_words, KernelFits}
+use Rattle.arrow2_script.specs.Commands.{bitmap_command_of, frozen_command_of, offset_command_of, frozen_offsets_command_of, value_command_of, storage_command_of, named_command, command_of}
 use Rattle.arrow2_script.specs.declared.kernel_command.KernelCommand.{KernelCommand}
 use Rattle.arrow2_script.specs.declared.kernel_command.KernelCommand.TheVariants.{Make, AssignUnary, AssignBinary}
 use Rattle.arrow2_script.specs.declared.kernel_command.Kernel.TheVariants.{And, Or, Xor, Not, Unary, Binary, Ternary, Quaternary}
@@ -14,8 +14,8 @@ use Rattle.arrow2_script.proofs.SpellingLemmas.{is_word}
 use Rattle.arrow2_script.proofs.WordLemmas.{below_of-decimal, slot_of-decimal, width_of-word}
 
 -- words that are parsed as a command that combines bitmaps are its words
-pub kernel_parses : (name : List ℕ) (words : List (List ℕ)) (command : KernelCommand) → kernel_named name words ≡ Some command → Parses KernelFits kernel_words name words command
-unfolding kernel_named operator_named table_named is_word
+pub kernel_parses : (name : List ℕ) (words : List (List ℕ)) (command : KernelCommand) → kernel_command_of name words ≡ Some command → Parses KernelFits kernel_words name words command
+unfolding kernel_command_of operator_command_of table_command_of is_word
 kernel_parses name words command =
     let parses = Parses KernelFits kernel_words in
     at_row parses (codes "inplace1") refl (more slots (more (tables 4 (omega arith)) (more widths no_more))) (λ p. AssignUnary p.0 p.1.0 p.1.1.0) (λ p f w. ((f.0, f.1.0), refl, w)) words name command _ (
@@ -32,7 +32,7 @@ kernel_parses name words command =
 
 -- the words of a command that combines bitmaps are parsed as it
 pub kernel_of-words : (command : KernelCommand) → KernelFits command → command_of (kernel_words command) ≡ Some (Kinds.Kernel command)
-unfolding command_of named bitmap_named frozen_named offset_named frozen_offsets_named value_named storage_named kernel_named operator_named table_named
+unfolding command_of named_command bitmap_command_of frozen_command_of offset_command_of frozen_offsets_command_of value_command_of storage_command_of kernel_command_of operator_command_of table_command_of
 kernel_of-words (Make to (And left right)) fits = rw (slot_of-decimal to fits.0, slot_of-decimal left fits.1.0, slot_of-decimal right fits.1.1) refl
 kernel_of-words (Make to (Or left right)) fits = rw (slot_of-decimal to fits.0, slot_of-decimal left fits.1.0, slot_of-decimal right fits.1.1) refl
 kernel_of-words (Make to (Xor left right)) fits = rw (slot_of-decimal to fits.0, slot_of-decimal left fits.1.0, slot_of-decimal right fits.1.1) refl

@@ -6,7 +6,7 @@ use Rattle.std.proofs.lemmas.Bool.{not-true}
 use Rattle.std.proofs.lemmas.Bool.Decides.{eqb_tells}
 use Rattle.std.proofs.lemmas.List.Elements.{All-cons, All-nil}
 use Rattle.std.proofs.lemmas.List.Splits.{join_with_byte-slice_split}
-use Rattle.arrow2_script.specs.Lines.{lines_of, parts_of, parts_between, words_of, is_blank, closed, ended, IsLine, AreLines, IsWord, AreWords}
+use Rattle.arrow2_script.specs.Lines.{lines_of, parts_of, parts_between, words_of, is_blank, with_final_newline, with_newline, IsLine, AreLines, IsWord, AreWords}
 use Rattle.arrow2_script.specs.Commands.{command_of, command_in, command_words, IsSpelling}
 use Rattle.arrow2_script.specs.declared.command.Command.{Command}
 use Rattle.arrow2_script.proofs.LineLemmas.{lines_of-cut, parts-joined, parts_all}
@@ -27,11 +27,11 @@ closed_moved : (t : Bool) (b : ℕ) (bytes : List ℕ) → cond t (b ∷ bytes) 
 closed_moved true b bytes = refl
 closed_moved false b bytes = refl
 
-closed-cons : (b c : ℕ) (bytes : List ℕ) → closed (b ∷ c ∷ bytes) ≡ b ∷ closed (c ∷ bytes)
+closed-cons : (b c : ℕ) (bytes : List ℕ) → with_final_newline (b ∷ c ∷ bytes) ≡ b ∷ with_final_newline (c ∷ bytes)
 closed-cons b c bytes = closed_moved _ b (c ∷ bytes)
 
 -- a byte before a first line
-first_longer : (b : ℕ) (lines : List (List ℕ)) → 0 < length lines → flat_map ended (onto_first b lines) ≡ b ∷ flat_map ended lines
+first_longer : (b : ℕ) (lines : List (List ℕ)) → 0 < length lines → flat_map with_newline (onto_first b lines) ≡ b ∷ flat_map with_newline lines
 first_longer b [] some = absurd (omega arith)
 first_longer b (line ∷ lines) some = refl
 
@@ -45,7 +45,7 @@ unfolding lines_of
 some_lines b bytes = more_lines (eqb b 10) b (lines_of bytes)
 
 -- each line with its end, in order, is the script
-lines_join : (script : List ℕ) → flat_map ended (lines_of script) ≡ closed script
+lines_join : (script : List ℕ) → flat_map with_newline (lines_of script) ≡ with_final_newline script
 unfolding lines_of
 lines_join [] = refl
 lines_join (b ∷ []) = elim (eqb_tells b 10) [ inl is ↦ rw is.1 refl | inr other ↦ rw other.0 refl ]
@@ -67,7 +67,7 @@ lines_free (b ∷ bytes) = elim (eqb_tells b 10) [
 pub lines_are : (script : List ℕ) → AreLines script (lines_of script)
 lines_are script = (lines_free script, lines_join script)
 
-closed_lines : (script : List ℕ) → lines_of (closed script) ≡ lines_of script
+closed_lines : (script : List ℕ) → lines_of (with_final_newline script) ≡ lines_of script
 unfolding lines_of
 closed_lines [] = refl
 closed_lines (b ∷ []) = elim (eqb_tells b 10) [ inl is ↦ rw is.1 refl | inr other ↦ rw (other.0, other.0) refl ]
@@ -75,12 +75,12 @@ closed_lines (b ∷ c ∷ bytes) =
     let others = closed_lines (c ∷ bytes) in
     rw (closed-cons b c bytes) (rw others refl)
 
-lines_again : (lines : List (List ℕ)) → All IsLine lines → lines_of (flat_map ended lines) ≡ lines
+lines_again : (lines : List (List ℕ)) → All IsLine lines → lines_of (flat_map with_newline lines) ≡ lines
 unfolding lines_of
 lines_again [] all = refl
 lines_again (line ∷ lines) all =
     let p = parts_all IsLine line lines all in
-    ap lines_of (append_assoc line (10 ∷ []) (flat_map ended lines)) ∙ lines_of-cut line (flat_map ended lines) p.0 ∙ ap (λ t. line ∷ t) (lines_again lines p.1)
+    ap lines_of (append_assoc line (10 ∷ []) (flat_map with_newline lines)) ∙ lines_of-cut line (flat_map with_newline lines) p.0 ∙ ap (λ t. line ∷ t) (lines_again lines p.1)
 
 pub lines_only : (script : List ℕ) (lines : List (List ℕ)) → AreLines script lines → lines ≡ lines_of script
 lines_only script lines are = sym (lines_again lines are.0) ∙ ap lines_of are.1 ∙ closed_lines script

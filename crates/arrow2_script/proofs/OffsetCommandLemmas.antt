@@ -3,8 +3,8 @@ use Rattle.std.proofs.Common.{◌≡◌, refl, ℕ, List, ◌∷◌, true, codes
 use Rattle.std.specs.Prelude.{Some, None}
 use Rattle.std.specs.List.{list_all}
 use Rattle.std.proofs.lemmas.Option.{none-some}
-use Rattle.arrow2_script.specs.OffsetCommands.{offset_named, frozen_offsets_named, offset_words, OffsetFits}
-use Rattle.arrow2_script.specs.Commands.{bitmap_named, frozen_named, named, command_of}
+use Rattle.arrow2_script.specs.OffsetCommands.{offset_command_of, frozen_offsets_command_of, offset_words, OffsetFits}
+use Rattle.arrow2_script.specs.Commands.{bitmap_command_of, frozen_command_of, named_command, command_of}
 use Rattle.arrow2_script.specs.declared.offset_command.OffsetCommand.{OffsetCommand}
 use Rattle.arrow2_script.specs.declared.offset_command.OffsetCommand.TheVariants.{New, Push, Pop, Extend, Offsets, Freeze, Slice, Zip}
 use Rattle.arrow2_script.specs.declared.command.Command.TheVariants as Kinds
@@ -14,8 +14,8 @@ use Rattle.arrow2_script.proofs.WordLemmas.{number_of-decimal, slot_of-decimal}
 use Rattle.arrow2_script.proofs.NumberListLemmas.{numbers_of-text}
 
 -- words that are parsed as a command on offsets are its words
-pub offset_parses : (name : List ℕ) (words : List (List ℕ)) (command : OffsetCommand) → offset_named name words ≡ Some command → Parses OffsetFits offset_words name words command
-unfolding offset_named frozen_offsets_named is_word
+pub offset_parses : (name : List ℕ) (words : List (List ℕ)) (command : OffsetCommand) → offset_command_of name words ≡ Some command → Parses OffsetFits offset_words name words command
+unfolding offset_command_of frozen_offsets_command_of is_word
 offset_parses name words command =
     let parses = Parses OffsetFits offset_words in
     at_row parses (codes "onew") refl (more slots (more numbers no_more)) (λ p. New p.0 p.1.0) (λ p f w. ((f.0, f.1.0), refl, w)) words name command _ (
@@ -30,7 +30,7 @@ offset_parses name words command =
 
 -- the words of a command on offsets are parsed as it
 pub offset_of-words : (command : OffsetCommand) → OffsetFits command → command_of (offset_words command) ≡ Some (Kinds.Offset command)
-unfolding command_of named bitmap_named frozen_named offset_named frozen_offsets_named
+unfolding command_of named_command bitmap_command_of frozen_command_of offset_command_of frozen_offsets_command_of
 offset_of-words (New slot first) fits = rw (slot_of-decimal slot fits.0, number_of-decimal first fits.1) refl
 offset_of-words (Push slot length) fits = rw (slot_of-decimal slot fits.0, number_of-decimal length fits.1) refl
 offset_of-words (Pop slot) fits = rw (slot_of-decimal slot fits) refl

@@ -8,8 +8,8 @@ use Rattle.arrow2_script.specs.declared.array_command.ArrayCommand.{ArrayCommand
 use Rattle.arrow2_script.specs.declared.array_command.ArrayCommand.TheVariants.{New, List as Items, Nulls, Slice, And, Or}
 
 -- the command on boolean arrays that the words after a name spell
-unfoldable pub array_named : List ℕ → List (List ℕ) → Option ArrayCommand
-array_named name words =
+unfoldable pub array_command_of : List ℕ → List (List ℕ) → Option ArrayCommand
+array_command_of name words =
     if bytes_eq name (codes "anew") then option_map (λ p. New p.0 p.1.0 p.1.1.0) ((slot_of >> slot_of >> optional_slot_of >> no_words) words)
     else if bytes_eq name (codes "alist") then option_map (λ p. Items p.0) ((slot_of >> no_words) words)
     else if bytes_eq name (codes "anulls") then option_map (λ p. Nulls p.0) ((slot_of >> no_words) words)

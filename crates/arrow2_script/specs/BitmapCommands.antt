@@ -8,8 +8,8 @@ use Rattle.arrow2_script.specs.declared.bitmap_command.BitmapCommand.{BitmapComm
 use Rattle.arrow2_script.specs.declared.bitmap_command.BitmapCommand.TheVariants.{New, Push, Pop, Get, Freeze, Thaw, Slice, Count, Bits}
 
 -- the command that the words after a name spell, if frozen bitmaps accept it; growing bitmaps accept some of these too
-unfoldable pub frozen_named : List ℕ → List (List ℕ) → Option BitmapCommand
-frozen_named name words =
+unfoldable pub frozen_command_of : List ℕ → List (List ℕ) → Option BitmapCommand
+frozen_command_of name words =
     if bytes_eq name (codes "get") then option_map (λ p. Get p.0 p.1.0) ((slot_of >> number_of >> no_words) words)
     else if bytes_eq name (codes "thaw") then option_map (λ p. Thaw p.0) ((slot_of >> no_words) words)
     else if bytes_eq name (codes "slice") then option_map (λ p. Slice p.0 p.1.0 p.1.1.0) ((slot_of >> number_of >> number_of >> no_words) words)
@@ -18,13 +18,13 @@ frozen_named name words =
     else None
 
 -- the command on bitmaps that the words after a name spell
-unfoldable pub bitmap_named : List ℕ → List (List ℕ) → Option BitmapCommand
-bitmap_named name words =
+unfoldable pub bitmap_command_of : List ℕ → List (List ℕ) → Option BitmapCommand
+bitmap_command_of name words =
     if bytes_eq name (codes "new") then option_map (λ p. New p.0 p.1.0) ((slot_of >> bits_of >> no_words) words)
     else if bytes_eq name (codes "push") then option_map (λ p. Push p.0 p.1.0) ((slot_of >> bit_of >> no_words) words)
     else if bytes_eq name (codes "pop") then option_map (λ p. Pop p.0) ((slot_of >> no_words) words)
     else if bytes_eq name (codes "freeze") then option_map (λ p. Freeze p.0) ((slot_of >> no_words) words)
-    else frozen_named name words
+    else frozen_command_of name words
 
 -- the words of a command on bitmaps
 abbrev pub bitmap_words : BitmapCommand → List (List ℕ)

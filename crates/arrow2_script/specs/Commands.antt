@@ -3,31 +3,31 @@ use Rattle.std.specs.Prelude.{◌≡◌, ℕ, List, [], ◌∷◌, Option, None,
 use Rattle.std.specs.Option.{option_or}
 use Rattle.std.specs.List.{join_with_byte}
 use Rattle.arrow2_script.specs.Lines.{words_of}
-unfoldable pub use Rattle.arrow2_script.specs.BitmapCommands.{bitmap_named, frozen_named, bitmap_words, BitmapFits}
-unfoldable pub use Rattle.arrow2_script.specs.OffsetCommands.{offset_named, frozen_offsets_named, offset_words, OffsetFits}
-unfoldable pub use Rattle.arrow2_script.specs.ValueCommands.{value_named, value_words, ValueFits}
-unfoldable pub use Rattle.arrow2_script.specs.StorageCommands.{storage_named, storage_words, StorageFits}
-unfoldable pub use Rattle.arrow2_script.specs.KernelCommands.{kernel_named, kernel_words, KernelFits}
-unfoldable pub use Rattle.arrow2_script.specs.GrowthCommands.{growth_named, growth_words, GrowthFits}
-unfoldable pub use Rattle.arrow2_script.specs.ArrayCommands.{array_named, array_words, ArrayFits}
+unfoldable pub use Rattle.arrow2_script.specs.BitmapCommands.{bitmap_command_of, frozen_command_of, bitmap_words, BitmapFits}
+unfoldable pub use Rattle.arrow2_script.specs.OffsetCommands.{offset_command_of, frozen_offsets_command_of, offset_words, OffsetFits}
+unfoldable pub use Rattle.arrow2_script.specs.ValueCommands.{value_command_of, value_words, ValueFits}
+unfoldable pub use Rattle.arrow2_script.specs.StorageCommands.{storage_command_of, storage_words, StorageFits}
+unfoldable pub use Rattle.arrow2_script.specs.KernelCommands.{kernel_command_of, kernel_words, KernelFits}
+unfoldable pub use Rattle.arrow2_script.specs.GrowthCommands.{growth_command_of, growth_words, GrowthFits}
+unfoldable pub use Rattle.arrow2_script.specs.ArrayCommands.{array_command_of, array_words, ArrayFits}
 use Rattle.arrow2_script.specs.declared.command.Command.{Command}
 use Rattle.arrow2_script.specs.declared.command.Command.TheVariants.{Bitmap, Offset, Value, Storage, Kernel, Growth, Array}
 
 -- the command that the words after a name spell, of whichever group
-unfoldable pub named : List ℕ → List (List ℕ) → Option Command
-named name words =
-    option_or (option_map Bitmap (bitmap_named name words)) (
-    option_or (option_map Offset (offset_named name words)) (
-    option_or (option_map Value (value_named name words)) (
-    option_or (option_map Storage (storage_named name words)) (
-    option_or (option_map Kernel (kernel_named name words)) (
-    option_or (option_map Growth (growth_named name words)) (
-    option_map Array (array_named name words)))))))
+unfoldable pub named_command : List ℕ → List (List ℕ) → Option Command
+named_command name words =
+    option_or (option_map Bitmap (bitmap_command_of name words)) (
+    option_or (option_map Offset (offset_command_of name words)) (
+    option_or (option_map Value (value_command_of name words)) (
+    option_or (option_map Storage (storage_command_of name words)) (
+    option_or (option_map Kernel (kernel_command_of name words)) (
+    option_or (option_map Growth (growth_command_of name words)) (
+    option_map Array (array_command_of name words)))))))
 
 -- the command that words spell
 unfoldable pub command_of : List (List ℕ) → Option Command
 command_of [] = None
-command_of (name ∷ words) = named name words
+command_of (name ∷ words) = named_command name words
 
 -- the command that a line spells, if it spells one
 unfoldable pub command_in : List ℕ → Option Command

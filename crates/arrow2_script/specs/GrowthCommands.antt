@@ -8,8 +8,8 @@ use Rattle.arrow2_script.specs.declared.growth_command.GrowthCommand.{GrowthComm
 use Rattle.arrow2_script.specs.declared.growth_command.GrowthCommand.TheVariants.{Fill, Append}
 
 -- the command that the words after a name spell, if it is one by which a bitmap grows
-unfoldable pub growth_named : List ℕ → List (List ℕ) → Option GrowthCommand
-growth_named name words =
+unfoldable pub growth_command_of : List ℕ → List (List ℕ) → Option GrowthCommand
+growth_command_of name words =
     if bytes_eq name (codes "fill") then option_map (λ p. Fill p.0 p.1.0 p.1.1.0) ((slot_of >> number_of >> bit_of >> no_words) words)
     else if bytes_eq name (codes "append") then option_map (λ p. Append p.0 p.1.0) ((slot_of >> slot_of >> no_words) words)
     else None

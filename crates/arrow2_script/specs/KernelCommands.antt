@@ -10,8 +10,8 @@ use Rattle.arrow2_script.specs.declared.kernel_command.Kernel.{Kernel}
 use Rattle.arrow2_script.specs.declared.kernel_command.Kernel.TheVariants.{And, Or, Xor, Not, Unary, Binary, Ternary, Quaternary}
 
 -- the command that the words after a name spell, if it makes a bitmap by a table
-unfoldable pub table_named : List ℕ → List (List ℕ) → Option KernelCommand
-table_named name words =
+unfoldable pub table_command_of : List ℕ → List (List ℕ) → Option KernelCommand
+table_command_of name words =
     if bytes_eq name (codes "table1") then option_map (λ p. Make p.0 (Unary p.1.0 p.1.1.0)) ((slot_of >> below_of 4 >> slot_of >> no_words) words)
     else if bytes_eq name (codes "table2") then option_map (λ p. Make p.0 (Binary p.1.0 p.1.1.0 p.1.1.1.0)) ((slot_of >> below_of 16 >> slot_of >> slot_of >> no_words) words)
     else if bytes_eq name (codes "table3") then option_map (λ p. Make p.0 (Ternary p.1.0 p.1.1.0 p.1.1.1.0 p.1.1.1.1.0)) ((slot_of >> below_of 256 >> slot_of >> slot_of >> slot_of >> no_words) words)
@@ -19,20 +19,20 @@ table_named name words =
     else None
 
 -- the command that the words after a name spell, if it makes a bitmap by an operator or a table
-unfoldable pub operator_named : List ℕ → List (List ℕ) → Option KernelCommand
-operator_named name words =
+unfoldable pub operator_command_of : List ℕ → List (List ℕ) → Option KernelCommand
+operator_command_of name words =
     if bytes_eq name (codes "and") then option_map (λ p. Make p.0 (And p.1.0 p.1.1.0)) ((slot_of >> slot_of >> slot_of >> no_words) words)
     else if bytes_eq name (codes "or") then option_map (λ p. Make p.0 (Or p.1.0 p.1.1.0)) ((slot_of >> slot_of >> slot_of >> no_words) words)
     else if bytes_eq name (codes "xor") then option_map (λ p. Make p.0 (Xor p.1.0 p.1.1.0)) ((slot_of >> slot_of >> slot_of >> no_words) words)
     else if bytes_eq name (codes "not") then option_map (λ p. Make p.0 (Not p.1.0)) ((slot_of >> slot_of >> no_words) words)
-    else table_named name words
+    else table_command_of name words
 
 -- the command that the words after a name spell, if it combines bitmaps
-unfoldable pub kernel_named : List ℕ → List (List ℕ) → Option KernelCommand
-kernel_named name words =
+unfoldable pub kernel_command_of : List ℕ → List (List ℕ) → Option KernelCommand
+kernel_command_of name words =
     if bytes_eq name (codes "inplace1") then option_map (λ p. AssignUnary p.0 p.1.0 p.1.1.0) ((slot_of >> below_of 4 >> width_of >> no_words) words)
     else if bytes_eq name (codes "inplace2") then option_map (λ p. AssignBinary p.0 p.1.0 p.1.1.0 p.1.1.1.0) ((slot_of >> below_of 16 >> width_of >> slot_of >> no_words) words)
-    else operator_named name words
+    else operator_command_of name words
 
 -- the words of a command that makes a bitmap in slot `to`
 abbrev pub made_words : ℕ → Kernel → List (List ℕ)

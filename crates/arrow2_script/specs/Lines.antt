@@ -29,21 +29,22 @@ unfoldable pub words_of : List ℕ → List (List ℕ)
 words_of line = if list_any is_blank (parts_of line) then [] else parts_of line
 
 -- a script, with a byte 10 added at its end if it is not empty and does not end with one
-abbrev pub closed : List ℕ → List ℕ
-closed [] = []
-closed (b ∷ bytes) = if slice_index (b ∷ bytes) (length bytes) == 10 then b ∷ bytes else b ∷ bytes ++ 10 ∷ []
+abbrev pub with_final_newline : List ℕ → List ℕ
+with_final_newline [] = []
+with_final_newline (b ∷ bytes) = if slice_index (b ∷ bytes) (length bytes) == 10 then b ∷ bytes else b ∷ bytes ++ 10 ∷ []
 
 -- a line and the byte that ends it
-abbrev pub ended : List ℕ → List ℕ
-ended line = line ++ 10 ∷ []
+abbrev pub with_newline : List ℕ → List ℕ
+with_newline line = line ++ 10 ∷ []
 
 -- a line that holds no byte 10
 abbrev pub IsLine : List ℕ → Type 0
 IsLine line = All (λ b. b ≢ 10) line
 
--- these are the lines of the script: they hold no byte 10, and each followed by byte 10 they are the closed script
+-- these are the lines of the script: they hold no byte 10, and each followed by byte 10 they are the script with a
+-- final newline
 abbrev pub AreLines : List ℕ → List (List ℕ) → Type 0
-AreLines script lines = All IsLine lines × (flat_map ended lines ≡ closed script)
+AreLines script lines = All IsLine lines × (flat_map with_newline lines ≡ with_final_newline script)
 
 -- one byte or more, none of them 32
 abbrev pub IsWord : List ℕ → Type 0

@@ -9,22 +9,22 @@ use Rattle.arrow2_script.specs.declared.offset_command.OffsetCommand.{OffsetComm
 use Rattle.arrow2_script.specs.declared.offset_command.OffsetCommand.TheVariants.{New, Push, Pop, Extend, Offsets, Freeze, Slice, Zip}
 
 -- the command that the words after a name spell, if frozen offsets accept it; growing offsets accept one of these too
-unfoldable pub frozen_offsets_named : List ℕ → List (List ℕ) → Option OffsetCommand
-frozen_offsets_named name words =
+unfoldable pub frozen_offsets_command_of : List ℕ → List (List ℕ) → Option OffsetCommand
+frozen_offsets_command_of name words =
     if bytes_eq name (codes "olist") then option_map (λ p. Offsets p.0) ((slot_of >> no_words) words)
     else if bytes_eq name (codes "oslice") then option_map (λ p. Slice p.0 p.1.0 p.1.1.0) ((slot_of >> number_of >> number_of >> no_words) words)
     else if bytes_eq name (codes "zip") then option_map (λ p. Zip p.0 p.1.0) ((slot_of >> slot_of >> no_words) words)
     else None
 
 -- the command on offsets that the words after a name spell
-unfoldable pub offset_named : List ℕ → List (List ℕ) → Option OffsetCommand
-offset_named name words =
+unfoldable pub offset_command_of : List ℕ → List (List ℕ) → Option OffsetCommand
+offset_command_of name words =
     if bytes_eq name (codes "onew") then option_map (λ p. New p.0 p.1.0) ((slot_of >> number_of >> no_words) words)
     else if bytes_eq name (codes "opush") then option_map (λ p. Push p.0 p.1.0) ((slot_of >> number_of >> no_words) words)
     else if bytes_eq name (codes "opop") then option_map (λ p. Pop p.0) ((slot_of >> no_words) words)
     else if bytes_eq name (codes "oext") then option_map (λ p. Extend p.0 p.1.0) ((slot_of >> numbers_of >> no_words) words)
     else if bytes_eq name (codes "ofreeze") then option_map (λ p. Freeze p.0) ((slot_of >> no_words) words)
-    else frozen_offsets_named name words
+    else frozen_offsets_command_of name words
 
 -- the words of a command on offsets
 abbrev pub offset_words : OffsetCommand → List (List ℕ)

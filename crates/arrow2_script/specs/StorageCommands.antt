@@ -9,8 +9,8 @@ use Rattle.arrow2_script.specs.declared.storage_command.StorageCommand.{StorageC
 use Rattle.arrow2_script.specs.declared.storage_command.StorageCommand.TheVariants.{Raw, Set, Words, Runs}
 
 -- the command on stored bits that the words after a name spell
-unfoldable pub storage_named : List ℕ → List (List ℕ) → Option StorageCommand
-storage_named name words =
+unfoldable pub storage_command_of : List ℕ → List (List ℕ) → Option StorageCommand
+storage_command_of name words =
     if bytes_eq name (codes "raw") then option_map (λ p. Raw p.0 p.1.0 p.1.1.0 p.1.1.1.0) ((slot_of >> bytes_of >> number_of >> number_of >> no_words) words)
     else if bytes_eq name (codes "set") then option_map (λ p. Set p.0 p.1.0 p.1.1.0) ((slot_of >> number_of >> bit_of >> no_words) words)
     else if bytes_eq name (codes "words") then option_map (λ p. Words p.0 p.1.0) ((slot_of >> width_of >> no_words) words)

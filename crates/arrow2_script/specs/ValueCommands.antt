@@ -8,8 +8,8 @@ use Rattle.arrow2_script.specs.declared.value_command.ValueCommand.{ValueCommand
 use Rattle.arrow2_script.specs.declared.value_command.ValueCommand.TheVariants.{Copy, Compare}
 
 -- the command on values that the words after a name spell
-unfoldable pub value_named : List ℕ → List (List ℕ) → Option ValueCommand
-value_named name words =
+unfoldable pub value_command_of : List ℕ → List (List ℕ) → Option ValueCommand
+value_command_of name words =
     if bytes_eq name (codes "copy") then option_map (λ p. Copy p.0 p.1.0) ((slot_of >> slot_of >> no_words) words)
     else if bytes_eq name (codes "eq") then option_map (λ p. Compare p.0 p.1.0) ((slot_of >> slot_of >> no_words) words)
     else None

@@ -1,6 +1,6 @@
 //! The commands on boolean arrays, and their parser from the words of a line.
 ghost use Rattle.std.specs.Prelude.{◌≡◌};
-ghost use Rattle.arrow2_script.specs.ArrayCommands.{array_named};
+ghost use Rattle.arrow2_script.specs.ArrayCommands.{array_command_of};
 
 use crate::arguments::Values;
 use crate::lines::Parts;
@@ -28,9 +28,9 @@ pub enum ArrayCommand {
 
 impl ArrayCommand {
     /// Returns the command of this name, with these words after it, or `None` if there is none.
-    #[tactic(auto, unfolding(crate::specs::ArrayCommands::array_named))]
+    #[tactic(auto, unfolding(crate::specs::ArrayCommands::array_command_of))]
     pub fn read(name: &[u8], parts: Parts<'_>) -> Option<ArrayCommand>
-        ensures { result ≡ array_named name.now parts.entry }
+        ensures { result ≡ array_command_of name.now parts.entry }
     {
         if name == b"anew".as_slice() {
             let (to, (values, (validity, ()))) = Values::read(parts)?;

@@ -1,6 +1,6 @@
 //! The commands on bitmaps, and their parser from the words of a line.
 ghost use Rattle.std.specs.Prelude.{◌≡◌};
-ghost use Rattle.arrow2_script.specs.BitmapCommands.{bitmap_named, frozen_named};
+ghost use Rattle.arrow2_script.specs.BitmapCommands.{bitmap_command_of, frozen_command_of};
 
 use crate::arguments::Values;
 use crate::lines::Parts;
@@ -31,9 +31,9 @@ pub enum BitmapCommand<'a> {
 
 impl<'a> BitmapCommand<'a> {
     /// Returns the command of this name, with these words after it, or `None` if there is none.
-    #[tactic(auto, unfolding(crate::specs::BitmapCommands::bitmap_named))]
+    #[tactic(auto, unfolding(crate::specs::BitmapCommands::bitmap_command_of))]
     pub fn read(name: &[u8], parts: Parts<'a>) -> Option<BitmapCommand<'a>>
-        ensures { result ≡ bitmap_named name.now parts.entry }
+        ensures { result ≡ bitmap_command_of name.now parts.entry }
     {
         if name == b"new".as_slice() {
             let (slot, (bits, ())) = Values::read(parts)?;
@@ -53,9 +53,9 @@ impl<'a> BitmapCommand<'a> {
     }
 
     /// Returns the command of this name, with these words after it, if it is one that frozen bitmaps accept.
-    #[tactic(auto, unfolding(crate::specs::BitmapCommands::frozen_named))]
+    #[tactic(auto, unfolding(crate::specs::BitmapCommands::frozen_command_of))]
     fn read_frozen(name: &[u8], parts: Parts<'a>) -> Option<BitmapCommand<'a>>
-        ensures { result ≡ frozen_named name.now parts.entry }
+        ensures { result ≡ frozen_command_of name.now parts.entry }
     {
         if name == b"get".as_slice() {
             let (slot, (index, ())) = Values::read(parts)?;

@@ -1,6 +1,6 @@
 //! The commands of a script, by group, and their parser from a line.
 ghost use Rattle.std.specs.Prelude.{◌≡◌};
-ghost use Rattle.arrow2_script.specs.Commands.{named, command_in};
+ghost use Rattle.arrow2_script.specs.Commands.{named_command, command_in};
 
 use crate::array_command::ArrayCommand;
 use crate::bitmap_command::BitmapCommand;
@@ -31,9 +31,9 @@ pub enum Command<'a> {
 }
 
 /// Returns the command of this name, with these words after it, or `None` if there is none.
-#[tactic(auto, unfolding(crate::specs::Commands::named))]
+#[tactic(auto, unfolding(crate::specs::Commands::named_command))]
 fn read_named<'a>(name: &[u8], parts: Parts<'a>) -> Option<Command<'a>>
-    ensures { result ≡ named name.now parts.entry }
+    ensures { result ≡ named_command name.now parts.entry }
 {
     if let Some(command) = BitmapCommand::read(name, parts.again()) {
         return Some(Command::Bitmap(command));

@@ -1,6 +1,6 @@
 //! The commands by which bitmaps grow by many items, and their parser from the words of a line.
 ghost use Rattle.std.specs.Prelude.{◌≡◌};
-ghost use Rattle.arrow2_script.specs.GrowthCommands.{growth_named};
+ghost use Rattle.arrow2_script.specs.GrowthCommands.{growth_command_of};
 
 use crate::arguments::Values;
 use crate::lines::Parts;
@@ -17,9 +17,9 @@ pub enum GrowthCommand {
 
 impl GrowthCommand {
     /// Returns the command of this name, with these words after it, or `None` if there is none.
-    #[tactic(auto, unfolding(crate::specs::GrowthCommands::growth_named))]
+    #[tactic(auto, unfolding(crate::specs::GrowthCommands::growth_command_of))]
     pub fn read(name: &[u8], parts: Parts<'_>) -> Option<GrowthCommand>
-        ensures { result ≡ growth_named name.now parts.entry }
+        ensures { result ≡ growth_command_of name.now parts.entry }
     {
         if name == b"fill".as_slice() {
             let (slot, (additional, (bit, ()))) = Values::read(parts)?;

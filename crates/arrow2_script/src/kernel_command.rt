@@ -1,6 +1,6 @@
 //! The commands that combine bitmaps by truth tables, and their parser from the words of a line.
 ghost use Rattle.std.specs.Prelude.{◌≡◌};
-ghost use Rattle.arrow2_script.specs.KernelCommands.{kernel_named, operator_named, table_named};
+ghost use Rattle.arrow2_script.specs.KernelCommands.{kernel_command_of, operator_command_of, table_command_of};
 
 use crate::arguments::Values;
 use crate::lines::Parts;
@@ -42,9 +42,9 @@ pub enum Kernel {
 
 impl KernelCommand {
     /// Returns the command of this name, with these words after it, or `None` if there is none.
-    #[tactic(auto, unfolding(crate::specs::KernelCommands::kernel_named))]
+    #[tactic(auto, unfolding(crate::specs::KernelCommands::kernel_command_of))]
     pub fn read(name: &[u8], parts: Parts<'_>) -> Option<KernelCommand>
-        ensures { result ≡ kernel_named name.now parts.entry }
+        ensures { result ≡ kernel_command_of name.now parts.entry }
     {
         if name == b"inplace1".as_slice() {
             let (slot, (table, (width, ()))) = Values::read(parts)?;
@@ -58,9 +58,9 @@ impl KernelCommand {
     }
 
     /// Returns the command that makes a bitmap by the operator, or else the table, of this name.
-    #[tactic(auto, unfolding(crate::specs::KernelCommands::operator_named))]
+    #[tactic(auto, unfolding(crate::specs::KernelCommands::operator_command_of))]
     fn read_operator(name: &[u8], parts: Parts<'_>) -> Option<KernelCommand>
-        ensures { result ≡ operator_named name.now parts.entry }
+        ensures { result ≡ operator_command_of name.now parts.entry }
     {
         if name == b"and".as_slice() {
             let (to, (left, (right, ()))) = Values::read(parts)?;
@@ -80,9 +80,9 @@ impl KernelCommand {
     }
 
     /// Returns the command that makes a bitmap by a table. The name gives the number of inputs.
-    #[tactic(auto, unfolding(crate::specs::KernelCommands::table_named))]
+    #[tactic(auto, unfolding(crate::specs::KernelCommands::table_command_of))]
     fn read_table(name: &[u8], parts: Parts<'_>) -> Option<KernelCommand>
-        ensures { result ≡ table_named name.now parts.entry }
+        ensures { result ≡ table_command_of name.now parts.entry }
     {
         if name == b"table1".as_slice() {
             let (to, (table, (from, ()))) = Values::read(parts)?;

@@ -1,6 +1,6 @@
 //! The commands on offsets, and their parser from the words of a line.
 ghost use Rattle.std.specs.Prelude.{◌≡◌};
-ghost use Rattle.arrow2_script.specs.OffsetCommands.{offset_named, frozen_offsets_named};
+ghost use Rattle.arrow2_script.specs.OffsetCommands.{offset_command_of, frozen_offsets_command_of};
 
 use crate::arguments::Values;
 use crate::lines::Parts;
@@ -29,9 +29,9 @@ pub enum OffsetCommand<'a> {
 
 impl<'a> OffsetCommand<'a> {
     /// Returns the command of this name, with these words after it, or `None` if there is none.
-    #[tactic(auto, unfolding(crate::specs::OffsetCommands::offset_named))]
+    #[tactic(auto, unfolding(crate::specs::OffsetCommands::offset_command_of))]
     pub fn read(name: &[u8], parts: Parts<'a>) -> Option<OffsetCommand<'a>>
-        ensures { result ≡ offset_named name.now parts.entry }
+        ensures { result ≡ offset_command_of name.now parts.entry }
     {
         if name == b"onew".as_slice() {
             let (slot, (first, ())) = Values::read(parts)?;
@@ -54,9 +54,9 @@ impl<'a> OffsetCommand<'a> {
     }
 
     /// Returns the command of this name, with these words after it, if it is one that frozen offsets accept.
-    #[tactic(auto, unfolding(crate::specs::OffsetCommands::frozen_offsets_named))]
+    #[tactic(auto, unfolding(crate::specs::OffsetCommands::frozen_offsets_command_of))]
     fn read_frozen(name: &[u8], parts: Parts<'a>) -> Option<OffsetCommand<'a>>
-        ensures { result ≡ frozen_offsets_named name.now parts.entry }
+        ensures { result ≡ frozen_offsets_command_of name.now parts.entry }
     {
         if name == b"olist".as_slice() {
             let (slot, ()) = Values::read(parts)?;

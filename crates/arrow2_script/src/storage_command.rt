@@ -1,6 +1,6 @@
 //! The commands on the stored bits of bitmaps, and their parser from the words of a line.
 ghost use Rattle.std.specs.Prelude.{◌≡◌};
-ghost use Rattle.arrow2_script.specs.StorageCommands.{storage_named};
+ghost use Rattle.arrow2_script.specs.StorageCommands.{storage_command_of};
 
 use crate::arguments::Values;
 use crate::lines::Parts;
@@ -21,9 +21,9 @@ pub enum StorageCommand<'a> {
 
 impl<'a> StorageCommand<'a> {
     /// Returns the command of this name, with these words after it, or `None` if there is none.
-    #[tactic(auto, unfolding(crate::specs::StorageCommands::storage_named))]
+    #[tactic(auto, unfolding(crate::specs::StorageCommands::storage_command_of))]
     pub fn read(name: &[u8], parts: Parts<'a>) -> Option<StorageCommand<'a>>
-        ensures { result ≡ storage_named name.now parts.entry }
+        ensures { result ≡ storage_command_of name.now parts.entry }
     {
         if name == b"raw".as_slice() {
             let (slot, (bytes, (offset, (length, ())))) = Values::read(parts)?;

@@ -1,6 +1,6 @@
 //! The commands on values of any type, and their parser from the words of a line.
 ghost use Rattle.std.specs.Prelude.{◌≡◌};
-ghost use Rattle.arrow2_script.specs.ValueCommands.{value_named};
+ghost use Rattle.arrow2_script.specs.ValueCommands.{value_command_of};
 
 use crate::arguments::Values;
 use crate::lines::Parts;
@@ -17,9 +17,9 @@ pub enum ValueCommand {
 
 impl ValueCommand {
     /// Returns the command of this name, with these words after it, or `None` if there is none.
-    #[tactic(auto, unfolding(crate::specs::ValueCommands::value_named))]
+    #[tactic(auto, unfolding(crate::specs::ValueCommands::value_command_of))]
     pub fn read(name: &[u8], parts: Parts<'_>) -> Option<ValueCommand>
-        ensures { result ≡ value_named name.now parts.entry }
+        ensures { result ≡ value_command_of name.now parts.entry }
     {
         if name == b"copy".as_slice() {
             let (from, (to, ())) = Values::read(parts)?;

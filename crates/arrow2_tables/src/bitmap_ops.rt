@@ -4,7 +4,7 @@ ghost use Rattle.arrow2_model.specs.Kernels.{word, ternary_kernel, quaternary_ke
 ghost use Rattle.arrow2_model.specs.Storage.{items_of};
 ghost use Rattle.arrow2_model.specs.Tables.{each, IsBitwiseTernary, IsBitwiseQuaternary};
 ghost use Rattle.arrow2_kernels.specs.WordResults.{AreJoinedResults};
-ghost use Rattle.arrow2_bitmap.specs.Packed.{IsPacked};
+ghost use Rattle.arrow2_bitmap.specs.PackedBitmaps.{IsPacked};
 
 use arrow2_bitmap::Bitmap;
 use arrow2_bitmap::bitmap_ops::from_rows;

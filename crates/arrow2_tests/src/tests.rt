@@ -7,7 +7,7 @@ mod checks;
 mod chunk;
 mod chunks_mut;
 mod composite;
-mod counted;
+mod counts;
 mod datatypes;
 mod growing;
 mod hinting;

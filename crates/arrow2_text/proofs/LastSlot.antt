@@ -6,8 +6,8 @@ use Rattle.std.specs.Prelude.{IsErr, IsErrAnd, Option, Some, None, Result, Ok, E
 use Rattle.arrow2_types.specs.declared.error.Error.{Error}
 use Rattle.arrow2_types.specs.declared.error.Error.TheVariants.{OutOfMemory}
 use Rattle.arrow2_model.specs.Parts.{part}
-use Rattle.arrow2_offset.specs.Nested.{cut}
-use Rattle.arrow2_offset.proofs.Nested.{length-cut}
+use Rattle.arrow2_offset.specs.NestedLists.{cut}
+use Rattle.arrow2_offset.proofs.NestedLists.{length-cut}
 use Rattle.arrow2_walks.specs.Zipped.{slot}
 use Rattle.arrow2_text.specs.Growth.{GrowingSlots, LosesLastSlot, PopsSlot}
 use Rattle.arrow2_text.proofs.SlotLists.{pop-cut, sum-parts}

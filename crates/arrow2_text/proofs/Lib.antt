@@ -1,9 +1,9 @@
-pub mod Collected
+pub mod CollectedItems
 pub mod GrowingTexts
 pub mod GrowthItems
 pub mod LastSlot
 pub mod CapacityForSlots
-pub mod PushedSlot
+pub mod SlotPushes
 pub mod SameSlots
 pub mod SlotItems
 pub mod SlotLists

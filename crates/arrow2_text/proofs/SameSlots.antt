@@ -7,11 +7,11 @@ use Rattle.std.proofs.Math.Seq.{take-add, take-append_seam, take-length}
 use Rattle.std.proofs.lemmas.List.{append_cancel_left, length-take, length-drop, take_all, ext_get_or, get_or-take, get_or-drop}
 use Rattle.std.proofs.lemmas.List.Sums.{sum_by-cons}
 use Rattle.arrow2_model.specs.Parts.{part, falses}
-use Rattle.arrow2_offset.specs.Nested.{cut}
-use Rattle.arrow2_offset.proofs.Nested.{extend-cut, part-cut}
+use Rattle.arrow2_offset.specs.NestedLists.{cut}
+use Rattle.arrow2_offset.proofs.NestedLists.{extend-cut, part-cut}
 use Rattle.arrow2_walks.specs.Runs.{runs}
-use Rattle.arrow2_walks.specs.Selected.{selected, non_null_values}
-use Rattle.arrow2_walks.proofs.Selected.{selected-runs, non_null_values-zipped}
+use Rattle.arrow2_walks.specs.Selections.{selection, non_null_values}
+use Rattle.arrow2_walks.proofs.Selections.{selected-runs, non_null_values-zipped}
 use Rattle.arrow2_walks.specs.Zipped.{zipped}
 use Rattle.arrow2_walks.proofs.Zipped.{nulls-zipped}
 use Rattle.arrow2_model.proofs.Counts.{falses-none}
@@ -27,7 +27,7 @@ module _ {X : Type 0} where
   fronts xs ys us zs n e = sym (take-append_seam xs us) ∙ (ap (take (length xs)) e ∙ (ap (λ k. take k (ys ++ zs)) n ∙ take-append_seam ys zs))
 
   -- the same items are selected from both exactly where both have the same items that are not null
-  zipped-alike : (xs ys : List X) (vs : List Bool) → length vs ≡ length xs → length vs ≡ length ys → selected xs vs ≡ selected ys vs → zipped xs vs ≡ zipped ys vs
+  zipped-alike : (xs ys : List X) (vs : List Bool) → length vs ≡ length xs → length vs ≡ length ys → selection xs vs ≡ selection ys vs → zipped xs vs ≡ zipped ys vs
   zipped-alike [] [] vs e f same = refl
   zipped-alike [] (y ∷ ys) vs e f same = absurd (omega (arith, e, f))
   zipped-alike (x ∷ xs) [] vs e f same = absurd (omega (arith, e, f))

@@ -9,11 +9,11 @@ use Rattle.std.specs.Option.{IsNone, is_none}
 use Rattle.arrow2_model.specs.Buffers.{BufferStorage, buffer_items, whole_buffer}
 use Rattle.arrow2_model.specs.Parts.{part}
 use Rattle.arrow2_model.specs.Storage.{BitmapStorage, items_of}
-use Rattle.arrow2_bitmap.specs.Packed.{IsPacked, packed_storage}
-use Rattle.arrow2_offset.specs.Nested.{cut}
+use Rattle.arrow2_bitmap.specs.PackedBitmaps.{IsPacked, packed_storage}
+use Rattle.arrow2_offset.specs.NestedLists.{cut}
 use Rattle.arrow2_offset.specs.Offsets.{lengths_of, start_of}
 use Rattle.arrow2_utf8.specs.Texts.{slot_values}
-use Rattle.arrow2_offset.proofs.Nested.{nested, length-cut, extend-cut, part-cut, push-cut, sum-part}
+use Rattle.arrow2_offset.proofs.NestedLists.{nested, length-cut, extend-cut, part-cut, push-cut, sum-part}
 use Rattle.arrow2_offset.proofs.Appending.{sum-push}
 use Rattle.arrow2_walks.specs.Zipped.{zipped}
 use Rattle.arrow2_walks.proofs.Zipped.{length-zipped}

@@ -11,7 +11,7 @@ use Rattle.arrow2_validity.specs.OptionalValidity.{OptionalValidity, valid_items
 use Rattle.arrow2_datatypes.specs.declared.DataType.{DataType, Binary, LargeBinary, Utf8, LargeUtf8}
 use Rattle.arrow2_datatypes.specs.declared.physical_type.PhysicalType.{PhysicalType}
 use Rattle.arrow2_datatypes.specs.declared.physical_type.PhysicalType.TheVariants as Physical
-use Rattle.arrow2_bitmap.specs.Packed.{IsPacked}
+use Rattle.arrow2_bitmap.specs.PackedBitmaps.{IsPacked}
 
 -- an array: its logical type, where the bytes of each slot begin, the bytes, and which slots are not null
 pub record BinaryParts : Type 0 where

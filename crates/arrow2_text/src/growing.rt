@@ -6,7 +6,7 @@ ghost use Rattle.arrow2_walks.specs.Zipped.{slot, zipped};
 ghost use Rattle.arrow2_model.specs.Parts.{part};
 ghost use Rattle.arrow2_validity.specs.OptionalValidity.{valid_items};
 ghost use Rattle.arrow2_text.specs.Binary.{binary_items, binary_values, slot_offset, slots_size, IsCompact};
-ghost use Rattle.arrow2_offset.specs.Nested.{cut};
+ghost use Rattle.arrow2_offset.specs.NestedLists.{cut};
 ghost use Rattle.arrow2_text.specs.Growth.{AppendsSlots, GrownBySlots, HasCapacityFor, LosesLastSlot, PopsSlot, ReservesSlots};
 
 use crate::slots::Slots;
@@ -33,7 +33,7 @@ pub(crate) struct Growing<O: Offset> {
 
 impl<O: Offset> Model for Growing<O> {
     ghost use Rattle.std.specs.Prelude.{◌≡◌, length, min, sum, vec_capacity};
-    ghost use Rattle.arrow2_offset.specs.Nested.{cut};
+    ghost use Rattle.arrow2_offset.specs.NestedLists.{cut};
     ghost use Rattle.arrow2_text.specs.Growth.{GrowingSlots};
     ghost use Rattle.std.specs.Coded.{codes};
     ghost use Rattle.arrow2_datatypes.specs.contracts.DataType as logical_type;
@@ -281,7 +281,7 @@ impl<O: Offset> Growing<O> {
     {
         let (start, end) = self.offsets.start_end(index);
         let bytes = &self.values.as_slice()[start..end];
-        copied(*self.values.allocator(), bytes, self.validity.get(index))
+        copy_slot(*self.values.allocator(), bytes, self.validity.get(index))
     }
 
     /// Removes the last slot. Requires that there is one.
@@ -348,7 +348,7 @@ fn push_slot(
 }
 
 /// Returns a copy of the bytes of a slot, or `None` where `valid` is false.
-fn copied(alloc: Global, bytes: &[u8], valid: bool) -> Result<Option<Vec<u8>>>
+fn copy_slot(alloc: Global, bytes: &[u8], valid: bool) -> Result<Option<Vec<u8>>>
     ensures ok { IfOk result (λ item. option_map (λ value. value.items) item ≡ slot bytes.now valid) }
     ensures only { IfErr result (λ e. e ≡ Error.OutOfMemory) }
     ensures succeeds { valid ≡ false → IsOk result }

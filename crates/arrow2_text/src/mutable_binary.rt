@@ -154,11 +154,11 @@ impl<O: Offset> MutableBinaryArray<O> {
             (it : I.IntoIter) × I.into_iter_gives iter it × MayYieldPastOffset O.MAX I.IntoIter.next_gives it }
         ensures only { IfErr result (λ e. (e ≡ Error.Overflow) ⊎ (e ≡ Error.OutOfMemory)) }
     {
-        MutableBinaryArray::collected(alloc, iter.into_iter())
+        MutableBinaryArray::collect_items(alloc, iter.into_iter())
     }
 
     /// Returns the array of the items of an iterator that ends.
-    fn collected<'a, I: Iterator<Item = Option<&'a [u8]>> + Drop>(
+    fn collect_items<'a, I: Iterator<Item = Option<&'a [u8]>> + Drop>(
         alloc: Global,
         items: I,
     ) -> Result<MutableBinaryArray<O>>

@@ -171,11 +171,11 @@ impl<O: Offset> MutableUtf8Array<O> {
             (it : I.IntoIter) × I.into_iter_gives iter it × MayYieldPastOffset O.MAX I.IntoIter.next_gives it }
         ensures only { IfErr result (λ e. (e ≡ Error.Overflow) ⊎ (e ≡ Error.OutOfMemory)) }
     {
-        MutableUtf8Array::collected(alloc, iter.into_iter())
+        MutableUtf8Array::collect_items(alloc, iter.into_iter())
     }
 
     /// Returns the array of the items of an iterator that ends.
-    fn collected<'a, I: Iterator<Item = Option<&'a str>> + Drop>(
+    fn collect_items<'a, I: Iterator<Item = Option<&'a str>> + Drop>(
         alloc: Global,
         items: I,
     ) -> Result<MutableUtf8Array<O>>

@@ -5,7 +5,7 @@ ghost use Rattle.std.specs.Option.{is_none, is_some, option_copied};
 ghost use Rattle.either.specs.Either.{MatchEither};
 ghost use Rattle.arrow2_model.specs.Buffers.{buffer_items, whole_buffer};
 ghost use Rattle.arrow2_model.specs.Parts.{part};
-ghost use Rattle.arrow2_offset.specs.Nested.{cut};
+ghost use Rattle.arrow2_offset.specs.NestedLists.{cut};
 ghost use Rattle.arrow2_model.specs.Storage.{items_of};
 ghost use Rattle.arrow2_offset.specs.Offsets.{last_of, lengths_of, offsets_of};
 ghost use Rattle.arrow2_walks.specs.Zipped.{zipped};
@@ -298,7 +298,7 @@ impl<O: Offset> Slots<O> {
             Either::Left(offsets) => Ok(Either::Left(Slots::new(
                 data_type, offsets, values, validity,
             ))),
-            Either::Right(offsets) => thawed(data_type, offsets, values, validity),
+            Either::Right(offsets) => thaw(data_type, offsets, values, validity),
         }
     }
 
@@ -319,7 +319,7 @@ impl<O: Offset> Slots<O> {
 /// not sliced, and the bitmap begins at bit 0. Else returns `Left` of the slots of these parts. Where there is no
 /// bitmap, `Right` has a new one. Requires that the offsets begin at 0 and end after the last byte, and that the
 /// validity has an item for each slot.
-fn thawed<O: Offset>(
+fn thaw<O: Offset>(
     data_type: Rc<DataType>,
     offsets: Offsets<O>,
     values: Buffer<u8>,

@@ -7,7 +7,7 @@ ghost use Rattle.arrow2.specs.Aggregates.{sum_of_non_null};
 ghost use Rattle.arrow2.specs.Binary.{binary_items};
 ghost use Rattle.arrow2.specs.Masks.{is_true};
 ghost use Rattle.arrow2.specs.Primitive.{primitive_items};
-ghost use Rattle.arrow2.specs.Selected.{selected};
+ghost use Rattle.arrow2.specs.Selections.{selection};
 ghost use Rattle.arrow2.specs.Storage.{items_of};
 
 use arrow2::array::{MutablePrimitiveArray, MutableUtf8Array, PrimitiveArray, Utf8Array};
@@ -42,7 +42,7 @@ pub fn prices(alloc: Global) -> Result<PrimitiveArray<i64>>
 /// # Errors
 ///
 /// `Overflow` or `OutOfMemory`.
-pub fn filled<T: NativeType>(column: &PrimitiveArray<T>, value: T) -> Result<PrimitiveArray<T>>
+pub fn fill_null<T: NativeType>(column: &PrimitiveArray<T>, value: T) -> Result<PrimitiveArray<T>>
     ensures ok { IfOk result (λ c. primitive_items c
         ≡ map (λ item. Some (unwrap_or item value)) (primitive_items column.now)) }
     ensures only { IfErr result (λ e. (e ≡ Error.Overflow) ⊎ (e ≡ Error.OutOfMemory)) }
@@ -63,11 +63,11 @@ pub fn filled<T: NativeType>(column: &PrimitiveArray<T>, value: T) -> Result<Pri
 pub fn selected_sum(column: &PrimitiveArray<i64>, mask: &Bitmap) -> Result<i128>
     requires same_length { length (items_of mask.now) ≡ length (primitive_items column.now) }
     ensures ok { IfOk result (λ total.
-        total ≡ sum_of_non_null (λ x. x) (selected (primitive_items column.now) (items_of mask.now))) }
+        total ≡ sum_of_non_null (λ x. x) (selection (primitive_items column.now) (items_of mask.now))) }
     ensures only { IfErr result (λ e. e ≡ Error.OutOfMemory) }
 {
-    let selected = filter(column, mask)?;
-    Ok(sum(&selected))
+    let selection = filter(column, mask)?;
+    Ok(sum(&selection))
 }
 
 /// Returns the items above a bound. A null is not above it.
@@ -79,7 +79,7 @@ pub fn above<T: NativeType + PartialOrd>(
     column: &PrimitiveArray<T>,
     bound: T,
 ) -> Result<PrimitiveArray<T>>
-    ensures ok { IfOk result (λ c. primitive_items c ≡ selected (primitive_items column.now)
+    ensures ok { IfOk result (λ c. primitive_items c ≡ selection (primitive_items column.now)
         (map is_true (map (option_map (λ value. partial_gt T.PartialOrd.partial_cmp value bound))
         (primitive_items column.now)))) }
     ensures only { IfErr result (λ e. e ≡ Error.OutOfMemory) }

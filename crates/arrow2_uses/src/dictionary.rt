@@ -5,7 +5,7 @@ ghost use Rattle.arrow2.specs.Binary.{binary_items};
 ghost use Rattle.arrow2.specs.Parts.{part};
 ghost use Rattle.arrow2.specs.Primitive.{primitive_items};
 ghost use Rattle.arrow2.specs.Failures.{FailsOnlyWith, IsInvalidArgumentOrOutOfMemory};
-ghost use Rattle.arrow2.specs.Selected.{selected};
+ghost use Rattle.arrow2.specs.Selections.{selection};
 ghost use Rattle.arrow2.specs.Storage.{items_of};
 ghost use Rattle.arrow2.specs.Take.{IsInBoundsOrNull, item_at};
 
@@ -100,7 +100,7 @@ impl Dictionary {
     /// `OutOfMemory` alone.
     pub fn filter(&self, mask: &Bitmap) -> Result<Dictionary>
         requires same_length { length (items_of mask.now) ≡ length self.now }
-        ensures ok { IfOk result (λ d. d ≡ selected self.now (items_of mask.now)) }
+        ensures ok { IfOk result (λ d. d ≡ selection self.now (items_of mask.now)) }
         ensures only { IfErr result (λ e. e ≡ Error.OutOfMemory) }
     {
         let keys = filter(&self.keys, mask)?;

@@ -3,7 +3,7 @@
 
 pub mod buffers;
 pub mod columns;
-pub mod compared;
+pub mod comparisons;
 pub mod dictionary;
 pub mod first;
 pub mod generic;

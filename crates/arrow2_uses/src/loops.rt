@@ -17,7 +17,7 @@ use std::convert::TryFrom;
 /// # Errors
 ///
 /// `Overflow` or `OutOfMemory`.
-pub fn negated(alloc: Global, b: &Bitmap) -> Result<Bitmap>
+pub fn negation(alloc: Global, b: &Bitmap) -> Result<Bitmap>
     ensures items { IfOk result (λ r. items_of r ≡ map not (items_of b.now)) }
     ensures only { IfErr result (λ e. (e ≡ Error.Overflow) ⊎ (e ≡ Error.OutOfMemory)) }
 {

@@ -1,6 +1,6 @@
 //! Columns chosen from a schema.
 ghost use Rattle.std.specs.Prelude.{◌≡◌, false, length, nat_lt, slice_index_or};
-ghost use Rattle.arrow2.specs.Filter.{accepted};
+ghost use Rattle.arrow2.specs.Filter.{filter_indexed};
 ghost use Rattle.arrow2.specs.Types.{physical};
 
 use arrow2::datatypes::{self, Schema};
@@ -8,7 +8,7 @@ use arrow2::laws;
 
 /// Returns the first `count` columns, or all where there are fewer.
 pub fn first_columns(schema: Schema, count: usize) -> Schema
-    ensures columns { result.fields.items ≡ accepted (λ position _.
+    ensures columns { result.fields.items ≡ filter_indexed (λ position _.
         nat_lt position count) schema.fields.items }
     ensures metadata { result.metadata ≡ schema.metadata }
 {
@@ -17,7 +17,7 @@ pub fn first_columns(schema: Schema, count: usize) -> Schema
 
 /// Returns the columns that may have nulls.
 pub fn nullable_columns(schema: Schema) -> Schema
-    ensures columns { result.fields.items ≡ accepted (λ _ field.
+    ensures columns { result.fields.items ≡ filter_indexed (λ _ field.
         field.is_nullable) schema.fields.items }
     ensures metadata { result.metadata ≡ schema.metadata }
 {
@@ -27,7 +27,7 @@ pub fn nullable_columns(schema: Schema) -> Schema
 /// Returns the columns at whose index the mask is true. Requires that the mask has one item for each column.
 pub fn masked_columns(schema: Schema, mask: &[bool]) -> Schema
     requires same_length { length mask.now ≡ length schema.fields.items }
-    ensures columns { result.fields.items ≡ accepted (λ position _.
+    ensures columns { result.fields.items ≡ filter_indexed (λ position _.
         slice_index_or mask.now position false) schema.fields.items }
     ensures metadata { result.metadata ≡ schema.metadata }
 {

@@ -3,7 +3,7 @@ ghost use Rattle.std.specs.Prelude.{◌≡◌, ◌<◌, ◌≤◌, ◌⊎◌, []
 ghost use Rattle.std.specs.Option.{option_copied};
 ghost use Rattle.arrow2.specs.Binary.{binary_items};
 ghost use Rattle.arrow2.specs.Buffers.{buffer_items};
-ghost use Rattle.arrow2.specs.Nested.{cut};
+ghost use Rattle.arrow2.specs.NestedLists.{cut};
 ghost use Rattle.arrow2.specs.Offsets.{start_of, lengths_of, last_of};
 ghost use Rattle.arrow2.specs.Primitive.{primitive_items};
 ghost use Rattle.arrow2.specs.Storage.{items_of};
@@ -65,7 +65,7 @@ fn length_of(text: Option<&str>) -> Option<u64>
 /// # Errors
 ///
 /// `OutOfMemory` alone.
-#[tactic(auto, using(arrow2::proofs::Nested::nested))]
+#[tactic(auto, using(arrow2::proofs::NestedLists::nested))]
 pub fn list_at(
     offsets: &OffsetsBuffer<i32>,
     texts: &Utf8Array<i32>,

@@ -6,10 +6,10 @@ use Rattle.std.proofs.Math.Seq.{take-add}
 use Rattle.std.proofs.lemmas.List.{take-take, drop-take, length-map, length-take, length-drop}
 use Rattle.std.proofs.lemmas.List.Elements.{All-from_get_or, All-head, All-tail}
 use Rattle.std.proofs.lemmas.Str.{IsUtf8-between, IsUtf8-from_ascii, IsUtf8-nil, IsUtf8-append, IsCharBoundary-from_ascii, IsCharBoundary-start, IsCharBoundary-from_rest}
-use Rattle.arrow2_offset.specs.Nested.{cut}
+use Rattle.arrow2_offset.specs.NestedLists.{cut}
 use Rattle.arrow2_model.specs.Parts.{part}
 use Rattle.arrow2_offset.proofs.Growing.{sum-take-le, sum-take-next}
-use Rattle.arrow2_offset.proofs.Nested.{at-cut, length-cut}
+use Rattle.arrow2_offset.proofs.NestedLists.{at-cut, length-cut}
 use Rattle.arrow2_offset.proofs.OffsetLists.{length-lengths_of, sum-cons}
 
 -- a part of a front is a part of the whole

@@ -1,8 +1,8 @@
 -- The bytes between offsets, and their faults (Arrow columnar format, "Variable-size Binary Layout").
 use Rattle.std.specs.Prelude.{◌≡◌, ℕ, ◌<◌, ◌≤◌, ℤ, List, [], length, take, drop, slice_index_or, All, IsUtf8}
-use Rattle.arrow2_offset.specs.Nested.{cut}
+use Rattle.arrow2_offset.specs.NestedLists.{cut}
 use Rattle.arrow2_offset.specs.Offsets.{AreOffsets, start_of, lengths_of, last_of}
-use Rattle.arrow2_offset.specs.Failures.{first_broken}
+use Rattle.arrow2_offset.specs.Failures.{first_broken_rule}
 use Rattle.arrow2_utf8.specs.declared.specification.BrokenTexts.{BrokenTexts}
 use Rattle.arrow2_utf8.specs.declared.specification.BrokenTexts.TheVariants.{PastTheValues, NotUtf8}
 use Rattle.arrow2_utf8.specs.declared.specification.BrokenTextArray.{BrokenTextArray}
@@ -28,7 +28,7 @@ abbrev pub ReportsBrokenTexts : List ℤ → List ℕ → BrokenTexts → Type 0
 ReportsBrokenTexts offsets values PastTheValues = length values < last_of offsets
 ReportsBrokenTexts offsets values (NotUtf8 k) = (last_of offsets ≤ length values) × IsFirstNonUtf8 (slot_values offsets values) k
 
--- the same for numbers that may not be offsets: where they are not, the fault is the rule of `first_broken`
+-- the same for numbers that may not be offsets: where they are not, the fault is the rule of `first_broken_rule`
 abbrev pub ReportsBrokenArray : List ℤ → List ℕ → BrokenTextArray → Type 0
-ReportsBrokenArray numbers values (Offsets rule) = (AreOffsets numbers → ⊥) × (rule ≡ first_broken numbers)
+ReportsBrokenArray numbers values (Offsets rule) = (AreOffsets numbers → ⊥) × (rule ≡ first_broken_rule numbers)
 ReportsBrokenArray numbers values (Texts broken) = AreOffsets numbers × ReportsBrokenTexts numbers values broken

@@ -124,7 +124,7 @@ fn try_check_slots<O: Offset>(offsets: &[O], values: &[u8]) -> Result<(), Broken
     if are_texts_at_once(offsets, values) {
         return Ok(());
     }
-    match first_broken(offsets, values) {
+    match first_broken_slot(offsets, values) {
         None => Ok(()),
         Some(slot) => Err(BrokenTexts::NotUtf8(slot)),
     }
@@ -174,7 +174,7 @@ fn is_boundary(bytes: &[u8], position: usize) -> bool
 
 /// Returns the first slot whose values are not UTF-8.
 #[tactic(auto, using(crate::proofs::Between::positions))]
-fn first_broken<O: Offset>(offsets: &[O], values: &[u8]) -> Option<usize>
+fn first_broken_slot<O: Offset>(offsets: &[O], values: &[u8]) -> Option<usize>
     requires valid { AreOffsets (map O.value offsets.now) }
     requires inside { last_of (map O.value offsets.now) ≤ length values.now }
     ensures { MatchOption result (All IsUtf8 (slot_values (map O.value offsets.now) values.now))

@@ -2,4 +2,4 @@ pub mod ValidItems
 pub mod ItemParts
 pub mod Slots
 pub mod Alike
-pub mod Printed
+pub mod ArrayTexts

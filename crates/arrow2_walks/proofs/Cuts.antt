@@ -7,14 +7,14 @@ use Rattle.std.proofs.lemmas.List.Sums.{sum_by-cons}
 use Rattle.arrow2_model.specs.Storage.{BitmapStorage, items_of}
 use Rattle.arrow2_model.specs.Touched.{slice_reads, cut_reads, lg, cut_budget, total_cut_budget}
 use Rattle.arrow2_model.proofs.Touched.{cut_le, cut_reads-is}
-use Rattle.arrow2_walks.specs.Cuts.{Piece, piece_of, piece_at, joined, front, back, cut_at, lengths, IsWithinBudget}
+use Rattle.arrow2_walks.specs.Cuts.{Piece, piece_of, piece_at, all_items, front, back, cut_at, lengths, IsWithinBudget}
 
 -- a cut keeps the joined items
-pub joined-cut : (ps : List Piece) (k i : ℕ) → joined (cut_at ps k i) ≡ joined ps
+pub joined-cut : (ps : List Piece) (k i : ℕ) → all_items (cut_at ps k i) ≡ all_items ps
 joined-cut [] k i = refl
 joined-cut (p ∷ ps) zero i =
     let items : Piece → List _ = λ q. q.items in
-    flat_map-cons items (front p i) (back p i ∷ ps) ∙ (ap (λ t. take i p.items ++ t) (flat_map-cons items (back p i) ps) ∙ (sym (append_assoc (take i p.items) (drop i p.items) (joined ps)) ∙ (ap (λ t. t ++ joined ps) (take-append-drop i p.items) ∙ sym (flat_map-cons items p ps))))
+    flat_map-cons items (front p i) (back p i ∷ ps) ∙ (ap (λ t. take i p.items ++ t) (flat_map-cons items (back p i) ps) ∙ (sym (append_assoc (take i p.items) (drop i p.items) (all_items ps)) ∙ (ap (λ t. t ++ all_items ps) (take-append-drop i p.items) ∙ sym (flat_map-cons items p ps))))
 joined-cut (p ∷ ps) (suc k) i =
     let items : Piece → List _ = λ q. q.items in
     flat_map-cons items p (cut_at ps k i) ∙ (ap (λ t. p.items ++ t) (joined-cut ps k i) ∙ sym (flat_map-cons items p ps))
@@ -111,7 +111,7 @@ cut_counted bs ns k i b w x y f r s t h is-b is-w put is-x first is-y second =
     omega (arith, a, d, u, is, first, second)
 
 -- the bound that callers see
-pub paid_bound : (ps : List Piece) (r : ℕ) → IsWithinBudget ps r → 8 * r ≤ 2 * (length (joined ps) * lg (length (joined ps))) + 30 * (length ps - 1)
+pub paid_bound : (ps : List Piece) (r : ℕ) → IsWithinBudget ps r → 8 * r ≤ 2 * (length (all_items ps) * lg (length (all_items ps))) + 30 * (length ps - 1)
 paid_bound ps r paid = let had = paid.paid in omega (arith, had)
 
 pub paid_some : (ps : List Piece) (r : ℕ) → IsWithinBudget ps r → 0 < length ps

@@ -1,10 +1,10 @@
 pub mod Cuts
 pub mod InnerRuns
-pub mod Left
+pub mod RemainingItems
 pub mod MaximalRuns
 pub mod RunLaws
 pub mod RunSteps
-pub mod Selected
+pub mod Selections
 pub mod Slots
 pub mod TakenRuns
 pub mod UniqueRuns

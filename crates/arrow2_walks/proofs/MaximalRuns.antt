@@ -1,10 +1,10 @@
 -- `runs` gives just the maximal runs.
 use Rattle.std.proofs.Common.{◌≡◌, ℕ, zero, suc, ◌+◌, ◌<◌, ◌≤◌, inl, inr, List, [], ◌∷◌, Bool, true, false, map, get_or, refl, sym, ap, ◌∙◌, arith}
 use Rattle.std.proofs.lemmas.Bool.{true≢false}
-use Rattle.arrow2_walks.specs.Runs.{moved, with_true, runs, IsRun, AllRuns, AreRisingPast, AreRising, InRuns, AreRuns}
+use Rattle.arrow2_walks.specs.Runs.{shift_run, with_true, runs, IsRun, AllRuns, AreRisingPast, AreRising, InRuns, AreRuns}
 
 -- a run stays one after an item is put before it, where the run isn't first or the item is false
-moved_run : (b : Bool) (xs : List Bool) (p : ℕ × ℕ) → (p.0 ≡ 0 → b ≡ false) → IsRun xs p → IsRun (b ∷ xs) (moved 1 p)
+moved_run : (b : Bool) (xs : List Bool) (p : ℕ × ℕ) → (p.0 ≡ 0 → b ≡ false) → IsRun xs p → IsRun (b ∷ xs) (shift_run 1 p)
 moved_run b xs (s, n) first r =
     let one : 1 + s ≡ suc s = omega arith in
     let at : (k : ℕ) → get_or (b ∷ xs) ((1 + s) + k) false ≡ get_or xs (s + k) false = λ k. let e : (1 + s) + k ≡ suc (s + k) = omega arith in rw e refl in
@@ -14,23 +14,23 @@ moved_run b xs (s, n) first r =
     ] e in
     record { some = r.some; set = λ k h. at k ∙ r.set k h; unset_before = before; unset_after = at n ∙ r.unset_after }
 
-moved_all_false : (xs : List Bool) (ps : List (ℕ × ℕ)) → AllRuns xs ps → AllRuns (false ∷ xs) (map (moved 1) ps)
+moved_all_false : (xs : List Bool) (ps : List (ℕ × ℕ)) → AllRuns xs ps → AllRuns (false ∷ xs) (map (shift_run 1) ps)
 moved_all_false xs [] a = tt
 moved_all_false xs (p ∷ ps) a = (moved_run false xs p (λ e. refl) a.0, moved_all_false xs ps a.1)
 
-moved_all_true : (xs : List Bool) (e : ℕ) (ps : List (ℕ × ℕ)) → AreRisingPast e ps → AllRuns xs ps → AllRuns (true ∷ xs) (map (moved 1) ps)
+moved_all_true : (xs : List Bool) (e : ℕ) (ps : List (ℕ × ℕ)) → AreRisingPast e ps → AllRuns xs ps → AllRuns (true ∷ xs) (map (shift_run 1) ps)
 moved_all_true xs e [] h a = tt
 moved_all_true xs e (p ∷ ps) h a = let l = h.0 in (moved_run true xs p (λ z. absurd (omega arith)) a.0, moved_all_true xs (p.0 + p.1) ps h.1 a.1)
 
-moved_past : (e f : ℕ) (ps : List (ℕ × ℕ)) → f ≤ suc e → AreRisingPast e ps → AreRisingPast f (map (moved 1) ps)
+moved_past : (e f : ℕ) (ps : List (ℕ × ℕ)) → f ≤ suc e → AreRisingPast e ps → AreRisingPast f (map (shift_run 1) ps)
 moved_past e f [] l h = tt
 moved_past e f (p ∷ ps) l h = let k = h.0 in (omega arith, moved_past (p.0 + p.1) (1 + p.0 + p.1) ps (omega arith) h.1)
 
-moved_rise : (ps : List (ℕ × ℕ)) → AreRising ps → AreRising (map (moved 1) ps)
+moved_rise : (ps : List (ℕ × ℕ)) → AreRising ps → AreRising (map (shift_run 1) ps)
 moved_rise [] h = tt
 moved_rise (p ∷ ps) h = moved_past (p.0 + p.1) (1 + p.0 + p.1) ps (omega arith) h
 
-moved_in : (k : ℕ) (ps : List (ℕ × ℕ)) → InRuns k ps → InRuns (suc k) (map (moved 1) ps)
+moved_in : (k : ℕ) (ps : List (ℕ × ℕ)) → InRuns k ps → InRuns (suc k) (map (shift_run 1) ps)
 moved_in k [] h = h
 moved_in k (p ∷ ps) (inl h) = let a = h.0 in let b = h.1 in inl (omega arith, omega arith)
 moved_in k (p ∷ ps) (inr h) = inr (moved_in k ps h)
@@ -53,11 +53,11 @@ alone xs h = record {
   unset_after = h;
 }
 
-false_runs : (xs : List Bool) (ps : List (ℕ × ℕ)) → AreRuns xs ps → AreRuns (false ∷ xs) (map (moved 1) ps)
+false_runs : (xs : List Bool) (ps : List (ℕ × ℕ)) → AreRuns xs ps → AreRuns (false ∷ xs) (map (shift_run 1) ps)
 false_runs xs ps h = record {
   maximal = moved_all_false xs ps h.maximal;
   rising = moved_rise ps h.rising;
-  all = λ k. elim k as (λ i. get_or (false ∷ xs) i false ≡ true → InRuns i (map (moved 1) ps)) [
+  all = λ k. elim k as (λ i. get_or (false ∷ xs) i false ≡ true → InRuns i (map (shift_run 1) ps)) [
     | zero ↦ λ e. absurd (true≢false (sym e))
     | suc i ↦ λ e. moved_in i ps (h.all i e)
   ];
@@ -84,7 +84,7 @@ true_runs xs ((zero, n) ∷ ps) h =
     record {
       maximal = (record { some = omega arith; set = trues; unset_before = λ j e. absurd (omega arith); unset_after = following }, moved_all_true xs (0 + n) ps h.rising h.maximal.1);
       rising = moved_past (0 + n) (0 + suc n) ps (omega arith) h.rising;
-      all = λ k. elim k as (λ i. get_or (true ∷ xs) i false ≡ true → InRuns i ((0, suc n) ∷ map (moved 1) ps)) [
+      all = λ k. elim k as (λ i. get_or (true ∷ xs) i false ≡ true → InRuns i ((0, suc n) ∷ map (shift_run 1) ps)) [
         | zero ↦ λ e. inl (omega arith, omega arith)
         | suc i ↦ λ e. elim (h.all i e) [
           | inl w ↦ let a = w.1 in inl (omega arith, omega arith)
@@ -98,7 +98,7 @@ true_runs xs ((suc s, n) ∷ ps) h =
     record {
       maximal = (alone xs none, moved_all_true xs 0 ((suc s, n) ∷ ps) rise h.maximal);
       rising = moved_past 0 (0 + 1) ((suc s, n) ∷ ps) (omega arith) rise;
-      all = λ k. elim k as (λ i. get_or (true ∷ xs) i false ≡ true → InRuns i ((0, 1) ∷ map (moved 1) ((suc s, n) ∷ ps))) [
+      all = λ k. elim k as (λ i. get_or (true ∷ xs) i false ≡ true → InRuns i ((0, 1) ∷ map (shift_run 1) ((suc s, n) ∷ ps))) [
         | zero ↦ λ e. inl (omega arith, omega arith)
         | suc i ↦ λ e. inr (moved_in i ((suc s, n) ∷ ps) (h.all i e))
       ];

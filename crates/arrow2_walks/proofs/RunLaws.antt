@@ -4,7 +4,7 @@ use Rattle.std.specs.Prelude.{slice_index_or}
 use Rattle.std.specs.List.{sum_by}
 use Rattle.std.proofs.lemmas.List.Sums.{sum_by-cons}
 use Rattle.arrow2_model.specs.Parts.{falses}
-use Rattle.arrow2_walks.specs.Runs.{moved, with_true, runs, AllRuns, AreRisingPast, AreRising, InRuns}
+use Rattle.arrow2_walks.specs.Runs.{shift_run, with_true, runs, AllRuns, AreRisingPast, AreRising, InRuns}
 use Rattle.arrow2_walks.proofs.MaximalRuns.{runs_are}
 use Rattle.arrow2_walks.proofs.UniqueRuns.{runs_unique}
 
@@ -37,10 +37,10 @@ runs_cover items k = (runs_are items).all k
 pub runs_cover_no_other : (items : List Bool) (k : ℕ) → InRuns k (runs items) → get_or items k false ≡ true
 runs_cover_no_other items k = in_a_run items k (runs items) (runs_are items).maximal
 
-moved-lengths : (ps : List (ℕ × ℕ)) → sum_by (λ p. p.1) (map (moved 1) ps) ≡ sum_by (λ p. p.1) ps
+moved-lengths : (ps : List (ℕ × ℕ)) → sum_by (λ p. p.1) (map (shift_run 1) ps) ≡ sum_by (λ p. p.1) ps
 moved-lengths [] = refl
 moved-lengths (p ∷ ps) =
-    let a = sum_by-cons (λ (q : ℕ × ℕ). q.1) (moved 1 p) (map (moved 1) ps) in
+    let a = sum_by-cons (λ (q : ℕ × ℕ). q.1) (shift_run 1 p) (map (shift_run 1) ps) in
     let b = sum_by-cons (λ (q : ℕ × ℕ). q.1) p ps in
     let r = moved-lengths ps in
     omega (arith, a, b, r)
@@ -48,12 +48,12 @@ moved-lengths (p ∷ ps) =
 with_true-lengths : (ps : List (ℕ × ℕ)) → sum_by (λ p. p.1) (with_true ps) ≡ suc (sum_by (λ p. p.1) ps)
 with_true-lengths [] = refl
 with_true-lengths ((zero, n) ∷ ps) =
-    let a = sum_by-cons (λ (q : ℕ × ℕ). q.1) (0, suc n) (map (moved 1) ps) in
+    let a = sum_by-cons (λ (q : ℕ × ℕ). q.1) (0, suc n) (map (shift_run 1) ps) in
     let b = sum_by-cons (λ (q : ℕ × ℕ). q.1) (0, n) ps in
     let r = moved-lengths ps in
     omega (arith, a, b, r)
 with_true-lengths ((suc s, n) ∷ ps) =
-    let a = sum_by-cons (λ (q : ℕ × ℕ). q.1) (0, 1) (map (moved 1) ((suc s, n) ∷ ps)) in
+    let a = sum_by-cons (λ (q : ℕ × ℕ). q.1) (0, 1) (map (shift_run 1) ((suc s, n) ∷ ps)) in
     let r = moved-lengths ((suc s, n) ∷ ps) in
     omega (arith, a, r)
 

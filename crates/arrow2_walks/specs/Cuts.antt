@@ -24,8 +24,8 @@ abbrev pub piece_at : List Piece → ℕ → Piece
 piece_at ps k = slice_index_or ps k (record { items = []; bytes = []; offset = 0 })
 
 -- the items of all pieces, one piece after the other
-abbrev pub joined : List Piece → List Bool
-joined ps = flat_map (λ p. p.items) ps
+abbrev pub all_items : List Piece → List Bool
+all_items ps = flat_map (λ p. p.items) ps
 
 -- a piece's first i items, stored at its bit; and its other items, stored i bits further on: both over its bytes
 abbrev pub front : Piece → ℕ → Piece
@@ -48,4 +48,4 @@ lengths ps = map (λ p. length p.items) ps
 -- plus 30 for each cut
 pub record IsWithinBudget (ps : List Piece) (reads : ℕ) : Type 0 where
   pub some : 0 < length ps
-  pub paid : 8 * reads + total_cut_budget (lengths ps) ≤ cut_budget (length (joined ps)) + 30 * (length ps - 1)
+  pub paid : 8 * reads + total_cut_budget (lengths ps) ≤ cut_budget (length (all_items ps)) + 30 * (length ps - 1)

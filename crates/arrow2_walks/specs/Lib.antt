@@ -1,7 +1,7 @@
 pub mod Cuts
 pub mod Cursor
 pub mod Runs
-pub mod Selected
+pub mod Selections
 pub mod Slots
 pub mod Zipped
 pub mod Zips

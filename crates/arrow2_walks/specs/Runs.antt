@@ -36,21 +36,21 @@ pub record AreRuns (items : List Bool) (ps : List (ℕ × ℕ)) : Type 0 where
   pub all : (k : ℕ) → get_or items k false ≡ true → InRuns k ps
 
 -- a run, n indices further on
-abbrev pub moved : ℕ → ℕ × ℕ → ℕ × ℕ
-moved n p = (n + p.0, p.1)
+abbrev pub shift_run : ℕ → ℕ × ℕ → ℕ × ℕ
+shift_run n p = (n + p.0, p.1)
 
 -- the runs of `true ∷ items`, by the runs of `items`
 abbrev pub with_true : List (ℕ × ℕ) → List (ℕ × ℕ)
 with_true [] = (0, 1) ∷ []
-with_true ((zero, n) ∷ ps) = (0, suc n) ∷ map (moved 1) ps
-with_true ((suc s, n) ∷ ps) = (0, 1) ∷ map (moved 1) ((suc s, n) ∷ ps)
+with_true ((zero, n) ∷ ps) = (0, suc n) ∷ map (shift_run 1) ps
+with_true ((suc s, n) ∷ ps) = (0, 1) ∷ map (shift_run 1) ((suc s, n) ∷ ps)
 
 -- the runs of a list, rising: the one list that `AreRuns` describes
 unfoldable pub runs : List Bool → List (ℕ × ℕ)
 runs [] = []
-runs (false ∷ items) = map (moved 1) (runs items)
+runs (false ∷ items) = map (shift_run 1) (runs items)
 runs (true ∷ items) = with_true (runs items)
 
 -- the runs of the items from index `at` on, by their indices into the whole list
 abbrev pub runs_from : List Bool → ℕ → List (ℕ × ℕ)
-runs_from items at = map (moved at) (runs (drop at items))
+runs_from items at = map (shift_run at) (runs (drop at items))

@@ -3,7 +3,7 @@ ghost use Rattle.std.specs.Prelude.{◌≡◌, ◌↔◌, ℕ, ◌+◌, ◌<◌,
 ghost use Rattle.std.specs.List.{sum_by, flat_map};
 ghost use Rattle.arrow2_model.specs.Parts.{falses, part};
 ghost use Rattle.arrow2_walks.specs.Runs.{runs, AreRuns, InRuns};
-ghost use Rattle.arrow2_walks.specs.Selected.{selected};
+ghost use Rattle.arrow2_walks.specs.Selections.{selection};
 ghost use Rattle.arrow2_walks.specs.Slots.{OptionalZipYieldsFirst, OptionalZipYieldsLast, ZipYieldsFirst, ZipYieldsLast};
 
 /// `rest` maps the iterator over values to the list of items that it has still to yield. `valid` does so for the
@@ -65,5 +65,5 @@ pub fn runs_lie_inside()
 /// The parts of a list that the runs of a mask cut out, one after the other, are the items that the mask selects.
 pub fn runs_cut_out_the_selected_items<X>()
     ensures { (xs : List X) (mask : List Bool) → length mask ≡ length xs →
-        flat_map (λ run. part xs run.0 run.1) (runs mask) ≡ selected xs mask }
+        flat_map (λ run. part xs run.0 run.1) (runs mask) ≡ selection xs mask }
 {}

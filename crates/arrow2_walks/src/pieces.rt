@@ -3,7 +3,7 @@ ghost use Rattle.std.specs.Prelude.{◌≡◌, ◌+◌, ◌-◌, ◌*◌, ◌<�
 ghost use Rattle.arrow2_model.specs.Storage.{BitmapStorage, items_of};
 ghost use Rattle.arrow2_model.specs.Touched.{cut_reads, lg, slice_reads};
 ghost use Rattle.arrow2_types.specs.declared.error.Error.TheVariants.{OutOfMemory};
-ghost use Rattle.arrow2_walks.specs.Cuts.{IsWithinBudget, back, cut_at, front, joined, piece_at, piece_of};
+ghost use Rattle.arrow2_walks.specs.Cuts.{IsWithinBudget, back, cut_at, front, all_items, piece_at, piece_of};
 
 use arrow2_bitmap::Bitmap;
 use arrow2_bits::Reads;
@@ -58,7 +58,7 @@ impl Pieces {
         ensures pieces { result ≡ length self.now.pieces }
         ensures some { 0 < result }
         // A fact on the value, not on this call, which counts no byte: the cuts so far are within their budget.
-        ensures bound { let n = length (joined self.now.pieces) in
+        ensures bound { let n = length (all_items self.now.pieces) in
             8 * self.now.reads ≤ 2 * (n * lg n) + 30 * (result - 1) }
     {
         // For the proof alone: reading a field gives the type's invariant, from which `bound` follows.
@@ -96,8 +96,8 @@ impl Pieces {
         ensures reads { OnOk result (let old = piece_at self.old.pieces p in
             self.new.reads ≡ self.old.reads + cut_reads old.offset (length old.items) i) }
         // In any case the items of all pieces together stay, and the bound on reads holds.
-        ensures joined { joined self.new.pieces ≡ joined self.old.pieces }
-        ensures bound { let n = length (joined self.old.pieces) in
+        ensures joined { all_items self.new.pieces ≡ all_items self.old.pieces }
+        ensures bound { let n = length (all_items self.old.pieces) in
             8 * self.new.reads ≤ 2 * (n * lg n) + 30 * (length self.new.pieces - 1) }
         // A cut that fails changes and counts nothing.
         ensures err { OnErr result (self.new ≡ self.old) }

@@ -40,7 +40,13 @@ fn item_at(position: usize, salt: usize, nulls: usize) -> Option<i64> {
 }
 
 /// Returns the items at the indices below `len`.
-fn listed(rt: &impl Abort, alloc: Global, len: usize, salt: usize, nulls: usize) -> Vec<Option<i64>>
+fn numbers_below(
+    rt: &impl Abort,
+    alloc: Global,
+    len: usize,
+    salt: usize,
+    nulls: usize,
+) -> Vec<Option<i64>>
     ensures { length result.items ≡ len }
 {
     let mut items = Vec::new(alloc);
@@ -132,14 +138,14 @@ fn is_compared(
 /// Checks the six comparisons of two lists of equal length.
 fn comparisons_agree(rt: &impl Abort, alloc: Global, left: &[Option<i64>], right: &[Option<i64>]) {
     let (a, b) = (array_of(rt, alloc, left, 5), array_of(rt, alloc, right, 66));
-    are_compared(rt, alloc, (&a, left), (&b, right));
+    compares_pairs(rt, alloc, (&a, left), (&b, right));
 }
 
 /// An array of numbers, and the list that it is to be.
 type Of<'a, 'b> = (&'a PrimitiveArray<i64>, &'b [Option<i64>]);
 
 /// Checks the six comparisons of two arrays.
-fn are_compared(rt: &impl Abort, alloc: Global, (a, left): Of, (b, right): Of) {
+fn compares_pairs(rt: &impl Abort, alloc: Global, (a, left): Of, (b, right): Of) {
     assert_that(rt, a.len() == b.len());
     let list = orders(rt, alloc, left, right);
     let orders = list.as_slice();
@@ -156,8 +162,8 @@ fn comparisons_of_arrays_agree_with_lists(rt: HostRuntime) {
     let alloc = rt.alloc();
     for len in LENGTHS {
         for (nulls, others) in [(0, 0), (3, 0), (0, 5), (3, 5)] {
-            let left = listed(&rt, alloc, len, 3, nulls);
-            let right = listed(&rt, alloc, len, 4, others);
+            let left = numbers_below(&rt, alloc, len, 3, nulls);
+            let right = numbers_below(&rt, alloc, len, 4, others);
             comparisons_agree(&rt, alloc, left.as_slice(), right.as_slice());
         }
     }
@@ -207,7 +213,7 @@ fn nulls_and_the_least_and_greatest_items_are_those_of_lists(rt: HostRuntime) {
     let alloc = rt.alloc();
     for len in LENGTHS {
         for nulls in [0, 1, 2, 64] {
-            let items = listed(&rt, alloc, len, 5, nulls);
+            let items = numbers_below(&rt, alloc, len, 5, nulls);
             nulls_agree(&rt, alloc, items.as_slice());
         }
     }
@@ -323,7 +329,7 @@ fn last_bits(rt: &impl Abort, mask: Bitmap, len: usize) -> Bitmap
 }
 
 /// Returns the items of a list where the flags are true.
-fn kept<T: Copy>(rt: &impl Abort, alloc: Global, flags: &[bool], items: &[T]) -> Vec<T> {
+fn keep<T: Copy>(rt: &impl Abort, alloc: Global, flags: &[bool], items: &[T]) -> Vec<T> {
     let mut kept = Vec::new(alloc);
     for (flag, item) in flags.iter().zip(items) {
         if *flag {
@@ -349,14 +355,14 @@ fn either<T: Copy>(
 }
 
 /// Returns the items of two lists, one after the other.
-fn joined<T: Copy>(rt: &impl Abort, alloc: Global, left: &[T], right: &[T]) -> Vec<T> {
+fn concatenation<T: Copy>(rt: &impl Abort, alloc: Global, left: &[T], right: &[T]) -> Vec<T> {
     let mut items = ok(rt, left.to_vec(alloc));
     ok(rt, items.extend_from_slice(right));
     items
 }
 
 /// Returns the texts at the indices below `len`, null at each index that `nulls` divides. With 0 none is null.
-fn texts_listed(
+fn texts_below(
     rt: &impl Abort,
     alloc: Global,
     len: usize,
@@ -434,18 +440,18 @@ fn text_kernels_agree(
 {
     let (a, b) = (texts(rt, alloc, left), texts(rt, alloc, right));
     let mask = mask_of(rt, alloc, flags);
-    let list = kept(rt, alloc, flags, left);
+    let list = keep(rt, alloc, flags, left);
     has_texts(rt, filter_binary(&a, &mask), list.as_slice());
     let list = either(rt, alloc, flags, left, right);
     has_texts(rt, if_then_else_binary(&mask, &a, &b), list.as_slice());
-    let list = joined(rt, alloc, left, right);
+    let list = concatenation(rt, alloc, left, right);
     has_texts(rt, concatenate_binary(&a, &[&b]), list.as_slice());
 }
 
 /// Checks the kernels of texts at a length.
 fn text_kernels_agree_at(rt: &impl Abort, alloc: Global, len: usize, nulls: usize, others: usize) {
-    let left = texts_listed(rt, alloc, len, nulls);
-    let right = texts_listed(rt, alloc, len, others);
+    let left = texts_below(rt, alloc, len, nulls);
+    let right = texts_below(rt, alloc, len, others);
     let flags = flags_of(rt, alloc, len);
     text_kernels_agree(
         rt,
@@ -470,7 +476,7 @@ fn kernels_of_texts_agree_with_lists(rt: HostRuntime) {
 }
 
 /// Returns the booleans at the indices below `len`, null at each index that `nulls` divides.
-fn booleans_listed(rt: &impl Abort, alloc: Global, len: usize, nulls: usize) -> Vec<Option<bool>>
+fn booleans_below(rt: &impl Abort, alloc: Global, len: usize, nulls: usize) -> Vec<Option<bool>>
     ensures { length result.items ≡ len }
 {
     let mut items = Vec::new(alloc);
@@ -527,7 +533,7 @@ fn boolean_kernels_agree(
 {
     let (a, b) = (booleans(rt, alloc, left), booleans(rt, alloc, right));
     let mask = mask_of(rt, alloc, flags);
-    let list = kept(rt, alloc, flags, left);
+    let list = keep(rt, alloc, flags, left);
     assert_booleans(rt, alloc, filter_boolean(&a, &mask), list.as_slice());
     let list = either(rt, alloc, flags, left, right);
     assert_booleans(
@@ -536,7 +542,7 @@ fn boolean_kernels_agree(
         if_then_else_boolean(&mask, &a, &b),
         list.as_slice(),
     );
-    let list = joined(rt, alloc, left, right);
+    let list = concatenation(rt, alloc, left, right);
     assert_booleans(rt, alloc, concatenate_boolean(&a, &[&b]), list.as_slice());
 }
 
@@ -548,8 +554,8 @@ fn boolean_kernels_agree_at(
     nulls: usize,
     others: usize,
 ) {
-    let left = booleans_listed(rt, alloc, len, nulls);
-    let right = booleans_listed(rt, alloc, len, others);
+    let left = booleans_below(rt, alloc, len, nulls);
+    let right = booleans_below(rt, alloc, len, others);
     let flags = flags_of(rt, alloc, len);
     boolean_kernels_agree(
         rt,

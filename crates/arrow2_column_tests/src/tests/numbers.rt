@@ -75,7 +75,7 @@ fn mask_of(rt: &impl Abort, alloc: Global, len: usize) -> Bitmap
 }
 
 /// Returns the items that a test of their indices keeps.
-fn listed(rt: &impl Abort, alloc: Global, len: usize, only_kept: bool) -> Vec<Option<i64>> {
+fn items_below(rt: &impl Abort, alloc: Global, len: usize, only_kept: bool) -> Vec<Option<i64>> {
     let mut items = Vec::new(alloc);
     for position in 0..len {
         if !only_kept || is_kept(position) {
@@ -89,9 +89,9 @@ fn listed(rt: &impl Abort, alloc: Global, len: usize, only_kept: bool) -> Vec<Op
 fn kernels_agree(rt: &impl Abort, alloc: Global, len: usize) {
     let array = array_of(rt, alloc, len);
     let mask = mask_of(rt, alloc, len);
-    let kept = listed(rt, alloc, len, true);
+    let kept = items_below(rt, alloc, len, true);
     assert_array(rt, alloc, filter(&array, &mask), kept.as_slice());
-    let all = listed(rt, alloc, len, false);
+    let all = items_below(rt, alloc, len, false);
     let chosen = if_then_else(&mask, &array, &array);
     assert_array(rt, alloc, chosen, all.as_slice());
     assert_array(rt, alloc, concatenate(&array, &[]), all.as_slice());
@@ -163,7 +163,7 @@ fn comparisons_are_null_where_an_item_is(rt: HostRuntime) {
 }
 
 /// Returns the array that the calls of a builder make: two values, a null, a value, and a value twice.
-fn built(rt: &impl Abort, alloc: Global) -> PrimitiveArray<u8> {
+fn array_of_builder(rt: &impl Abort, alloc: Global) -> PrimitiveArray<u8> {
     let mut items = ok(rt, MutablePrimitiveArray::<u8>::new(alloc));
     ok(rt, items.reserve(6));
     ok(rt, items.extend_from_slice(&[1, 2]));
@@ -200,7 +200,7 @@ fn is_part(rt: &impl Abort, part: PrimitiveArray<u8>) {
 #[test]
 fn each_call_of_a_builder_is_made(rt: HostRuntime) {
     let alloc = rt.alloc();
-    let array = built(&rt, alloc);
+    let array = array_of_builder(&rt, alloc);
     is_built(&rt, alloc, &ok(&rt, array.clone()));
     is_built(&rt, alloc, &array);
     assert!(rt; array.len() == 6);
@@ -355,7 +355,7 @@ fn an_array_of_its_own_grows_again(rt: HostRuntime) {
 }
 
 /// Checks that a growing array of `len` items was made, whose capacity is at least `len`, and returns it frozen.
-fn frozen(
+fn freezes(
     rt: &impl Abort,
     call: Result<MutablePrimitiveArray<i64>>,
     len: usize,
@@ -383,7 +383,7 @@ fn arrays_are_made_of_iterators(rt: HostRuntime) {
     let alloc = rt.alloc();
     let source = array_of(&rt, alloc, 300);
     let items = MutablePrimitiveArray::try_from_iter(alloc, source.iter());
-    let array = frozen(&rt, items, 300);
+    let array = freezes(&rt, items, 300);
     assert_that(&rt, array == source);
     let values = array.non_null_values_iter().collect(alloc);
     begins(&rt, values, 200, &[-100, -98, -97]);

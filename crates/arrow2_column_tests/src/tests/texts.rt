@@ -164,7 +164,7 @@ fn copies(rt: &impl Abort, call: Result<MutableUtf8Array<i64>>, texts: &Utf8Arra
 }
 
 /// Takes the last item off, which must be there.
-fn popped(rt: &impl Abort, items: &mut MutableBinaryArray<i64>) -> Option<Vec<u8>> {
+fn last_item(rt: &impl Abort, items: &mut MutableBinaryArray<i64>) -> Option<Vec<u8>> {
     ok(rt, items.pop()).expect(rt, "an item")
 }
 
@@ -176,9 +176,9 @@ fn ends(
     bytes: &[u8],
 ) {
     let mut items = ok(rt, call);
-    let last = popped(rt, &mut items);
+    let last = last_item(rt, &mut items);
     assert_that(rt, last.expect(rt, "no null").as_slice() == bytes);
-    assert_that(rt, popped(rt, &mut items).is_none());
+    assert_that(rt, last_item(rt, &mut items).is_none());
     assert_that(rt, items.len() == 1);
     assert_that(rt, ok(rt, items.freeze()) == *first);
 }

@@ -2,7 +2,7 @@
 ghost use Rattle.std.specs.Prelude.{◌≡◌, ◌≢◌, ◌+◌, ◌-◌, ◌<◌, ◌↔◌, ◌⊎◌, pos, map, length, IfNone, IfSome};
 ghost use Rattle.arrow2_offset.specs.Offsets.{AreOffsets, AreOffsetsUpTo, last_offset, lengths_of, offsets_list};
 ghost use Rattle.arrow2_model.specs.Parts.{part};
-ghost use Rattle.arrow2_offset.specs.Failures.{first_broken};
+ghost use Rattle.arrow2_offset.specs.Failures.{first_broken_rule};
 ghost use Rattle.arrow2_ffi.specs.OffsetWrites.{RebasesTo, WritesFromOffsets};
 ghost use Rattle.arrow2_ffi.specs.Rules.{rule_code, ReportsBrokenRule};
 
@@ -31,7 +31,7 @@ pub(crate) fn error_code<O: Offset>(offsets: &[O]) -> Option<u32>
 pub(crate) fn check<O: Offset>(offsets: &[O]) -> u32
     ensures ok { result ≡ ARROW2_OK ↔ AreOffsets (map O.value offsets.now) }
     ensures broken { result ≢ ARROW2_OK →
-        result ≡ rule_code (first_broken (map O.value offsets.now)) }
+        result ≡ rule_code (first_broken_rule (map O.value offsets.now)) }
 {
     error_code(offsets).unwrap_or(ARROW2_OK)
 }

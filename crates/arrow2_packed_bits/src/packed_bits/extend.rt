@@ -6,7 +6,7 @@ ghost use Rattle.arrow2_model.specs.Parts.{part};
 ghost use Rattle.arrow2_model.specs.Words.{full_words};
 
 use crate::packed_bits::PackedBits;
-use crate::packing::{padded, word_of};
+use crate::packing::{padded_block, word_of};
 use arrow2_bits::BitChunks;
 use arrow2_chunk::BitChunk;
 use arrow2_types::GrowthError;
@@ -131,7 +131,7 @@ impl PackedBits {
         for block in blocks {
             self.push_word(word_of(block), 64)?;
         }
-        self.push_word(word_of(&padded(rest)), rest.len())
+        self.push_word(word_of(&padded_block(rest)), rest.len())
     }
 
     /// Appends the items of an iterator by words.

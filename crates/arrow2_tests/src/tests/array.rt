@@ -84,7 +84,7 @@ fn both_parts_are_taken_and_put_together(rt: HostRuntime) {
 }
 
 /// The call made an array with the text.
-fn made(rt: &impl Abort, alloc: Global, made: Result<BooleanArray>, text: &str) {
+fn has_text(rt: &impl Abort, alloc: Global, made: Result<BooleanArray>, text: &str) {
     let array = ok(rt, made);
     shows(rt, alloc, &array, text);
 }
@@ -99,7 +99,7 @@ fn arrays_are_made_of_options_and_grow(rt: HostRuntime) {
     let alloc = rt.alloc();
     let items = [Some(true), None, Some(false)];
     let text = "BooleanArray[true, None, false]";
-    made(&rt, alloc, BooleanArray::from_options(alloc, &items), text);
+    has_text(&rt, alloc, BooleanArray::from_options(alloc, &items), text);
     let other = array_of(&rt, alloc, 0b10101010, 0b11001100);
     let mut array = MutableBooleanArray::new(alloc);
     grew(&rt, array.reserve(2));
@@ -111,5 +111,5 @@ fn arrays_are_made_of_options_and_grow(rt: HostRuntime) {
     assert_that(&rt, array.pop() == Some(Some(true)));
     assert_that(&rt, !array.is_empty());
     let text = "BooleanArray[false, None, true, true, None, false]";
-    made(&rt, alloc, array.freeze(), text);
+    has_text(&rt, alloc, array.freeze(), text);
 }

@@ -19,7 +19,7 @@ fn bitmap_of(rt: &impl Abort, alloc: Global, bytes: &[u8], len: usize) -> Bitmap
 }
 
 /// The bitmap without its last item, which was true.
-fn popped(rt: &impl Abort, made: Result<MutableBitmap>) -> Result<MutableBitmap> {
+fn without_last(rt: &impl Abort, made: Result<MutableBitmap>) -> Result<MutableBitmap> {
     let mut bitmap = ok(rt, made);
     assert_that(rt, bitmap.pop() == Some(true));
     Ok(bitmap)
@@ -100,10 +100,10 @@ fn bytes_that_grow_are_canonical(rt: HostRuntime) {
     let nine = MutableBitmap::try_new(bytes_of(&rt, alloc, &[255, 255]), 9);
     stores(&rt, nine, &[255, 1]);
     let nine = MutableBitmap::from_len_set(alloc, 9);
-    stores(&rt, popped(&rt, nine), &[255]);
+    stores(&rt, without_last(&rt, nine), &[255]);
     stores(&rt, MutableBitmap::from_len_set(alloc, 3), &[7]);
     let three = MutableBitmap::from_len_set(alloc, 3);
-    stores(&rt, popped(&rt, three), &[3]);
+    stores(&rt, without_last(&rt, three), &[3]);
     let zeros = ok(&rt, MutableBitmap::from_len_zeroed(alloc, 3));
     stores(&rt, Ok(!zeros), &[7]);
 }
@@ -169,7 +169,7 @@ fn collect_again(alloc: Global, bitmap: &Bitmap) -> Result<MutableBitmap>
 }
 
 /// The same of an iterator that takes the bitmap, and of a shared result.
-fn collect_taken(alloc: Global, bitmap: Bitmap) -> Result<Bitmap>
+fn collect_by_value(alloc: Global, bitmap: Bitmap) -> Result<Bitmap>
     ensures { IfOk result (λ b. items_of b ≡ items_of bitmap) }
 {
     Bitmap::try_from_iter(alloc, bitmap)
@@ -190,6 +190,6 @@ fn items_are_collected_in_order(rt: HostRuntime) {
     let frozen = has_fifths(&rt, grown.and_then(Bitmap::try_from));
     let again = collect_again(alloc, &frozen).and_then(Bitmap::try_from);
     let again = has_fifths(&rt, again);
-    let taken = has_fifths(&rt, collect_taken(alloc, frozen));
+    let taken = has_fifths(&rt, collect_by_value(alloc, frozen));
     assert_that(&rt, again == taken);
 }

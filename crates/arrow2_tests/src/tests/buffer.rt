@@ -3,7 +3,7 @@ ghost use Rattle.std.specs.Prelude.{◌≡◌, length, replicate, IfOk};
 ghost use Rattle.std.specs.Bool.{OnTrue, OnFalse};
 ghost use Rattle.arrow2_model.specs.Buffers.{buffer_items, whole_buffer};
 
-use super::checks::{assert_that, has, left, ok, right, shows};
+use super::checks::{assert_that, has, left_value, ok, right, shows};
 use arrow2_buffer::laws::written_items_are_the_items;
 use arrow2_buffer::{Buffer, Bytes, IntoIter};
 use arrow2_types::{Error, Result};
@@ -58,7 +58,7 @@ fn an_unshared_whole_gives_its_vector(rt: HostRuntime) {
     let whole = buffer_of(&rt, alloc, &[1, 2, 3]).sliced(0, 3).into_mut();
     has(&rt, right(&rt, whole).as_slice(), &[1, 2, 3]);
     let part = buffer_of(&rt, alloc, &[1, 2, 3]).sliced(1, 2).into_mut();
-    has(&rt, left(&rt, part).as_slice(), &[2, 3]);
+    has(&rt, left_value(&rt, part).as_slice(), &[2, 3]);
     let whole = buffer_of(&rt, alloc, &[1, 2, 3]);
     let shared = ok(&rt, whole.clone());
     assert_that(&rt, whole.into_mut().is_left());
@@ -83,7 +83,7 @@ fn only_an_unshared_buffer_is_written(rt: HostRuntime) {
 }
 
 /// Shows a fact for a caller of `try_from_iter`: the items of the iterator.
-fn collected(alloc: Global, chunks: IntoIter<u32>) -> Result<Buffer<u32>>
+fn collect_items(alloc: Global, chunks: IntoIter<u32>) -> Result<Buffer<u32>>
     ensures { IfOk result (λ buffer. buffer ≡ whole_buffer chunks) }
 {
     Buffer::try_from_iter(alloc, chunks)
@@ -107,7 +107,7 @@ fn an_iterator_yields_each_item_once(rt: HostRuntime) {
     let text = "IntoIter { values: [1, 2, 3, 4], index: 1, end: 3 }";
     shows(&rt, alloc, &chunks, text);
     let copy = ok(&rt, chunks.clone());
-    has_items(&rt, collected(alloc, copy), &[2, 3]);
+    has_items(&rt, collect_items(alloc, copy), &[2, 3]);
     has(
         &rt,
         &[chunks.nth(usize::MAX), chunks.next_back()],

@@ -12,7 +12,7 @@ use std::fmt::{Debug, Display};
 use std::process::Abort;
 
 /// Returns the left value of a call that returned one.
-pub(super) fn left<L, R: Drop>(rt: &impl Abort, call: Either<L, R>) -> L {
+pub(super) fn left_value<L, R: Drop>(rt: &impl Abort, call: Either<L, R>) -> L {
     call.left().expect(rt, "it is whole, and not shared")
 }
 
@@ -65,7 +65,7 @@ pub(super) fn bitmap_from(rt: &impl Abort, alloc: Global, items: &[bool]) -> Bit
 }
 
 /// The bitmap, to be changed.
-pub(super) fn thawed(rt: &impl Abort, bitmap: &Bitmap) -> MutableBitmap
+pub(super) fn mutable_copy(rt: &impl Abort, bitmap: &Bitmap) -> MutableBitmap
     ensures { result.items ≡ items_of bitmap.now }
 {
     let copy = ok(rt, bitmap.clone());
@@ -97,13 +97,13 @@ pub(super) fn stores(rt: &impl Abort, made: Result<MutableBitmap>, bytes: &[u8])
 }
 
 /// Returns the error of a call that failed.
-pub(super) fn failed<T: Drop, E>(rt: &impl Abort, call: std::result::Result<T, E>) -> E {
+pub(super) fn error_of<T: Drop, E>(rt: &impl Abort, call: std::result::Result<T, E>) -> E {
     call.err().expect(rt, "accepted")
 }
 
 /// The call failed with the text.
 pub(super) fn rejects<T: Drop>(rt: &impl Abort, alloc: Global, made: Result<T>, text: &str) {
-    prints(rt, alloc, &failed(rt, made), text);
+    prints(rt, alloc, &error_of(rt, made), text);
 }
 
 /// The call returned `Overflow`.

@@ -94,7 +94,7 @@ fn names(rt: &impl Abort, metadata: &Metadata, wanted: Option<(String, Option<St
 }
 
 /// Metadata of one text under a name.
-fn annotated(rt: &impl Abort, alloc: Global, name: &str, value: &str) -> Metadata {
+fn metadata_of(rt: &impl Abort, alloc: Global, name: &str, value: &str) -> Metadata {
     let mut metadata = Metadata::new(alloc);
     annotate(rt, alloc, &mut metadata, name, value);
     metadata
@@ -106,8 +106,8 @@ fn metadata_names_an_extension(rt: HostRuntime) {
     let (name, value) = ("ARROW:extension:name", "ARROW:extension:metadata");
     names(&rt, &Metadata::new(alloc), None);
     let wanted = Some((text(&rt, alloc, "a"), None));
-    names(&rt, &annotated(&rt, alloc, name, "a"), wanted);
-    let mut metadata = annotated(&rt, alloc, value, "b");
+    names(&rt, &metadata_of(&rt, alloc, name, "a"), wanted);
+    let mut metadata = metadata_of(&rt, alloc, value, "b");
     names(&rt, &metadata, None);
     annotate(&rt, alloc, &mut metadata, name, "a");
     let wanted = Some((text(&rt, alloc, "a"), Some(text(&rt, alloc, "b"))));
@@ -126,7 +126,7 @@ fn has_fields(rt: &impl Abort, schema: &Schema, wanted: &[&str]) {
 fn three_fields(rt: &impl Abort, alloc: Global) -> Schema {
     let (a, b) = (field(rt, alloc, "a"), field(rt, alloc, "b"));
     let fields = ok(rt, vec![in alloc; a, b, field(rt, alloc, "c")]);
-    Schema::from_fields(alloc, fields).with_metadata(annotated(rt, alloc, "k", "v"))
+    Schema::from_fields(alloc, fields).with_metadata(metadata_of(rt, alloc, "k", "v"))
 }
 
 #[test]
@@ -136,7 +136,7 @@ fn a_filter_goes_by_the_original_indices(rt: HostRuntime) {
     is_copied(&rt, &schema);
     let even = schema.filter(|index, _| index % 2 == 0);
     has_fields(&rt, &even, &["a", "c"]);
-    is_equal(&rt, &even.metadata, &annotated(&rt, alloc, "k", "v"));
+    is_equal(&rt, &even.metadata, &metadata_of(&rt, alloc, "k", "v"));
     let named = even.filter(|_, field| field.name.as_str() == "c");
     has_fields(&rt, &named, &["c"]);
 }
@@ -144,7 +144,7 @@ fn a_filter_goes_by_the_original_indices(rt: HostRuntime) {
 #[test]
 fn a_copy_of_a_field_is_equal_and_hashes_alike(rt: HostRuntime) {
     let alloc = rt.alloc();
-    let one = field(&rt, alloc, "a").with_metadata(annotated(&rt, alloc, "k", "v"));
+    let one = field(&rt, alloc, "a").with_metadata(metadata_of(&rt, alloc, "k", "v"));
     is_copied(&rt, &one);
     is_equal(&rt, one.data_type(), &DataType::UInt8);
     let list = DataType::List(ok(&rt, Box::new(alloc, one)));

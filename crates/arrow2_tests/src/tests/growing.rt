@@ -14,7 +14,7 @@ fn grown_from(rt: &impl Abort, alloc: Global, items: &[bool]) -> MutableBitmap {
 }
 
 /// Appends bits of the bytes from bit `offset` on to the items.
-fn extended(
+fn extend(
     rt: &impl Abort,
     alloc: Global,
     items: &[bool],
@@ -47,13 +47,13 @@ fn has_runs(
 fn bits_and_words_are_appended_within_a_byte(rt: HostRuntime) {
     let alloc = rt.alloc();
     let slice = [0b10110110, 0b01011011];
-    let grown = extended(&rt, alloc, &[true, false, true], &slice, 3, 10);
+    let grown = extend(&rt, alloc, &[true, false, true], &slice, 3, 10);
     let items = [
         true, false, true, false, true, true, false, true, true, true, false, true, true,
     ];
     gives(&rt, alloc, grown.iter(), &items);
     shows(&rt, alloc, &grown, "[0b10110101, 0b___11011]");
-    let grown = extended(&rt, alloc, &[false; 5], &[255; 20], 3, 150);
+    let grown = extend(&rt, alloc, &[false; 5], &[255; 20], 3, 150);
     has_runs(&rt, alloc, grown, [155, 5], &[(5, 150)]);
 }
 

@@ -55,7 +55,7 @@ fn holds(_number: usize) -> bool {
 }
 
 /// Three true items are collected with such a size hint.
-fn are_collected(rt: &impl Abort, alloc: Global, hint: (usize, usize)) {
+fn collects_three(rt: &impl Abort, alloc: Global, hint: (usize, usize)) {
     let grown = MutableBitmap::try_from_iter(alloc, numbers(3, hint).map(holds));
     stores(rt, grown, &[7]);
     let frozen = Bitmap::try_from_iter(alloc, numbers(3, hint).map(holds));
@@ -67,8 +67,8 @@ fn are_collected(rt: &impl Abort, alloc: Global, hint: (usize, usize)) {
 #[test]
 fn a_size_hint_is_not_believed(rt: HostRuntime) {
     let alloc = rt.alloc();
-    are_collected(&rt, alloc, (usize::MAX, 1));
-    are_collected(&rt, alloc, (0, 0));
+    collects_three(&rt, alloc, (usize::MAX, 1));
+    collects_three(&rt, alloc, (0, 0));
     let offsets = Offsets::<i64>::try_from_iter(alloc, numbers(2, (usize::MAX, 1)));
     offset::makes(&rt, offsets, &[0, 1, 3]);
 }

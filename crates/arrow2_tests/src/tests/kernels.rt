@@ -4,7 +4,7 @@ ghost use Rattle.arrow2_model.specs.Kernels.{unary_kernel, binary_kernel};
 ghost use Rattle.arrow2_model.specs.Storage.{items_of};
 ghost use Rattle.arrow2_model.specs.Tables.{each};
 
-use super::checks::{assert_that, bitmap_from, makes, ok, stores, thawed};
+use super::checks::{assert_that, bitmap_from, makes, mutable_copy, ok, stores};
 use arrow2_bitmap::assign_ops::{binary_assign, unary_assign};
 use arrow2_bitmap::bitmap_ops::{binary, unary};
 use arrow2_bitmap::{Bitmap, MutableBitmap};
@@ -88,10 +88,10 @@ fn callers_know_their_answers_by_the_clauses(rt: HostRuntime) {
     let right = bitmap_from(&rt, alloc, &[true, false, true, false]);
     let made = only_left(&left, &right);
     makes(&rt, alloc, made, &[false, true, false, false]);
-    let mut changed = thawed(&rt, &left);
+    let mut changed = mutable_copy(&rt, &left);
     sums_of_bytes(&mut changed, &right);
     stores(&rt, Ok(changed), &[8]);
-    let mut changed = thawed(&rt, &left);
+    let mut changed = mutable_copy(&rt, &left);
     flip(&mut changed);
     stores(&rt, Ok(changed), &[12]);
 }

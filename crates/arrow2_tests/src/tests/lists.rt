@@ -4,7 +4,7 @@ ghost use Rattle.std.specs.Prelude.{◌<◌};
 use std::alloc::{AllocError, Global};
 
 /// A list that plain code returns, unless an allocation failed.
-pub(super) type Given = Result<Vec<bool>, AllocError>;
+pub(super) type ListResult = Result<Vec<bool>, AllocError>;
 
 /// Returns the item at an index, and false after the last one.
 pub(super) fn at(list: &[bool], i: usize) -> bool {
@@ -24,7 +24,7 @@ pub(super) fn rest(list: &[bool], width: usize) -> &[bool]
 }
 
 /// Appends the items of another list.
-pub(super) fn joined(mut items: Vec<bool>, list: &[bool]) -> Given {
+pub(super) fn append(mut items: Vec<bool>, list: &[bool]) -> ListResult {
     items.extend_from_slice(list)?;
     Ok(items)
 }
@@ -43,7 +43,7 @@ fn mixed_at(lists: &[&[bool]], width: usize, i: usize) -> bool
 }
 
 /// Returns all items of such lists.
-pub(super) fn mixed(alloc: Global, lists: &[&[bool]], width: usize) -> Given
+pub(super) fn all_items(alloc: Global, lists: &[&[bool]], width: usize) -> ListResult
     requires { 0 < width }
 {
     let mut items = Vec::new(alloc);
@@ -55,7 +55,7 @@ pub(super) fn mixed(alloc: Global, lists: &[&[bool]], width: usize) -> Given
 }
 
 /// Looks each pair of items up in a table: bit `a + 2 * b` of it.
-pub(super) fn looked_up(alloc: Global, t: u8, a: &[bool], b: &[bool]) -> Given {
+pub(super) fn looked_up(alloc: Global, t: u8, a: &[bool], b: &[bool]) -> ListResult {
     let mut items = Vec::new(alloc);
     for (a, b) in a.iter().zip(b) {
         let position = usize::from(*a) | usize::from(*b) << 1;
@@ -65,7 +65,7 @@ pub(super) fn looked_up(alloc: Global, t: u8, a: &[bool], b: &[bool]) -> Given {
 }
 
 /// Returns the values, null where their validity is false.
-pub(super) fn nulled(
+pub(super) fn options_of(
     alloc: Global,
     values: &[bool],
     valid: &[bool],
@@ -90,7 +90,7 @@ fn stored_byte(list: &[bool], offset: usize, spare: bool, index: usize) -> u8 {
 }
 
 /// Returns bytes that hold a list from bit `offset` on. All other bits are equal, also those of `following` more bytes.
-pub(super) fn stored(
+pub(super) fn bytes_with_list(
     alloc: Global,
     list: &[bool],
     offset: usize,
@@ -106,19 +106,19 @@ pub(super) fn stored(
 }
 
 /// The list of the lowest bits of a number.
-pub(super) fn of_number(alloc: Global, number: u64, length: usize) -> Given {
+pub(super) fn of_number(alloc: Global, number: u64, length: usize) -> ListResult {
     (0..length)
         .map(|i| (number >> (i % 64)) & 1 == 1)
         .collect(alloc)
 }
 
 /// Returns the list that is true where 3 divides the index.
-pub(super) fn thirds(alloc: Global, length: usize) -> Given {
+pub(super) fn thirds(alloc: Global, length: usize) -> ListResult {
     (0..length).map(|i| i % 3 == 0).collect(alloc)
 }
 
 /// A list without a pattern.
-pub(super) fn scattered(alloc: Global, seed: u64, length: usize) -> Given {
+pub(super) fn list_without_pattern(alloc: Global, seed: u64, length: usize) -> ListResult {
     let mut items = Vec::new(alloc);
     let mut state = seed;
     for _ in 0..length {

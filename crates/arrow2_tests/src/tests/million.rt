@@ -31,12 +31,12 @@ fn thirds(alloc: Global) -> Result<Bitmap> {
 }
 
 /// Returns the word with each bit negated.
-fn negated(x: u64) -> u64 {
+fn negate(x: u64) -> u64 {
     !x
 }
 
 /// Adds the bits of two words without carry.
-fn added(x: u64, y: u64) -> u64 {
+fn add(x: u64, y: u64) -> u64 {
     x ^ y
 }
 
@@ -61,8 +61,8 @@ fn bitmaps_are_packed_and_collected(rt: HostRuntime) {
 #[test]
 fn kernels_make_bitmaps(rt: HostRuntime) {
     let bitmap = ok(&rt, thirds(rt.alloc()));
-    counts(&rt, unary(&bitmap, negated), 666666);
-    counts(&rt, binary(&bitmap, &bitmap, added), MILLION);
+    counts(&rt, unary(&bitmap, negate), 666666);
+    counts(&rt, binary(&bitmap, &bitmap, add), MILLION);
 }
 
 /// The call made a million items.

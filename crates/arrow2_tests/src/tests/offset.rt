@@ -1,5 +1,5 @@
 //! Offsets as their callers see them: worked examples, texts of errors, and calls that no command of a script makes.
-use super::checks::{assert_that, gives, has, left, ok, overflows, rejects, right};
+use super::checks::{assert_that, gives, has, left_value, ok, overflows, rejects, right};
 use arrow2_buffer::Buffer;
 use arrow2_offset::{Offsets, OffsetsBuffer};
 use arrow2_types::Result;
@@ -8,7 +8,7 @@ use std::alloc::Global;
 use std::process::Abort;
 
 /// Offsets that begin at 0.
-fn grown(rt: &impl Abort, alloc: Global, lengths: &[usize]) -> Offsets<i64> {
+fn offsets_of_lengths(rt: &impl Abort, alloc: Global, lengths: &[usize]) -> Offsets<i64> {
     ok(
         rt,
         Offsets::try_from_lengths(alloc, lengths.iter().copied()),
@@ -22,7 +22,7 @@ fn of(rt: &impl Abort, alloc: Global, items: &[i32]) -> Offsets<i32> {
 }
 
 /// The same, shared.
-fn shared(rt: &impl Abort, alloc: Global, items: &[i32]) -> OffsetsBuffer<i32> {
+fn shared_offsets(rt: &impl Abort, alloc: Global, items: &[i32]) -> OffsetsBuffer<i32> {
     ok(rt, OffsetsBuffer::try_from(of(rt, alloc, items)))
 }
 
@@ -34,7 +34,7 @@ pub(super) fn makes(rt: &impl Abort, made: Result<Offsets<i64>>, items: &[i64]) 
 
 #[test]
 fn growing_offsets_are_read(rt: HostRuntime) {
-    let offsets = grown(&rt, rt.alloc(), &[3, 4, 1, 2]);
+    let offsets = offsets_of_lengths(&rt, rt.alloc(), &[3, 4, 1, 2]);
     assert_that(&rt, offsets.len() == 5);
     assert_that(&rt, offsets.len_proxy() == 4);
     has(&rt, &[*offsets.last(), offsets[1]], &[10, 3]);
@@ -73,18 +73,18 @@ fn is_taken_apart(rt: &impl Abort, offsets: OffsetsBuffer<i32>, items: &[i32]) {
 #[test]
 fn shared_offsets_are_read_and_sliced(rt: HostRuntime) {
     let alloc = rt.alloc();
-    let mut whole = shared(&rt, alloc, &[5, 8, 8, 12]);
+    let mut whole = shared_offsets(&rt, alloc, &[5, 8, 8, 12]);
     is_read(&rt, alloc, &whole);
     assert_that(&rt, whole.len() == 4);
     whole.slice(1, 3);
     ends_in(&rt, &whole, &[Some(4), Some(0)]);
     gives_lengths(&rt, alloc, &whole.sliced(0, 2), &[0]);
-    is_taken_apart(&rt, shared(&rt, alloc, &[5, 8]), &[5, 8]);
+    is_taken_apart(&rt, shared_offsets(&rt, alloc, &[5, 8]), &[5, 8]);
 }
 
 /// The offsets that could not be taken back are these.
 fn stays(rt: &impl Abort, given: Either<OffsetsBuffer<i32>, Offsets<i32>>, items: &[i32]) {
-    let left = left(rt, given);
+    let left = left_value(rt, given);
     has(rt, left.as_slice(), items);
     assert_that(rt, left.len_proxy() + 1 == items.len());
 }
@@ -92,11 +92,11 @@ fn stays(rt: &impl Abort, given: Either<OffsetsBuffer<i32>, Offsets<i32>>, items
 #[test]
 fn shared_offsets_are_taken_back_where_nothing_is_sliced_off(rt: HostRuntime) {
     let alloc = rt.alloc();
-    let mut part = shared(&rt, alloc, &[5, 8, 8, 12]);
+    let mut part = shared_offsets(&rt, alloc, &[5, 8, 8, 12]);
     assert_that(&rt, part.len() == 4);
     part.slice(1, 2);
     stays(&rt, part.into_mut(), &[8, 8]);
-    let whole = shared(&rt, alloc, &[5, 8, 8, 12]);
+    let whole = shared_offsets(&rt, alloc, &[5, 8, 8, 12]);
     let other = ok(&rt, whole.clone());
     stays(&rt, whole.into_mut(), &[5, 8, 8, 12]);
     let taken = right(&rt, other.into_mut());
@@ -130,12 +130,12 @@ fn growth_by_others_and_by_empty_slots(rt: HostRuntime) {
     let other = of(&rt, alloc, &[5, 8, 8]);
     grow_by_others(&rt, of(&rt, alloc, &[0, 3]), &other, &[0, 3, 6, 6]);
     let own = of(&rt, alloc, &[0, 2147483644]);
-    let other = shared(&rt, alloc, &[0, 5, 7]);
+    let other = shared_offsets(&rt, alloc, &[0, 5, 7]);
     grow_by_a_part(&rt, own, other, (1, 1), &[0, 2147483644, 2147483646]);
     let wanted = [7; 2001];
     let other = of(&rt, alloc, &[5; 2001]);
     grow_by_others(&rt, of(&rt, alloc, &[7]), &other, &wanted);
-    let other = shared(&rt, alloc, &[5; 2002]);
+    let other = shared_offsets(&rt, alloc, &[5; 2002]);
     grow_by_a_part(&rt, of(&rt, alloc, &[7]), other, (1, 2000), &wanted);
     let mut offsets = of(&rt, alloc, &[0, 3]);
     overflows(&rt, offsets.extend_constant(usize::MAX));
@@ -160,10 +160,10 @@ fn ends_at_its_greatest(rt: &impl Abort, mut large: Offsets<i64>) {
 #[test]
 fn large_offsets_end_at_their_greatest(rt: HostRuntime) {
     let alloc = rt.alloc();
-    let mut large = grown(&rt, alloc, &[]);
+    let mut large = offsets_of_lengths(&rt, alloc, &[]);
     overflows(&rt, large.try_push_usize(9223372036854775808));
     has(&rt, large.as_slice(), &[0]);
-    ends_at_its_greatest(&rt, grown(&rt, alloc, &[9223372036854775806]));
+    ends_at_its_greatest(&rt, offsets_of_lengths(&rt, alloc, &[9223372036854775806]));
     overflows(&rt, Offsets::<i32>::new_zeroed(alloc, usize::MAX));
     overflows(&rt, Offsets::<i64>::with_capacity(alloc, usize::MAX));
 }
@@ -195,7 +195,7 @@ fn widens(rt: &impl Abort, alloc: Global, narrow: &[i32], wide: &[i64]) {
     has(rt, widened.as_slice(), wide);
     let narrowed = ok(rt, Offsets::<i32>::try_from(widened));
     has(rt, narrowed.as_slice(), narrow);
-    let widened = OffsetsBuffer::<i64>::try_from(&shared(rt, alloc, narrow));
+    let widened = OffsetsBuffer::<i64>::try_from(&shared_offsets(rt, alloc, narrow));
     let widened = ok(rt, widened);
     has(rt, widened.as_slice(), wide);
     let narrowed = ok(rt, OffsetsBuffer::<i32>::try_from(&widened));
@@ -207,9 +207,9 @@ fn offsets_widen_and_narrow(rt: HostRuntime) {
     let alloc = rt.alloc();
     widens(&rt, alloc, &[5, 8, 2147483647], &[5, 8, 2147483647]);
     widens(&rt, alloc, &[9; 2000], &[9; 2000]);
-    let large = grown(&rt, alloc, &[2147483648]);
+    let large = offsets_of_lengths(&rt, alloc, &[2147483648]);
     overflows(&rt, Offsets::<i32>::try_from(large));
-    let large = OffsetsBuffer::try_from(grown(&rt, alloc, &[2147483648]));
+    let large = OffsetsBuffer::try_from(offsets_of_lengths(&rt, alloc, &[2147483648]));
     let large = ok(&rt, large);
     overflows(&rt, OffsetsBuffer::<i32>::try_from(&large));
 }

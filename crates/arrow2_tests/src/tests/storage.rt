@@ -3,8 +3,8 @@
 ghost use Rattle.std.specs.Prelude.{◌≡◌, ◌<◌, length};
 ghost use Rattle.arrow2_model.specs.Storage.{items_of};
 
-use super::checks::{assert_that, gives, ok, thawed};
-use super::lists::{self, Given};
+use super::checks::{assert_that, gives, mutable_copy, ok};
+use super::lists::{self, ListResult};
 use arrow2_array::BooleanArray;
 use arrow2_bitmap::assign_ops::{binary_assign, unary_assign};
 use arrow2_bitmap::bitmap_ops::{binary, unary};
@@ -28,12 +28,12 @@ fn has_items(rt: &impl Abort, bitmap: &Bitmap, list: &[bool]) {
 }
 
 /// Checks that the call made a bitmap of these items.
-fn makes(rt: &impl Abort, made: Result<Bitmap>, list: Given) {
+fn makes(rt: &impl Abort, made: Result<Bitmap>, list: ListResult) {
     has_items(rt, &ok(rt, made), ok(rt, list).as_slice());
 }
 
 /// Checks that the bitmap that was changed has these items.
-fn becomes(rt: &impl Abort, changed: MutableBitmap, list: Given) {
+fn becomes(rt: &impl Abort, changed: MutableBitmap, list: ListResult) {
     makes(rt, Bitmap::try_from(changed), list);
 }
 
@@ -93,22 +93,22 @@ fn has_rests(rt: &impl Abort, (bitmap, list): Of) {
 fn is_mixed(rt: &impl Abort, changed: MutableBitmap, lists: &[&[bool]], width: usize)
     requires { 0 < width }
 {
-    let wanted = lists::mixed(changed.allocator(), lists, width);
+    let wanted = lists::all_items(changed.allocator(), lists, width);
     becomes(rt, changed, wanted);
 }
 
 /// Applies functions of one word of each width in place.
 fn changes_by_a_word(rt: &impl Abort, (bitmap, list): Of) {
-    let mut changed = thawed(rt, bitmap);
+    let mut changed = mutable_copy(rt, bitmap);
     unary_assign(&mut changed, |x: u8| x.up(1));
     is_mixed(rt, changed, &[&[], list], 8);
-    let mut changed = thawed(rt, bitmap);
+    let mut changed = mutable_copy(rt, bitmap);
     unary_assign(&mut changed, |x: u16| x.up(1));
     is_mixed(rt, changed, &[&[], list], 16);
-    let mut changed = thawed(rt, bitmap);
+    let mut changed = mutable_copy(rt, bitmap);
     unary_assign(&mut changed, |x: u32| x.up(1));
     is_mixed(rt, changed, &[&[], list], 32);
-    let mut changed = thawed(rt, bitmap);
+    let mut changed = mutable_copy(rt, bitmap);
     unary_assign(&mut changed, |x: u64| x.up(1));
     is_mixed(rt, changed, &[&[], list], 64);
 }
@@ -117,27 +117,27 @@ fn changes_by_a_word(rt: &impl Abort, (bitmap, list): Of) {
 fn changes_by_two_words(rt: &impl Abort, left: Of, right: Of) {
     let lists = [left.1, right.1];
     assert_that(rt, left.0.len() == right.0.len());
-    let mut changed = thawed(rt, left.0);
+    let mut changed = mutable_copy(rt, left.0);
     binary_assign(&mut changed, right.0, |x: u8, y: u8| x.bit_xor(y.up(1)));
     is_mixed(rt, changed, &lists, 8);
-    let mut changed = thawed(rt, left.0);
+    let mut changed = mutable_copy(rt, left.0);
     binary_assign(&mut changed, right.0, |x: u16, y: u16| x.bit_xor(y.up(1)));
     is_mixed(rt, changed, &lists, 16);
-    let mut changed = thawed(rt, left.0);
+    let mut changed = mutable_copy(rt, left.0);
     binary_assign(&mut changed, right.0, |x: u32, y: u32| x.bit_xor(y.up(1)));
     is_mixed(rt, changed, &lists, 32);
-    let mut changed = thawed(rt, left.0);
+    let mut changed = mutable_copy(rt, left.0);
     binary_assign(&mut changed, right.0, |x: u64, y: u64| x.bit_xor(y.up(1)));
     is_mixed(rt, changed, &lists, 64);
 }
 
 /// Moves the bits of a word.
-fn moved(x: u64) -> u64 {
+fn shift_bits(x: u64) -> u64 {
     x << 1
 }
 
 /// Adds the bits of two words without carry, those of the second one moved.
-fn mixed(x: u64, y: u64) -> u64 {
+fn mix(x: u64, y: u64) -> u64 {
     x ^ y << 1
 }
 
@@ -153,7 +153,7 @@ fn mixed_of_four(x: u64, y: u64, z: u64, v: u64) -> u64 {
 
 /// Checks that the call made the sum of these lists, each moved within words.
 fn mixes(rt: &impl Abort, alloc: Global, made: Result<Bitmap>, lists: &[&[bool]]) {
-    makes(rt, made, lists::mixed(alloc, lists, 64));
+    makes(rt, made, lists::all_items(alloc, lists, 64));
 }
 
 /// Applies functions of one to four words.
@@ -163,17 +163,17 @@ fn goes_by_words(rt: &impl Abort, inputs: [&Bitmap; 4], lists: [&[bool]; 4]) {
     assert_that(rt, a.len() == b.len());
     assert_that(rt, a.len() == c.len());
     assert_that(rt, a.len() == d.len());
-    mixes(rt, alloc, unary(a, moved), &[&[], lists[0]]);
-    mixes(rt, alloc, binary(a, b, mixed), &lists[..2]);
+    mixes(rt, alloc, unary(a, shift_bits), &[&[], lists[0]]);
+    mixes(rt, alloc, binary(a, b, mix), &lists[..2]);
     mixes(rt, alloc, ternary(a, b, c, mixed_of_three), &lists[..3]);
     mixes(rt, alloc, quaternary(a, b, c, d, mixed_of_four), &lists);
 }
 
 /// The results of an operator: a new bitmap, and two that were changed in place.
-type Combined = (Result<Bitmap>, MutableBitmap, MutableBitmap);
+type Combinations = (Result<Bitmap>, MutableBitmap, MutableBitmap);
 
 /// Checks that all three have these items.
-fn combines(rt: &impl Abort, (made, taken, changed): Combined, list: Given) {
+fn combines(rt: &impl Abort, (made, taken, changed): Combinations, list: ListResult) {
     let list = ok(rt, list);
     has_items(rt, &ok(rt, made), list.as_slice());
     is_frozen(rt, taken, list.as_slice());
@@ -189,20 +189,20 @@ fn is_frozen(rt: &impl Abort, bitmap: MutableBitmap, list: &[bool]) {
 fn goes_by_operators(rt: &impl Abort, (left, list): Of, (right, others): Of) {
     let alloc = left.allocator();
     assert_that(rt, left.len() == right.len());
-    let mut changed = thawed(rt, left);
+    let mut changed = mutable_copy(rt, left);
     changed &= right;
-    let combined = (left & right, thawed(rt, left) & right, changed);
+    let combined = (left & right, mutable_copy(rt, left) & right, changed);
     combines(rt, combined, lists::looked_up(alloc, 0b1000, list, others));
-    let mut changed = thawed(rt, left);
+    let mut changed = mutable_copy(rt, left);
     changed |= right;
-    let combined = (left | right, thawed(rt, left) | right, changed);
+    let combined = (left | right, mutable_copy(rt, left) | right, changed);
     combines(rt, combined, lists::looked_up(alloc, 0b1110, list, others));
-    let mut changed = thawed(rt, left);
+    let mut changed = mutable_copy(rt, left);
     changed ^= right;
-    let combined = (left ^ right, thawed(rt, left) ^ right, changed);
+    let combined = (left ^ right, mutable_copy(rt, left) ^ right, changed);
     combines(rt, combined, lists::looked_up(alloc, 0b0110, list, others));
     makes(rt, !left, lists::looked_up(alloc, 0b0101, list, others));
-    let turned = !thawed(rt, left);
+    let turned = !mutable_copy(rt, left);
     becomes(rt, turned, lists::looked_up(alloc, 0b0101, list, others));
 }
 
@@ -214,7 +214,7 @@ fn is_appended(rt: &impl Abort, (bitmap, list): Of) {
         let own = ok(rt, lists::thirds(alloc, count));
         let mut grown = ok(rt, MutableBitmap::from_bools(alloc, own.as_slice()));
         ok(rt, grown.extend_from_slice(bytes, offset, length));
-        becomes(rt, grown, lists::joined(own, list));
+        becomes(rt, grown, lists::append(own, list));
     }
 }
 
@@ -229,7 +229,7 @@ fn is_collected(rt: &impl Abort, (bitmap, list): Of) {
         rt,
         SlicesIterator::new(bitmap).slots() == lists::trues(list),
     );
-    is_validity_of(rt, ok(rt, thawed(rt, bitmap).into_validity()), list);
+    is_validity_of(rt, ok(rt, mutable_copy(rt, bitmap).into_validity()), list);
     is_validity_of(rt, ok(rt, bitmap.clone()).into_validity(), list);
 }
 
@@ -259,7 +259,7 @@ fn array_has_nulls(rt: &impl Abort, validity: &Bitmap, values: &Bitmap, items: &
 
 /// Checks that values are null where the validity is false, in an iterator with it and in an array.
 fn both_have_nulls(rt: &impl Abort, (validity, valid): Of, (values, list): Of) {
-    let items = ok(rt, lists::nulled(values.allocator(), list, valid));
+    let items = ok(rt, lists::options_of(values.allocator(), list, valid));
     zip_has_nulls(rt, validity, list, items.as_slice());
     array_has_nulls(rt, validity, values, items.as_slice());
 }
@@ -286,7 +286,7 @@ fn pairs_agree(rt: &impl Abort, left: Of, right: Of) {
 }
 
 /// Stores the list from a bit offset on. All padding bits are equal, also those of `following` more bytes.
-fn stored(
+fn bitmap_at(
     rt: &impl Abort,
     alloc: Global,
     list: &[bool],
@@ -296,24 +296,27 @@ fn stored(
 ) -> Bitmap
     requires { offset < 16 }
 {
-    let bytes = ok(rt, lists::stored(alloc, list, offset, spare, following));
+    let bytes = ok(
+        rt,
+        lists::bytes_with_list(alloc, list, offset, spare, following),
+    );
     let whole = ok(rt, Bitmap::try_new(bytes, offset + list.len()));
     whole.sliced(offset, list.len())
 }
 
 /// Returns a list of this length without a pattern.
-fn scattered(rt: &impl Abort, alloc: Global, seed: u64, length: usize) -> Vec<bool> {
-    ok(rt, lists::scattered(alloc, seed, length))
+fn list_without_pattern(rt: &impl Abort, alloc: Global, seed: u64, length: usize) -> Vec<bool> {
+    ok(rt, lists::list_without_pattern(alloc, seed, length))
 }
 
 /// Stores the list at each bit offset, with padding bits all false and all true, and with 0 to 2 spare bytes.
 fn in_each_storage(rt: &impl Abort, alloc: Global, list: &[bool]) {
-    let others = scattered(rt, alloc, 3, list.len());
+    let others = list_without_pattern(rt, alloc, 3, list.len());
     let others = others.as_slice();
     let other = ok(rt, Bitmap::from_bools(alloc, others));
     for case in 0..48usize {
         let (offset, spare, following) = (case % 8, case / 8 % 2 == 1, case / 16);
-        let bitmap = stored(rt, alloc, list, offset, spare, following);
+        let bitmap = bitmap_at(rt, alloc, list, offset, spare, following);
         is_its_list(rt, (&bitmap, list));
         pairs_agree(rt, (&bitmap, list), (&other, others));
         pairs_agree(rt, (&other, others), (&bitmap, list));
@@ -325,27 +328,27 @@ fn in_each_storage(rt: &impl Abort, alloc: Global, list: &[bool]) {
 /// Stores lists without a pattern at each bit offset of the first one.
 fn at_each_offset(rt: &impl Abort, alloc: Global, length: usize) {
     let (list, others) = (
-        scattered(rt, alloc, 1, length),
-        scattered(rt, alloc, 2, length),
+        list_without_pattern(rt, alloc, 1, length),
+        list_without_pattern(rt, alloc, 2, length),
     );
     let (list, others) = (list.as_slice(), others.as_slice());
     for offset in 0..16 {
-        let left = stored(rt, alloc, list, offset, true, 1);
-        let alike = stored(rt, alloc, others, offset, true, 0);
+        let left = bitmap_at(rt, alloc, list, offset, true, 1);
+        let alike = bitmap_at(rt, alloc, others, offset, true, 0);
         pairs_agree(rt, (&left, list), (&alike, others));
         if length <= 200 {
             is_appended(rt, (&left, list));
         }
-        let apart = stored(rt, alloc, others, (offset * 5 + 3) % 16, true, 1);
+        let apart = bitmap_at(rt, alloc, others, (offset * 5 + 3) % 16, true, 1);
         pairs_agree(rt, (&left, list), (&apart, others));
-        let third = stored(rt, alloc, list, 15 - offset, true, 1);
+        let third = bitmap_at(rt, alloc, list, 15 - offset, true, 1);
         let inputs = [&left, &apart, &third, &alike];
         goes_by_words(rt, inputs, [list, others, list, others]);
     }
 }
 
 /// Stores a list that was made in each storage.
-fn is_stored(rt: &impl Abort, alloc: Global, list: Given) {
+fn is_stored(rt: &impl Abort, alloc: Global, list: ListResult) {
     let list = ok(rt, list);
     in_each_storage(rt, alloc, list.as_slice());
 }

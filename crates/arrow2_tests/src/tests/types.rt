@@ -1,5 +1,5 @@
 //! Known bytes of native values, and the texts of errors.
-use super::checks::{bytes_of, failed, has_bytes, prints, shows, text};
+use super::checks::{bytes_of, error_of, has_bytes, prints, shows, text};
 use arrow2_types::{Error, PrimitiveType as Type};
 use std::alloc::Global;
 use std::io;
@@ -57,13 +57,13 @@ fn errors_print_their_texts(rt: HostRuntime) {
 fn errors_of_others_keep_their_texts(rt: HostRuntime) {
     let alloc = rt.alloc();
     let no_text = [255].as_slice();
-    let error = failed(&rt, std::str::from_utf8(no_text));
+    let error = error_of(&rt, std::str::from_utf8(no_text));
     let text = "External error: invalid utf-8 sequence of 1 bytes from index 0";
     reads(&rt, alloc, Error::from_utf8_error(alloc, error), text);
-    let error = failed(&rt, String::from_utf8(bytes_of(&rt, alloc, no_text)));
+    let error = error_of(&rt, String::from_utf8(bytes_of(&rt, alloc, no_text)));
     let error = Error::from_string_utf8_error(alloc, error);
     reads(&rt, alloc, error, text);
-    let error = failed(&rt, simdutf8::basic::from_utf8(no_text));
+    let error = error_of(&rt, simdutf8::basic::from_utf8(no_text));
     let text = "External error: invalid utf-8 sequence";
     let error = Error::from_basic_utf8_error(alloc, error);
     reads(&rt, alloc, error, text);

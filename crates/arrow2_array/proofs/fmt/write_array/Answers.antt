@@ -2,15 +2,15 @@ use Rattle.std.proofs.Common.{◌≡◌, ◌∙◌, ◌++◌, ◌+◌, ◌<◌, 
 use Rattle.std.specs.Prelude.{codes}
 use Rattle.std.specs.Fmt.{HasWrittenStyled}
 use Rattle.std.proofs.Output.{has_written_styled_append, has_written_styled_of_eq}
-use Rattle.arrow2_model.proofs.Written.{plain_written}
-use Rattle.arrow2_array.specs.ArrayTexts.{item_word, listed}
+use Rattle.arrow2_model.proofs.TextWrites.{plain_written}
+use Rattle.arrow2_array.specs.ArrayTexts.{item_word, comma_list}
 use Rattle.arrow2_array.specs.Items.{boolean_items}
 use Rattle.arrow2_array.proofs.ArrayTexts.{listed-none, listed-first, listed-more}
 use Rattle.arrow2_array.proofs.fmt.write_array.Goals as goal
 use Rattle.arrow2_array.proofs.fmt.write_array.Goals.{then-index-gt0+in_ok-write_str-2, else-index-gt0}
 
 pub loop-index-init : goal.loop-index-init
-unfolding listed
+unfolding comma_list
 loop-index-init g c = λ flush. c.in_ok-write_str.ensures.styled flush (refl {a = true})
 
 pub loop-index-preserved : goal.loop-index-preserved
@@ -20,7 +20,7 @@ loop-index-preserved g c = λ flush.
     let took = g.W.Write.write_str_gives in
     let so_far = c.loop-index.invariant flush in
     let head = codes "BooleanArray[" in
-    let before = listed (take i xs) in
+    let before = comma_list (take i xs) in
     let said : List ℕ = item_word (get_or xs i None) in
     let word = c.word.ensures ∙ ap item_word c.get.ensures in
     let below : i < length xs = omega (arith, c.loop-index-test.true, c.len-index-end.ensures) in
@@ -46,7 +46,7 @@ returns-clause-styled g c = λ flush ok.
     let xs = boolean_items c.args.array.now in
     let so_far = c.loop-index.invariant flush in
     let all : take c.loop-index.index xs ≡ xs = take_all c.loop-index.index xs (omega (arith, c.loop-index-test.false, c.len-index-end.ensures)) in
-    has_written_styled_of_eq _ _ _ _ _ (ap (λ t. (codes "BooleanArray[" ++ listed t) ++ codes "]") all ∙ append_assoc (codes "BooleanArray[") (listed xs) (codes "]"))
+    has_written_styled_of_eq _ _ _ _ _ (ap (λ t. (codes "BooleanArray[" ++ comma_list t) ++ codes "]") all ∙ append_assoc (codes "BooleanArray[") (comma_list xs) (codes "]"))
     (has_written_styled_append _ _ _ _ _ _ so_far (c.write_str-2.ensures.styled so_far.flush ok))
 
 pub returns-clause-writes : goal.returns-clause-writes

@@ -25,7 +25,7 @@ returns-in_ok-ternary_table-in-None-Some-clause-items c =
     let ms = valid_items c.args.right_validity.now in
     let left = all_set ns xs (rw c.in-None-Some.is-0 at c.bitmap.ensures.items) c.requires.left_length in
     let right = rw c.in-None-Some.is-1 at c.bitmap-2.ensures.items in
-    c.known_by.ensures.items ∙ ((rw (c.known_paired-paired.ensures, right) at c.in_ok-ternary_table-in-None-Some.ensures.items)
+    c.known_by.ensures.items ∙ ((rw (c.pair_validity_table-paired.ensures, right) at c.in_ok-ternary_table-in-None-Some.ensures.items)
     ∙ paired_left (known_table o) (paired_table o) xs ns ys ms (following o) c.requires.same_length left)
 
 pub returns-in_ok-ternary_table-in-Some-None-clause-items : goal.returns-in_ok-ternary_table-in-Some-None-clause-items
@@ -37,5 +37,5 @@ returns-in_ok-ternary_table-in-Some-None-clause-items c =
     let ms = valid_items c.args.right_validity.now in
     let left = rw c.in-Some-None.is-0 at c.bitmap.ensures.items in
     let right = all_set ms ys (rw c.in-Some-None.is-1 at c.bitmap-2.ensures.items) c.requires.right_length in
-    c.known_by-in-Some-None.ensures.items ∙ ((rw (c.known_paired-paired.ensures, left) at c.in_ok-ternary_table-in-Some-None.ensures.items)
+    c.known_by-in-Some-None.ensures.items ∙ ((rw (c.pair_validity_table-paired.ensures, left) at c.in_ok-ternary_table-in-Some-None.ensures.items)
     ∙ paired_right (known_table o) (paired_table o) xs ns ys ms (paired o) c.requires.same_length right)

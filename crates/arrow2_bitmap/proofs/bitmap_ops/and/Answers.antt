@@ -8,6 +8,6 @@ pub returns-then-one_is_all-clause-items : goal.returns-then-one_is_all-clause-i
 returns-then-one_is_all-clause-items c =
     let a : List Bool = items_of c.args.lhs.now in
     let b : List Bool = items_of c.args.rhs.now in
-    IfOk-weaker c.filled.result _ _
+    IfOk-weaker c.constant_bitmap.result _ _
     (λ m e. e ∙ (ap (λ n. replicate n false) c.len.ensures.items ∙ and_false a b c.requires.same_length (c.one_is_all.ensures c.if-one_is_all.true)))
-    c.filled.ensures.items
+    c.constant_bitmap.ensures.items

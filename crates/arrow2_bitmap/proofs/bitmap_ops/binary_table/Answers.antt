@@ -4,7 +4,7 @@ use Rattle.arrow2_model.specs.Bits.{bits}
 use Rattle.arrow2_model.specs.Storage.{items_of}
 use Rattle.arrow2_model.specs.Tables.{each}
 use Rattle.arrow2_bitmap.proofs.Lanes.{shown_items, shown_length}
-use Rattle.arrow2_bitmap.proofs.Packed.{packed_bytes}
+use Rattle.arrow2_bitmap.proofs.PackedBitmaps.{packed_bytes}
 use Rattle.arrow2_bitmap.proofs.bitmap_ops.binary_table.Goals as goal
 
 pub returns-in_ok-results-clause-items : goal.returns-in_ok-results-clause-items

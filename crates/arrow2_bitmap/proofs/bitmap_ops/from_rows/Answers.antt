@@ -2,7 +2,7 @@ use Rattle.std.proofs.Common.{◌≡◌, ◌∙◌, ℕ, take, arith}
 use Rattle.std.proofs.lemmas.Result.{IfOk-weaker}
 use Rattle.arrow2_model.proofs.Kernels.{table_word}
 use Rattle.arrow2_model.proofs.RowKernels.{rows_kernel, rows_table, acts_rows}
-use Rattle.arrow2_bitmap.proofs.Packed.{packed_bytes}
+use Rattle.arrow2_bitmap.proofs.PackedBitmaps.{packed_bytes}
 use Rattle.arrow2_model.specs.Bits.{bits}
 use Rattle.arrow2_model.specs.Storage.{items_of}
 use Rattle.arrow2_kernels.specs.WordResults.{AreJoinedResults, MayReturnRow}

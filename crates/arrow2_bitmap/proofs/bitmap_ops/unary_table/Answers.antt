@@ -3,7 +3,7 @@ use Rattle.std.proofs.lemmas.Result.{IfOk-weaker}
 use Rattle.arrow2_model.specs.Storage.{items_of}
 use Rattle.arrow2_model.specs.Tables.{each}
 use Rattle.arrow2_bitmap.proofs.Lanes.{shown_items, shown_length}
-use Rattle.arrow2_bitmap.proofs.Packed.{packed_bytes}
+use Rattle.arrow2_bitmap.proofs.PackedBitmaps.{packed_bytes}
 use Rattle.arrow2_bitmap.proofs.bitmap_ops.unary_table.Goals as goal
 
 pub returns-in_ok-results-clause-items : goal.returns-in_ok-results-clause-items

@@ -13,4 +13,4 @@ returns-in-Some-Some-clause-items c =
     let u = c.in-Some-Some.right in
     let left : a ≡ replicate (length a) v = rw c.in-Some-Some.is-0 at c.value_of_all-left.ensures in
     let right : b ≡ replicate (length b) u = rw c.in-Some-Some.is-1 at c.value_of_all-right.ensures in
-    IfOk-weaker c.filled.result _ _ (λ m e. e ∙ (ap (λ n. replicate n (not (beq v u))) c.len.ensures.items ∙ xor_alike a b v u c.requires.same_length left right)) c.filled.ensures.items
+    IfOk-weaker c.constant_bitmap.result _ _ (λ m e. e ∙ (ap (λ n. replicate n (not (beq v u))) c.len.ensures.items ∙ xor_alike a b v u c.requires.same_length left right)) c.constant_bitmap.ensures.items

@@ -1,6 +1,6 @@
 use Rattle.std.proofs.Common.{◌∙◌, ap, sym, arith, ◌*◌, take, drop, ◌-◌, ◌+◌}
 use Rattle.arrow2_model.specs.Bits.{bits}
-use Rattle.arrow2_bits.proofs.Loaded.{low_word, merged_word}
+use Rattle.arrow2_bits.proofs.WordLoads.{low_word, merged_word}
 use Rattle.arrow2_bits.proofs.chunks.chunk_at.Goals as goal
 
 pub returns-then-shift-eq0-clause-bits : goal.returns-then-shift-eq0-clause-bits

@@ -1,4 +1,4 @@
-use Rattle.arrow2_bits.proofs.Loaded.{loaded_number, padded_number}
+use Rattle.arrow2_bits.proofs.WordLoads.{loaded_number, padded_number}
 use Rattle.arrow2_bits.proofs.chunks.padded_chunk_at.Goals as goal
 
 pub returns-then-bytes-SIZE-clause-number : goal.returns-then-bytes-SIZE-clause-number

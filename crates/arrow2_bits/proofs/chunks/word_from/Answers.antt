@@ -1,5 +1,5 @@
 use Rattle.std.proofs.Common.{◌+◌, ◌/◌, ◌%◌, arith}
-use Rattle.arrow2_bits.proofs.Loaded.{bit_of_part}
+use Rattle.arrow2_bits.proofs.WordLoads.{bit_of_part}
 use Rattle.arrow2_bits.proofs.chunks.word_from.Goals as goal
 
 pub returns : goal.returns

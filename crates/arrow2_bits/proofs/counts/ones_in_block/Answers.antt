@@ -1,4 +1,4 @@
-use Rattle.arrow2_bits.proofs.Counted.{ones_fetched}
+use Rattle.arrow2_bits.proofs.ZeroCounts.{ones_fetched}
 use Rattle.arrow2_bits.proofs.counts.ones_in_block.Goals as goal
 
 pub returns-clause-ones : goal.returns-clause-ones

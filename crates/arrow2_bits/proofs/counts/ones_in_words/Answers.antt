@@ -1,5 +1,5 @@
 use Rattle.std.proofs.Common.{◌∙◌, ◌+◌, ◌*◌, ℕ, arith, rules}
-use Rattle.arrow2_bits.proofs.Counted.{ones_fetched, ones_in_two}
+use Rattle.arrow2_bits.proofs.ZeroCounts.{ones_fetched, ones_in_two}
 use Rattle.arrow2_bits.proofs.counts.ones_in_words.Goals as goal
 
 pub loop-i-preserved : goal.loop-i-preserved

@@ -1,5 +1,5 @@
 use Rattle.std.proofs.Common.{◌*◌}
-use Rattle.arrow2_bits.proofs.Counted.{ones_with_words}
+use Rattle.arrow2_bits.proofs.ZeroCounts.{ones_with_words}
 use Rattle.arrow2_bits.proofs.counts.with_words.Goals as goal
 
 pub returns-clause-ones : goal.returns-clause-ones

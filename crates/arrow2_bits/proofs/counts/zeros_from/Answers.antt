@@ -1,7 +1,7 @@
 use Rattle.std.proofs.Common.{◌∙◌, ◌+◌, ◌-◌, ◌*◌, ◌/◌, ◌%◌, ℕ, List, ap, arith}
 use Rattle.arrow2_model.specs.Bits.{bits}
 use Rattle.arrow2_model.specs.Parts.{part, falses}
-use Rattle.arrow2_bits.proofs.Counted.{zeros_in_three, touched_in_three}
+use Rattle.arrow2_bits.proofs.ZeroCounts.{zeros_in_three, touched_in_three}
 use Rattle.arrow2_bits.proofs.counts.zeros_from.Goals as goal
 
 pub returns-clause-zeros : goal.returns-clause-zeros

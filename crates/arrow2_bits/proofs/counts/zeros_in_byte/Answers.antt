@@ -1,6 +1,6 @@
 use Rattle.std.proofs.Common.{◌+◌, ◌*◌, arith}
 use Rattle.arrow2_model.proofs.Touched.{touched-none}
-use Rattle.arrow2_bits.proofs.Counted.{byte_zeros, touched_one}
+use Rattle.arrow2_bits.proofs.ZeroCounts.{byte_zeros, touched_one}
 use Rattle.arrow2_bits.proofs.counts.zeros_in_byte.Goals as goal
 
 pub returns-then-len-eq0-clause-reads : goal.returns-then-len-eq0-clause-reads

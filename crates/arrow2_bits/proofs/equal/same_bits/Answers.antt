@@ -2,7 +2,7 @@ use Rattle.std.proofs.Common.{◌≡◌, ◌∙◌, List, Bool, take, length, su
 use Rattle.arrow2_model.specs.Bits.{bits, unnum}
 use Rattle.arrow2_model.specs.Parts.{part}
 use Rattle.arrow2_model.proofs.Cursors.{length-part_bits}
-use Rattle.arrow2_bits.proofs.Compared.{as_many_words, ended_alike}
+use Rattle.arrow2_bits.proofs.WordComparison.{as_many_words, ended_alike}
 use Rattle.std.proofs.lemmas.Bool.{eq-eqb, eqb-true}
 use Rattle.arrow2_bits.proofs.equal.same_bits.Goals as goal
 

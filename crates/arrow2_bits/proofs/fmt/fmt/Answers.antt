@@ -3,7 +3,7 @@ use Rattle.std.specs.Prelude.{codes}
 use Rattle.std.specs.Fmt.{HasWrittenStyled}
 use Rattle.std.proofs.lemmas.List.{append_assoc}
 use Rattle.std.proofs.Output.{has_written_styled_append, has_written_styled_of_eq}
-use Rattle.arrow2_model.proofs.Written.{plain_written}
+use Rattle.arrow2_model.proofs.TextWrites.{plain_written}
 use Rattle.arrow2_model.specs.Shown.{shown_byte}
 use Rattle.arrow2_model.proofs.Shown.{shown_byte_alone, shown_front, shown_front_none, shown_front_first, shown_front_more, shown_is}
 use Rattle.arrow2_bits.proofs.fmt.fmt.Goals as goal

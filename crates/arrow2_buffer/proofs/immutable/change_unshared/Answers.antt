@@ -1,5 +1,5 @@
 use Rattle.std.proofs.Common.{rules, arith, ◌≡◌, ◌-◌, length}
-use Rattle.arrow2_buffer.proofs.Overwritten.{rewritten_within}
+use Rattle.arrow2_buffer.proofs.Overwrites.{rewritten_within}
 use Rattle.arrow2_buffer.proofs.immutable.change_unshared.Goals as goal
 
 pub returns-in-Some-clause-written : goal.returns-in-Some-clause-written

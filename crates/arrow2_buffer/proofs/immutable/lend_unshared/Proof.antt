@@ -44,7 +44,7 @@ use Rattle.std.specs.Prelude.{Some, None, Option, IfSome}
 use Rattle.std.specs.Rc.{rc_with_value}
 use Rattle.std.specs.contracts.option.Option as OP
 use Rattle.arrow2_model.specs.Parts.{part}
-use Rattle.arrow2_buffer.specs.Lent.{LendsOwned, LendsPart, rewritten, shared_row}
+use Rattle.arrow2_buffer.specs.Loans.{LendsOwned, LendsPart, overwrite_lent, shared_row}
 use Rattle.arrow2_buffer.specs.contracts.bytes.Bytes as stored
 use Rattle.arrow2_buffer.specs.contracts.immutable.lend_unshared as f
 use Rattle.arrow2_buffer.specs.contracts.bytes.Bytes.get_mut as g
@@ -133,9 +133,9 @@ lend_unshared_spec 𝓤 𝓛 𝓜 𝓡 wired T laws =
           -- [how the storage follows the part; the tokens; the part; how the shared storage follows the storage; the
           -- locals]
           move ! (3 ∷ 0 ∷ []) $
-          use2 𝓛 (‵ (follows (shared_row (f.T-row T)) (Array (f.T-row T) 0) a.0.ghost_name s.ghost_name (λ w. rc_with_value a.0.now (rewritten r.now start w))))
-          (follows_then 𝓛 (shared_row (f.T-row T)) (stored.the_row (f.T-row T)) (Array (f.T-row T) 0) (rc_with_value a.0.now) (rewritten r.now start) a.0.ghost_name r.ghost_name s.ghost_name) $
-          rewrite ! 0 (λ (items : List T.Denot). ‵ (follows (shared_row (f.T-row T)) (Array (f.T-row T) 0) a.0.ghost_name s.ghost_name (λ w. rc_with_value a.0.now (rewritten items start w)))) same refl $
+          use2 𝓛 (‵ (follows (shared_row (f.T-row T)) (Array (f.T-row T) 0) a.0.ghost_name s.ghost_name (λ w. rc_with_value a.0.now (overwrite_lent r.now start w))))
+          (follows_then 𝓛 (shared_row (f.T-row T)) (stored.the_row (f.T-row T)) (Array (f.T-row T) 0) (rc_with_value a.0.now) (overwrite_lent r.now start) a.0.ghost_name r.ghost_name s.ghost_name) $
+          rewrite ! 0 (λ (items : List T.Denot). ‵ (follows (shared_row (f.T-row T)) (Array (f.T-row T) 0) a.0.ghost_name s.ghost_name (λ w. rc_with_value a.0.now (overwrite_lent items start w)))) same refl $
           move ! (2 ∷ []) $ peeks ! Lent _ (shows 𝓛 Lent) s (v' ∷ []) (λ is'.
           let spare : Room (f.T-row T) (length s.now) = is'.0.1 in
           let lent : Val = slice_val s.ref_ptr (length s.now) in

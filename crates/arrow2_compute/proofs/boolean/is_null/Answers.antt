@@ -4,4 +4,4 @@ use Rattle.arrow2_compute.proofs.boolean.is_null.Goals as goal
 
 pub returns-clause-items : goal.returns-clause-items
 returns-clause-items g c =
-    c.new.ensures.items ∙ (ap (map (λ v. Some v)) (c.in_ok-nulls.ensures.items ∙ ap (map not) c.known.ensures.items) ∙ map-map (λ v. Some v) not (g.A.Nullable.known c.args.array.now))
+    c.new.ensures.items ∙ (ap (map (λ v. Some v)) (c.in_ok-nulls.ensures.items ∙ ap (map not) c.known_validity.ensures.items) ∙ map-map (λ v. Some v) not (g.A.Nullable.known c.args.array.now))

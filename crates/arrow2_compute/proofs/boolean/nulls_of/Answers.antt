@@ -3,7 +3,7 @@ use Rattle.std.specs.Prelude.{IfOk}
 use Rattle.std.proofs.lemmas.Result.{MatchResult-weaker}
 use Rattle.arrow2_model.specs.Storage.{items_of}
 use Rattle.arrow2_validity.specs.OptionalValidity.{valid_items}
-use Rattle.arrow2_compute.proofs.Masked.{each-not, not-true}
+use Rattle.arrow2_compute.proofs.Masks.{each-not, not-true}
 use Rattle.arrow2_compute.proofs.boolean.nulls_of.Goals as goal
 
 pub returns-in-Some-clause-items : goal.returns-in-Some-clause-items

@@ -8,8 +8,8 @@ use Rattle.arrow2_model.specs.Buffers.{buffer_items}
 use Rattle.arrow2_offset.specs.Offsets.{lengths_of}
 use Rattle.arrow2_text.specs.Binary.{binary_items}
 use Rattle.arrow2_compute.specs.Sizes.{slot_bytes}
-use Rattle.arrow2_compute.proofs.Filtered.{flat_map-more, length-first, part-whole}
-use Rattle.arrow2_compute.proofs.Weighed.{of-ok}
+use Rattle.arrow2_compute.proofs.KernelLoops.{flat_map-more, length-first, part-whole}
+use Rattle.arrow2_compute.proofs.ByteCounts.{of-ok}
 use Rattle.arrow2_compute.proofs.concatenate.concatenate_binary.Goals as goal
 
 pub loop-array-preserved : goal.loop-array-preserved

@@ -4,7 +4,7 @@ use Rattle.std.specs.List.{flat_map}
 use Rattle.std.proofs.lemmas.Grind.{common_steps}
 use Rattle.std.proofs.lemmas.List.{take_all, length-append}
 use Rattle.arrow2_array.specs.Items.{BooleanParts, boolean_items}
-use Rattle.arrow2_compute.proofs.Filtered.{flat_map-more, length-first, part-whole}
+use Rattle.arrow2_compute.proofs.KernelLoops.{flat_map-more, length-first, part-whole}
 use Rattle.arrow2_compute.proofs.concatenate.concatenate_boolean.Goals as goal
 
 pub loop-array-preserved : goal.loop-array-preserved

@@ -3,7 +3,7 @@ use Rattle.arrow2_model.specs.Buffers.{buffer_items}
 use Rattle.arrow2_model.specs.Storage.{items_of}
 use Rattle.arrow2_offset.specs.Offsets.{lengths_of}
 use Rattle.arrow2_text.specs.Binary.{IsCompact, binary_items}
-use Rattle.arrow2_walks.specs.Selected.{selected}
+use Rattle.arrow2_walks.specs.Selections.{selection}
 use Rattle.arrow2_compute.proofs.FilteredSlots.{bits-kept, compact-kept, filtered, items-kept, mask-known, mask-slots}
 use Rattle.arrow2_compute.proofs.filter.filter_binary.Goals as goal
 
@@ -46,4 +46,4 @@ pub returns-clause-bytes : goal.returns-clause-bytes
 returns-clause-bytes g c =
     let ms = items_of c.args.mask.now in
     ap (λ p. length (buffer_items p.values)) c.with_validity.ensures
-    ∙ (c.in_ok-kept.ensures.bytes ∙ ap (λ p. sum (selected (lengths_of (buffer_items p.offsets)) ms)) c.in_ok-without_validity.ensures.value)
+    ∙ (c.in_ok-kept.ensures.bytes ∙ ap (λ p. sum (selection (lengths_of (buffer_items p.offsets)) ms)) c.in_ok-without_validity.ensures.value)

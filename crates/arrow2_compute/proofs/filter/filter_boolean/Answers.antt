@@ -2,9 +2,9 @@ use Rattle.std.proofs.Common.{◌≡◌, ◌∙◌, length, ap, sym, arith}
 use Rattle.arrow2_array.specs.Items.{boolean_items}
 use Rattle.arrow2_model.specs.Storage.{items_of}
 use Rattle.arrow2_validity.specs.OptionalValidity.{valid_items}
-use Rattle.arrow2_walks.specs.Selected.{selected}
+use Rattle.arrow2_walks.specs.Selections.{selection}
 use Rattle.arrow2_walks.specs.Zipped.{zipped}
-use Rattle.arrow2_walks.proofs.Selected.{count-selected}
+use Rattle.arrow2_walks.proofs.Selections.{count-selected}
 use Rattle.arrow2_numeric.proofs.Selecting.{selected-zipped}
 use Rattle.arrow2_compute.proofs.filter.filter_boolean.Goals as goal
 
@@ -24,5 +24,5 @@ returns-clause-items c =
     let whole : zipped bits valid ≡ boolean_items c.args.array.now = ap (λ b. zipped (items_of b) valid) c.values.ensures.value ∙ c.optional_validity.ensures.zipped in
     ap boolean_items c.from_parts.ensures
     ∙ (ap (zipped (items_of c.in_ok-values.values)) c.in_ok-validity.ensures.items
-    ∙ (ap (λ xs. zipped xs (selected valid mask)) c.in_ok-values.ensures.items
-    ∙ (sym (selected-zipped bits valid mask sized) ∙ ap (λ l. selected l mask) whole)))
+    ∙ (ap (λ xs. zipped xs (selection valid mask)) c.in_ok-values.ensures.items
+    ∙ (sym (selected-zipped bits valid mask sized) ∙ ap (λ l. selection l mask) whole)))

@@ -7,9 +7,9 @@ use Rattle.arrow2_model.specs.Bits.{bits, unnum}
 use Rattle.arrow2_model.specs.Parts.{part}
 use Rattle.arrow2_model.proofs.Bits.{length-unnum}
 use Rattle.arrow2_chunk.specs.Ones.{ones}
-use Rattle.arrow2_walks.specs.Selected.{selected}
-use Rattle.arrow2_walks.proofs.Left.{left-all, left-done}
-use Rattle.arrow2_compute.proofs.Filtered.{kept-fits, only-memory, part-whole}
+use Rattle.arrow2_walks.specs.Selections.{selection}
+use Rattle.arrow2_walks.proofs.RemainingItems.{left-all, left-done}
+use Rattle.arrow2_compute.proofs.KernelLoops.{kept-fits, only-memory, part-whole}
 use Rattle.arrow2_numeric.proofs.Selecting.{bit-at, cut-ones, positions-inside, selected-max}
 use Rattle.arrow2_compute.proofs.filter.push_bits.Goals as goal
 
@@ -18,7 +18,7 @@ returns-then-word-eq18446744073709551615-clause-ok c =
     let block = unnum 64 c.args.block in
     let n = length-unnum 64 c.args.block in
     let whole : part (bits c.to_ne_bytes.result) 0 64 ≡ block = ap (λ l. part l 0 64) c.to_ne_bytes.ensures.bits ∙ part-whole block 64 (sym n) in
-    let all : selected block (unnum 64 c.args.word) ≡ block = selected-max block c.args.word c.if-word-eq18446744073709551615.true (omega (arith, n)) in
+    let all : selection block (unnum 64 c.args.word) ≡ block = selected-max block c.args.word c.if-word-eq18446744073709551615.true (omega (arith, n)) in
     subst (λ l. OnOk c.extend_from_slice.result (c.extend_from_slice.new.self.items ≡ c.args.kept.now.items ++ l)) (whole ∙ sym all) c.extend_from_slice.ensures.ok
 
 pub returns-then-word-eq18446744073709551615-clause-only : goal.returns-then-word-eq18446744073709551615-clause-only
@@ -26,7 +26,7 @@ returns-then-word-eq18446744073709551615-clause-only c =
     let block = unnum 64 c.args.block in
     let n = length-unnum 64 c.args.block in
     let whole : part (bits c.to_ne_bytes.result) 0 64 ≡ block = ap (λ l. part l 0 64) c.to_ne_bytes.ensures.bits ∙ part-whole block 64 (sym n) in
-    let all : selected block (unnum 64 c.args.word) ≡ block = selected-max block c.args.word c.if-word-eq18446744073709551615.true (omega (arith, n)) in
+    let all : selection block (unnum 64 c.args.word) ≡ block = selected-max block c.args.word c.if-word-eq18446744073709551615.true (omega (arith, n)) in
     only-memory c.extend_from_slice.result _ c.extend_from_slice.ensures.overflow c.extend_from_slice.ensures.only (omega (arith, ap length (whole ∙ sym all), c.requires.fits))
 
 pub loop-position-init : goal.loop-position-init
@@ -56,6 +56,6 @@ returns-in_err-push-clause-only c =
     let less : c.in-Some.position < 64 = subst (All (λ position. position < 64)) first before.inside 0 0 (omega arith) in
     let here = bit-at c.args.block c.in-Some.position c.bit.result less c.bit.ensures in
     let fits = kept-fits (λ position. part (unnum 64 c.args.block) position 1) _ _ _ _ _ first before.done in
-    let whole = length-append c.args.kept.now.items (selected (unnum 64 c.args.block) (unnum 64 c.args.word)) in
+    let whole = length-append c.args.kept.now.items (selection (unnum 64 c.args.block) (unnum 64 c.args.word)) in
     let counted : length c.loop-position.kept.items + 1 < 2 ^ 64 = omega (arith, fits, whole, ap length here, c.requires.fits) in
     grind (arith, common_steps, counted)

@@ -2,8 +2,8 @@ use Rattle.std.proofs.Common.{◌≡◌, ◌++◌}
 use Rattle.std.specs.List.{flat_map}
 use Rattle.arrow2_model.specs.Bits.{unnum}
 use Rattle.arrow2_model.specs.Parts.{part}
-use Rattle.arrow2_walks.specs.Selected.{selected}
+use Rattle.arrow2_walks.specs.Selections.{selection}
 use Rattle.arrow2_compute.proofs.filter.push_values.Given as goal
 
 abbrev pub invariant-loop-position : goal.invariant-loop-position
-invariant-loop-position g l = l.kept.items ++ flat_map (λ position. part l.values position 1) l.position-iterator ≡ l.fn.kept.items ++ selected l.values (unnum 64 l.word)
+invariant-loop-position g l = l.kept.items ++ flat_map (λ position. part l.values position 1) l.position-iterator ≡ l.fn.kept.items ++ selection l.values (unnum 64 l.word)

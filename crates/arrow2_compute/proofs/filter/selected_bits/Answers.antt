@@ -5,8 +5,8 @@ use Rattle.arrow2_model.specs.Bits.{unnum}
 use Rattle.arrow2_model.specs.Storage.{items_of}
 use Rattle.arrow2_model.proofs.Bits.{length-unnum}
 use Rattle.arrow2_model.proofs.Words.{rest-none}
-use Rattle.arrow2_walks.specs.Selected.{selected}
-use Rattle.arrow2_walks.proofs.Selected.{length-selected}
+use Rattle.arrow2_walks.specs.Selections.{selection}
+use Rattle.arrow2_walks.proofs.Selections.{length-selected}
 use Rattle.arrow2_numeric.proofs.Selecting.{block-step, front-of, word-kept, word-fits, last-kept, last-fits}
 use Rattle.arrow2_compute.proofs.filter.selected_bits.Goals as goal
 
@@ -61,5 +61,5 @@ returns-clause-items c =
     let same = c.loop-word.invariant.same_length in
     let none = rest-none 64 c.loop-word.blocks.items (omega (arith, words.1, same, c.remainder_len.ensures.short)) in
     let blocks = front-of c.remainder-2.result n c.loop-word.blocks.items c.loop-word.blocks.items refl none c.remainder-2.ensures.rest (omega (arith, words.1, same, ap length none)) in
-    let all : c.push_bits-2.new.kept.items ≡ selected items mask = last-kept c.loop-word.kept.items _ _ _ _ _ _ n _ blocks.0 words.0 c.masked-last.ensures.bits c.in_ok-push_bits-2.ensures.ok c.loop-word.invariant.done in
+    let all : c.push_bits-2.new.kept.items ≡ selection items mask = last-kept c.loop-word.kept.items _ _ _ _ _ _ n _ blocks.0 words.0 c.masked-last.ensures.bits c.in_ok-push_bits-2.ensures.ok c.loop-word.invariant.done in
     grind (arith, common_steps, all)

@@ -6,11 +6,11 @@ use Rattle.arrow2_model.specs.Parts.{part}
 use Rattle.arrow2_model.specs.Storage.{items_of}
 use Rattle.arrow2_offset.specs.Offsets.{lengths_of}
 use Rattle.arrow2_text.specs.Binary.{binary_items}
-use Rattle.arrow2_walks.specs.Selected.{selected}
-use Rattle.arrow2_walks.proofs.Left.{left-all, left-done}
-use Rattle.arrow2_walks.proofs.Selected.{length-selected, selected-runs}
-use Rattle.arrow2_compute.proofs.Filtered.{kept-fits}
-use Rattle.arrow2_compute.proofs.Weighed.{sum-first, sum-selected}
+use Rattle.arrow2_walks.specs.Selections.{selection}
+use Rattle.arrow2_walks.proofs.RemainingItems.{left-all, left-done}
+use Rattle.arrow2_walks.proofs.Selections.{length-selected, selected-runs}
+use Rattle.arrow2_compute.proofs.KernelLoops.{kept-fits}
+use Rattle.arrow2_compute.proofs.ByteCounts.{sum-first, sum-selected}
 use Rattle.arrow2_compute.proofs.filter.selected_slots.Goals as goal
 
 -- the run that comes was the first one left, and its items are those that are appended
@@ -55,7 +55,7 @@ returns-clause-items g c =
     let mask = items_of c.args.mask.now in
     let whole = selected-runs items mask c.requires.same_length in
     let done = c.loop-start.invariant.done in
-    let all : (g.A.Binary.growing c.loop-start.kept).items ≡ selected items mask = grind (arith, common_steps, whole, done) in
+    let all : (g.A.Binary.growing c.loop-start.kept).items ≡ selection items mask = grind (arith, common_steps, whole, done) in
     subst (λ z. IfOk c.freeze.result (λ a. binary_items (g.A.Binary.parts a) ≡ z)) all c.freeze.ensures.items
 
 pub returns-clause-bytes : goal.returns-clause-bytes
@@ -65,5 +65,5 @@ returns-clause-bytes g c =
     let slots : length mask ≡ length lengths = c.requires.same_length ∙ (sym c.count-count.ensures.items ∙ c.count-count.ensures.slots) in
     let whole = ap sum (selected-runs lengths mask slots) in
     let done = c.loop-start.invariant.bytes in
-    let all : (g.A.Binary.growing c.loop-start.kept).bytes ≡ sum (selected lengths mask) = grind (arith, common_steps, whole, done) in
+    let all : (g.A.Binary.growing c.loop-start.kept).bytes ≡ sum (selection lengths mask) = grind (arith, common_steps, whole, done) in
     subst (λ n. IfOk c.freeze.result (λ a. length (buffer_items (g.A.Binary.parts a).values) ≡ n)) all c.freeze.ensures.bytes

@@ -3,8 +3,8 @@ use Rattle.std.proofs.lemmas.List.{length-replicate}
 use Rattle.arrow2_model.specs.Storage.{items_of}
 use Rattle.arrow2_validity.specs.OptionalValidity.{valid_items}
 use Rattle.arrow2_validity.proofs.ValidItems.{items-some}
-use Rattle.arrow2_walks.specs.Selected.{selected}
-use Rattle.arrow2_walks.proofs.Selected.{count-selected}
+use Rattle.arrow2_walks.specs.Selections.{selection}
+use Rattle.arrow2_walks.proofs.Selections.{count-selected}
 use Rattle.arrow2_numeric.proofs.Selecting.{selected-true}
 use Rattle.arrow2_compute.proofs.filter.selected_validity.Goals as goal
 
@@ -14,8 +14,8 @@ returns-in_default-clause-items c =
     let mask = items_of c.args.mask.now in
     let n = length (valid_items c.args.validity.now) in
     let counted = count-selected (replicate n true) mask (c.requires.same_length ∙ sym (length-replicate n true)) in
-    let many : c.len.result - c.unset_bits.result ≡ length (selected (replicate n true) mask) = omega (arith, counted, c.len.ensures.items, c.unset_bits.ensures) in
-    c.all_valid.ensures.items ∙ (ap (λ k. replicate k true) many ∙ (sym (selected-true n mask) ∙ ap (λ vs. selected vs mask) (sym c.in_default.ensures.items)))
+    let many : c.len.result - c.unset_bits.result ≡ length (selection (replicate n true) mask) = omega (arith, counted, c.len.ensures.items, c.unset_bits.ensures) in
+    c.all_valid.ensures.items ∙ (ap (λ k. replicate k true) many ∙ (sym (selected-true n mask) ∙ ap (λ vs. selection vs mask) (sym c.in_default.ensures.items)))
 
 pub new-requires : goal.new-requires
 new-requires c = record {
@@ -30,4 +30,4 @@ new-requires c = record {
 
 pub returns-clause-items : goal.returns-clause-items
 returns-clause-items c =
-    ap valid_items c.new.ensures.value ∙ (items-some _ c.in_ok-selected_bits.field-0 ∙ (c.in_ok-selected_bits.ensures.items ∙ ap (λ vs. selected vs (items_of c.args.mask.now)) c.in-Some.ensures.items))
+    ap valid_items c.new.ensures.value ∙ (items-some _ c.in_ok-selected_bits.field-0 ∙ (c.in_ok-selected_bits.ensures.items ∙ ap (λ vs. selection vs (items_of c.args.mask.now)) c.in-Some.ensures.items))

@@ -1,11 +1,11 @@
 use Rattle.std.proofs.Common.{◌∙◌, ◌++◌, ap, sym, append_assoc}
 use Rattle.arrow2_model.specs.Bits.{unnum}
-use Rattle.arrow2_walks.specs.Selected.{selected}
+use Rattle.arrow2_walks.specs.Selections.{selection}
 use Rattle.arrow2_compute.proofs.filter.selected_values.Goals as goal
 
 pub loop-block-preserved : goal.loop-block-preserved
 loop-block-preserved g c =
     let kept = c.loop-block.kept.items in
-    let block = selected c.in-Some.block.now (unnum 64 c.in-Some.word) in
+    let block = selection c.in-Some.block.now (unnum 64 c.in-Some.word) in
     let left = c.next_block.new.self.selected in
     ap (λ l. l ++ left) c.in_ok-push_values.ensures ∙ (append_assoc kept block left ∙ (ap (λ l. kept ++ l) (sym c.in-Some.ensures.block.selected) ∙ c.loop-block.invariant))

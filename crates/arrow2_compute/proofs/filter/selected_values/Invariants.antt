@@ -1,10 +1,10 @@
 use Rattle.std.proofs.Common.{◌≡◌, ◌++◌}
 use Rattle.arrow2_model.specs.Storage.{items_of}
-use Rattle.arrow2_walks.specs.Selected.{selected}
+use Rattle.arrow2_walks.specs.Selections.{selection}
 use Rattle.arrow2_compute.proofs.filter.selected_values.Given as goal
 
 abbrev pub invariant-loop-block : goal.invariant-loop-block
-invariant-loop-block g l = l.kept.items ++ l.blocks.selected ≡ selected l.values (items_of l.mask)
+invariant-loop-block g l = l.kept.items ++ l.blocks.selected ≡ selection l.values (items_of l.mask)
 
 abbrev pub decreases-loop-block : goal.decreases-loop-block
 decreases-loop-block g l = l.blocks.count

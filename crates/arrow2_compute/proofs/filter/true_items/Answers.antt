@@ -6,7 +6,7 @@ use Rattle.arrow2_model.specs.Tables.{each}
 use Rattle.arrow2_validity.specs.OptionalValidity.{valid_items}
 use Rattle.arrow2_walks.specs.Zipped.{zipped}
 use Rattle.arrow2_compute.specs.Masks.{is_true}
-use Rattle.arrow2_compute.proofs.Masked.{all-there, masked}
+use Rattle.arrow2_compute.proofs.Masks.{all-there, masked}
 use Rattle.arrow2_compute.proofs.filter.true_items.Goals as goal
 
 pub returns-in-Some-clause-items : goal.returns-in-Some-clause-items

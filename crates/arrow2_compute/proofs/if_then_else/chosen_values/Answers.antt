@@ -1,7 +1,7 @@
 use Rattle.std.proofs.Common.{◌∙◌, ◌+◌, ◌<◌, ◌++◌, [], ◌∷◌, length, ap, sym, arith}
 use Rattle.std.specs.Prelude.{if◌then◌else◌}
 use Rattle.arrow2_model.specs.Storage.{items_of}
-use Rattle.arrow2_compute.proofs.Chosen.{chosen-read}
+use Rattle.arrow2_compute.proofs.Choices.{chosen-read}
 use Rattle.arrow2_compute.proofs.if_then_else.chosen_values.Goals as goal
 
 pub loop-position-preserved : goal.loop-position-preserved

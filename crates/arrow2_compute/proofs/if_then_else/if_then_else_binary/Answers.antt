@@ -6,11 +6,11 @@ use Rattle.std.proofs.lemmas.List.Sums.{sum_by_push}
 use Rattle.arrow2_model.specs.Buffers.{buffer_items}
 use Rattle.arrow2_model.specs.Storage.{items_of}
 use Rattle.arrow2_text.specs.Binary.{binary_items}
-use Rattle.arrow2_walks.specs.Selected.{chosen}
-use Rattle.arrow2_walks.proofs.Selected.{chosen-more}
+use Rattle.arrow2_walks.specs.Selections.{choice}
+use Rattle.arrow2_walks.proofs.Selections.{chosen-more}
 use Rattle.arrow2_compute.specs.Sizes.{item_bytes}
-use Rattle.arrow2_compute.proofs.Filtered.{length-chosen}
-use Rattle.arrow2_compute.proofs.Weighed.{chosen-fits, of-ok}
+use Rattle.arrow2_compute.proofs.KernelLoops.{length-chosen}
+use Rattle.arrow2_compute.proofs.ByteCounts.{chosen-fits, of-ok}
 use Rattle.arrow2_compute.proofs.if_then_else.if_then_else_binary.Goals as goal
 
 -- what overflows is no more than all items
@@ -25,13 +25,13 @@ returns-in_err-push_either-clause-overflow g c =
     let counted : length items.items + 1 < 2 ^ 64 = omega (arith, few, ap length c.loop-position.invariant.items, c.loop-position-test.true, c.len-position-end.ensures.items) in
     let in_mask : position < length ms = omega (arith, c.loop-position-test.true, c.len-position-end.ensures.items) in
     let more = ap (sum_by item_bytes) (chosen-more ms xs ys position in_mask (omega (arith, in_mask, c.requires.left)) (omega (arith, in_mask, c.requires.right))) in
-    let push = sum_by_push item_bytes (chosen (take position ms) (take position xs) (take position ys)) (if get_or ms position false then get_or xs position None else get_or ys position None) in
+    let push = sum_by_push item_bytes (choice (take position ms) (take position xs) (take position ys)) (if get_or ms position false then get_or xs position None else get_or ys position None) in
     let most = chosen-fits item_bytes (position + 1) ms xs ys in
     let bytes = c.loop-position.invariant.bytes ∙ ap (sum_by item_bytes) c.loop-position.invariant.items in
     grind (arith, common_steps, counted, more, push, most, bytes)
 
 -- at the end all items are chosen
-chosen-all : {X : Type 0} (ms : List Bool) (xs ys : List X) (n k : ℕ) → k ≡ length ms → length ms ≡ length xs → length ms ≡ length ys → k ≤ n → chosen (take n ms) (take n xs) (take n ys) ≡ chosen ms xs ys
+chosen-all : {X : Type 0} (ms : List Bool) (xs ys : List X) (n k : ℕ) → k ≡ length ms → length ms ≡ length xs → length ms ≡ length ys → k ≤ n → choice (take n ms) (take n xs) (take n ys) ≡ choice ms xs ys
 chosen-all ms xs ys n k count left right done =
     rw (take_all n ms (omega (arith, count, done)), take_all n xs (omega (arith, count, done, left)), take_all n ys (omega (arith, count, done, right)))
 
@@ -50,4 +50,4 @@ returns-clause-fits g c =
     let ys = binary_items (g.A.Binary.parts c.args.rhs.now) in
     let all = chosen-all ms xs ys c.loop-position.position _ c.len-position-end.ensures.items c.requires.left c.requires.right c.loop-position-test.false in
     let bytes = c.loop-position.invariant.bytes ∙ ap (sum_by item_bytes) (c.loop-position.invariant.items ∙ all) in
-    of-ok c.freeze.result (sum_by item_bytes (chosen ms xs ys) ≤ g.A.Binary.GREATEST) (omega (arith, bytes, c.loop-position.invariant.fits))
+    of-ok c.freeze.result (sum_by item_bytes (choice ms xs ys) ≤ g.A.Binary.GREATEST) (omega (arith, bytes, c.loop-position.invariant.fits))

@@ -2,9 +2,9 @@ use Rattle.std.proofs.Common.{◌≡◌, ◌∙◌, length, ap, arith}
 use Rattle.arrow2_array.specs.Items.{boolean_items}
 use Rattle.arrow2_model.specs.Storage.{items_of}
 use Rattle.arrow2_validity.specs.OptionalValidity.{valid_items}
-use Rattle.arrow2_walks.specs.Selected.{chosen}
+use Rattle.arrow2_walks.specs.Selections.{choice}
 use Rattle.arrow2_walks.specs.Zipped.{zipped}
-use Rattle.arrow2_compute.proofs.Chosen.{chosen-zipped, length-all_chosen}
+use Rattle.arrow2_compute.proofs.Choices.{chosen-zipped, length-all_chosen}
 use Rattle.arrow2_compute.proofs.if_then_else.if_then_else_boolean.Goals as goal
 
 pub from_parts-requires : goal.from_parts-requires
@@ -27,5 +27,5 @@ returns-clause-items c =
     let apart = chosen-zipped ms xs ys vs ws (omega (arith, c.values.ensures.len, c.optional_validity.ensures.len)) (omega (arith, c.values-2.ensures.len, c.optional_validity-2.ensures.len)) in
     ap boolean_items c.from_parts.ensures
     ∙ (ap (zipped (items_of c.in_ok-values.values)) c.in_ok-validity.ensures.items
-    ∙ (ap (λ l. zipped l (chosen ms vs ws)) c.in_ok-values.ensures.items
-    ∙ (apart ∙ (ap (λ l. chosen ms l (zipped ys ws)) left ∙ ap (chosen ms (boolean_items c.args.lhs.now)) right))))
+    ∙ (ap (λ l. zipped l (choice ms vs ws)) c.in_ok-values.ensures.items
+    ∙ (apart ∙ (ap (λ l. choice ms l (zipped ys ws)) left ∙ ap (choice ms (boolean_items c.args.lhs.now)) right))))

@@ -3,7 +3,7 @@ use Rattle.std.specs.Prelude.{IfOk, is_some}
 use Rattle.arrow2_model.specs.Storage.{items_of}
 use Rattle.arrow2_primitive.specs.Primitive.{primitive_items}
 use Rattle.arrow2_compute.specs.Take.{item_at}
-use Rattle.arrow2_compute.proofs.Gathered.{stated-each}
+use Rattle.arrow2_compute.proofs.ItemsAtIndices.{stated-each}
 use Rattle.arrow2_compute.proofs.take.bits_by_array.Goals as goal
 
 pub returns-clause-items : goal.returns-clause-items

@@ -7,8 +7,8 @@ use Rattle.arrow2_primitive.specs.Primitive.{primitive_items}
 use Rattle.arrow2_validity.specs.OptionalValidity.{valid_items}
 use Rattle.arrow2_walks.specs.Zipped.{zipped}
 use Rattle.arrow2_compute.specs.Take.{IsItemAt}
-use Rattle.arrow2_numeric.proofs.Converted.{length-zip}
-use Rattle.arrow2_compute.proofs.Gathered.{by-bitmap, by-parts, taken-zipped}
+use Rattle.arrow2_numeric.proofs.Casts.{length-zip}
+use Rattle.arrow2_compute.proofs.ItemsAtIndices.{by-bitmap, by-parts, taken-zipped}
 use Rattle.arrow2_compute.proofs.take.take.Goals as goal
 
 pub new-requires-clause-same_length : goal.new-requires-clause-same_length

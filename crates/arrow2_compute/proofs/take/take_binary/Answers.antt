@@ -5,7 +5,7 @@ use Rattle.std.proofs.lemmas.List.{take_all, length-map, length-take}
 use Rattle.arrow2_model.specs.Buffers.{buffer_items}
 use Rattle.arrow2_text.specs.Binary.{binary_items}
 use Rattle.arrow2_compute.specs.Sizes.{item_bytes}
-use Rattle.arrow2_compute.proofs.Weighed.{of-ok, taken-fits}
+use Rattle.arrow2_compute.proofs.ByteCounts.{of-ok, taken-fits}
 use Rattle.arrow2_compute.proofs.take.take_binary.Goals as goal
 
 -- what overflows is no more than all items

@@ -3,7 +3,7 @@ use Rattle.arrow2_array.specs.Items.{boolean_items}
 use Rattle.arrow2_model.specs.Storage.{items_of}
 use Rattle.arrow2_validity.specs.OptionalValidity.{valid_items}
 use Rattle.arrow2_walks.specs.Zipped.{zipped}
-use Rattle.arrow2_compute.proofs.Gathered.{stand-there, taken-zipped}
+use Rattle.arrow2_compute.proofs.ItemsAtIndices.{stand-there, taken-zipped}
 use Rattle.arrow2_compute.proofs.take.take_boolean.Goals as goal
 
 pub returns-clause-items : goal.returns-clause-items

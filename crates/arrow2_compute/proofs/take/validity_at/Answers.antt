@@ -1,7 +1,7 @@
 use Rattle.std.proofs.Common.{◌∙◌, List, Bool, false, length, map, get_or, ap, sym}
 use Rattle.arrow2_validity.specs.OptionalValidity.{valid_items}
 use Rattle.arrow2_validity.proofs.ValidItems.{items-some}
-use Rattle.arrow2_compute.proofs.Gathered.{taken-true}
+use Rattle.arrow2_compute.proofs.ItemsAtIndices.{taken-true}
 use Rattle.arrow2_compute.proofs.take.validity_at.Goals as goal
 
 -- without a bitmap all are true

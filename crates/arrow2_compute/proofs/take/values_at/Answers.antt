@@ -2,7 +2,7 @@ use Rattle.std.proofs.Common.{◌∙◌, ◌+◌, take, get_or, ap, sym, subst, 
 use Rattle.std.specs.List.{AllZip}
 use Rattle.arrow2_model.specs.Buffers.{buffer_items}
 use Rattle.arrow2_compute.specs.Take.{IsItemAt}
-use Rattle.arrow2_numeric.proofs.Converted.{zip-more}
+use Rattle.arrow2_numeric.proofs.Casts.{zip-more}
 use Rattle.arrow2_compute.proofs.take.values_at.Goals as goal
 
 pub loop-index-preserved : goal.loop-index-preserved

@@ -4,7 +4,7 @@ use Rattle.arrow2_model.specs.Bits.{bits}
 use Rattle.arrow2_model.specs.Parts.{part}
 use Rattle.arrow2_model.proofs.Parts.{get_or-part}
 use Rattle.arrow2_model.proofs.Cursors.{length-part_bits}
-use Rattle.arrow2_offset.proofs.Written.{one_more}
+use Rattle.arrow2_offset.proofs.ItemWrites.{one_more}
 use Rattle.arrow2_ffi.proofs.booleans.write_unpacked.Goals as goal
 
 pub loop-i-preserved : goal.loop-i-preserved

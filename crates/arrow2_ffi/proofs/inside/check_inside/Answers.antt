@@ -3,18 +3,18 @@ use Rattle.std.specs.Prelude.{ℤ, pos, negsuc, ◌<ℤ◌, ◌≤ℤ◌, slice_
 use Rattle.std.proofs.lemmas.Bool.{cases_lt}
 use Rattle.std.proofs.lemmas.Int.{ints}
 use Rattle.arrow2_offset.specs.Offsets.{AreOffsets}
-use Rattle.arrow2_offset.specs.Failures.{first_broken}
+use Rattle.arrow2_offset.specs.Failures.{first_broken_rule}
 use Rattle.arrow2_offset.proofs.Order.{offsets_stated}
 use Rattle.arrow2_ffi.specs.declared.codes.TheConstants.{ARROW2_SPEC_FALLING}
 use Rattle.arrow2_ffi.specs.Rules.{rule_code}
 use Rattle.arrow2_ffi.proofs.inside.check_inside.Goals as goal
 
-not_negative : (y : ℤ) (ys : List ℤ) → rule_code (first_broken (y ∷ ys)) ≡ ARROW2_SPEC_FALLING → y <ℤ pos 0 → ⊥
+not_negative : (y : ℤ) (ys : List ℤ) → rule_code (first_broken_rule (y ∷ ys)) ≡ ARROW2_SPEC_FALLING → y <ℤ pos 0 → ⊥
 not_negative (pos n) ys e h = omega (arith, ints, h)
 not_negative (negsuc n) ys e h = omega (arith, e)
 
 -- numbers that break no earlier rule, and that never decrease, are offsets
-none_falls : {X : Type 0} (value : X → ℤ) (items : List X) → rule_code (first_broken (map value items)) ≡ ARROW2_SPEC_FALLING → ((k : ℕ) → k + 1 < length items → slice_index_or (map value items) k (pos 0) ≤ℤ slice_index_or (map value items) (k + 1) (pos 0)) → AreOffsets (map value items)
+none_falls : {X : Type 0} (value : X → ℤ) (items : List X) → rule_code (first_broken_rule (map value items)) ≡ ARROW2_SPEC_FALLING → ((k : ℕ) → k + 1 < length items → slice_index_or (map value items) k (pos 0) ≤ℤ slice_index_or (map value items) (k + 1) (pos 0)) → AreOffsets (map value items)
 none_falls value [] e up = absurd (omega (arith, e))
 none_falls value (x ∷ items) e up = offsets_stated value (x ∷ items) x (λ none. omega (arith, none)) refl (not_negative (value x) (map value items) e) up
 

@@ -9,10 +9,10 @@ returns-clause-items g c i h =
     let at = c.args.at in
     let count = c.args.count in
     let bytes = c.args.bytes.now in
-    let block = c.padded-block.result in
+    let block = c.padded_bytes-block.result in
     let all : at + count - at ≡ count = omega arith in
     let long : length (take (at + count - at) (drop at bytes)) ≡ count = ap (λ k. length (take k (drop at bytes))) all ∙ length-take-le count (drop at bytes) (omega (arith, length-drop at bytes, c.requires.inside)) in
-    let front : take count block ≡ take count (drop at bytes) = ap (λ k. take k block) (sym long) ∙ (c.padded-block.ensures.front ∙ ap (λ k. take k (drop at bytes)) all) in
+    let front : take count block ≡ take count (drop at bytes) = ap (λ k. take k block) (sym long) ∙ (c.padded_bytes-block.ensures.front ∙ ap (λ k. take k (drop at bytes)) all) in
     read_bit g.T.BitChunk.WIDTH c.SIZE.result (g.T.BitChunk.number c.from_ne_slice.result) at count i bytes block
     (omega (arith, size, c.SIZE.ensures)) c.from_ne_slice.ensures.bits front
-    (omega (arith, size, c.SIZE.ensures, c.padded-block.ensures.size, g.met.T.BitChunk.width_bounds)) c.requires.inside (omega (arith, c.requires.most, c.SIZE.ensures)) h
+    (omega (arith, size, c.SIZE.ensures, c.padded_bytes-block.ensures.size, g.met.T.BitChunk.width_bounds)) c.requires.inside (omega (arith, c.requires.most, c.SIZE.ensures)) h

@@ -5,8 +5,8 @@ use Rattle.arrow2_kernels.proofs.simd.unary_lanes.Goals as goal
 
 pub returns : goal.returns
 returns c = record {
-  long = c.chosen.ensures.long;
+  long = c.select.ensures.long;
   results = λ k i h g.
       let a : Bool = bit (get_or c.args.x k 0) i in
-      c.chosen.ensures.chosen k i h g ∙ unary_output c.args.table a _ _ (c.filled-yes.ensures k i h g ∙ c.bit.ensures) (c.filled-no.ensures k i h g ∙ c.bit-2.ensures);
+      c.select.ensures.chosen k i h g ∙ unary_output c.args.table a _ _ (c.splat_bit-yes.ensures k i h g ∙ c.bit.ensures) (c.splat_bit-no.ensures k i h g ∙ c.bit-2.ensures);
 }

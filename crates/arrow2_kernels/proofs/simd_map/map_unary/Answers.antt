@@ -1,7 +1,7 @@
 use Rattle.std.proofs.Common.{◌∙◌, ℕ, List, [], ◌∷◌, ap, take, arith, rules}
 use Rattle.arrow2_model.specs.Bits.{bits}
 use Rattle.arrow2_model.specs.Tables.{each}
-use Rattle.arrow2_kernels.proofs.Written.{whole_written}
+use Rattle.arrow2_kernels.proofs.VectorWrites.{whole_written}
 use Rattle.arrow2_kernels.proofs.LaneSteps.{front_bits}
 use Rattle.arrow2_kernels.proofs.simd_map.map_unary.Goals as goal
 

@@ -8,5 +8,5 @@ returns g c = record {
   results = λ i h.
       let x : Bool = bit (g.T.BitChunk.number c.args.x) i in
       let y : Bool = bit (g.T.BitChunk.number c.args.y) i in
-      c.chosen.ensures i h ∙ (ap (λ t. cond y t (bit (g.T.BitChunk.number c.unary_outputs-no.result) i)) (c.unary_outputs-yes.ensures.results i h) ∙ (ap (cond y _) (c.unary_outputs-no.ensures.results i h) ∙ wider_output c.args.table (x ∷ []) y));
+      c.select.ensures i h ∙ (ap (λ t. cond y t (bit (g.T.BitChunk.number c.unary_outputs-no.result) i)) (c.unary_outputs-yes.ensures.results i h) ∙ (ap (cond y _) (c.unary_outputs-no.ensures.results i h) ∙ wider_output c.args.table (x ∷ []) y));
 }

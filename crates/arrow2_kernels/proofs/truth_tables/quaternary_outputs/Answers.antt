@@ -10,5 +10,5 @@ returns g c = record {
       let y : Bool = bit (g.T.BitChunk.number c.args.y) i in
       let z : Bool = bit (g.T.BitChunk.number c.args.z) i in
       let v : Bool = bit (g.T.BitChunk.number c.args.v) i in
-      c.chosen.ensures i h ∙ (ap (λ t. cond v t (bit (g.T.BitChunk.number c.ternary_outputs-no.result) i)) (c.ternary_outputs-yes.ensures.results i h) ∙ (ap (cond v _) (c.ternary_outputs-no.ensures.results i h) ∙ wider_output c.args.table (x ∷ y ∷ z ∷ []) v));
+      c.select.ensures i h ∙ (ap (λ t. cond v t (bit (g.T.BitChunk.number c.ternary_outputs-no.result) i)) (c.ternary_outputs-yes.ensures.results i h) ∙ (ap (cond v _) (c.ternary_outputs-no.ensures.results i h) ∙ wider_output c.args.table (x ∷ y ∷ z ∷ []) v));
 }

@@ -9,5 +9,5 @@ returns g c = record {
       let x : Bool = bit (g.T.BitChunk.number c.args.x) i in
       let y : Bool = bit (g.T.BitChunk.number c.args.y) i in
       let z : Bool = bit (g.T.BitChunk.number c.args.z) i in
-      c.chosen.ensures i h ∙ (ap (λ t. cond z t (bit (g.T.BitChunk.number c.binary_outputs-no.result) i)) (c.binary_outputs-yes.ensures.results i h) ∙ (ap (cond z _) (c.binary_outputs-no.ensures.results i h) ∙ wider_output c.args.table (x ∷ y ∷ []) z));
+      c.select.ensures i h ∙ (ap (λ t. cond z t (bit (g.T.BitChunk.number c.binary_outputs-no.result) i)) (c.binary_outputs-yes.ensures.results i h) ∙ (ap (cond z _) (c.binary_outputs-no.ensures.results i h) ∙ wider_output c.args.table (x ∷ y ∷ []) z));
 }

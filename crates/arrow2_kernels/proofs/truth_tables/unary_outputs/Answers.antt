@@ -7,5 +7,5 @@ pub returns : goal.returns
 returns g c = record {
   results = λ i h.
       let a : Bool = bit (g.T.BitChunk.number c.args.x) i in
-      c.chosen.ensures i h ∙ unary_output c.args.table a _ _ (c.filled-yes.ensures i h ∙ c.bit.ensures) (c.filled-no.ensures i h ∙ c.bit-2.ensures);
+      c.select.ensures i h ∙ unary_output c.args.table a _ _ (c.splat_bit-yes.ensures i h ∙ c.bit.ensures) (c.splat_bit-no.ensures i h ∙ c.bit-2.ensures);
 }

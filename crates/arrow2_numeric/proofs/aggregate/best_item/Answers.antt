@@ -5,7 +5,7 @@ use Rattle.arrow2_model.specs.Buffers.{buffer_items}
 use Rattle.arrow2_model.specs.Storage.{items_of}
 use Rattle.arrow2_primitive.specs.Primitive.{primitive_items}
 use Rattle.arrow2_validity.specs.OptionalValidity.{valid_items}
-use Rattle.arrow2_walks.specs.Selected.{selected}
+use Rattle.arrow2_walks.specs.Selections.{selection}
 use Rattle.arrow2_walks.specs.Zipped.{zipped}
 use Rattle.arrow2_numeric.specs.Aggregates.{best_from}
 use Rattle.arrow2_numeric.proofs.Selecting.{all-values, valid-values}
@@ -18,7 +18,7 @@ returns-in-Some g c =
     let items = primitive_items c.args.array.now in
     let bits = items_of c.in-Some.validity.now in
     let whole : zipped slots valid ≡ items = ap (λ b. zipped (buffer_items b) valid) c.values.ensures.value ∙ c.optional_validity.ensures.zipped in
-    c.best_valid.ensures ∙ ap (best_from g.C.Choice.kept None) (ap (λ l. selected l bits) c.as_slice-values.ensures ∙ valid-values slots valid bits items whole c.in-Some.ensures.items)
+    c.best_valid.ensures ∙ ap (best_from g.C.Choice.kept None) (ap (λ l. selection l bits) c.as_slice-values.ensures ∙ valid-values slots valid bits items whole c.in-Some.ensures.items)
 
 pub returns-in-None : goal.returns-in-None
 returns-in-None g c =

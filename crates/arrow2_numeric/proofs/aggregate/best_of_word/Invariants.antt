@@ -2,9 +2,9 @@ use Rattle.std.proofs.Common.{◌≡◌}
 use Rattle.std.specs.List.{flat_map}
 use Rattle.arrow2_model.specs.Bits.{unnum}
 use Rattle.arrow2_model.specs.Parts.{part}
-use Rattle.arrow2_walks.specs.Selected.{selected}
+use Rattle.arrow2_walks.specs.Selections.{selection}
 use Rattle.arrow2_numeric.specs.Aggregates.{best_from}
 use Rattle.arrow2_numeric.proofs.aggregate.best_of_word.Given as goal
 
 abbrev pub invariant-loop-position : goal.invariant-loop-position
-invariant-loop-position g l = best_from g.C.Choice.kept l.best (flat_map (λ position. part l.values position 1) l.position-iterator) ≡ best_from g.C.Choice.kept l.fn.best (selected l.values (unnum 64 l.word))
+invariant-loop-position g l = best_from g.C.Choice.kept l.best (flat_map (λ position. part l.values position 1) l.position-iterator) ≡ best_from g.C.Choice.kept l.fn.best (selection l.values (unnum 64 l.word))

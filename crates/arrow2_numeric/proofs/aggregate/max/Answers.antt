@@ -1,5 +1,5 @@
 use Rattle.arrow2_primitive.specs.Primitive.{primitive_items}
-use Rattle.arrow2_walks.specs.Selected.{non_null_values}
+use Rattle.arrow2_walks.specs.Selections.{non_null_values}
 use Rattle.arrow2_numeric.proofs.Best.{greatest-of_all}
 use Rattle.arrow2_numeric.proofs.aggregate.max.Goals as goal
 

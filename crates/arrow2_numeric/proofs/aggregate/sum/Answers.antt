@@ -5,7 +5,7 @@ use Rattle.arrow2_model.specs.Buffers.{buffer_items}
 use Rattle.arrow2_model.specs.Storage.{items_of}
 use Rattle.arrow2_primitive.specs.Primitive.{primitive_items}
 use Rattle.arrow2_validity.specs.OptionalValidity.{valid_items}
-use Rattle.arrow2_walks.specs.Selected.{selected}
+use Rattle.arrow2_walks.specs.Selections.{selection}
 use Rattle.arrow2_walks.specs.Zipped.{zipped}
 use Rattle.arrow2_numeric.specs.Aggregates.{sum_of, sum_of_non_null}
 use Rattle.arrow2_numeric.proofs.Selecting.{all-values, valid-values}
@@ -20,7 +20,7 @@ returns-in-Some g c =
     let items = primitive_items c.args.array.now in
     let bits = items_of c.in-Some.validity.now in
     let whole : zipped slots valid ≡ items = ap (λ b. zipped (buffer_items b) valid) c.values.ensures.value ∙ c.optional_validity.ensures.zipped in
-    let is : c.sum_of_valid.result ≡ sum_of_non_null f items = c.sum_of_valid.ensures ∙ (ap (sum_of f) (ap (λ l. selected l bits) c.as_slice-values.ensures ∙ valid-values slots valid bits items whole c.in-Some.ensures.items) ∙ sum-non_null f items) in
+    let is : c.sum_of_valid.result ≡ sum_of_non_null f items = c.sum_of_valid.ensures ∙ (ap (sum_of f) (ap (λ l. selection l bits) c.as_slice-values.ensures ∙ valid-values slots valid bits items whole c.in-Some.ensures.items) ∙ sum-non_null f items) in
     search rules
 
 pub returns-in-None : goal.returns-in-None

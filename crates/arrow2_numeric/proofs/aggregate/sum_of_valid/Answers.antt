@@ -3,16 +3,16 @@ use Rattle.std.proofs.lemmas.Int.{ints, to_z-of_z}
 use Rattle.std.proofs.lemmas.List.{length-append}
 use Rattle.arrow2_model.specs.Bits.{unnum}
 use Rattle.arrow2_model.specs.Storage.{items_of}
-use Rattle.arrow2_walks.specs.Selected.{selected}
-use Rattle.arrow2_walks.proofs.Selected.{length-selected}
+use Rattle.arrow2_walks.specs.Selections.{selection}
+use Rattle.arrow2_walks.proofs.Selections.{length-selected}
 use Rattle.arrow2_numeric.specs.Aggregates.{sum_of}
 use Rattle.arrow2_numeric.proofs.Sums.{sum-append, range-step, range-as, range-fits}
 use Rattle.arrow2_numeric.proofs.aggregate.sum_of_valid.Goals as goal
 
-pub added-total-requires : goal.added-total-requires
-added-total-requires g c =
-    let all = selected c.args.values.now (items_of c.args.validity.now) in
-    let block = selected c.in-Some.block.now (unnum 64 c.in-Some.word) in
+pub exact_sum-total-requires : goal.exact_sum-total-requires
+exact_sum-total-requires g c =
+    let all = selection c.args.values.now (items_of c.args.validity.now) in
+    let block = selection c.in-Some.block.now (unnum 64 c.in-Some.word) in
     let step = c.in-Some.ensures.block in
     let lens = length-append block c.next_block.new.self.selected in
     let range = range-step (length all) _ (length block) (length c.next_block.new.self.selected) _ _ c.loop-block.invariant.range c.sum_of_word.ensures.range (omega (arith, lens, ap length step.selected)) c.loop-block.invariant.few in
@@ -22,14 +22,14 @@ added-total-requires g c =
 pub loop-block-preserved : goal.loop-block-preserved
 loop-block-preserved g c =
     let f = g.T.WholeNumber.integer in
-    let all = selected c.args.values.now (items_of c.args.validity.now) in
-    let block = selected c.in-Some.block.now (unnum 64 c.in-Some.word) in
+    let all = selection c.args.values.now (items_of c.args.validity.now) in
+    let block = selection c.in-Some.block.now (unnum 64 c.in-Some.word) in
     let step = c.in-Some.ensures.block in
     let lens = length-append block c.next_block.new.self.selected in
     let sums = ap (sum_of f) step.selected ∙ sum-append f block c.next_block.new.self.selected in
     let range = range-step (length all) _ (length block) (length c.next_block.new.self.selected) _ _ c.loop-block.invariant.range c.sum_of_word.ensures.range (omega (arith, lens, ap length step.selected)) c.loop-block.invariant.few in
     record {
-      sum = omega (arith, ints, sums, c.sum_of_word.ensures.sum, c.added-total.ensures, c.loop-block.invariant.sum, c.added-total.type_inv, c.sum_of_word.type_inv);
+      sum = omega (arith, ints, sums, c.sum_of_word.ensures.sum, c.exact_sum-total.ensures, c.loop-block.invariant.sum, c.exact_sum-total.type_inv, c.sum_of_word.type_inv);
       few = omega (arith, lens, ap length step.selected, c.loop-block.invariant.few);
-      range = range-as _ _ _ range (omega (arith, ints, c.added-total.ensures, c.added-total.type_inv, c.sum_of_word.type_inv));
+      range = range-as _ _ _ range (omega (arith, ints, c.exact_sum-total.ensures, c.exact_sum-total.type_inv, c.sum_of_word.type_inv));
     }

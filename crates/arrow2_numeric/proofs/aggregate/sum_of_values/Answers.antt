@@ -16,8 +16,8 @@ loop-start-preserved g c =
     let sums = sym (ap (sum_of f) (take-append-drop n left)) ∙ (sum-append f (take n left) (drop n left) ∙ ap (λ l. sum_of f (take n left) +ℤ sum_of f l) (drop-drop n start c.args.values.now ∙ ap (λ k. drop k c.args.values.now) next)) in
     let long = length-take-le n left (omega (arith, length-drop start c.args.values.now, size, c.loop-start-test.true, c.count-count.ensures.value)) in
     record {
-      sum = omega (arith, ints, sums, c.sum_of_block.ensures.sum, c.added-total.ensures, c.loop-start.invariant.sum, c.added-total.type_inv, c.sum_of_block.type_inv);
+      sum = omega (arith, ints, sums, c.sum_of_block.ensures.sum, c.exact_sum-total.ensures, c.loop-start.invariant.sum, c.exact_sum-total.type_inv, c.sum_of_block.type_inv);
       range = range-as _ _ _ (range-both start (length (take n left)) (start + 2147483648) _ _ c.loop-start.invariant.range c.sum_of_block.ensures.range (omega (arith, long, size)))
-          (omega (arith, ints, c.added-total.ensures, c.added-total.type_inv, c.sum_of_block.type_inv));
+          (omega (arith, ints, c.exact_sum-total.ensures, c.exact_sum-total.type_inv, c.sum_of_block.type_inv));
       within = omega (arith, c.loop-start-test.true, c.count-count.ensures.value);
     }

@@ -5,8 +5,8 @@ use Rattle.std.proofs.lemmas.Int.{ints, to_z-of_z}
 use Rattle.arrow2_model.specs.Bits.{unnum}
 use Rattle.arrow2_model.specs.Parts.{part}
 use Rattle.arrow2_chunk.specs.Ones.{ones}
-use Rattle.arrow2_walks.specs.Selected.{selected}
-use Rattle.arrow2_walks.proofs.Selected.{length-selected}
+use Rattle.arrow2_walks.specs.Selections.{selection}
+use Rattle.arrow2_walks.proofs.Selections.{length-selected}
 use Rattle.arrow2_numeric.specs.Aggregates.{sum_of}
 use Rattle.arrow2_numeric.proofs.Selecting.{cut-ones}
 use Rattle.arrow2_numeric.proofs.Sums.{sum-position, range-start, range-one, range-step, range-as, range-fits}
@@ -24,10 +24,10 @@ loop-position-init g c =
       range = range-start _;
     }
 
-pub added-total-requires : goal.added-total-requires
-added-total-requires g c =
+pub exact_sum-total-requires : goal.exact_sum-total-requires
+exact_sum-total-requires g c =
     let values = c.args.values.now in
-    let all = selected values (unnum 64 c.args.word) in
+    let all = selection values (unnum 64 c.args.word) in
     let left = flat_map (λ position. part values position 1) c.next.new.self in
     let found = c.in-Some-get.ensures.lookup in
     let less : c.in-Some.position < length values = omega arith in
@@ -39,14 +39,14 @@ added-total-requires g c =
 pub loop-position-preserved-in-Some-get : goal.loop-position-preserved-in-Some-get
 loop-position-preserved-in-Some-get g c =
     let values = c.args.values.now in
-    let all = selected values (unnum 64 c.args.word) in
+    let all = selection values (unnum 64 c.args.word) in
     let left = flat_map (λ position. part values position 1) c.next.new.self in
     let found = c.in-Some-get.ensures.lookup in
     let less : c.in-Some.position < length values = omega arith in
     let step = sum-position g.T.WholeNumber.integer values c.in-Some.position c.next.new.self c.loop-position.position-iterator c.in-Some-get.value.now c.in-Some.ensures.steps less found.1 in
     let range = range-step (length all) _ 1 (length left) _ _ c.loop-position.invariant.range (range-one c.to_i128.result c.to_i128.ensures.low c.to_i128.ensures.high) step.1 c.loop-position.invariant.few in
     record {
-      sum = omega (arith, ints, step.0, c.to_i128.ensures.value, c.added-total.ensures, c.loop-position.invariant.sum, c.added-total.type_inv, c.to_i128.type_inv);
+      sum = omega (arith, ints, step.0, c.to_i128.ensures.value, c.exact_sum-total.ensures, c.loop-position.invariant.sum, c.exact_sum-total.type_inv, c.to_i128.type_inv);
       few = omega (arith, step.1, c.loop-position.invariant.few);
-      range = range-as _ _ _ range (omega (arith, ints, c.added-total.ensures, c.added-total.type_inv, c.to_i128.type_inv));
+      range = range-as _ _ _ range (omega (arith, ints, c.exact_sum-total.ensures, c.exact_sum-total.type_inv, c.to_i128.type_inv));
     }

@@ -2,13 +2,13 @@ use Rattle.std.proofs.Common.{◌≡◌, ◌-◌, ◌≤◌, ◌+ℤ◌, length}
 use Rattle.std.specs.List.{flat_map}
 use Rattle.arrow2_model.specs.Bits.{unnum}
 use Rattle.arrow2_model.specs.Parts.{part}
-use Rattle.arrow2_walks.specs.Selected.{selected}
+use Rattle.arrow2_walks.specs.Selections.{selection}
 use Rattle.arrow2_numeric.specs.Aggregates.{sum_of, IsInSumRange}
 use Rattle.arrow2_numeric.proofs.aggregate.sum_of_word.Given as goal
 
 abbrev pub invariant-loop-position : goal.invariant-loop-position
 invariant-loop-position g l =
-    let all = selected l.values (unnum 64 l.word) in
+    let all = selection l.values (unnum 64 l.word) in
     let left = flat_map (λ position. part l.values position 1) l.position-iterator in
     record {
       sum : l.total +ℤ sum_of g.T.WholeNumber.integer left ≡ sum_of g.T.WholeNumber.integer all;

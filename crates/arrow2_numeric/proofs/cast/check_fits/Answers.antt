@@ -5,7 +5,7 @@ use Rattle.std.proofs.lemmas.List.Elements.{All-more}
 use Rattle.arrow2_types.specs.Failures.{IsInvalidArgumentOrOutOfMemory}
 use Rattle.arrow2_primitive.specs.Primitive.{primitive_items}
 use Rattle.arrow2_numeric.specs.Casts.{Fits, not_fitting_message}
-use Rattle.arrow2_numeric.proofs.Converted.{first-misfit}
+use Rattle.arrow2_numeric.proofs.Casts.{first-misfit}
 use Rattle.arrow2_numeric.proofs.cast.check_fits.Goals as goal
 
 pub loop-index-preserved : goal.loop-index-preserved

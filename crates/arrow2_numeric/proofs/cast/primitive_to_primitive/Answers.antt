@@ -4,7 +4,7 @@ use Rattle.std.proofs.lemmas.Grind.{common_steps}
 use Rattle.std.proofs.lemmas.List.{length-take, take_all}
 use Rattle.arrow2_primitive.specs.Primitive.{primitive_items}
 use Rattle.arrow2_numeric.specs.Casts.{IsCast}
-use Rattle.arrow2_numeric.proofs.Converted.{length-zip, zip-more, if-ok}
+use Rattle.arrow2_numeric.proofs.Casts.{length-zip, zip-more, if-ok}
 use Rattle.arrow2_numeric.proofs.cast.primitive_to_primitive.Goals as goal
 
 pub loop-index-preserved : goal.loop-index-preserved

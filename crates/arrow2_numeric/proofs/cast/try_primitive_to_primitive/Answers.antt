@@ -1,6 +1,6 @@
 use Rattle.arrow2_primitive.specs.Primitive.{primitive_items}
 use Rattle.arrow2_numeric.specs.Casts.{not_fitting_message}
-use Rattle.arrow2_numeric.proofs.Converted.{same-numbers, if-ok, if-err, out_of_memory}
+use Rattle.arrow2_numeric.proofs.Casts.{same-numbers, if-ok, if-err, out_of_memory}
 use Rattle.arrow2_numeric.proofs.cast.try_primitive_to_primitive.Goals as goal
 
 pub returns-clause-items : goal.returns-clause-items

@@ -2,4 +2,4 @@ use Rattle.std.proofs.Common.{rules}
 use Rattle.arrow2_numeric.proofs.comparison.eq_scalar.Goals as goal
 
 pub returns-clause-items : goal.returns-clause-items
-returns-clause-items g c = c.tested.ensures.items (λ value. g.T.PartialEq.eq value c.args.scalar) (search rules)
+returns-clause-items g c = c.compare_each.ensures.items (λ value. g.T.PartialEq.eq value c.args.scalar) (search rules)

@@ -3,4 +3,4 @@ use Rattle.std.specs.Ordering.{partial_ge}
 use Rattle.arrow2_numeric.proofs.comparison.gt_eq_scalar.Goals as goal
 
 pub returns-clause-items : goal.returns-clause-items
-returns-clause-items g c = c.tested.ensures.items (λ value. partial_ge g.T.PartialOrd.partial_cmp value c.args.scalar) (search rules)
+returns-clause-items g c = c.compare_each.ensures.items (λ value. partial_ge g.T.PartialOrd.partial_cmp value c.args.scalar) (search rules)

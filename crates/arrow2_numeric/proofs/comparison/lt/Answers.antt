@@ -3,4 +3,4 @@ use Rattle.std.specs.Ordering.{partial_lt}
 use Rattle.arrow2_numeric.proofs.comparison.lt.Goals as goal
 
 pub returns-clause-items : goal.returns-clause-items
-returns-clause-items g c = c.tested_both.ensures.items (partial_lt g.T.PartialOrd.partial_cmp) (search rules)
+returns-clause-items g c = c.compare_pairs.ensures.items (partial_lt g.T.PartialOrd.partial_cmp) (search rules)

@@ -3,4 +3,4 @@ use Rattle.std.specs.Prelude.{not}
 use Rattle.arrow2_numeric.proofs.comparison.neq.Goals as goal
 
 pub returns-clause-items : goal.returns-clause-items
-returns-clause-items g c = c.tested_both.ensures.items (λ left right. not (g.T.PartialEq.eq left right)) (search rules)
+returns-clause-items g c = c.compare_pairs.ensures.items (λ left right. not (g.T.PartialEq.eq left right)) (search rules)

@@ -3,4 +3,4 @@ use Rattle.std.specs.Prelude.{not}
 use Rattle.arrow2_numeric.proofs.comparison.neq_scalar.Goals as goal
 
 pub returns-clause-items : goal.returns-clause-items
-returns-clause-items g c = c.tested.ensures.items (λ value. not (g.T.PartialEq.eq value c.args.scalar)) (search rules)
+returns-clause-items g c = c.compare_each.ensures.items (λ value. not (g.T.PartialEq.eq value c.args.scalar)) (search rules)

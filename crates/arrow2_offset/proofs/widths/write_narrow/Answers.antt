@@ -3,9 +3,9 @@ use Rattle.std.specs.Prelude.{ℤ, pos, FitsSigned}
 use Rattle.std.specs.Int as integers
 use Rattle.std.proofs.lemmas.Int.{to_z-of_z}
 use Rattle.std.proofs.lemmas.List.{ext_get_or, length-set}
-use Rattle.arrow2_model.proofs.Signed.{below_fits}
+use Rattle.arrow2_model.proofs.SignedNumbers.{below_fits}
 use Rattle.arrow2_offset.proofs.Growing.{offset_within}
-use Rattle.arrow2_offset.proofs.Written.{one_more}
+use Rattle.arrow2_offset.proofs.ItemWrites.{one_more}
 use Rattle.arrow2_offset.proofs.widths.write_narrow.Goals as goal
 
 pub overflow_cast-out : goal.overflow_cast-out

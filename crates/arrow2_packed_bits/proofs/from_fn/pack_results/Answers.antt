@@ -1,5 +1,5 @@
 use Rattle.std.proofs.Common.{◌≡◌, ℕ, ◌+◌, ◌*◌, ◌<◌, ◌/◌, ◌%◌, arith}
-use Rattle.arrow2_packed_bits.proofs.Asked.{each-word}
+use Rattle.arrow2_packed_bits.proofs.WordsOfResults.{each-word}
 use Rattle.arrow2_packed_bits.proofs.from_fn.pack_results.Goals as goal
 
 pub loop-block-preserved : goal.loop-block-preserved

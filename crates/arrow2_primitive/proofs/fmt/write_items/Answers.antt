@@ -2,7 +2,7 @@ use Rattle.std.proofs.Common.{◌<◌, true, arith, get_or, length, refl}
 use Rattle.std.specs.Prelude.{Ok, None}
 use Rattle.std.specs.Fmt.{debug_list}
 use Rattle.arrow2_validity.specs.ItemTexts.{item_output}
-use Rattle.arrow2_validity.proofs.Printed.{all-shown, displays-from, item-shown, none-shown, shows-from}
+use Rattle.arrow2_validity.proofs.ArrayTexts.{all-shown, displays-from, item-shown, none-shown, shows-from}
 use Rattle.arrow2_primitive.specs.Primitive.{primitive_items}
 use Rattle.arrow2_primitive.proofs.fmt.write_items.Goals as goal
 

@@ -2,7 +2,7 @@ use Rattle.std.proofs.Common.{[], take}
 use Rattle.std.specs.Prelude.{Some, codes}
 use Rattle.std.specs.Fmt.{◌++?◌, IsPlainFormatter, debug_items}
 use Rattle.arrow2_validity.specs.ItemTexts.{item_output}
-use Rattle.arrow2_validity.proofs.Printed.{Shows}
+use Rattle.arrow2_validity.proofs.ArrayTexts.{Shows}
 use Rattle.arrow2_primitive.specs.Primitive.{primitive_items}
 use Rattle.arrow2_primitive.proofs.fmt.write_items.Given as goal
 

@@ -3,7 +3,7 @@ use Rattle.std.proofs.lemmas.Result.{IfOk-weaker}
 use Rattle.arrow2_model.specs.Bits.{unnum}
 use Rattle.arrow2_model.specs.Storage.{items_of}
 use Rattle.arrow2_model.proofs.RowKernels.{ternary_is}
-use Rattle.arrow2_model.specs.Kernels.{word, joined}
+use Rattle.arrow2_model.specs.Kernels.{word, bits_of_words}
 use Rattle.arrow2_kernels.specs.WordResults.{AreJoinedResults}
 use Rattle.arrow2_kernels.proofs.WordResults.{row_result}
 use Rattle.arrow2_tables.proofs.bitmap_ops.ternary.Given as given
@@ -27,6 +27,6 @@ returns-clause-results g c =
     (λ m are. (
       are.0,
       λ j less. row_result 64 _ _ (λ l. post (slice_index l 0) (slice_index l 1) (slice_index l 2)) _ (word 64 a1 j ∷ word 64 a2 j ∷ word 64 a3 j ∷ []) (are.0 j) (λ row r is. search rules) (search rules) (are.1 j (omega (arith, c.len.ensures.items, less))),
-      are.2 ∙ ap (joined 64 are.0) c.len.ensures.items,
+      are.2 ∙ ap (bits_of_words 64 are.0) c.len.ensures.items,
     ))
     c.from_rows.ensures.results

@@ -2,7 +2,7 @@ use Rattle.std.proofs.Common.{[], take}
 use Rattle.std.specs.Prelude.{Some, codes}
 use Rattle.std.specs.Fmt.{◌++?◌, IsPlainFormatter, debug_items}
 use Rattle.arrow2_validity.specs.ItemTexts.{item_output}
-use Rattle.arrow2_validity.proofs.Printed.{Shows}
+use Rattle.arrow2_validity.proofs.ArrayTexts.{Shows}
 use Rattle.arrow2_text.specs.Binary.{binary_items}
 use Rattle.arrow2_text.proofs.fmt.write_texts.Given as goal
 

@@ -3,7 +3,7 @@ use Rattle.arrow2.specs.Binary.{binary_items}
 use Rattle.arrow2.specs.Buffers.{buffer_items}
 use Rattle.arrow2.specs.Offsets.{start_of, lengths_of}
 use Rattle.arrow2.specs.Parts.{part}
-use Rattle.arrow2.proofs.Nested.{at-cut}
+use Rattle.arrow2.proofs.NestedLists.{at-cut}
 use Rattle.arrow2_uses.proofs.texts.list_at.Goals as goal
 
 pub returns-clause-ok : goal.returns-clause-ok

@@ -1,6 +1,6 @@
 use Rattle.std.proofs.Common.{map, drop, refl, arith}
 use Rattle.arrow2_offset.specs.Offsets.{start_of, lengths_of}
-use Rattle.arrow2_offset.proofs.Nested.{length-cut, read-cut}
+use Rattle.arrow2_offset.proofs.NestedLists.{length-cut, read-cut}
 use Rattle.arrow2_utf8.proofs.Between.{sum-take-step}
 use Rattle.arrow2_utf8.specs.Texts.{slot_values}
 use Rattle.arrow2_utf8.proofs.specification.slot_of.Goals as goal

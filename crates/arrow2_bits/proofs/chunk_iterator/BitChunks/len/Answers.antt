@@ -1,6 +1,6 @@
 use Rattle.std.proofs.Common.{◌∙◌, ap, sym, length}
 use Rattle.arrow2_model.specs.Words.{full_words}
-use Rattle.arrow2_bits.proofs.Spilled.{words_left}
+use Rattle.arrow2_bits.proofs.WordIterators.{words_left}
 use Rattle.arrow2_bits.proofs.chunk_iterator.BitChunks.len.Goals as goal
 
 pub returns : goal.returns

@@ -1,7 +1,7 @@
 use Rattle.std.proofs.Common.{◌≡◌, take, length, subst}
 use Rattle.arrow2_model.specs.Bits.{unnum}
 use Rattle.arrow2_model.specs.Words.{WordCursor, rest}
-use Rattle.arrow2_bits.proofs.Spilled.{rest_of_word}
+use Rattle.arrow2_bits.proofs.WordIterators.{rest_of_word}
 use Rattle.arrow2_bits.proofs.chunk_iterator.BitChunks.remainder.Goals as goal
 
 pub returns-clause-rest : goal.returns-clause-rest

@@ -1,6 +1,6 @@
 use Rattle.std.proofs.Common.{◌∙◌, ap, sym, length, subst, ◌<◌, ◌^◌}
 use Rattle.arrow2_model.specs.Words.{WordCursor, rest}
-use Rattle.arrow2_bits.proofs.Spilled.{length_of_rest, cursor_fits}
+use Rattle.arrow2_bits.proofs.WordIterators.{length_of_rest, cursor_fits}
 use Rattle.arrow2_bits.proofs.chunk_iterator.BitChunks.remainder_len.Goals as goal
 
 pub returns-clause-rest : goal.returns-clause-rest

@@ -1,7 +1,7 @@
 use Rattle.std.proofs.Common.{◌∙◌, ap, sym, refl, length, arith, ◌*◌, ◌-◌}
 use Rattle.arrow2_model.specs.Words.{full_words, rest}
 use Rattle.arrow2_model.proofs.Words.{first_word-append, rest-whole}
-use Rattle.arrow2_bits.proofs.Spilled.{slice_end, cursor_ended, cursor_moves}
+use Rattle.arrow2_bits.proofs.WordIterators.{slice_end, cursor_ended, cursor_moves}
 use Rattle.arrow2_bits.proofs.chunk_iterator.BitChunksIterator.next.Goals as goal
 
 pub returns-then-self-eq0-clause-steps : goal.returns-then-self-eq0-clause-steps

@@ -1,5 +1,5 @@
 use Rattle.std.proofs.Common.{◌∙◌}
-use Rattle.arrow2_bits.proofs.Spilled.{front_items, front_spill}
+use Rattle.arrow2_bits.proofs.WordIterators.{front_items, front_spill}
 use Rattle.arrow2_bits.proofs.chunks_exact.BitChunksExact.new.Goals as goal
 
 pub returns-clause-items : goal.returns-clause-items

@@ -39,7 +39,7 @@ use denote.Triple.Table.{framed}
 use denote.Triple.Walked.{Stays, stay_dropped, walk_of, ends_at, says, Goes-spent_ref, Goes-dropped}
 use borrow.Table.Elements.{at, at_mul, length-take-le}
 use Rattle.std.proofs.raw_atomic.Walks.{proved}
-use Rattle.arrow2_model.specs.Buffers.{overwritten}
+use Rattle.arrow2_model.specs.Buffers.{overwrite}
 use Rattle.arrow2_bits.specs.ChunksMut.{ChunkCursorMut}
 use Rattle.arrow2_bits.proofs.Lending.{part_lent, lends_part}
 use Rattle.arrow2_bits.specs.contracts.chunks_exact_mut.BitChunksExactMut.{the_row}
@@ -107,7 +107,7 @@ part_mut_spec 𝓤 𝓛 𝓜 𝓡 wired T laws =
     let on : at o (mem u8).size (length front) ≡ p = at_mul o (mem u8).size (length front) ∙ omega (arith, before) in
     let fits : n < 2 ^ 64 = omega (arith, inside, spare.0) in
     let spare' : Room u8 (length part) = (omega (arith, long, fits), omega (arith, long, inside, spare.1)) in
-    let around : (ws : List ℕ) → length ws ≡ length part → front ++ (ws ++ back) ≡ overwritten xs start ws = λ ws e'. ap (λ (k : ℕ). front ++ (ws ++ following k ahead)) (sym (e' ∙ long)) in
+    let around : (ws : List ℕ) → length ws ≡ length part → front ++ (ws ++ back) ≡ overwrite xs start ws = λ ws e'. ap (λ (k : ℕ). front ++ (ws ++ following k ahead)) (sym (e' ∙ long)) in
     let s : GName → MutBor (List ℕ) = λ δ. record { ref_ptr = (b, p); ghost_name = δ; now = part } in
     rewrite ! 0 (λ (u : Val). ‵ (Lent.own_val r (u ∷ []))) e refl $
     lands_as ! e refl (tt, (tt, (record { fits = spare.0 }, tt))) $
@@ -117,14 +117,14 @@ part_mut_spec 𝓤 𝓛 𝓜 𝓡 wired T laws =
     sets ! (agg ! (and_then ! (get ! refl) (and_then ! (get ! refl) (no_more !)))) refl (tt, (tt, (record { fits = fits }, tt))) $
     move ! (2 ∷ []) $ split ! $ move ! (2 ∷ 0 ∷ []) $
     -- [the bytes; their token; the other tokens; how the iterator follows them; the locals]
-    use2 𝓛 (later (some (part_lent 𝓛 (named 0) κs.0 qs.0 b o r.ghost_name u8 xs front part back cut p on spare' (overwritten xs start) around)))
-    (lends_part 𝓛 (named 0) κs.0 qs.0 b o r.ghost_name u8 xs front part back cut p on spare' (overwritten xs start) around (slice_val r.ref_ptr (length xs) ∷ [])) $ await ! tt $ pick ! (λ δ. split3 ! $
+    use2 𝓛 (later (some (part_lent 𝓛 (named 0) κs.0 qs.0 b o r.ghost_name u8 xs front part back cut p on spare' (overwrite xs start) around)))
+    (lends_part 𝓛 (named 0) κs.0 qs.0 b o r.ghost_name u8 xs front part back cut p on spare' (overwrite xs start) around (slice_val r.ref_ptr (length xs) ∷ [])) $ await ! tt $ pick ! (λ δ. split3 ! $
     rewrite ! 0 (λ (k : ℕ). ‵ (Lent.own_val (s δ) (slice_val (b, p) k ∷ []))) long refl $
     -- [the part; its token; how the bytes follow it; the other tokens; how the iterator follows the bytes; the locals]
     move ! (4 ∷ 2 ∷ []) $
-    use2 𝓛 (‵ (follows S (Array u8 0) γ δ (λ w. record cursor { bytes = overwritten xs start w })))
-    (follows_then 𝓛 S (Array u8 0) (Array u8 0) (λ w. record cursor { bytes = w }) (overwritten xs start) γ r.ghost_name δ) $
-    rewrite ! 0 (λ (items : List ℕ). ‵ (follows S (Array u8 0) γ δ (λ w. record cursor { bytes = overwritten items start w }))) same refl $
+    use2 𝓛 (‵ (follows S (Array u8 0) γ δ (λ w. record cursor { bytes = overwrite xs start w })))
+    (follows_then 𝓛 S (Array u8 0) (Array u8 0) (λ w. record cursor { bytes = w }) (overwrite xs start) γ r.ghost_name δ) $
+    rewrite ! 0 (λ (items : List ℕ). ‵ (follows S (Array u8 0) γ δ (λ w. record cursor { bytes = overwrite items start w }))) same refl $
     returns ! (look_at ! 0 refl) $ free_all ! refl $ move ! (2 ∷ 3 ∷ []) $ join ! $ move ! (2 ∷ 1 ∷ 0 ∷ []) $
     -- [the part; how the iterator follows it; the tokens]
     suffices ! _ (ends_at 𝓛 (f.ended T) (stayed T) c y (slice_val (b, p) n) (s δ) (tt, (tt, (tt, tt))) (tt, (tt, (tt, tt)))) $

@@ -2,7 +2,7 @@ use Rattle.std.proofs.Common.{◌∙◌, ap, arith, ◌/◌, ◌%◌}
 use Rattle.arrow2_model.specs.Bits.{bits}
 use Rattle.arrow2_model.specs.Parts.{part}
 use Rattle.arrow2_model.proofs.Bytes.{part-bits-drop}
-use Rattle.arrow2_bits.proofs.Spilled.{slice_end}
+use Rattle.arrow2_bits.proofs.WordIterators.{slice_end}
 use Rattle.arrow2_bits.proofs.iterator.BitmapIter.new.Goals as goal
 
 pub returns-then-len : goal.returns-then-len

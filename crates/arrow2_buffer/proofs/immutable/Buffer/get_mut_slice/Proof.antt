@@ -63,13 +63,13 @@ use Rattle.std.specs.contracts.option.Option as OP
 use Rattle.std.specs.Rc.{rc_with_value}
 use Rattle.arrow2_model.specs.Buffers.{BufferStorage, buffer_items}
 use Rattle.arrow2_model.specs.Parts.{part}
-use Rattle.arrow2_buffer.specs.Lent.{LendsOwnedPart, rewritten, shared_row}
+use Rattle.arrow2_buffer.specs.Loans.{LendsOwnedPart, overwrite_lent, shared_row}
 use Rattle.arrow2_buffer.specs.contracts.bytes.Bytes as stored
 use Rattle.arrow2_buffer.specs.contracts.immutable.Buffer as buffer
 use Rattle.arrow2_buffer.specs.contracts.immutable.Buffer.TheInside as inside
 use Rattle.arrow2_buffer.specs.contracts.immutable.Buffer.get_mut_slice as f
 use Rattle.arrow2_buffer.specs.contracts.immutable.lend_unshared as g
-use Rattle.arrow2_buffer.proofs.Overwritten.{length-rewritten}
+use Rattle.arrow2_buffer.proofs.Overwrites.{length-rewritten}
 use Rattle.arrow2_buffer.proofs.bytes.Bytes.TheLaws as stored_laws
 use Rattle.arrow2_buffer.proofs.immutable.lend_unshared.Met.{met}
 use Rattle.arrow2_buffer.proofs.immutable.Buffer.get_mut_slice.Statement.{statement}
@@ -204,14 +204,14 @@ get_mut_slice_spec 𝓤 𝓛 𝓜 𝓡 wired T laws =
           let spare : Room (f.T-row T) (length s.now) = is'.0.1 in let lent : Val = slice_val s.ref_ptr (length s.now) in
           let is : v ≡ live 1 (of_list (lent ∷ [])) = ap only e ∙ ap (λ ws. live 1 (of_list ws)) (e' ∙ ap (λ ws. ws ++ []) is'.0.0) in
           rewrite ! 0 (λ (us : List Val). ‵ (Lent.own_val s us)) is'.0.0 refl $ move ! (2 ∷ []) $ pick ! (λ ws. split3 ! $ drop ! $ move ! (1 ∷ []) $ heard ! _ (λ value.
-          let back : List T.Denot → Z.Denot = λ w. rc_with_value a.storage (rewritten a.storage.value start w) in
+          let back : List T.Denot → Z.Denot = λ w. rc_with_value a.storage (overwrite_lent a.storage.value start w) in
           let long : (w : List T.Denot) → end ≤ length (back w).value = λ w. rw length-rewritten ok.0 in
           -- [the value that the storage follows; the items; the tokens; the right to the storage; the open borrow; the
           -- frame; the name's two halves]
           move ! (4 ∷ 6 ∷ 7 ∷ 3 ∷ 0 ∷ 5 ∷ []) $ group ! 6 $
           use1 𝓛 (later (‵ (flft κ (halves.left q)) ⊛ ‵ (follows R Items γ s.ghost_name (λ w. with T laws 𝓛 rb ro a ok (back w) (long w)))))
           (closes_tie R Z Items (Good T laws 𝓛 rb ro a ok) (with T laws 𝓛 rb ro a ok) 𝓛 n κ (halves.left q) rb ro (ro + 0) γ δ (R.coded.code d) (Back T laws 𝓛 rb ro a ok) (fill T laws 𝓛 rb ro a ok) s.ghost_name (maybe.some back) long) $ await ! tt $ split ! $
-          move ! (1 ∷ []) $ rewrite ! 0 (λ (u : BufferStorage T.Denot). ‵ (follows R Items γ s.ghost_name (λ w. record u { storage = rewritten u.storage u.offset w }))) seen refl $
+          move ! (1 ∷ []) $ rewrite ! 0 (λ (u : BufferStorage T.Denot). ‵ (follows R Items γ s.ghost_name (λ w. record u { storage = overwrite_lent u.storage u.offset w }))) seen refl $
           move ! (3 ∷ []) $ split3 ! $ move ! (4 ∷ 0 ∷ []) $ use2 𝓛 (‵ (flft κ q)) (𝓛.lfts.lft_join κ q) $ group ! 3 $
           lands_as ! is refl (tt, (record { fits = lit< tt }, ((tt, (record { fits = spare.0 }, tt)), tt))) $ returns ! (look_at ! 0 refl) $ free_all ! refl $ keep ! (0 ∷ 1 ∷ 2 ∷ []) $ move ! (2 ∷ []) $
           use1 𝓛 (‵ ((OP.the_row Lent).own_val (Some s) (live 1 (of_list (lent ∷ [])) ∷ []))) (Some-of 𝓛 Lent s lent) $

@@ -10,7 +10,7 @@ returns-clause-row c =
     let items : List Bool = c.args.self.now.items.now in
     let x : ℕ = c.word_of-word.result in
     let enough : 64 ≤ length items = omega (arith, c.if-self-lt64.false) in
-    let is : x ≡ word 64 items 0 = first_block items c.padded.result x enough c.word_of-word.ensures c.padded.ensures.front c.padded.ensures.size in (
+    let is : x ≡ word 64 items 0 = first_block items c.padded_block.result x enough c.word_of-word.ensures c.padded_block.ensures.front c.padded_block.ensures.size in (
       ap (λ (n : ℕ). n ∷ []) is,
       one_word 64 x (subst (λ (n : ℕ). n < 2 ^ 64) (sym is) (num-part-lt 64 items 0)),
       fewer_items items enough,

@@ -1,14 +1,14 @@
 use Rattle.std.proofs.Common.{◌≡◌, ap, List, map, arith}
 use Rattle.std.specs.Prelude.{ℤ, Some, IsNone}
 use Rattle.arrow2_offset.specs.Offsets.{AreOffsets}
-use Rattle.arrow2_offset.specs.Failures.{first_broken}
+use Rattle.arrow2_offset.specs.Failures.{first_broken_rule}
 use Rattle.arrow2_offset.specs.declared.check.BrokenRule.{BrokenRule}
 use Rattle.arrow2_offset.specs.declared.check.BrokenRule.TheVariants.{Empty, Negative, Falling}
 use Rattle.arrow2_ffi.specs.Rules.{rule_code, ReportsBrokenRule}
 use Rattle.arrow2_ffi.proofs.offsets.calls.error_code.Goals as goal
 
 -- the code of the rule that is broken first determines it
-states : (rule : BrokenRule) (xs : List ℤ) → (AreOffsets xs → IsNone (Some rule)) → rule ≡ first_broken xs → ReportsBrokenRule (rule_code rule) xs
+states : (rule : BrokenRule) (xs : List ℤ) → (AreOffsets xs → IsNone (Some rule)) → rule ≡ first_broken_rule xs → ReportsBrokenRule (rule_code rule) xs
 states Empty xs accepted e = record { broken = λ are. let no = accepted are in cc; rule = ap rule_code e; other = λ e. omega (arith, e) }
 states Negative xs accepted e = record { broken = λ are. let no = accepted are in cc; rule = ap rule_code e; other = λ e. omega (arith, e) }
 states Falling xs accepted e = record { broken = λ are. let no = accepted are in cc; rule = ap rule_code e; other = λ e. omega (arith, e) }

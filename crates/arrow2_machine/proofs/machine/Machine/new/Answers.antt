@@ -1,6 +1,6 @@
 use Rattle.std.proofs.Common.{◌≡◌, ◌∙◌, sym, rules, ◌<◌, replicate, get_or, arith}
 use Rattle.std.proofs.lemmas.List.{same_lists, get_or-replicate}
-use Rattle.arrow2_machine.specs.Held.{Nothing}
+use Rattle.arrow2_machine.specs.SlotValues.{Nothing}
 use Rattle.arrow2_machine.proofs.machine.Machine.new.Goals as goal
 
 pub returns : goal.returns

@@ -4,7 +4,7 @@ use Rattle.std.specs.Bool.{◌==◌}
 use Rattle.std.proofs.lemmas.List.{append-nil, length-append, take_all}
 use Rattle.arrow2_model.specs.Bits.{unnum}
 use Rattle.arrow2_model.proofs.Bits.{length-unnum}
-use Rattle.arrow2_walks.specs.Selected.{selected}
+use Rattle.arrow2_walks.specs.Selections.{selection}
 use Rattle.arrow2_numeric.proofs.Selecting.{front-of, block-selected, last-selected}
 use Rattle.arrow2_numeric.proofs.masked_blocks.MaskedBlocks.next_block.Goals as goal
 
@@ -60,5 +60,5 @@ returns-in_default-clause-block g c =
       few = omega (arith, ap length block, sized, words.1, c.remainder_len.ensures.short);
       count = ap (λ s. s.count) (sym c.self.view_is) ∙ omega (arith, ap length block, ap length none);
       selected = ap (λ s. s.selected) (sym c.self.view_is) ∙ (last-selected values items (unnum 64 c.remainder.result) word n whole words.0 c.masked-last.ensures.bits
-          ∙ (ap (λ l. selected l word) (sym block) ∙ (sym (append-nil (selected c.take-block.result.now word)) ∙ ap (λ l. selected c.take-block.result.now word ++ selected l c.next.new.self.items) (sym none))));
+          ∙ (ap (λ l. selection l word) (sym block) ∙ (sym (append-nil (selection c.take-block.result.now word)) ∙ ap (λ l. selection c.take-block.result.now word ++ selection l c.next.new.self.items) (sym none))));
     }

@@ -5,8 +5,8 @@ use Rattle.arrow2_offset.specs.Offsets.{offsets_of, last_of_growing}
 use Rattle.arrow2_offset.proofs.Growing.{list_up_to, tested_last}
 use Rattle.arrow2_offset.proofs.convert.OffsetsI32TryFromOffsetsI64.try_from.Goals as goal
 
-pub narrowed-requires : goal.narrowed-requires
-narrowed-requires c =
+pub narrow-requires : goal.narrow-requires
+narrow-requires c =
     let o = c.args.offsets in
     let v = c.into_inner-offsets in
     let plain : v.result.items ≡ map pos (offsets_of o) = sym (map-id v.result.items) ∙ v.ensures.offsets in

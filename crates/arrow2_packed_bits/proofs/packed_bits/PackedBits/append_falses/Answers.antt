@@ -1,8 +1,8 @@
 use Rattle.std.proofs.Common.{rules, ◌∙◌, ◌-◌, ◌++◌, false, length, take, replicate, ap, sym, subst, arith}
 use Rattle.arrow2_model.specs.Bits.{bits}
 use Rattle.arrow2_packed_bits.proofs.Buffer.{length_items}
-use Rattle.arrow2_packed_bits.proofs.Filled.{falses_following, resized}
-use Rattle.arrow2_packed_bits.proofs.Pushed.{Hold}
+use Rattle.arrow2_packed_bits.proofs.ConstantBytes.{falses_following, resized}
+use Rattle.arrow2_packed_bits.proofs.WordPushes.{Hold}
 use Rattle.arrow2_packed_bits.proofs.packed_bits.PackedBits.append_falses.Goals as goal
 
 appended : (c : goal.After-self-1) → Hold c.resize.new.self.items c.args.total (take c.self.inside.length (bits c.self.inside.bytes.items) ++ replicate (c.args.total - length (take c.self.inside.length (bits c.self.inside.bytes.items))) false)

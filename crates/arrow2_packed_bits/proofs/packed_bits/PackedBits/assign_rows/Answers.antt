@@ -1,12 +1,12 @@
 use Rattle.std.proofs.Common.{◌≡◌, ◌∙◌, ℕ, List, ◌∷◌, Bool, ap, sym, subst, length, take, arith}
 use Rattle.arrow2_model.specs.Bits.{bits}
-use Rattle.arrow2_model.specs.Kernels.{word, words_at, joined, kernel}
+use Rattle.arrow2_model.specs.Kernels.{word, words_at, bits_of_words, kernel}
 use Rattle.arrow2_model.specs.Rows.{AreRowsOf}
 use Rattle.arrow2_model.specs.Tables.{each}
 use Rattle.arrow2_model.proofs.Kernels.{table_word}
 use Rattle.arrow2_model.proofs.RowKernels.{rows_kernel, rows_table, acts_paired}
 use Rattle.arrow2_kernels.specs.WordResults.{MayReturnOwn}
-use Rattle.arrow2_kernels.proofs.Written.{whole_written}
+use Rattle.arrow2_kernels.proofs.VectorWrites.{whole_written}
 use Rattle.arrow2_kernels.proofs.WordResults.{results_as}
 use Rattle.arrow2_packed_bits.proofs.Buffer.{length_items}
 use Rattle.arrow2_packed_bits.proofs.packed_bits.PackedBits.assign_rows.Given as given
@@ -26,7 +26,7 @@ returns-clause-kernel g c f lists is are =
     let whole = whole_written b.bytes.items c.assign_rows.new.bytes b.bytes.len b.bytes.ok.0 (omega (arith, c.assign_rows.auto.bytes, c.as_mut_slice.ensures.len, b.bytes.ok.0)) in
     ap (λ (bytes : List ℕ). take n (bits bytes)) whole
     ∙ (c.assign_rows.ensures.items f is
-    ∙ (ap (λ (bytes : List ℕ). joined w (λ j. f (word w (take n (bits bytes)) j ∷ row j)) n) c.as_mut_slice.ensures.value
+    ∙ (ap (λ (bytes : List ℕ). bits_of_words w (λ j. f (word w (take n (bits bytes)) j ∷ row j)) n) c.as_mut_slice.ensures.value
     ∙ (rows_kernel w n f (own ∷ lists) (λ j. word w own j ∷ row j) (omega (arith, g.met.T.BitChunk.width_bounds)) (paired_own w n own lists row (length_items b.bytes.items n c.self.invariant) are)
     ∙ ap (λ m. kernel w f (m.items ∷ lists)) c.self.view_is)))
 
@@ -40,7 +40,7 @@ returns-clause-table g c t lists acts are =
     let whole = whole_written b.bytes.items c.assign_rows.new.bytes b.bytes.len b.bytes.ok.0 (omega (arith, c.assign_rows.auto.bytes, c.as_mut_slice.ensures.len, b.bytes.ok.0)) in
     ap (λ (bytes : List ℕ). take n (bits bytes)) whole
     ∙ (c.assign_rows.ensures.items (table_word w t) (acts_paired w t g.S.WordRows.words g.T.BitChunk.number _ acts)
-    ∙ (ap (λ (bytes : List ℕ). joined w (λ j. table_word w t (word w (take n (bits bytes)) j ∷ row j)) n) c.as_mut_slice.ensures.value
+    ∙ (ap (λ (bytes : List ℕ). bits_of_words w (λ j. table_word w t (word w (take n (bits bytes)) j ∷ row j)) n) c.as_mut_slice.ensures.value
     ∙ (rows_table w n t (own ∷ lists) (λ j. word w own j ∷ row j) (omega (arith, g.met.T.BitChunk.width_bounds)) (paired_own w n own lists row (length_items b.bytes.items n c.self.invariant) are)
     ∙ ap (λ m. each t (m.items ∷ lists)) c.self.view_is)))
 

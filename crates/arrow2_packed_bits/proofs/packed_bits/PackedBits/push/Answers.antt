@@ -1,7 +1,7 @@
 use Rattle.std.proofs.Common.{◌∙◌, ◌≤◌, ◌<◌, ◌+◌, ◌^◌, [], ◌∷◌, ◌++◌, ap, take, refl, arith, rules, vec_capacity, length}
 use Rattle.arrow2_model.specs.Bits.{bits}
 use Rattle.arrow2_packed_bits.proofs.Buffer.{length_items, push_byte, push_position}
-use Rattle.arrow2_packed_bits.proofs.Pushed.{Hold}
+use Rattle.arrow2_packed_bits.proofs.WordPushes.{Hold}
 use Rattle.arrow2_packed_bits.proofs.packed_bits.PackedBits.push.Goals as goal
 use Rattle.arrow2_packed_bits.proofs.packed_bits.PackedBits.push.Goals.{then-position-eq0+in_ok-push, else-position-eq0}
 

@@ -40,7 +40,7 @@ returns c =
     let rest = c.as_chunks.result.1.now in
     let at_end : 64 * w.block-index ≡ length items / 64 * 64 = omega (arith, c.as_chunks.ensures.front_len, c.loop-block-test.false, w.auto.block-index-end) in
     let left : drop (64 * w.block-index) items ≡ rest = ap (λ n. drop n items) at_end ∙ sym c.as_chunks.ensures.back in
-    let last : take (length rest) (unnum 64 c.word_of-2.result) ≡ rest = front_items rest c.padded.result c.word_of-2.result c.padded.ensures.front c.padded.ensures.size c.word_of-2.ensures in
+    let last : take (length rest) (unnum 64 c.word_of-2.result) ≡ rest = front_items rest c.padded_block.result c.word_of-2.result c.padded_block.ensures.front c.padded_block.ensures.size c.word_of-2.ensures in
     let whole : w.self.items ++ take (length rest) (unnum 64 c.word_of-2.result) ≡ c.args.self.now.items ++ items = ap (λ (t : List Bool). w.self.items ++ t) (last ∙ sym left) ∙ w.invariant.items in
     record {
       ok = subst (λ (t : List Bool). OnOk c.push_word-2.result (c.push_word-2.new.self.items ≡ t)) whole c.push_word-2.ensures.pushes.ok;

@@ -3,7 +3,7 @@ use Rattle.std.proofs.lemmas.Bool.{false≢true}
 use Rattle.arrow2_model.specs.Bits.{bits}
 use Rattle.arrow2_model.proofs.Bits.{length-bits}
 use Rattle.arrow2_packed_bits.proofs.Buffer.{length_items}
-use Rattle.arrow2_packed_bits.proofs.Pushed.{Hold}
+use Rattle.arrow2_packed_bits.proofs.WordPushes.{Hold}
 use Rattle.arrow2_packed_bits.proofs.Whole.{pushed_bytes}
 use Rattle.arrow2_packed_bits.proofs.packed_bits.PackedBits.push_bytes.Goals as goal
 

@@ -4,7 +4,7 @@ use Rattle.std.proofs.lemmas.List.{length-take-le}
 use Rattle.arrow2_model.specs.Bits.{bits, unnum}
 use Rattle.arrow2_model.proofs.Bits.{length-unnum}
 use Rattle.arrow2_packed_bits.proofs.Buffer.{length_items, word_fits}
-use Rattle.arrow2_packed_bits.proofs.Pushed.{Hold, pushed_whole, pushed_within, last_clear}
+use Rattle.arrow2_packed_bits.proofs.WordPushes.{Hold, pushed_whole, pushed_within, last_clear}
 use Rattle.arrow2_packed_bits.proofs.packed_bits.PackedBits.push_word.Goals as goal
 use Rattle.arrow2_packed_bits.proofs.packed_bits.PackedBits.push_word.Goals.{then-position-eq0+in_ok-push_first, else-position-eq0+in_ok-push_first-2}
 
@@ -34,8 +34,8 @@ returns-in_err-push_first-2-clause-pushes c =
       capacity = omega (arith, spare, c.push_first-else-position-eq0.ensures.capacity);
     }
 
-pub merged-requires-clause-clear : goal.merged-requires-clause-clear
-merged-requires-clause-clear c i h h' =
+pub merge_bits-requires-clause-clear : goal.merge_bits-requires-clause-clear
+merge_bits-requires-clause-clear c i h h' =
     let b = c.self.inside in
     last_clear b.bytes.items _ _ b.length c.index_mut-last.result.now i c.self.invariant (omega (arith, c.if-position-eq0.false)) c.in_ok-push_first-2.ensures.ok c.index_mut-last.ensures.value h h'
 
@@ -54,10 +54,10 @@ pushed c =
       )
       | else-position-eq0+in_ok-push_first-2 w ↦ rw w.self-inside-is (
         w.in_ok-push_first-2.ensures.capacity,
-        pushed_within b.bytes.items _ _ w.to_ne_bytes-following.result b.length c.args.count _ c.masked-word.result w.down.result c.args.word w.merged.result w.index_mut-last.result.now
+        pushed_within b.bytes.items _ _ w.to_ne_bytes-following.result b.length c.args.count _ c.masked-word.result w.down.result c.args.word w.merge_bits.result w.index_mut-last.result.now
             c.self.invariant (omega (arith, w.if-position-eq0.false)) c.requires.few (ap (λ k. k - 1) w.bytes_for-else-position-eq0.ensures) w.in_ok-push_first-2.ensures.ok w.to_ne_bytes-following.ensures.bits w.down.ensures.bits c.masked-word.ensures.bits
-            w.index_mut-last.ensures.value w.merged.ensures.kept w.merged.ensures.written refl
-            (word_fits w.to_ne_bytes-following.result w.down.result w.to_ne_bytes-following.ensures.digits (omega (arith, w.down.ensures.fits))) w.merged.type_inv,
+            w.index_mut-last.ensures.value w.merge_bits.ensures.kept w.merge_bits.ensures.written refl
+            (word_fits w.to_ne_bytes-following.result w.down.result w.to_ne_bytes-following.ensures.digits (omega (arith, w.down.ensures.fits))) w.merge_bits.type_inv,
       )
     ]
 

@@ -2,7 +2,7 @@ use Rattle.std.proofs.Common.{◌∙◌, ◌%◌, ◌/◌, ap, set, take, length
 use Rattle.std.proofs.lemmas.Grind.{get_or_default_zero}
 use Rattle.arrow2_model.specs.Bits.{bits, unnum}
 use Rattle.arrow2_packed_bits.proofs.Buffer.{length_items, bit_written}
-use Rattle.arrow2_packed_bits.proofs.Pushed.{Hold}
+use Rattle.arrow2_packed_bits.proofs.WordPushes.{Hold}
 use Rattle.arrow2_packed_bits.proofs.packed_bits.PackedBits.set.Goals as goal
 
 written : (c : goal.After-self-1) → Hold (set c.self.inside.bytes.items (c.args.index / 8) c.set.result) c.self.inside.length (set (take c.self.inside.length (bits c.self.inside.bytes.items)) c.args.index c.args.value)

@@ -1,5 +1,5 @@
 use Rattle.std.proofs.Common.{◌≡◌, length}
-use Rattle.arrow2_walks.specs.Selected.{non_null_values}
+use Rattle.arrow2_walks.specs.Selections.{non_null_values}
 use Rattle.arrow2_primitive.proofs.iterator.NonNullValuesIterIterator.next.Given as goal
 
 abbrev pub invariant-loop-item : goal.invariant-loop-item

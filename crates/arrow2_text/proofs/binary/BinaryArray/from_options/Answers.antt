@@ -2,7 +2,7 @@ use Rattle.std.proofs.Common.{◌∙◌, ◌+◌, ◌<◌, ap, length, subst, sy
 use Rattle.std.specs.Prelude.{Err}
 use Rattle.std.specs.Option.{option_copied, option_map_or}
 use Rattle.arrow2_types.specs.declared.error.Error.TheVariants.{Overflow}
-use Rattle.arrow2_text.proofs.Collected.{all-taken, bytes-by_reference, count-taken, handed-on, made-items, made-type, no-overflow, not-failed, past-taken, only-memory, sum-taken-more, taken-more, made-bytes, measured-all}
+use Rattle.arrow2_text.proofs.CollectedItems.{all-taken, bytes-by_reference, count-taken, handed-on, made-items, made-type, no-overflow, not-failed, past-taken, only-memory, sum-taken-more, taken-more, made-bytes, measured-all}
 use Rattle.arrow2_text.specs.Growth.{bytes_of_items, items_by_bytes}
 use Rattle.arrow2_text.proofs.binary.BinaryArray.from_options.Goals as goal
 

@@ -2,7 +2,7 @@ use Rattle.std.proofs.Common.{true, refl, subst}
 use Rattle.std.specs.Prelude.{Some}
 use Rattle.std.specs.Fmt.{◌++?◌, HasWritten, debug_list}
 use Rattle.arrow2_validity.specs.ItemTexts.{item_output}
-use Rattle.arrow2_validity.proofs.Printed.{displays-from, shows-from, shows-then}
+use Rattle.arrow2_validity.proofs.ArrayTexts.{displays-from, shows-from, shows-then}
 use Rattle.arrow2_text.specs.ArrayTexts.{text_head}
 use Rattle.arrow2_text.specs.Binary.{binary_items}
 use Rattle.arrow2_text.proofs.fmt.Utf8ArrayDebug.fmt.Goals as goal

@@ -2,7 +2,7 @@ use Rattle.std.proofs.Common.{◌≡◌, ◌-◌, ◌+◌, ◌∙◌, [], false,
 use Rattle.std.specs.Prelude.{IfOk, option_map}
 use Rattle.arrow2_model.specs.Parts.{part}
 use Rattle.arrow2_walks.specs.Zipped.{slot}
-use Rattle.arrow2_offset.proofs.Nested.{at-cut}
+use Rattle.arrow2_offset.proofs.NestedLists.{at-cut}
 use Rattle.arrow2_text.proofs.growing.Growing.copy_of.Goals as goal
 
 pub returns-clause-ok : goal.returns-clause-ok
@@ -23,4 +23,4 @@ returns-clause-ok g c =
     let held_item : part xs (0 + sum (take k ns)) n ≡ get_or held.values k [] = sym item ∙ ap (λ slots. get_or slots.values k []) c.self.view_is in
     let bytes : take (upto - from) (drop from all) ≡ get_or held.values k [] = cut_out ∙ (of_values ∙ held_item) in
     let valid = c.get.ensures ∙ ap (λ slots. get_or slots.valid k false) c.self.view_is in
-    subst (λ z. IfOk c.copied.result (λ item. option_map (λ value. value.items) item ≡ z)) (ap (λ l. slot l c.get.result) bytes ∙ ap (slot (get_or held.values k [])) valid) c.copied.ensures.ok
+    subst (λ z. IfOk c.copy_slot.result (λ item. option_map (λ value. value.items) item ≡ z)) (ap (λ l. slot l c.get.result) bytes ∙ ap (slot (get_or held.values k [])) valid) c.copy_slot.ensures.ok

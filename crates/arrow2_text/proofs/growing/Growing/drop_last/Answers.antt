@@ -1,5 +1,5 @@
 use Rattle.std.proofs.Common.{◌≡◌, ◌+◌, ◌-◌, ◌∙◌, length, sum, take, min, ap, sym, arith}
-use Rattle.arrow2_offset.specs.Nested.{cut}
+use Rattle.arrow2_offset.specs.NestedLists.{cut}
 use Rattle.arrow2_text.proofs.LastSlot.{lost-last}
 use Rattle.arrow2_text.proofs.SlotLists.{popped-bits}
 use Rattle.arrow2_text.proofs.growing.Growing.drop_last.Goals as goal

@@ -1,6 +1,6 @@
 use Rattle.std.proofs.Common.{◌≡◌, List, Bool, count_by, length, ap, sym, ◌∙◌, subst}
 use Rattle.arrow2_validity.specs.OptionalValidity.{valid_items}
-use Rattle.arrow2_offset.proofs.Nested.{length-cut}
+use Rattle.arrow2_offset.proofs.NestedLists.{length-cut}
 use Rattle.arrow2_text.specs.Binary.{BinaryParts, binary_items, binary_values, IsCompact}
 use Rattle.arrow2_text.specs.Growth.{GrowingSlots}
 use Rattle.arrow2_text.proofs.GrowthItems.{bitmap-there}
@@ -10,7 +10,7 @@ use Rattle.std.specs.Prelude.{IfSome, ◌↔◌}
 use Rattle.std.specs.Option.{IsNone, is_none}
 use Rattle.std.proofs.Math.Seq.{take-length}
 use Rattle.arrow2_model.specs.Buffers.{buffer_items}
-use Rattle.arrow2_bitmap.specs.Packed.{IsPacked}
+use Rattle.arrow2_bitmap.specs.PackedBitmaps.{IsPacked}
 use Rattle.arrow2_text.proofs.growing.Growing.freeze.Goals as goal
 
 pub returns-clause-valid : goal.returns-clause-valid

@@ -1,5 +1,5 @@
 use Rattle.std.proofs.Common.{length, ap, sym, ◌∙◌}
-use Rattle.arrow2_offset.proofs.Nested.{length-cut}
+use Rattle.arrow2_offset.proofs.NestedLists.{length-cut}
 use Rattle.arrow2_text.proofs.growing.Growing.len.Goals as goal
 
 pub returns-clause-values : goal.returns-clause-values

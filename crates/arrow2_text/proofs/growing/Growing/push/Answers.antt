@@ -1,6 +1,6 @@
 use Rattle.std.proofs.Common.{◌∙◌, [], ◌∷◌, length, sym, subst, vec_capacity, arith}
 use Rattle.arrow2_text.specs.Growth.{AppendsSlots}
-use Rattle.arrow2_text.proofs.PushedSlot.{not-pushed, pushed, slots_of, taken-back}
+use Rattle.arrow2_text.proofs.SlotPushes.{not-pushed, pushed, slots_of, taken-back}
 use Rattle.arrow2_text.proofs.growing.Growing.push.Goals as goal
 
 pub push_slot-pushed-requires : goal.push_slot-pushed-requires

@@ -1,5 +1,5 @@
 use Rattle.std.proofs.Common.{ap, length, sum, sym, ◌∙◌, arith}
-use Rattle.arrow2_offset.specs.Nested.{cut}
+use Rattle.arrow2_offset.specs.NestedLists.{cut}
 use Rattle.arrow2_text.proofs.growing.Growing.with_capacity.Goals as goal
 
 pub invariant_of-result : goal.invariant_of-result

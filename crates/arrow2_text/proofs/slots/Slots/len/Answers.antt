@@ -1,7 +1,7 @@
 use Rattle.std.proofs.Common.{length, drop, ap, sym, ◌∙◌}
 use Rattle.arrow2_model.specs.Buffers.{buffer_items}
 use Rattle.arrow2_offset.specs.Offsets.{lengths_of, start_of}
-use Rattle.arrow2_offset.proofs.Nested.{length-cut}
+use Rattle.arrow2_offset.proofs.NestedLists.{length-cut}
 use Rattle.arrow2_validity.specs.OptionalValidity.{valid_items}
 use Rattle.arrow2_text.specs.Binary.{binary_items, binary_values}
 use Rattle.arrow2_text.proofs.SlotLists.{length-slots}

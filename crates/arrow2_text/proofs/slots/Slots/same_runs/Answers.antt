@@ -3,7 +3,7 @@ use Rattle.arrow2_model.specs.Parts.{part}
 use Rattle.arrow2_model.proofs.Parts.{length-part}
 use Rattle.arrow2_model.specs.Storage.{items_of}
 use Rattle.arrow2_walks.specs.Runs.{runs}
-use Rattle.arrow2_walks.proofs.Left.{left-all}
+use Rattle.arrow2_walks.proofs.RemainingItems.{left-all}
 use Rattle.arrow2_text.specs.Binary.{binary_values}
 use Rattle.arrow2_text.proofs.SameSlots.{runs-alike, runs-left, runs-differ}
 use Rattle.arrow2_text.proofs.slots.Slots.same_runs.Goals as goal

@@ -2,7 +2,7 @@ use Rattle.std.proofs.Common.{◌≡◌, [], length, drop, get_or, ap, sym, ◌�
 use Rattle.std.specs.Prelude.{Some}
 use Rattle.arrow2_model.specs.Buffers.{buffer_items}
 use Rattle.arrow2_offset.specs.Offsets.{lengths_of, start_of}
-use Rattle.arrow2_offset.proofs.Nested.{length-cut}
+use Rattle.arrow2_offset.proofs.NestedLists.{length-cut}
 use Rattle.arrow2_utf8.specs.Texts.{slot_values}
 use Rattle.arrow2_validity.specs.OptionalValidity.{valid_items}
 use Rattle.arrow2_walks.specs.Zipped.{zipped}

@@ -2,7 +2,7 @@ use Rattle.std.proofs.Common.{◌∙◌, ap, length, take, count_by, map, sum}
 use Rattle.std.specs.Prelude.{Some, Err}
 use Rattle.std.specs.Option.{is_none}
 use Rattle.arrow2_types.specs.declared.error.Error.TheVariants.{Overflow}
-use Rattle.arrow2_text.proofs.Collected.{all-taken, count-taken, handed-on, made-items, made-type, no-bitmap, no-overflow, not-failed, none-null, past-taken, only-memory, sum-taken-more, taken-more, made-bytes, measured-all}
+use Rattle.arrow2_text.proofs.CollectedItems.{all-taken, count-taken, handed-on, made-items, made-type, no-bitmap, no-overflow, not-failed, none-null, past-taken, only-memory, sum-taken-more, taken-more, made-bytes, measured-all}
 use Rattle.arrow2_text.proofs.utf8.Utf8Array.from_slice.Goals as goal
 
 pub loop-value-init : goal.loop-value-init

@@ -1,6 +1,0 @@
-use Rattle.std.proofs.Common.{◌≡◌, ◌++◌, ◌*◌, drop}
-use Rattle.arrow2_model.specs.Bits.{bits}
-use Rattle.arrow2_packed_bits.proofs.packing.packed.Given as goal
-
-abbrev pub invariant-loop-block : goal.invariant-loop-block
-invariant-loop-block l = bits l.bytes.items ++ drop (64 * l.block-index) l.items ≡ l.items
