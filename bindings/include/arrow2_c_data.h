@@ -2,8 +2,8 @@
  * of whole arrays of the Arrow C data interface.
  *
  * The contents of buffers (bits, offsets, texts and indices) are tested by calls of the library, which are proved. The
- * exception is the slots of unions, which code of this header tests. The code that traverses the tree of an array is
- * in this header and written by hand: see docs/BINDINGS.md, which is in the package too.
+ * exception is the slots of unions: functions of this header test them. The code that traverses the tree of an array
+ * is in this header and written by hand: see docs/BINDINGS.md, which is in the package too.
  *
  * The interface does not state the number of bytes of a buffer. `arrow2_array_check` trusts that each buffer has the
  * bytes that format, length, offset and last offset require. `arrow2_array_check_sized` gets the number of bytes of

@@ -216,7 +216,8 @@ impl Bitmap {
     ///
     /// # Errors
     ///
-    /// `Overflow` or `OutOfMemory`. `Overflow` is possible only if the iterator may yield more than `usize::MAX` items.
+    /// `Overflow` or `OutOfMemory`. `Overflow` comes only if the contract of the iterator allows more than `usize::MAX`
+    /// items.
     pub fn try_from_iter<I: IntoIterator<Item = bool>>(alloc: Global, iter: I) -> Result<Bitmap>
         requires { IsFiniteIterable I.into_iter_gives I.IntoIter.can_next I.IntoIter.remaining iter }
         // The items are a whole sequence, from first to last, that the contract of the iterator allows it to yield.
@@ -404,9 +405,9 @@ impl Bitmap {
     }
 
     /// Returns an iterator over the items by words of `T`, from the first item on. In the contract, `spill` is the word
-    /// that `remainder` returns. Its lowest bits are the items after the last full word. The bits above them are stored
-    /// bits that follow the last item, as far as they fit: up to the end of the last item's byte, or, if the bitmap
-    /// has no full word, all of them. All other bits of the word are 0.
+    /// that `remainder` returns. Its lowest bits are the items after the last full word. Above these come stored bits
+    /// that follow the last item, as many as the word has room for: if there is a full word, only those in the byte of
+    /// the last item; if there is none, also those of the bytes after it. All other bits of the word are 0.
     pub fn chunks<T: BitChunk>(&self) -> BitChunks<'_, T>
         ensures items { result.items ≡ items_of self.now }
         ensures fits { length (items_of self.now) < 2 ^ 64 }
@@ -676,9 +677,9 @@ impl fmt::Debug for Bitmap {
     ghost debug_output = { λ b. Some (shown
         (part b.bytes (b.offset / 8) ((b.offset % 8 + b.len + 7) / 8)) (b.offset % 8) b.len) };
 
-    /// If it returns `Ok` and the formatter does not indent, it wrote exactly the text that the definition `shown`
-    /// gives for the bytes, the bit offset and the length, whatever width, precision or flags the formatter has. For a
-    /// formatter that indents, as inside a `{:#?}`, the clause states nothing.
+    /// If it returns `Ok`, it wrote exactly the text that the definition `shown` gives for the bytes, the bit offset
+    /// and the length: width, precision and flags of the formatter, `#` too, change nothing. The clause states nothing
+    /// for the formatter that indents the fields of a value printed by `{:#?}`.
     fn fmt<W: fmt::Write>(&self, f: &mut fmt::Formatter<W>) -> fmt::Result
         ensures styled { let b = self.now in WritesStyledOnOk W.write_str_gives f.old result (shown
             (part b.bytes (b.offset / 8) ((b.offset % 8 + b.len + 7) / 8)) (b.offset % 8) b.len) f.new }

@@ -155,7 +155,8 @@ impl MutableBitmap {
     ///
     /// # Errors
     ///
-    /// `Overflow` or `OutOfMemory`. `Overflow` is possible only if the iterator may yield more than `usize::MAX` items.
+    /// `Overflow` or `OutOfMemory`. `Overflow` comes only if the contract of the iterator allows more than `usize::MAX`
+    /// items.
     pub fn try_from_iter<I: IntoIterator<Item = bool>>(
         alloc: Global,
         iter: I,
@@ -489,9 +490,9 @@ fn constant_bytes(alloc: Global, byte: u8, count: usize) -> std::result::Result<
 impl fmt::Debug for MutableBitmap {
     ghost debug_output = { λ m. Some (shown (canonical_bytes m.items) 0 (length m.items)) };
 
-    /// If it returns `Ok` and the formatter does not indent, it wrote exactly the text that the definition `shown`
-    /// gives for the items, whatever width, precision or flags the formatter has. For a formatter that indents, as
-    /// inside a `{:#?}`, the clause states nothing.
+    /// If it returns `Ok`, it wrote exactly the text that the definition `shown` gives for the items: width, precision
+    /// and flags of the formatter, `#` too, change nothing. The clause states nothing for the formatter that indents
+    /// the fields of a value printed by `{:#?}`.
     fn fmt<W: fmt::Write>(&self, f: &mut fmt::Formatter<W>) -> fmt::Result
         ensures styled { WritesStyledOnOk W.write_str_gives f.old result
             (shown (canonical_bytes self.now.items) 0 (length self.now.items)) f.new }

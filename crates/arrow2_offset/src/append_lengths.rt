@@ -18,7 +18,8 @@ use std::mem;
 /// bytes, a little less than the largest that glibc caches.
 pub(crate) const LEAST_CAPACITY: usize = 120;
 
-/// The whole capacity, in lengths, after the second allocation, where the first reserved `LEAST_CAPACITY`.
+/// The total capacity, in lengths, after the second allocation, if the first reserved capacity for `LEAST_CAPACITY`
+/// lengths.
 const SECOND_CAPACITY: usize = 512;
 
 /// Appends the lengths that an iterator yields. On an error, removes the appended lengths again. Requires that the
@@ -51,12 +52,12 @@ pub(crate) fn append_lengths<O: Offset, I: Iterator<Item = usize> + Drop>(
     all
 }
 
-/// Appends the lengths that an iterator yields, and returns the vector. After an error, the items after the old offsets
-/// are unspecified.
+/// Appends the lengths that an iterator yields. Returns the vector, also after an error: then it begins with the old
+/// offsets, and the items after these are unspecified.
 ///
-/// The vector is passed by value, so that its length stays in a register from item to item. The sums are exact and
-/// never fall, so it is enough to compare the last sum with `O::MAX` each time capacity is reserved, and once at the
-/// end.
+/// The vector is passed by value, so that its length stays in a register from item to item. The sum of lengths is
+/// exact, in a type wider than `O`, and never falls. If the last sum is at most `O::MAX`, so are all sums before it: so
+/// the last sum is compared with `O::MAX` only where capacity is reserved, and at the end.
 #[inline(never)]
 fn append_sums<O: Offset, I: Iterator<Item = usize> + Drop>(
     mut offsets: Vec<O>,
@@ -103,7 +104,7 @@ fn append_sums<O: Offset, I: Iterator<Item = usize> + Drop>(
     (offsets, Ok(()))
 }
 
-/// Returns the offsets in a vector with spare capacity, unless the allocation fails.
+/// Returns the vector in any case. It has spare capacity unless the allocation failed.
 fn with_spare_capacity<O>(mut offsets: Vec<O>) -> (Vec<O>, Result<(), AllocError>)
     ensures items { result.0.items ≡ offsets.items }
     ensures capacity { vec_capacity offsets ≤ vec_capacity result.0 }

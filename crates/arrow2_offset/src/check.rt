@@ -7,7 +7,7 @@ use arrow2_index::Offset;
 use arrow2_types::{Error, Result};
 use std::alloc::{AllocError, Global};
 
-/// Why a list is not offsets: the first of these faults that it has, in this order.
+/// The first rule of offsets that a list breaks, in this order. Each is named by the fault.
 #[derive(Clone, Copy, Debug, PartialEq, Eq)]
 pub enum BrokenRule {
     /// There is no offset at all.
@@ -54,7 +54,7 @@ pub(crate) fn try_check_offsets<O: Offset>(alloc: Global, offsets: &[O]) -> Resu
     }
 }
 
-/// Returns arrow2's message for a list whose first broken rule is this one.
+/// Returns arrow2's message for a list that breaks this rule.
 fn words_of(rule: BrokenRule) -> &'static str
     ensures { result.now ≡ rule_words rule }
 {

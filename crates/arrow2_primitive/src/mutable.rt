@@ -150,7 +150,8 @@ impl<T: NativeType> MutablePrimitiveArray<T> {
     ///
     /// # Errors
     ///
-    /// `Overflow` or `OutOfMemory`. `Overflow` is possible only if the iterator may yield more than `usize::MAX` items.
+    /// `Overflow` or `OutOfMemory`. `Overflow` comes only if the contract of the iterator allows more than `usize::MAX`
+    /// items.
     pub fn try_from_iter<I: IntoIterator<Item = Option<T>>>(
         alloc: Global,
         iter: I,

@@ -16,8 +16,8 @@ use arrow2_types::{Error, Result};
 /// with false. Requires that all have equal lengths, and that the `requires` of `op` holds for every three words.
 ///
 /// For any `op` the clauses state that the items are the bits of result words, and that each result word is one that
-/// the contract of `op` allows for the input words at its index. If the contract of `op` fixes the result, by a
-/// function on words or bit by bit by a truth table, the clauses fix each item.
+/// the contract of `op` allows for the input words at its index. If the contract of `op` determines each result (as a
+/// function of its words, or through a truth table for each bit), the clauses determine each item.
 ///
 /// Differs from arrow2: the padding bits of the words count as false. In the code `op` is not called for words that
 /// hold no item, which no clause states. arrow2's call returns no `Result`.
@@ -75,8 +75,8 @@ pub fn ternary<F: Fn(u64, u64, u64) -> u64>(
 /// with false. Requires that all have equal lengths, and that the `requires` of `op` holds for every four words.
 ///
 /// For any `op` the clauses state that the items are the bits of result words, and that each result word is one that
-/// the contract of `op` allows for the input words at its index. If the contract of `op` fixes the result, by a
-/// function on words or bit by bit by a truth table, the clauses fix each item.
+/// the contract of `op` allows for the input words at its index. If the contract of `op` determines each result (as a
+/// function of its words, or through a truth table for each bit), the clauses determine each item.
 ///
 /// Differs from arrow2: the padding bits of the words count as false. In the code `op` is not called for words that
 /// hold no item, which no clause states. arrow2's call returns no `Result`.
