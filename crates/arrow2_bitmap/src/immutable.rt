@@ -406,8 +406,8 @@ impl Bitmap {
 
     /// Returns an iterator over the items by words of `T`, from the first item on. In the contract, `spill` is the word
     /// that `remainder` returns. Its lowest bits are the items after the last full word. Above these come stored bits
-    /// that follow the last item, as many as the word has room for: if there is a full word, only those in the byte of
-    /// the last item; if there is none, also those of the bytes after it. All other bits of the word are 0.
+    /// that follow the last item, up to the width of the word: if there is a full word, only those in the byte of the
+    /// last item; if there is none, also those of the bytes after it. All other bits of the word are 0.
     pub fn chunks<T: BitChunk>(&self) -> BitChunks<'_, T>
         ensures items { result.items ≡ items_of self.now }
         ensures fits { length (items_of self.now) < 2 ^ 64 }
