@@ -121,12 +121,12 @@ pub fn all(inputs: &Inputs) -> impl Iterator<Item = (&'static str, Line<'_>)> {
 }
 
 fn index() -> Vec<Line<'static>> {
-    vec![line!("IndexRange, walked", (MANY, "numbers"), numbers("index_range"), vec![MANY])]
+    vec![line!("IndexRange, iterated", (MANY, "numbers"), numbers("index_range"), vec![MANY])]
 }
 
 fn chunk(inputs: &Inputs) -> Vec<Line<'_>> {
     let words = inputs.numbers[..MANY / 64].iter().map(|word| *word as usize).collect();
-    vec![line!("BitChunkOnes, walked", (MANY, "bits"), numbers("ones"), words)]
+    vec![line!("BitChunkOnes, iterated", (MANY, "bits"), numbers("ones"), words)]
 }
 
 fn bits(inputs: &Inputs) -> Vec<Line<'_>> {
@@ -468,7 +468,7 @@ fn buffers(inputs: &Inputs) -> Vec<Line<'_>> {
     vec![
         on("clone and sliced", (100_000, "slices"), "sliced", parts(NUMBERS, 0, NUMBERS, 100_000)),
         on("into_iter", all, "into_iter", whole()),
-        on("as_slice, walked", all, "as_slice", whole()),
+        on("as_slice, iterated", all, "as_slice", whole()),
         collect("try_from_iter", all, NUMBERS, 8),
         calls("try_from_iter of 8 items", 8, CALLS.0),
         calls("try_from_iter of 100 items", 100, CALLS.0),
@@ -614,7 +614,7 @@ fn computed(inputs: &Inputs) -> Vec<Line<'_>> {
             lines.push(line!(name, elements, columns(call, values, validity, bytes), runs));
         }
     }
-    // Beside it the page shows how many bytes a nanosecond these calls read.
+    // Next to it the page shows how many bytes a nanosecond these calls read.
     let (elements, runs) = ((4 * MANY, "items"), vec![MANY; 4]);
     lines.push(line!(COPY, elements, columns("copy", values, NONE, bytes), runs));
     lines

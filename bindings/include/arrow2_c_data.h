@@ -553,12 +553,12 @@ static inline uint32_t arrow2_c_reject(const struct arrow2_c_tree *tree, uint32_
     size_t at = 0;
     for (int i = 0; i < tree->depth; i++) {
         char *rest = tree->where->path + at;
-        size_t room = sizeof tree->where->path - at;
+        size_t size = sizeof tree->where->path - at;
         int length = tree->children[i] < 0
-                         ? snprintf(rest, room, "%s%s", i ? "/" : "", tree->kinds[i])
-                         : snprintf(rest, room, "%s%s.%lld", i ? "/" : "", tree->kinds[i],
+                         ? snprintf(rest, size, "%s%s", i ? "/" : "", tree->kinds[i])
+                         : snprintf(rest, size, "%s%s.%lld", i ? "/" : "", tree->kinds[i],
                                     (long long)tree->children[i]);
-        if (length < 0 || (size_t)length >= room) {
+        if (length < 0 || (size_t)length >= size) {
             break;
         }
         at += (size_t)length;

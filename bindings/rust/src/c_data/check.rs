@@ -1,5 +1,5 @@
-//! Whether an array is one of its schema. It walks the tree as `arrow2_c_data.h` does: each test of bits, offsets, texts
-//! and indices, except of slots of unions, is a call of the library.
+//! Whether an array is one of its schema. It traverses the tree as `arrow2_c_data.h` does: each test of bits, offsets,
+//! texts and indices, except of slots of unions, is a call of the library.
 
 use super::abi::{ArrowArray, ArrowSchema};
 use super::layout::{Kind, Layout};
