@@ -10,7 +10,7 @@ use Rattle.arrow2_array.proofs.Tables.{and_following, and_paired, and_known, or_
 use Rattle.arrow2_ffi.specs.declared.bits_input.Bits.{Bits}
 use Rattle.arrow2_ffi.specs.Kleene.{AgreesWhereOneIsValid}
 use Rattle.arrow2_ffi.specs.Ranges.{first_bits}
-use Rattle.arrow2_ffi.specs.Validities.{CoversItems, valid_items, validity_of}
+use Rattle.arrow2_ffi.specs.Validities.{CoversItems, items_not_null, validity_bits}
 
 pub and_paired_table : AgreesWhereOneIsValid 207 53060
 and_paired_table = record { second = and_paired; first = and_following; both = and_known }
@@ -18,17 +18,17 @@ and_paired_table = record { second = and_paired; first = and_following; both = a
 pub or_paired_table : AgreesWhereOneIsValid 252 64648
 or_paired_table = record { second = or_paired; first = or_following; both = or_known }
 
-pub length-valid_items : (validity : Option Bits) (n : ℕ) → CoversItems (validity_of validity) n → length (valid_items (validity_of validity) n) ≡ n
+pub length-valid_items : (validity : Option Bits) (n : ℕ) → CoversItems (validity_bits validity) n → length (items_not_null (validity_bits validity) n) ≡ n
 length-valid_items None n states = length-replicate n true
 length-valid_items (Some b) n states = length-part_bits b.0.now b.1 n states
 
 -- without a validity all items are valid
-pub all_valid : (validity : Option Bits) (xs : List Bool) (n : ℕ) → validity ≡ None → length xs ≡ n → valid_items (validity_of validity) n ≡ replicate (length xs) true
-all_valid validity xs n missing size = ap (λ v. valid_items (validity_of v) n) missing ∙ ap (λ m. replicate m true) (sym size)
+pub all_valid : (validity : Option Bits) (xs : List Bool) (n : ℕ) → validity ≡ None → length xs ≡ n → items_not_null (validity_bits validity) n ≡ replicate (length xs) true
+all_valid validity xs n missing size = ap (λ v. items_not_null (validity_bits v) n) missing ∙ ap (λ m. replicate m true) (sym size)
 
 -- with one those whose bit is set
-pub given_items : (validity : Option Bits) (b : Bits) (n : ℕ) → validity ≡ Some b → first_bits b n ≡ valid_items (validity_of validity) n
-given_items validity b n given = sym (ap (λ v. valid_items (validity_of v) n) given)
+pub given_items : (validity : Option Bits) (b : Bits) (n : ℕ) → validity ≡ Some b → first_bits b n ≡ items_not_null (validity_bits validity) n
+given_items validity b n given = sym (ap (λ v. items_not_null (validity_bits v) n) given)
 
 always : (a b : Bool) → answer 15 (a ∷ b ∷ []) ≡ true
 unfolding bit

@@ -5,7 +5,7 @@ use Rattle.arrow2_model.specs.Parts.{part}
 use Rattle.arrow2_model.specs.Tables.{answer, each}
 use Rattle.arrow2_walks.specs.Zipped.{zipped}
 use Rattle.arrow2_array.specs.Kleene.{by_items, kleene_and, kleene_or}
-use Rattle.arrow2_ffi.specs.Validities.{CoversItems, given_validity, valid_items, validity_of}
+use Rattle.arrow2_ffi.specs.Validities.{CoversItems, given_validity, items_not_null, validity_bits}
 use Rattle.arrow2_ffi.specs.Ranges.{IsInside, HasBytesForBits, AreInside, inputs_of}
 use Rattle.arrow2_ffi.specs.Writes.{Stores, Writes}
 use Rattle.arrow2_ffi.specs.declared.kleene.Nullable.{Nullable}
@@ -25,30 +25,30 @@ abbrev pub input_of : Nullable → Input
 input_of x = record { values = (x.values.0.now, x.values.1); validity = (x.validity.0.now, x.validity.1) }
 
 -- the first n items of an input: each a value, or none where it is null
-abbrev pub items_of : ℕ → Input → List (Option Bool)
-items_of n x = zipped (part (bits x.values.0) x.values.1 n) (part (bits x.validity.0) x.validity.1 n)
+abbrev pub input_items : ℕ → Input → List (Option Bool)
+input_items n x = zipped (part (bits x.values.0) x.values.1 n) (part (bits x.validity.0) x.validity.1 n)
 
 -- the values of two inputs
-abbrev pub values_of : Input → Input → List (List ℕ × ℕ)
-values_of left right = left.values ∷ right.values ∷ []
+abbrev pub input_values : Input → Input → List (List ℕ × ℕ)
+input_values left right = left.values ∷ right.values ∷ []
 
 -- values and validity of the left input, then values and validity of the right one
-abbrev pub parts_of : Input → Input → List (List ℕ × ℕ)
-parts_of left right = left.values ∷ left.validity ∷ right.values ∷ right.validity ∷ []
+abbrev pub input_parts : Input → Input → List (List ℕ × ℕ)
+input_parts left right = left.values ∷ left.validity ∷ right.values ∷ right.validity ∷ []
 
 -- the results of f for n items of both inputs are stored: their values by table `t` of two inputs, their validity by
 -- table `known` of four
 pub record StoresKleene (f : NullableOperator) (t known n : ℕ) (left right : Input) (new_values new_validity : List ℕ) : Type 0 where
   -- item by item
-  pub items : zipped (take n (bits new_values)) (take n (bits new_validity)) ≡ by_items f (items_of n left) (items_of n right)
+  pub items : zipped (take n (bits new_values)) (take n (bits new_validity)) ≡ by_items f (input_items n left) (input_items n right)
   -- the values, also those of nulls
-  pub values : Stores new_values n (each t (inputs_of n (values_of left right)))
+  pub values : Stores new_values n (each t (inputs_of n (input_values left right)))
   -- the validity
-  pub validity : Stores new_validity n (each known (inputs_of n (parts_of left right)))
+  pub validity : Stores new_validity n (each known (inputs_of n (input_parts left right)))
 
 -- the code of a call that stores the results of f for n items of both inputs in `values` and `validity`
 abbrev pub WritesKleene : (code : ℕ) → NullableOperator → (t known n : ℕ) → (left right : Input) → (values new_values validity new_validity : List ℕ) → Type 0
-WritesKleene code f t known n left right values new_values validity new_validity = Writes code (AreInside n (parts_of left right)) (HasBytesForBits values n × HasBytesForBits validity n) (StoresKleene f t known n left right new_values new_validity) ((new_values ≡ values) × (new_validity ≡ validity))
+WritesKleene code f t known n left right values new_values validity new_validity = Writes code (AreInside n (input_parts left right)) (HasBytesForBits values n × HasBytesForBits validity n) (StoresKleene f t known n left right new_values new_validity) ((new_values ≡ values) × (new_validity ≡ validity))
 
 -- values, and their validity, which may be missing where no item is null
 pub record OptionalInput : Type 0 where
@@ -57,14 +57,14 @@ pub record OptionalInput : Type 0 where
 
 -- the input that a call was given as slices, with a validity or none
 abbrev pub optional_of : Side → OptionalInput
-optional_of x = record { values = (x.values.0.now, x.values.1); validity = validity_of x.validity }
+optional_of x = record { values = (x.values.0.now, x.values.1); validity = validity_bits x.validity }
 
 -- the first n values of an input; and which of its first n items are not null
 abbrev pub first_values : ℕ → OptionalInput → List Bool
 first_values n x = part (bits x.values.0) x.values.1 n
 
 abbrev pub first_valid : ℕ → OptionalInput → List Bool
-first_valid n x = valid_items x.validity n
+first_valid n x = items_not_null x.validity n
 
 -- the first n values and their validity of the left input, then those of the right one
 abbrev pub first_parts : ℕ → OptionalInput → OptionalInput → List (List Bool)

@@ -10,14 +10,14 @@ abbrev pub given_validity : Bool → List ℕ → ℕ → Option (List ℕ × �
 given_validity all_valid bytes offset = if all_valid then None else Some (bytes, offset)
 
 -- the validity that a call was given as bits, or none: its bytes and its first bit
-abbrev pub validity_of : Option Bits → Option (List ℕ × ℕ)
-validity_of None = None
-validity_of (Some b) = Some (b.0.now, b.1)
+abbrev pub validity_bits : Option Bits → Option (List ℕ × ℕ)
+validity_bits None = None
+validity_bits (Some b) = Some (b.0.now, b.1)
 
 -- which of n items are not null by a validity: all of them where there is none
-abbrev pub valid_items : Option (List ℕ × ℕ) → ℕ → List Bool
-valid_items None n = replicate n true
-valid_items (Some v) n = part (bits v.0) v.1 n
+abbrev pub items_not_null : Option (List ℕ × ℕ) → ℕ → List Bool
+items_not_null None n = replicate n true
+items_not_null (Some v) n = part (bits v.0) v.1 n
 
 -- a validity, if there is one, has a bit for each of n items
 abbrev pub CoversItems : Option (List ℕ × ℕ) → ℕ → Type 0

@@ -1,7 +1,7 @@
 //! The bodies of the exports on indices, for any width.
 ghost use Rattle.std.specs.Prelude.{◌≡◌, ◌<◌, ◌↔◌, ℕ, pos, map, length, slice_index_or, IsTrue};
 ghost use Rattle.arrow2_ffi.specs.Indices.{ChecksIndices, FindsFirstOutside, IsFirstOutside, IsIndex, IsIndexOrNull};
-ghost use Rattle.arrow2_ffi.specs.Validities.{CoversItems, valid_items, validity_of};
+ghost use Rattle.arrow2_ffi.specs.Validities.{CoversItems, items_not_null, validity_bits};
 
 use crate::bits_input::Bits;
 use crate::codes::{ARROW2_INDEX, ARROW2_OK, ARROW2_RANGE};
@@ -15,7 +15,7 @@ pub(crate) fn check<I: Index>(
     items: usize,
     slot: &mut usize,
 ) -> u32
-    ensures { ChecksIndices result (map I.value indices.now) (validity_of validity.entry) items
+    ensures { ChecksIndices result (map I.value indices.now) (validity_bits validity.entry) items
         slot.old slot.new }
 {
     if !covers_items(validity, indices.len()) {
@@ -32,8 +32,8 @@ pub(crate) fn check<I: Index>(
 
 /// Returns the first item that is neither null nor an index below `items`.
 fn first_outside<I: Index>(indices: &[I], validity: Option<Bits<'_>>, items: usize) -> Option<usize>
-    requires covers { CoversItems (validity_of validity) (length indices.now) }
-    ensures { FindsFirstOutside result (map I.value indices.now) (validity_of validity.entry) items }
+    requires covers { CoversItems (validity_bits validity) (length indices.now) }
+    ensures { FindsFirstOutside result (map I.value indices.now) (validity_bits validity.entry) items }
 {
     for slot in 0..indices.len() {
         if is_valid(validity, slot, indices.len()) && !is_index(indices[slot], items) {

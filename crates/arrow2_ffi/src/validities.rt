@@ -1,13 +1,13 @@
 //! A validity that may be missing: without one no item is null.
 ghost use Rattle.std.specs.Prelude.{◌≡◌, ◌<◌, ◌↔◌, false, slice_index_or, IsTrue};
-ghost use Rattle.arrow2_ffi.specs.Validities.{CoversItems, given_validity, valid_items, validity_of};
+ghost use Rattle.arrow2_ffi.specs.Validities.{CoversItems, given_validity, items_not_null, validity_bits};
 
 use crate::bits_input::{Bits, are_inside};
 use arrow2_bits::get_bit_from;
 
 /// Returns the validity that a call was given, or `None` if `all_valid` is true.
 pub(crate) fn given_validity(all_valid: bool, bytes: &[u8], offset: usize) -> Option<Bits<'_>>
-    ensures { validity_of result ≡ given_validity all_valid bytes.now offset }
+    ensures { validity_bits result ≡ given_validity all_valid bytes.now offset }
 {
     if all_valid {
         return None;
@@ -17,7 +17,7 @@ pub(crate) fn given_validity(all_valid: bool, bytes: &[u8], offset: usize) -> Op
 
 /// Returns whether there is no validity, or its first `len` bits are inside its bytes.
 pub(crate) fn covers_items(validity: Option<Bits<'_>>, len: usize) -> bool
-    ensures { IsTrue result ↔ CoversItems (validity_of validity.entry) len }
+    ensures { IsTrue result ↔ CoversItems (validity_bits validity.entry) len }
 {
     match validity {
         None => true,
@@ -27,9 +27,9 @@ pub(crate) fn covers_items(validity: Option<Bits<'_>>, len: usize) -> bool
 
 /// Returns whether item `index` of `len` is not null.
 pub(crate) fn is_valid(validity: Option<Bits<'_>>, index: usize, len: usize) -> bool
-    requires covers { CoversItems (validity_of validity) len }
+    requires covers { CoversItems (validity_bits validity) len }
     requires below { index < len }
-    ensures { result ≡ slice_index_or (valid_items (validity_of validity.entry) len) index
+    ensures { result ≡ slice_index_or (items_not_null (validity_bits validity.entry) len) index
         false }
 {
     match validity {

@@ -24,8 +24,8 @@ after_new_array values (Some validity) = do
   Ok (Array (zipped lists.0 lists.1))
 
 -- the text of a slot's boolean array
-abbrev pub array_text : SlotValue → Result (List ℕ) LineError
-array_text held = do
+abbrev pub array_reply : SlotValue → Result (List ℕ) LineError
+array_reply held = do
   items ← array held
   Ok (array_items_text items)
 
@@ -58,7 +58,7 @@ after_kleene operator a b = do
 -- the slots after a command on boolean arrays, and its reply
 unfoldable pub array_outcome : List SlotValue → ArrayCommand → Result (List SlotValue × List ℕ) LineError
 array_outcome slots (command.New d v m) = with_slot slots d (after_new_array (at slots v) (option_map (at slots) m))
-array_outcome slots (command.List s) = with_reply slots (array_text (at slots s))
+array_outcome slots (command.List s) = with_reply slots (array_reply (at slots s))
 array_outcome slots (command.Nulls s) = do
   number ← null_count (at slots s)
   Ok (slots, decimal number)

@@ -23,8 +23,8 @@ after_pop held = do
   Ok (Growing (take (length items - 1) items), item_reply (slice_get items (length items - 1)))
 
 -- the reply with item i of a slot
-abbrev pub item_at : SlotValue → ℕ → Result (List ℕ) LineError
-item_at held i = do
+abbrev pub reply_with_item : SlotValue → ℕ → Result (List ℕ) LineError
+reply_with_item held i = do
   items ← list_of_items held
   Ok (item_reply (slice_get items i))
 
@@ -70,7 +70,7 @@ bitmap_outcome slots (Push s bit) = with_slot slots s (after_push (at slots s) b
 bitmap_outcome slots (Pop s) = do
   after ← after_pop (at slots s)
   Ok (slice_set slots s after.0, after.1)
-bitmap_outcome slots (Get s i) = with_reply slots (item_at (at slots s) i)
+bitmap_outcome slots (Get s i) = with_reply slots (reply_with_item (at slots s) i)
 bitmap_outcome slots (Freeze s) = with_slot slots s (after_freeze (at slots s))
 bitmap_outcome slots (Thaw s) = with_slot slots s (after_thaw (at slots s))
 bitmap_outcome slots (Slice s i n) = with_slot slots s (after_slice (at slots s) i n)

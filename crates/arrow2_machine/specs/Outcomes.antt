@@ -44,7 +44,7 @@ pub record Carries (r : Result Unit CommandError) (old new : List SlotValue) (be
   pub err : IfErr r (λ e. e ≢ OutOfMemory → (new ≡ old) × (after ≡ before))
 
 -- the reply of the machine is appended; where an allocation failed, a part of it may have been appended
-pub record Writes (r : Result Unit CommandError) (before after : List ℕ) (machine : Result (List ℕ) LineError) : Type 0 where
+pub record WritesText (r : Result Unit CommandError) (before after : List ℕ) (machine : Result (List ℕ) LineError) : Type 0 where
   -- it is the machine's
   pub ok : OnOk r (IsOkAnd machine (λ text. after ≡ before ++ text))
   -- the machine returns the same error

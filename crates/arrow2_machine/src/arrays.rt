@@ -2,10 +2,10 @@
 ghost use Rattle.std.specs.Prelude.{◌≡◌, length, option_map, OnErr, IfOk};
 ghost use Rattle.arrow2_machine.specs.BitmapOutcomes.{part_inside};
 ghost use Rattle.arrow2_machine.specs.SlotValues.{at, array as array_in, Array};
-ghost use Rattle.arrow2_machine.specs.ArrayOutcomes.{after_new_array, array_text, null_count, after_array_slice, two_arrays, after_kleene, array_outcome};
+ghost use Rattle.arrow2_machine.specs.ArrayOutcomes.{after_new_array, array_reply, null_count, after_array_slice, two_arrays, after_kleene, array_outcome};
 ghost use Rattle.arrow2.specs.Items.{boolean_items};
 ghost use Rattle.arrow2.specs.Kleene.{kleene_and, kleene_or};
-ghost use Rattle.arrow2_machine.specs.Outcomes.{Gives, Carries, Writes, Answers};
+ghost use Rattle.arrow2_machine.specs.Outcomes.{Gives, Carries, WritesText, Answers};
 
 use crate::kernels::two_bitmaps;
 use crate::line_error::{CommandError, LineError};
@@ -159,7 +159,7 @@ impl Slot {
     ///
     /// `Kind`, which changes nothing, or `OutOfMemory`, after which a part of the text may be there.
     fn write_array(&self, out: &mut Vec<u8>) -> Result<(), CommandError>
-        ensures { Writes result out.old.items out.new.items (array_text self.now) }
+        ensures { WritesText result out.old.items out.new.items (array_reply self.now) }
     {
         write_array_items(self.array()?.iter(), out)?;
         Ok(())

@@ -3,8 +3,8 @@ ghost use Rattle.std.specs.Prelude.{◌≡◌, slice_get, OnErr};
 ghost use Rattle.arrow2.specs.Storage.{items_of};
 ghost use Rattle.arrow2_machine.specs.SlotValues.{Growing};
 ghost use Rattle.arrow2_machine.specs.Replies.{item_reply};
-ghost use Rattle.arrow2_machine.specs.BitmapOutcomes.{after_push, after_pop, item_at, after_freeze, after_thaw, after_slice, false_count, item_text, part_inside, bitmap_outcome};
-ghost use Rattle.arrow2_machine.specs.Outcomes.{Gives, Carries, Writes, Answers, Turns};
+ghost use Rattle.arrow2_machine.specs.BitmapOutcomes.{after_push, after_pop, reply_with_item, after_freeze, after_thaw, after_slice, false_count, item_text, part_inside, bitmap_outcome};
+ghost use Rattle.arrow2_machine.specs.Outcomes.{Gives, Carries, WritesText, Answers, Turns};
 
 use crate::line_error::CommandError::Rejected;
 use crate::line_error::{CommandError, LineError};
@@ -102,7 +102,7 @@ impl Slot {
     ///
     /// Only `Kind`.
     fn get(&self, index: u64) -> Result<Option<bool>, LineError>
-        ensures { Answers item_reply result (item_at self.now index) }
+        ensures { Answers item_reply result (reply_with_item self.now index) }
     {
         match &self.contents {
             Contents::Frozen(bitmap) => Ok(bitmap.get(index as usize)),
@@ -187,7 +187,7 @@ impl Slot {
     ///
     /// `Kind`, which changes nothing, or `OutOfMemory`, after which a part of the text may be there.
     fn write_bits(&self, out: &mut Vec<u8>) -> Result<(), CommandError>
-        ensures { Writes result out.old.items out.new.items (item_text self.now) }
+        ensures { WritesText result out.old.items out.new.items (item_text self.now) }
     {
         match &self.contents {
             Contents::Frozen(bitmap) => write_items(bitmap.iter(), out)?,

@@ -5,7 +5,7 @@ ghost use Rattle.arrow2.specs.Offsets.{last_of_growing, GrownBy, SameOffsets};
 ghost use Rattle.arrow2_machine.specs.Slots.{offsets_in};
 ghost use Rattle.arrow2_machine.specs.Replies.{offset_reply};
 ghost use Rattle.arrow2_machine.specs.OffsetOutcomes.{after_new_offsets, after_lengths, after_offset_pop, offset_text, after_offsets_freeze, offsets_inside, after_offsets_slice, zip_text, offset_outcome};
-ghost use Rattle.arrow2_machine.specs.Outcomes.{Gives, Carries, Writes, Answers, Turns};
+ghost use Rattle.arrow2_machine.specs.Outcomes.{Gives, Carries, WritesText, Answers, Turns};
 
 use crate::line_error::CommandError::Rejected;
 use crate::line_error::{CommandError, LineError};
@@ -127,7 +127,7 @@ impl Slot {
     ///
     /// `Kind`, which changes nothing, or `OutOfMemory`, after which a part of the text may be there.
     fn write_offsets(&self, out: &mut Vec<u8>) -> Result<(), CommandError>
-        ensures { Writes result out.old.items out.new.items (offset_text self.now) }
+        ensures { WritesText result out.old.items out.new.items (offset_text self.now) }
     {
         match &self.contents {
             Contents::FrozenOffsets(offsets) => write_offsets(offsets.as_slice(), out)?,
@@ -179,7 +179,7 @@ impl Slot {
     ///
     /// `Kind` or `Length`, which change nothing, or `OutOfMemory`, after which a part of the text may be there.
     fn write_zipped(&self, validity: &Slot, out: &mut Vec<u8>) -> Result<(), CommandError>
-        ensures { Writes result out.old.items out.new.items (zip_text self.now validity.now) }
+        ensures { WritesText result out.old.items out.new.items (zip_text self.now validity.now) }
     {
         match (&self.contents, &validity.contents) {
             (Contents::FrozenOffsets(offsets), Contents::Frozen(validity)) => {

@@ -1,7 +1,7 @@
 //! The commands on the stored bits of bitmaps: the effect of each on its slots, and its reply.
 ghost use Rattle.std.specs.Prelude.{◌≡◌, OnErr, IfOk};
 ghost use Rattle.arrow2_machine.specs.StorageOutcomes.{after_raw, after_set, word_text, run_text, storage_outcome};
-ghost use Rattle.arrow2_machine.specs.Outcomes.{Gives, Carries, Writes, Answers};
+ghost use Rattle.arrow2_machine.specs.Outcomes.{Gives, Carries, WritesText, Answers};
 
 use crate::line_error::CommandError::Rejected;
 use crate::line_error::{CommandError, LineError};
@@ -88,7 +88,7 @@ impl Slot {
     ///
     /// `Kind`, which changes nothing, or `OutOfMemory`, after which a part of the text may be there.
     fn write_words(&self, width: Width, out: &mut Vec<u8>) -> Result<(), CommandError>
-        ensures { Writes result out.old.items out.new.items (word_text self.now width) }
+        ensures { WritesText result out.old.items out.new.items (word_text self.now width) }
     {
         let Contents::Frozen(bitmap) = &self.contents else {
             return Err(Rejected(LineError::Kind));
@@ -108,7 +108,7 @@ impl Slot {
     ///
     /// `Kind`, which changes nothing, or `OutOfMemory`, after which a part of the text may be there.
     fn write_runs(&self, out: &mut Vec<u8>) -> Result<(), CommandError>
-        ensures { Writes result out.old.items out.new.items (run_text self.now) }
+        ensures { WritesText result out.old.items out.new.items (run_text self.now) }
     {
         write_runs(SlicesIterator::new(self.frozen_bitmap()?), out)?;
         Ok(())

@@ -6,7 +6,7 @@ use Rattle.std.proofs.lemmas.Bool.{not-true}
 use Rattle.std.proofs.lemmas.Bool.Decides.{eqb_tells}
 use Rattle.std.proofs.lemmas.List.Elements.{All-cons, All-nil}
 use Rattle.std.proofs.lemmas.List.Splits.{join_with_byte-slice_split}
-use Rattle.arrow2_script.specs.Lines.{lines_of, parts_of, parts_between, words_of, is_blank, with_final_newline, with_newline, IsLine, AreLines, IsWord, AreWords}
+use Rattle.arrow2_script.specs.Lines.{lines_of, line_parts, parts_between, words_of, is_blank, with_final_newline, with_newline, IsLine, AreLines, IsWord, AreWordsOfLine}
 use Rattle.arrow2_script.specs.Commands.{command_of, command_in, command_words, IsSpelling}
 use Rattle.arrow2_script.specs.declared.command.Command.{Command}
 use Rattle.arrow2_script.proofs.LineLemmas.{lines_of-cut, parts-joined, parts_all}
@@ -128,16 +128,16 @@ all_words (part ∷ parts) e all =
     let q = parts_all (λ x. All (λ y. y ≢ 32) x) part parts all in
     All-cons IsWord part parts (there part p.0, q.0) (all_words parts p.1 q.1)
 
-words_if : (blank : Bool) (line : List ℕ) → blank ≡ list_any is_blank (slice_split (λ b. eqb b 32) line) → 0 < length (cond blank [] (slice_split (λ b. eqb b 32) line)) → AreWords line (cond blank [] (slice_split (λ b. eqb b 32) line))
+words_if : (blank : Bool) (line : List ℕ) → blank ≡ list_any is_blank (slice_split (λ b. eqb b 32) line) → 0 < length (cond blank [] (slice_split (λ b. eqb b 32) line)) → AreWordsOfLine line (cond blank [] (slice_split (λ b. eqb b 32) line))
 words_if true line e some = absurd (omega arith)
 words_if false line e some = (some, all_words (slice_split (λ b. eqb b 32) line) (sym e) (parts_free line), join_with_byte-slice_split 32 line)
 
-pub words_are : (line : List ℕ) → 0 < length (words_of line) → AreWords line (words_of line)
+pub words_are : (line : List ℕ) → 0 < length (words_of line) → AreWordsOfLine line (words_of line)
 unfolding words_of parts_between
 words_are line some = words_if (list_any is_blank (slice_split (λ b. eqb b 32) line)) line refl some
 
 -- the parts of words that are joined are the words
-parts_again : (words : List (List ℕ)) → 0 < length words → All IsWord words → parts_of (join_with_byte 32 words) ≡ words
+parts_again : (words : List (List ℕ)) → 0 < length words → All IsWord words → line_parts (join_with_byte 32 words) ≡ words
 parts_again words some all = parts-joined 32 words some (λ k d h. (all k d h).1)
 
 none_blank : (words : List (List ℕ)) → All IsWord words → list_any is_blank words ≡ false
@@ -146,14 +146,14 @@ none_blank (word ∷ words) all =
     let p = parts_all IsWord word words all in
     rw (filled word p.0.0, none_blank words p.1) refl
 
-pub words_only : (line : List ℕ) (words : List (List ℕ)) → AreWords line words → words_of line ≡ words
+pub words_only : (line : List ℕ) (words : List (List ℕ)) → AreWordsOfLine line words → words_of line ≡ words
 unfolding words_of
 words_only line words are =
-    let parts : parts_of line ≡ words = ap parts_of (sym are.2) ∙ parts_again words are.0 are.1 in
+    let parts : line_parts line ≡ words = ap line_parts (sym are.2) ∙ parts_again words are.0 are.1 in
     rw (parts, none_blank words are.1) refl
 
-pub words_law : (line : List ℕ) (words : List (List ℕ)) → 0 < length words → (words_of line ≡ words) ↔ AreWords line words
-words_law line words some = (λ e. let P : List (List ℕ) → Type 0 = λ w. AreWords line w in subst P e (words_are line (rw e some)), words_only line words)
+pub words_law : (line : List ℕ) (words : List (List ℕ)) → 0 < length words → (words_of line ≡ words) ↔ AreWordsOfLine line words
+words_law line words some = (λ e. let P : List (List ℕ) → Type 0 = λ w. AreWordsOfLine line w in subst P e (words_are line (rw e some)), words_only line words)
 
 -- ---- commands
 

@@ -10,7 +10,7 @@ use Rattle.std.proofs.lemmas.Option.{cond_some, same_Some, none-some}
 use Rattle.std.proofs.lemmas.List.Elements.{All-cons, All-nil}
 use Rattle.std.proofs.lemmas.List.Splits.{join_with_byte-slice_split, length-slice_split}
 use Rattle.arrow2_script.specs.Lines.{parts_between}
-use Rattle.arrow2_script.specs.Words.{number_of, is_number, numbers_of_words, numbers_text, numbers_of}
+use Rattle.arrow2_script.specs.Words.{number_of, is_number, numbers_of_words, numbers_text, number_list}
 use Rattle.arrow2_script.proofs.LineLemmas.{parts_all, parts-joined, parts-last}
 use Rattle.arrow2_script.proofs.WordLemmas.{number_of-decimal, decimal-number_of, some_or_none, at_word, both, other_than, no_dash}
 
@@ -74,8 +74,8 @@ not_dash n ns all e =
     let same : map decimal (n ∷ ns) ≡ codes "-" ∷ [] = sym (numbers_parts n ns all) ∙ ap (parts_between 44) e ∙ dash in
     no_dash n (parts_all (λ m. m < 2 ^ 64) n ns all).0 (ap (λ words. get_or words 0 []) same)
 
-pub numbers_of-text : (ns : List ℕ) → All (λ m. m < 2 ^ 64) ns → numbers_of (numbers_text ns) ≡ Some ns
-unfolding numbers_of
+pub numbers_of-text : (ns : List ℕ) → All (λ m. m < 2 ^ 64) ns → number_list (numbers_text ns) ≡ Some ns
+unfolding number_list
 numbers_of-text [] all = refl
 numbers_of-text (n ∷ ns) all =
     let parsed = parsed_again (n ∷ ns) all in
@@ -99,8 +99,8 @@ parts_again : (word : List ℕ) → (0 < length (parts_between 44 word)) × (joi
 unfolding parts_between
 parts_again word = (omega (arith, length-slice_split (λ b. eqb b 44) word), join_with_byte-slice_split 44 word)
 
-pub text-numbers_of : (word : List ℕ) (ns : List ℕ) → numbers_of word ≡ Some ns → All (λ m. m < 2 ^ 64) ns × (numbers_text ns ≡ word)
-unfolding numbers_of
+pub text-numbers_of : (word : List ℕ) (ns : List ℕ) → number_list word ≡ Some ns → All (λ m. m < 2 ^ 64) ns × (numbers_text ns ≡ word)
+unfolding number_list
 text-numbers_of word ns = at_word (λ ms. All (λ m. m < 2 ^ 64) ms × (numbers_text ms ≡ word)) word (codes "-") [] ns _ (λ is. (All-nil (λ m. m < 2 ^ 64), sym is)) (λ e.
     let p = cond_some (list_all is_number (parts_between 44 word)) (numbers_of_words (parts_between 44 word)) ns e in
     let again = words_again (parts_between 44 word) p.0 in let parts = parts_again word in

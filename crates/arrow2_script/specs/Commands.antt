@@ -44,15 +44,15 @@ command_words (Growth command) = growth_words command
 command_words (Array command) = array_words command
 
 -- slots are below 16, and numbers fit 64 bits
-abbrev pub Fits : Command → Type 0
-Fits (Bitmap command) = BitmapFits command
-Fits (Offset command) = OffsetFits command
-Fits (Value command) = ValueFits command
-Fits (Storage command) = StorageFits command
-Fits (Kernel command) = KernelFits command
-Fits (Growth command) = GrowthFits command
-Fits (Array command) = ArrayFits command
+abbrev pub CommandFits : Command → Type 0
+CommandFits (Bitmap command) = BitmapFits command
+CommandFits (Offset command) = OffsetFits command
+CommandFits (Value command) = ValueFits command
+CommandFits (Storage command) = StorageFits command
+CommandFits (Kernel command) = KernelFits command
+CommandFits (Growth command) = GrowthFits command
+CommandFits (Array command) = ArrayFits command
 
 -- the line is the command: its words, joined by one byte 32
 abbrev pub IsSpelling : List ℕ → Command → Type 0
-IsSpelling line command = Fits command × (line ≡ join_with_byte 32 (command_words command))
+IsSpelling line command = CommandFits command × (line ≡ join_with_byte 32 (command_words command))

@@ -17,8 +17,8 @@ parts_left byte true rest = []
 parts_left byte false rest = parts_between byte rest
 
 -- the parts of a line between its bytes 32
-abbrev pub parts_of : List ℕ → List (List ℕ)
-parts_of line = parts_between 32 line
+abbrev pub line_parts : List ℕ → List (List ℕ)
+line_parts line = parts_between 32 line
 
 -- whether a list of bytes is empty
 abbrev pub is_blank : List ℕ → Bool
@@ -26,7 +26,7 @@ is_blank bytes = length bytes == 0
 
 -- the words of a line: its parts if none is empty, else no words
 unfoldable pub words_of : List ℕ → List (List ℕ)
-words_of line = if list_any is_blank (parts_of line) then [] else parts_of line
+words_of line = if list_any is_blank (line_parts line) then [] else line_parts line
 
 -- a script, with a byte 10 added at its end if it is not empty and does not end with one
 abbrev pub with_final_newline : List ℕ → List ℕ
@@ -51,5 +51,5 @@ abbrev pub IsWord : List ℕ → Type 0
 IsWord word = (0 < length word) × All (λ b. b ≢ 32) word
 
 -- these are the words of the line: one or more, and joined by one byte 32 each they are the line
-abbrev pub AreWords : List ℕ → List (List ℕ) → Type 0
-AreWords line words = (0 < length words) × All IsWord words × (join_with_byte 32 words ≡ line)
+abbrev pub AreWordsOfLine : List ℕ → List (List ℕ) → Type 0
+AreWordsOfLine line words = (0 < length words) × All IsWord words × (join_with_byte 32 words ≡ line)

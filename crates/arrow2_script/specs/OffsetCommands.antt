@@ -4,7 +4,7 @@ use Rattle.std.specs.List.{All}
 use Rattle.std.specs.Str.{bytes_eq}
 use Rattle.std.specs.Fmt.{decimal}
 use Rattle.arrow2_script.specs.Arguments.{◌>>◌, no_words}
-use Rattle.arrow2_script.specs.Words.{number_of, slot_of, numbers_of, numbers_text}
+use Rattle.arrow2_script.specs.Words.{number_of, slot_of, number_list, numbers_text}
 use Rattle.arrow2_script.specs.declared.offset_command.OffsetCommand.{OffsetCommand}
 use Rattle.arrow2_script.specs.declared.offset_command.OffsetCommand.TheVariants.{New, Push, Pop, Extend, Offsets, Freeze, Slice, Zip}
 
@@ -22,7 +22,7 @@ offset_command_of name words =
     if bytes_eq name (codes "onew") then option_map (λ p. New p.0 p.1.0) ((slot_of >> number_of >> no_words) words)
     else if bytes_eq name (codes "opush") then option_map (λ p. Push p.0 p.1.0) ((slot_of >> number_of >> no_words) words)
     else if bytes_eq name (codes "opop") then option_map (λ p. Pop p.0) ((slot_of >> no_words) words)
-    else if bytes_eq name (codes "oext") then option_map (λ p. Extend p.0 p.1.0) ((slot_of >> numbers_of >> no_words) words)
+    else if bytes_eq name (codes "oext") then option_map (λ p. Extend p.0 p.1.0) ((slot_of >> number_list >> no_words) words)
     else if bytes_eq name (codes "ofreeze") then option_map (λ p. Freeze p.0) ((slot_of >> no_words) words)
     else frozen_offsets_command_of name words
 

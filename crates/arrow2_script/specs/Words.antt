@@ -95,8 +95,8 @@ numbers_text [] = codes "-"
 numbers_text (n ∷ ns) = join_with_byte 44 (map decimal (n ∷ ns))
 
 -- a list of numbers
-unfoldable pub numbers_of : List ℕ → Option (List ℕ)
-numbers_of word =
+unfoldable pub number_list : List ℕ → Option (List ℕ)
+number_list word =
     if bytes_eq word (codes "-") then Some []
     else if list_all is_number (parts_between 44 word) then Some (numbers_of_words (parts_between 44 word))
     else None

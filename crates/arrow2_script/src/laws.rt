@@ -2,8 +2,8 @@
 ghost use Rattle.std.specs.Prelude.{◌≡◌, ◌<◌, ◌≤◌, ◌^◌, ◌∷◌, [], ◌↔◌, ℕ, List, Bool, Option, Some, IfSome, length};
 ghost use Rattle.std.specs.Fmt.{decimal};
 ghost use Rattle.std.specs.List.{All};
-ghost use Rattle.arrow2_script.specs.Lines.{lines_of, words_of, AreLines, AreWords};
-ghost use Rattle.arrow2_script.specs.Words.{number_of, slot_of, optional_slot_of, optional_slot_word, bit_of, bits_of, bit_byte, bits_text, numbers_of, numbers_text, below_of, bytes_of, hex_text, width_of, width_word};
+ghost use Rattle.arrow2_script.specs.Lines.{lines_of, words_of, AreLines, AreWordsOfLine};
+ghost use Rattle.arrow2_script.specs.Words.{number_of, slot_of, optional_slot_of, optional_slot_word, bit_of, bits_of, bit_byte, bits_text, number_list, numbers_text, below_of, bytes_of, hex_text, width_of, width_word};
 ghost use Rattle.arrow2_script.specs.Commands.{command_in, IsSpelling};
 ghost use Rattle.arrow2_script.specs.declared.command.Command.{Command};
 ghost use Rattle.arrow2_script.specs.declared.words.Width.{Width};
@@ -20,7 +20,7 @@ pub fn lines_of_a_script()
 /// list of words has these properties.
 pub fn words_of_a_line()
     ensures { (line : List ℕ) (words : List (List ℕ)) → 0 < length words →
-        (words_of line ≡ words) ↔ AreWords line words }
+        (words_of line ≡ words) ↔ AreWordsOfLine line words }
 {}
 
 /// A word is parsed as a value exactly where it is the one word that spells this value. A value is a number, a slot, a
@@ -39,7 +39,7 @@ pub fn one_word_of_a_value()
         (bit_byte bit ∷ [] ≡ word) }
     ensures bits { (word : List ℕ) (items : List Bool) → (bits_of word ≡ Some items) ↔
         (bits_text items ≡ word) }
-    ensures numbers { (word ns : List ℕ) → (numbers_of word ≡ Some ns) ↔
+    ensures numbers { (word ns : List ℕ) → (number_list word ≡ Some ns) ↔
         (All (λ n. n < 2 ^ 64) ns × (numbers_text ns ≡ word)) }
     ensures bytes { (word bytes : List ℕ) → (bytes_of word ≡ Some bytes) ↔
         (All (λ b. b < 256) bytes × (hex_text bytes ≡ word)) }

@@ -1,6 +1,6 @@
 //! The value of a word of a line.
 ghost use Rattle.std.specs.Prelude.{◌≡◌, ◌<◌, ◌^◌, ◌↔◌, IfSome, IfNone, List, Bool, Option, ℕ, length, slice_index, IsTrue};
-ghost use Rattle.arrow2_script.specs.Words.{number_of, below_of, width_of, optional_slot_of, bit_of, bits_of, is_bit_byte, items_of_digits, is_number, numbers_of, is_hex_digit, hex_value, bytes_of_digits, bytes_of};
+ghost use Rattle.arrow2_script.specs.Words.{number_of, below_of, width_of, optional_slot_of, bit_of, bits_of, is_bit_byte, items_of_digits, is_number, number_list, is_hex_digit, hex_value, bytes_of_digits, bytes_of};
 ghost use Rattle.std.specs.Iterator.{YieldsFirst, item_count};
 ghost use Rattle.std.specs.List.{list_all};
 ghost use Rattle.std.specs.Str.Parse.{AllDigits, digits_value};
@@ -324,9 +324,9 @@ impl<'a> Model for NumberText<'a> {
 
 /// Numbers: `-` for none, or numbers joined by `,`.
 impl<'a> Word<'a> for NumberText<'a> {
-    ghost parsed = { numbers_of };
+    ghost parsed = { number_list };
 
-    #[tactic(auto, unfolding(crate::specs::Words::numbers_of))]
+    #[tactic(auto, unfolding(crate::specs::Words::number_list))]
     fn parse(word: &'a [u8]) -> Option<NumberText<'a>> {
         if word == b"-".as_slice() {
             return Some(NumberText {

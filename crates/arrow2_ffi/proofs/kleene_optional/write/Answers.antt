@@ -2,7 +2,7 @@ use Rattle.std.proofs.Common.{◌≡◌, ◌∙◌, length, sym, rules}
 use Rattle.arrow2_model.proofs.Cursors.{length-part_bits}
 use Rattle.arrow2_array.proofs.Tables.{by_tables}
 use Rattle.arrow2_ffi.specs.Ranges.{first_bits}
-use Rattle.arrow2_ffi.specs.Validities.{valid_items, validity_of}
+use Rattle.arrow2_ffi.specs.Validities.{items_not_null, validity_bits}
 use Rattle.arrow2_ffi.proofs.OptionalKleene.{length-valid_items}
 use Rattle.arrow2_ffi.proofs.WriteSteps.{wrote}
 use Rattle.arrow2_ffi.proofs.kleene_optional.write.Goals as goal
@@ -15,9 +15,9 @@ returns g c f spelled paired =
     let left = c.is_inside.ensures.0 c.if-not-is_inside.false in
     let right = c.is_inside-else-not-is_inside.ensures.0 c.if-not-is_inside-2.false in
     let xs = first_bits l.values n in
-    let ns = valid_items (validity_of l.validity) n in
+    let ns = items_not_null (validity_bits l.validity) n in
     let ys = first_bits r.values n in
-    let ms = valid_items (validity_of r.validity) n in
+    let ms = items_not_null (validity_bits r.validity) n in
     let x : length xs ≡ n = length-part_bits l.values.0.now l.values.1 n left.0 in
     let y : length ys ≡ n = length-part_bits r.values.0.now r.values.1 n right.0 in
     let a = length-valid_items l.validity n left.1 in

@@ -3,7 +3,7 @@ use Rattle.arrow2_model.specs.Tables.{each}
 use Rattle.arrow2_model.proofs.Cursors.{length-part_bits}
 use Rattle.arrow2_array.proofs.Tables.{all_known, paired_left, paired_right}
 use Rattle.arrow2_ffi.specs.Ranges.{first_bits}
-use Rattle.arrow2_ffi.specs.Validities.{valid_items, validity_of}
+use Rattle.arrow2_ffi.specs.Validities.{items_not_null, validity_bits}
 use Rattle.arrow2_ffi.proofs.OptionalKleene.{all_true, all_valid, given_items}
 use Rattle.arrow2_ffi.proofs.kleene_optional.write_known.Goals as goal
 
@@ -19,7 +19,7 @@ returns-in-None-None g c paired =
     let left = all_valid l.validity xs n c.in-None-None.is-0 x in
     let right = all_valid r.validity ys n c.in-None-None.is-1 y in
     record {
-      items = c.write_two.ensures.items ∙ (all_true xs ys ∙ all_known g.row.KNOWN xs (valid_items (validity_of l.validity) n) ys (valid_items (validity_of r.validity) n) paired.both (x ∙ sym y) left right);
+      items = c.write_two.ensures.items ∙ (all_true xs ys ∙ all_known g.row.KNOWN xs (items_not_null (validity_bits l.validity) n) ys (items_not_null (validity_bits r.validity) n) paired.both (x ∙ sym y) left right);
       canonical = c.write_two.ensures.canonical;
     }
 
@@ -35,7 +35,7 @@ returns-in-Some-None g c paired =
     let left = given_items l.validity _ n c.in-Some-None.is-0 in
     let right = all_valid r.validity ys n c.in-Some-None.is-1 y in
     record {
-      items = c.write_three-in-Some-None.ensures.items ∙ (ap (λ ns. each g.row.PAIRED (xs ∷ ns ∷ ys ∷ [])) left ∙ paired_right g.row.KNOWN g.row.PAIRED xs (valid_items (validity_of l.validity) n) ys (valid_items (validity_of r.validity) n) paired.second (x ∙ sym y) right);
+      items = c.write_three-in-Some-None.ensures.items ∙ (ap (λ ns. each g.row.PAIRED (xs ∷ ns ∷ ys ∷ [])) left ∙ paired_right g.row.KNOWN g.row.PAIRED xs (items_not_null (validity_bits l.validity) n) ys (items_not_null (validity_bits r.validity) n) paired.second (x ∙ sym y) right);
       canonical = c.write_three-in-Some-None.ensures.canonical;
     }
 
@@ -51,7 +51,7 @@ returns-in-None-Some g c paired =
     let left = all_valid l.validity xs n c.in-None-Some.is-0 x in
     let right = given_items r.validity _ n c.in-None-Some.is-1 in
     record {
-      items = c.write_three.ensures.items ∙ (ap (λ ms. each g.row.PAIRED (ys ∷ ms ∷ xs ∷ [])) right ∙ paired_left g.row.KNOWN g.row.PAIRED xs (valid_items (validity_of l.validity) n) ys (valid_items (validity_of r.validity) n) paired.first (x ∙ sym y) left);
+      items = c.write_three.ensures.items ∙ (ap (λ ms. each g.row.PAIRED (ys ∷ ms ∷ xs ∷ [])) right ∙ paired_left g.row.KNOWN g.row.PAIRED xs (items_not_null (validity_bits l.validity) n) ys (items_not_null (validity_bits r.validity) n) paired.first (x ∙ sym y) left);
       canonical = c.write_three.ensures.canonical;
     }
 
@@ -63,6 +63,6 @@ returns-in-Some-Some g c paired =
     let left = given_items l.validity _ n c.in-Some-Some.is-0 in
     let right = given_items r.validity _ n c.in-Some-Some.is-1 in
     record {
-      items = c.write_four.ensures.items ∙ (ap (λ ns. each g.row.KNOWN (first_bits l.values n ∷ ns ∷ first_bits r.values n ∷ first_bits c.in-Some-Some.other n ∷ [])) left ∙ ap (λ ms. each g.row.KNOWN (first_bits l.values n ∷ valid_items (validity_of l.validity) n ∷ first_bits r.values n ∷ ms ∷ [])) right);
+      items = c.write_four.ensures.items ∙ (ap (λ ns. each g.row.KNOWN (first_bits l.values n ∷ ns ∷ first_bits r.values n ∷ first_bits c.in-Some-Some.other n ∷ [])) left ∙ ap (λ ms. each g.row.KNOWN (first_bits l.values n ∷ items_not_null (validity_bits l.validity) n ∷ first_bits r.values n ∷ ms ∷ [])) right);
       canonical = c.write_four.ensures.canonical;
     }
