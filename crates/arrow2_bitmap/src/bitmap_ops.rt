@@ -77,8 +77,8 @@ pub fn from_rows<S: WordRows<u64>, F: Fn(S::Row) -> u64>(
 /// the contract of `op` allows for the input word at its index. If the contract of `op` determines each result (as a
 /// function of its words, or through a truth table for each bit), the clauses determine each item.
 ///
-/// Differs from arrow2: the padding bits of the words count as false. If there are no items after the last full word,
-/// the code does not call `op` for them, as arrow2 does; no clause states this. arrow2's `unary` returns no `Result`.
+/// Differs from arrow2: the padding bits of the words count as false. Where no items follow the last full word,
+/// arrow2 calls `op` once more, and the code here does not; no clause states this. arrow2's `unary` returns no `Result`.
 ///
 /// # Errors
 ///
@@ -118,8 +118,8 @@ pub fn unary<F: Fn(u64) -> u64>(lhs: &Bitmap, op: F) -> Result<Bitmap>
 /// the contract of `op` allows for the input words at its index. If the contract of `op` determines each result (as a
 /// function of its words, or through a truth table for each bit), the clauses determine each item.
 ///
-/// Differs from arrow2: the padding bits of the words count as false. If there are no items after the last full word,
-/// the code does not call `op` for them, as arrow2 does; no clause states this. arrow2's `binary` returns no `Result`.
+/// Differs from arrow2: the padding bits of the words count as false. Where no items follow the last full word,
+/// arrow2 calls `op` once more, and the code here does not; no clause states this. arrow2's `binary` returns no `Result`.
 ///
 /// # Errors
 ///
