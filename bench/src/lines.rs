@@ -133,7 +133,7 @@ fn bits(inputs: &Inputs) -> Vec<Line<'_>> {
     let bytes = &inputs.bytes;
     let on = |name, elements, call, parts| line!(name, elements, bits(call, bytes), parts);
     let long = |name, call, offset| on(name, ALL, call, again(offset, LONG, 16));
-    let short = |name, call, length| on(name, (10_000, "counts"), call, near_parts(length, 10_000));
+    let short = |name, call, len| on(name, (10_000, "counts"), call, near_parts(len, 10_000));
     vec![
         long("count_zeros", "count_zeros", 0),
         long("count_zeros, from bit 3", "count_zeros", 3),
@@ -167,8 +167,8 @@ fn single_bits(inputs: &Inputs) -> Vec<Line<'_>> {
 }
 
 /// The part of this length that begins at this bit of the bytes.
-const fn part(offset: usize, length: usize) -> [Part; 1] {
-    [Part { offset, length }]
+const fn part(offset: usize, len: usize) -> [Part; 1] {
+    [Part { offset, len }]
 }
 
 /// The parts of long bitmaps.
@@ -290,8 +290,8 @@ fn appending(inputs: &Inputs) -> Vec<Line<'_>> {
     let long = |name, own, offset, times| {
         slice(name, (times * LONG, "bits"), own, again(offset, LONG, times))
     };
-    let constant = |name, elements: (usize, &'static str), length, times| {
-        line!(name, elements, append("extend_constant", &[5], bytes), again(0, length, times))
+    let constant = |name, elements: (usize, &'static str), len, times| {
+        line!(name, elements, append("extend_constant", &[5], bytes), again(0, len, times))
     };
     vec![
         long("extend_from_slice", &[0], 0, 16),
@@ -392,7 +392,7 @@ fn operators(inputs: &Inputs) -> Vec<Line<'_>> {
 fn in_place(inputs: &Inputs) -> Vec<Line<'_>> {
     let Inputs { bytes, bytes_from_5, .. } = inputs;
     let on = |name, elements, call, part: &'static [Part; 1], runs| {
-        let own = &bytes_from_5[..part[0].length / 8];
+        let own = &bytes_from_5[..part[0].len / 8];
         line!(name, elements, assign(call, own, bytes, part), runs)
     };
     let long = |name, call, part| on(name, ALL, call, part, vec![0; 16]);
@@ -461,10 +461,10 @@ fn buffers(inputs: &Inputs) -> Vec<Line<'_>> {
     let all = (8 * NUMBERS, "items");
     let on = |name, elements, call, parts| line!(name, elements, buffer(call, numbers), parts);
     let whole = || again(0, NUMBERS, 8);
-    let collect = |name, elements, length, times| {
-        line!(name, elements, words("products", numbers), vec![length; times])
+    let collect = |name, elements, len, times| {
+        line!(name, elements, words("products", numbers), vec![len; times])
     };
-    let calls = |name, length, times| collect(name, (times, "calls"), length, times);
+    let calls = |name, len, times| collect(name, (times, "calls"), len, times);
     vec![
         on("clone and sliced", (100_000, "slices"), "sliced", parts(NUMBERS, 0, NUMBERS, 100_000)),
         on("into_iter", all, "into_iter", whole()),
@@ -485,7 +485,7 @@ fn offsets(inputs: &Inputs) -> Vec<Line<'_>> {
     let on = |name, elements, call, runs| line!(name, elements, slot(call, slots), runs);
     let all_of = |name, call| on(name, all, call, vec![NUMBERS; 8]);
     let lengths =
-        |name, length, times| on(name, (times, "calls"), "try_from_lengths", vec![length; times]);
+        |name, len, times| on(name, (times, "calls"), "try_from_lengths", vec![len; times]);
     let push = |name, elements, runs| line!(name, elements, longs("try_push", slots_of_64), runs);
     vec![
         all_of("try_from_lengths", "try_from_lengths"),
@@ -528,7 +528,7 @@ const FEW: usize = 100;
 /// The size of a line on a column, and whether it has nulls.
 struct Size<'a> {
     name: &'static str,
-    length: usize,
+    len: usize,
     validity: &'a [u8],
     times: usize,
     elements: (usize, &'static str),
@@ -539,14 +539,14 @@ fn sizes(inputs: &Inputs) -> [Size<'_>; 4] {
     let nulls = |items: usize| &inputs.bytes[..items.div_ceil(8)];
     let many = |name, validity| Size {
         name,
-        length: MANY,
+        len: MANY,
         validity,
         times: 4,
         elements: (4 * MANY, "items"),
     };
     let few = |name, validity| Size {
         name,
-        length: FEW,
+        len: FEW,
         validity,
         times: 10_000,
         elements: (10_000, "calls"),
@@ -578,15 +578,15 @@ fn selected(inputs: &Inputs) -> Vec<Line<'_>> {
         ("filter by long runs", &bytes_of_runs[..]),
     ];
     let mut lines = Vec::new();
-    for Size { name: size, length, validity, times, elements } in sizes(inputs) {
+    for Size { name: size, len, validity, times, elements } in sizes(inputs) {
         for (name, mask) in masks {
-            let (values, runs) = (&values[..length], vec![length; times]);
+            let (values, runs) = (&values[..len], vec![len; times]);
             let name = format!("{name}{size}");
             lines.push(line!(name, elements, columns("filter", values, validity, mask), runs));
         }
-        let (name, runs) = (format!("take at random{size}"), vec![length; times]);
-        let indices: &[usize] = if length == MANY { indices } else { &SHUFFLED };
-        lines.push(line!(name, elements, take(&values[..length], validity, indices), runs));
+        let (name, runs) = (format!("take at random{size}"), vec![len; times]);
+        let indices: &[usize] = if len == MANY { indices } else { &SHUFFLED };
+        lines.push(line!(name, elements, take(&values[..len], validity, indices), runs));
     }
     lines
 }
@@ -607,9 +607,9 @@ const fn shuffled() -> [usize; FEW] {
 fn computed(inputs: &Inputs) -> Vec<Line<'_>> {
     let Inputs { values, bytes, .. } = inputs;
     let mut lines = Vec::new();
-    for Size { name: size, length, validity, times, elements } in sizes(inputs) {
+    for Size { name: size, len, validity, times, elements } in sizes(inputs) {
         for call in ["lt_scalar", "lt", "sum", "min"] {
-            let (values, runs) = (&values[..length], vec![length; times]);
+            let (values, runs) = (&values[..len], vec![len; times]);
             let name = format!("{call}{size}");
             lines.push(line!(name, elements, columns(call, values, validity, bytes), runs));
         }
@@ -633,11 +633,11 @@ fn texts(inputs: &Inputs) -> Vec<Line<'_>> {
         ("filter by half", "filter"),
     ];
     let mut lines = Vec::new();
-    for Size { name: size, length, validity, times, elements } in sizes(inputs) {
-        let offsets = &many_offsets[..=length];
-        let bytes = &many_texts[..offsets[length] as usize];
+    for Size { name: size, len, validity, times, elements } in sizes(inputs) {
+        let offsets = &many_offsets[..=len];
+        let bytes = &many_texts[..offsets[len] as usize];
         for (name, call) in calls {
-            let (name, runs) = (format!("{name}{size}"), vec![length; times]);
+            let (name, runs) = (format!("{name}{size}"), vec![len; times]);
             let mask = &bytes_from_3[..];
             lines.push(line!(name, elements, texts(call, bytes, offsets, validity, mask), runs));
         }

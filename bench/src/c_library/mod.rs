@@ -73,7 +73,7 @@ fn times(bits: usize) -> usize {
 
 /// The inputs of lines on bits, with their names: from bit 0 and at other bits.
 fn four_bits(inputs: &Inputs) -> [(&'static str, Rc<FourBits<'_>>); 4] {
-    let on = |offsets, length| Rc::new(FourBits::new(inputs, offsets, length));
+    let on = |offsets, len| Rc::new(FourBits::new(inputs, offsets, len));
     [
         (" of 8 KiB", on(AT_0, MUCH)),
         (" of 8 KiB, from bit 3", on(AT_3, MUCH)),
@@ -120,8 +120,8 @@ fn on_bits<'a>(
     let mut lines = vec![];
     for call in calls {
         for (name, on) in on {
-            let runs = vec![on.length; times(on.length)];
-            lines.push(line(*call, name, on, (on.length, "bits"), runs));
+            let runs = vec![on.len; times(on.len)];
+            lines.push(line(*call, name, on, (on.len, "bits"), runs));
         }
     }
     lines
@@ -135,9 +135,9 @@ fn equal(inputs: &Inputs) -> Vec<Line<'_>> {
         (" of 64 bytes, from bits 3 and 5", LITTLE, true),
     ];
     let call: Call<FourBits> = ("equal_bits", ours::equal_bits, original::equal_bits);
-    let line = |(name, length, is_moved)| {
-        let on = Rc::new(FourBits::same(inputs, length, is_moved));
-        line(call, name, &on, (length, "bits"), vec![length; times(length)])
+    let line = |(name, len, is_moved)| {
+        let on = Rc::new(FourBits::same(inputs, len, is_moved));
+        line(call, name, &on, (len, "bits"), vec![len; times(len)])
     };
     all.into_iter().map(line).collect()
 }
@@ -149,10 +149,10 @@ fn walks(inputs: &Inputs) -> Vec<Line<'_>> {
 }
 
 fn booleans(inputs: &Inputs) -> Vec<Line<'_>> {
-    let line = |(name, length): (&str, usize)| {
-        let on: Rc<[bool]> = Rc::from(&inputs.items[..length]);
+    let line = |(name, len): (&str, usize)| {
+        let on: Rc<[bool]> = Rc::from(&inputs.items[..len]);
         let call: Call<[bool]> = ("pack", ours::pack, original::pack);
-        line(call, name, &on, (length, "items"), vec![length; times(length)])
+        line(call, name, &on, (len, "items"), vec![len; times(len)])
     };
     [(" of 65,536 booleans", MUCH), (" of 512 booleans", LITTLE)].into_iter().map(line).collect()
 }

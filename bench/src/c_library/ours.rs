@@ -17,13 +17,13 @@ fn added(runs: &[usize], call: impl Fn(usize) -> Result<usize, Error>) -> usize 
     sum
 }
 
-/// The bytes that a call writes for `length` bits, once it was made for each run.
+/// The bytes that a call writes for `len` bits, once it was made for each run.
 fn written(
-    length: usize,
+    len: usize,
     runs: &[usize],
     call: impl Fn(usize, &mut [u8]) -> Result<(), Error>,
 ) -> usize {
-    changed(vec![0; bytes_for(length)], runs, call)
+    changed(vec![0; bytes_for(len)], runs, call)
 }
 
 /// The output of a call for these bytes, once it was made for each run.
@@ -41,12 +41,12 @@ fn changed(
 
 pub fn count_zeros(on: &FourBits, runs: &[usize]) -> usize {
     let [Bits { bytes, offset }, ..] = on.inputs;
-    added(runs, |length| arrow2_proved::count_zeros(bytes, offset, length))
+    added(runs, |len| arrow2_proved::count_zeros(bytes, offset, len))
 }
 
 pub fn equal_bits(on: &FourBits, runs: &[usize]) -> usize {
     let [left, right, ..] = on.inputs;
-    added(runs, |length| arrow2_proved::equal_bits(left, right, length).map(usize::from))
+    added(runs, |len| arrow2_proved::equal_bits(left, right, len).map(usize::from))
 }
 
 pub fn get_bit(on: &FourBits, positions: &[usize]) -> usize {
@@ -69,65 +69,61 @@ pub fn set_bit(on: &FourBits, positions: &[usize]) -> usize {
 
 pub fn copy_bits(on: &FourBits, runs: &[usize]) -> usize {
     let [Bits { bytes, offset }, ..] = on.inputs;
-    written(on.length, runs, |length, out| arrow2_proved::copy_bits(bytes, offset, length, out))
+    written(on.len, runs, |len, out| arrow2_proved::copy_bits(bytes, offset, len, out))
 }
 
 pub fn unary_table(on: &FourBits, runs: &[usize]) -> usize {
     let [input, ..] = on.inputs;
-    written(on.length, runs, |length, out| arrow2_proved::unary_table(input, length, NOT, out))
+    written(on.len, runs, |len, out| arrow2_proved::unary_table(input, len, NOT, out))
 }
 
 pub fn binary_table(on: &FourBits, runs: &[usize]) -> usize {
     let [first, second, ..] = on.inputs;
-    written(on.length, runs, |length, out| {
-        arrow2_proved::binary_table(first, second, length, XOR, out)
-    })
+    written(on.len, runs, |len, out| arrow2_proved::binary_table(first, second, len, XOR, out))
 }
 
 pub fn ternary_table(on: &FourBits, runs: &[usize]) -> usize {
     let [first, second, third, _] = on.inputs;
-    written(on.length, runs, |length, out| {
-        arrow2_proved::ternary_table(first, second, third, length, CHOICE, out)
+    written(on.len, runs, |len, out| {
+        arrow2_proved::ternary_table(first, second, third, len, CHOICE, out)
     })
 }
 
 pub fn quaternary_table(on: &FourBits, runs: &[usize]) -> usize {
     let [first, second, third, fourth] = on.inputs;
-    written(on.length, runs, |length, out| {
-        arrow2_proved::quaternary_table(first, second, third, fourth, length, KNOWN, out)
+    written(on.len, runs, |len, out| {
+        arrow2_proved::quaternary_table(first, second, third, fourth, len, KNOWN, out)
     })
 }
 
 /// The bits of the first input as bytes of their own.
 fn own(on: &FourBits) -> Vec<u8> {
     let [Bits { bytes, offset }, ..] = on.inputs;
-    let mut own = vec![0; bytes_for(on.length)];
-    arrow2_proved::copy_bits(bytes, offset, on.length, &mut own).expect("the bits are inside");
+    let mut own = vec![0; bytes_for(on.len)];
+    arrow2_proved::copy_bits(bytes, offset, on.len, &mut own).expect("the bits are inside");
     own
 }
 
 pub fn unary_assign_table(on: &FourBits, runs: &[usize]) -> usize {
-    changed(own(on), runs, |length, bytes| arrow2_proved::unary_assign_table(bytes, length, NOT))
+    changed(own(on), runs, |len, bytes| arrow2_proved::unary_assign_table(bytes, len, NOT))
 }
 
 pub fn binary_assign_table(on: &FourBits, runs: &[usize]) -> usize {
     let [_, second, ..] = on.inputs;
-    changed(own(on), runs, |length, bytes| {
-        arrow2_proved::binary_assign_table(bytes, second, length, XOR)
-    })
+    changed(own(on), runs, |len, bytes| arrow2_proved::binary_assign_table(bytes, second, len, XOR))
 }
 
 pub fn ternary_assign_table(on: &FourBits, runs: &[usize]) -> usize {
     let [_, second, third, _] = on.inputs;
-    changed(own(on), runs, |length, bytes| {
-        arrow2_proved::ternary_assign_table(bytes, second, third, length, CHOICE)
+    changed(own(on), runs, |len, bytes| {
+        arrow2_proved::ternary_assign_table(bytes, second, third, len, CHOICE)
     })
 }
 
 pub fn quaternary_assign_table(on: &FourBits, runs: &[usize]) -> usize {
     let [_, second, third, fourth] = on.inputs;
-    changed(own(on), runs, |length, bytes| {
-        arrow2_proved::quaternary_assign_table(bytes, second, third, fourth, length, KNOWN)
+    changed(own(on), runs, |len, bytes| {
+        arrow2_proved::quaternary_assign_table(bytes, second, third, fourth, len, KNOWN)
     })
 }
 
@@ -142,12 +138,12 @@ fn arrays<'a>(on: &'a FourBits) -> [Nullable<'a>; 2] {
 
 /// The values and their validity that a call writes, once it was made for each run.
 fn both_written(
-    length: usize,
+    len: usize,
     runs: &[usize],
     call: impl Fn(usize, &mut [u8], &mut [u8]) -> Result<(), Error>,
 ) -> usize {
-    let mut validity = vec![0; bytes_for(length)];
-    let mut values = vec![0; bytes_for(length)];
+    let mut validity = vec![0; bytes_for(len)];
+    let mut values = vec![0; bytes_for(len)];
     let mut failed = 0;
     for run in runs {
         let answer = call(*run, black_box(&mut values), black_box(&mut validity));
@@ -158,15 +154,15 @@ fn both_written(
 
 pub fn and_kleene(on: &FourBits, runs: &[usize]) -> usize {
     let [left, right] = arrays(on);
-    both_written(on.length, runs, |length, values, validity| {
-        arrow2_proved::and_kleene(left, right, length, values, validity)
+    both_written(on.len, runs, |len, values, validity| {
+        arrow2_proved::and_kleene(left, right, len, values, validity)
     })
 }
 
 pub fn or_kleene(on: &FourBits, runs: &[usize]) -> usize {
     let [left, right] = arrays(on);
-    both_written(on.length, runs, |length, values, validity| {
-        arrow2_proved::or_kleene(left, right, length, values, validity)
+    both_written(on.len, runs, |len, values, validity| {
+        arrow2_proved::or_kleene(left, right, len, values, validity)
     })
 }
 
@@ -175,14 +171,14 @@ pub fn and_kleene_optional(on: &FourBits, runs: &[usize]) -> usize {
     let [left, right] = arrays(on);
     let left = OptionalNullable { values: left.values, validity: None };
     let right = OptionalNullable { values: right.values, validity: Some(right.validity) };
-    both_written(on.length, runs, |length, values, validity| {
-        arrow2_proved::and_kleene_optional(left, right, length, values, validity)
+    both_written(on.len, runs, |len, values, validity| {
+        arrow2_proved::and_kleene_optional(left, right, len, values, validity)
     })
 }
 
 pub fn runs(on: &FourBits, runs: &[usize]) -> usize {
     let [input, ..] = on.inputs;
-    let capacity = on.length / 2 + 1;
+    let capacity = on.len / 2 + 1;
     let (mut starts, mut lengths) = (vec![0; capacity], vec![0; capacity]);
     let mut count = 0usize;
     for run in runs {
@@ -195,7 +191,7 @@ pub fn runs(on: &FourBits, runs: &[usize]) -> usize {
 
 pub fn set_indices(on: &FourBits, runs: &[usize]) -> usize {
     let [input, ..] = on.inputs;
-    let mut positions = vec![0; on.length];
+    let mut positions = vec![0; on.len];
     let mut count = 0usize;
     for run in runs {
         let written = arrow2_proved::set_indices(input, *run, &mut 0, black_box(&mut positions));
@@ -205,12 +201,12 @@ pub fn set_indices(on: &FourBits, runs: &[usize]) -> usize {
 }
 
 pub fn pack(items: &[bool], runs: &[usize]) -> usize {
-    written(items.len(), runs, |length, out| arrow2_proved::pack(&items[..length], out))
+    written(items.len(), runs, |len, out| arrow2_proved::pack(&items[..len], out))
 }
 
 pub fn unpack(on: &FourBits, runs: &[usize]) -> usize {
     let [input, ..] = on.inputs;
-    let mut items = vec![false; on.length];
+    let mut items = vec![false; on.len];
     let mut failed = 0;
     for run in runs {
         let items = &mut black_box(&mut items)[..*run];
@@ -219,13 +215,13 @@ pub fn unpack(on: &FourBits, runs: &[usize]) -> usize {
     digest(items.into_iter().map(usize::from)).wrapping_add(failed)
 }
 
-/// The numbers that a call writes to a slice of `length` numbers, once it was made for each run.
+/// The numbers that a call writes to a slice of `len` numbers, once it was made for each run.
 fn numbers_written<T: Copy + Default + Into<i64>>(
-    length: usize,
+    len: usize,
     runs: &[usize],
     call: impl Fn(usize, &mut [T]) -> Result<(), Error>,
 ) -> usize {
-    let mut out = vec![T::default(); length];
+    let mut out = vec![T::default(); len];
     let mut failed = 0;
     for run in runs {
         failed += usize::from(call(*run, black_box(&mut out)).is_err());

@@ -14,7 +14,7 @@ pub fn bitmaps(alloc: Global, bytes: &[u8], parts: &[Part]) -> Result<Vec<Bitmap
     let mut bitmaps = Vec::new(alloc);
     for part in parts {
         if part.is_within(whole.len()) {
-            bitmaps.push(whole.clone()?.sliced(part.offset, part.length))?;
+            bitmaps.push(whole.clone()?.sliced(part.offset, part.len))?;
         }
     }
     Ok(bitmaps)
@@ -115,8 +115,8 @@ fn debug(bitmap: &Bitmap) -> Result<usize> {
 /// Mixes the indices and the lengths of the runs of set bits.
 fn slices(bitmap: &Bitmap) -> Result<usize> {
     let mut sum = 0usize;
-    for (start, length) in SlicesIterator::new(bitmap) {
-        sum = sum.rotate_left(1) ^ start.wrapping_add(length.wrapping_mul(3));
+    for (start, len) in SlicesIterator::new(bitmap) {
+        sum = sum.rotate_left(1) ^ start.wrapping_add(len.wrapping_mul(3));
     }
     Ok(sum)
 }

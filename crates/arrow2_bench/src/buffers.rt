@@ -39,7 +39,7 @@ fn on_slices<F: Fn(Buffer<u64>) -> usize>(
             let Ok(shared) = whole.clone() else {
                 return 0;
             };
-            sum = sum.wrapping_add(call(shared.sliced(part.offset, part.length)));
+            sum = sum.wrapping_add(call(shared.sliced(part.offset, part.len)));
         }
     }
     sum

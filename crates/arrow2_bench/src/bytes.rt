@@ -36,14 +36,14 @@ fn zeros_of(bytes: &[u8], part: &Part) -> Result<usize> {
     if !part.is_within(bytes.len().saturating_mul(8)) {
         return Ok(0);
     }
-    Ok(count_zeros(bytes, part.offset, part.length))
+    Ok(count_zeros(bytes, part.offset, part.len))
 }
 
 /// Adds up the full words of a part.
 fn words<T: BitChunk + Into<u64>>(bytes: &[u8], part: &Part) -> Result<usize> {
     let mut sum = 0u64;
     if part.is_within(bytes.len().saturating_mul(8)) {
-        for word in BitChunks::<T>::new(bytes, part.offset, part.length) {
+        for word in BitChunks::<T>::new(bytes, part.offset, part.len) {
             sum = sum.wrapping_add(word.into());
         }
     }
@@ -54,7 +54,7 @@ fn words<T: BitChunk + Into<u64>>(bytes: &[u8], part: &Part) -> Result<usize> {
 fn ones_of(bytes: &[u8], part: &Part) -> Result<usize> {
     let mut ones = 0usize;
     if part.is_within(bytes.len().saturating_mul(8)) {
-        for item in BitmapIter::new(bytes, part.offset, part.length) {
+        for item in BitmapIter::new(bytes, part.offset, part.len) {
             ones = ones.wrapping_add(usize::from(item));
         }
     }
@@ -66,16 +66,16 @@ fn count_slice(whole: &Bitmap, part: &Part) -> Result<usize> {
     if !part.is_within(whole.len()) {
         return Ok(0);
     }
-    Ok(whole.clone()?.sliced(part.offset, part.length).unset_bits())
+    Ok(whole.clone()?.sliced(part.offset, part.len).unset_bits())
 }
 
 /// Calls on the bytes and a number.
 #[unsafe(no_mangle)]
 pub extern "C" fn bench_bytes(alloc: Global, call: &[u8], bytes: &[u8], runs: &[usize]) -> usize {
     if call == b"from_u8_slice".as_slice() {
-        on_each(runs, |length| copy_and_count(alloc, bytes, *length))
+        on_each(runs, |len| copy_and_count(alloc, bytes, *len))
     } else if call == b"pop".as_slice() {
-        on_each(runs, |length| pop(alloc, bytes, *length))
+        on_each(runs, |len| pop(alloc, bytes, *len))
     } else if call == b"change_next".as_slice() {
         change_next(alloc, bytes, runs)
     } else if call == b"get".as_slice() {
@@ -151,11 +151,11 @@ fn pieces(whole: &Bitmap, cuts: &usize) -> Result<usize> {
 }
 
 /// Counts the first bits of copied bytes that are not set.
-fn copy_and_count(alloc: Global, bytes: &[u8], length: usize) -> Result<usize> {
-    if bytes.len().saturating_mul(8) < length {
+fn copy_and_count(alloc: Global, bytes: &[u8], len: usize) -> Result<usize> {
+    if bytes.len().saturating_mul(8) < len {
         return Ok(0);
     }
-    Ok(Bitmap::from_u8_slice(alloc, bytes, length)?.unset_bits())
+    Ok(Bitmap::from_u8_slice(alloc, bytes, len)?.unset_bits())
 }
 
 /// Inverts the full words of the first bits of a copy of the bytes, and counts the bits that are not set then.
@@ -164,9 +164,9 @@ fn change_next(alloc: Global, bytes: &[u8], lengths: &[usize]) -> usize {
         return 0;
     };
     let mut bytes = copied;
-    for length in lengths {
-        if *length <= bytes.len().saturating_mul(8) {
-            turn_chunks(BitChunksExactMut::<u64>::new(bytes.as_mut_slice(), *length));
+    for len in lengths {
+        if *len <= bytes.len().saturating_mul(8) {
+            turn_chunks(BitChunksExactMut::<u64>::new(bytes.as_mut_slice(), *len));
         }
     }
     zeros(bytes.as_slice())

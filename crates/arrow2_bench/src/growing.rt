@@ -43,13 +43,13 @@ fn try_from_iter(alloc: Global, items: &[bool]) -> Result<usize> {
 }
 
 /// A growing bitmap of the first bits of the bytes.
-fn growing(alloc: Global, bytes: &[u8], length: usize) -> Result<MutableBitmap> {
-    MutableBitmap::try_new(Vec::from_slice(alloc, bytes)?, length)
+fn growing(alloc: Global, bytes: &[u8], len: usize) -> Result<MutableBitmap> {
+    MutableBitmap::try_new(Vec::from_slice(alloc, bytes)?, len)
 }
 
 /// Counts the true items among the first bits of the bytes, popped one by one.
-pub fn pop(alloc: Global, bytes: &[u8], length: usize) -> Result<usize> {
-    let mut bitmap = growing(alloc, bytes, length)?;
+pub fn pop(alloc: Global, bytes: &[u8], len: usize) -> Result<usize> {
+    let mut bitmap = growing(alloc, bytes, len)?;
     let mut ones = 0usize;
     for _ in 0..bitmap.len() {
         if let Some(item) = bitmap.pop() {
@@ -93,7 +93,7 @@ pub extern "C" fn bench_append(
     if call == b"extend_from_slice".as_slice() {
         on_each(parts, |part| extend_from_slice(alloc, *own, bytes, part))
     } else if call == b"extend_constant".as_slice() {
-        on_each(parts, |part| extend_constant(alloc, *own, part.length))
+        on_each(parts, |part| extend_constant(alloc, *own, part.len))
     } else {
         usize::MAX
     }
@@ -111,14 +111,14 @@ fn extend_from_slice(alloc: Global, own: usize, bytes: &[u8], part: &Part) -> Re
         return Ok(0);
     }
     let mut bitmap = begun(alloc, own)?;
-    bitmap.extend_from_slice(bytes, part.offset, part.length)?;
+    bitmap.extend_from_slice(bytes, part.offset, part.len)?;
     Ok(last_item(&bitmap))
 }
 
 /// Returns the last item of a prefix with true items appended.
-fn extend_constant(alloc: Global, own: usize, length: usize) -> Result<usize> {
+fn extend_constant(alloc: Global, own: usize, len: usize) -> Result<usize> {
     let mut bitmap = begun(alloc, own)?;
-    bitmap.extend_constant(length, true)?;
+    bitmap.extend_constant(len, true)?;
     Ok(last_item(&bitmap))
 }
 

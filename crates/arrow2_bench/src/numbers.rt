@@ -24,9 +24,9 @@ pub extern "C" fn bench_numbers(alloc: Global, call: &[u8], numbers: &[usize]) -
 }
 
 /// Mixes the index numbers below a length.
-fn index_range(length: &usize) -> Result<usize> {
+fn index_range(len: &usize) -> Result<usize> {
     let mut all = 0u32;
-    if let Some(numbers) = <u32 as Index>::range(0, *length) {
+    if let Some(numbers) = <u32 as Index>::range(0, *len) {
         for number in numbers {
             all = all.rotate_left(1) ^ number;
         }

@@ -64,8 +64,8 @@ fn try_from(alloc: Global, items: &[i64], lengths: &[usize]) -> usize {
     };
     let mut items = copied;
     let mut sum = 0usize;
-    for length in lengths {
-        items.truncate(*length);
+    for len in lengths {
+        items.truncate(*len);
         let Ok(offsets) = Offsets::<i64>::try_from(items) else {
             return 0;
         };
@@ -134,10 +134,10 @@ fn on_slices(call: &[u8], whole: &OffsetsBuffer<i64>, parts: &[Part]) -> usize {
 /// A slice of a buffer of offsets, or all of it where the part is not inside.
 fn slice(whole: &OffsetsBuffer<i64>, part: &Part) -> Result<OffsetsBuffer<i64>> {
     let shared = whole.clone()?;
-    if part.length == 0 || !part.is_within(whole.len()) {
+    if part.len == 0 || !part.is_within(whole.len()) {
         return Ok(shared);
     }
-    Ok(shared.sliced(part.offset, part.length))
+    Ok(shared.sliced(part.offset, part.len))
 }
 
 /// The last offset.

@@ -10,16 +10,16 @@ use arrow2_types::Result;
 pub struct Part {
     /// Where it begins.
     pub offset: usize,
-    /// Returns the number of bits or items.
-    pub length: usize,
+    /// The number of bits or items.
+    pub len: usize,
 }
 
 impl Part {
-    /// Returns whether it is a part of something of this length.
-    pub fn is_within(&self, length: usize) -> bool
-        ensures { IsTrue result ↔ (self.now.offset + self.now.length ≤ length) }
+    /// Returns whether it is a part of something of `len` bits or items.
+    pub fn is_within(&self, len: usize) -> bool
+        ensures { IsTrue result ↔ (self.now.offset + self.now.len ≤ len) }
     {
-        self.offset <= length && self.length <= length - self.offset
+        self.offset <= len && self.len <= len - self.offset
     }
 }
 

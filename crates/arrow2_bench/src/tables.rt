@@ -81,8 +81,8 @@ fn quaternary(inputs: &[Bitmap]) -> Result<usize> {
     let [first, second, third, fourth] = inputs else {
         return Ok(0);
     };
-    let length = first.len();
-    if second.len() != length || third.len() != length || fourth.len() != length {
+    let len = first.len();
+    if second.len() != len || third.len() != len || fourth.len() != len {
         return Ok(0);
     }
     Ok(quaternary_table(first, second, third, fourth, KNOWN)?.unset_bits())

@@ -1,7 +1,7 @@
 //! New bitmaps from word functions and truth tables, and the operators on shared bitmaps.
 ghost use Rattle.std.specs.Prelude.{◌≡◌, ℕ, List, Bool, [], ◌∷◌, length, replicate, IfOk, IfErr, IfSome, IsTrue, MatchResult, ◌⊎◌};
-ghost use Rattle.arrow2_model.specs.Kernels.{word, bits_of_words, kernel, unary_kernel, binary_kernel, ComputesUnary, ComputesBinary};
-ghost use Rattle.arrow2_model.specs.Storage.{items_of};
+ghost use Rattle.arrow2_model.specs.Kernels.{bits_of_words, kernel, unary_kernel, binary_kernel, ComputesUnary, ComputesBinary};
+ghost use Rattle.arrow2_model.specs.Storage.{bitmap_word, items_of};
 ghost use Rattle.arrow2_model.specs.Tables.{each, IsBitwiseUnary, IsBitwiseBinary};
 ghost use Rattle.arrow2_types.specs.declared.error.Error.TheVariants.{OutOfMemory};
 ghost use Rattle.arrow2_kernels.specs.WordResults.{AreJoinedResults, MayReturnRow};
@@ -93,7 +93,7 @@ pub fn unary<F: Fn(u64) -> u64>(lhs: &Bitmap, op: F) -> Result<Bitmap>
         IfOk result (λ b. items_of b ≡ each t (items_of lhs.now ∷ [])) }
     // For any `op`: the word at each index is one that `op` may return for the word of the list at this index.
     ensures results { IfOk result (λ b. AreJoinedResults 64 (length (items_of lhs.now))
-        (λ j. F.post op (word 64 (items_of lhs.now) j)) (items_of b)) }
+        (λ j. F.post op (bitmap_word 64 lhs.now j)) (items_of b)) }
     // The new bitmap is stored in canonical bytes, and the only error is `OutOfMemory`.
     ensures len { IfOk result (λ b. length (items_of b) ≡ length (items_of lhs.now)) }
     ensures storage { IfOk result (λ b. IsPacked b) }
@@ -135,7 +135,7 @@ pub fn binary<F: Fn(u64, u64) -> u64>(lhs: &Bitmap, rhs: &Bitmap, op: F) -> Resu
         IfOk result (λ b. items_of b ≡ each t (items_of lhs.now ∷ items_of rhs.now ∷ [])) }
     // For any `op`: the word at each index is one that `op` may return for the words of both lists at this index.
     ensures results { IfOk result (λ b. AreJoinedResults 64 (length (items_of lhs.now))
-        (λ j. F.post op (word 64 (items_of lhs.now) j) (word 64 (items_of rhs.now) j)) (items_of b)) }
+        (λ j. F.post op (bitmap_word 64 lhs.now j) (bitmap_word 64 rhs.now j)) (items_of b)) }
     // The new bitmap is stored in canonical bytes, and the only error is `OutOfMemory`.
     ensures len { IfOk result (λ b. length (items_of b) ≡ length (items_of lhs.now)) }
     ensures storage { IfOk result (λ b. IsPacked b) }

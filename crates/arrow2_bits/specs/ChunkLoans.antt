@@ -16,8 +16,8 @@ LendsBytes T cursor r = Lends (the_row (record { mir = named 1; lft = [] }) T) (
 
 -- r is the part of these bytes from index start on: after the loan, the iterator has the bytes written through r in its
 -- place
-abbrev pub LendsPart : (T : RattleType) → MutBor ChunkCursorMut → ℕ → MutBor (List ℕ) → Fml
-LendsPart T cursor start r = Lends (the_row (record { mir = named 1; lft = [] }) T) (Array u8 0) cursor r (λ written. record cursor.now { bytes = overwrite cursor.now.bytes start written })
+abbrev pub LendsBytesPart : (T : RattleType) → MutBor ChunkCursorMut → ℕ → MutBor (List ℕ) → Fml
+LendsBytesPart T cursor start r = Lends (the_row (record { mir = named 1; lft = [] }) T) (Array u8 0) cursor r (λ written. record cursor.now { bytes = overwrite cursor.now.bytes start written })
 
 -- r is the next chunk of the iterator, or no bytes at the end: after the loan, the iterator is past the chunk, and has
 -- the bytes written through r in its place

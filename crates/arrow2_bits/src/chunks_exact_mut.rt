@@ -15,8 +15,9 @@ use std::mem;
 
 /// An iterator over the first bits of bytes by mutable chunks, each of `T::SIZE` bytes.
 ///
-/// Contracts see the bytes of the chunks as written so far, the index of the next chunk in these bytes, the number of
-/// bytes of a chunk, the bytes of the remainder, and the number of bits of the remainder.
+/// Contracts see the bytes of the chunks as written so far, but for the chunks up to the last one that `next` returned;
+/// the index of the next chunk in these bytes; the number of bytes of a chunk; the bytes of the remainder; and the
+/// number of bits of the remainder.
 #[derive(Debug, Drop)]
 pub struct BitChunksExactMut<'a, T> {
     bytes: &'a mut [u8],
@@ -77,7 +78,7 @@ impl<'a, T: BitChunk> BitChunksExactMut<'a, T> {
 }
 
 impl<'a, T> BitChunksExactMut<'a, T> {
-    ghost use Rattle.arrow2_bits.specs.ChunkLoans.{LendsBytes, LendsPart, LendsNext, LendsNextIf, LendsRemainder};
+    ghost use Rattle.arrow2_bits.specs.ChunkLoans.{LendsBytes, LendsBytesPart, LendsNext, LendsNextIf, LendsRemainder};
 
     /// Returns the next chunk as a mutable slice, or `None` where no chunk is left. Afterwards the iterator is past the
     /// chunk and holds the bytes that were written through the slice, and every other byte is as it was.
@@ -155,7 +156,7 @@ impl<'a, T> BitChunksExactMut<'a, T> {
     fn part_mut(&mut self, start: usize, end: usize) -> &mut [u8]
         requires order { start ≤ end }
         requires within { end ≤ length self.old.bytes }
-        ensures* writes_back { sem 𝓛 (LendsPart T.row self.entry start result) }
+        ensures* writes_back { sem 𝓛 (LendsBytesPart T.row self.entry start result) }
         ensures bytes { result.now ≡ part self.old.bytes start (end - start) }
     {
         &mut self.bytes_mut()[start..end]

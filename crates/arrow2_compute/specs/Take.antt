@@ -12,8 +12,8 @@ item_at value items None = None
 item_at value items (Some index) = slice_index_or items (unsigned_abs (value index)) None
 
 -- the items at indices, in the order of the indices
-abbrev pub items_at : {I X : Type 0} → (I → ℤ) → List (Option X) → List (Option I) → List (Option X)
-items_at value items indices = map (item_at value items) indices
+abbrev pub items_by_index : {I X : Type 0} → (I → ℤ) → List (Option X) → List (Option I) → List (Option X)
+items_by_index value items indices = map (item_at value items) indices
 
 -- `x` is the item at `index`
 abbrev pub IsItemAt : {X : Type 0} → List X → ℕ → X → Type 0

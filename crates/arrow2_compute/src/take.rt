@@ -3,7 +3,7 @@ ghost use Rattle.std.specs.Prelude.{◌≡◌, ◌<◌, ◌≤◌, ◌⊎◌, Al
 ghost use Rattle.std.specs.List.{AllZip};
 ghost use Rattle.std.specs.Option.{is_none};
 ghost use Rattle.arrow2_array.specs.Items.{boolean_items};
-ghost use Rattle.arrow2_compute.specs.Take.{IsInBoundsOrNull, IsItemAt, item_at, items_at};
+ghost use Rattle.arrow2_compute.specs.Take.{IsInBoundsOrNull, IsItemAt, item_at, items_by_index};
 ghost use Rattle.arrow2_compute.specs.Sizes.{binary_item, item_bytes};
 ghost use Rattle.arrow2_model.specs.Buffers.{buffer_items};
 ghost use Rattle.arrow2_model.specs.Storage.{items_of};
@@ -97,8 +97,8 @@ fn bits_at(bitmap: &Bitmap, indices: &[usize]) -> Result<Bitmap>
 }
 
 /// Returns, for each index in `indices`, the item at this index, and null where the index is null. The result has a
-/// validity bitmap exactly if an item of it is null. The number stored under a null index has no effect. Requires that
-/// each index is null, or at least 0 and below the length.
+/// validity bitmap exactly if an item of it is null. The number stored under a null index has no effect on the items.
+/// Requires that each index is null, or at least 0 and below the length.
 ///
 /// In arrow2 it is `take`.
 ///
@@ -111,7 +111,7 @@ pub fn take_by_array<T: NativeType, I: Index>(
 ) -> Result<PrimitiveArray<T>>
     requires inside { All (IsInBoundsOrNull I.value (length (primitive_items array.now))) (primitive_items indices.now) }
     ensures items { IfOk result (λ a. primitive_items a
-        ≡ items_at I.value (primitive_items array.now) (primitive_items indices.now)) }
+        ≡ items_by_index I.value (primitive_items array.now) (primitive_items indices.now)) }
     ensures data_type { IfOk result (λ a. a.data_type ≡ array.now.data_type) }
     ensures bitmap { IfOk result (λ a.
         IsNone a.validity.bitmap ↔ (count_by is_none (primitive_items a) ≡ 0)) }
@@ -130,7 +130,7 @@ fn values_by_array<T: NativeType, I: Index>(
     indices: &PrimitiveArray<I>,
 ) -> std::result::Result<Vec<T>, AllocError>
     requires inside { All (IsInBoundsOrNull I.value (length (primitive_items array.now))) (primitive_items indices.now) }
-    ensures items { let items = items_at I.value (primitive_items array.now) (primitive_items indices.now) in
+    ensures items { let items = items_by_index I.value (primitive_items array.now) (primitive_items indices.now) in
         IfOk result (λ v. zipped v.items (map is_some items) ≡ items) }
     ensures len { IfOk result (λ v. length v.items ≡ length (primitive_items indices.now)) }
 {
@@ -150,7 +150,7 @@ fn bits_by_array<T: NativeType, I: Index>(
 ) -> Result<Bitmap>
     requires inside { All (IsInBoundsOrNull I.value (length (primitive_items array.now))) (primitive_items indices.now) }
     ensures items { IfOk result (λ b. items_of b
-        ≡ map is_some (items_at I.value (primitive_items array.now) (primitive_items indices.now))) }
+        ≡ map is_some (items_by_index I.value (primitive_items array.now) (primitive_items indices.now))) }
     ensures only { IfErr result (λ e. e ≡ Error.OutOfMemory) }
 {
     Bitmap::try_from_fn(

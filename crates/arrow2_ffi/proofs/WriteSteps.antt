@@ -1,5 +1,5 @@
 -- The state after a call of an export, for each of its codes.
-use Rattle.std.proofs.Common.{ℕ, inl, refl, arith}
+use Rattle.std.proofs.Common.{inl, refl, arith}
 use Rattle.arrow2_ffi.specs.declared.codes.TheConstants.{ARROW2_OK}
 use Rattle.arrow2_ffi.specs.Writes.{Writes}
 
@@ -12,14 +12,4 @@ module _ {inside holds done unchanged : Type 0} where
     only = inl refl;
     ok = λ _. is;
     rejected = λ other. absurd (other refl);
-  }
-
-  -- the fact at success may be replaced by a consequence of it
-  pub stated : {other : Type 0} (code : ℕ) → (done → other) → Writes code inside holds done unchanged → Writes code inside holds other unchanged
-  stated code states w = record {
-    range = w.range;
-    length = w.length;
-    only = w.only;
-    ok = λ e. states (w.ok e);
-    rejected = w.rejected;
   }

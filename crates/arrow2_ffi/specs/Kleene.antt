@@ -56,8 +56,8 @@ pub record OptionalInput : Type 0 where
   pub validity : Option (List ℕ × ℕ)
 
 -- the input that a call was given as slices, with a validity or none
-abbrev pub optional_of : Side → OptionalInput
-optional_of x = record { values = (x.values.0.now, x.values.1); validity = validity_bits x.validity }
+abbrev pub side_of : Side → OptionalInput
+side_of x = record { values = (x.values.0.now, x.values.1); validity = validity_bits x.validity }
 
 -- the first n values of an input; and which of its first n items are not null
 abbrev pub first_values : ℕ → OptionalInput → List Bool

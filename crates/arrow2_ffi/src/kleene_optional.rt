@@ -4,7 +4,7 @@
 ghost use Rattle.std.specs.Prelude.{◌↔◌, IsTrue};
 ghost use Rattle.arrow2_model.specs.Tables.{each};
 ghost use Rattle.arrow2_array.specs.Kleene.{TablesCompute};
-ghost use Rattle.arrow2_ffi.specs.Kleene.{AgreesWhereOneIsValid, IsWholeInside, NullableOperator, WritesOptionalKleene, WritesOptionalKleeneAnd, WritesOptionalKleeneOr, first_parts, optional_input, optional_of};
+ghost use Rattle.arrow2_ffi.specs.Kleene.{AgreesWhereOneIsValid, IsWholeInside, NullableOperator, WritesOptionalKleene, WritesOptionalKleeneAnd, WritesOptionalKleeneOr, first_parts, optional_input, side_of};
 ghost use Rattle.arrow2_ffi.specs.Ranges.{HasBytesForBits};
 ghost use Rattle.arrow2_ffi.specs.Writes.{Stores};
 
@@ -100,7 +100,8 @@ pub extern "C" fn arrow2_or_kleene_optional(
     write::<OR_VALUES, OR_KNOWN, OR_KNOWN_PAIRED>(left, right, length, values, validity)
 }
 
-/// Writes the values by table `VALUES` of two inputs, and the validity as `write_known` does.
+/// Writes the values by table `VALUES` of two inputs, and the validity as `write_known` does. Requires that table
+/// `PAIRED` agrees with table `KNOWN` where one item is not null.
 fn write<const VALUES: u8, const KNOWN: u16, const PAIRED: u8>(
     left: Side<'_>,
     right: Side<'_>,
@@ -108,9 +109,10 @@ fn write<const VALUES: u8, const KNOWN: u16, const PAIRED: u8>(
     values: &mut [u8],
     validity: &mut [u8],
 ) -> u32
-    ensures { (f : NullableOperator) → TablesCompute VALUES KNOWN f → AgreesWhereOneIsValid PAIRED KNOWN →
-        WritesOptionalKleene result f VALUES KNOWN length (optional_of left.entry)
-        (optional_of right.entry) values.old values.new validity.old validity.new }
+    requires paired { AgreesWhereOneIsValid PAIRED KNOWN }
+    ensures { (f : NullableOperator) → TablesCompute VALUES KNOWN f →
+        WritesOptionalKleene result f VALUES KNOWN length (side_of left.entry)
+        (side_of right.entry) values.old values.new validity.old validity.new }
 {
     if !is_inside(left, length) || !is_inside(right, length) {
         return ARROW2_RANGE;
@@ -125,14 +127,15 @@ fn write<const VALUES: u8, const KNOWN: u16, const PAIRED: u8>(
 
 /// Returns whether the first `length` bits of the values, and of the validity if there is one, are inside their bytes.
 fn is_inside(side: Side<'_>, length: usize) -> bool
-    ensures { IsTrue result ↔ IsWholeInside length (optional_of side.entry) }
+    ensures { IsTrue result ↔ IsWholeInside length (side_of side.entry) }
 {
     are_inside(side.values, length) && covers_items(side.validity, length)
 }
 
 /// Writes which results are not null. Where both sides have a validity, uses table `KNOWN` of both values and
 /// validities. Where only one side has a validity, uses table `PAIRED`: its inputs are value and validity of that side,
-/// then the value of the other side. Where neither has one, no result is null.
+/// then the value of the other side. Where neither has one, no result is null. Requires that `PAIRED` agrees with
+/// `KNOWN` where one item is not null.
 fn write_known<const KNOWN: u16, const PAIRED: u8>(
     out: &mut [u8],
     length: usize,
@@ -140,10 +143,11 @@ fn write_known<const KNOWN: u16, const PAIRED: u8>(
     right: Side<'_>,
 )
     requires exact { HasBytesForBits out.old length }
-    requires left { IsWholeInside length (optional_of left) }
-    requires right { IsWholeInside length (optional_of right) }
-    ensures { AgreesWhereOneIsValid PAIRED KNOWN → Stores out.new length
-        (each KNOWN (first_parts length (optional_of left.entry) (optional_of right.entry))) }
+    requires left { IsWholeInside length (side_of left) }
+    requires right { IsWholeInside length (side_of right) }
+    requires paired { AgreesWhereOneIsValid PAIRED KNOWN }
+    ensures { Stores out.new length
+        (each KNOWN (first_parts length (side_of left.entry) (side_of right.entry))) }
 {
     match (left.validity, right.validity) {
         (None, None) => write_two::<ALWAYS>(out, length, left.values, right.values),

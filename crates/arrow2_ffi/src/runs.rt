@@ -12,7 +12,8 @@ use arrow2_walks::{BitCursor, find_bit};
 /// found. Writes to `starts` the index at which each run begins, and to `lengths` its length in bits, until the slices
 /// are full or no run is left. Writes to `count` how many runs it wrote, and to `at` where the next call goes on. When
 /// `count` is below the length of the slices, all runs have been found. With slices of length 0 that never happens:
-/// `count` is 0 then, and `at` may stay as it was. What the slices hold from `count` on is not specified.
+/// `count` is 0 then, and `at` may stay as it was. Two things are not specified: what the slices hold from `count` on,
+/// and, where they are full, which index `at` is between the last run written and the next run.
 ///
 /// Returns `ARROW2_RANGE` exactly where the bits are not inside, or `at` is above `length`; else `ARROW2_LENGTH`
 /// exactly where `starts` and `lengths` differ in length.

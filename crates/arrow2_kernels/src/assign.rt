@@ -2,7 +2,7 @@
 ghost use Rattle.std.specs.Prelude.{◌≡◌, ◌+◌, ◌-◌, ◌*◌, ◌/◌, ◌<◌, ◌≤◌, ◌^◌, ◌⊎◌, ℕ, List, ◌∷◌, false, take, length, slice_index_or};
 ghost use Rattle.arrow2_model.specs.Bits.{bit, bits};
 ghost use Rattle.arrow2_model.specs.Canonical.{IsCanonical};
-ghost use Rattle.arrow2_model.specs.Kernels.{word, bits_of_words};
+ghost use Rattle.arrow2_model.specs.Kernels.{word, own_kernel};
 ghost use Rattle.arrow2_model.specs.Rows.{ComputesOwnRows};
 ghost use Rattle.arrow2_kernels.specs.WordResults.{AreJoinedResults, MayReturnOwn};
 
@@ -29,8 +29,8 @@ pub fn assign_rows<T: BitChunk, S: WordRows<T>, F: Fn(T, S::Row) -> T>(
     // If the results of `op` are those of a mathematical function `f` on words:
     ensures items { (f : List ℕ → ℕ) →
         ComputesOwnRows T.WIDTH S.words T.number (F.post op) f →
-        take len (bits bytes.new) ≡ bits_of_words T.WIDTH (λ j.
-        f (word T.WIDTH (take len (bits bytes.old)) j ∷ S.row_at rows j)) len }
+        take len (bits bytes.new)
+        ≡ own_kernel T.WIDTH f (take len (bits bytes.old)) (S.row_at rows) len }
     // For any `op`: the word at each index is one that `op` may return for the words at this index.
     ensures results { AreJoinedResults T.WIDTH len (λ j. MayReturnOwn T.WIDTH S.words T.number (F.post op)
         (word T.WIDTH (take len (bits bytes.old)) j) (S.row_at rows j)) (take len (bits bytes.new)) }

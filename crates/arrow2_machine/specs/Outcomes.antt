@@ -43,7 +43,7 @@ pub record Carries (r : Result Unit CommandError) (old new : List SlotValue) (be
   -- an error changes nothing
   pub err : IfErr r (λ e. e ≢ OutOfMemory → (new ≡ old) × (after ≡ before))
 
--- the reply of the machine is appended; where an allocation failed, a part of it may have been appended
+-- the reply of the machine is appended; nothing is stated where an allocation failed
 pub record WritesText (r : Result Unit CommandError) (before after : List ℕ) (machine : Result (List ℕ) LineError) : Type 0 where
   -- it is the machine's
   pub ok : OnOk r (IsOkAnd machine (λ text. after ≡ before ++ text))

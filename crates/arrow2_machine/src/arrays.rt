@@ -157,7 +157,7 @@ impl Slot {
     ///
     /// # Errors
     ///
-    /// `Kind`, which changes nothing, or `OutOfMemory`, after which a part of the text may be there.
+    /// `Kind`, which changes nothing, or `OutOfMemory`, after which nothing is stated of `out`.
     fn write_array(&self, out: &mut Vec<u8>) -> Result<(), CommandError>
         ensures { WritesText result out.old.items out.new.items (array_reply self.now) }
     {
@@ -176,32 +176,32 @@ impl Slot {
         Ok(self.array()?.null_count())
     }
 
-    /// Cuts a boolean array to its `length` items from item `offset` on. Does not allocate.
+    /// Cuts a boolean array to its `len` items from item `offset` on. Does not allocate.
     ///
     /// # Errors
     ///
     /// `Kind` or `Range`. They change nothing.
-    fn slice_array(&mut self, offset: u64, length: u64) -> Result<(), LineError>
-        ensures gives { Answers (λ _. self.new) result (after_array_slice self.old offset length) }
+    fn slice_array(&mut self, offset: u64, len: u64) -> Result<(), LineError>
+        ensures gives { Answers (λ _. self.new) result (after_array_slice self.old offset len) }
         ensures err { OnErr result (self.new ≡ self.old) }
     {
         match &mut self.contents {
-            Contents::Array(array) => cut(array, offset, length),
+            Contents::Array(array) => cut(array, offset, len),
             _ => Err(LineError::Kind),
         }
     }
 }
 
-/// Cuts a boolean array to its `length` items from item `offset` on. Returns `Range` and changes nothing where they are
+/// Cuts a boolean array to its `len` items from item `offset` on. Returns `Range` and changes nothing where they are
 /// not inside.
-fn cut(array: &mut BooleanArray, offset: u64, length: u64) -> Result<(), LineError>
+fn cut(array: &mut BooleanArray, offset: u64, len: u64) -> Result<(), LineError>
     ensures gives { Answers (λ _. boolean_items array.new) result
-        (part_inside (boolean_items array.old) offset length) }
+        (part_inside (boolean_items array.old) offset len) }
     ensures err { OnErr result (array.new ≡ array.old) }
 {
-    if !is_inside(array.len(), offset, length) {
+    if !is_inside(array.len(), offset, len) {
         return Err(LineError::Range);
     }
-    array.slice(offset as usize, length as usize);
+    array.slice(offset as usize, len as usize);
     Ok(())
 }

@@ -151,17 +151,17 @@ impl Slot {
         }
     }
 
-    /// Cuts a frozen bitmap to its `length` items from item `offset` on. Does not allocate.
+    /// Cuts a frozen bitmap to its `len` items from item `offset` on. Does not allocate.
     ///
     /// # Errors
     ///
     /// `Kind` or `Range`. They change nothing.
-    fn slice(&mut self, offset: u64, length: u64) -> Result<(), LineError>
-        ensures gives { Answers (λ _. self.new) result (after_slice self.old offset length) }
+    fn slice(&mut self, offset: u64, len: u64) -> Result<(), LineError>
+        ensures gives { Answers (λ _. self.new) result (after_slice self.old offset len) }
         ensures err { OnErr result (self.new ≡ self.old) }
     {
         match &mut self.contents {
-            Contents::Frozen(bitmap) => cut(bitmap, offset, length),
+            Contents::Frozen(bitmap) => cut(bitmap, offset, len),
             _ => Err(LineError::Kind),
         }
     }
@@ -185,7 +185,7 @@ impl Slot {
     ///
     /// # Errors
     ///
-    /// `Kind`, which changes nothing, or `OutOfMemory`, after which a part of the text may be there.
+    /// `Kind`, which changes nothing, or `OutOfMemory`, after which nothing is stated of `out`.
     fn write_bits(&self, out: &mut Vec<u8>) -> Result<(), CommandError>
         ensures { WritesText result out.old.items out.new.items (item_text self.now) }
     {
@@ -210,17 +210,17 @@ fn bitmap_of(alloc: Global, text: &BitText<'_>) -> Result<MutableBitmap, Command
     Ok(bitmap)
 }
 
-/// Cuts a bitmap to its `length` items from item `offset` on. Returns `Range` and changes nothing where they are not
+/// Cuts a bitmap to its `len` items from item `offset` on. Returns `Range` and changes nothing where they are not
 /// inside.
-fn cut(bitmap: &mut Bitmap, offset: u64, length: u64) -> Result<(), LineError>
+fn cut(bitmap: &mut Bitmap, offset: u64, len: u64) -> Result<(), LineError>
     ensures gives { Answers (λ _. items_of bitmap.new) result
-        (part_inside (items_of bitmap.old) offset length) }
+        (part_inside (items_of bitmap.old) offset len) }
     ensures err { OnErr result (bitmap.new ≡ bitmap.old) }
 {
-    if !is_inside(bitmap.len(), offset, length) {
+    if !is_inside(bitmap.len(), offset, len) {
         return Err(LineError::Range);
     }
-    bitmap.slice(offset as usize, length as usize);
+    bitmap.slice(offset as usize, len as usize);
     Ok(())
 }
 

@@ -73,13 +73,13 @@ impl Slot {
     /// # Errors
     ///
     /// `Kind`, `Overflow` or `OutOfMemory`. They change nothing.
-    fn push_length(&mut self, length: u64) -> Result<(), CommandError>
-        ensures gives { Gives (λ _. self.new) result (after_lengths self.old (length ∷ [])) }
+    fn push_length(&mut self, len: u64) -> Result<(), CommandError>
+        ensures gives { Gives (λ _. self.new) result (after_lengths self.old (len ∷ [])) }
         ensures err { OnErr result (self.new ≡ self.old) }
     {
         match &mut self.contents {
             Contents::GrowingOffsets(offsets) => {
-                offsets.try_push_usize(length as usize)?;
+                offsets.try_push_usize(len as usize)?;
                 Ok(())
             }
             _ => Err(Rejected(LineError::Kind)),
@@ -125,7 +125,7 @@ impl Slot {
     ///
     /// # Errors
     ///
-    /// `Kind`, which changes nothing, or `OutOfMemory`, after which a part of the text may be there.
+    /// `Kind`, which changes nothing, or `OutOfMemory`, after which nothing is stated of `out`.
     fn write_offsets(&self, out: &mut Vec<u8>) -> Result<(), CommandError>
         ensures { WritesText result out.old.items out.new.items (offset_text self.now) }
     {
@@ -177,7 +177,7 @@ impl Slot {
     ///
     /// # Errors
     ///
-    /// `Kind` or `Length`, which change nothing, or `OutOfMemory`, after which a part of the text may be there.
+    /// `Kind` or `Length`, which change nothing, or `OutOfMemory`, after which nothing is stated of `out`.
     fn write_zipped(&self, validity: &Slot, out: &mut Vec<u8>) -> Result<(), CommandError>
         ensures { WritesText result out.old.items out.new.items (zip_text self.now validity.now) }
     {

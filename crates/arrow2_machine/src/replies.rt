@@ -89,11 +89,11 @@ pub(crate) fn write_offsets(offsets: &[i32], out: &mut Vec<u8>) -> Result<(), Al
 }
 
 /// Appends the digits of the length of a slot, or `null` if the slot is not valid.
-fn write_slot(length: usize, valid: bool, out: &mut Vec<u8>) -> Result<(), AllocError>
-    ensures { OnOk result (out.new.items ≡ out.old.items ++ slot_word (slot length valid)) }
+fn write_slot(len: usize, valid: bool, out: &mut Vec<u8>) -> Result<(), AllocError>
+    ensures { OnOk result (out.new.items ≡ out.old.items ++ slot_word (slot len valid)) }
 {
     if valid {
-        write_number(length, out)
+        write_number(len, out)
     } else {
         out.extend_from_slice(b"null")
     }
@@ -111,14 +111,14 @@ pub(crate) fn write_slots(
         ++ words_text (map slot_word (zipped lengths.entry validity.entry))) }
 {
     let mut slots = lengths.zip(validity);
-    let Some((length, valid)) = slots.next() else {
+    let Some((len, valid)) = slots.next() else {
         out.extend_from_slice(b"-")?;
         return Ok(());
     };
-    write_slot(length, valid, out)?;
-    for (length, valid) in slots {
+    write_slot(len, valid, out)?;
+    for (len, valid) in slots {
         out.push(b' ')?;
-        write_slot(length, valid, out)?;
+        write_slot(len, valid, out)?;
     }
     Ok(())
 }
@@ -160,13 +160,13 @@ pub(crate) fn write_words<T: BitChunk, F: Fn(T) -> usize>(
     Ok(())
 }
 
-/// Appends the text of a run of `length` items from index `start` on: both numbers, with `:` between them.
-fn write_run(start: usize, length: usize, out: &mut Vec<u8>) -> Result<(), AllocError>
-    ensures { OnOk result (out.new.items ≡ out.old.items ++ run_word (start, length)) }
+/// Appends the text of a run of `len` items from index `start` on: both numbers, with `:` between them.
+fn write_run(start: usize, len: usize, out: &mut Vec<u8>) -> Result<(), AllocError>
+    ensures { OnOk result (out.new.items ≡ out.old.items ++ run_word (start, len)) }
 {
     write_number(start, out)?;
     out.push(b':')?;
-    write_number(length, out)
+    write_number(len, out)
 }
 
 /// Appends the text of the remaining runs of an iterator, `-` if there are none.
@@ -175,14 +175,14 @@ pub(crate) fn write_runs(runs: SlicesIterator<'_>, out: &mut Vec<u8>) -> Result<
         ++ words_text (map run_word runs.entry.runs)) }
 {
     let mut runs = runs;
-    let Some((start, length)) = runs.next_run() else {
+    let Some((start, len)) = runs.next_run() else {
         out.extend_from_slice(b"-")?;
         return Ok(());
     };
-    write_run(start, length, out)?;
-    while let Some((start, length)) = runs.next_run() {
+    write_run(start, len, out)?;
+    while let Some((start, len)) = runs.next_run() {
         out.push(b' ')?;
-        write_run(start, length, out)?;
+        write_run(start, len, out)?;
     }
     Ok(())
 }

@@ -37,7 +37,7 @@ pub(crate) fn run(
 }
 
 impl Slot {
-    /// Returns a slot with a frozen bitmap: the `length` bits of these bytes from bit `offset` on.
+    /// Returns a slot with a frozen bitmap: the `len` bits of these bytes from bit `offset` on.
     ///
     /// # Errors
     ///
@@ -46,15 +46,15 @@ impl Slot {
         alloc: Global,
         bytes: HexText<'_>,
         offset: u64,
-        length: u64,
+        len: u64,
     ) -> Result<Slot, CommandError>
-        ensures { Gives (λ slot. slot) result (after_raw bytes.entry offset length) }
+        ensures { Gives (λ slot. slot) result (after_raw bytes.entry offset len) }
     {
-        let Some(end) = offset.checked_add(length) else {
+        let Some(end) = offset.checked_add(len) else {
             return Err(Rejected(LineError::Range));
         };
         let mut bitmap = Bitmap::try_new(bytes_of_hex(alloc, bytes)?, end as usize)?;
-        bitmap.slice(offset as usize, length as usize);
+        bitmap.slice(offset as usize, len as usize);
         Ok(Slot {
             contents: Contents::Frozen(bitmap),
         })
@@ -86,7 +86,7 @@ impl Slot {
     ///
     /// # Errors
     ///
-    /// `Kind`, which changes nothing, or `OutOfMemory`, after which a part of the text may be there.
+    /// `Kind`, which changes nothing, or `OutOfMemory`, after which nothing is stated of `out`.
     fn write_words(&self, width: Width, out: &mut Vec<u8>) -> Result<(), CommandError>
         ensures { WritesText result out.old.items out.new.items (word_text self.now width) }
     {
@@ -106,7 +106,7 @@ impl Slot {
     ///
     /// # Errors
     ///
-    /// `Kind`, which changes nothing, or `OutOfMemory`, after which a part of the text may be there.
+    /// `Kind`, which changes nothing, or `OutOfMemory`, after which nothing is stated of `out`.
     fn write_runs(&self, out: &mut Vec<u8>) -> Result<(), CommandError>
         ensures { WritesText result out.old.items out.new.items (run_text self.now) }
     {

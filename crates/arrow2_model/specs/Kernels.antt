@@ -23,6 +23,10 @@ common_length lists = length (slice_index_or lists 0 [])
 unfoldable pub bits_of_words : ℕ → (ℕ → ℕ) → ℕ → List Bool
 bits_of_words w word_of n = take n (flat_map (λ j. unnum w (word_of j)) (range_with_len 0 (div_ceil n w)))
 
+-- the first n of the bits of the results of f, w bits a result: result j is that for word j of `own` and row j
+abbrev pub own_kernel : ℕ → (List ℕ → ℕ) → List Bool → (ℕ → List ℕ) → ℕ → List Bool
+own_kernel w f own row n = bits_of_words w (λ j. f (word w own j ∷ row j)) n
+
 -- the list that the word function f gives for lists of equal length: the bits of its result for word 0 of each list,
 -- then the bits of its result for word 1 of each list, and so on, cut to the length of the lists
 unfoldable pub kernel : ℕ → (List ℕ → ℕ) → List (List Bool) → List Bool

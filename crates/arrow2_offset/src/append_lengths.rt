@@ -6,7 +6,7 @@ ghost use Rattle.arrow2_offset.specs.Offsets.{AreOffsetsUpTo, last_of, lengths_o
 ghost use Rattle.arrow2_offset.specs.Iterators.{MayYieldMoreThan, MayYieldPast};
 ghost use Rattle.arrow2_offset.specs.Growth.{GrowsByIterator};
 ghost use Rattle.arrow2_offset.specs.Lengths.{LengthenedBy};
-ghost use Rattle.arrow2_offset.specs.NewOffsets.{growing_offsets_of};
+ghost use Rattle.arrow2_offset.specs.NewOffsets.{offsets_of_vec};
 ghost use Rattle.arrow2_types.specs.declared.growth_error.GrowthError.TheVariants as growth_error;
 
 use arrow2_index::Offset;
@@ -37,10 +37,8 @@ pub(crate) fn append_lengths<O: Offset, I: Iterator<Item = usize> + Drop>(
     requires can { I.can_next lengths }
     requires ends { IsFinite (I.remaining lengths) }
     ensures valid { AreOffsetsUpTo O.MAX (map O.value offsets.new.items) }
-    ensures grows { GrowsByIterator (λ e. e) result
-        (growing_offsets_of (map O.value offsets.old.items) (vec_capacity offsets.old))
-        (growing_offsets_of (map O.value offsets.new.items) (vec_capacity offsets.new))
-        I.next_gives lengths O.MAX }
+    ensures grows { GrowsByIterator (λ e. e) result (offsets_of_vec O.value offsets.old)
+        (offsets_of_vec O.value offsets.new) I.next_gives lengths O.MAX }
 {
     let count = offsets.len();
     let empty = Vec::new(*offsets.allocator());

@@ -11,7 +11,7 @@ ghost use Rattle.arrow2_model.specs.Buffers.{buffer_items};
 ghost use Rattle.arrow2_offset.specs.Offsets.{AreOffsets, offset_at, AreOffsetsUpTo, offsets_of, last_of_growing, start_of, lengths_of, slots, SameOffsets, GrownBy};
 ghost use Rattle.arrow2_offset.specs.Iterators.{MayYieldPast};
 ghost use Rattle.arrow2_offset.specs.Growth.{Grows, GrowsUpTo, GrowsByIterator};
-ghost use Rattle.arrow2_offset.specs.NewOffsets.{growing_offsets_of};
+ghost use Rattle.arrow2_offset.specs.NewOffsets.{offsets_of_vec};
 ghost use Rattle.arrow2_offset.specs.Failures.{IsOutOfSpecOrOutOfMemory, not_offsets_message};
 ghost use Rattle.arrow2_types.specs.Failures.{error_of};
 ghost use Rattle.arrow2_types.specs.declared.growth_error.GrowthError.TheVariants as growth_error;
@@ -52,16 +52,13 @@ pub struct Offsets<O: Offset> {
 }
 
 impl<O: Offset> Model for Offsets<O> {
-    ghost use Rattle.std.specs.Prelude.{◌-◌, map, vec_capacity};
-    ghost use Rattle.arrow2_offset.specs.Offsets.{GrowingOffsets, start_of, lengths_of, AreOffsetsUpTo};
+    ghost use Rattle.std.specs.Prelude.{map};
+    ghost use Rattle.arrow2_offset.specs.NewOffsets.{offsets_of_vec};
+    ghost use Rattle.arrow2_offset.specs.Offsets.{GrowingOffsets, AreOffsetsUpTo};
 
     ghost Value = { GrowingOffsets };
 
-    ghost view = { λ o. record {
-      start = start_of (map O.value o.offsets.items);
-      lengths = lengths_of (map O.value o.offsets.items);
-      capacity = vec_capacity o.offsets - 1;
-    } };
+    ghost view = { λ o. offsets_of_vec O.value o.offsets };
 
     ghost invariant = { λ o. AreOffsetsUpTo O.MAX (map O.value o.offsets.items) };
 }
@@ -396,7 +393,7 @@ impl<O: Offset> Offsets<O> {
     /// Returns the vector as `Offsets`, without a copy. Requires that the vector holds offsets.
     pub(crate) fn of_vec(offsets: Vec<O>) -> Self
         requires { AreOffsetsUpTo O.MAX (map O.value offsets.items) }
-        ensures { result ≡ growing_offsets_of (map O.value offsets.items) (vec_capacity offsets) }
+        ensures { result ≡ offsets_of_vec O.value offsets }
     {
         Offsets { offsets }
     }
@@ -499,7 +496,7 @@ impl<O: Offset> TryFrom<Vec<O>> for Offsets<O> {
     type Error = Error;
 
     ghost try_from_gives = { λ vector r. MatchResult r (λ o. AreOffsets (map O.value vector.items)
-        × (o ≡ growing_offsets_of (map O.value vector.items) (vec_capacity vector))) (λ e.
+        × (o ≡ offsets_of_vec O.value vector)) (λ e.
         ¬ AreOffsets (map O.value vector.items)
         × IsOutOfSpecOrOutOfMemory e (not_offsets_message (map O.value vector.items))) };
 

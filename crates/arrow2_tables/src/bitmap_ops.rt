@@ -1,7 +1,7 @@
 //! New bitmaps from three and four bitmaps: word functions, and truth tables.
 ghost use Rattle.std.specs.Prelude.{◌≡◌, ℕ, [], ◌∷◌, length, IfOk, IfErr};
-ghost use Rattle.arrow2_model.specs.Kernels.{word, ternary_kernel, quaternary_kernel, ComputesTernary, ComputesQuaternary};
-ghost use Rattle.arrow2_model.specs.Storage.{items_of};
+ghost use Rattle.arrow2_model.specs.Kernels.{ternary_kernel, quaternary_kernel, ComputesTernary, ComputesQuaternary};
+ghost use Rattle.arrow2_model.specs.Storage.{bitmap_word, items_of};
 ghost use Rattle.arrow2_model.specs.Tables.{each, IsBitwiseTernary, IsBitwiseQuaternary};
 ghost use Rattle.arrow2_kernels.specs.WordResults.{AreJoinedResults};
 ghost use Rattle.arrow2_bitmap.specs.PackedBitmaps.{IsPacked};
@@ -44,8 +44,8 @@ pub fn ternary<F: Fn(u64, u64, u64) -> u64>(
         items_of b ≡ each t (items_of a1.now ∷ items_of a2.now ∷ items_of a3.now ∷ [])) }
     // For any `op`: the word at each index is one that `op` may return for the words of the lists at this index.
     ensures results { IfOk result (λ b. AreJoinedResults 64 (length (items_of a1.now))
-        (λ j. F.post op (word 64 (items_of a1.now) j) (word 64 (items_of a2.now) j)
-        (word 64 (items_of a3.now) j)) (items_of b)) }
+        (λ j. F.post op (bitmap_word 64 a1.now j) (bitmap_word 64 a2.now j)
+        (bitmap_word 64 a3.now j)) (items_of b)) }
     // It is stored in canonical bytes, and the only error is `OutOfMemory`.
     ensures len { IfOk result (λ b. length (items_of b) ≡ length (items_of a1.now)) }
     ensures storage { IfOk result (λ b. IsPacked b) }
@@ -107,8 +107,8 @@ pub fn quaternary<F: Fn(u64, u64, u64, u64) -> u64>(
         ∷ items_of a4.now ∷ [])) }
     // For any `op`: the word at each index is one that `op` may return for the words of the lists at this index.
     ensures results { IfOk result (λ b. AreJoinedResults 64 (length (items_of a1.now))
-        (λ j. F.post op (word 64 (items_of a1.now) j) (word 64 (items_of a2.now) j)
-        (word 64 (items_of a3.now) j) (word 64 (items_of a4.now) j)) (items_of b)) }
+        (λ j. F.post op (bitmap_word 64 a1.now j) (bitmap_word 64 a2.now j)
+        (bitmap_word 64 a3.now j) (bitmap_word 64 a4.now j)) (items_of b)) }
     // It is stored in canonical bytes, and the only error is `OutOfMemory`.
     ensures len { IfOk result (λ b. length (items_of b) ≡ length (items_of a1.now)) }
     ensures storage { IfOk result (λ b. IsPacked b) }

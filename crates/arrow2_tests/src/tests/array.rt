@@ -54,9 +54,9 @@ fn a_long_array_is_shown_whole(rt: HostRuntime) {
     shows(&rt, alloc, &array, text.as_str());
 }
 
-/// Returns a bitmap of `length` unset bits.
-fn falses(rt: &impl Abort, alloc: Global, length: usize) -> Bitmap {
-    ok(rt, Bitmap::new_zeroed(alloc, length))
+/// Returns a bitmap of `len` unset bits.
+fn falses(rt: &impl Abort, alloc: Global, len: usize) -> Bitmap {
+    ok(rt, Bitmap::new_zeroed(alloc, len))
 }
 
 #[test]

@@ -13,21 +13,21 @@ use std::process::Abort;
 // A counter, which these hold, takes no bytes when the program runs.
 const _: () = prove!(size_of::<Reads>() == 0);
 
-/// Returns the reads of a slice of `length` bits from bit `offset` on.
+/// Returns the reads of a slice of `len` bits from bit `offset` on.
 fn read_by_slice(
     rt: &impl Abort,
     alloc: Global,
     offset: usize,
-    length: usize,
+    len: usize,
     start: usize,
     count: usize,
 ) -> Reads
-    requires small { offset + length < 2 ^ 16 }
-    requires inside { start + count ≤ length }
-    ensures { result ≡ slice_reads offset length start count }
+    requires small { offset + len < 2 ^ 16 }
+    requires inside { start + count ≤ len }
+    ensures { result ≡ slice_reads offset len start count }
 {
-    let zeros = ok(rt, Bitmap::new_zeroed(alloc, offset + length));
-    let mut bitmap = zeros.sliced(offset, length);
+    let zeros = ok(rt, Bitmap::new_zeroed(alloc, offset + len));
+    let mut bitmap = zeros.sliced(offset, len);
     let mut reads = Reads::new();
     bitmap.slice_counted(start, count, &mut reads);
     assert_that(rt, bitmap.unset_bits() == count);
@@ -56,16 +56,16 @@ fn slices_read_no_more_than_half(rt: HostRuntime) {
     is_read(read_by_slice(&rt, alloc, 3, 16, 4, 8), 3);
 }
 
-/// Cuts piece `p`, which has `length` items and begins with a byte.
-fn cut(rt: &impl Abort, pieces: &mut Pieces, p: usize, length: usize, i: usize)
-    requires { i ≤ length }
-    ensures { pieces.new.reads ≡ pieces.old.reads + cut_reads 0 length i }
+/// Cuts piece `p`, which has `len` items and begins with a byte.
+fn cut(rt: &impl Abort, pieces: &mut Pieces, p: usize, len: usize, i: usize)
+    requires { i ≤ len }
+    ensures { pieces.new.reads ≡ pieces.old.reads + cut_reads 0 len i }
 {
     assert!(rt; p < pieces.len());
     let piece = pieces.get(p);
     let (_, within, _) = piece.as_slice();
     assert!(rt; within == 0);
-    assert!(rt; piece.len() == length);
+    assert!(rt; piece.len() == len);
     pieces.cut(p, i).expect(rt, "no memory");
 }
 
@@ -85,9 +85,9 @@ fn cuts_read_what_they_count(rt: HostRuntime) {
     have_read(&pieces, 300);
     cut(&rt, &mut pieces, 2, 800, 1);
     have_read(&pieces, 302);
-    for (p, length) in [(0, 400), (1, 400), (2, 1), (3, 799)] {
+    for (p, len) in [(0, 400), (1, 400), (2, 1), (3, 799)] {
         assert_that(&rt, pieces.len() == 4);
-        assert_that(&rt, pieces.get(p).unset_bits() == length);
+        assert_that(&rt, pieces.get(p).unset_bits() == len);
     }
 }
 

@@ -105,23 +105,23 @@ pub(super) fn bytes_with_list(
     Ok(bytes)
 }
 
-/// The list of the lowest bits of a number.
-pub(super) fn of_number(alloc: Global, number: u64, length: usize) -> ListResult {
-    (0..length)
+/// Returns the list of the lowest bits of a number.
+pub(super) fn of_number(alloc: Global, number: u64, len: usize) -> ListResult {
+    (0..len)
         .map(|i| (number >> (i % 64)) & 1 == 1)
         .collect(alloc)
 }
 
 /// Returns the list that is true where 3 divides the index.
-pub(super) fn thirds(alloc: Global, length: usize) -> ListResult {
-    (0..length).map(|i| i % 3 == 0).collect(alloc)
+pub(super) fn thirds(alloc: Global, len: usize) -> ListResult {
+    (0..len).map(|i| i % 3 == 0).collect(alloc)
 }
 
-/// A list without a pattern.
-pub(super) fn list_without_pattern(alloc: Global, seed: u64, length: usize) -> ListResult {
+/// Returns a list without a pattern.
+pub(super) fn list_without_pattern(alloc: Global, seed: u64, len: usize) -> ListResult {
     let mut items = Vec::new(alloc);
     let mut state = seed;
-    for _ in 0..length {
+    for _ in 0..len {
         state = state
             .wrapping_mul(6364136223846793005)
             .wrapping_add(1442695040888963407);

@@ -70,9 +70,9 @@ fn is_counted_from(rt: &impl Abort, (bitmap, list): Of, start: usize) {
     assert_that(rt, bitmap.len() == list.len());
     assert_that(rt, start <= list.len());
     let mut falses = 0usize;
-    for length in 0..list.len() - start + 1 {
-        assert_that(rt, bitmap.null_count_range(start, length) == falses);
-        falses = falses.wrapping_add(usize::from(!lists::at(list, start + length)));
+    for len in 0..list.len() - start + 1 {
+        assert_that(rt, bitmap.null_count_range(start, len) == falses);
+        falses = falses.wrapping_add(usize::from(!lists::at(list, start + len)));
     }
 }
 
@@ -209,11 +209,11 @@ fn goes_by_operators(rt: &impl Abort, (left, list): Of, (right, others): Of) {
 /// Appends the bytes of the list at each bit index.
 fn is_appended(rt: &impl Abort, (bitmap, list): Of) {
     let alloc = bitmap.allocator();
-    let (bytes, offset, length) = bitmap.as_slice();
+    let (bytes, offset, len) = bitmap.as_slice();
     for count in 0..16usize {
         let own = ok(rt, lists::thirds(alloc, count));
         let mut grown = ok(rt, MutableBitmap::from_bools(alloc, own.as_slice()));
-        ok(rt, grown.extend_from_slice(bytes, offset, length));
+        ok(rt, grown.extend_from_slice(bytes, offset, len));
         becomes(rt, grown, lists::append(own, list));
     }
 }
@@ -304,9 +304,9 @@ fn bitmap_at(
     whole.sliced(offset, list.len())
 }
 
-/// Returns a list of this length without a pattern.
-fn list_without_pattern(rt: &impl Abort, alloc: Global, seed: u64, length: usize) -> Vec<bool> {
-    ok(rt, lists::list_without_pattern(alloc, seed, length))
+/// Returns a list of `len` items without a pattern.
+fn list_without_pattern(rt: &impl Abort, alloc: Global, seed: u64, len: usize) -> Vec<bool> {
+    ok(rt, lists::list_without_pattern(alloc, seed, len))
 }
 
 /// Stores the list at each bit offset, with padding bits all false and all true, and with 0 to 2 spare bytes.
@@ -326,17 +326,17 @@ fn in_each_storage(rt: &impl Abort, alloc: Global, list: &[bool]) {
 }
 
 /// Stores lists without a pattern at each bit offset of the first one.
-fn at_each_offset(rt: &impl Abort, alloc: Global, length: usize) {
+fn at_each_offset(rt: &impl Abort, alloc: Global, len: usize) {
     let (list, others) = (
-        list_without_pattern(rt, alloc, 1, length),
-        list_without_pattern(rt, alloc, 2, length),
+        list_without_pattern(rt, alloc, 1, len),
+        list_without_pattern(rt, alloc, 2, len),
     );
     let (list, others) = (list.as_slice(), others.as_slice());
     for offset in 0..16 {
         let left = bitmap_at(rt, alloc, list, offset, true, 1);
         let alike = bitmap_at(rt, alloc, others, offset, true, 0);
         pairs_agree(rt, (&left, list), (&alike, others));
-        if length <= 200 {
+        if len <= 200 {
             is_appended(rt, (&left, list));
         }
         let apart = bitmap_at(rt, alloc, others, (offset * 5 + 3) % 16, true, 1);
@@ -358,17 +358,17 @@ fn what_follows_a_list_changes_no_result(rt: HostRuntime) {
     let alloc = rt.alloc();
     // The bits of a number below its highest one: each list of up to five items once.
     for number in 1..64u64 {
-        let length = number.ilog2() as usize;
-        is_stored(&rt, alloc, lists::of_number(alloc, number, length));
+        let len = number.ilog2() as usize;
+        is_stored(&rt, alloc, lists::of_number(alloc, number, len));
     }
-    for length in [63usize, 64, 65, 130] {
-        is_stored(&rt, alloc, lists::thirds(alloc, length));
+    for len in [63usize, 64, 65, 130] {
+        is_stored(&rt, alloc, lists::thirds(alloc, len));
     }
 }
 
 #[test]
 fn pairs_of_lists_at_each_length_and_offset(rt: HostRuntime) {
-    for length in 0..=600 {
-        at_each_offset(&rt, rt.alloc(), length);
+    for len in 0..=600 {
+        at_each_offset(&rt, rt.alloc(), len);
     }
 }

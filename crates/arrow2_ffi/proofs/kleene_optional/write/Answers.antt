@@ -8,7 +8,7 @@ use Rattle.arrow2_ffi.proofs.WriteSteps.{wrote}
 use Rattle.arrow2_ffi.proofs.kleene_optional.write.Goals as goal
 
 pub returns : goal.returns
-returns g c f spelled paired =
+returns g c f spelled =
     let n = c.args.length in
     let l = c.args.left in
     let r = c.args.right in
@@ -23,7 +23,7 @@ returns g c f spelled paired =
     let a = length-valid_items l.validity n left.1 in
     let b = length-valid_items r.validity n right.1 in
     let values = c.write_two.ensures in
-    let validity = c.write_known.ensures paired in
+    let validity = c.write_known.ensures in
     wrote (left, right) (search rules) (record {
       items = rw (values.items, validity.items) (by_tables _ _ f xs ns ys ms spelled (a ∙ sym x) (y ∙ sym x) (b ∙ sym x));
       values = values;

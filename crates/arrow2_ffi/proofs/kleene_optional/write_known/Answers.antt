@@ -8,7 +8,7 @@ use Rattle.arrow2_ffi.proofs.OptionalKleene.{all_true, all_valid, given_items}
 use Rattle.arrow2_ffi.proofs.kleene_optional.write_known.Goals as goal
 
 pub returns-in-None-None : goal.returns-in-None-None
-returns-in-None-None g c paired =
+returns-in-None-None g c =
     let n = c.args.length in
     let l = c.args.left in
     let r = c.args.right in
@@ -19,12 +19,12 @@ returns-in-None-None g c paired =
     let left = all_valid l.validity xs n c.in-None-None.is-0 x in
     let right = all_valid r.validity ys n c.in-None-None.is-1 y in
     record {
-      items = c.write_two.ensures.items ∙ (all_true xs ys ∙ all_known g.row.KNOWN xs (items_not_null (validity_bits l.validity) n) ys (items_not_null (validity_bits r.validity) n) paired.both (x ∙ sym y) left right);
+      items = c.write_two.ensures.items ∙ (all_true xs ys ∙ all_known g.row.KNOWN xs (items_not_null (validity_bits l.validity) n) ys (items_not_null (validity_bits r.validity) n) c.requires.paired.both (x ∙ sym y) left right);
       canonical = c.write_two.ensures.canonical;
     }
 
 pub returns-in-Some-None : goal.returns-in-Some-None
-returns-in-Some-None g c paired =
+returns-in-Some-None g c =
     let n = c.args.length in
     let l = c.args.left in
     let r = c.args.right in
@@ -35,12 +35,12 @@ returns-in-Some-None g c paired =
     let left = given_items l.validity _ n c.in-Some-None.is-0 in
     let right = all_valid r.validity ys n c.in-Some-None.is-1 y in
     record {
-      items = c.write_three-in-Some-None.ensures.items ∙ (ap (λ ns. each g.row.PAIRED (xs ∷ ns ∷ ys ∷ [])) left ∙ paired_right g.row.KNOWN g.row.PAIRED xs (items_not_null (validity_bits l.validity) n) ys (items_not_null (validity_bits r.validity) n) paired.second (x ∙ sym y) right);
+      items = c.write_three-in-Some-None.ensures.items ∙ (ap (λ ns. each g.row.PAIRED (xs ∷ ns ∷ ys ∷ [])) left ∙ paired_right g.row.KNOWN g.row.PAIRED xs (items_not_null (validity_bits l.validity) n) ys (items_not_null (validity_bits r.validity) n) c.requires.paired.second (x ∙ sym y) right);
       canonical = c.write_three-in-Some-None.ensures.canonical;
     }
 
 pub returns-in-None-Some : goal.returns-in-None-Some
-returns-in-None-Some g c paired =
+returns-in-None-Some g c =
     let n = c.args.length in
     let l = c.args.left in
     let r = c.args.right in
@@ -51,12 +51,12 @@ returns-in-None-Some g c paired =
     let left = all_valid l.validity xs n c.in-None-Some.is-0 x in
     let right = given_items r.validity _ n c.in-None-Some.is-1 in
     record {
-      items = c.write_three.ensures.items ∙ (ap (λ ms. each g.row.PAIRED (ys ∷ ms ∷ xs ∷ [])) right ∙ paired_left g.row.KNOWN g.row.PAIRED xs (items_not_null (validity_bits l.validity) n) ys (items_not_null (validity_bits r.validity) n) paired.first (x ∙ sym y) left);
+      items = c.write_three.ensures.items ∙ (ap (λ ms. each g.row.PAIRED (ys ∷ ms ∷ xs ∷ [])) right ∙ paired_left g.row.KNOWN g.row.PAIRED xs (items_not_null (validity_bits l.validity) n) ys (items_not_null (validity_bits r.validity) n) c.requires.paired.first (x ∙ sym y) left);
       canonical = c.write_three.ensures.canonical;
     }
 
 pub returns-in-Some-Some : goal.returns-in-Some-Some
-returns-in-Some-Some g c paired =
+returns-in-Some-Some g c =
     let n = c.args.length in
     let l = c.args.left in
     let r = c.args.right in

@@ -6,5 +6,5 @@ use Rattle.arrow2_tests.proofs.tests.counts.cut.Goals as goal
 
 pub returns : goal.returns
 returns g c =
-    cut_from_byte (piece_at c.args.pieces.now.pieces c.args.p) c.get-piece.result.now c.as_slice-within.result.1 c.args.length c.args.i c.args.pieces.now.reads c.cut.new.self.reads
+    cut_from_byte (piece_at c.args.pieces.now.pieces c.args.p) c.get-piece.result.now c.as_slice-within.result.1 c.args.len c.args.i c.args.pieces.now.reads c.cut.new.self.reads
     c.get-piece.ensures c.as_slice-within.ensures.offset (omega arith) (omega (arith, c.len-2.ensures.items)) (IfOk-at_ok _ c.expect.ensures c.cut.ensures.reads)
