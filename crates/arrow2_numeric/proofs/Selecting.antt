@@ -1,7 +1,8 @@
 -- What a mask selects word by word, and by the indices of the bits that are set.
 use Rattle.std.proofs.Common.{◌≡◌, ℕ, zero, suc, ◌+◌, ◌-◌, ◌<◌, ◌≤◌, ◌^◌, List, [], ◌∷◌, ◌++◌, Bool, true, false, cond, length, take, drop, get_or, replicate, refl, ap, sym, subst, ◌∙◌, append_assoc, arith, add-one}
 use Rattle.std.specs.Prelude.{Option, Some, None, unwrap_or}
-use Rattle.std.proofs.lemmas.List.{length-append}
+use Rattle.std.proofs.Math.Seq.{drop-append_seam, take-append_seam}
+use Rattle.std.proofs.lemmas.List.{append-nil, length-append, take_all}
 use Rattle.std.specs.List.{All, filter, flat_map, range_with_len}
 use Rattle.std.proofs.lemmas.List.Elements.{All-filter}
 use Rattle.std.proofs.lemmas.List.FromFn.{get_or-range_with_len, length-range_with_len}
@@ -185,5 +186,25 @@ block-step items left (Some x) h less = h
 pub front-of : (w n : ℕ) (items left : List Bool) → rest 64 left ≡ rest 64 items → rest 64 items ≡ items → take (length (rest 64 left)) (unnum 64 w) ≡ rest 64 left → n ≡ length (rest 64 left)
     → (take n (unnum 64 w) ≡ items) × (n ≡ length items)
 front-of w n items left same none spilled size = (ap (λ k. take k (unnum 64 w)) size ∙ (spilled ∙ (same ∙ none)), size ∙ ap length (same ∙ none))
+
+-- of a mask whose first items are those of a word: the items for the values that are left
+pub mask-left : (items word left : List Bool) (count block others : ℕ) → items ≡ word ++ left → length items ≡ count → block ≡ length word → count ≡ block + others → take others left ≡ drop block (take count items)
+mask-left items word left count block others is size first cut =
+    let lens = ap length is ∙ length-append word left in
+    take_all others left (omega (arith, lens, size, first, cut))
+    ∙ (sym (drop-append_seam word left) ∙ (ap (λ k. drop k (word ++ left)) (sym first) ∙ (ap (drop block) (sym is) ∙ ap (drop block) (sym (take_all count items (omega (arith, size)))))))
+
+-- the items for the block of that word
+pub mask-first : (items word left : List Bool) (count block : ℕ) → items ≡ word ++ left → length items ≡ count → block ≡ length word → block ≡ 64 → word ≡ take block (take count items) ++ replicate (64 - block) false
+mask-first items word left count block is size first full =
+    let front : take block (take count items) ≡ word = ap (take block) (take_all count items (omega (arith, size)) ∙ is) ∙ (ap (λ k. take k (word ++ left)) first ∙ take-append_seam word left) in
+    let none : 64 - block ≡ 0 = omega (arith, full) in
+    sym (append-nil word) ∙ (ap (λ l. l ++ []) (sym front) ∙ ap (λ k. take block (take count items) ++ replicate k false) (sym none))
+
+-- the items for the last block, which a word masked after n bits has
+pub mask-last : (items bits word : List Bool) (n count : ℕ) → take n bits ≡ items → n ≡ length items → length items ≡ count → word ≡ take n bits ++ replicate (64 - n) false → word ≡ take count (take count items) ++ replicate (64 - count) false
+mask-last items bits word n count is few size masked =
+    let whole : take count (take count items) ≡ items = ap (take count) (take_all count items (omega (arith, size))) ∙ take_all count items (omega (arith, size)) in
+    masked ∙ (ap (λ l. l ++ replicate (64 - n) false) (is ∙ sym whole) ∙ ap (λ k. take count (take count items) ++ replicate (64 - k) false) (few ∙ size))
 
 pub ruleset selecting = (selected-max, cut-ones)

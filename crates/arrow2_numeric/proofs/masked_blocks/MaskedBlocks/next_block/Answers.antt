@@ -1,11 +1,12 @@
-use Rattle.std.proofs.Common.{◌≡◌, ◌++◌, ℕ, ◌<◌, Bool, false, zero, suc, inl, inr, length, ap, sym, ◌∙◌, arith}
+use Rattle.std.proofs.Common.{◌≡◌, ◌++◌, ℕ, ◌+◌, ◌-◌, ◌<◌, Bool, false, zero, suc, inl, inr, length, take, drop, replicate, ap, sym, ◌∙◌, arith}
 use Rattle.std.specs.Prelude.{◌⊎◌}
 use Rattle.std.specs.Bool.{◌==◌}
+use Rattle.std.proofs.Math.ListN.{drop_of_length-le}
 use Rattle.std.proofs.lemmas.List.{append-nil, length-append, take_all}
 use Rattle.arrow2_model.specs.Bits.{unnum}
 use Rattle.arrow2_model.proofs.Bits.{length-unnum}
 use Rattle.arrow2_walks.specs.Selections.{selection}
-use Rattle.arrow2_numeric.proofs.Selecting.{front-of, block-selected, last-selected}
+use Rattle.arrow2_numeric.proofs.Selecting.{front-of, block-selected, last-selected, mask-first, mask-last, mask-left}
 use Rattle.arrow2_numeric.proofs.masked_blocks.MaskedBlocks.next_block.Goals as goal
 
 -- the words have as many items as there are values, where there is a value
@@ -33,13 +34,26 @@ invariant_of-self-2 g c =
 
 pub returns-clause-block : goal.returns-clause-block
 returns-clause-block g c =
+    let values = c.self.inside.values.now in
+    let items = c.self.inside.words.items in
+    let left = c.next.new.self.items in
+    let word = unnum 64 c.in-Some.word in
     let step = c.in-Some.ensures.steps.items in
     let cut = c.split_at.ensures in
+    let some : 0 < length values = some-values _ _ c.is_empty.ensures c.if-is_empty.false in
+    let sized : length items ≡ length values = same-length c.self.invariant some in
+    let first = cut.front_len ∙ sym (length-unnum 64 c.in-Some.word) in
+    let others : length values ≡ length c.split_at.result.0.now + length c.split_at.result.1.now = omega (arith, cut.front_len, cut.back_len, ap length step, length-append word left, length-unnum 64 c.in-Some.word, sized) in
     record {
       some = omega (arith, cut.front_len);
       few = omega (arith, cut.front_len);
-      count = ap (λ s. s.count) (sym c.self.view_is) ∙ omega (arith, cut.front_len, cut.back_len);
-      selected = ap (λ s. s.selected) (sym c.self.view_is) ∙ block-selected _ _ _ _ _ _ cut.by_index.0 step (cut.front_len ∙ sym (length-unnum 64 c.in-Some.word));
+      full = inl cut.front_len;
+      values = ap (λ s. s.values) (sym c.self.view_is) ∙ cut.by_index.0;
+      count = ap (λ s. length s.values) (sym c.self.view_is) ∙ omega (arith, cut.front_len, cut.back_len);
+      bits = mask-first items word left (length values) _ step sized first cut.front_len ∙ ap (λ s. take (length c.split_at.result.0.now) s.mask ++ replicate (64 - length c.split_at.result.0.now) false) c.self.view_is;
+      mask = mask-left items word left (length values) _ _ step sized first others ∙ ap (λ s. drop (length c.split_at.result.0.now) s.mask) c.self.view_is;
+      selected = ap (λ s. selection s.values s.mask) (sym c.self.view_is) ∙ (ap (selection values) (take_all (length values) items (omega (arith, sized)))
+          ∙ (block-selected _ _ _ _ _ _ cut.by_index.0 step first ∙ ap (λ l. selection c.split_at.result.0.now word ++ selection c.split_at.result.1.now l) (sym (take_all _ left (omega (arith, cut.back_len, ap length step, length-append word left, length-unnum 64 c.in-Some.word, sized))))));
     }
 
 pub returns-in_default-clause-block : goal.returns-in_default-clause-block
@@ -55,10 +69,16 @@ returns-in_default-clause-block g c =
     let block = ap (λ s. s.now) c.take-block.ensures.value in
     let none = c.take-block.ensures.after in
     let word = unnum 64 c.masked-last.result in
+    let mask = take_all (length values) items (omega (arith, sized)) in
     record {
       some = omega (arith, ap length block, some);
       few = omega (arith, ap length block, sized, words.1, c.remainder_len.ensures.short);
-      count = ap (λ s. s.count) (sym c.self.view_is) ∙ omega (arith, ap length block, ap length none);
-      selected = ap (λ s. s.selected) (sym c.self.view_is) ∙ (last-selected values items (unnum 64 c.remainder.result) word n whole words.0 c.masked-last.ensures.bits
-          ∙ (ap (λ l. selection l word) (sym block) ∙ (sym (append-nil (selection c.take-block.result.now word)) ∙ ap (λ l. selection c.take-block.result.now word ++ selection l c.next.new.self.items) (sym none))));
+      full = inr none;
+      values = ap (λ s. s.values) (sym c.self.view_is) ∙ (sym block ∙ (sym (append-nil c.take-block.result.now) ∙ ap (λ l. c.take-block.result.now ++ l) (sym none)));
+      count = ap (λ s. length s.values) (sym c.self.view_is) ∙ omega (arith, ap length block, ap length none);
+      bits = mask-last items (unnum 64 c.remainder.result) word n (length values) words.0 words.1 sized c.masked-last.ensures.bits
+          ∙ (ap (λ k. take k (take (length values) items) ++ replicate (64 - k) false) (sym (ap length block)) ∙ ap (λ s. take (length c.take-block.result.now) s.mask ++ replicate (64 - length c.take-block.result.now) false) c.self.view_is);
+      mask = ap (λ l. take (length l) c.next.new.self.items) none ∙ (sym (drop_of_length-le (take (length values) items) (omega (arith, ap length mask, sized, ap length block))) ∙ ap (λ s. drop (length c.take-block.result.now) s.mask) c.self.view_is);
+      selected = ap (λ s. selection s.values s.mask) (sym c.self.view_is) ∙ (ap (selection values) mask ∙ (last-selected values items (unnum 64 c.remainder.result) word n whole words.0 c.masked-last.ensures.bits
+          ∙ (ap (λ l. selection l word) (sym block) ∙ (sym (append-nil (selection c.take-block.result.now word)) ∙ ap (λ l. selection c.take-block.result.now word ++ selection l (take (length l) c.next.new.self.items)) (sym none)))));
     }
