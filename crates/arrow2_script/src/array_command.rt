@@ -10,7 +10,7 @@ use crate::words::SlotIndex;
 #[derive(Drop)]
 pub enum ArrayCommand {
     /// `anew d v m`: slot d holds a boolean array. Its values are the frozen bitmap of slot v, its validity is the
-    /// frozen bitmap of slot m. Where m is `-` it has no validity.
+    /// frozen bitmap of slot m. Where m is `-`, no item is null.
     New(SlotIndex, SlotIndex, Option<SlotIndex>),
     /// `alist s`: the items of the boolean array of slot s as a text.
     List(SlotIndex),

@@ -1,5 +1,5 @@
 //! The lines of a script, and the words of a line.
-ghost use Rattle.std.specs.Prelude.{false, ◌≡◌, ◌≢◌, ◌<◌, List, [], ◌∷◌, ◌++◌, ℕ, length, MatchOption};
+ghost use Rattle.std.specs.Prelude.{false, ◌≡◌, ◌≢◌, ◌<◌, ◌⊎◌, List, [], ◌∷◌, ◌++◌, ℕ, length, MatchOption};
 ghost use Rattle.std.specs.List.{All};
 ghost use Rattle.std.specs.Iterator.{YieldsFirstRef, item_count};
 ghost use Rattle.arrow2_script.specs.Lines.{lines_of, parts_between, parts_left};
@@ -27,6 +27,9 @@ fn cut_at(bytes: &[u8], byte: u8) -> (&[u8], Option<&[u8]>)
 pub fn next_line(script: &[u8]) -> (&[u8], &[u8])
     requires { 0 < length script.now }
     ensures lines { lines_of script.now ≡ result.0.now ∷ lines_of result.1.now }
+    // The line ends at the first line end, or with the script. A line end has the number 10.
+    ensures joined { (script.now ≡ result.0.now ++ 10 ∷ result.1.now)
+        ⊎ ((script.now ≡ result.0.now) × (result.1.now ≡ [])) }
     ensures shorter { length result.1.now < length script.now }
 {
     let (line, rest) = cut_at(script, b'\n');

@@ -1,5 +1,5 @@
 //! The value of a word of a line.
-ghost use Rattle.std.specs.Prelude.{◌≡◌, ◌<◌, ◌^◌, ◌↔◌, IfSome, IfNone, List, Bool, Option, ℕ, length, slice_index, IsTrue};
+ghost use Rattle.std.specs.Prelude.{true, ◌≡◌, ◌<◌, ◌^◌, ◌↔◌, IfSome, IfNone, List, Bool, Option, ℕ, length, slice_index, IsTrue};
 ghost use Rattle.arrow2_script.specs.Words.{number_of, below_of, width_of, optional_slot_of, bit_of, bits_of, is_bit_byte, items_of_digits, is_number, number_list, is_hex_digit, hex_value, bytes_of_digits, bytes_of};
 ghost use Rattle.std.specs.Iterator.{YieldsFirst, item_count};
 ghost use Rattle.std.specs.List.{list_all};
@@ -183,15 +183,22 @@ pub struct BitText<'a> {
 }
 
 impl<'a> Model for BitText<'a> {
+    ghost use Rattle.std.specs.Prelude.{◌≡◌, true, List, Bool};
+    ghost use Rattle.std.specs.List.{list_all};
+    ghost use Rattle.arrow2_script.specs.Words.{is_bit_byte, items_of_digits};
+
     ghost Value = { List Bool };
 
     ghost view = { λ t. items_of_digits t.digits.now };
+
+    ghost invariant = { λ t. list_all is_bit_byte t.digits.now ≡ true };
 }
 
 impl<'a> BitText<'a> {
-    /// Returns a byte for each item, which is `1` exactly where the item is true.
+    /// Returns a byte for each item: `1` where the item is true, else `0`.
     pub fn digits(&self) -> &'a [u8]
-        ensures { items_of_digits result.now ≡ self.now }
+        ensures items { items_of_digits result.now ≡ self.now }
+        ensures bits { list_all is_bit_byte result.now ≡ true }
     {
         self.digits
     }

@@ -12,8 +12,8 @@ use std::marker::Model;
 /// A reader or a writer, with the number of its calls that failed, and the number of its writes since its last flush
 /// that succeeded.
 ///
-/// A call fails if it returns an error. A write also fails if it takes 0 bytes of a text that is not empty. The counts
-/// have size 0 at run time: only contracts see them.
+/// A call fails if it returns an error. A write also fails if it takes 0 bytes of a text that is not empty. In the
+/// code the counts have size 0 at run time: only contracts see them.
 #[derive(Drop)]
 pub struct Watched<T> {
     inner: T,

@@ -8,8 +8,8 @@ use std::alloc::{AllocError, AllocFailed};
 
 /// Why a value does not grow.
 ///
-/// It takes one byte, and an [`Error`] takes many. Calls inside a loop return it, so that no [`Error`] is written for
-/// each item; the public call converts it to an [`Error`]. Not in arrow2.
+/// In the code it takes one byte, and an [`Error`] takes many. Calls inside a loop return it, so that no [`Error`] is
+/// written for each item; the public call converts it to an [`Error`]. Not in arrow2.
 #[derive(Drop)]
 pub enum GrowthError {
     /// A length, a count or an offset would exceed the greatest number of its type.
