@@ -17,7 +17,8 @@
  *   arrow2_set_bit, and `*at`, are outputs too. Inputs may overlap each other.
  * - Every `bool` must hold 0 or 1 when the call begins. This also holds for output bools (`*equal`, `*value`, each item
  *   of `out` of arrow2_unpack), although the call only writes them: set them before the call. Other outputs need not be
- *   initialised, except `*at`, and `bytes` of the *_assign_table calls and of arrow2_set_bit.
+ *   initialised, except `*at`, and `bytes` of the *_assign_table calls and of arrow2_set_bit: a call may read their old
+ *   contents, but these change nothing that it writes.
  * - Other threads may read the memory that a call reads. Until the call returns, no other thread may write that memory,
  *   and none may read or write the memory that the call writes.
  * - Bit i of bytes is bit i % 8 of byte i / 8, the lowest first. Offsets and lengths of bits are in bits. Each may have

@@ -10,8 +10,8 @@ use std::fmt;
 
 /// Writes the `len` bits from bit `offset` on, byte by byte. Each byte that holds one of these bits is written as `0b`
 /// and its eight bits, from the highest to the lowest, with `_` for a bit that is not one of these. The bytes are
-/// joined by commas and enclosed in brackets. Where `len` is 0, the text is `[]`. The formatter's options change
-/// nothing.
+/// joined by commas and enclosed in brackets. Where `len` is 0, the text is `[]`. The options of a formatter that does
+/// not indent change nothing.
 ///
 /// Requires that `offset` is below 8 and, unless `len` is 0, that the bits are inside the bytes. arrow2 may print a
 /// byte after the bits in place of their last byte.

@@ -4,7 +4,7 @@ ghost use Rattle.std.specs.Prelude.{◌≡◌, ◌+◌};
 use arrow2_counter::Counter;
 use std::marker::Model;
 
-/// Counts the bytes that were read: contracts see the number. It takes no bytes when the program runs. It cannot be
+/// Counts the bytes that were read: contracts see the number. In the code it takes no bytes at run time. It cannot be
 /// copied or cloned, since a copy could count a read twice, or leave one out.
 #[derive(Drop)]
 pub struct Reads {

@@ -284,7 +284,8 @@ impl<T: Drop> Buffer<T> {
         Buffer::try_from(Vec::new(alloc))
     }
 
-    /// Returns a buffer of the items of an iterator that ends, in order. Does not read the size hint.
+    /// Returns a buffer of the items of an iterator, in order. Requires that the iterator ends, and that each call of
+    /// its `next` meets the precondition of `next`. Does not read the size hint.
     ///
     /// Replaces arrow2's `FromIterator`.
     ///

@@ -4,7 +4,8 @@ ghost use Rattle.arrow2_validity.specs.ItemTexts.{separator};
 
 use std::fmt;
 
-/// Writes the separator before the item at an index: a comma and a space, and nothing before the first item.
+/// Writes the separator before the item at an index: a comma and a space, and nothing before the first item. No clause
+/// states what is written with formatter flags.
 pub fn write_separator<W: fmt::Write>(position: usize, f: &mut fmt::Formatter<W>) -> fmt::Result
     ensures { WritesOnOk W.write_str_gives f.old result (separator position) f.new }
 {

@@ -33,8 +33,8 @@ impl BitCursor {
 
 /// Returns a cursor at the first index from `at.index` on and below `end` whose bit is `value`, or at `end` where there
 /// is none. The bit of index `i` is bit `offset + i` of the bytes. Reads each word once, and shifts it past the bits
-/// that it has tested. Requires that `offset + end` is at most eight times the number of bytes, and that the bits in
-/// `at` are those from its index on, none of them past `end`.
+/// that it has tested. Requires that `offset + end` is at most eight times the number of bytes, that `at.index` is at
+/// most `end`, and that the bits in `at` are those from its index on, none of them past `end`.
 ///
 /// arrow2 has this loop only inside its iterator over runs.
 pub fn find_bit(bytes: &[u8], offset: usize, end: usize, at: BitCursor, value: bool) -> BitCursor

@@ -28,9 +28,9 @@ fn clear_next<T>(chunks: &mut BitChunksExactMut<'_, T>) -> bool
     chunks.change_next(|chunk| clear(chunk))
 }
 
-/// Iterates over five bytes by chunks of two, and lends two of these. The last byte is the remainder.
+/// Iterates over the first five of seven bytes by chunks of two bytes. The fifth byte is the remainder.
 fn iterator_over(bytes: &mut [u8]) -> BitChunksExactMut<'_, u16>
-    requires { length bytes.old ≡ 5 }
+    requires { length bytes.old ≡ 7 }
 {
     BitChunksExactMut::new(bytes, 35)
 }
@@ -44,7 +44,7 @@ fn is_written(rt: &impl Abort, lent: Option<&mut [u8]>, before: &[u8], values: &
 
 /// Bytes written to the chunks that `next_chunk` lends are in the bytes afterwards.
 fn writes_next_chunks(rt: &impl Abort, first: &[u8], second: &[u8], after: &[u8]) {
-    let mut bytes = [1, 2, 3, 4, 5];
+    let mut bytes = [1, 2, 3, 4, 5, 6, 7];
     let mut chunks = iterator_over(&mut bytes);
     is_written(rt, chunks.next_chunk(), &[1, 2], first);
     is_written(rt, chunks.next_chunk(), &[3, 4], second);
@@ -56,7 +56,7 @@ fn writes_next_chunks(rt: &impl Abort, first: &[u8], second: &[u8], after: &[u8]
 
 /// The same, by `change_next`.
 fn changes_next(rt: &impl Abort, first: &[u8], second: &[u8], after: &[u8]) {
-    let mut bytes = [1, 2, 3, 4, 5];
+    let mut bytes = [1, 2, 3, 4, 5, 6, 7];
     let mut chunks = iterator_over(&mut bytes);
     assert_that(rt, chunks.change_next(|chunk| write(chunk, first)));
     assert_that(rt, chunks.change_next(|chunk| write(chunk, second)));
@@ -66,7 +66,7 @@ fn changes_next(rt: &impl Abort, first: &[u8], second: &[u8], after: &[u8]) {
 
 /// The same, by the iterator.
 fn writes_iterated(rt: &impl Abort, first: &[u8], second: &[u8], after: &[u8]) {
-    let mut bytes = [1, 2, 3, 4, 5];
+    let mut bytes = [1, 2, 3, 4, 5, 6, 7];
     let mut chunks = iterator_over(&mut bytes);
     has(rt, &[chunks.size_hint()], &[(2, Some(2))]);
     is_written(rt, chunks.next(), &[1, 2], first);
@@ -76,13 +76,24 @@ fn writes_iterated(rt: &impl Abort, first: &[u8], second: &[u8], after: &[u8]) {
     has(rt, &bytes, after);
 }
 
+/// The same, by `change_next` and then by the iterator.
+fn changes_then_writes(rt: &impl Abort, first: &[u8], second: &[u8], after: &[u8]) {
+    let mut bytes = [1, 2, 3, 4, 5, 6, 7];
+    let mut chunks = iterator_over(&mut bytes);
+    assert_that(rt, chunks.change_next(|chunk| write(chunk, first)));
+    is_written(rt, chunks.next(), &[3, 4], second);
+    assert_that(rt, chunks.next().is_none());
+    has(rt, &bytes, after);
+}
+
 #[test]
 fn chunks_are_lent_to_be_written(rt: HostRuntime) {
-    let after = &[7, 8, 9, 9, 5];
+    let after = &[7, 8, 9, 9, 5, 6, 7];
     writes_next_chunks(&rt, &[7, 8], &[9, 9], after);
     changes_next(&rt, &[7, 8], &[9, 9], after);
     writes_iterated(&rt, &[7, 8], &[9, 9], after);
-    let after = &[0, 0, 3, 4, 5];
+    changes_then_writes(&rt, &[7, 8], &[9, 9], after);
+    let after = &[0, 0, 3, 4, 5, 6, 7];
     writes_next_chunks(&rt, &[0, 0], &[3, 4], after);
     changes_next(&rt, &[0, 0], &[3, 4], after);
     writes_iterated(&rt, &[0, 0], &[3, 4], after);
@@ -90,12 +101,21 @@ fn chunks_are_lent_to_be_written(rt: HostRuntime) {
 
 #[test]
 fn an_iterator_shows_its_bytes_and_its_position(rt: HostRuntime) {
-    let mut bytes = [1, 2, 3, 4, 5];
+    let mut bytes = [1, 2, 3, 4, 5, 6, 7];
     let mut chunks = iterator_over(&mut bytes);
     assert_that(&rt, clear_next(&mut chunks));
     chunks.remainder().fill(9);
     let text =
         "BitChunksExactMut { bytes: [0, 0, 3, 4], at: 2, size: 2, remainder: [9], remainder_len: 3, marker: PhantomData<_> }";
     shows(&rt, rt.alloc(), &chunks, text);
-    has(&rt, &bytes, &[0, 0, 3, 4, 9]);
+    has(&rt, &bytes, &[0, 0, 3, 4, 9, 6, 7]);
+}
+
+#[test]
+fn no_bits_have_no_chunk(rt: HostRuntime) {
+    let mut bytes = [1, 2];
+    let mut chunks = BitChunksExactMut::<u16>::new(&mut bytes, 0);
+    assert_that(&rt, chunks.next_chunk().is_none());
+    has(&rt, chunks.remainder(), &[]);
+    has(&rt, &bytes, &[1, 2]);
 }
