@@ -98,7 +98,7 @@ pub fn all(inputs: &Inputs) -> impl Iterator<Item = (&'static str, Line<'_>)> {
         ("arrow2_bitmap", bitmaps(inputs)),
         ("arrow2_bitmap", equality(inputs)),
         ("arrow2_bitmap", copies(inputs)),
-        ("arrow2_bitmap", walks(inputs)),
+        ("arrow2_bitmap", iterators(inputs)),
         ("arrow2_bitmap", growing(inputs)),
         ("arrow2_bitmap", appending(inputs)),
         ("arrow2_bitmap", collected(inputs)),
@@ -244,7 +244,7 @@ fn copies(inputs: &Inputs) -> Vec<Line<'_>> {
     ]
 }
 
-fn walks(inputs: &Inputs) -> Vec<Line<'_>> {
+fn iterators(inputs: &Inputs) -> Vec<Line<'_>> {
     let bytes = &inputs.bytes;
     let on =
         |name, elements, call, part, runs| line!(name, elements, bitmaps(call, bytes, part), runs);

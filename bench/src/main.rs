@@ -1,6 +1,6 @@
 //! The layer next to arrow2, call by call, in one process. `bench/run` builds it and runs it.
 //!
-//!     arrow2_speed check                      whether both sides answer the same
+//!     arrow2_speed check                      whether both sides return the same
 //!     arrow2_speed measure SECONDS [WORD..]   a row for each line, of those whose names have a word
 //!     arrow2_speed program OURS ORIGINAL FOLDER       the row of the replay programs
 //!     arrow2_speed print ROWS..               rows of several runs, merged, as text
@@ -22,9 +22,9 @@ use std::fs;
 use std::path::Path;
 use table::Row;
 
-type Answer = Result<(), Box<dyn Error>>;
+type Outcome = Result<(), Box<dyn Error>>;
 
-fn main() -> Answer {
+fn main() -> Outcome {
     let args: Vec<String> = std::env::args().skip(1).collect();
     let words: Vec<&str> = args.iter().map(String::as_str).collect();
     match words[..] {
@@ -54,7 +54,7 @@ fn keep_memory() {
     }
 }
 
-fn check() -> Answer {
+fn check() -> Outcome {
     let inputs = Inputs::new();
     let mut differing = 0;
     for (group, line) in lines::all(&inputs) {
@@ -69,7 +69,7 @@ fn check() -> Answer {
     }
 }
 
-fn measure(seconds: f64, words: &[&str]) -> Answer {
+fn measure(seconds: f64, words: &[&str]) -> Outcome {
     keep_memory();
     let inputs = Inputs::new();
     for (group, line) in lines::all(&inputs) {
@@ -82,7 +82,7 @@ fn measure(seconds: f64, words: &[&str]) -> Answer {
     Ok(())
 }
 
-fn program(ours: &Path, original: &Path, folder: &Path) -> Answer {
+fn program(ours: &Path, original: &Path, folder: &Path) -> Outcome {
     let times = programs::measure(ours, original, folder)?;
     let name = "a script of a million lines";
     println!("{}", Row::new("arrow2_replay", name, programs::LINES, "lines", &times));
@@ -94,12 +94,12 @@ fn rows(files: &[&str]) -> Result<Vec<Row>, Box<dyn Error>> {
     Ok(table::merged(&texts?)?)
 }
 
-fn print(files: &[&str]) -> Answer {
+fn print(files: &[&str]) -> Outcome {
     print!("{}", report::text(&rows(files)?));
     Ok(())
 }
 
-fn write(facts: &str, docs: &Path, files: &[&str]) -> Answer {
+fn write(facts: &str, docs: &Path, files: &[&str]) -> Outcome {
     let rows = rows(files)?;
     let facts = fs::read_to_string(facts)?;
     let values = facts.lines().filter_map(|fact| fact.split_once(": "));

@@ -40,7 +40,7 @@ macro_rules! calls {
 pub fn lines(inputs: &Inputs) -> Vec<Line<'_>> {
     let mut lines = single_bits(inputs);
     lines.extend(bits(inputs));
-    lines.extend(walks(inputs));
+    lines.extend(iterators(inputs));
     lines.extend(booleans(inputs));
     lines.extend(offsets(inputs));
     lines
@@ -143,7 +143,7 @@ fn equal(inputs: &Inputs) -> Vec<Line<'_>> {
 }
 
 /// Calls that take some time for each bit.
-fn walks(inputs: &Inputs) -> Vec<Line<'_>> {
+fn iterators(inputs: &Inputs) -> Vec<Line<'_>> {
     let calls: [Call<FourBits>; 3] = calls![runs, set_indices, unpack];
     on_bits(&calls, &four_bits(inputs), |bits| times(bits) / 8)
 }

@@ -146,8 +146,8 @@ fn both_written(
     let mut values = vec![0; bytes_for(len)];
     let mut failed = 0;
     for run in runs {
-        let answer = call(*run, black_box(&mut values), black_box(&mut validity));
-        failed += usize::from(answer.is_err());
+        let returned = call(*run, black_box(&mut values), black_box(&mut validity));
+        failed += usize::from(returned.is_err());
     }
     (digest_of_bytes(&values) ^ digest_of_bytes(&validity)).wrapping_add(failed)
 }
@@ -254,8 +254,8 @@ fn lengths<O: Offset>(offsets: &[O], runs: &[usize]) -> usize {
     let mut out = vec![0; offsets.len() - 1];
     let mut failed = 0;
     for run in runs {
-        let answer = O::lengths(&offsets[..*run], black_box(&mut out));
-        failed += usize::from(answer.is_err());
+        let returned = O::lengths(&offsets[..*run], black_box(&mut out));
+        failed += usize::from(returned.is_err());
     }
     digest(out).wrapping_add(failed)
 }

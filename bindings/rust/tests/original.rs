@@ -135,9 +135,9 @@ fn widths() {
             continue;
         };
         let mut out = vec![0; numbers.len()];
-        let answer = narrow(&numbers, &mut out);
+        let returned = narrow(&numbers, &mut out);
         let narrowed = Offsets::<i32>::try_from(theirs);
-        assert_eq!(answer.is_ok(), narrowed.is_ok());
+        assert_eq!(returned.is_ok(), narrowed.is_ok());
         if let Ok(narrowed) = narrowed {
             assert_eq!(out, narrowed.as_slice());
             let mut back = vec![0; numbers.len()];

@@ -32,14 +32,14 @@ fn equality() {
         let left = random.bytes();
         let (left_offset, length) = random.range(&left);
         let (right, right_offset) = random.copy(&left, left_offset, length);
-        let answer = equal_bits(
+        let returned = equal_bits(
             Bits { bytes: &left, offset: left_offset },
             Bits { bytes: &right, offset: right_offset },
             length,
         );
         let bits = part(&left, left_offset, length);
         let outcome = bits.and_then(|bits| Ok(bits == part(&right, right_offset, length)?));
-        assert_eq!(answer, outcome);
+        assert_eq!(returned, outcome);
         same += usize::from(outcome == Ok(true));
     }
     // Both results came often.
@@ -77,19 +77,19 @@ fn copies() {
         let (offset, length) = random.range(&bytes);
         let mut out = random.out(length);
         let expected = written(part(&bytes, offset, length), length, &out);
-        let answer = copy_bits(&bytes, offset, length, &mut out);
-        assert_eq!((answer, out), expected);
+        let returned = copy_bits(&bytes, offset, length, &mut out);
+        assert_eq!((returned, out), expected);
     }
 }
 
 /// The outputs of a table, by the number of its inputs.
 fn results(table: u16, inputs: &[Vec<bool>], length: usize) -> Vec<bool> {
-    let answer = |position: usize| {
+    let output = |position: usize| {
         let bits = inputs.iter().enumerate();
         let index: usize = bits.map(|(input, bits)| usize::from(bits[position]) << input).sum();
         table >> index & 1 == 1
     };
-    (0..length).map(answer).collect()
+    (0..length).map(output).collect()
 }
 
 /// The outputs of a table of `count` inputs, or its error.
@@ -114,13 +114,13 @@ fn tables() {
             let table = random.table(count as u32);
             let mut out = random.out(length);
             let outcome = written(expected(table, &inputs[..count], length), length, &out);
-            let answer = match count {
+            let returned = match count {
                 1 => unary_table(inputs[0], length, table, &mut out),
                 2 => binary_table(inputs[0], inputs[1], length, table, &mut out),
                 3 => ternary_table(inputs[0], inputs[1], inputs[2], length, table, &mut out),
                 _ => quaternary_table(inputs[0], inputs[1], inputs[2], inputs[3], length, table, &mut out),
             };
-            assert_eq!((answer, out), outcome, "{count} inputs");
+            assert_eq!((returned, out), outcome, "{count} inputs");
         }
     }
 }
@@ -141,13 +141,13 @@ fn tables_in_place() {
             let mut inputs = vec![Bits { bytes: &own, offset: 0 }];
             inputs.extend(&others[..count - 1]);
             let outcome = written(expected(table, &inputs, length), length, &out);
-            let answer = match count {
+            let returned = match count {
                 1 => unary_assign_table(&mut out, length, table),
                 2 => binary_assign_table(&mut out, others[0], length, table),
                 3 => ternary_assign_table(&mut out, others[0], others[1], length, table),
                 _ => quaternary_assign_table(&mut out, others[0], others[1], others[2], length, table),
             };
-            assert_eq!((answer, out), outcome, "{count} inputs");
+            assert_eq!((returned, out), outcome, "{count} inputs");
         }
     }
 }
@@ -346,8 +346,8 @@ fn booleans() {
         let length = length.min(1 << 12);
         let mut items = vec![false; length];
         let outcome = part(&bytes, offset, length);
-        let answer = unpack(Bits { bytes: &bytes, offset }, &mut items);
-        assert_eq!((answer, &items), (outcome.clone().map(drop), outcome.as_ref().unwrap_or(&vec![false; length])));
+        let returned = unpack(Bits { bytes: &bytes, offset }, &mut items);
+        assert_eq!((returned, &items), (outcome.clone().map(drop), outcome.as_ref().unwrap_or(&vec![false; length])));
 
         let items: Vec<bool> = (0..length).map(|_| random.flag()).collect();
         let mut out = random.out(length);
@@ -372,11 +372,11 @@ fn kleene() {
             let (mut values, mut validity) = (random.out(length), random.out(length));
             let before = (values.clone(), validity.clone());
             let call = if decides { or_kleene } else { and_kleene };
-            let answer = call(left, right, length, &mut values, &mut validity);
+            let returned = call(left, right, length, &mut values, &mut validity);
             let fits = [&before.0, &before.1].iter().all(|out| out.len() == bytes_for(length));
             match &parts {
                 Ok(parts) if fits => {
-                    assert_eq!(answer, Ok(()));
+                    assert_eq!(returned, Ok(()));
                     let (outcome, valid) = (part(&values, 0, length).unwrap(), part(&validity, 0, length).unwrap());
                     for i in 0..length {
                         let sides = [parts[1][i].then_some(parts[0][i]), parts[3][i].then_some(parts[2][i])];
@@ -390,7 +390,7 @@ fn kleene() {
                 }
                 _ => {
                     let error = if parts.is_ok() { Error::Length } else { Error::Range };
-                    assert_eq!((answer, (values, validity)), (Err(error), before));
+                    assert_eq!((returned, (values, validity)), (Err(error), before));
                 }
             }
         }

@@ -20,18 +20,18 @@ command_error (errors.ExternalFormat t) = OutOfMemory
 
 -- the machine returns this error, unless an allocation failed
 abbrev pub Fails : {Y : Type 0} → CommandError → Result Y LineError → Type 0
-Fails OutOfMemory answer = Unit {0}
-Fails (Rejected error) answer = answer ≡ Err error
+Fails OutOfMemory machine = Unit {0}
+Fails (Rejected error) machine = machine ≡ Err error
 
 -- the result, seen by view, is that of the machine, unless an allocation failed
 abbrev pub Gives : {X Y : Type 0} → (X → Y) → Result X CommandError → Result Y LineError → Type 0
-Gives view (Ok x) answer = answer ≡ Ok (view x)
-Gives view (Err e) answer = Fails e answer
+Gives view (Ok x) machine = machine ≡ Ok (view x)
+Gives view (Err e) machine = Fails e machine
 
 -- the result, seen by view, is that of the machine, its errors included
-abbrev pub Answers : {X Y : Type 0} → (X → Y) → Result X LineError → Result Y LineError → Type 0
-Answers view (Ok x) answer = answer ≡ Ok (view x)
-Answers view (Err error) answer = answer ≡ Err error
+abbrev pub MatchesMachine : {X Y : Type 0} → (X → Y) → Result X LineError → Result Y LineError → Type 0
+MatchesMachine view (Ok x) machine = machine ≡ Ok (view x)
+MatchesMachine view (Err error) machine = machine ≡ Err error
 
 -- a command is carried out as the machine does it: the slots and the reply are unspecified only where an allocation
 -- failed

@@ -5,7 +5,7 @@ ghost use Rattle.arrow2_machine.specs.SlotValues.{at, array as array_in, Array};
 ghost use Rattle.arrow2_machine.specs.ArrayOutcomes.{after_new_array, array_reply, null_count, after_array_slice, two_arrays, after_kleene, array_outcome};
 ghost use Rattle.arrow2.specs.Items.{boolean_items};
 ghost use Rattle.arrow2.specs.Kleene.{kleene_and, kleene_or};
-ghost use Rattle.arrow2_machine.specs.Outcomes.{Gives, Carries, WritesText, Answers};
+ghost use Rattle.arrow2_machine.specs.Outcomes.{Gives, Carries, WritesText, MatchesMachine};
 
 use crate::kernels::two_bitmaps;
 use crate::line_error::{CommandError, LineError};
@@ -116,7 +116,7 @@ fn two_boolean_arrays(
     first: SlotIndex,
     second: SlotIndex,
 ) -> Result<(&BooleanArray, &BooleanArray), LineError>
-    ensures gives { Answers (λ a. (boolean_items a.0.now, boolean_items a.1.now)) result
+    ensures gives { MatchesMachine (λ a. (boolean_items a.0.now, boolean_items a.1.now)) result
         (two_arrays (at slots.now first) (at slots.now second)) }
     ensures same_length { IfOk result (λ a. length (boolean_items a.0.now) ≡ length (boolean_items a.1.now)) }
 {
@@ -145,7 +145,7 @@ impl Slot {
     ///
     /// Only `Kind`.
     fn array(&self) -> Result<&BooleanArray, LineError>
-        ensures { Answers (λ array. boolean_items array.now) result (array_in self.now) }
+        ensures { MatchesMachine (λ array. boolean_items array.now) result (array_in self.now) }
     {
         match &self.contents {
             Contents::Array(array) => Ok(array),
@@ -182,7 +182,7 @@ impl Slot {
     ///
     /// `Kind` or `Range`. They change nothing.
     fn slice_array(&mut self, offset: u64, len: u64) -> Result<(), LineError>
-        ensures gives { Answers (λ _. self.new) result (after_array_slice self.old offset len) }
+        ensures gives { MatchesMachine (λ _. self.new) result (after_array_slice self.old offset len) }
         ensures err { OnErr result (self.new ≡ self.old) }
     {
         match &mut self.contents {
@@ -195,7 +195,7 @@ impl Slot {
 /// Cuts a boolean array to its `len` items from item `offset` on. Returns `Range` and changes nothing where they are
 /// not inside.
 fn cut(array: &mut BooleanArray, offset: u64, len: u64) -> Result<(), LineError>
-    ensures gives { Answers (λ _. boolean_items array.new) result
+    ensures gives { MatchesMachine (λ _. boolean_items array.new) result
         (part_inside (boolean_items array.old) offset len) }
     ensures err { OnErr result (array.new ≡ array.old) }
 {

@@ -4,7 +4,7 @@ ghost use Rattle.arrow2.specs.Storage.{items_of};
 ghost use Rattle.arrow2_machine.specs.SlotValues.{Growing};
 ghost use Rattle.arrow2_machine.specs.Replies.{item_reply};
 ghost use Rattle.arrow2_machine.specs.BitmapOutcomes.{after_push, after_pop, reply_with_item, after_freeze, after_thaw, after_slice, false_count, item_text, part_inside, bitmap_outcome};
-ghost use Rattle.arrow2_machine.specs.Outcomes.{Gives, Carries, WritesText, Answers, Turns};
+ghost use Rattle.arrow2_machine.specs.Outcomes.{Gives, Carries, WritesText, MatchesMachine, Turns};
 
 use crate::line_error::CommandError::Rejected;
 use crate::line_error::{CommandError, LineError};
@@ -87,7 +87,7 @@ impl Slot {
     /// Only `Kind`, which changes nothing.
     #[tactic(auto, using(crate::proofs::SlotLemmas::popping))]
     fn pop(&mut self) -> Result<Option<bool>, LineError>
-        ensures gives { Answers (λ item. (self.new, item_reply item)) result (after_pop self.old) }
+        ensures gives { MatchesMachine (λ item. (self.new, item_reply item)) result (after_pop self.old) }
         ensures err { OnErr result (self.new ≡ self.old) }
     {
         match &mut self.contents {
@@ -102,7 +102,7 @@ impl Slot {
     ///
     /// Only `Kind`.
     fn get(&self, index: u64) -> Result<Option<bool>, LineError>
-        ensures { Answers item_reply result (reply_with_item self.now index) }
+        ensures { MatchesMachine item_reply result (reply_with_item self.now index) }
     {
         match &self.contents {
             Contents::Frozen(bitmap) => Ok(bitmap.get(index as usize)),
@@ -157,7 +157,7 @@ impl Slot {
     ///
     /// `Kind` or `Range`. They change nothing.
     fn slice(&mut self, offset: u64, len: u64) -> Result<(), LineError>
-        ensures gives { Answers (λ _. self.new) result (after_slice self.old offset len) }
+        ensures gives { MatchesMachine (λ _. self.new) result (after_slice self.old offset len) }
         ensures err { OnErr result (self.new ≡ self.old) }
     {
         match &mut self.contents {
@@ -213,7 +213,7 @@ fn bitmap_of(alloc: Global, text: &BitText<'_>) -> Result<MutableBitmap, Command
 /// Cuts a bitmap to its `len` items from item `offset` on. Returns `Range` and changes nothing where they are not
 /// inside.
 fn cut(bitmap: &mut Bitmap, offset: u64, len: u64) -> Result<(), LineError>
-    ensures gives { Answers (λ _. items_of bitmap.new) result
+    ensures gives { MatchesMachine (λ _. items_of bitmap.new) result
         (part_inside (items_of bitmap.old) offset len) }
     ensures err { OnErr result (bitmap.new ≡ bitmap.old) }
 {

@@ -4,7 +4,7 @@ ghost use Rattle.arrow2.specs.Storage.{items_of};
 ghost use Rattle.arrow2.specs.Tables.{each};
 ghost use Rattle.arrow2_machine.specs.SlotValues.{at, frozen_list as frozen_in};
 ghost use Rattle.arrow2_machine.specs.KernelOutcomes.{two_lists, three_lists, four_lists, kernel_items, after_assign_unary, after_assign_binary, kernel_outcome};
-ghost use Rattle.arrow2_machine.specs.Outcomes.{Gives, Carries, Answers};
+ghost use Rattle.arrow2_machine.specs.Outcomes.{Gives, Carries, MatchesMachine};
 
 use crate::line_error::{CommandError, LineError};
 use crate::slot::{Contents, Slot};
@@ -96,7 +96,7 @@ pub(crate) fn two_bitmaps(
     first: SlotIndex,
     second: SlotIndex,
 ) -> Result<(&Bitmap, &Bitmap), LineError>
-    ensures gives { Answers (λ b. (items_of b.0.now, items_of b.1.now)) result
+    ensures gives { MatchesMachine (λ b. (items_of b.0.now, items_of b.1.now)) result
         (two_lists (at slots.now first) (at slots.now second)) }
     ensures same_length { IfOk result (λ b. length (items_of b.0.now) ≡ length (items_of b.1.now)) }
 {
@@ -120,7 +120,7 @@ fn three_bitmaps(
     second: SlotIndex,
     third: SlotIndex,
 ) -> Result<(&Bitmap, &Bitmap, &Bitmap), LineError>
-    ensures gives { Answers (λ b. (items_of b.0.now, items_of b.1.now, items_of b.2.now)) result
+    ensures gives { MatchesMachine (λ b. (items_of b.0.now, items_of b.1.now, items_of b.2.now)) result
         (three_lists (at slots.now first) (at slots.now second) (at slots.now third)) }
     ensures same_length2 { IfOk result (λ b. length (items_of b.0.now)
         ≡ length (items_of b.1.now)) }
@@ -149,7 +149,7 @@ fn four_bitmaps(
     third: SlotIndex,
     fourth: SlotIndex,
 ) -> Result<(&Bitmap, &Bitmap, &Bitmap, &Bitmap), LineError>
-    ensures gives { Answers (λ b. (
+    ensures gives { MatchesMachine (λ b. (
       items_of b.0.now,
       items_of b.1.now,
       items_of b.2.now,
@@ -181,7 +181,7 @@ impl Slot {
     ///
     /// Only `Kind`.
     pub(crate) fn frozen_bitmap(&self) -> Result<&Bitmap, LineError>
-        ensures { Answers (λ bitmap. items_of bitmap.now) result (frozen_in self.now) }
+        ensures { MatchesMachine (λ bitmap. items_of bitmap.now) result (frozen_in self.now) }
     {
         match &self.contents {
             Contents::Frozen(bitmap) => Ok(bitmap),
@@ -196,7 +196,7 @@ impl Slot {
     ///
     /// Only `Kind`, which changes nothing.
     fn assign(&mut self, table: Below<4>, width: Width) -> Result<(), LineError>
-        ensures gives { Answers (λ _. self.new) result (after_assign_unary self.old table) }
+        ensures gives { MatchesMachine (λ _. self.new) result (after_assign_unary self.old table) }
         ensures err { OnErr result (self.new ≡ self.old) }
     {
         match &mut self.contents {
@@ -220,7 +220,7 @@ impl Slot {
         width: Width,
         other: &Bitmap,
     ) -> Result<(), LineError>
-        ensures gives { Answers (λ _. self.new) result
+        ensures gives { MatchesMachine (λ _. self.new) result
             (after_assign_binary self.old table (items_of other.now)) }
         ensures err { OnErr result (self.new ≡ self.old) }
     {

@@ -5,7 +5,7 @@ ghost use Rattle.arrow2.specs.Offsets.{last_of_growing, GrownBy, SameOffsets};
 ghost use Rattle.arrow2_machine.specs.Slots.{offsets_in};
 ghost use Rattle.arrow2_machine.specs.Replies.{offset_reply};
 ghost use Rattle.arrow2_machine.specs.OffsetOutcomes.{after_new_offsets, after_lengths, after_offset_pop, offset_text, after_offsets_freeze, offsets_inside, after_offsets_slice, zip_text, offset_outcome};
-ghost use Rattle.arrow2_machine.specs.Outcomes.{Gives, Carries, WritesText, Answers, Turns};
+ghost use Rattle.arrow2_machine.specs.Outcomes.{Gives, Carries, WritesText, MatchesMachine, Turns};
 
 use crate::line_error::CommandError::Rejected;
 use crate::line_error::{CommandError, LineError};
@@ -111,7 +111,7 @@ impl Slot {
     ///
     /// Only `Kind`, which changes nothing.
     fn pop_offset(&mut self) -> Result<Option<i32>, LineError>
-        ensures gives { Answers (λ offset.
+        ensures gives { MatchesMachine (λ offset.
             (self.new, offset_reply offset)) result (after_offset_pop self.old) }
         ensures err { OnErr result (self.new ≡ self.old) }
     {
@@ -163,7 +163,7 @@ impl Slot {
     ///
     /// `Kind`, or `Range` where `count` is 0 or these offsets are not inside. They change nothing.
     fn slice_offsets(&mut self, first: u64, count: u64) -> Result<(), LineError>
-        ensures gives { Answers (λ _. self.new) result (after_offsets_slice self.old first count) }
+        ensures gives { MatchesMachine (λ _. self.new) result (after_offsets_slice self.old first count) }
         ensures err { OnErr result (self.new ≡ self.old) }
     {
         match &mut self.contents {
@@ -218,7 +218,7 @@ fn extend(offsets: &mut Offsets<i32>, lengths: NumberText<'_>) -> error::Result<
 /// Cuts offsets to the `count` offsets from offset `first` on. Returns `Range` and changes nothing where `count` is 0
 /// or these offsets are not inside.
 fn cut(offsets: &mut OffsetsBuffer<i32>, first: u64, count: u64) -> Result<(), LineError>
-    ensures gives { Answers (λ _. offsets_in (buffer_items offsets.new)) result
+    ensures gives { MatchesMachine (λ _. offsets_in (buffer_items offsets.new)) result
         (offsets_inside (offsets_in (buffer_items offsets.old)) first count) }
     ensures err { OnErr result (offsets.new ≡ offsets.old) }
 {

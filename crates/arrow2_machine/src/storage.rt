@@ -1,7 +1,7 @@
 //! The commands on the stored bits of bitmaps: the effect of each on its slots, and its reply.
 ghost use Rattle.std.specs.Prelude.{◌≡◌, OnErr, IfOk};
 ghost use Rattle.arrow2_machine.specs.StorageOutcomes.{after_raw, after_set, word_text, run_text, storage_outcome};
-ghost use Rattle.arrow2_machine.specs.Outcomes.{Gives, Carries, WritesText, Answers};
+ghost use Rattle.arrow2_machine.specs.Outcomes.{Gives, Carries, WritesText, MatchesMachine};
 
 use crate::line_error::CommandError::Rejected;
 use crate::line_error::{CommandError, LineError};
@@ -66,7 +66,7 @@ impl Slot {
     ///
     /// `Kind` or `Range`. They change nothing.
     fn set(&mut self, index: u64, bit: bool) -> Result<(), LineError>
-        ensures gives { Answers (λ _. self.new) result (after_set self.old index bit) }
+        ensures gives { MatchesMachine (λ _. self.new) result (after_set self.old index bit) }
         ensures err { OnErr result (self.new ≡ self.old) }
     {
         match &mut self.contents {

@@ -46,13 +46,6 @@ canonical_is bytes n canonical =
     (sym (get_or-part items (8 * j) 8 i false i<) ∙
     (sym (bit-num (part items (8 * j) 8) i) ∙ ap (λ x. bit x i) (sym word))))))
 
--- the items of a vector of bytes are bytes, and so are the zeros past its end
-pub bytes_fit : (bytes : List ℕ) → ((i d : ℕ) → i < length bytes → get_or bytes i d < 256) → (k : ℕ) → get_or bytes k 0 < 256
-bytes_fit bytes fits k = elim (cases_lt k (length bytes)) [
-  | inl lt ↦ fits k 0 lt
-  | inr ge ↦ rw (get_or_past bytes k 0 ge) (omega arith)
-]
-
 -- no bytes hold no items
 pub canonical-nil : (bytes : List ℕ) → bytes ≡ [] → IsCanonical bytes 0
 canonical-nil bytes e = record { fits = λ k. rw e (omega arith); exact = rw e refl; clear = λ k h. rw (e, bits-nil) refl }

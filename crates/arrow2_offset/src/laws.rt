@@ -47,7 +47,7 @@ pub fn lists_tell_starts_and_lengths_apart()
 /// If `wide` has the same offsets as `narrow`, and `back` the same as `wide`, then `back` and `narrow` are the same
 /// list. So offsets of 32 bits that are converted to 64 bits and back are the same list as before.
 #[tactic(auto, using(crate::proofs::OffsetLaws::listed))]
-pub fn same_offsets_are_transitive()
+pub fn offsets_converted_back_are_equal()
     ensures { (narrow wide back : GrowingOffsets) → SameOffsets narrow wide →
         SameOffsets wide back → offsets_of back ≡ offsets_of narrow }
 {}

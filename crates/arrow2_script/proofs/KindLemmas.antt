@@ -10,7 +10,7 @@ use Rattle.arrow2_script.specs.Arguments.{◌>>=◌, ◌>>◌, no_words}
 use Rattle.arrow2_script.specs.declared.words.Width.{Width}
 use Rattle.arrow2_script.specs.Words.{number_of, slot_of, optional_slot_of, optional_slot_word, below_of, bit_of, bit_byte, bits_of, bits_text, number_list, numbers_text, width_of, width_word, bytes_of, hex_text}
 use Rattle.arrow2_script.proofs.HexLemmas.{text-bytes_of}
-use Rattle.arrow2_script.proofs.NumberListLemmas.{text-numbers_of}
+use Rattle.arrow2_script.proofs.NumberListLemmas.{text-number_list}
 use Rattle.arrow2_script.proofs.SpellingLemmas.{is_word, number_word, optional_slot_is_word, bit_word, bits_word, numbers_word, width_is_word, hex_word}
 use Rattle.arrow2_script.proofs.WordLemmas.{choice, mapped, decimal-number_of, decimal-slot_of, word-optional_slot_of, decimal-below_of, byte-bit_of, word-width_of, text-bits_of}
 
@@ -42,7 +42,7 @@ abbrev pub bit_texts : Reader (List Bool)
 bit_texts = record { read = bits_of; spell = bits_text; Fits = λ items. Unit {0}; spelled = λ word items e. (tt, text-bits_of word items e); passes = λ items fits. bits_word items }
 
 abbrev pub number_lists : Reader (List ℕ)
-number_lists = record { read = number_list; spell = numbers_text; Fits = λ ns. All (λ n. n < 2 ^ 64) ns; spelled = text-numbers_of; passes = numbers_word }
+number_lists = record { read = number_list; spell = numbers_text; Fits = λ ns. All (λ n. n < 2 ^ 64) ns; spelled = text-number_list; passes = numbers_word }
 
 abbrev pub widths : Reader Width
 widths = record { read = width_of; spell = width_word; Fits = λ width. Unit {0}; spelled = λ word width e. (tt, word-width_of word width e); passes = λ width fits. width_is_word width }

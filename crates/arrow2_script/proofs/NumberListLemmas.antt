@@ -74,10 +74,10 @@ not_dash n ns all e =
     let same : map decimal (n ∷ ns) ≡ codes "-" ∷ [] = sym (numbers_parts n ns all) ∙ ap (parts_between 44) e ∙ dash in
     no_dash n (parts_all (λ m. m < 2 ^ 64) n ns all).0 (ap (λ words. get_or words 0 []) same)
 
-pub numbers_of-text : (ns : List ℕ) → All (λ m. m < 2 ^ 64) ns → number_list (numbers_text ns) ≡ Some ns
+pub number_list-text : (ns : List ℕ) → All (λ m. m < 2 ^ 64) ns → number_list (numbers_text ns) ≡ Some ns
 unfolding number_list
-numbers_of-text [] all = refl
-numbers_of-text (n ∷ ns) all =
+number_list-text [] all = refl
+number_list-text (n ∷ ns) all =
     let parsed = parsed_again (n ∷ ns) all in
     rw (other_than (join_with_byte 44 (map decimal (n ∷ ns))) (codes "-") (not_dash n ns all), numbers_parts n ns all, parsed.0, parsed.1) refl
 
@@ -99,9 +99,9 @@ parts_again : (word : List ℕ) → (0 < length (parts_between 44 word)) × (joi
 unfolding parts_between
 parts_again word = (omega (arith, length-slice_split (λ b. eqb b 44) word), join_with_byte-slice_split 44 word)
 
-pub text-numbers_of : (word : List ℕ) (ns : List ℕ) → number_list word ≡ Some ns → All (λ m. m < 2 ^ 64) ns × (numbers_text ns ≡ word)
+pub text-number_list : (word : List ℕ) (ns : List ℕ) → number_list word ≡ Some ns → All (λ m. m < 2 ^ 64) ns × (numbers_text ns ≡ word)
 unfolding number_list
-text-numbers_of word ns = at_word (λ ms. All (λ m. m < 2 ^ 64) ms × (numbers_text ms ≡ word)) word (codes "-") [] ns _ (λ is. (All-nil (λ m. m < 2 ^ 64), sym is)) (λ e.
+text-number_list word ns = at_word (λ ms. All (λ m. m < 2 ^ 64) ms × (numbers_text ms ≡ word)) word (codes "-") [] ns _ (λ is. (All-nil (λ m. m < 2 ^ 64), sym is)) (λ e.
     let p = cond_some (list_all is_number (parts_between 44 word)) (numbers_of_words (parts_between 44 word)) ns e in
     let again = words_again (parts_between 44 word) p.0 in let parts = parts_again word in
     rw (← p.1) (again.0, joined_text (parts_between 44 word) parts.0 again.1 ∙ parts.1))

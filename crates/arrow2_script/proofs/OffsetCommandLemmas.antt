@@ -11,7 +11,7 @@ use Rattle.arrow2_script.specs.declared.command.Command.TheVariants as Kinds
 use Rattle.arrow2_script.proofs.KindLemmas.{number_lists, numbers, slots, more, no_more, at_row, Parses}
 use Rattle.arrow2_script.proofs.SpellingLemmas.{is_word}
 use Rattle.arrow2_script.proofs.WordLemmas.{number_of-decimal, slot_of-decimal}
-use Rattle.arrow2_script.proofs.NumberListLemmas.{numbers_of-text}
+use Rattle.arrow2_script.proofs.NumberListLemmas.{number_list-text}
 
 -- words that are parsed as a command on offsets are its words
 pub offset_parses : (name : List ℕ) (words : List (List ℕ)) (command : OffsetCommand) → offset_command_of name words ≡ Some command → Parses OffsetFits offset_words name words command
@@ -34,7 +34,7 @@ unfolding command_of named_command bitmap_command_of frozen_command_of offset_co
 offset_of-words (New slot first) fits = rw (slot_of-decimal slot fits.0, number_of-decimal first fits.1) refl
 offset_of-words (Push slot length) fits = rw (slot_of-decimal slot fits.0, number_of-decimal length fits.1) refl
 offset_of-words (Pop slot) fits = rw (slot_of-decimal slot fits) refl
-offset_of-words (Extend slot lengths) fits = rw (slot_of-decimal slot fits.0, numbers_of-text lengths fits.1) refl
+offset_of-words (Extend slot lengths) fits = rw (slot_of-decimal slot fits.0, number_list-text lengths fits.1) refl
 offset_of-words (Offsets slot) fits = rw (slot_of-decimal slot fits) refl
 offset_of-words (Freeze slot) fits = rw (slot_of-decimal slot fits) refl
 offset_of-words (Slice slot first count) fits = rw (slot_of-decimal slot fits.0, number_of-decimal first fits.1, number_of-decimal count fits.2) refl
